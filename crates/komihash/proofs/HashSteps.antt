@@ -1,0 +1,96 @@
+-- One round takes the next words of a list that still has others behind them.
+use Rattle.std.proofs.Common.{◌≡◌, ℕ, zero, suc, ◌+◌, ◌-◌, ◌*◌, ◌/◌, ◌<◌, ◌≤◌, Bool, true, false, List, [], ◌∷◌, ◌++◌, length, take, drop, refl, ap, arith, ◌∙◌, sym}
+use Rattle.std.proofs.lemmas.List.{drop-drop, length-drop, length-take-le, take-append-drop, append_assoc, length-append}
+use Rattle.komihash.specs.Rounds.{Lanes, lanes, seeded, block, pair_round, joined, closing}
+use Rattle.komihash.specs.Hash.{hash_from_pair, hash_from_lanes, komi}
+use Rattle.komihash.specs.Tails.{whole_words, final_word, end_byte}
+use Rattle.komihash.specs.Words.{word_of}
+use Rattle.komihash.proofs.PaddedWords.{words-by_tail, whole_words-more, whole_words-few}
+
+-- ---- whole words
+
+pub whole_words-one : (xs : List ℕ) → 8 ≤ length xs → length xs < 16 → whole_words xs ≡ word_of (take 8 xs) ∷ []
+whole_words-one xs le lt =
+    whole_words-more xs le ∙ ap (λ ws. word_of (take 8 xs) ∷ ws) (whole_words-few (drop 8 xs) (omega (arith, length-drop 8 xs)))
+
+pub whole_words-two : (xs : List ℕ) → 16 ≤ length xs → whole_words xs ≡ word_of (take 8 xs) ∷ word_of (take 8 (drop 8 xs)) ∷ whole_words (drop 16 xs)
+whole_words-two xs le =
+    whole_words-more xs (omega arith)
+    ∙ ap (λ ws. word_of (take 8 xs) ∷ ws) (whole_words-more (drop 8 xs) (omega (arith, length-drop 8 xs)) ∙ ap (λ ys. word_of (take 8 (drop 8 xs)) ∷ whole_words ys) (drop-drop 8 8 xs))
+
+-- a cut between two words
+pub whole_words-append : (xs ys : List ℕ) (k : ℕ) → length xs ≡ 8 * k → whole_words (xs ++ ys) ≡ whole_words xs ++ whole_words ys
+whole_words-append [] ys k e = refl
+whole_words-append (a ∷ b ∷ c ∷ d ∷ e ∷ f ∷ g ∷ h ∷ xs) ys k is =
+    ap (λ ws. word_of (a ∷ b ∷ c ∷ d ∷ e ∷ f ∷ g ∷ h ∷ []) ∷ ws) (whole_words-append xs ys (k - 1) (omega arith))
+whole_words-append xs ys k is = absurd (omega arith)
+
+pub length-whole_words : (xs : List ℕ) → length (whole_words xs) ≡ length xs / 8
+length-whole_words (a ∷ b ∷ c ∷ d ∷ e ∷ f ∷ g ∷ h ∷ xs) = omega (arith, length-whole_words xs)
+length-whole_words xs = refl
+
+-- n words from a place on
+abbrev words_from : ℕ → ℕ → List ℕ → List ℕ
+words_from zero at xs = []
+words_from (suc n) at xs = word_of (take 8 (drop at xs)) ∷ words_from n (at + 8) xs
+
+whole_words-from : (n at : ℕ) (xs : List ℕ) → length xs ≡ at + 8 * n → whole_words (drop at xs) ≡ words_from n at xs
+whole_words-from zero at xs e = whole_words-few (drop at xs) (omega (arith, length-drop at xs))
+whole_words-from (suc n) at xs e =
+    whole_words-more (drop at xs) (omega (arith, length-drop at xs))
+    ∙ ap (λ ws. word_of (take 8 (drop at xs)) ∷ ws) (ap whole_words (drop-drop 8 at xs) ∙ whole_words-from n (at + 8) xs (omega arith))
+
+-- the eight words of a block
+pub whole_words-block : (xs : List ℕ) → length xs ≡ 64 → whole_words xs ≡ words_from 8 0 xs
+whole_words-block xs e = whole_words-from 8 0 xs e
+
+-- ---- rounds
+
+pub hash_from_pair-round : (s : ℕ × ℕ) (w0 w1 : ℕ) (ws : List ℕ) (last : ℕ) → hash_from_pair s (w0 ∷ w1 ∷ (ws ++ last ∷ [])) ≡ hash_from_pair (pair_round s w0 w1) (ws ++ last ∷ [])
+hash_from_pair-round s w0 w1 [] last = refl
+hash_from_pair-round s w0 w1 (w ∷ ws) last = refl
+
+-- two words of sixteen bytes or more
+pub hash_from_pair-bytes : (s : ℕ × ℕ) (xs : List ℕ) (last : ℕ) → 16 ≤ length xs → hash_from_pair (pair_round s (word_of (take 8 xs)) (word_of (take 8 (drop 8 xs)))) (whole_words (drop 16 xs) ++ last ∷ []) ≡ hash_from_pair s (whole_words xs ++ last ∷ [])
+hash_from_pair-bytes s xs last le =
+    sym (ap (λ ws. hash_from_pair s (ws ++ last ∷ [])) (whole_words-two xs le)
+    ∙ hash_from_pair-round s (word_of (take 8 xs)) (word_of (take 8 (drop 8 xs))) (whole_words (drop 16 xs)) last)
+
+hash_from_lanes-round : (v : ℕ) (s : Lanes) (b : Bool) (ws us : List ℕ) (last : ℕ) → length ws ≡ 8 → hash_from_lanes v s b (ws ++ (us ++ last ∷ [])) ≡ hash_from_lanes v (block v s ws) true (us ++ last ∷ [])
+hash_from_lanes-round v s b (w0 ∷ w1 ∷ w2 ∷ w3 ∷ w4 ∷ w5 ∷ w6 ∷ w7 ∷ []) [] last e = refl
+hash_from_lanes-round v s b (w0 ∷ w1 ∷ w2 ∷ w3 ∷ w4 ∷ w5 ∷ w6 ∷ w7 ∷ []) (u ∷ us) last e = refl
+hash_from_lanes-round v s b ws us last e = absurd (omega arith)
+
+-- a block of 64 bytes or more
+pub hash_from_lanes-bytes : (v : ℕ) (s : Lanes) (b : Bool) (xs : List ℕ) (last : ℕ) → 64 ≤ length xs → hash_from_lanes v (block v s (whole_words (take 64 xs))) true (whole_words (drop 64 xs) ++ last ∷ []) ≡ hash_from_lanes v s b (whole_words xs ++ last ∷ [])
+hash_from_lanes-bytes v s b xs last le =
+    let front = length-take-le 64 xs le in
+    let cut : whole_words xs ≡ whole_words (take 64 xs) ++ whole_words (drop 64 xs) =
+    ap whole_words (sym (take-append-drop 64 xs)) ∙ whole_words-append (take 64 xs) (drop 64 xs) 8 front in
+    sym (ap (λ ws. hash_from_lanes v s b (ws ++ last ∷ [])) cut
+    ∙ ap (hash_from_lanes v s b) (append_assoc (whole_words (take 64 xs)) (whole_words (drop 64 xs)) (last ∷ []))
+    ∙ hash_from_lanes-round v s b (whole_words (take 64 xs)) (whole_words (drop 64 xs)) last (length-whole_words (take 64 xs) ∙ ap (λ n. n / 8) front))
+
+-- less than 64 bytes and the final word make no block
+at_most_eight : (v : ℕ) (s : Lanes) (b : Bool) (ws : List ℕ) → length ws ≤ 8 → hash_from_lanes v s b ws ≡ hash_from_pair (joined b s) ws
+at_most_eight v s b (w0 ∷ w1 ∷ w2 ∷ w3 ∷ w4 ∷ w5 ∷ w6 ∷ w7 ∷ w ∷ ws) le = absurd (omega arith)
+at_most_eight v s b ws le = refl
+
+pub hash_from_lanes-end : (v : ℕ) (s : Lanes) (b : Bool) (xs : List ℕ) (last : ℕ) → length xs < 64 → hash_from_lanes v s b (whole_words xs ++ last ∷ []) ≡ hash_from_pair (joined b s) (whole_words xs ++ last ∷ [])
+hash_from_lanes-end v s b xs last lt =
+    at_most_eight v s b (whole_words xs ++ last ∷ []) (omega (arith, length-append (whole_words xs) (last ∷ []), length-whole_words xs))
+
+-- ---- the hash of a message, by its whole words and the final word
+
+pub komi-words : (v seed : ℕ) (m : List ℕ) → komi v seed m ≡ hash_from_lanes v (lanes (seeded seed)) false (whole_words m ++ final_word m (end_byte v m) ∷ [])
+unfolding komi
+komi-words v seed m = ap (hash_from_lanes v (lanes (seeded seed)) false) (words-by_tail v m)
+
+pub komi-no_block : (v seed : ℕ) (m : List ℕ) → length m < 64 → komi v seed m ≡ hash_from_pair (seeded seed) (whole_words m ++ final_word m (end_byte v m) ∷ [])
+komi-no_block v seed m lt =
+    komi-words v seed m ∙ hash_from_lanes-end v (lanes (seeded seed)) false m (final_word m (end_byte v m)) lt
+
+pub komi-one_word : (v seed : ℕ) (m : List ℕ) → length m < 8 → komi v seed m ≡ closing (seeded seed) (final_word m (end_byte v m) ∷ [])
+komi-one_word v seed m lt =
+    komi-no_block v seed m (omega arith)
+    ∙ ap (λ ws. hash_from_pair (seeded seed) (ws ++ final_word m (end_byte v m) ∷ [])) (whole_words-few m lt)

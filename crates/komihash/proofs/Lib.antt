@@ -1,0 +1,4 @@
+pub mod Facts
+pub mod HashSteps
+pub mod PaddedWords
+pub mod WordsOfBytes

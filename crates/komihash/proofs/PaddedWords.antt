@@ -1,0 +1,72 @@
+-- The padded words of a message are its whole words, and the word that ends them.
+use Rattle.std.proofs.Common.{zero, ◌≤◌, take, drop, ◌≡◌, ℕ, suc, ◌+◌, ◌-◌, ◌*◌, ◌/◌, ◌%◌, ◌^◌, ◌<◌, List, [], ◌∷◌, ◌++◌, length, replicate, refl, ap, arith, ◌∙◌, sym}
+use Rattle.std.specs.Prelude.{bit_or}
+use Rattle.std.proofs.lemmas.Nat.{shr-shr}
+use Rattle.std.proofs.lemmas.List.{length-drop}
+use Rattle.komihash.proofs.WordsOfBytes.{AreBytes, AreBytes-drop, word_of-set, word_of-end}
+use Rattle.komihash.specs.Words.{word_of, words_of, words, padding_byte}
+use Rattle.komihash.specs.Tails.{whole_words, after_words, end_byte, final_word}
+
+-- eight bytes more need as many zeros
+zeros_more : (n : ℕ) → 7 - suc (suc (suc (suc (suc (suc (suc (suc n))))))) % 8 ≡ 7 - n % 8
+zeros_more n = omega arith
+
+-- a list with a byte p and zeros up to a multiple of eight, in words
+words_of-padded : (m : List ℕ) (p : ℕ) → words_of (m ++ p ∷ replicate (7 - length m % 8) 0) ≡ whole_words m ++ word_of (after_words m ++ p ∷ []) ∷ []
+words_of-padded (a ∷ b ∷ c ∷ d ∷ e ∷ f ∷ g ∷ h ∷ bs) p =
+    ap (λ n. word_of (a ∷ b ∷ c ∷ d ∷ e ∷ f ∷ g ∷ h ∷ []) ∷ words_of (bs ++ p ∷ replicate n 0)) (zeros_more (length bs))
+    ∙ ap (λ ws. word_of (a ∷ b ∷ c ∷ d ∷ e ∷ f ∷ g ∷ h ∷ []) ∷ ws) (words_of-padded bs p)
+words_of-padded bs p = refl
+
+-- the padded words as the code reads them
+pub words-by_tail : (v : ℕ) (m : List ℕ) → words v m ≡ whole_words m ++ final_word m (end_byte v m) ∷ []
+words-by_tail v [] = refl
+words-by_tail v (b ∷ m) = words_of-padded (b ∷ m) (padding_byte v (b ∷ m))
+
+-- the next whole word
+pub whole_words-more : (xs : List ℕ) → 8 ≤ length xs → whole_words xs ≡ word_of (take 8 xs) ∷ whole_words (drop 8 xs)
+whole_words-more (a ∷ b ∷ c ∷ d ∷ e ∷ f ∷ g ∷ h ∷ bs) le = refl
+whole_words-more xs le = absurd (omega arith)
+
+pub whole_words-few : (xs : List ℕ) → length xs < 8 → whole_words xs ≡ []
+whole_words-few (a ∷ b ∷ c ∷ d ∷ e ∷ f ∷ g ∷ h ∷ bs) le = absurd (omega arith)
+whole_words-few xs le = refl
+
+pub after_words-few : (xs : List ℕ) → length xs < 8 → after_words xs ≡ xs
+after_words-few (a ∷ b ∷ c ∷ d ∷ e ∷ f ∷ g ∷ h ∷ bs) le = absurd (omega arith)
+after_words-few xs le = refl
+
+-- the bytes behind the last whole word, by place
+pub after_words-drop : (xs : List ℕ) → after_words xs ≡ drop (length xs - length xs % 8) xs
+after_words-drop (a ∷ b ∷ c ∷ d ∷ e ∷ f ∷ g ∷ h ∷ bs) =
+    let n : suc (suc (suc (suc (suc (suc (suc (suc (length bs)))))))) - suc (suc (suc (suc (suc (suc (suc (suc (length bs)))))))) % 8 ≡ suc (suc (suc (suc (suc (suc (suc (suc (length bs - length bs % 8)))))))) = omega arith in
+    after_words-drop bs ∙ ap (λ k. drop k (a ∷ b ∷ c ∷ d ∷ e ∷ f ∷ g ∷ h ∷ bs)) (sym n)
+after_words-drop xs = refl
+
+AreBytes-one : (b : ℕ) → b < 256 → AreBytes (b ∷ [])
+AreBytes-one b h zero = h
+AreBytes-one b h (suc k) = omega arith
+
+-- one byte behind a piece, by a shift and `|`
+word_of-push : (xs : List ℕ) (n b : ℕ) → AreBytes xs → length xs ≡ n → n < 8 → b < 256 → bit_or (word_of xs) (b * 2 ^ (8 * n) % 2 ^ 64) ≡ word_of (xs ++ b ∷ [])
+word_of-push xs n b h e few small =
+    let one : b ≡ word_of (b ∷ []) = omega arith in
+    ap (λ k. bit_or (word_of xs) (b * 2 ^ (8 * k) % 2 ^ 64)) (sym e)
+    ∙ ap (λ w. bit_or (word_of xs) (w * 2 ^ (8 * length xs) % 2 ^ 64)) one
+    ∙ word_of-set xs (b ∷ []) h (AreBytes-one b small) (omega arith)
+
+-- the final word of less than eight bytes
+pub final_word-few : (xs : List ℕ) (end : ℕ) → AreBytes xs → length xs < 8 → end < 256 → bit_or (word_of xs) (end * 2 ^ (8 * length xs) % 2 ^ 64) ≡ final_word xs end
+final_word-few xs end h few small =
+    word_of-push xs (length xs) end h refl few small ∙ ap (λ ys. word_of (ys ++ end ∷ [])) (sym (after_words-few xs few))
+
+-- the final word of more: the last eight bytes, shifted in two steps
+pub final_word-many : (xs : List ℕ) (end : ℕ) → AreBytes xs → 8 ≤ length xs → end < 256 → bit_or (word_of (take 8 (drop (length xs - 8) xs)) / 16 / 2 ^ (60 - 8 * (length xs % 8))) (end * 2 ^ (8 * (length xs % 8)) % 2 ^ 64) ≡ final_word xs end
+final_word-many xs end h many small =
+    let r = length xs % 8 in
+    let kept : word_of (take 8 (drop (length xs - 8) xs)) / 16 / 2 ^ (60 - 8 * r) ≡ word_of (drop (length xs - r) xs) =
+    shr-shr (word_of (take 8 (drop (length xs - 8) xs))) 4 (60 - 8 * r)
+    ∙ word_of-end (length xs - r) 8 (4 + (60 - 8 * r)) xs h many (omega arith) (omega arith) (omega arith) in
+    ap (λ w. bit_or w (end * 2 ^ (8 * r) % 2 ^ 64)) kept
+    ∙ word_of-push (drop (length xs - r) xs) r end (AreBytes-drop (length xs - r) xs h) (omega (arith, length-drop (length xs - r) xs)) (omega arith) small
+    ∙ ap (λ ys. word_of (ys ++ end ∷ [])) (sym (after_words-drop xs))

@@ -1,0 +1,24 @@
+-- The padded words of a message in the form that the code reads them: its whole words, and the one
+-- word that ends them. `proofs/PaddedWords.antt` shows that this is the same list.
+use Rattle.std.specs.Prelude.{ℕ, List, [], ◌∷◌, ◌++◌}
+use Rattle.komihash.specs.Words.{word_of, padding_byte}
+
+-- the words of the bytes, as far as they make whole words
+abbrev pub whole_words : List ℕ → List ℕ
+whole_words (a ∷ b ∷ c ∷ d ∷ e ∷ f ∷ g ∷ h ∷ bs) =
+    word_of (a ∷ b ∷ c ∷ d ∷ e ∷ f ∷ g ∷ h ∷ []) ∷ whole_words bs
+whole_words bs = []
+
+-- the bytes behind the last whole word
+abbrev pub after_words : List ℕ → List ℕ
+after_words (a ∷ b ∷ c ∷ d ∷ e ∷ f ∷ g ∷ h ∷ bs) = after_words bs
+after_words bs = bs
+
+-- the byte that ends a message in version v: the padding byte, or 0 where the message is empty
+abbrev pub end_byte : ℕ → List ℕ → ℕ
+end_byte v [] = 0
+end_byte v (b ∷ m) = padding_byte v (b ∷ m)
+
+-- the word of the bytes behind the last whole word, and the byte that ends them
+abbrev pub final_word : List ℕ → ℕ → ℕ
+final_word m end = word_of (after_words m ++ end ∷ [])

@@ -1,0 +1,30 @@
+-- Bytes, words, and the padded words of a message. A byte is a number below 2 ^ 8, a word a number
+-- below 2 ^ 64, and a message a list of bytes.
+use Rattle.std.specs.Prelude.{ℕ, ◌+◌, ◌-◌, ◌*◌, ◌%◌, List, [], ◌∷◌, ◌++◌, length, replicate, slice_index, ◌==◌, ◌&&◌, nat_le, if◌then◌else◌}
+
+-- the word of up to eight bytes: the sum of byte i times 256 ^ i
+abbrev pub word_of : List ℕ → ℕ
+word_of [] = 0
+word_of (b ∷ bs) = b + 256 * word_of bs
+
+-- the words of a list of bytes, eight bytes each, and one of what is left at the end
+abbrev pub words_of : List ℕ → List ℕ
+words_of (a ∷ b ∷ c ∷ d ∷ e ∷ f ∷ g ∷ h ∷ bs) =
+    word_of (a ∷ b ∷ c ∷ d ∷ e ∷ f ∷ g ∷ h ∷ []) ∷ words_of bs
+words_of [] = []
+words_of bs = word_of bs ∷ []
+
+-- the byte that ends a nonempty message in version v: 1, but 2 in version 4 where the message's
+-- last byte is at least 128
+abbrev pub padding_byte : ℕ → List ℕ → ℕ
+padding_byte v m =
+    if v == 4 && nat_le 128 (slice_index m (length m - 1)) then 2 else 1
+
+-- a nonempty message, its padding byte, and zeros up to a multiple of eight bytes
+abbrev pub padded : ℕ → List ℕ → List ℕ
+padded v m = m ++ padding_byte v m ∷ replicate (7 - length m % 8) 0
+
+-- the padded words of a message in version v
+abbrev pub words : ℕ → List ℕ → List ℕ
+words v [] = 0 ∷ []
+words v (b ∷ m) = words_of (padded v (b ∷ m))

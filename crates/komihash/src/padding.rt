@@ -1,0 +1,46 @@
+//! The word that ends the padded words of a message.
+
+ghost use Rattle.std.specs.Prelude.{◌≡◌, ◌+◌, ◌<◌, ◌≤◌, length};
+ghost use Rattle.komihash.specs.Tails.{end_byte, final_word};
+
+use crate::utils::{read_partial_word, word_at};
+
+/// The byte that ends a message: its padding byte, or 0 where the message is empty.
+#[inline(always)]
+pub(crate) fn end_byte<const V: u8>(message: &[u8]) -> u64
+    ensures byte { result ≡ end_byte V message.now }
+    ensures small { result < 4 }
+{
+    if message.is_empty() {
+        0
+    } else if V == 4 {
+        1 + u64::from(message[message.len() - 1] >> 7)
+    } else {
+        1
+    }
+}
+
+/// The final word of less than eight bytes.
+#[inline(always)]
+pub(crate) fn final_of_few(bytes: &[u8], end: u64) -> u64
+    requires few { length bytes.now < 8 }
+    requires end { end < 4 }
+    ensures { result ≡ final_word bytes.now end }
+{
+    read_partial_word(bytes) | end << (8 * bytes.len())
+}
+
+/// The final word of at least eight bytes.
+///
+/// The bytes behind the last whole word are read with the last eight. The shift is made in two, so
+/// that it can drop all of them.
+#[inline(always)]
+pub(crate) fn final_of_many(bytes: &[u8], end: u64) -> u64
+    requires many { 8 ≤ length bytes.now }
+    requires end { end < 4 }
+    ensures { result ≡ final_word bytes.now end }
+{
+    let left = bytes.len() % 8;
+    let last = word_at(bytes, bytes.len() - 8);
+    (last >> 4) >> (60 - 8 * left) | end << (8 * left)
+}

@@ -1,0 +1,53 @@
+//! What a call costs, for contracts alone.
+
+ghost use Rattle.std.specs.Prelude.{◌≡◌, ℕ, ◌+◌};
+ghost use Rattle.std.specs.Borrow.{ftrue};
+
+use std::marker::{Model, PhantomData};
+
+/// Two whole numbers without limit that only contracts see: the products of two words, and the
+/// bytes that were kept in a stream's buffer.
+///
+/// A tally takes no bytes at run time, and no program can read it. A contract says by how much a
+/// call raises a tally that it is lent. Nothing outside this crate can raise one.
+#[derive(Drop)]
+pub struct Tally {
+    marker: PhantomData<()>,
+    pub ghost products: { ℕ },
+    pub ghost kept: { ℕ },
+}
+
+impl Model for Tally {
+    ghost also_owns = { λ _. ftrue };
+}
+
+impl Tally {
+    /// A tally that shows no products and no kept bytes.
+    #[inline(always)]
+    pub fn new() -> Tally
+        ensures products { result.products ≡ 0 }
+        ensures kept { result.kept ≡ 0 }
+    {
+        Tally {
+            marker: PhantomData,
+        }
+    }
+
+    // The only code that changes a tally.
+    #[inline(always)]
+    fn raise(&mut self, _products: usize, _kept: usize)
+        ensures products { self.new.products ≡ self.old.products + _products }
+        ensures kept { self.new.kept ≡ self.old.kept + _kept }
+    {}
+
+    /// Counts one product of two words.
+    #[inline(always)]
+    pub(crate) fn count_product(&mut self)
+        ensures products { self.new.products ≡ self.old.products + 1 }
+        ensures kept { self.new.kept ≡ self.old.kept }
+    {
+        self.raise(1, 0);
+    }
+}
+
+const _: () = prove!(size_of::<Tally>() == 0);

@@ -1,0 +1,84 @@
+//! Words read from bytes, and the one product of two words.
+
+ghost use Rattle.std.specs.Prelude.{◌≡◌, ◌+◌, ◌*◌, ◌≤◌, length, take, drop};
+ghost use Rattle.komihash.specs.Rounds.{low, high};
+ghost use Rattle.komihash.specs.Words.{word_of};
+
+use crate::tally::Tally;
+
+/// The word of the first eight bytes.
+#[inline(always)]
+pub(crate) fn read_word(bytes: &[u8]) -> u64
+    requires { 8 ≤ length bytes.now }
+    ensures { result ≡ word_of (take 8 bytes.now) }
+{
+    u64::from_le_bytes([
+        bytes[0], bytes[1], bytes[2], bytes[3], bytes[4], bytes[5], bytes[6], bytes[7],
+    ])
+}
+
+/// The word of the eight bytes from a place on.
+#[inline(always)]
+pub(crate) fn word_at(bytes: &[u8], at: usize) -> u64
+    requires { at + 8 ≤ length bytes.now }
+    ensures { result ≡ word_of (take 8 (drop at bytes.now)) }
+{
+    read_word(&bytes[at..])
+}
+
+// The word of the four bytes from a place on.
+#[inline(always)]
+fn four_at(bytes: &[u8], at: usize) -> u64
+    requires { at + 4 ≤ length bytes.now }
+    ensures { result ≡ word_of (take 4 (drop at bytes.now)) }
+{
+    let piece = &bytes[at..];
+    u64::from(u32::from_le_bytes([piece[0], piece[1], piece[2], piece[3]]))
+}
+
+// The word of the two bytes from a place on.
+#[inline(always)]
+fn two_at(bytes: &[u8], at: usize) -> u64
+    requires { at + 2 ≤ length bytes.now }
+    ensures { result ≡ word_of (take 2 (drop at bytes.now)) }
+{
+    let piece = &bytes[at..];
+    u64::from(u16::from_le_bytes([piece[0], piece[1]]))
+}
+
+/// The word of at most seven bytes; 0 for none.
+///
+/// It is read in two overlapping pieces: of the second, a shift drops what the first has.
+#[inline(always)]
+pub(crate) fn read_partial_word(bytes: &[u8]) -> u64
+    requires { length bytes.now ≤ 7 }
+    ensures { result ≡ word_of bytes.now }
+{
+    let n = bytes.len();
+    if n >= 4 {
+        four_at(bytes, 0) | four_at(bytes, n - 4) >> (64 - 8 * n) << 32
+    } else if n >= 2 {
+        two_at(bytes, 0) | two_at(bytes, n - 2) >> (32 - 8 * n) << 16
+    } else if n == 1 {
+        u64::from(bytes[0])
+    } else {
+        0
+    }
+}
+
+/// The low and the high half of the product of two words. No other code of this crate multiplies
+/// two words.
+#[inline(always)]
+pub(crate) fn multiply128(x: u64, y: u64, tally: &mut Tally) -> (u64, u64)
+    ensures low { result.0 ≡ low (x * y) }
+    ensures high { result.1 ≡ high (x * y) }
+    ensures products { tally.new.products ≡ tally.old.products + 1 }
+    ensures kept { tally.new.kept ≡ tally.old.kept }
+{
+    tally.count_product();
+    let product = u128::from(x) * u128::from(y);
+    (
+        (product & 0xffff_ffff_ffff_ffff) as u64,
+        (product >> 64) as u64,
+    )
+}
