@@ -80,17 +80,20 @@ pub hash_from_lanes-end : (v : ℕ) (s : Lanes) (b : Bool) (xs : List ℕ) (last
 hash_from_lanes-end v s b xs last lt =
     at_most_eight v s b (whole_words xs ++ last ∷ []) (omega (arith, length-append (whole_words xs) (last ∷ []), length-whole_words xs))
 
--- ---- the hash of a message, by its whole words and the final word
+-- ---- the hash of a message, from the pair of its seed and its final word
 
-pub komi-words : (v seed : ℕ) (m : List ℕ) → komi v seed m ≡ hash_from_lanes v (lanes (seeded seed)) false (whole_words m ++ final_word m (end_byte v m) ∷ [])
-unfolding komi
-komi-words v seed m = ap (hash_from_lanes v (lanes (seeded seed)) false) (words-by_tail v m)
+module _ (v seed : ℕ) (m : List ℕ) (s : ℕ × ℕ) (from_seed : s ≡ seeded seed) (last : ℕ) (ends : last ≡ final_word m (end_byte v m)) where
+  pub komi-by_lanes : hash_from_lanes v (lanes s) false (whole_words m ++ last ∷ []) ≡ komi v seed m
+  unfolding komi
+  komi-by_lanes = rw (from_seed, ends, words-by_tail v m)
 
-pub komi-no_block : (v seed : ℕ) (m : List ℕ) → length m < 64 → komi v seed m ≡ hash_from_pair (seeded seed) (whole_words m ++ final_word m (end_byte v m) ∷ [])
-komi-no_block v seed m lt =
-    komi-words v seed m ∙ hash_from_lanes-end v (lanes (seeded seed)) false m (final_word m (end_byte v m)) lt
+  pub komi-by_pair : length m < 64 → hash_from_pair s (whole_words m ++ last ∷ []) ≡ komi v seed m
+  komi-by_pair lt = sym (hash_from_lanes-end v (lanes s) false m last lt) ∙ komi-by_lanes
 
-pub komi-one_word : (v seed : ℕ) (m : List ℕ) → length m < 8 → komi v seed m ≡ closing (seeded seed) (final_word m (end_byte v m) ∷ [])
-komi-one_word v seed m lt =
-    komi-no_block v seed m (omega arith)
-    ∙ ap (λ ws. hash_from_pair (seeded seed) (ws ++ final_word m (end_byte v m) ∷ [])) (whole_words-few m lt)
+  pub komi-by_closing : length m < 8 → closing s (last ∷ []) ≡ komi v seed m
+  komi-by_closing lt =
+      sym (ap (λ ws. hash_from_pair s (ws ++ last ∷ [])) (whole_words-few m lt)) ∙ komi-by_pair (omega arith)
+
+pub komi-empty : (v seed : ℕ) (m : List ℕ) (s : ℕ × ℕ) → s ≡ seeded seed → length m ≡ 0 → closing s (0 ∷ []) ≡ komi v seed m
+komi-empty v seed [] s from_seed e = komi-by_closing v seed [] s from_seed 0 refl (omega arith)
+komi-empty v seed (b ∷ m) s from_seed e = absurd (omega arith)

@@ -1,9 +1,5 @@
 -- The padded words of a message are its whole words, and the word that ends them.
-use Rattle.std.proofs.Common.{zero, ◌≤◌, take, drop, ◌≡◌, ℕ, suc, ◌+◌, ◌-◌, ◌*◌, ◌/◌, ◌%◌, ◌^◌, ◌<◌, List, [], ◌∷◌, ◌++◌, length, replicate, refl, ap, arith, ◌∙◌, sym}
-use Rattle.std.specs.Prelude.{bit_or}
-use Rattle.std.proofs.lemmas.Nat.{shr-shr}
-use Rattle.std.proofs.lemmas.List.{length-drop}
-use Rattle.komihash.proofs.WordsOfBytes.{AreBytes, AreBytes-drop, word_of-set, word_of-end}
+use Rattle.std.proofs.Common.{◌≤◌, take, drop, ◌≡◌, ℕ, suc, ◌-◌, ◌%◌, ◌<◌, List, [], ◌∷◌, ◌++◌, length, replicate, refl, ap, arith, ◌∙◌, sym}
 use Rattle.komihash.specs.Words.{word_of, words_of, words, padding_byte}
 use Rattle.komihash.specs.Tails.{whole_words, after_words, end_byte, final_word}
 
@@ -43,30 +39,10 @@ after_words-drop (a ∷ b ∷ c ∷ d ∷ e ∷ f ∷ g ∷ h ∷ bs) =
     after_words-drop bs ∙ ap (λ k. drop k (a ∷ b ∷ c ∷ d ∷ e ∷ f ∷ g ∷ h ∷ bs)) (sym n)
 after_words-drop xs = refl
 
-AreBytes-one : (b : ℕ) → b < 256 → AreBytes (b ∷ [])
-AreBytes-one b h zero = h
-AreBytes-one b h (suc k) = omega arith
-
--- one byte behind a piece, by a shift and `|`
-word_of-push : (xs : List ℕ) (n b : ℕ) → AreBytes xs → length xs ≡ n → n < 8 → b < 256 → bit_or (word_of xs) (b * 2 ^ (8 * n) % 2 ^ 64) ≡ word_of (xs ++ b ∷ [])
-word_of-push xs n b h e few small =
-    let one : b ≡ word_of (b ∷ []) = omega arith in
-    ap (λ k. bit_or (word_of xs) (b * 2 ^ (8 * k) % 2 ^ 64)) (sym e)
-    ∙ ap (λ w. bit_or (word_of xs) (w * 2 ^ (8 * length xs) % 2 ^ 64)) one
-    ∙ word_of-set xs (b ∷ []) h (AreBytes-one b small) (omega arith)
-
 -- the final word of less than eight bytes
-pub final_word-few : (xs : List ℕ) (end : ℕ) → AreBytes xs → length xs < 8 → end < 256 → bit_or (word_of xs) (end * 2 ^ (8 * length xs) % 2 ^ 64) ≡ final_word xs end
-final_word-few xs end h few small =
-    word_of-push xs (length xs) end h refl few small ∙ ap (λ ys. word_of (ys ++ end ∷ [])) (sym (after_words-few xs few))
+pub final_word-few : (xs : List ℕ) (end : ℕ) → length xs < 8 → word_of (xs ++ end ∷ []) ≡ final_word xs end
+final_word-few xs end few = ap (λ ys. word_of (ys ++ end ∷ [])) (sym (after_words-few xs few))
 
--- the final word of more: the last eight bytes, shifted in two steps
-pub final_word-many : (xs : List ℕ) (end : ℕ) → AreBytes xs → 8 ≤ length xs → end < 256 → bit_or (word_of (take 8 (drop (length xs - 8) xs)) / 16 / 2 ^ (60 - 8 * (length xs % 8))) (end * 2 ^ (8 * (length xs % 8)) % 2 ^ 64) ≡ final_word xs end
-final_word-many xs end h many small =
-    let r = length xs % 8 in
-    let kept : word_of (take 8 (drop (length xs - 8) xs)) / 16 / 2 ^ (60 - 8 * r) ≡ word_of (drop (length xs - r) xs) =
-    shr-shr (word_of (take 8 (drop (length xs - 8) xs))) 4 (60 - 8 * r)
-    ∙ word_of-end (length xs - r) 8 (4 + (60 - 8 * r)) xs h many (omega arith) (omega arith) (omega arith) in
-    ap (λ w. bit_or w (end * 2 ^ (8 * r) % 2 ^ 64)) kept
-    ∙ word_of-push (drop (length xs - r) xs) r end (AreBytes-drop (length xs - r) xs h) (omega (arith, length-drop (length xs - r) xs)) (omega arith) small
-    ∙ ap (λ ys. word_of (ys ++ end ∷ [])) (sym (after_words-drop xs))
+-- the final word of more
+pub final_word-many : (xs : List ℕ) (end : ℕ) → word_of (drop (length xs - length xs % 8) xs ++ end ∷ []) ≡ final_word xs end
+final_word-many xs end = ap (λ ys. word_of (ys ++ end ∷ [])) (sym (after_words-drop xs))

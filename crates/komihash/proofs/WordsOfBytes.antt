@@ -1,7 +1,8 @@
 -- Words of lists of bytes that are cut and joined.
 use Rattle.std.proofs.Common.{◌≡◌, ℕ, zero, suc, ◌+◌, ◌-◌, ◌*◌, ◌/◌, ◌%◌, ◌^◌, ◌<◌, ◌≤◌, List, [], ◌∷◌, ◌++◌, length, get_or, take, drop, ap, arith, subst, ◌∙◌, sym, Fits, w8}
-use Rattle.std.proofs.lemmas.Nat.{pow-add, shr_high, shl_whole, or_shifted, or_comm}
-use Rattle.std.proofs.lemmas.List.{take-append-drop, length-take-le, length-drop, get_or-drop, drop-drop, take_all}
+use Rattle.std.proofs.lemmas.Nat.{pow-add, shr_high, shr-shr, shl_whole, shl-shr, or_shr, or_shifted, or_comm}
+use Rattle.std.proofs.Math.Nat.{mul_assoc}
+use Rattle.std.proofs.lemmas.List.{take-append-drop, length-take-le, length-drop, get_or-drop, drop-drop, drop-append-le, take_all, length-append, append_assoc}
 use Rattle.std.specs.Prelude.{bit_or}
 use Rattle.komihash.specs.Words.{word_of}
 
@@ -50,31 +51,79 @@ word_of-shr k xs h le =
     ap (λ w. w / 2 ^ (8 * k)) cut ∙ shr_high (word_of (drop k xs)) (8 * k) (word_of (take k xs)) below
 
 -- a piece set behind another by a shift and `|`
-pub word_of-set : (xs ys : List ℕ) → AreBytes xs → AreBytes ys → length xs + length ys ≤ 8 → bit_or (word_of xs) (word_of ys * 2 ^ (8 * length xs) % 2 ^ 64) ≡ word_of (xs ++ ys)
-word_of-set xs ys h g short =
-    ap (bit_or (word_of xs)) (shl_whole (word_of ys) (8 * length ys) (8 * length xs) 64 (word_of-lt ys g) (omega arith))
+pub word_of-set : (xs ys : List ℕ) (n : ℕ) → AreBytes xs → AreBytes ys → length xs ≡ n → n + length ys ≤ 8 → bit_or (word_of xs) (word_of ys * 2 ^ (8 * n) % 2 ^ 64) ≡ word_of (xs ++ ys)
+word_of-set xs ys n h g e short =
+    ap (bit_or (word_of xs)) (shl_whole (word_of ys) (8 * length ys) (8 * n) 64 (word_of-lt ys g) (omega arith))
+    ∙ ap (λ k. bit_or (word_of xs) (word_of ys * 2 ^ (8 * k))) (sym e)
     ∙ sym (word_of-or xs ys h)
 
-pub word_of-joined : (k : ℕ) (xs : List ℕ) → AreBytes xs → k ≤ length xs → length xs ≤ 8 → bit_or (word_of (take k xs)) (word_of (drop k xs) * 2 ^ (8 * k) % 2 ^ 64) ≡ word_of xs
-word_of-joined k xs h le most =
-    let front = length-take-le k xs le in
-    ap (λ n. bit_or (word_of (take k xs)) (word_of (drop k xs) * 2 ^ (8 * n) % 2 ^ 64)) (sym front)
-    ∙ word_of-set (take k xs) (drop k xs) (AreBytes-take k xs h) (AreBytes-drop k xs h) (omega (arith, length-drop k xs))
-    ∙ ap word_of (take-append-drop k xs)
+AreBytes-one : (b : ℕ) → b < 256 → AreBytes (b ∷ [])
+AreBytes-one b h zero = h
+AreBytes-one b h (suc k) = omega arith
 
--- the last k bytes, shifted so that those behind the first j of the list are left
-pub word_of-end : (j k s : ℕ) (xs : List ℕ) → AreBytes xs → k ≤ length xs → length xs ≤ j + k → j ≤ length xs → s ≡ 8 * (j + k - length xs) → word_of (take k (drop (length xs - k) xs)) / 2 ^ s ≡ word_of (drop j xs)
-word_of-end j k s xs h le most within e =
-    let all : take k (drop (length xs - k) xs) ≡ drop (length xs - k) xs =
-    take_all k (drop (length xs - k) xs) (omega (arith, length-drop (length xs - k) xs)) in
-    ap (λ ys. word_of ys / 2 ^ s) all
-    ∙ ap (λ n. word_of (drop (length xs - k) xs) / 2 ^ n) e
-    ∙ word_of-shr (j + k - length xs) (drop (length xs - k) xs) (AreBytes-drop (length xs - k) xs h) (omega (arith, length-drop (length xs - k) xs))
-    ∙ ap word_of (drop-drop (j + k - length xs) (length xs - k) xs)
-    ∙ let n : length xs - k + (j + k - length xs) ≡ j = omega arith in ap (λ n. word_of (drop n xs)) n
+-- one byte behind a piece
+pub word_of-push : (xs : List ℕ) (n b : ℕ) → AreBytes xs → length xs ≡ n → n < 8 → b < 256 → bit_or (word_of xs) (b * 2 ^ (8 * n) % 2 ^ 64) ≡ word_of (xs ++ b ∷ [])
+word_of-push xs n b h e few small =
+    let one : b ≡ word_of (b ∷ []) = omega arith in
+    ap (λ w. bit_or (word_of xs) (w * 2 ^ (8 * n) % 2 ^ 64)) one
+    ∙ word_of-set xs (b ∷ []) n h (AreBytes-one b small) e (omega arith)
 
--- two overlapping pieces of k bytes, read from both ends
-pub word_of-two_ends : (k s : ℕ) (xs : List ℕ) → AreBytes xs → k ≤ length xs → length xs ≤ k + k → length xs ≤ 8 → s ≡ 8 * (k + k - length xs) → bit_or (word_of (take k xs)) (word_of (take k (drop (length xs - k) xs)) / 2 ^ s * 2 ^ (8 * k) % 2 ^ 64) ≡ word_of xs
-word_of-two_ends k s xs h le most short e =
-    ap (λ w. bit_or (word_of (take k xs)) (w * 2 ^ (8 * k) % 2 ^ 64)) (word_of-end k k s xs h le most le e)
-    ∙ word_of-joined k xs h le short
+pub AreBytes-push : (xs : List ℕ) (b : ℕ) → AreBytes xs → b < 256 → AreBytes (xs ++ b ∷ [])
+AreBytes-push [] b h small k = AreBytes-one b small k
+AreBytes-push (x ∷ xs) b h small zero = h 0
+AreBytes-push (x ∷ xs) b h small (suc k) = AreBytes-push xs b (λ j. h (suc j)) small k
+
+-- the last k bytes of a list: a shift leaves those from place j on
+module _ (j k : ℕ) (xs : List ℕ) (h : AreBytes xs) (le : k ≤ length xs) (most : length xs ≤ j + k) (within : j ≤ length xs) where
+  last_bytes : take k (drop (length xs - k) xs) ≡ drop (length xs - k) xs
+  last_bytes = take_all k (drop (length xs - k) xs) (omega (arith, length-drop (length xs - k) xs))
+
+  last_from : drop (j + k - length xs) (drop (length xs - k) xs) ≡ drop j xs
+  last_from =
+      drop-drop (j + k - length xs) (length xs - k) xs
+      ∙ let n : length xs - k + (j + k - length xs) ≡ j = omega arith in ap (λ n. drop n xs) n
+
+  pub word_of-last : word_of (take k (drop (length xs - k) xs)) / 2 ^ (8 * (j + k - length xs)) ≡ word_of (drop j xs)
+  word_of-last =
+      ap (λ ys. word_of ys / 2 ^ (8 * (j + k - length xs))) last_bytes
+      ∙ word_of-shr (j + k - length xs) (drop (length xs - k) xs) (AreBytes-drop (length xs - k) xs h) (omega (arith, length-drop (length xs - k) xs))
+      ∙ ap word_of last_from
+
+  -- with a byte b behind them
+  pub word_of-last_push : (b : ℕ) → k < 8 → b < 256 → bit_or (word_of (take k (drop (length xs - k) xs))) (b * 2 ^ (8 * k) % 2 ^ 64) / 2 ^ (8 * (j + k - length xs)) ≡ word_of (drop j xs ++ b ∷ [])
+  word_of-last_push b short small =
+      let ys = drop (length xs - k) xs in
+      let d = j + k - length xs in
+      let n : length ys ≡ k = omega (arith, length-drop (length xs - k) xs) in
+      ap (λ zs. bit_or (word_of zs) (b * 2 ^ (8 * k) % 2 ^ 64) / 2 ^ (8 * d)) last_bytes
+      ∙ ap (λ w. w / 2 ^ (8 * d)) (word_of-push ys k b (AreBytes-drop (length xs - k) xs h) n short small)
+      ∙ word_of-shr d (ys ++ b ∷ []) (AreBytes-push ys b (AreBytes-drop (length xs - k) xs h) small) (omega (arith, length-append ys (b ∷ [])))
+      ∙ ap word_of (drop-append-le d ys (b ∷ []) (omega arith))
+      ∙ ap (λ zs. word_of (zs ++ b ∷ [])) last_from
+
+-- bytes read from both ends in two pieces of k, and a byte b behind them
+pub word_of-two_ends : (k s : ℕ) (xs : List ℕ) (b : ℕ) → AreBytes xs → k ≤ length xs → length xs ≤ k + k → length xs < 8 → k < 8 → b < 256 → s ≡ 8 * (k + k - length xs) → bit_or (word_of (take k xs)) (bit_or (word_of (take k (drop (length xs - k) xs))) (b * 2 ^ (8 * k) % 2 ^ 64) / 2 ^ s * 2 ^ (8 * k) % 2 ^ 64) ≡ word_of (xs ++ b ∷ [])
+word_of-two_ends k s xs b h le most few short small e =
+    ap (λ n. bit_or (word_of (take k xs)) (bit_or (word_of (take k (drop (length xs - k) xs))) (b * 2 ^ (8 * k) % 2 ^ 64) / 2 ^ n * 2 ^ (8 * k) % 2 ^ 64)) e
+    ∙ ap (λ w. bit_or (word_of (take k xs)) (w * 2 ^ (8 * k) % 2 ^ 64)) (word_of-last_push k k xs h le most le b short small)
+    ∙ word_of-set (take k xs) (drop k xs ++ b ∷ []) k (AreBytes-take k xs h) (AreBytes-push (drop k xs) b (AreBytes-drop k xs h) small) (length-take-le k xs le) (omega (arith, length-append (drop k xs) (b ∷ []), length-drop k xs))
+    ∙ ap word_of (sym (append_assoc (take k xs) (drop k xs) (b ∷ [])) ∙ ap (λ ys. ys ++ b ∷ []) (take-append-drop k xs))
+
+-- the bytes from place n - r on, read with the last eight, with a byte b of two bits above them
+pub word_of-last_eight : (r : ℕ) (xs : List ℕ) (b : ℕ) → AreBytes xs → 8 ≤ length xs → r < 8 → b < 4 → bit_or (word_of (take 8 (drop (length xs - 8) xs)) / 2 ^ 4) (b * 2 ^ 60 % 2 ^ 64) / 2 ^ (60 - 8 * r) ≡ word_of (drop (length xs - r) xs ++ b ∷ [])
+word_of-last_eight r xs b h many few small =
+    let last = word_of (take 8 (drop (length xs - 8) xs)) in
+    let ys = drop (length xs - r) xs in
+    let n : length ys ≡ r = omega (arith, length-drop (length xs - r) xs) in
+    let shift : 4 + (60 - 8 * r) ≡ 8 * (length xs - r + 8 - length xs) = omega arith in
+    let bytes : last / 2 ^ 4 / 2 ^ (60 - 8 * r) ≡ word_of ys =
+    shr-shr last 4 (60 - 8 * r) ∙ ap (λ s. last / 2 ^ s) shift ∙ word_of-last (length xs - r) 8 xs h many (omega arith) (omega arith) in
+    let sixty : 60 ≡ 8 * r + (60 - 8 * r) = omega arith in
+    let one : b ≡ word_of (b ∷ []) = omega arith in
+    let above : b * 2 ^ 60 % 2 ^ 64 / 2 ^ (60 - 8 * r) ≡ word_of (b ∷ []) * 2 ^ (8 * length ys) =
+    ap (λ w. w / 2 ^ (60 - 8 * r)) (shl_whole b 2 60 64 small (omega arith) ∙ ap (λ p. b * p) (ap (λ k. 2 ^ k) sixty ∙ pow-add 2 (8 * r) (60 - 8 * r)) ∙ sym (mul_assoc b (2 ^ (8 * r)) (2 ^ (60 - 8 * r))))
+    ∙ shl-shr (b * 2 ^ (8 * r)) (60 - 8 * r) ∙ ap (λ w. w * 2 ^ (8 * r)) one ∙ ap (λ k. word_of (b ∷ []) * 2 ^ (8 * k)) (sym n) in
+    or_shr (last / 2 ^ 4) (b * 2 ^ 60 % 2 ^ 64) (60 - 8 * r)
+    ∙ ap (λ w. bit_or w (b * 2 ^ 60 % 2 ^ 64 / 2 ^ (60 - 8 * r))) bytes
+    ∙ ap (bit_or (word_of ys)) above
+    ∙ sym (word_of-or ys (b ∷ []) (AreBytes-drop (length xs - r) xs h))

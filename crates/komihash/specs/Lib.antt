@@ -1,6 +1,6 @@
 pub mod Counts
+pub mod Halves
 pub mod Hash
-pub mod Lanes
 pub mod Rounds
 pub mod Tails
 pub mod Words

@@ -2,8 +2,8 @@
 
 ghost use Rattle.std.specs.Prelude.{◌≡◌, ℕ, ◌+◌, ◌*◌, ◌/◌, ◌%◌, ◌<◌, ◌≤◌, [], ◌∷◌, ◌++◌, length, drop, false};
 ghost use Rattle.komihash.specs.Counts.{hash_products};
-ghost use Rattle.komihash.specs.Hash.{komi, hash_from_lanes, hash_from_pair};
-ghost use Rattle.komihash.specs.Rounds.{lanes};
+ghost use Rattle.komihash.specs.Halves.{pair_in};
+ghost use Rattle.komihash.specs.Hash.{komi, hash_from_pair};
 ghost use Rattle.komihash.specs.Tails.{whole_words};
 
 use crate::padding::{end_byte, final_of_few, final_of_many};
@@ -17,8 +17,8 @@ use crate::utils::{read_word, word_at};
 #[inline(always)]
 fn take_two(pair: Pair, rest: &[u8], tally: &mut Tally) -> Pair
     requires { 16 ≤ length rest.now }
-    ensures answer { (last : ℕ) → hash_from_pair result (whole_words (drop 16 rest.now) ++ last ∷ [])
-        ≡ hash_from_pair pair (whole_words rest.now ++ last ∷ []) }
+    ensures answer { (last : ℕ) → hash_from_pair (pair_in result) (whole_words (drop 16 rest.now) ++ last ∷ [])
+        ≡ hash_from_pair (pair_in pair) (whole_words rest.now ++ last ∷ []) }
     ensures products { tally.new.products ≡ tally.old.products + 1 }
     ensures kept { tally.new.kept ≡ tally.old.kept }
 {
@@ -29,7 +29,7 @@ fn take_two(pair: Pair, rest: &[u8], tally: &mut Tally) -> Pair
 #[inline(always)]
 fn end_of_16(pair: Pair, rest: &[u8], last: u64, tally: &mut Tally) -> u64
     requires { length rest.now < 16 }
-    ensures answer { result ≡ hash_from_pair pair (whole_words rest.now ++ last ∷ []) }
+    ensures answer { result ≡ hash_from_pair (pair_in pair) (whole_words rest.now ++ last ∷ []) }
     ensures products { tally.new.products ≡ tally.old.products + 2 }
     ensures kept { tally.new.kept ≡ tally.old.kept }
 {
@@ -44,7 +44,7 @@ fn end_of_16(pair: Pair, rest: &[u8], last: u64, tally: &mut Tally) -> u64
 #[inline(always)]
 fn end_of_32(pair: Pair, rest: &[u8], last: u64, tally: &mut Tally) -> u64
     requires { length rest.now < 32 }
-    ensures answer { result ≡ hash_from_pair pair (whole_words rest.now ++ last ∷ []) }
+    ensures answer { result ≡ hash_from_pair (pair_in pair) (whole_words rest.now ++ last ∷ []) }
     ensures products { tally.new.products ≡ tally.old.products + (2 + length rest.now / 16) }
     ensures kept { tally.new.kept ≡ tally.old.kept }
 {
@@ -60,7 +60,7 @@ fn end_of_32(pair: Pair, rest: &[u8], last: u64, tally: &mut Tally) -> u64
 #[inline(always)]
 fn end_of_64(pair: Pair, rest: &[u8], last: u64, tally: &mut Tally) -> u64
     requires { length rest.now < 64 }
-    ensures answer { result ≡ hash_from_pair pair (whole_words rest.now ++ last ∷ []) }
+    ensures answer { result ≡ hash_from_pair (pair_in pair) (whole_words rest.now ++ last ∷ []) }
     ensures products { tally.new.products ≡ tally.old.products + (2 + length rest.now / 16) }
     ensures kept { tally.new.kept ≡ tally.old.kept }
 {
@@ -90,26 +90,17 @@ fn block_words(block: &[u8; 64]) -> [u64; 8]
     ]
 }
 
-// The answer from the joined lanes: a function of its own, so that the blocks keep their registers.
+// The hash of a message with at least one block: a function of its own, since only its loop needs
+// the registers that it saves.
 #[inline(never)]
-fn end_of_blocks(pair: Pair, rest: &[u8], last: u64, tally: &mut Tally) -> u64
-    requires { length rest.now < 64 }
-    ensures answer { result ≡ hash_from_pair pair (whole_words rest.now ++ last ∷ []) }
-    ensures products { tally.new.products ≡ tally.old.products + (2 + length rest.now / 16) }
-    ensures kept { tally.new.kept ≡ tally.old.kept }
-{
-    end_of_64(pair, rest, last, tally)
-}
-
-// The answer of a message with at least one block.
-#[inline(never)]
-fn hash_of_blocks<const V: u8>(pair: Pair, bytes: &[u8], last: u64, tally: &mut Tally) -> u64
+fn hash_of_blocks<const V: u8>(bytes: &[u8], seed: u64, tally: &mut Tally) -> u64
     requires { 64 ≤ length bytes.now }
-    ensures answer { result ≡ hash_from_lanes V (lanes pair) false (whole_words bytes.now ++ last ∷ []) }
-    ensures products { tally.new.products
-        ≡ tally.old.products + (2 + 4 * (length bytes.now / 64) + length bytes.now % 64 / 16) }
+    ensures hash { result ≡ komi V seed bytes.now }
+    ensures products { tally.new.products ≡ tally.old.products + hash_products (length bytes.now) }
     ensures kept { tally.new.kept ≡ tally.old.kept }
 {
+    let pair = seeded(seed, tally);
+    let last = final_of_many(bytes, end_byte::<V>(bytes));
     let mut lanes = lanes(pair);
     let mut rest = bytes;
     'whole: while let Some((block, after)) = rest.split_first_chunk::<64>() {
@@ -117,7 +108,7 @@ fn hash_of_blocks<const V: u8>(pair: Pair, bytes: &[u8], last: u64, tally: &mut 
         block_round(&mut lanes, &words, places::<V>(), tally);
         rest = after;
     }
-    end_of_blocks(joined(&lanes), rest, last, tally)
+    end_of_64(joined(&lanes), rest, last, tally)
 }
 
 /// The hash of a message with a seed in version V.
@@ -127,15 +118,17 @@ pub(crate) fn hash<const V: u8>(bytes: &[u8], seed: u64, tally: &mut Tally) -> u
     ensures products { tally.new.products ≡ tally.old.products + hash_products (length bytes.now) }
     ensures kept { tally.new.kept ≡ tally.old.kept }
 {
-    let pair = seeded(seed, tally);
-    let end = end_byte::<V>(bytes);
-    if bytes.len() < 8 {
-        return close_one(pair, final_of_few(bytes, end), tally);
+    if bytes.len() >= 64 {
+        return hash_of_blocks::<V>(bytes, seed, tally);
     }
-    let last = final_of_many(bytes, end);
-    if bytes.len() < 64 {
+    let pair = seeded(seed, tally);
+    if bytes.len() >= 8 {
+        let last = final_of_many(bytes, end_byte::<V>(bytes));
         end_of_64(pair, bytes, last, tally)
+    } else if bytes.is_empty() {
+        close_one(pair, 0, tally)
     } else {
-        hash_of_blocks::<V>(pair, bytes, last, tally)
+        let last = final_of_few(bytes, end_byte::<V>(bytes));
+        close_one(pair, last, tally)
     }
 }

@@ -27,20 +27,19 @@ pub(crate) fn final_of_few(bytes: &[u8], end: u64) -> u64
     requires end { end < 4 }
     ensures { result ≡ final_word bytes.now end }
 {
-    read_partial_word(bytes) | end << (8 * bytes.len())
+    read_partial_word(bytes, end)
 }
 
 /// The final word of at least eight bytes.
 ///
-/// The bytes behind the last whole word are read with the last eight. The shift is made in two, so
-/// that it can drop all of them.
+/// The bytes behind the last whole word are read with the last eight. `end` is set above them, and
+/// one shift brings all down.
 #[inline(always)]
 pub(crate) fn final_of_many(bytes: &[u8], end: u64) -> u64
     requires many { 8 ≤ length bytes.now }
     requires end { end < 4 }
     ensures { result ≡ final_word bytes.now end }
 {
-    let left = bytes.len() % 8;
     let last = word_at(bytes, bytes.len() - 8);
-    (last >> 4) >> (60 - 8 * left) | end << (8 * left)
+    (last >> 4 | end << 60) >> (60 - 8 * (bytes.len() % 8))
 }

@@ -3,7 +3,7 @@
 //! What the two versions do alike stands here once. Each step hands on the tally that it is lent.
 
 ghost use Rattle.std.specs.Prelude.{◌≡◌, ℕ, ◌+◌, ◌*◌, ◌<◌, List, [], ◌∷◌, true, All};
-ghost use Rattle.komihash.specs.Lanes.{lanes_in};
+ghost use Rattle.komihash.specs.Halves.{pair_in, lanes_in};
 ghost use Rattle.komihash.specs.Rounds.{low, high, plus, mix, seeded, lanes, places, block_by, joined, pair_round, mixed_again, closing};
 
 use crate::tally::Tally;
@@ -21,26 +21,28 @@ const C: [u64; 8] = [
     0x3f84_d5b5_b547_0917,
 ];
 
-/// A pair (a, e) of words.
+/// A pair (a, e) as the code keeps it: the low half of the last product, and the word e. The pair's
+/// a is their xor, which is taken only where a factor is made of it.
 pub(crate) type Pair = (u64, u64);
 
-/// The pair after a mix of the factors `x` and `y` into the word `e`.
+/// A mix of the factors `x` and `y` into the word `e`.
 #[inline(always)]
 #[tactic(auto, unfolding(crate::specs::Rounds::mix))]
 pub(crate) fn mix(x: u64, y: u64, e: u64, tally: &mut Tally) -> Pair
-    ensures pair { result ≡ mix x y e }
+    ensures pair { pair_in result ≡ mix x y e }
+    ensures low { result.0 ≡ low (x * y) }
+    ensures raised { result.1 ≡ plus e (high (x * y)) }
     ensures products { tally.new.products ≡ tally.old.products + 1 }
     ensures kept { tally.new.kept ≡ tally.old.kept }
 {
     let (low, high) = multiply128(x, y, tally);
-    let sum = e.wrapping_add(high);
-    (sum ^ low, sum)
+    (low, e.wrapping_add(high))
 }
 
 /// The pair that a seed begins with.
 #[inline(always)]
 pub(crate) fn seeded(seed: u64, tally: &mut Tally) -> Pair
-    ensures pair { result ≡ seeded seed }
+    ensures pair { pair_in result ≡ seeded seed }
     ensures products { tally.new.products ≡ tally.old.products + 1 }
     ensures kept { tally.new.kept ≡ tally.old.kept }
 {
@@ -49,20 +51,20 @@ pub(crate) fn seeded(seed: u64, tally: &mut Tally) -> Pair
     mix(a, e, e, tally)
 }
 
-/// The lanes of a pair, in the order in which they lie in memory.
+/// The lanes of a pair: four low halves, each before the word that its product will raise.
 #[inline(always)]
 pub(crate) fn lanes(pair: Pair) -> [u64; 8]
-    ensures { lanes_in result ≡ lanes pair }
+    ensures { lanes_in result ≡ lanes (pair_in pair) }
 {
-    let (a, e) = pair;
+    let (low, e) = pair;
     [
-        a,
+        C[7] ^ low,
         e,
-        C[1] ^ a,
+        C[1] ^ low,
         C[5] ^ e,
-        C[2] ^ a,
+        (C[2] ^ C[5]) ^ low,
         C[6] ^ e,
-        C[3] ^ a,
+        (C[3] ^ C[6]) ^ low,
         C[7] ^ e,
     ]
 }
@@ -80,21 +82,9 @@ pub(crate) fn places<const V: u8>() -> [usize; 8]
     }
 }
 
-// One product of a block round: the low half, and the second lane raised by the high half.
+/// The block round, with a table of places.
 #[inline(always)]
-fn lane_product(factor: Pair, second: u64, tally: &mut Tally) -> Pair
-    ensures low { result.0 ≡ low (factor.0 * factor.1) }
-    ensures raised { result.1 ≡ plus second (high (factor.0 * factor.1)) }
-    ensures products { tally.new.products ≡ tally.old.products + 1 }
-    ensures kept { tally.new.kept ≡ tally.old.kept }
-{
-    let (low, high) = multiply128(factor.0, factor.1, tally);
-    (low, second.wrapping_add(high))
-}
-
-/// The block round, with a table of places, on the lanes as they lie in memory.
-#[inline(always)]
-#[tactic(auto, unfolding(crate::specs::Rounds::block_by))]
+#[tactic(auto, using(crate::proofs::Xor::xor_late), unfolding(crate::specs::Rounds::block_by))]
 pub(crate) fn block_round(
     lanes: &mut [u64; 8],
     words: &[u64; 8],
@@ -106,63 +96,73 @@ pub(crate) fn block_round(
     ensures products { tally.new.products ≡ tally.old.products + 4 }
     ensures kept { tally.new.kept ≡ tally.old.kept }
 {
-    let [s1, s5, s2, s6, s3, s7, s4, s8] = *lanes;
+    let [low1, e1, low2, e2, low3, e3, low4, e4] = *lanes;
     let [p0, p1, p2, p3, p4, p5, p6, p7] = places;
-    // Each lane is raised right after its product: four products first would spill registers.
-    let (r1, s5) = lane_product((words[p0] ^ s1, words[p1] ^ s5), s5, tally);
-    let (r2, s6) = lane_product((words[p2] ^ s2, words[p3] ^ s6), s6, tally);
-    let (r3, s7) = lane_product((words[p4] ^ s3, words[p5] ^ s7), s7, tally);
-    let (r4, s8) = lane_product((words[p6] ^ s4, words[p7] ^ s8), s8, tally);
-    *lanes = [s8 ^ r1, s5, s5 ^ r2, s6, s6 ^ r3, s7, s7 ^ r4, s8];
+    // Each low half meets its word first: it is there before the raised word that it belongs to.
+    let first = mix((words[p0] ^ low1) ^ e4, words[p1] ^ e1, e1, tally);
+    let second = mix((words[p2] ^ low2) ^ e1, words[p3] ^ e2, e2, tally);
+    let third = mix((words[p4] ^ low3) ^ e2, words[p5] ^ e3, e3, tally);
+    let fourth = mix((words[p6] ^ low4) ^ e3, words[p7] ^ e4, e4, tally);
+    *lanes = [
+        first.0, first.1, second.0, second.1, third.0, third.1, fourth.0, fourth.1,
+    ];
 }
 
 /// The pair of the lanes after at least one block.
 #[inline(always)]
 pub(crate) fn joined(lanes: &[u64; 8]) -> Pair
-    ensures { result ≡ joined true (lanes_in lanes.now) }
+    ensures { pair_in result ≡ joined true (lanes_in lanes.now) }
 {
-    let [s1, s5, s2, s6, s3, s7, s4, s8] = *lanes;
-    (s1 ^ s2 ^ s3 ^ s4, s5 ^ s6 ^ s7 ^ s8)
+    let [low1, e1, low2, e2, low3, e3, low4, e4] = *lanes;
+    (low1 ^ low2 ^ low3 ^ low4, e1 ^ e2 ^ e3 ^ e4)
 }
 
 /// The pair after a round on two words.
 #[inline(always)]
+#[tactic(auto, using(crate::proofs::Xor::xor_late))]
 pub(crate) fn pair_round(pair: Pair, w0: u64, w1: u64, tally: &mut Tally) -> Pair
-    ensures pair { result ≡ pair_round pair w0 w1 }
+    ensures pair { pair_in result ≡ pair_round (pair_in pair) w0 w1 }
     ensures products { tally.new.products ≡ tally.old.products + 1 }
     ensures kept { tally.new.kept ≡ tally.old.kept }
 {
-    mix(w0 ^ pair.0, w1 ^ pair.1, pair.1, tally)
+    let (low, e) = pair;
+    mix((w0 ^ low) ^ e, w1 ^ e, e, tally)
 }
 
 // The answer from the pair of the closing's first mix.
 #[inline(always)]
 fn mixed_again(pair: Pair, tally: &mut Tally) -> u64
-    ensures answer { result ≡ mixed_again pair }
+    ensures answer { result ≡ mixed_again (pair_in pair) }
     ensures products { tally.new.products ≡ tally.old.products + 1 }
     ensures kept { tally.new.kept ≡ tally.old.kept }
 {
-    mix(pair.0, pair.1, pair.1, tally).0
+    let (low, e) = pair;
+    let (low, e) = mix(e ^ low, e, e, tally);
+    e ^ low
 }
 
 /// The answer from a pair and the one word that is left.
 #[inline(always)]
+#[tactic(auto, using(crate::proofs::Xor::xor_late_left))]
 pub(crate) fn close_one(pair: Pair, word: u64, tally: &mut Tally) -> u64
-    ensures answer { result ≡ closing pair (word ∷ []) }
+    ensures answer { result ≡ closing (pair_in pair) (word ∷ []) }
     ensures products { tally.new.products ≡ tally.old.products + 2 }
     ensures kept { tally.new.kept ≡ tally.old.kept }
 {
-    let mixed = mix(pair.0 ^ word, pair.1, pair.1, tally);
+    let (low, e) = pair;
+    let mixed = mix((low ^ word) ^ e, e, e, tally);
     mixed_again(mixed, tally)
 }
 
 /// The answer from a pair and the two words that are left.
 #[inline(always)]
+#[tactic(auto, using(crate::proofs::Xor::xor_late_left))]
 pub(crate) fn close_two(pair: Pair, word: u64, last: u64, tally: &mut Tally) -> u64
-    ensures answer { result ≡ closing pair (word ∷ last ∷ []) }
+    ensures answer { result ≡ closing (pair_in pair) (word ∷ last ∷ []) }
     ensures products { tally.new.products ≡ tally.old.products + 2 }
     ensures kept { tally.new.kept ≡ tally.old.kept }
 {
-    let mixed = mix(pair.1 ^ last, pair.0 ^ word, pair.1, tally);
+    let (low, e) = pair;
+    let mixed = mix(e ^ last, (low ^ word) ^ e, e, tally);
     mixed_again(mixed, tally)
 }

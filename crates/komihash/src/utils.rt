@@ -1,6 +1,6 @@
 //! Words read from bytes, and the one product of two words.
 
-ghost use Rattle.std.specs.Prelude.{◌≡◌, ◌+◌, ◌*◌, ◌≤◌, length, take, drop};
+ghost use Rattle.std.specs.Prelude.{◌≡◌, ◌+◌, ◌*◌, ◌^◌, ◌<◌, ◌≤◌, [], ◌∷◌, ◌++◌, length, take, drop};
 ghost use Rattle.komihash.specs.Rounds.{low, high};
 ghost use Rattle.komihash.specs.Words.{word_of};
 
@@ -46,23 +46,25 @@ fn two_at(bytes: &[u8], at: usize) -> u64
     u64::from(u16::from_le_bytes([piece[0], piece[1]]))
 }
 
-/// The word of at most seven bytes; 0 for none.
+/// The word of at most seven bytes and the byte `end` behind them.
 ///
-/// It is read in two overlapping pieces: of the second, a shift drops what the first has.
+/// The bytes are read in two overlapping pieces: of the second, which has `end` behind it, a shift
+/// drops what the first has.
 #[inline(always)]
-pub(crate) fn read_partial_word(bytes: &[u8]) -> u64
-    requires { length bytes.now ≤ 7 }
-    ensures { result ≡ word_of bytes.now }
+pub(crate) fn read_partial_word(bytes: &[u8], end: u64) -> u64
+    requires few { length bytes.now ≤ 7 }
+    requires byte { end < 2 ^ 8 }
+    ensures { result ≡ word_of (bytes.now ++ end ∷ []) }
 {
     let n = bytes.len();
     if n >= 4 {
-        four_at(bytes, 0) | four_at(bytes, n - 4) >> (64 - 8 * n) << 32
+        four_at(bytes, 0) | (four_at(bytes, n - 4) | end << 32) >> (64 - 8 * n) << 32
     } else if n >= 2 {
-        two_at(bytes, 0) | two_at(bytes, n - 2) >> (32 - 8 * n) << 16
+        two_at(bytes, 0) | (two_at(bytes, n - 2) | end << 16) >> (32 - 8 * n) << 16
     } else if n == 1 {
-        u64::from(bytes[0])
+        u64::from(bytes[0]) | end << 8
     } else {
-        0
+        end
     }
 }
 

@@ -1,14 +1,20 @@
-use Rattle.komihash.proofs.HashSteps.{komi-words, komi-no_block, komi-one_word}
+use Rattle.std.proofs.Common.{◌≡◌, length, ◌∙◌, ap, arith}
+use Rattle.std.proofs.lemmas.Bool.Decides.{nat_tests}
+use Rattle.komihash.specs.Tails.{final_word}
+use Rattle.komihash.proofs.HashSteps.{komi-by_pair, komi-by_closing, komi-empty}
 use Rattle.komihash.proofs.one_shot.hash.Goals as goal
 
-pub returns-then-bytes-lt8-clause-hash : goal.returns-then-bytes-lt8-clause-hash
-returns-then-bytes-lt8-clause-hash g c =
-    rw (komi-one_word g.row.V c.args.seed c.args.bytes.now c.if-bytes-lt8.true, c.close_one.ensures.answer, c.final_of_few.ensures, c.end_byte-end.ensures.byte, c.seeded-pair.ensures.pair)
+pub returns-then-bytes-ge8-clause-hash : goal.returns-then-bytes-ge8-clause-hash
+returns-then-bytes-ge8-clause-hash g c =
+    c.end_of_64.ensures.answer
+    ∙ komi-by_pair g.row.V c.args.seed c.args.bytes.now _ c.seeded-pair.ensures.pair _ (c.final_of_many-last.ensures ∙ ap (final_word c.args.bytes.now) c.end_byte.ensures.byte) c.if-bytes-ge64.false
 
-pub returns-then-bytes-lt64-clause-hash : goal.returns-then-bytes-lt64-clause-hash
-returns-then-bytes-lt64-clause-hash g c =
-    rw (komi-no_block g.row.V c.args.seed c.args.bytes.now c.if-bytes-lt64.true, c.end_of_64.ensures.answer, c.final_of_many-last.ensures, c.end_byte-end.ensures.byte, c.seeded-pair.ensures.pair)
+pub returns-then-is_empty-clause-hash : goal.returns-then-is_empty-clause-hash
+returns-then-is_empty-clause-hash g c =
+    let none : length c.args.bytes.now ≡ 0 = grind (arith, nat_tests) in
+    c.close_one.ensures.answer ∙ komi-empty g.row.V c.args.seed c.args.bytes.now _ c.seeded-pair.ensures.pair none
 
-pub returns-else-bytes-lt64-clause-hash : goal.returns-else-bytes-lt64-clause-hash
-returns-else-bytes-lt64-clause-hash g c =
-    rw (komi-words g.row.V c.args.seed c.args.bytes.now, c.hash_of_blocks.ensures.answer, c.final_of_many-last.ensures, c.end_byte-end.ensures.byte, c.seeded-pair.ensures.pair)
+pub returns-else-is_empty-clause-hash : goal.returns-else-is_empty-clause-hash
+returns-else-is_empty-clause-hash g c =
+    c.close_one-else-is_empty.ensures.answer
+    ∙ komi-by_closing g.row.V c.args.seed c.args.bytes.now _ c.seeded-pair.ensures.pair _ (c.final_of_few-last.ensures ∙ ap (final_word c.args.bytes.now) c.end_byte-else-is_empty.ensures.byte) c.if-bytes-ge8.false
