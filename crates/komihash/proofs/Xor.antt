@@ -1,7 +1,8 @@
 -- Orders of `^`: which two of several words meet first.
-use Rattle.std.proofs.Common.{◌≡◌, ℕ, ap, ◌∙◌, sym}
-use Rattle.std.specs.Prelude.{bit_xor}
-use Rattle.std.specs.Int.Bits.{xor_assoc, xor_comm}
+use Rattle.std.proofs.Common.{◌≡◌, ℕ, ◌+◌, ◌^◌, ◌<◌, ap, ◌∙◌, sym, arith, lit<}
+use Rattle.std.proofs.lemmas.Nat.{and_comm, and_assoc, and-not}
+use Rattle.std.specs.Prelude.{bit_xor, bit_and}
+use Rattle.std.specs.Int.Bits.{xor_assoc, xor_comm, xor_self, xor_zero_l, xor_disjoint}
 
 -- a word meets a low half first, and then the word that the half belongs to
 pub xor_late : (w low e : ℕ) → bit_xor (bit_xor w low) e ≡ bit_xor w (bit_xor e low)
@@ -21,3 +22,17 @@ xor_middle a b c d =
 pub xor_turn : (a b c d : ℕ) → bit_xor (bit_xor (bit_xor a b) c) d ≡ bit_xor (bit_xor (bit_xor b c) d) a
 xor_turn a b c d =
     ap (λ x. bit_xor x d) (xor_assoc a b c) ∙ xor_assoc a (bit_xor b c) d ∙ xor_comm a (bit_xor (bit_xor b c) d)
+
+-- what a word met twice is gone
+pub xor_back : (c x : ℕ) → bit_xor (bit_xor c x) c ≡ x
+xor_back c x = xor_comm (bit_xor c x) c ∙ sym (xor_assoc c c x) ∙ ap (λ n. bit_xor n x) (xor_self c) ∙ xor_zero_l x
+
+-- the bits of a word at even and at odd places make the word
+pub xor_masks : (n : ℕ) → n < 2 ^ 64 → bit_xor (bit_and n 0x5555555555555555) (bit_and n 0xaaaaaaaaaaaaaaaa) ≡ n
+xor_masks n h =
+    let even = bit_and n 0x5555555555555555 in
+    let odd = bit_and n 0xaaaaaaaaaaaaaaaa in
+    let apart : bit_and even odd ≡ 0 =
+    and_assoc odd n 0x5555555555555555 ∙ ap (bit_and n) (ap (bit_and 0x5555555555555555) (and_comm n 0xaaaaaaaaaaaaaaaa) ∙ sym (and_assoc n 0x5555555555555555 0xaaaaaaaaaaaaaaaa)) ∙ and_comm n 0 in
+    let whole : bit_and 0xaaaaaaaaaaaaaaaa n + bit_and 0x5555555555555555 n ≡ n = and-not 64 0x5555555555555555 n (lit< tt) h in
+    xor_disjoint even odd apart ∙ omega (arith, whole, and_comm n 0x5555555555555555, and_comm n 0xaaaaaaaaaaaaaaaa)

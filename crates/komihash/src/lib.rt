@@ -1,10 +1,16 @@
-//! Komihash.
+//! Komihash, a fast hash of 64 bits that is not cryptographic, in its versions 4 and 5.
+//!
+//! The same bytes and the same seed give the same number, on every machine, and that number is
+//! proved to be what the definitions in `specs/` say.
 #![tactic(auto)]
 
+pub mod laws;
 mod one_shot;
 mod padding;
 mod rounds;
 pub mod tally;
+#[cfg(test)]
+mod tests;
 mod utils;
 pub mod v4;
 pub mod v5;

@@ -4,7 +4,7 @@
 
 ghost use Rattle.std.specs.Prelude.{◌≡◌, ℕ, ◌+◌, ◌*◌, ◌<◌, List, [], ◌∷◌, true, All};
 ghost use Rattle.komihash.specs.Halves.{pair_in, lanes_in};
-ghost use Rattle.komihash.specs.Rounds.{low, high, plus, mix, seeded, lanes, places, block_by, joined, pair_round, mixed_again, closing};
+ghost use Rattle.komihash.specs.Rounds.{low, high, plus, seed_words, mix, seeded, lanes, places, block_by, joined, pair_round, mixed_again, closing};
 
 use crate::tally::Tally;
 use crate::utils::multiply128;
@@ -39,6 +39,17 @@ pub(crate) fn mix(x: u64, y: u64, e: u64, tally: &mut Tally) -> Pair
     (low, e.wrapping_add(high))
 }
 
+/// The two words of a seed.
+#[inline(always)]
+pub(crate) fn seed_words(seed: u64) -> (u64, u64)
+    ensures { result ≡ seed_words seed }
+{
+    (
+        C[0] ^ (seed & 0x5555_5555_5555_5555),
+        C[4] ^ (seed & 0xaaaa_aaaa_aaaa_aaaa),
+    )
+}
+
 /// The pair that a seed begins with.
 #[inline(always)]
 pub(crate) fn seeded(seed: u64, tally: &mut Tally) -> Pair
@@ -46,8 +57,7 @@ pub(crate) fn seeded(seed: u64, tally: &mut Tally) -> Pair
     ensures products { tally.new.products ≡ tally.old.products + 1 }
     ensures kept { tally.new.kept ≡ tally.old.kept }
 {
-    let a = C[0] ^ (seed & 0x5555_5555_5555_5555);
-    let e = C[4] ^ (seed & 0xaaaa_aaaa_aaaa_aaaa);
+    let (a, e) = seed_words(seed);
     mix(a, e, e, tally)
 }
 
