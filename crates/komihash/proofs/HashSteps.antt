@@ -1,6 +1,7 @@
 -- One round takes the next words of a list that still has others behind them.
 use Rattle.std.proofs.Common.{◌≡◌, ℕ, zero, suc, ◌+◌, ◌-◌, ◌*◌, ◌/◌, ◌<◌, ◌≤◌, Bool, true, false, List, [], ◌∷◌, ◌++◌, length, take, drop, refl, ap, arith, ◌∙◌, sym}
-use Rattle.std.proofs.lemmas.List.{drop-drop, length-drop, length-take-le, take-append-drop, append_assoc, length-append}
+use Rattle.std.proofs.lemmas.List.{drop-drop, length-drop, length-take-le, take-append-drop, append_assoc, length-append, drop_more}
+use Rattle.std.specs.Prelude.{slice_index}
 use Rattle.komihash.specs.Rounds.{Lanes, lanes, seeded, block, pair_round, joined, closing}
 use Rattle.komihash.specs.Hash.{hash_from_pair, hash_from_lanes, komi}
 use Rattle.komihash.specs.Tails.{whole_words, final_word, end_byte}
@@ -8,15 +9,6 @@ use Rattle.komihash.specs.Words.{word_of}
 use Rattle.komihash.proofs.PaddedWords.{words-by_tail, whole_words-more, whole_words-few}
 
 -- ---- whole words
-
-pub whole_words-one : (xs : List ℕ) → 8 ≤ length xs → length xs < 16 → whole_words xs ≡ word_of (take 8 xs) ∷ []
-whole_words-one xs le lt =
-    whole_words-more xs le ∙ ap (λ ws. word_of (take 8 xs) ∷ ws) (whole_words-few (drop 8 xs) (omega (arith, length-drop 8 xs)))
-
-pub whole_words-two : (xs : List ℕ) → 16 ≤ length xs → whole_words xs ≡ word_of (take 8 xs) ∷ word_of (take 8 (drop 8 xs)) ∷ whole_words (drop 16 xs)
-whole_words-two xs le =
-    whole_words-more xs (omega arith)
-    ∙ ap (λ ws. word_of (take 8 xs) ∷ ws) (whole_words-more (drop 8 xs) (omega (arith, length-drop 8 xs)) ∙ ap (λ ys. word_of (take 8 (drop 8 xs)) ∷ whole_words ys) (drop-drop 8 8 xs))
 
 -- a cut between two words
 pub whole_words-append : (xs ys : List ℕ) (k : ℕ) → length xs ≡ 8 * k → whole_words (xs ++ ys) ≡ whole_words xs ++ whole_words ys
@@ -44,17 +36,25 @@ whole_words-from (suc n) at xs e =
 pub whole_words-block : (xs : List ℕ) → length xs ≡ 64 → whole_words xs ≡ words_from 8 0 xs
 whole_words-block xs e = whole_words-from 8 0 xs e
 
+-- the word at a place
+pub slice_index-whole_words : (xs : List ℕ) (at : ℕ) → at < length (whole_words xs) → slice_index (whole_words xs) at ≡ word_of (take 8 (drop (8 * at) xs))
+slice_index-whole_words (a ∷ b ∷ c ∷ d ∷ e ∷ f ∷ g ∷ h ∷ xs) zero lt = refl
+slice_index-whole_words (a ∷ b ∷ c ∷ d ∷ e ∷ f ∷ g ∷ h ∷ xs) (suc at) lt =
+    slice_index-whole_words xs at (omega arith)
+    ∙ let n : 8 * suc at ≡ suc (suc (suc (suc (suc (suc (suc (suc (8 * at)))))))) = omega arith in ap (λ n. word_of (take 8 (drop n (a ∷ b ∷ c ∷ d ∷ e ∷ f ∷ g ∷ h ∷ xs)))) (sym n)
+slice_index-whole_words xs at lt = absurd (omega arith)
+
 -- ---- rounds
 
 pub hash_from_pair-round : (s : ℕ × ℕ) (w0 w1 : ℕ) (ws : List ℕ) (last : ℕ) → hash_from_pair s (w0 ∷ w1 ∷ (ws ++ last ∷ [])) ≡ hash_from_pair (pair_round s w0 w1) (ws ++ last ∷ [])
 hash_from_pair-round s w0 w1 [] last = refl
 hash_from_pair-round s w0 w1 (w ∷ ws) last = refl
 
--- two words of sixteen bytes or more
-pub hash_from_pair-bytes : (s : ℕ × ℕ) (xs : List ℕ) (last : ℕ) → 16 ≤ length xs → hash_from_pair (pair_round s (word_of (take 8 xs)) (word_of (take 8 (drop 8 xs)))) (whole_words (drop 16 xs) ++ last ∷ []) ≡ hash_from_pair s (whole_words xs ++ last ∷ [])
-hash_from_pair-bytes s xs last le =
-    sym (ap (λ ws. hash_from_pair s (ws ++ last ∷ [])) (whole_words-two xs le)
-    ∙ hash_from_pair-round s (word_of (take 8 xs)) (word_of (take 8 (drop 8 xs))) (whole_words (drop 16 xs)) last)
+-- the two words from a place on
+pub hash_from_pair-two : (s : ℕ × ℕ) (ws : List ℕ) (at last : ℕ) → at + 2 ≤ length ws → hash_from_pair (pair_round s (slice_index ws at) (slice_index ws (at + 1))) (drop (at + 2) ws ++ last ∷ []) ≡ hash_from_pair s (drop at ws ++ last ∷ [])
+hash_from_pair-two s ws at last le =
+    sym (ap (λ us. hash_from_pair s (us ++ last ∷ [])) (drop_more ws at 0 (omega arith) ∙ ap (λ us. slice_index ws at ∷ us) (drop_more ws (at + 1) 0 (omega arith) ∙ let n : at + 1 + 1 ≡ at + 2 = omega arith in ap (λ n. slice_index ws (at + 1) ∷ drop n ws) n))
+    ∙ hash_from_pair-round s (slice_index ws at) (slice_index ws (at + 1)) (drop (at + 2) ws) last)
 
 hash_from_lanes-round : (v : ℕ) (s : Lanes) (b : Bool) (ws us : List ℕ) (last : ℕ) → length ws ≡ 8 → hash_from_lanes v s b (ws ++ (us ++ last ∷ [])) ≡ hash_from_lanes v (block v s ws) true (us ++ last ∷ [])
 hash_from_lanes-round v s b (w0 ∷ w1 ∷ w2 ∷ w3 ∷ w4 ∷ w5 ∷ w6 ∷ w7 ∷ []) [] last e = refl

@@ -4,6 +4,7 @@
 //! proved to be what the definitions in `specs/` say.
 #![tactic(auto)]
 
+mod ending;
 pub mod laws;
 mod one_shot;
 mod padding;

@@ -2,7 +2,7 @@ use Rattle.std.proofs.Common.{◌≡◌, ◌+◌, ◌<◌, ◌∙◌, true, fals
 use Rattle.std.proofs.lemmas.Bool.Decides.{nat_tests}
 use Rattle.komihash.specs.Halves.{lanes_in}
 use Rattle.komihash.specs.Tails.{final_word}
-use Rattle.komihash.proofs.HashSteps.{komi-by_lanes, hash_from_lanes-bytes, hash_from_lanes-end}
+use Rattle.komihash.proofs.HashSteps.{length-whole_words, komi-by_lanes, hash_from_lanes-bytes, hash_from_lanes-end}
 use Rattle.komihash.proofs.one_shot.hash_of_blocks.Goals as goal
 
 pub whole-init : goal.whole-init
@@ -30,10 +30,20 @@ whole-preserved g c =
       kept = omega arith;
     }
 
+pub end_of_eight-requires : goal.end_of_eight-requires
+end_of_eight-requires g c =
+    let few : length c.whole.rest.now < 64 = c.in_default.ensures.cases in
+    omega (arith, length-whole_words c.whole.rest.now)
+
+pub returns-clause-products : goal.returns-clause-products
+returns-clause-products g c =
+    let few : length c.whole.rest.now < 64 = c.in_default.ensures.cases in
+    omega (arith, length-whole_words c.whole.rest.now)
+
 pub returns-clause-hash : goal.returns-clause-hash
 returns-clause-hash g c =
     let few : length c.whole.rest.now < 64 = c.in_default.ensures.cases in
     let shorter : nat_lt (length c.whole.rest.now) (length c.args.bytes.now) ≡ true = grind (arith, nat_tests) in
     let left = rw shorter at c.whole.invariant.hash in
-    rw (c.end_of_64.ensures.answer, c.joined.ensures)
+    rw (c.end_of_eight.ensures.answer, c.joined.ensures)
     (sym (hash_from_lanes-end g.row.V (lanes_in c.whole.lanes) true c.whole.rest.now c.final_of_many-last.result few) ∙ left)

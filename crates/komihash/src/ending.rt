@@ -1,0 +1,105 @@
+//! The end of a hash: less than a block of whole words, and the final word.
+
+ghost use Rattle.std.specs.Prelude.{◌≡◌, ℕ, ◌+◌, ◌-◌, ◌/◌, ◌<◌, ◌≤◌, List, [], ◌∷◌, ◌++◌, length, drop, slice_index};
+ghost use Rattle.komihash.specs.Halves.{pair_in};
+ghost use Rattle.komihash.specs.Hash.{hash_from_pair};
+ghost use Rattle.komihash.specs.Tails.{whole_words};
+
+use crate::rounds::{Pair, close_one, close_two, pair_round};
+use crate::tally::Tally;
+use crate::utils::word_at;
+
+/// Whole words that are left, wherever they lie.
+pub(crate) trait Words {
+    /// The words.
+    ghost words: { Self → List ℕ };
+
+    fn count(&self) -> usize
+        ensures { result ≡ length (words self.now) };
+
+    fn word(&self, at: usize) -> u64
+        requires within { at < length (words self.now) }
+        requires few { at < 8 }
+        ensures { result ≡ slice_index (words self.now) at };
+}
+
+/// The whole words of a message's bytes.
+impl Words for &[u8] {
+    ghost words = { λ bytes. whole_words bytes.now };
+
+    #[inline(always)]
+    fn count(&self) -> usize {
+        self.len() / 8
+    }
+
+    #[inline(always)]
+    fn word(&self, at: usize) -> u64 {
+        word_at(self, 8 * at)
+    }
+}
+
+// The answer from a pair, less than two words from a place on, and the final word.
+#[inline(always)]
+fn end_of_two<W: Words>(pair: Pair, left: &W, at: usize, last: u64, tally: &mut Tally) -> u64
+    requires within { at ≤ length (W.words left.now) }
+    requires few { length (W.words left.now) < at + 2 }
+    requires place { at < 7 }
+    ensures answer { result ≡ hash_from_pair (pair_in pair) (drop at (W.words left.now) ++ last ∷ []) }
+    ensures products { tally.new.products ≡ tally.old.products + 2 }
+    ensures kept { tally.new.kept ≡ tally.old.kept }
+{
+    if left.count() == at {
+        close_one(pair, last, tally)
+    } else {
+        close_two(pair, left.word(at), last, tally)
+    }
+}
+
+// The pair after a round on the two words from a place on: what is left gives the same answer.
+#[inline(always)]
+fn take_two<W: Words>(pair: Pair, left: &W, at: usize, tally: &mut Tally) -> Pair
+    requires within { at + 2 ≤ length (W.words left.now) }
+    requires place { at < 5 }
+    ensures answer { (last : ℕ) → hash_from_pair (pair_in result) (drop (at + 2) (W.words left.now) ++ last ∷ [])
+        ≡ hash_from_pair (pair_in pair) (drop at (W.words left.now) ++ last ∷ []) }
+    ensures products { tally.new.products ≡ tally.old.products + 1 }
+    ensures kept { tally.new.kept ≡ tally.old.kept }
+{
+    pair_round(pair, left.word(at), left.word(at + 1), tally)
+}
+
+// The answer from a pair, less than four words from a place on, and the final word.
+#[inline(always)]
+fn end_of_four<W: Words>(pair: Pair, left: &W, at: usize, last: u64, tally: &mut Tally) -> u64
+    requires within { at ≤ length (W.words left.now) }
+    requires few { length (W.words left.now) < at + 4 }
+    requires place { at < 5 }
+    ensures answer { result ≡ hash_from_pair (pair_in pair) (drop at (W.words left.now) ++ last ∷ []) }
+    ensures products { tally.new.products
+        ≡ tally.old.products + (2 + (length (W.words left.now) - at) / 2) }
+    ensures kept { tally.new.kept ≡ tally.old.kept }
+{
+    if left.count() < at + 2 {
+        end_of_two(pair, left, at, last, tally)
+    } else {
+        let pair = take_two(pair, left, at, tally);
+        end_of_two(pair, left, at + 2, last, tally)
+    }
+}
+
+/// The answer from a pair, less than eight words, and the final word.
+#[inline(always)]
+pub(crate) fn end_of_eight<W: Words>(pair: Pair, left: &W, last: u64, tally: &mut Tally) -> u64
+    requires { length (W.words left.now) < 8 }
+    ensures answer { result ≡ hash_from_pair (pair_in pair) (W.words left.now ++ last ∷ []) }
+    ensures products { tally.new.products ≡ tally.old.products + (2 + length (W.words left.now) / 2) }
+    ensures kept { tally.new.kept ≡ tally.old.kept }
+{
+    if left.count() < 4 {
+        end_of_four(pair, left, 0, last, tally)
+    } else {
+        let pair = take_two(pair, left, 0, tally);
+        let pair = take_two(pair, left, 2, tally);
+        end_of_four(pair, left, 4, last, tally)
+    }
+}
