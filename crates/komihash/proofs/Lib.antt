@@ -1,5 +1,9 @@
+pub mod Absorbing
+pub mod Answers
+pub mod Appending
 pub mod Facts
 pub mod HashSteps
+pub mod KeptBytes
 pub mod KeptHalves
 pub mod PaddedWords
 pub mod WordsOfBytes

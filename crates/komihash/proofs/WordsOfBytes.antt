@@ -4,11 +4,7 @@ use Rattle.std.proofs.lemmas.Nat.{pow-add, shr_high, shr-shr, shl_whole, shl-shr
 use Rattle.std.proofs.Math.Nat.{mul_assoc}
 use Rattle.std.proofs.lemmas.List.{take-append-drop, length-take-le, length-drop, get_or-drop, drop-drop, drop-append-le, take_all, length-append, append_assoc}
 use Rattle.std.specs.Prelude.{bit_or}
-use Rattle.komihash.specs.Words.{word_of}
-
--- every number of the list is a byte
-abbrev pub AreBytes : List ℕ → Type 0
-AreBytes xs = (k : ℕ) → get_or xs k 0 < 256
+use Rattle.komihash.specs.Words.{AreBytes, word_of}
 
 -- what the type of a slice of bytes says
 pub AreBytes-typed : (xs : List ℕ) → ((k : ℕ) → Fits w8 (get_or xs k 0)) → AreBytes xs

@@ -1,6 +1,7 @@
 -- The padded words of a message in the form that the code reads them: its whole words, and the one
 -- word that ends them. `proofs/PaddedWords.antt` shows that this is the same list.
 use Rattle.std.specs.Prelude.{ℕ, List, [], ◌∷◌, ◌++◌}
+use Rattle.komihash.specs.Rounds.{Lanes, block}
 use Rattle.komihash.specs.Words.{word_of, padding_byte}
 
 -- the words of the bytes, as far as they make whole words
@@ -22,3 +23,9 @@ end_byte v (b ∷ m) = padding_byte v (b ∷ m)
 -- the word of the bytes behind the last whole word, and the byte that ends them
 abbrev pub final_word : List ℕ → ℕ → ℕ
 final_word m end = word_of (after_words m ++ end ∷ [])
+
+-- the lanes after a block round on each whole block of the words
+abbrev pub block_lanes : ℕ → Lanes → List ℕ → Lanes
+block_lanes v s (w0 ∷ w1 ∷ w2 ∷ w3 ∷ w4 ∷ w5 ∷ w6 ∷ w7 ∷ ws) =
+    block_lanes v (block v s (w0 ∷ w1 ∷ w2 ∷ w3 ∷ w4 ∷ w5 ∷ w6 ∷ w7 ∷ [])) ws
+block_lanes v s ws = s

@@ -1,6 +1,10 @@
 -- Bytes, words, and the padded words of a message. A byte is a number below 2 ^ 8, a word a number
 -- below 2 ^ 64, and a message a list of bytes.
-use Rattle.std.specs.Prelude.{ℕ, ◌+◌, ◌-◌, ◌*◌, ◌%◌, List, [], ◌∷◌, ◌++◌, length, replicate, slice_index, ◌==◌, ◌&&◌, nat_le, if◌then◌else◌}
+use Rattle.std.specs.Prelude.{ℕ, ◌+◌, ◌-◌, ◌*◌, ◌%◌, ◌<◌, List, [], ◌∷◌, ◌++◌, length, replicate, slice_index, ◌==◌, ◌&&◌, nat_le, if◌then◌else◌}
+
+-- every number of a list is a byte
+abbrev pub AreBytes : List ℕ → Type 0
+AreBytes xs = (k : ℕ) → slice_index xs k < 256
 
 -- the word of up to eight bytes: the sum of byte i times 256 ^ i
 abbrev pub word_of : List ℕ → ℕ

@@ -48,6 +48,15 @@ impl Tally {
     {
         self.raise(1, 0);
     }
+
+    /// Counts bytes that a write puts into a stream's buffer.
+    #[inline(always)]
+    pub(crate) fn count_kept(&mut self, bytes: usize)
+        ensures products { self.new.products ≡ self.old.products }
+        ensures kept { self.new.kept ≡ self.old.kept + bytes }
+    {
+        self.raise(0, bytes);
+    }
 }
 
 const _: () = prove!(size_of::<Tally>() == 0);

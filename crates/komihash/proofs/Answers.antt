@@ -1,0 +1,115 @@
+-- What a stream answers, from the words and the byte that its tail is made of.
+use Rattle.std.proofs.Common.{◌≡◌, ℕ, zero, suc, ◌+◌, ◌-◌, ◌*◌, ◌/◌, ◌%◌, ◌<◌, ◌≤◌, Bool, true, false, List, [], ◌∷◌, ◌++◌, length, take, drop, refl, ap, arith, ◌∙◌, sym, subst, inl, inr}
+use Rattle.std.proofs.lemmas.List.{length-drop, length-take-le, take-append-drop, drop-drop, get_or-drop}
+use Rattle.std.proofs.lemmas.Bool.{cases_lt}
+use Rattle.std.specs.Prelude.{slice_index, if◌then◌else◌}
+use Rattle.komihash.specs.Hash.{komi, hash_from_pair, hash_from_lanes}
+use Rattle.komihash.specs.Rounds.{Lanes, block, lanes, seeded, joined}
+use Rattle.komihash.specs.Stream.{State, start, absorb, answer, tail_of, is_high}
+use Rattle.komihash.specs.Tails.{whole_words, after_words, final_word, end_byte, block_lanes}
+use Rattle.komihash.specs.Words.{word_of, padding_byte}
+use Rattle.komihash.proofs.Absorbing.{blocks_state, block_lanes-bytes, block_lanes-few_bytes, absorb-few, absorb-blocks}
+use Rattle.komihash.proofs.HashSteps.{komi-by_lanes, komi-by_pair, hash_from_lanes-end, hash_from_lanes-bytes}
+use Rattle.komihash.proofs.PaddedWords.{words-by_tail}
+
+-- the byte that ends the tail
+abbrev pub tail_end : ℕ → List ℕ → Bool → Bool → ℕ
+tail_end v (b ∷ m) absorbed high = padding_byte v (b ∷ m)
+tail_end v [] absorbed high = if absorbed then (if high then 2 else 1) else 0
+
+tail_of-words : (v : ℕ) (m : List ℕ) (absorbed high : Bool) → tail_of v m absorbed high ≡ whole_words m ++ final_word m (tail_end v m absorbed high) ∷ []
+tail_of-words v [] false high = refl
+tail_of-words v [] true true = refl
+tail_of-words v [] true false = refl
+tail_of-words v (b ∷ m) absorbed high = words-by_tail v (b ∷ m)
+
+-- an answer, from the pair of its lanes and its final word
+pub answer-by_pair : (v : ℕ) (s : State) → answer v s ≡ hash_from_pair (joined s.absorbed s.lanes) (whole_words s.pending ++ final_word s.pending (tail_end v s.pending s.absorbed s.high) ∷ [])
+unfolding answer
+answer-by_pair v s =
+    ap (hash_from_pair (joined s.absorbed s.lanes)) (tail_of-words v s.pending s.absorbed s.high)
+
+-- ---- the hash of a message, from the lanes after its whole blocks
+
+-- the bytes behind the whole blocks
+abbrev pub after_blocks : List ℕ → List ℕ
+after_blocks xs = drop (length xs - length xs % 64) xs
+
+after_blocks-few : (xs : List ℕ) → length xs < 64 → after_blocks xs ≡ xs
+after_blocks-few xs lt = let n : length xs - length xs % 64 ≡ 0 = omega arith in ap (λ k. drop k xs) n
+
+after_blocks-more : (xs : List ℕ) → 64 ≤ length xs → after_blocks xs ≡ after_blocks (drop 64 xs)
+after_blocks-more xs le =
+    let n : length xs - length xs % 64 ≡ 64 + (length (drop 64 xs) - length (drop 64 xs) % 64) = omega (arith, length-drop 64 xs) in
+    ap (λ k. drop k xs) n ∙ sym (drop-drop (length (drop 64 xs) - length (drop 64 xs) % 64) 64 xs)
+
+block_lanes-more : (v : ℕ) (l : Lanes) (xs : List ℕ) → 64 ≤ length xs → block_lanes v l (whole_words xs) ≡ block_lanes v (block v l (whole_words (take 64 xs))) (whole_words (drop 64 xs))
+block_lanes-more v l xs le =
+    ap (λ ys. block_lanes v l (whole_words ys)) (sym (take-append-drop 64 xs))
+    ∙ block_lanes-bytes v l (take 64 xs) (drop 64 xs) (length-take-le 64 xs le)
+
+hash_from_lanes-k_blocks : (k v : ℕ) (l : Lanes) (b : Bool) (xs : List ℕ) (last : ℕ) → length xs / 64 ≡ suc k → hash_from_lanes v l b (whole_words xs ++ last ∷ []) ≡ hash_from_pair (joined true (block_lanes v l (whole_words xs))) (whole_words (after_blocks xs) ++ last ∷ [])
+hash_from_lanes-k_blocks zero v l b xs last e =
+    let ys = drop 64 xs in
+    let few : length ys < 64 = omega (arith, length-drop 64 xs) in
+    let lanes = block_lanes-more v l xs (omega arith) ∙ block_lanes-few_bytes v (block v l (whole_words (take 64 xs))) ys few in
+    let rest = after_blocks-more xs (omega arith) ∙ after_blocks-few ys few in
+    sym (hash_from_lanes-bytes v l b xs last (omega arith))
+    ∙ hash_from_lanes-end v (block v l (whole_words (take 64 xs))) true ys last few
+    ∙ sym (ap (λ s. hash_from_pair (joined true s) (whole_words (after_blocks xs) ++ last ∷ [])) lanes ∙ ap (λ zs. hash_from_pair (joined true (block v l (whole_words (take 64 xs)))) (whole_words zs ++ last ∷ [])) rest)
+hash_from_lanes-k_blocks (suc k) v l b xs last e =
+    let ys = drop 64 xs in
+    sym (hash_from_lanes-bytes v l b xs last (omega arith))
+    ∙ hash_from_lanes-k_blocks k v (block v l (whole_words (take 64 xs))) true ys last (omega (arith, length-drop 64 xs))
+    ∙ sym (ap (λ s. hash_from_pair (joined true s) (whole_words (after_blocks xs) ++ last ∷ [])) (block_lanes-more v l xs (omega arith)) ∙ ap (λ zs. hash_from_pair (joined true (block_lanes v (block v l (whole_words (take 64 xs))) (whole_words ys))) (whole_words zs ++ last ∷ [])) (after_blocks-more xs (omega arith)))
+
+-- ---- the final word, from what is behind the whole blocks
+
+after_words-append : (xs ys : List ℕ) (k : ℕ) → length xs ≡ 8 * k → after_words (xs ++ ys) ≡ after_words ys
+after_words-append [] ys k e = refl
+after_words-append (a ∷ b ∷ c ∷ d ∷ e ∷ f ∷ g ∷ h ∷ xs) ys k is = after_words-append xs ys (k - 1) (omega arith)
+after_words-append xs ys k is = absurd (omega arith)
+
+after_words-after_blocks : (m : List ℕ) → after_words m ≡ after_words (after_blocks m)
+after_words-after_blocks m =
+    let n = length m - length m % 64 in
+    ap after_words (sym (take-append-drop n m))
+    ∙ after_words-append (take n m) (drop n m) (n / 8) (length-take-le n m (omega arith) ∙ omega arith)
+
+-- the last byte is the last of what is behind the blocks, or of the last block
+tail_end-blocks : (v : ℕ) (m p : List ℕ) → p ≡ after_blocks m → 64 ≤ length m → tail_end v p true (is_high v (slice_index m (length m - length m % 64 - 1))) ≡ end_byte v m
+tail_end-blocks v [] p e le = absurd (omega arith)
+tail_end-blocks v (c ∷ m) [] e le =
+    let n : length (after_blocks (c ∷ m)) ≡ 0 = ap length (sym e) in
+    let k : length (c ∷ m) - length (c ∷ m) % 64 - 1 ≡ length (c ∷ m) - 1 = omega (arith, n, length-drop (length (c ∷ m) - length (c ∷ m) % 64) (c ∷ m)) in
+    ap (λ i. if is_high v (slice_index (c ∷ m) i) then 2 else 1) k
+tail_end-blocks v (c ∷ m) (b ∷ p) e le =
+    let n = length (c ∷ m) - length (c ∷ m) % 64 in
+    let some : 0 < length (drop n (c ∷ m)) = subst (λ q. 0 < length q) e (omega arith) in
+    let place : n + (length (drop n (c ∷ m)) - 1) ≡ length (c ∷ m) - 1 = omega (arith, length-drop n (c ∷ m)) in
+    let last : slice_index (b ∷ p) (length (b ∷ p) - 1) ≡ slice_index (c ∷ m) (length (c ∷ m) - 1) =
+        ap (λ q. slice_index q (length q - 1)) e ∙ get_or-drop n (c ∷ m) (length (drop n (c ∷ m)) - 1) 0 ∙ ap (slice_index (c ∷ m)) place in
+    ap (λ x. if is_high v x then 2 else 1) last
+
+tail_end-start : (v : ℕ) (m : List ℕ) → tail_end v m false false ≡ end_byte v m
+tail_end-start v [] = refl
+tail_end-start v (b ∷ m) = refl
+
+-- the answer of a new stream that absorbed a message is the message's hash
+pub answer-joined : (v seed : ℕ) (m : List ℕ) → answer v (absorb v (start seed) m) ≡ komi v seed m
+answer-joined v seed m =
+    elim (cases_lt (length m) 64) as (λ _. answer v (absorb v (start seed) m) ≡ komi v seed m) [
+      inl lt ↦
+        ap (answer v) (absorb-few v (start seed) m (omega arith))
+        ∙ answer-by_pair v (record (start seed) { pending = m })
+        ∙ komi-by_pair v seed m (seeded seed) refl (final_word m (tail_end v m false false)) (ap (final_word m) (tail_end-start v m)) lt
+    | inr le ↦ 
+        let last = final_word m (end_byte v m) in
+        let ends : final_word (after_blocks m) (tail_end v (after_blocks m) true (is_high v (slice_index m (length m - length m % 64 - 1)))) ≡ last =
+            ap (final_word (after_blocks m)) (tail_end-blocks v m (after_blocks m) refl le) ∙ ap (λ ys. word_of (ys ++ end_byte v m ∷ [])) (sym (after_words-after_blocks m)) in
+        ap (answer v) (absorb-blocks v (start seed) m (omega arith) (omega arith))
+        ∙ answer-by_pair v (blocks_state v (lanes (seeded seed)) m)
+        ∙ ap (λ w. hash_from_pair (joined true (block_lanes v (lanes (seeded seed)) (whole_words m))) (whole_words (after_blocks m) ++ w ∷ [])) ends
+        ∙ sym (hash_from_lanes-k_blocks (length m / 64 - 1) v (lanes (seeded seed)) false m last (omega arith))
+        ∙ komi-by_lanes v seed m (seeded seed) refl last refl
+    ]

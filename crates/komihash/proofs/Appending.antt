@@ -1,0 +1,32 @@
+-- Pieces appended to the kept bytes one after the other.
+use Rattle.std.proofs.Common.{◌≡◌, ℕ, ◌+◌, ◌*◌, List, [], ◌∷◌, ◌++◌, length, take, drop, refl, ap, arith, ◌∙◌, sym}
+use Rattle.std.proofs.lemmas.List.{append_assoc, append-nil, length-append, take-append-drop, take-take, drop-take, drop-drop}
+use Rattle.komihash.specs.Kept.{filled, Appended}
+use Rattle.komihash.specs.Words.{AreBytes, word_of}
+use Rattle.komihash.proofs.KeptBytes.{AreBytes-append}
+
+-- a zero behind adds nothing
+pub word_of-zero : (xs : List ℕ) → word_of (xs ++ 0 ∷ []) ≡ word_of xs
+word_of-zero [] = refl
+word_of-zero (x ∷ xs) = ap (λ w. x + 256 * w) (word_of-zero xs)
+
+pub take-more : (m n : ℕ) (xs : List ℕ) → take m xs ++ take n (drop m xs) ≡ take (m + n) xs
+take-more m n xs =
+    ap (λ ys. ys ++ take n (drop m xs)) (sym (take-take m (m + n) xs (omega arith)))
+    ∙ ap (λ ys. take m (take (m + n) xs) ++ ys) (sym (drop-take m n xs))
+    ∙ take-append-drop m (take (m + n) xs)
+
+-- the bytes from a place on, in two pieces
+pub take-next : (m n from : ℕ) (xs : List ℕ) → take m (drop from xs) ++ take n (drop (from + m) xs) ≡ take (m + n) (drop from xs)
+take-next m n from xs =
+    ap (λ ys. take m (drop from xs) ++ take n ys) (sym (drop-drop m from xs)) ∙ take-more m n (drop from xs)
+
+-- two pieces
+pub Appended-two : (old mid new : List ℕ) (fill next : ℕ) (xs ys zs : List ℕ) → AreBytes xs → fill + length xs ≡ next → xs ++ ys ≡ zs → Appended old fill xs mid → Appended mid next ys new → Appended old fill zs new
+Appended-two old mid new fill next xs ys zs h e joined first second held bytes size is =
+    second (held ++ xs) (AreBytes-append held xs bytes h) (omega (arith, length-append held xs)) (first held bytes size is)
+    ∙ ap (filled 8) (append_assoc held xs ys ∙ ap (λ b. held ++ b) joined)
+
+-- no piece
+pub Appended-none : (words : List ℕ) (fill : ℕ) → Appended words fill [] words
+Appended-none words fill held bytes size is = is ∙ ap (filled 8) (sym (append-nil held))

@@ -1,0 +1,54 @@
+-- A stream: what it holds, how it absorbs bytes one after the other, and what it answers.
+use Rattle.std.specs.Prelude.{ℕ, ◌^◌, ◌<◌, ◌≡◌, Bool, true, false, List, [], ◌∷◌, ◌++◌, length, ◌==◌, ◌&&◌, nat_le, if◌then◌else◌}
+use Rattle.std.specs.List.{AllByRecursion}
+use Rattle.komihash.specs.Hash.{hash_from_pair}
+use Rattle.komihash.specs.Rounds.{Lanes, seeded, lanes, block, joined}
+use Rattle.komihash.specs.Words.{words_of, words}
+
+-- eight lanes, the bytes that no block has taken yet, whether a block was absorbed, and in version
+-- 4 whether the last byte of the last block is at least 128
+pub record State : Type 0 where
+  pub lanes : Lanes
+  pub pending : List ℕ
+  pub absorbed : Bool
+  pub high : Bool
+
+-- the new stream of a seed
+abbrev pub start : ℕ → State
+start seed = record { lanes = lanes (seeded seed); pending = []; absorbed = false; high = false }
+
+-- whether version v keeps the top bit of a block's last byte, and it is set
+abbrev pub is_high : ℕ → ℕ → Bool
+is_high v b = v == 4 && nat_le 128 b
+
+-- the state after one byte: it is pending, and where 64 are, they go through one block round
+abbrev pub absorb_byte : ℕ → State → ℕ → State
+absorb_byte v s b =
+    let bytes = s.pending ++ b ∷ [] in
+    if length bytes == 64
+    then record { lanes = block v s.lanes (words_of bytes); pending = []; absorbed = true; high = is_high v b }
+    else record s { pending = bytes }
+
+-- the state after bytes, one after the other
+unfoldable pub absorb : ℕ → State → List ℕ → State
+absorb v s [] = s
+absorb v s (b ∷ bytes) = absorb v (absorb_byte v s b) bytes
+
+-- the words that an answer has left: the padded words of the pending bytes; where there are none,
+-- the padding byte of the last block alone, or 0 where no block was absorbed
+abbrev pub tail_of : ℕ → List ℕ → Bool → Bool → List ℕ
+tail_of v (b ∷ m) absorbed high = words v (b ∷ m)
+tail_of v [] absorbed high = (if absorbed then (if high then 2 else 1) else 0) ∷ []
+
+-- what a stream answers
+unfoldable pub answer : ℕ → State → ℕ
+answer v s = hash_from_pair (joined s.absorbed s.lanes) (tail_of v s.pending s.absorbed s.high)
+
+-- a state of version v: its lanes are words, at most 63 bytes are pending, and the bit is set only
+-- where a block was absorbed, and only in version 4
+pub record IsState (v : ℕ) (s : State) : Type 0 where
+  pub lanes : AllByRecursion (λ w. w < 2 ^ 64) (s.lanes.s1 ∷ s.lanes.s2 ∷ s.lanes.s3 ∷ s.lanes.s4 ∷ s.lanes.s5 ∷ s.lanes.s6 ∷ s.lanes.s7 ∷ s.lanes.s8 ∷ [])
+  pub bytes : AllByRecursion (λ b. b < 2 ^ 8) s.pending
+  pub few : length s.pending < 64
+  pub high_absorbed : s.high ≡ true → s.absorbed ≡ true
+  pub high_version : s.high ≡ true → v ≡ 4
