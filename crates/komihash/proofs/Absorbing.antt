@@ -7,7 +7,7 @@ use Rattle.komihash.specs.Rounds.{Lanes, block}
 use Rattle.komihash.specs.Stream.{State, absorb, absorb_byte, is_high}
 use Rattle.komihash.specs.Tails.{whole_words, block_lanes}
 use Rattle.komihash.specs.Words.{word_of, words_of}
-use Rattle.komihash.proofs.HashSteps.{whole_words-append, length-whole_words}
+use Rattle.komihash.proofs.Blocks.{block_lanes-bytes, block_lanes-few_bytes}
 
 -- a cut anywhere
 pub absorb-append : (v : ℕ) (s : State) (x y : List ℕ) → absorb v s (x ++ y) ≡ absorb v (absorb v s x) y
@@ -53,24 +53,6 @@ absorb-full v s b (c ∷ bytes) full =
     ∙ ap (λ p. record { lanes = block v s.lanes (whole_words p); pending = []; absorbed = true; high = is_high v (slice_index (c ∷ bytes) (length bytes)) }) (append_assoc s.pending (b ∷ []) (c ∷ bytes))
 
 -- ---- whole blocks
-
--- a block of words, and others behind it
-block_lanes-round : (v : ℕ) (l : Lanes) (ws us : List ℕ) → length ws ≡ 8 → block_lanes v l (ws ++ us) ≡ block_lanes v (block v l ws) us
-block_lanes-round v l (w0 ∷ w1 ∷ w2 ∷ w3 ∷ w4 ∷ w5 ∷ w6 ∷ w7 ∷ []) us e = refl
-block_lanes-round v l ws us e = absurd (omega arith)
-
-block_lanes-few : (v : ℕ) (l : Lanes) (ws : List ℕ) → length ws < 8 → block_lanes v l ws ≡ l
-block_lanes-few v l (w0 ∷ w1 ∷ w2 ∷ w3 ∷ w4 ∷ w5 ∷ w6 ∷ w7 ∷ ws) lt = absurd (omega arith)
-block_lanes-few v l ws lt = refl
-
--- a block of bytes, and others behind it
-pub block_lanes-bytes : (v : ℕ) (l : Lanes) (xs ys : List ℕ) → length xs ≡ 64 → block_lanes v l (whole_words (xs ++ ys)) ≡ block_lanes v (block v l (whole_words xs)) (whole_words ys)
-block_lanes-bytes v l xs ys e =
-    ap (block_lanes v l) (whole_words-append xs ys 8 e)
-    ∙ block_lanes-round v l (whole_words xs) (whole_words ys) (length-whole_words xs ∙ ap (λ n. n / 8) e)
-
-pub block_lanes-few_bytes : (v : ℕ) (l : Lanes) (xs : List ℕ) → length xs < 64 → block_lanes v l (whole_words xs) ≡ l
-block_lanes-few_bytes v l xs lt = block_lanes-few v l (whole_words xs) (omega (arith, length-whole_words xs))
 
 -- the state after all whole blocks of bytes that begin a block
 abbrev pub blocks_state : ℕ → Lanes → List ℕ → State

@@ -1,15 +1,16 @@
 -- What a stream answers, from the words and the byte that its tail is made of.
-use Rattle.std.proofs.Common.{◌≡◌, ℕ, zero, suc, ◌+◌, ◌-◌, ◌*◌, ◌/◌, ◌%◌, ◌<◌, ◌≤◌, Bool, true, false, List, [], ◌∷◌, ◌++◌, length, take, drop, refl, ap, arith, ◌∙◌, sym, subst, inl, inr}
-use Rattle.std.proofs.lemmas.List.{length-drop, length-take-le, take-append-drop, drop-drop, get_or-drop}
+use Rattle.std.proofs.Common.{◌≡◌, ℕ, ◌+◌, ◌-◌, ◌*◌, ◌/◌, ◌%◌, ◌<◌, ◌≤◌, Bool, true, false, List, [], ◌∷◌, ◌++◌, length, take, drop, refl, ap, arith, ◌∙◌, sym, subst, inl, inr}
+use Rattle.std.proofs.lemmas.List.{length-drop, length-take-le, take-append-drop, get_or-drop}
 use Rattle.std.proofs.lemmas.Bool.{cases_lt}
 use Rattle.std.specs.Prelude.{slice_index, if◌then◌else◌}
-use Rattle.komihash.specs.Hash.{komi, hash_from_pair, hash_from_lanes}
-use Rattle.komihash.specs.Rounds.{Lanes, block, lanes, seeded, joined}
+use Rattle.komihash.specs.Hash.{komi, hash_from_pair}
+use Rattle.komihash.specs.Rounds.{lanes, seeded, joined}
 use Rattle.komihash.specs.Stream.{State, start, absorb, answer, tail_of, is_high}
-use Rattle.komihash.specs.Tails.{whole_words, after_words, final_word, end_byte, block_lanes}
+use Rattle.komihash.specs.Tails.{whole_words, after_words, final_word, end_byte, block_lanes, after_blocks}
 use Rattle.komihash.specs.Words.{word_of, padding_byte}
-use Rattle.komihash.proofs.Absorbing.{blocks_state, block_lanes-bytes, block_lanes-few_bytes, absorb-few, absorb-blocks}
-use Rattle.komihash.proofs.HashSteps.{komi-by_lanes, komi-by_pair, hash_from_lanes-end, hash_from_lanes-bytes}
+use Rattle.komihash.proofs.Absorbing.{blocks_state, absorb-few, absorb-blocks}
+use Rattle.komihash.proofs.Blocks.{hash_from_lanes-k_blocks}
+use Rattle.komihash.proofs.HashSteps.{komi-by_lanes, komi-by_pair}
 use Rattle.komihash.proofs.PaddedWords.{words-by_tail}
 
 -- the byte that ends the tail
@@ -28,40 +29,6 @@ pub answer-by_pair : (v : ℕ) (s : State) → answer v s ≡ hash_from_pair (jo
 unfolding answer
 answer-by_pair v s =
     ap (hash_from_pair (joined s.absorbed s.lanes)) (tail_of-words v s.pending s.absorbed s.high)
-
--- ---- the hash of a message, from the lanes after its whole blocks
-
--- the bytes behind the whole blocks
-abbrev pub after_blocks : List ℕ → List ℕ
-after_blocks xs = drop (length xs - length xs % 64) xs
-
-after_blocks-few : (xs : List ℕ) → length xs < 64 → after_blocks xs ≡ xs
-after_blocks-few xs lt = let n : length xs - length xs % 64 ≡ 0 = omega arith in ap (λ k. drop k xs) n
-
-after_blocks-more : (xs : List ℕ) → 64 ≤ length xs → after_blocks xs ≡ after_blocks (drop 64 xs)
-after_blocks-more xs le =
-    let n : length xs - length xs % 64 ≡ 64 + (length (drop 64 xs) - length (drop 64 xs) % 64) = omega (arith, length-drop 64 xs) in
-    ap (λ k. drop k xs) n ∙ sym (drop-drop (length (drop 64 xs) - length (drop 64 xs) % 64) 64 xs)
-
-block_lanes-more : (v : ℕ) (l : Lanes) (xs : List ℕ) → 64 ≤ length xs → block_lanes v l (whole_words xs) ≡ block_lanes v (block v l (whole_words (take 64 xs))) (whole_words (drop 64 xs))
-block_lanes-more v l xs le =
-    ap (λ ys. block_lanes v l (whole_words ys)) (sym (take-append-drop 64 xs))
-    ∙ block_lanes-bytes v l (take 64 xs) (drop 64 xs) (length-take-le 64 xs le)
-
-hash_from_lanes-k_blocks : (k v : ℕ) (l : Lanes) (b : Bool) (xs : List ℕ) (last : ℕ) → length xs / 64 ≡ suc k → hash_from_lanes v l b (whole_words xs ++ last ∷ []) ≡ hash_from_pair (joined true (block_lanes v l (whole_words xs))) (whole_words (after_blocks xs) ++ last ∷ [])
-hash_from_lanes-k_blocks zero v l b xs last e =
-    let ys = drop 64 xs in
-    let few : length ys < 64 = omega (arith, length-drop 64 xs) in
-    let lanes = block_lanes-more v l xs (omega arith) ∙ block_lanes-few_bytes v (block v l (whole_words (take 64 xs))) ys few in
-    let rest = after_blocks-more xs (omega arith) ∙ after_blocks-few ys few in
-    sym (hash_from_lanes-bytes v l b xs last (omega arith))
-    ∙ hash_from_lanes-end v (block v l (whole_words (take 64 xs))) true ys last few
-    ∙ sym (ap (λ s. hash_from_pair (joined true s) (whole_words (after_blocks xs) ++ last ∷ [])) lanes ∙ ap (λ zs. hash_from_pair (joined true (block v l (whole_words (take 64 xs)))) (whole_words zs ++ last ∷ [])) rest)
-hash_from_lanes-k_blocks (suc k) v l b xs last e =
-    let ys = drop 64 xs in
-    sym (hash_from_lanes-bytes v l b xs last (omega arith))
-    ∙ hash_from_lanes-k_blocks k v (block v l (whole_words (take 64 xs))) true ys last (omega (arith, length-drop 64 xs))
-    ∙ sym (ap (λ s. hash_from_pair (joined true s) (whole_words (after_blocks xs) ++ last ∷ [])) (block_lanes-more v l xs (omega arith)) ∙ ap (λ zs. hash_from_pair (joined true (block_lanes v (block v l (whole_words (take 64 xs))) (whole_words ys))) (whole_words zs ++ last ∷ [])) (after_blocks-more xs (omega arith)))
 
 -- ---- the final word, from what is behind the whole blocks
 

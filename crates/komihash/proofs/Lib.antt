@@ -1,6 +1,7 @@
 pub mod Absorbing
 pub mod Answers
 pub mod Appending
+pub mod Blocks
 pub mod Facts
 pub mod HashSteps
 pub mod KeptBytes

@@ -1,6 +1,6 @@
 -- The padded words of a message in the form that the code reads them: its whole words, and the one
 -- word that ends them. `proofs/PaddedWords.antt` shows that this is the same list.
-use Rattle.std.specs.Prelude.{ℕ, List, [], ◌∷◌, ◌++◌}
+use Rattle.std.specs.Prelude.{ℕ, ◌-◌, ◌%◌, length, drop, List, [], ◌∷◌, ◌++◌}
 use Rattle.komihash.specs.Rounds.{Lanes, block}
 use Rattle.komihash.specs.Words.{word_of, padding_byte}
 
@@ -29,3 +29,7 @@ abbrev pub block_lanes : ℕ → Lanes → List ℕ → Lanes
 block_lanes v s (w0 ∷ w1 ∷ w2 ∷ w3 ∷ w4 ∷ w5 ∷ w6 ∷ w7 ∷ ws) =
     block_lanes v (block v s (w0 ∷ w1 ∷ w2 ∷ w3 ∷ w4 ∷ w5 ∷ w6 ∷ w7 ∷ [])) ws
 block_lanes v s ws = s
+
+-- the bytes behind the last whole block
+abbrev pub after_blocks : List ℕ → List ℕ
+after_blocks m = drop (length m - length m % 64) m

@@ -3,30 +3,12 @@
 ghost use Rattle.std.specs.Prelude.{◌≡◌, ◌+◌, ◌≤◌, length};
 ghost use Rattle.komihash.specs.Counts.{hash_products};
 ghost use Rattle.komihash.specs.Hash.{komi};
-ghost use Rattle.komihash.specs.Tails.{whole_words};
 
 use crate::ending::end_of_eight;
 use crate::padding::{end_byte, final_of_few, final_of_many};
-use crate::rounds::{block_round, close_one, joined, lanes, places, seeded};
+use crate::rounds::blocks::absorb_blocks;
+use crate::rounds::{close_one, joined, lanes, seeded};
 use crate::tally::Tally;
-use crate::utils::word_at;
-
-// The eight words of a block.
-#[inline(always)]
-fn block_words(block: &[u8; 64]) -> [u64; 8]
-    ensures { result ≡ whole_words block.now }
-{
-    [
-        word_at(block, 0),
-        word_at(block, 8),
-        word_at(block, 16),
-        word_at(block, 24),
-        word_at(block, 32),
-        word_at(block, 40),
-        word_at(block, 48),
-        word_at(block, 56),
-    ]
-}
 
 // The hash of a message with at least one block: a function of its own, since only its loop needs
 // the registers that it saves.
@@ -40,12 +22,7 @@ fn hash_of_blocks<const V: u8>(bytes: &[u8], seed: u64, tally: &mut Tally) -> u6
     let pair = seeded(seed, tally);
     let last = final_of_many(bytes, end_byte::<V>(bytes));
     let mut lanes = lanes(pair);
-    let mut rest = bytes;
-    'whole: while let Some((block, after)) = rest.split_first_chunk::<64>() {
-        let words = block_words(block);
-        block_round(&mut lanes, &words, places::<V>(), tally);
-        rest = after;
-    }
+    let rest = absorb_blocks::<V>(&mut lanes, bytes, tally);
     end_of_eight(joined(&lanes), &rest, last, tally)
 }
 

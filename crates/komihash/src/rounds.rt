@@ -6,6 +6,7 @@ ghost use Rattle.std.specs.Prelude.{◌≡◌, ℕ, ◌+◌, ◌*◌, ◌<◌, L
 ghost use Rattle.komihash.specs.Halves.{pair_in, lanes_in};
 ghost use Rattle.komihash.specs.Rounds.{low, high, plus, seed_words, mix, seeded, lanes, places, block_by, joined, pair_round, mixed_again, closing};
 
+pub(crate) mod blocks;
 pub(crate) mod buffer;
 
 use crate::tally::Tally;

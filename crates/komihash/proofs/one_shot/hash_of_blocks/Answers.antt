@@ -1,49 +1,33 @@
-use Rattle.std.proofs.Common.{◌≡◌, ◌+◌, ◌<◌, ◌∙◌, true, false, nat_lt, length, arith, sym, ap}
-use Rattle.std.proofs.lemmas.Bool.Decides.{nat_tests}
-use Rattle.komihash.specs.Halves.{lanes_in}
-use Rattle.komihash.specs.Tails.{final_word}
-use Rattle.komihash.proofs.HashSteps.{length-whole_words, komi-by_lanes, hash_from_lanes-bytes, hash_from_lanes-end}
+use Rattle.std.proofs.Common.{◌≡◌, ◌-◌, ◌/◌, ◌%◌, ◌∙◌, true, false, [], ◌∷◌, ◌++◌, length, arith, sym, ap}
+use Rattle.komihash.specs.Halves.{pair_in}
+use Rattle.komihash.specs.Rounds.{lanes, joined}
+use Rattle.komihash.specs.Tails.{final_word, whole_words, block_lanes}
+use Rattle.komihash.specs.Hash.{hash_from_pair}
+use Rattle.komihash.proofs.Blocks.{hash_from_lanes-k_blocks, length-after_blocks}
+use Rattle.komihash.proofs.HashSteps.{length-whole_words, komi-by_lanes}
 use Rattle.komihash.proofs.one_shot.hash_of_blocks.Goals as goal
-
-pub whole-init : goal.whole-init
-whole-init g c =
-    let none : nat_lt (length c.args.bytes.now) (length c.args.bytes.now) ≡ false = grind (arith, nat_tests) in
-    record {
-      hash = rw (none, c.lanes-lanes.ensures)
-          (komi-by_lanes g.row.V c.args.seed c.args.bytes.now _ c.seeded-pair.ensures.pair _ (c.final_of_many-last.ensures ∙ ap (final_word c.args.bytes.now) c.end_byte.ensures.byte));
-      within = omega arith;
-      left = omega arith;
-      products = omega arith;
-      kept = omega arith;
-    }
-
-pub whole-preserved : goal.whole-preserved
-whole-preserved g c =
-    let cut : length c.in-Some.after.now + 64 ≡ length c.whole.rest.now = c.in-Some.ensures.cases.2 in
-    let shorter : nat_lt (length c.in-Some.after.now) (length c.args.bytes.now) ≡ true = grind (arith, nat_tests) in
-    record {
-      hash = rw (shorter, c.block_round.ensures.lanes, c.places.ensures.table, c.block_words-words.ensures, c.in-Some.ensures.cases.0, c.in-Some.ensures.cases.1)
-          (hash_from_lanes-bytes g.row.V (lanes_in c.whole.lanes) _ c.whole.rest.now c.final_of_many-last.result (omega arith) ∙ c.whole.invariant.hash);
-      within = omega arith;
-      left = omega arith;
-      products = omega arith;
-      kept = omega arith;
-    }
 
 pub end_of_eight-requires : goal.end_of_eight-requires
 end_of_eight-requires g c =
-    let few : length c.whole.rest.now < 64 = c.in_default.ensures.cases in
-    omega (arith, length-whole_words c.whole.rest.now)
+    let rest = c.absorb_blocks-rest.result.now in
+    let few : length rest ≡ length c.args.bytes.now % 64 = ap length c.absorb_blocks-rest.ensures.left ∙ length-after_blocks c.args.bytes.now in
+    omega (arith, length-whole_words rest)
 
 pub returns-clause-products : goal.returns-clause-products
 returns-clause-products g c =
-    let few : length c.whole.rest.now < 64 = c.in_default.ensures.cases in
-    omega (arith, length-whole_words c.whole.rest.now)
+    let rest = c.absorb_blocks-rest.result.now in
+    let few : length rest ≡ length c.args.bytes.now % 64 = ap length c.absorb_blocks-rest.ensures.left ∙ length-after_blocks c.args.bytes.now in
+    omega (arith, length-whole_words rest)
 
 pub returns-clause-hash : goal.returns-clause-hash
 returns-clause-hash g c =
-    let few : length c.whole.rest.now < 64 = c.in_default.ensures.cases in
-    let shorter : nat_lt (length c.whole.rest.now) (length c.args.bytes.now) ≡ true = grind (arith, nat_tests) in
-    let left = rw shorter at c.whole.invariant.hash in
-    rw (c.end_of_eight.ensures.answer, c.joined.ensures)
-    (sym (hash_from_lanes-end g.row.V (lanes_in c.whole.lanes) true c.whole.rest.now c.final_of_many-last.result few) ∙ left)
+    let bytes = c.args.bytes.now in
+    let rest = c.absorb_blocks-rest.result.now in
+    let last = c.final_of_many-last.result in
+    let first = lanes (pair_in c.seeded-pair.result) in
+    c.end_of_eight.ensures.answer
+    ∙ ap (λ s. hash_from_pair s (whole_words rest ++ last ∷ [])) c.joined.ensures
+    ∙ ap (λ l. hash_from_pair (joined true l) (whole_words rest ++ last ∷ [])) (c.absorb_blocks-rest.ensures.lanes ∙ ap (λ l. block_lanes g.row.V l (whole_words bytes)) c.lanes-lanes.ensures)
+    ∙ ap (λ r. hash_from_pair (joined true (block_lanes g.row.V first (whole_words bytes))) (whole_words r ++ last ∷ [])) c.absorb_blocks-rest.ensures.left
+    ∙ sym (hash_from_lanes-k_blocks (length bytes / 64 - 1) g.row.V first false bytes last (omega arith))
+    ∙ komi-by_lanes g.row.V c.args.seed bytes _ c.seeded-pair.ensures.pair _ (c.final_of_many-last.ensures ∙ ap (final_word bytes) c.end_byte.ensures.byte)

@@ -1,5 +1,5 @@
 use Rattle.komihash.proofs.HashSteps.{whole_words-block}
-use Rattle.komihash.proofs.one_shot.block_words.Goals as goal
+use Rattle.komihash.proofs.rounds.blocks.block_words.Goals as goal
 
 pub returns : goal.returns
 returns c =

@@ -1,0 +1,16 @@
+-- What is left leads to the same lanes and the same rest, by the products that are left.
+use Rattle.std.proofs.Common.{◌≡◌, ◌+◌, ◌*◌, ◌/◌, length}
+use Rattle.komihash.specs.Halves.{lanes_in}
+use Rattle.komihash.specs.Tails.{whole_words, block_lanes, after_blocks}
+use Rattle.komihash.proofs.rounds.blocks.absorb_blocks.Given as goal
+
+abbrev pub invariant-whole : goal.invariant-whole
+invariant-whole g l = record {
+  lanes : block_lanes g.row.V (lanes_in l.lanes) (whole_words l.rest) ≡ block_lanes g.row.V (lanes_in l.fn.lanes) (whole_words l.bytes);
+  left : after_blocks l.rest ≡ after_blocks l.bytes;
+  products : l.tally.products + 4 * (length l.rest / 64) ≡ l.fn.tally.products + 4 * (length l.bytes / 64);
+  kept : l.tally.kept ≡ l.fn.tally.kept;
+}
+
+abbrev pub decreases-whole : goal.decreases-whole
+decreases-whole g l = length l.rest
