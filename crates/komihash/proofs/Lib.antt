@@ -1,11 +1,13 @@
 pub mod Absorbing
 pub mod Answers
 pub mod Appending
+pub mod BegunBlock
 pub mod Blocks
 pub mod Facts
 pub mod HashSteps
 pub mod KeptBytes
 pub mod KeptHalves
 pub mod PaddedWords
+pub mod StreamSteps
 pub mod WordsOfBytes
 pub mod Xor

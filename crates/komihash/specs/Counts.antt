@@ -1,6 +1,20 @@
 -- What a call costs in multiplications of two words.
-use Rattle.std.specs.Prelude.{ℕ, ◌+◌, ◌*◌, ◌/◌, ◌%◌}
+use Rattle.std.specs.Prelude.{ℕ, ◌+◌, ◌-◌, ◌*◌, ◌/◌, ◌%◌, ◌==◌, nat_lt, if◌then◌else◌}
 
 -- the products of the hash of n bytes
 abbrev pub hash_products : ℕ → ℕ
 hash_products n = 3 + 4 * (n / 64) + n % 64 / 16
+
+-- the products of a write of b bytes where f are pending
+abbrev pub write_products : ℕ → ℕ → ℕ
+write_products f b = 4 * ((f + b) / 64)
+
+-- the products of an answer where f bytes are pending
+abbrev pub answer_products : ℕ → ℕ
+answer_products f = 2 + f / 16
+
+-- the bytes that a write of b bytes puts into the buffer where f are pending: all where no block is
+-- filled; else those that fill up the begun block, if there is one, and those behind the last block
+abbrev pub kept_bytes : ℕ → ℕ → ℕ
+kept_bytes f b =
+    if nat_lt (f + b) 64 then b else (if f == 0 then 0 else 64 - f) + (f + b) % 64

@@ -9,6 +9,7 @@ pub mod laws;
 mod one_shot;
 mod padding;
 mod rounds;
+mod streaming;
 pub mod tally;
 #[cfg(test)]
 mod tests;

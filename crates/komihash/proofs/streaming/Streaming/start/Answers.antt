@@ -1,0 +1,14 @@
+use Rattle.std.proofs.Common.{◌∙◌, ap}
+use Rattle.komihash.specs.Kept.{held}
+use Rattle.komihash.specs.Rounds.{lanes}
+use Rattle.komihash.specs.Stream.{start}
+use Rattle.komihash.proofs.StreamSteps.{keeps_nothing}
+use Rattle.komihash.proofs.streaming.Streaming.start.Goals as goal
+
+pub invariant_of-result : goal.invariant_of-result
+invariant_of-result g c = keeps_nothing g.row.V
+
+pub returns-clause-state : goal.returns-clause-state
+unfolding held
+returns-clause-state g c =
+    ap (λ l. record (start c.args.seed) { lanes = l }) (c.lanes.ensures ∙ ap lanes c.seeded.ensures.pair)

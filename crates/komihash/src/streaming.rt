@@ -1,0 +1,146 @@
+//! The stream of both versions.
+
+ghost use Rattle.std.specs.Prelude.{◌≡◌, ℕ, ◌+◌, ◌-◌, ◌*◌, ◌/◌, ◌%◌, ◌<◌, ◌≤◌, ◌==◌, if◌then◌else◌, List, [], ◌++◌, length, slice_index};
+ghost use Rattle.komihash.specs.Counts.{write_products, answer_products, kept_bytes};
+ghost use Rattle.komihash.specs.Halves.{lanes_in};
+ghost use Rattle.komihash.specs.Kept.{Holds};
+ghost use Rattle.komihash.specs.Stream.{start, absorb, answer, is_high};
+ghost use Rattle.komihash.specs.Tails.{whole_words, block_lanes, after_blocks};
+
+use crate::rounds::blocks::absorb_blocks;
+use crate::rounds::buffer::put;
+use crate::rounds::{block_round, lanes, places, seeded};
+use crate::tally::Tally;
+use std::marker::Model;
+
+// Fills up the begun block, if there is one, and absorbs it: what is left of the bytes.
+#[inline(always)]
+fn absorb_begun<'a, const V: u8>(
+    lanes: &mut [u64; 8],
+    words: &mut [u64; 8],
+    fill: usize,
+    bytes: &'a [u8],
+    tally: &mut Tally,
+) -> &'a [u8]
+    requires begun { fill < 64 }
+    requires many { 64 ≤ fill + length bytes.now }
+    ensures lanes { (pending : List ℕ) → Holds words.old fill pending
+        → block_lanes V (lanes_in lanes.new) (whole_words result.now)
+            ≡ block_lanes V (lanes_in lanes.old) (whole_words (pending ++ bytes.now)) }
+    ensures left { (pending : List ℕ) → Holds words.old fill pending
+        → after_blocks result.now ≡ after_blocks (pending ++ bytes.now) }
+    ensures words { (pending : List ℕ) → Holds words.old fill pending → Holds words.new 0 [] }
+    ensures taken { length result.now + (if fill == 0 then 0 else 64 - fill) ≡ length bytes.now }
+    ensures products { tally.new.products + 4 * (length result.now / 64)
+        ≡ tally.old.products + 4 * ((fill + length bytes.now) / 64) }
+    ensures kept { tally.new.kept ≡ tally.old.kept + (if fill == 0 then 0 else 64 - fill) }
+{
+    if fill == 0 {
+        return bytes;
+    }
+    let (head, rest) = bytes.split_at(64 - fill);
+    put(words, fill, head, tally);
+    block_round(lanes, words, places::<V>(), tally);
+    *words = [0; 8];
+    rest
+}
+
+// Whether the version keeps the top bit of a block's last byte, and it is set.
+#[inline(always)]
+fn is_high<const V: u8>(last: u8) -> bool
+    ensures { result ≡ is_high V last }
+{
+    V == 4 && last >= 128
+}
+
+// Absorbs bytes of which some fill a block: the new fill, and whether the last byte that a block
+// took is at least 128, where the version keeps that.
+#[inline(never)]
+fn write_blocks<const V: u8>(
+    lanes: &mut [u64; 8],
+    words: &mut [u64; 8],
+    fill: usize,
+    bytes: &[u8],
+    tally: &mut Tally,
+) -> (usize, bool)
+    requires begun { fill < 64 }
+    requires many { 64 ≤ fill + length bytes.now }
+    ensures lanes { (pending : List ℕ) → Holds words.old fill pending
+        → lanes_in lanes.new ≡ block_lanes V (lanes_in lanes.old) (whole_words (pending ++ bytes.now)) }
+    ensures words { (pending : List ℕ) → Holds words.old fill pending
+        → Holds words.new result.0 (after_blocks (pending ++ bytes.now)) }
+    ensures fill { result.0 ≡ (fill + length bytes.now) % 64 }
+    ensures high { result.1 ≡ is_high V (slice_index bytes.now (length bytes.now - result.0 - 1)) }
+    ensures products { tally.new.products ≡ tally.old.products + write_products fill (length bytes.now) }
+    ensures kept { tally.new.kept ≡ tally.old.kept + kept_bytes fill (length bytes.now) }
+{
+    let mut local = *lanes;
+    let rest = absorb_begun::<V>(&mut local, words, fill, bytes, tally);
+    let left = absorb_blocks::<V>(&mut local, rest, tally);
+    *lanes = local;
+    put(words, 0, left, tally);
+    (left.len(), is_high::<V>(bytes[bytes.len() - left.len() - 1]))
+}
+
+/// A stream of version V: its lanes, its pending bytes, whether a block was absorbed, and in version
+/// 4 whether the last block's last byte is at least 128. No counter of bytes is kept.
+#[derive(Drop)]
+pub(crate) struct Streaming<const V: u8> {
+    lanes: [u64; 8],
+    words: [u64; 8],
+    fill: usize,
+    absorbed: bool,
+    high: bool,
+}
+
+impl<const V: u8> Model for Streaming<V> {
+    ghost use Rattle.komihash.specs.Halves.{lanes_in};
+    ghost use Rattle.komihash.specs.Kept.{held, IsKept};
+    ghost use Rattle.komihash.specs.Stream.{State};
+
+    ghost Value = { State };
+
+    ghost view = { λ s. record { lanes = lanes_in s.lanes; pending = held s.words s.fill; absorbed = s.absorbed; high = s.high } };
+
+    ghost invariant = { λ s. IsKept V s.words s.fill s.absorbed s.high };
+}
+
+impl<const V: u8> Streaming<V> {
+    /// The new stream of a seed.
+    #[inline(always)]
+    pub(crate) fn start(seed: u64, tally: &mut Tally) -> Self
+        ensures state { result ≡ start seed }
+        ensures products { tally.new.products ≡ tally.old.products + 1 }
+        ensures kept { tally.new.kept ≡ tally.old.kept }
+    {
+        Streaming {
+            lanes: lanes(seeded(seed, tally)),
+            words: [0; 8],
+            fill: 0,
+            absorbed: false,
+            high: false,
+        }
+    }
+
+    /// Absorbs bytes.
+    #[inline(always)]
+    pub(crate) fn write(&mut self, bytes: &[u8], tally: &mut Tally)
+        ensures state { self.new ≡ absorb V self.old bytes.now }
+        ensures products { tally.new.products
+            ≡ tally.old.products + write_products (length self.old.pending) (length bytes.now) }
+        ensures kept { tally.new.kept
+            ≡ tally.old.kept + kept_bytes (length self.old.pending) (length bytes.now) }
+    {
+        let fill = self.fill;
+        if bytes.len() < 64 - fill {
+            put(&mut self.words, fill, bytes, tally);
+            self.fill = fill + bytes.len();
+        } else {
+            let (left, high) =
+                write_blocks::<V>(&mut self.lanes, &mut self.words, fill, bytes, tally);
+            self.fill = left;
+            self.absorbed = true;
+            self.high = high;
+        }
+    }
+}
