@@ -79,9 +79,9 @@ more_blocks v l xs ys e le =
     let m : length xs + (length ys - length ys % 64) - 1 ≡ length xs + (length ys - length ys % 64 - 1) = omega arith in
     let lanes = block_lanes-bytes v l xs ys e in
     let pending : drop (length (xs ++ ys) - length (xs ++ ys) % 64) (xs ++ ys) ≡ drop (length ys - length ys % 64) ys =
-        ap (λ k. drop k (xs ++ ys)) n ∙ sym (drop-drop (length ys - length ys % 64) (length xs) (xs ++ ys)) ∙ ap (drop (length ys - length ys % 64)) (drop_at xs ys (length xs) refl) in
+    ap (λ k. drop k (xs ++ ys)) n ∙ sym (drop-drop (length ys - length ys % 64) (length xs) (xs ++ ys)) ∙ ap (drop (length ys - length ys % 64)) (drop_at xs ys (length xs) refl) in
     let last : slice_index (xs ++ ys) (length (xs ++ ys) - length (xs ++ ys) % 64 - 1) ≡ slice_index ys (length ys - length ys % 64 - 1) =
-        ap (λ k. slice_index (xs ++ ys) (k - 1)) n ∙ ap (slice_index (xs ++ ys)) m ∙ get_or-append-add xs ys (length ys - length ys % 64 - 1) 0 in
+    ap (λ k. slice_index (xs ++ ys) (k - 1)) n ∙ ap (slice_index (xs ++ ys)) m ∙ get_or-append-add xs ys (length ys - length ys % 64 - 1) 0 in
     cc
 
 -- the state after a block of pending bytes and others
@@ -120,7 +120,7 @@ absorb-blocks v s bytes few le =
     let front : length xs ≡ r = length-take-le r bytes (omega arith) in
     let first : length (s.pending ++ xs) ≡ 64 = omega (arith, length-append s.pending xs) in
     let all : s.pending ++ bytes ≡ (s.pending ++ xs) ++ ys =
-        ap (λ b. s.pending ++ b) (sym (take-append-drop r bytes)) ∙ sym (append_assoc s.pending xs ys) in
+    ap (λ b. s.pending ++ b) (sym (take-append-drop r bytes)) ∙ sym (append_assoc s.pending xs ys) in
     ap (absorb v s) (sym (take-append-drop r bytes))
     ∙ absorb-append v s xs ys
     ∙ ap (λ t. absorb v t ys) (absorb-block v s xs (omega arith) (omega arith))

@@ -2,21 +2,17 @@
 use Rattle.std.proofs.Common.{◌≡◌, ℕ, ◌+◌, ◌-◌, ◌*◌, ◌/◌, ◌%◌, ◌<◌, ◌≤◌, Bool, true, false, List, [], ◌∷◌, ◌++◌, length, take, drop, refl, ap, arith, ◌∙◌, sym, subst, inl, inr}
 use Rattle.std.proofs.lemmas.List.{length-drop, length-take-le, take-append-drop, get_or-drop}
 use Rattle.std.proofs.lemmas.Bool.{cases_lt}
-use Rattle.std.specs.Prelude.{slice_index, if◌then◌else◌}
+use Rattle.std.proofs.lemmas.Bool.Decides.{nat_tests}
+use Rattle.std.specs.Prelude.{slice_index, nat_le, if◌then◌else◌}
 use Rattle.komihash.specs.Hash.{komi, hash_from_pair}
 use Rattle.komihash.specs.Rounds.{lanes, seeded, joined}
 use Rattle.komihash.specs.Stream.{State, start, absorb, answer, tail_of, is_high}
-use Rattle.komihash.specs.Tails.{whole_words, after_words, final_word, end_byte, block_lanes, after_blocks}
-use Rattle.komihash.specs.Words.{word_of, padding_byte}
+use Rattle.komihash.specs.Tails.{tail_end, whole_words, after_words, final_word, end_byte, block_lanes, after_blocks}
+use Rattle.komihash.specs.Words.{word_of}
 use Rattle.komihash.proofs.Absorbing.{blocks_state, absorb-few, absorb-blocks}
 use Rattle.komihash.proofs.Blocks.{hash_from_lanes-k_blocks}
 use Rattle.komihash.proofs.HashSteps.{komi-by_lanes, komi-by_pair}
 use Rattle.komihash.proofs.PaddedWords.{words-by_tail}
-
--- the byte that ends the tail
-abbrev pub tail_end : ℕ → List ℕ → Bool → Bool → ℕ
-tail_end v (b ∷ m) absorbed high = padding_byte v (b ∷ m)
-tail_end v [] absorbed high = if absorbed then (if high then 2 else 1) else 0
 
 tail_of-words : (v : ℕ) (m : List ℕ) (absorbed high : Bool) → tail_of v m absorbed high ≡ whole_words m ++ final_word m (tail_end v m absorbed high) ∷ []
 tail_of-words v [] false high = refl
@@ -55,7 +51,7 @@ tail_end-blocks v (c ∷ m) (b ∷ p) e le =
     let some : 0 < length (drop n (c ∷ m)) = subst (λ q. 0 < length q) e (omega arith) in
     let place : n + (length (drop n (c ∷ m)) - 1) ≡ length (c ∷ m) - 1 = omega (arith, length-drop n (c ∷ m)) in
     let last : slice_index (b ∷ p) (length (b ∷ p) - 1) ≡ slice_index (c ∷ m) (length (c ∷ m) - 1) =
-        ap (λ q. slice_index q (length q - 1)) e ∙ get_or-drop n (c ∷ m) (length (drop n (c ∷ m)) - 1) 0 ∙ ap (slice_index (c ∷ m)) place in
+    ap (λ q. slice_index q (length q - 1)) e ∙ get_or-drop n (c ∷ m) (length (drop n (c ∷ m)) - 1) 0 ∙ ap (slice_index (c ∷ m)) place in
     ap (λ x. if is_high v x then 2 else 1) last
 
 tail_end-start : (v : ℕ) (m : List ℕ) → tail_end v m false false ≡ end_byte v m
@@ -66,17 +62,27 @@ tail_end-start v (b ∷ m) = refl
 pub answer-joined : (v seed : ℕ) (m : List ℕ) → answer v (absorb v (start seed) m) ≡ komi v seed m
 answer-joined v seed m =
     elim (cases_lt (length m) 64) as (λ _. answer v (absorb v (start seed) m) ≡ komi v seed m) [
-      inl lt ↦
-        ap (answer v) (absorb-few v (start seed) m (omega arith))
-        ∙ answer-by_pair v (record (start seed) { pending = m })
-        ∙ komi-by_pair v seed m (seeded seed) refl (final_word m (tail_end v m false false)) (ap (final_word m) (tail_end-start v m)) lt
-    | inr le ↦ 
-        let last = final_word m (end_byte v m) in
-        let ends : final_word (after_blocks m) (tail_end v (after_blocks m) true (is_high v (slice_index m (length m - length m % 64 - 1)))) ≡ last =
-            ap (final_word (after_blocks m)) (tail_end-blocks v m (after_blocks m) refl le) ∙ ap (λ ys. word_of (ys ++ end_byte v m ∷ [])) (sym (after_words-after_blocks m)) in
-        ap (answer v) (absorb-blocks v (start seed) m (omega arith) (omega arith))
-        ∙ answer-by_pair v (blocks_state v (lanes (seeded seed)) m)
-        ∙ ap (λ w. hash_from_pair (joined true (block_lanes v (lanes (seeded seed)) (whole_words m))) (whole_words (after_blocks m) ++ w ∷ [])) ends
-        ∙ sym (hash_from_lanes-k_blocks (length m / 64 - 1) v (lanes (seeded seed)) false m last (omega arith))
-        ∙ komi-by_lanes v seed m (seeded seed) refl last refl
+      | inl lt ↦
+          ap (answer v) (absorb-few v (start seed) m (omega arith))
+          ∙ answer-by_pair v (record (start seed) { pending = m })
+          ∙ komi-by_pair v seed m (seeded seed) refl (final_word m (tail_end v m false false)) (ap (final_word m) (tail_end-start v m)) lt
+      | inr le ↦
+          let last = final_word m (end_byte v m) in
+          let ends : final_word (after_blocks m) (tail_end v (after_blocks m) true (is_high v (slice_index m (length m - length m % 64 - 1)))) ≡ last =
+          ap (final_word (after_blocks m)) (tail_end-blocks v m (after_blocks m) refl le) ∙ ap (λ ys. word_of (ys ++ end_byte v m ∷ [])) (sym (after_words-after_blocks m)) in
+          ap (answer v) (absorb-blocks v (start seed) m (omega arith) (omega arith))
+          ∙ answer-by_pair v (blocks_state v (lanes (seeded seed)) m)
+          ∙ ap (λ w. hash_from_pair (joined true (block_lanes v (lanes (seeded seed)) (whole_words m))) (whole_words (after_blocks m) ++ w ∷ [])) ends
+          ∙ sym (hash_from_lanes-k_blocks (length m / 64 - 1) v (lanes (seeded seed)) false m last (omega arith))
+          ∙ komi-by_lanes v seed m (seeded seed) refl last refl
     ]
+
+-- ---- what an answer reads in version 4
+
+top_bit : (b : ℕ) → b < 256 → 1 + b / 128 ≡ (if nat_le 128 b then 2 else 1)
+top_bit b h = grind (arith, nat_tests)
+
+pub tail_end-four : (m : List ℕ) (absorbed high : Bool) → 0 < length m → slice_index m (length m - 1) < 256 → 1 + slice_index m (length m - 1) / 128 ≡ tail_end 4 m absorbed high
+tail_end-four [] absorbed high some byte = absurd (omega arith)
+tail_end-four (b ∷ m) absorbed high some byte =
+    top_bit (slice_index (b ∷ m) (length (b ∷ m) - 1)) byte

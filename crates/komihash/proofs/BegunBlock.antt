@@ -41,8 +41,8 @@ module _ (v : ℕ) (l : Lanes) (old new : List ℕ) (fill : ℕ) (pending bytes 
   pub begun_left : after_blocks (drop (64 - fill) bytes) ≡ after_blocks (pending ++ bytes)
   begun_left =
       sym (ap after_blocks (sym joined_at)
-          ∙ after_blocks-more ((pending ++ take (64 - fill) bytes) ++ drop (64 - fill) bytes) (omega (arith, length-append (pending ++ take (64 - fill) bytes) (drop (64 - fill) bytes), first_block))
-          ∙ ap after_blocks (drop_at (pending ++ take (64 - fill) bytes) (drop (64 - fill) bytes) 64 first_block))
+      ∙ after_blocks-more ((pending ++ take (64 - fill) bytes) ++ drop (64 - fill) bytes) (omega (arith, length-append (pending ++ take (64 - fill) bytes) (drop (64 - fill) bytes), first_block))
+      ∙ ap after_blocks (drop_at (pending ++ take (64 - fill) bytes) (drop (64 - fill) bytes) 64 first_block))
 
 -- what is put into empty words is all that they hold
 pub Holds-put : (old new left all : List ℕ) → Holds old 0 [] → Appended old 0 left new → AreBytes all → left ≡ after_blocks all → Holds new (length left) (after_blocks all)

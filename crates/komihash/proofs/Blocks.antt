@@ -54,6 +54,5 @@ hash_from_lanes-k_blocks (suc k) v l b xs last e =
     ∙ hash_from_lanes-k_blocks k v (block v l (whole_words (take 64 xs))) true ys last (omega (arith, length-drop 64 xs))
     ∙ sym (ap (λ s. hash_from_pair (joined true s) (whole_words (after_blocks xs) ++ last ∷ [])) (block_lanes-more v l xs (omega arith)) ∙ ap (λ zs. hash_from_pair (joined true (block_lanes v (block v l (whole_words (take 64 xs))) (whole_words ys))) (whole_words zs ++ last ∷ [])) (after_blocks-more xs (omega arith)))
 
-
 pub length-after_blocks : (m : List ℕ) → length (after_blocks m) ≡ length m % 64
 length-after_blocks m = omega (arith, length-drop (length m - length m % 64) m)

@@ -1,15 +1,15 @@
 -- Bytes in words: what eight words hold, and what a word set behind them adds.
 use Rattle.std.proofs.Common.{◌≡◌, ℕ, zero, suc, ◌+◌, ◌-◌, ◌*◌, ◌/◌, ◌%◌, ◌^◌, ◌<◌, ◌≤◌, List, [], ◌∷◌, ◌++◌, length, take, drop, get_or, set, replicate, refl, ap, arith, ◌∙◌, sym, subst, inl, inr}
-use Rattle.std.proofs.lemmas.List.{append_assoc, append-nil, length-append, length-drop, length-take, length-take-le, take-append-drop, take_at, take_all, drop_all, replicate-append-replicate, nil_from_length}
+use Rattle.std.proofs.lemmas.List.{append_assoc, append-nil, length-append, length-drop, length-take, length-take-le, take-append-drop, take_at, take_all, drop_all, replicate-append-replicate, nil_from_length, drop_more, get_or-drop}
 use Rattle.std.proofs.lemmas.Nat.{pow-add, shl_whole, shl_below, mod_low}
 use Rattle.std.proofs.Math.Nat.{add-mul, mul_assoc}
 use Rattle.std.proofs.lemmas.Bool.{cases_lt}
 use Rattle.std.specs.Prelude.{bit_or}
 use Rattle.komihash.specs.Kept.{filled, bytes_of, all_bytes, held}
-use Rattle.komihash.specs.Tails.{after_words}
+use Rattle.komihash.specs.Tails.{after_words, whole_words, final_word}
 use Rattle.komihash.specs.Words.{AreBytes, word_of}
 use Rattle.komihash.proofs.PaddedWords.{after_words-drop}
-use Rattle.komihash.proofs.WordsOfBytes.{AreBytes-take, AreBytes-drop, word_of-lt, word_of-append, word_of-or}
+use Rattle.komihash.proofs.WordsOfBytes.{AreBytes-take, AreBytes-drop, word_of-lt, word_of-append, word_of-or, word_of-push, word_of-shr}
 
 -- a word's bytes are those that it was made of, and zeros
 bytes_of-word_of : (n : ℕ) (xs : List ℕ) → AreBytes xs → length xs ≤ n → bytes_of n (word_of xs) ≡ xs ++ replicate (n - length xs) 0
@@ -29,15 +29,15 @@ bytes_of-word_of (suc n) (x ∷ xs) h le =
 zeros_joined : (n : ℕ) (xs : List ℕ) → (take 8 xs ++ replicate (8 - length (take 8 xs)) 0) ++ (drop 8 xs ++ replicate (8 * n - length (drop 8 xs)) 0) ≡ xs ++ replicate (8 * suc n - length xs) 0
 zeros_joined n xs =
     elim (cases_lt (length xs) 8) as (λ _. (take 8 xs ++ replicate (8 - length (take 8 xs)) 0) ++ (drop 8 xs ++ replicate (8 * n - length (drop 8 xs)) 0) ≡ xs ++ replicate (8 * suc n - length xs) 0) [
-      inl lt ↦
-        let front : take 8 xs ≡ xs = take_all 8 xs (omega arith) in
-        let back : drop 8 xs ≡ [] = drop_all 8 xs (omega arith) in
-        let sum : 8 - length xs + (8 * n - 0) ≡ 8 * suc n - length xs = omega arith in
-        rw (front, back) (append_assoc xs (replicate (8 - length xs) 0) (replicate (8 * n - 0) 0) ∙ ap (λ z. xs ++ z) (replicate-append-replicate (8 - length xs) (8 * n - 0) 0 ∙ ap (λ k. replicate k 0) sum))
-    | inr le ↦
-        let none : 8 - length (take 8 xs) ≡ 0 = omega (arith, length-take 8 xs) in
-        let sum : 8 * n - length (drop 8 xs) ≡ 8 * suc n - length xs = omega (arith, length-drop 8 xs) in
-        rw (none, sum) (ap (λ z. z ++ (drop 8 xs ++ replicate (8 * suc n - length xs) 0)) (append-nil (take 8 xs)) ∙ sym (append_assoc (take 8 xs) (drop 8 xs) (replicate (8 * suc n - length xs) 0)) ∙ ap (λ z. z ++ replicate (8 * suc n - length xs) 0) (take-append-drop 8 xs))
+      | inl lt ↦
+          let front : take 8 xs ≡ xs = take_all 8 xs (omega arith) in
+          let back : drop 8 xs ≡ [] = drop_all 8 xs (omega arith) in
+          let sum : 8 - length xs + (8 * n - 0) ≡ 8 * suc n - length xs = omega arith in
+          rw (front, back) (append_assoc xs (replicate (8 - length xs) 0) (replicate (8 * n - 0) 0) ∙ ap (λ z. xs ++ z) (replicate-append-replicate (8 - length xs) (8 * n - 0) 0 ∙ ap (λ k. replicate k 0) sum))
+      | inr le ↦
+          let none : 8 - length (take 8 xs) ≡ 0 = omega (arith, length-take 8 xs) in
+          let sum : 8 * n - length (drop 8 xs) ≡ 8 * suc n - length xs = omega (arith, length-drop 8 xs) in
+          rw (none, sum) (ap (λ z. z ++ (drop 8 xs ++ replicate (8 * suc n - length xs) 0)) (append-nil (take 8 xs)) ∙ sym (append_assoc (take 8 xs) (drop 8 xs) (replicate (8 * suc n - length xs) 0)) ∙ ap (λ z. z ++ replicate (8 * suc n - length xs) 0) (take-append-drop 8 xs))
     ]
 
 -- what words hold that were filled with bytes
@@ -47,9 +47,9 @@ all_bytes-filled zero [] h le = refl
 all_bytes-filled zero (x ∷ xs) h le = absurd (omega arith)
 all_bytes-filled (suc n) xs h le =
     let word : bytes_of 8 (word_of (take 8 xs)) ≡ take 8 xs ++ replicate (8 - length (take 8 xs)) 0 =
-        bytes_of-word_of 8 (take 8 xs) (AreBytes-take 8 xs h) (omega (arith, length-take 8 xs)) in
+    bytes_of-word_of 8 (take 8 xs) (AreBytes-take 8 xs h) (omega (arith, length-take 8 xs)) in
     let words : all_bytes (filled n (drop 8 xs)) ≡ drop 8 xs ++ replicate (8 * n - length (drop 8 xs)) 0 =
-        all_bytes-filled n (drop 8 xs) (AreBytes-drop 8 xs h) (omega (arith, length-drop 8 xs)) in
+    all_bytes-filled n (drop 8 xs) (AreBytes-drop 8 xs h) (omega (arith, length-drop 8 xs)) in
     ap (λ bs. bs ++ all_bytes (filled n (drop 8 xs))) word ∙ ap (λ bs. (take 8 xs ++ replicate (8 - length (take 8 xs)) 0) ++ bs) words
     ∙ zeros_joined n xs
 
@@ -92,23 +92,23 @@ set-filled (suc n) xs ys lt le = filled-few n (xs ++ ys) (omega (arith, length-a
 word_of-shl : (xs : List ℕ) (o : ℕ) → AreBytes xs → o ≤ 8 → word_of xs * 2 ^ (8 * o) % 2 ^ 64 ≡ word_of (take (8 - o) xs) * 2 ^ (8 * o)
 word_of-shl xs o h le =
     elim (cases_lt (8 - o) (length xs)) as (λ _. word_of xs * 2 ^ (8 * o) % 2 ^ 64 ≡ word_of (take (8 - o) xs) * 2 ^ (8 * o)) [
-      inl lt ↦
-        let j = 8 - o in
-        let low = word_of (take j xs) in
-        let high = word_of (drop j xs) in
-        let front : length (take j xs) ≡ j = length-take-le j xs (omega arith) in
-        let sum : 8 * j + 8 * o ≡ 64 = omega arith in
-        let cut : word_of xs ≡ high * 2 ^ (8 * j) + low =
-            ap word_of (sym (take-append-drop j xs)) ∙ word_of-append (take j xs) (drop j xs) ∙ ap (λ n. high * 2 ^ (8 * n) + low) front in
-        let below : low < 2 ^ (8 * j) = subst (λ n. low < 2 ^ (8 * n)) front (word_of-lt (take j xs) (AreBytes-take j xs h)) in
-        let fits : low * 2 ^ (8 * o) < 2 ^ 64 = subst (λ n. low * 2 ^ (8 * o) < 2 ^ n) sum (shl_below low (8 * j) (8 * o) below) in
-        let power : 2 ^ (8 * j) * 2 ^ (8 * o) ≡ 2 ^ 64 = sym (pow-add 2 (8 * j) (8 * o)) ∙ ap (λ n. 2 ^ n) sum in
-        let apart : word_of xs * 2 ^ (8 * o) ≡ high * 2 ^ 64 + low * 2 ^ (8 * o) =
-            ap (λ w. w * 2 ^ (8 * o)) cut ∙ add-mul (high * 2 ^ (8 * j)) low (2 ^ (8 * o)) ∙ ap (λ x. x + low * 2 ^ (8 * o)) (mul_assoc high (2 ^ (8 * j)) (2 ^ (8 * o)) ∙ ap (λ p. high * p) power) in
-        ap (λ w. w % 2 ^ 64) apart ∙ mod_low high 64 (low * 2 ^ (8 * o)) fits
-    | inr few ↦
-        shl_whole (word_of xs) (8 * length xs) (8 * o) 64 (word_of-lt xs h) (omega arith)
-        ∙ ap (λ z. word_of z * 2 ^ (8 * o)) (sym (take_all (8 - o) xs few))
+      | inl lt ↦
+          let j = 8 - o in
+          let low = word_of (take j xs) in
+          let high = word_of (drop j xs) in
+          let front : length (take j xs) ≡ j = length-take-le j xs (omega arith) in
+          let sum : 8 * j + 8 * o ≡ 64 = omega arith in
+          let cut : word_of xs ≡ high * 2 ^ (8 * j) + low =
+          ap word_of (sym (take-append-drop j xs)) ∙ word_of-append (take j xs) (drop j xs) ∙ ap (λ n. high * 2 ^ (8 * n) + low) front in
+          let below : low < 2 ^ (8 * j) = subst (λ n. low < 2 ^ (8 * n)) front (word_of-lt (take j xs) (AreBytes-take j xs h)) in
+          let fits : low * 2 ^ (8 * o) < 2 ^ 64 = subst (λ n. low * 2 ^ (8 * o) < 2 ^ n) sum (shl_below low (8 * j) (8 * o) below) in
+          let power : 2 ^ (8 * j) * 2 ^ (8 * o) ≡ 2 ^ 64 = sym (pow-add 2 (8 * j) (8 * o)) ∙ ap (λ n. 2 ^ n) sum in
+          let apart : word_of xs * 2 ^ (8 * o) ≡ high * 2 ^ 64 + low * 2 ^ (8 * o) =
+          ap (λ w. w * 2 ^ (8 * o)) cut ∙ add-mul (high * 2 ^ (8 * j)) low (2 ^ (8 * o)) ∙ ap (λ x. x + low * 2 ^ (8 * o)) (mul_assoc high (2 ^ (8 * j)) (2 ^ (8 * o)) ∙ ap (λ p. high * p) power) in
+          ap (λ w. w % 2 ^ 64) apart ∙ mod_low high 64 (low * 2 ^ (8 * o)) fits
+      | inr few ↦
+          shl_whole (word_of xs) (8 * length xs) (8 * o) 64 (word_of-lt xs h) (omega arith)
+          ∙ ap (λ z. word_of z * 2 ^ (8 * o)) (sym (take_all (8 - o) xs few))
     ]
 
 length-after_words : (xs : List ℕ) → length (after_words xs) ≡ length xs % 8
@@ -122,10 +122,10 @@ or-filled xs ys fill h g e lt =
     let size : length begun ≡ o = length-after_words xs in
     let bytes : AreBytes begun = subst AreBytes (sym (after_words-drop xs)) (AreBytes-drop (length xs - length xs % 8) xs h) in
     let word : bit_or (get_or (filled 8 xs) (length xs / 8) 0) (word_of ys * 2 ^ (8 * o) % 2 ^ 64) ≡ word_of (begun ++ take (8 - o) ys) =
-        ap (λ w. bit_or w (word_of ys * 2 ^ (8 * o) % 2 ^ 64)) (get_or-filled 8 xs (omega arith))
-        ∙ ap (bit_or (word_of begun)) (word_of-shl ys o g (omega arith))
-        ∙ ap (λ n. bit_or (word_of begun) (word_of (take (8 - o) ys) * 2 ^ (8 * n))) (sym size)
-        ∙ sym (word_of-or begun (take (8 - o) ys) bytes) in
+    ap (λ w. bit_or w (word_of ys * 2 ^ (8 * o) % 2 ^ 64)) (get_or-filled 8 xs (omega arith))
+    ∙ ap (bit_or (word_of begun)) (word_of-shl ys o g (omega arith))
+    ∙ ap (λ n. bit_or (word_of begun) (word_of (take (8 - o) ys) * 2 ^ (8 * n))) (sym size)
+    ∙ sym (word_of-or begun (take (8 - o) ys) bytes) in
     rw (← e) (ap (set (filled 8 xs) (length xs / 8)) word ∙ set-filled 8 xs (take (8 - o) ys) (omega arith) (omega (arith, length-take (8 - o) ys)))
 
 -- a word set at a whole place
@@ -135,6 +135,44 @@ put-filled xs ys at e lt le =
     let place : length xs / 8 ≡ at = omega arith in
     let whole = set-filled 8 xs ys (omega arith) (omega (arith, length-after_words xs)) in
     ap (λ k. set (filled 8 xs) k (word_of ys)) (sym place) ∙ ap (λ b. set (filled 8 xs) (length xs / 8) (word_of (b ++ ys))) (sym none) ∙ whole
+
+-- ---- what an answer reads
+
+-- the full words
+pub take-filled : (n : ℕ) (xs : List ℕ) → length xs ≤ 8 * n → take (length xs / 8) (filled n xs) ≡ whole_words xs
+unfolding filled
+take-filled zero [] le = refl
+take-filled zero (x ∷ xs) le = absurd (omega arith)
+take-filled (suc n) (a ∷ b ∷ c ∷ d ∷ e ∷ f ∷ g ∷ h ∷ xs) le =
+    let k : suc (suc (suc (suc (suc (suc (suc (suc (length xs)))))))) / 8 ≡ suc (length xs / 8) = omega arith in
+    rw k (ap (λ ws. word_of (a ∷ b ∷ c ∷ d ∷ e ∷ f ∷ g ∷ h ∷ []) ∷ ws) (take-filled n xs (omega arith)))
+take-filled (suc n) xs le = refl
+
+-- the begun word, with a byte behind it
+pub final_word-filled : (xs : List ℕ) (fill end : ℕ) → AreBytes xs → length xs ≡ fill → fill < 64 → end < 256 → bit_or (get_or (filled 8 xs) (fill / 8) 0) (end * 2 ^ (8 * (fill % 8)) % 2 ^ 64) ≡ final_word xs end
+final_word-filled xs fill end h e lt small =
+    let begun = after_words xs in
+    let bytes : AreBytes begun = subst AreBytes (sym (after_words-drop xs)) (AreBytes-drop (length xs - length xs % 8) xs h) in
+    rw (← e) (ap (λ w. bit_or w (end * 2 ^ (8 * (length xs % 8)) % 2 ^ 64)) (get_or-filled 8 xs (omega arith)) ∙ word_of-push begun (length xs % 8) end bytes (length-after_words xs) (omega arith) small)
+
+-- the last byte, which nothing stands above
+pub last-filled : (n : ℕ) (xs : List ℕ) (i : ℕ) → AreBytes xs → length xs ≡ i + 1 → i < 8 * n → get_or (filled n xs) (i / 8) 0 / 2 ^ (8 * (i % 8)) ≡ get_or xs i 0
+unfolding filled
+last-filled zero xs i h e lt = absurd (omega arith)
+last-filled (suc n) xs i h e lt =
+    elim (cases_lt i 8) as (λ _. get_or (filled (suc n) xs) (i / 8) 0 / 2 ^ (8 * (i % 8)) ≡ get_or xs i 0) [
+      | inl few ↦
+          let place : i / 8 ≡ 0 = omega arith in
+          let over : i % 8 ≡ i = omega arith in
+          let whole : take 8 xs ≡ xs = take_all 8 xs (omega arith) in
+          let last : drop i xs ≡ get_or xs i 0 ∷ [] = drop_more xs i 0 (omega arith) ∙ ap (λ ys. get_or xs i 0 ∷ ys) (drop_all (i + 1) xs (omega arith)) in
+          rw (place, over, whole) (word_of-shr i xs h (omega arith) ∙ ap word_of last ∙ omega arith)
+      | inr many ↦
+          let place : i / 8 ≡ suc ((i - 8) / 8) = omega arith in
+          let over : i % 8 ≡ (i - 8) % 8 = omega arith in
+          let next : 8 + (i - 8) ≡ i = omega arith in
+          rw (place, over) (last-filled n (drop 8 xs) (i - 8) (AreBytes-drop 8 xs h) (omega (arith, length-drop 8 xs)) (omega arith) ∙ get_or-drop 8 xs (i - 8) 0 ∙ ap (λ k. get_or xs k 0) next)
+    ]
 
 -- ---- what words hold
 

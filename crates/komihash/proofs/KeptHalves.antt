@@ -4,7 +4,7 @@ use Rattle.std.specs.Prelude.{bit_xor}
 use Rattle.std.specs.Int.Bits.{xor_assoc, xor_comm}
 use Rattle.komihash.specs.Rounds.{constant, lanes}
 use Rattle.komihash.specs.Halves.{pair_in, lanes_in}
-use Rattle.komihash.proofs.Xor.{xor_middle, xor_turn}
+use Rattle.komihash.proofs.Xor.{xor_back, xor_middle, xor_turn}
 
 -- the lanes of a pair
 pub lanes_in-lanes : (low e : ℕ) → lanes_in (bit_xor (constant 8) low ∷ e ∷ bit_xor (constant 2) low ∷ bit_xor (constant 6) e ∷ bit_xor (bit_xor (constant 3) (constant 6)) low ∷ bit_xor (constant 7) e ∷ bit_xor (bit_xor (constant 4) (constant 7)) low ∷ bit_xor (constant 8) e ∷ []) ≡ lanes (pair_in (low, e))
@@ -26,3 +26,7 @@ pair_in-joined l1 e1 l2 e2 l3 e3 l4 e4 =
     ∙ ap (λ x. bit_xor x (bit_xor e3 l4)) (xor_middle (bit_xor e4 e1) (bit_xor l1 l2) e2 l3)
     ∙ xor_middle (bit_xor (bit_xor e4 e1) e2) (bit_xor (bit_xor l1 l2) l3) e3 l4
     ∙ ap (λ x. bit_xor x (bit_xor (bit_xor (bit_xor l1 l2) l3) l4)) (xor_turn e4 e1 e2 e3))
+
+-- the first lane, as the pair keeps it
+pub pair_in-first : (l1 e1 e4 : ℕ) → bit_xor e1 (bit_xor (bit_xor e4 l1) e1) ≡ bit_xor e4 l1
+pair_in-first l1 e1 e4 = sym (xor_assoc e1 (bit_xor e4 l1) e1) ∙ xor_back e1 (bit_xor e4 l1)

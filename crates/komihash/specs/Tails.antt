@@ -1,6 +1,6 @@
 -- The padded words of a message in the form that the code reads them: its whole words, and the one
 -- word that ends them. `proofs/PaddedWords.antt` shows that this is the same list.
-use Rattle.std.specs.Prelude.{ℕ, ◌-◌, ◌%◌, length, drop, List, [], ◌∷◌, ◌++◌}
+use Rattle.std.specs.Prelude.{ℕ, Bool, if◌then◌else◌, ◌-◌, ◌%◌, length, drop, List, [], ◌∷◌, ◌++◌}
 use Rattle.komihash.specs.Rounds.{Lanes, block}
 use Rattle.komihash.specs.Words.{word_of, padding_byte}
 
@@ -33,3 +33,9 @@ block_lanes v s ws = s
 -- the bytes behind the last whole block
 abbrev pub after_blocks : List ℕ → List ℕ
 after_blocks m = drop (length m - length m % 64) m
+
+-- the byte that ends a stream's tail: the pending bytes' padding byte; where none is pending, that
+-- of the last block, or 0 where no block was absorbed
+abbrev pub tail_end : ℕ → List ℕ → Bool → Bool → ℕ
+tail_end v (b ∷ m) absorbed high = padding_byte v (b ∷ m)
+tail_end v [] absorbed high = if absorbed then (if high then 2 else 1) else 0

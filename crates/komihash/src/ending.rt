@@ -1,6 +1,6 @@
 //! The end of a hash: less than a block of whole words, and the final word.
 
-ghost use Rattle.std.specs.Prelude.{◌≡◌, ℕ, ◌+◌, ◌-◌, ◌/◌, ◌<◌, ◌≤◌, List, [], ◌∷◌, ◌++◌, length, drop, slice_index};
+ghost use Rattle.std.specs.Prelude.{◌≡◌, ℕ, ◌+◌, ◌-◌, ◌/◌, ◌<◌, ◌≤◌, List, [], ◌∷◌, ◌++◌, length, take, drop, slice_index};
 ghost use Rattle.komihash.specs.Halves.{pair_in};
 ghost use Rattle.komihash.specs.Hash.{hash_from_pair};
 ghost use Rattle.komihash.specs.Tails.{whole_words};
@@ -35,6 +35,28 @@ impl Words for &[u8] {
     #[inline(always)]
     fn word(&self, at: usize) -> u64 {
         word_at(self, 8 * at)
+    }
+}
+
+/// The full words of those that hold pending bytes.
+#[derive(Clone, Copy)]
+pub(crate) struct FullWords<'a> {
+    pub(crate) words: &'a [u64; 8],
+    pub(crate) count: usize,
+    pub(crate) ghost within: { count ≤ length words.now },
+}
+
+impl Words for FullWords<'_> {
+    ghost words = { λ full. take full.count full.words.now };
+
+    #[inline(always)]
+    fn count(&self) -> usize {
+        self.count
+    }
+
+    #[inline(always)]
+    fn word(&self, at: usize) -> u64 {
+        self.words[at]
     }
 }
 

@@ -23,7 +23,7 @@ fn hash_of_blocks<const V: u8>(bytes: &[u8], seed: u64, tally: &mut Tally) -> u6
     let last = final_of_many(bytes, end_byte::<V>(bytes));
     let mut lanes = lanes(pair);
     let rest = absorb_blocks::<V>(&mut lanes, bytes, tally);
-    end_of_eight(joined(&lanes), &rest, last, tally)
+    end_of_eight(joined(&lanes, true), &rest, last, tally)
 }
 
 /// The hash of a message with a seed in version V.

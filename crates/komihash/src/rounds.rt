@@ -121,13 +121,18 @@ pub(crate) fn block_round(
     ];
 }
 
-/// The pair of the lanes after at least one block.
+/// The pair of the lanes: all of them joined where a block was absorbed, else the pair that they
+/// were made of.
 #[inline(always)]
-pub(crate) fn joined(lanes: &[u64; 8]) -> Pair
-    ensures { pair_in result ≡ joined true (lanes_in lanes.now) }
+pub(crate) fn joined(lanes: &[u64; 8], absorbed: bool) -> Pair
+    ensures { pair_in result ≡ joined absorbed (lanes_in lanes.now) }
 {
     let [low1, e1, low2, e2, low3, e3, low4, e4] = *lanes;
-    (low1 ^ low2 ^ low3 ^ low4, e1 ^ e2 ^ e3 ^ e4)
+    if absorbed {
+        (low1 ^ low2 ^ low3 ^ low4, e1 ^ e2 ^ e3 ^ e4)
+    } else {
+        (e4 ^ low1 ^ e1, e1)
+    }
 }
 
 /// The pair after a round on two words.

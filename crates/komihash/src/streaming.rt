@@ -5,11 +5,12 @@ ghost use Rattle.komihash.specs.Counts.{write_products, answer_products, kept_by
 ghost use Rattle.komihash.specs.Halves.{lanes_in};
 ghost use Rattle.komihash.specs.Kept.{Holds};
 ghost use Rattle.komihash.specs.Stream.{start, absorb, answer, is_high};
-ghost use Rattle.komihash.specs.Tails.{whole_words, block_lanes, after_blocks};
+ghost use Rattle.komihash.specs.Tails.{whole_words, block_lanes, after_blocks, tail_end};
 
+use crate::ending::{FullWords, end_of_eight};
 use crate::rounds::blocks::absorb_blocks;
 use crate::rounds::buffer::put;
-use crate::rounds::{block_round, lanes, places, seeded};
+use crate::rounds::{block_round, joined, lanes, places, seeded};
 use crate::tally::Tally;
 use std::marker::Model;
 
@@ -26,7 +27,7 @@ fn absorb_begun<'a, const V: u8>(
     requires many { 64 ≤ fill + length bytes.now }
     ensures lanes { (pending : List ℕ) → Holds words.old fill pending
         → block_lanes V (lanes_in lanes.new) (whole_words result.now)
-            ≡ block_lanes V (lanes_in lanes.old) (whole_words (pending ++ bytes.now)) }
+        ≡ block_lanes V (lanes_in lanes.old) (whole_words (pending ++ bytes.now)) }
     ensures left { (pending : List ℕ) → Holds words.old fill pending
         → after_blocks result.now ≡ after_blocks (pending ++ bytes.now) }
     ensures words { (pending : List ℕ) → Holds words.old fill pending → Holds words.new 0 [] }
@@ -79,7 +80,33 @@ fn write_blocks<const V: u8>(
     let left = absorb_blocks::<V>(&mut local, rest, tally);
     *lanes = local;
     put(words, 0, left, tally);
-    (left.len(), is_high::<V>(bytes[bytes.len() - left.len() - 1]))
+    (
+        left.len(),
+        is_high::<V>(bytes[bytes.len() - left.len() - 1]),
+    )
+}
+
+// The byte that ends a stream's tail. Of pending bytes it depends on the last, which nothing stands
+// above in its word.
+#[inline(always)]
+fn tail_end<const V: u8>(words: &[u64; 8], fill: usize, absorbed: bool, high: bool) -> u64
+    requires { fill < 64 }
+    ensures byte { (pending : List ℕ) → Holds words.now fill pending → result ≡ tail_end V pending absorbed high }
+    ensures small { (pending : List ℕ) → Holds words.now fill pending → result < 4 }
+{
+    if fill == 0 {
+        if !absorbed {
+            0
+        } else if high {
+            2
+        } else {
+            1
+        }
+    } else if V == 4 {
+        1 + (words[(fill - 1) / 8] >> (8 * ((fill - 1) % 8)) >> 7)
+    } else {
+        1
+    }
 }
 
 /// A stream of version V: its lanes, its pending bytes, whether a block was absorbed, and in version
@@ -136,11 +163,33 @@ impl<const V: u8> Streaming<V> {
             put(&mut self.words, fill, bytes, tally);
             self.fill = fill + bytes.len();
         } else {
-            let (left, high) =
-                write_blocks::<V>(&mut self.lanes, &mut self.words, fill, bytes, tally);
+            let (left, high) = write_blocks::<V>(
+                &mut self.lanes,
+                &mut self.words,
+                fill,
+                bytes,
+                tally,
+            );
             self.fill = left;
             self.absorbed = true;
             self.high = high;
         }
+    }
+
+    /// What the stream answers.
+    #[inline(always)]
+    pub(crate) fn finish(&self, tally: &mut Tally) -> u64
+        ensures answer { result ≡ answer V self.now }
+        ensures products { tally.new.products ≡ tally.old.products + answer_products (length self.now.pending) }
+        ensures kept { tally.new.kept ≡ tally.old.kept }
+    {
+        let fill = self.fill;
+        let end = tail_end::<V>(&self.words, fill, self.absorbed, self.high);
+        let last = self.words[fill / 8] | end << (8 * (fill % 8));
+        let left = FullWords {
+            words: &self.words,
+            count: fill / 8,
+        };
+        end_of_eight(joined(&self.lanes, self.absorbed), &left, last, tally)
     }
 }

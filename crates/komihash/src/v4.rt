@@ -1,11 +1,14 @@
 //! Komihash version 4.
 
 ghost use Rattle.std.specs.Prelude.{◌≡◌, ◌+◌, length};
-ghost use Rattle.komihash.specs.Counts.{hash_products};
+ghost use Rattle.komihash.specs.Counts.{hash_products, write_products, answer_products, kept_bytes};
 ghost use Rattle.komihash.specs.Hash.{komi};
+ghost use Rattle.komihash.specs.Stream.{start, absorb, answer};
 
 use crate::one_shot;
+use crate::streaming::Streaming;
 use crate::tally::Tally;
+use std::marker::Model;
 
 /// The hash of a message with a seed.
 #[inline]
@@ -23,4 +26,70 @@ pub fn komihash_counted(bytes: &[u8], seed: u64, tally: &mut Tally) -> u64
     ensures kept { tally.new.kept ≡ tally.old.kept }
 {
     one_shot::hash::<4>(bytes, seed, tally)
+}
+
+/// A stream: it takes a message in pieces, and answers the hash of all bytes so far at any time.
+///
+/// However the bytes are cut, the answers are those of `komihash`. There is no limit to their
+/// number. Pieces whose lengths are multiples of 64 are read where they lie; of others the stream
+/// keeps up to 63 bytes.
+#[derive(Drop)]
+pub struct StreamedKomihash {
+    stream: Streaming<4>,
+}
+
+impl Model for StreamedKomihash {
+    ghost use Rattle.komihash.specs.Stream.{State};
+
+    ghost Value = { State };
+
+    ghost view = { λ s. s.stream };
+}
+
+impl StreamedKomihash {
+    /// The new stream of seed 0.
+    #[inline]
+    pub fn new() -> Self
+        ensures { result ≡ start 0 }
+    {
+        StreamedKomihash::new_with_seed(0)
+    }
+
+    /// The new stream of a seed.
+    #[inline]
+    pub fn new_with_seed(seed: u64) -> StreamedKomihash
+        ensures { result ≡ start seed }
+    {
+        StreamedKomihash {
+            stream: Streaming::start(seed, &mut Tally::new()),
+        }
+    }
+
+    /// Absorbs bytes.
+    #[inline(always)]
+    pub fn write(&mut self, bytes: &[u8])
+        ensures { self.new ≡ absorb 4 self.old bytes.now }
+    {
+        self.stream.write(bytes, &mut Tally::new());
+    }
+
+    /// The hash of all bytes so far. The stream stays as it is, and may go on.
+    #[inline]
+    pub fn finish(&self) -> u64
+        ensures { result ≡ answer 4 self.now }
+    {
+        self.stream.finish(&mut Tally::new())
+    }
+}
+
+impl Default for StreamedKomihash {
+    ghost use Rattle.std.specs.Prelude.{◌≡◌};
+    ghost use Rattle.komihash.specs.Stream.{start};
+
+    ghost is_default = { λ s. s ≡ start 0 };
+
+    #[inline]
+    fn default() -> Self {
+        StreamedKomihash::new()
+    }
 }

@@ -6,7 +6,7 @@ pub returns-clause-lanes : goal.returns-clause-lanes
 returns-clause-lanes g c pending holds =
     let appended = rw c.split_at.ensures.front at c.put.ensures.words in
     rw (c.split_at.ensures.back, c.block_round.ensures.lanes, c.places.ensures.table)
-       (begun_lanes g.row.V (lanes_in c.args.lanes.now) c.args.words.now c.put.new.words c.args.fill pending c.args.bytes.now c.requires.begun c.requires.many holds appended)
+    (begun_lanes g.row.V (lanes_in c.args.lanes.now) c.args.words.now c.put.new.words c.args.fill pending c.args.bytes.now c.requires.begun c.requires.many holds appended)
 
 pub returns-clause-left : goal.returns-clause-left
 returns-clause-left g c pending holds =

@@ -14,5 +14,5 @@ returns-clause-words c =
     let first = take 8 (drop from bytes) in
     let long : length first ≡ 8 = length-take-le 8 (drop from bytes) (omega (arith, length-drop from bytes)) in
     Appended-two c.args.words.now c.set_word.new.words c.set_word-2.new.words (8 * c.args.at) (8 * (c.args.at + 1)) first (piece 8) (take 16 (drop from bytes))
-        (AreBytes-take 8 (drop from bytes) (AreBytes-drop from bytes are)) (omega arith) (take-next 8 8 from bytes)
-        (c.set_word.ensures first (omega arith) c.word_at-first.ensures) (c.set_word-2.ensures (piece 8) (omega (arith, size 8 (omega arith))) c.word_at-second.ensures)
+    (AreBytes-take 8 (drop from bytes) (AreBytes-drop from bytes are)) (omega arith) (take-next 8 8 from bytes)
+    (c.set_word.ensures first (omega arith) c.word_at-first.ensures) (c.set_word-2.ensures (piece 8) (omega (arith, size 8 (omega arith))) c.word_at-second.ensures)

@@ -14,8 +14,8 @@ returns-then-over-bytes-gt8 c =
     let shift : 64 - 8 * (c.args.fill % 8) ≡ 8 * fit = omega arith in
     let rest = ap (λ w. w / 2 ^ (64 - 8 * (c.args.fill % 8))) word ∙ ap (λ k. word_of bytes / 2 ^ k) shift ∙ word_of-shr fit bytes are (omega arith) in
     Appended-two c.args.words.now c.join_word.new.words c.set_word.new.words c.args.fill (8 * (c.args.fill / 8 + 1)) (take fit bytes) (drop fit bytes) bytes
-        (AreBytes-take fit bytes are) (omega (arith, length-take-le fit bytes (omega arith))) (take-append-drop fit bytes)
-        (c.join_word.ensures bytes are word) (c.set_word.ensures (drop fit bytes) (omega (arith, length-drop fit bytes)) rest)
+    (AreBytes-take fit bytes are) (omega (arith, length-take-le fit bytes (omega arith))) (take-append-drop fit bytes)
+    (c.join_word.ensures bytes are word) (c.set_word.ensures (drop fit bytes) (omega (arith, length-drop fit bytes)) rest)
 
 pub returns-else-over-bytes-gt8 : goal.returns-else-over-bytes-gt8
 returns-else-over-bytes-gt8 c =

@@ -1,9 +1,8 @@
-use Rattle.std.proofs.Common.{◌≡◌, ◌∙◌, ap, arith, length, sym}
+use Rattle.std.proofs.Common.{◌≡◌, ◌∙◌, ap, arith, length}
 use Rattle.std.proofs.lemmas.Bool.Decides.{nat_tests}
 use Rattle.komihash.specs.Kept.{held}
-use Rattle.komihash.specs.Stream.{State, absorb}
-use Rattle.komihash.proofs.KeptBytes.{length-held}
-use Rattle.komihash.proofs.StreamSteps.{holds, keeps, shows, keeps_left, shows_left}
+use Rattle.komihash.specs.Stream.{absorb}
+use Rattle.komihash.proofs.StreamSteps.{pending_shown, holds, keeps, shows, keeps_left, shows_left}
 use Rattle.komihash.proofs.WordsOfBytes.{AreBytes-typed}
 use Rattle.komihash.proofs.streaming.Streaming.write.Goals as goal
 
@@ -20,12 +19,12 @@ returns-then-bytes-fill-clause-state g c =
 
 pub returns-then-bytes-fill-clause-products : goal.returns-then-bytes-fill-clause-products
 returns-then-bytes-fill-clause-products g c =
-    let size : length c.args.self.now.pending ≡ c.self.inside.fill = ap (λ (t : State). length t.pending) (sym c.self.view_is) ∙ length-held c.self.inside.words c.self.inside.fill c.self.told.1 (omega arith) in
+    let size : length c.args.self.now.pending ≡ c.self.inside.fill = pending_shown c.self.inside.lanes c.self.inside.words c.self.inside.fill c.self.inside.absorbed c.self.inside.high c.args.self.now c.self.view_is c.self.told.1 c.self.invariant.few in
     omega arith
 
 pub returns-then-bytes-fill-clause-kept : goal.returns-then-bytes-fill-clause-kept
 returns-then-bytes-fill-clause-kept g c =
-    let size : length c.args.self.now.pending ≡ c.self.inside.fill = ap (λ (t : State). length t.pending) (sym c.self.view_is) ∙ length-held c.self.inside.words c.self.inside.fill c.self.told.1 (omega arith) in
+    let size : length c.args.self.now.pending ≡ c.self.inside.fill = pending_shown c.self.inside.lanes c.self.inside.words c.self.inside.fill c.self.inside.absorbed c.self.inside.high c.args.self.now c.self.view_is c.self.told.1 c.self.invariant.few in
     grind (arith, nat_tests)
 
 pub invariant_of-self-else-bytes-fill : goal.invariant_of-self-else-bytes-fill
@@ -47,10 +46,10 @@ returns-else-bytes-fill-clause-state g c =
 
 pub returns-else-bytes-fill-clause-products : goal.returns-else-bytes-fill-clause-products
 returns-else-bytes-fill-clause-products g c =
-    let size : length c.args.self.now.pending ≡ c.self.inside.fill = ap (λ (t : State). length t.pending) (sym c.self.view_is) ∙ length-held c.self.inside.words c.self.inside.fill c.self.told.1 (omega arith) in
+    let size : length c.args.self.now.pending ≡ c.self.inside.fill = pending_shown c.self.inside.lanes c.self.inside.words c.self.inside.fill c.self.inside.absorbed c.self.inside.high c.args.self.now c.self.view_is c.self.told.1 c.self.invariant.few in
     omega arith
 
 pub returns-else-bytes-fill-clause-kept : goal.returns-else-bytes-fill-clause-kept
 returns-else-bytes-fill-clause-kept g c =
-    let size : length c.args.self.now.pending ≡ c.self.inside.fill = ap (λ (t : State). length t.pending) (sym c.self.view_is) ∙ length-held c.self.inside.words c.self.inside.fill c.self.told.1 (omega arith) in
+    let size : length c.args.self.now.pending ≡ c.self.inside.fill = pending_shown c.self.inside.lanes c.self.inside.words c.self.inside.fill c.self.inside.absorbed c.self.inside.high c.args.self.now c.self.view_is c.self.told.1 c.self.invariant.few in
     rw size c.write_blocks-left.ensures.kept

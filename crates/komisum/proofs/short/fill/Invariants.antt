@@ -1,0 +1,13 @@
+-- What is filled is what the reader gave.
+use Rattle.std.proofs.Common.{length, ◌-◌, ◌≤◌, take}
+use Rattle.std.specs.Io.KnownBytes.{Consumes}
+use Rattle.komisum.proofs.short.fill.Given as goal
+
+abbrev pub invariant-loop-filled : goal.invariant-loop-filled
+invariant-loop-filled g l = record {
+  within : l.filled ≤ length l.buffer;
+  bytes : Consumes (g.R.Read.remaining l.fn.reader) (g.R.Read.remaining l.reader) (take l.filled l.buffer);
+}
+
+abbrev pub decreases-loop-filled : goal.decreases-loop-filled
+decreases-loop-filled g l = length l.initial.buffer - l.filled

@@ -1,0 +1,125 @@
+//! A reader and a writer that stop at a call that they are told.
+
+ghost use Rattle.std.specs.Prelude.{◌≤◌};
+
+use std::io::{Error, ErrorKind, Read, Result, Write};
+
+/// What a call answers where it is told to stop.
+#[derive(Drop)]
+pub enum Stop {
+    /// An error.
+    Fails,
+    /// No byte.
+    MovesNone,
+}
+
+/// The call, from 1, at which a fake stops, and what it answers there.
+#[derive(Drop)]
+pub struct Calls {
+    stop: Stop,
+    stops_at: usize,
+    made: usize,
+}
+
+impl Calls {
+    /// Stops at a call, from 1.
+    pub fn stopping(stop: Stop, stops_at: usize) -> Self {
+        Calls {
+            stop,
+            stops_at,
+            made: 0,
+        }
+    }
+
+    /// Never stops.
+    pub fn endless() -> Self {
+        Calls::stopping(Stop::Fails, 0)
+    }
+
+    // One call more: whether it moves bytes.
+    fn next(&mut self) -> Result<bool> {
+        self.made = self.made.saturating_add(1);
+        if self.made != self.stops_at {
+            return Ok(true);
+        }
+        match self.stop {
+            Stop::Fails => Err(Error::from(ErrorKind::Interrupted)),
+            Stop::MovesNone => Ok(false),
+        }
+    }
+}
+
+/// A reader over bytes, a few a call.
+#[derive(Drop)]
+pub struct FakeReader<'a> {
+    rest: &'a [u8],
+    most: usize,
+    calls: Calls,
+}
+
+impl<'a> FakeReader<'a> {
+    /// A reader that gives at most `most` bytes a call.
+    pub fn new(bytes: &'a [u8], most: usize, calls: Calls) -> Self {
+        FakeReader {
+            rest: bytes,
+            most,
+            calls,
+        }
+    }
+}
+
+impl Read for FakeReader<'_> {
+    fn read(&mut self, buf: &mut [u8]) -> Result<usize> {
+        if !self.calls.next()? {
+            return Ok(0);
+        }
+        let count = self.most.min(self.rest.len()).min(buf.len());
+        buf[..count].copy_from_slice(&self.rest[..count]);
+        self.rest = &self.rest[count..];
+        Ok(count)
+    }
+}
+
+/// A writer that holds the first bytes that it took, and takes a few a call. A flush is a call.
+#[derive(Drop)]
+pub struct FakeWriter {
+    held: [u8; 32],
+    count: usize,
+    most: usize,
+    calls: Calls,
+    ghost within: { count ≤ 32 },
+}
+
+impl FakeWriter {
+    /// A writer that takes at most `most` bytes a call.
+    pub fn new(most: usize, calls: Calls) -> Self {
+        FakeWriter {
+            held: [0; 32],
+            count: 0,
+            most,
+            calls,
+        }
+    }
+
+    /// The bytes that it took.
+    pub fn taken(&self) -> &[u8] {
+        &self.held[..self.count]
+    }
+}
+
+impl Write for FakeWriter {
+    fn write(&mut self, buf: &[u8]) -> Result<usize> {
+        if !self.calls.next()? {
+            return Ok(0);
+        }
+        let count = self.most.min(buf.len()).min(32 - self.count);
+        self.held[self.count..self.count + count].copy_from_slice(&buf[..count]);
+        self.count += count;
+        Ok(count)
+    }
+
+    fn flush(&mut self) -> Result<()> {
+        self.calls.next()?;
+        Ok(())
+    }
+}
