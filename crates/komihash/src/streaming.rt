@@ -14,36 +14,38 @@ use crate::rounds::{block_round, joined, lanes, places, seeded};
 use crate::tally::Tally;
 use std::marker::Model;
 
-// Fills up the begun block, if there is one, and absorbs it: what is left of the bytes.
+// Fills up the begun block, if there is one, and absorbs it: the lanes after it, and what is left of
+// the bytes. The lanes are taken up only behind the writer, which needs the registers itself.
 #[inline(always)]
 fn absorb_begun<'a, const V: u8>(
-    lanes: &mut [u64; 8],
+    lanes: &[u64; 8],
     words: &mut [u64; 8],
     fill: usize,
     bytes: &'a [u8],
     tally: &mut Tally,
-) -> &'a [u8]
+) -> ([u64; 8], &'a [u8])
     requires begun { fill < 64 }
     requires many { 64 ≤ fill + length bytes.now }
     ensures lanes { (pending : List ℕ) → Holds words.old fill pending
-        → block_lanes V (lanes_in lanes.new) (whole_words result.now)
-        ≡ block_lanes V (lanes_in lanes.old) (whole_words (pending ++ bytes.now)) }
+        → block_lanes V (lanes_in result.0) (whole_words result.1.now)
+            ≡ block_lanes V (lanes_in lanes.now) (whole_words (pending ++ bytes.now)) }
     ensures left { (pending : List ℕ) → Holds words.old fill pending
-        → after_blocks result.now ≡ after_blocks (pending ++ bytes.now) }
+        → after_blocks result.1.now ≡ after_blocks (pending ++ bytes.now) }
     ensures words { (pending : List ℕ) → Holds words.old fill pending → Holds words.new 0 [] }
-    ensures taken { length result.now + (if fill == 0 then 0 else 64 - fill) ≡ length bytes.now }
-    ensures products { tally.new.products + 4 * (length result.now / 64)
+    ensures taken { length result.1.now + (if fill == 0 then 0 else 64 - fill) ≡ length bytes.now }
+    ensures products { tally.new.products + 4 * (length result.1.now / 64)
         ≡ tally.old.products + 4 * ((fill + length bytes.now) / 64) }
     ensures kept { tally.new.kept ≡ tally.old.kept + (if fill == 0 then 0 else 64 - fill) }
 {
     if fill == 0 {
-        return bytes;
+        return (*lanes, bytes);
     }
     let (head, rest) = bytes.split_at(64 - fill);
     put(words, fill, head, tally);
-    block_round(lanes, words, places::<V>(), tally);
+    let mut after = *lanes;
+    block_round(&mut after, words, places::<V>(), tally);
     *words = [0; 8];
-    rest
+    (after, rest)
 }
 
 // Whether the version keeps the top bit of a block's last byte, and it is set.
@@ -75,8 +77,7 @@ fn write_blocks<const V: u8>(
     ensures products { tally.new.products ≡ tally.old.products + write_products fill (length bytes.now) }
     ensures kept { tally.new.kept ≡ tally.old.kept + kept_bytes fill (length bytes.now) }
 {
-    let mut local = *lanes;
-    let rest = absorb_begun::<V>(&mut local, words, fill, bytes, tally);
+    let (mut local, rest) = absorb_begun::<V>(lanes, words, fill, bytes, tally);
     let left = absorb_blocks::<V>(&mut local, rest, tally);
     *lanes = local;
     put(words, 0, left, tally);

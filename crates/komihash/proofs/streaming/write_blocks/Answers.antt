@@ -7,7 +7,7 @@ use Rattle.komihash.proofs.streaming.write_blocks.Goals as goal
 pub returns-clause-words : goal.returns-clause-words
 returns-clause-words g c pending holds =
     let bytes = c.args.bytes.now in
-    Holds-put c.absorb_begun-rest.new.words c.put.new.words c.absorb_blocks-left.result.now (pending ++ bytes)
-    (c.absorb_begun-rest.ensures.words pending holds) c.put.ensures.words
+    Holds-put c.absorb_begun.new.words c.put.new.words c.absorb_blocks-left.result.now (pending ++ bytes)
+    (c.absorb_begun.ensures.words pending holds) c.put.ensures.words
     (AreBytes-append pending bytes holds.are (AreBytes-typed bytes c.type_inv.bytes))
-    (c.absorb_blocks-left.ensures.left ∙ c.absorb_begun-rest.ensures.left pending holds)
+    (c.absorb_blocks-left.ensures.left ∙ c.absorb_begun.ensures.left pending holds)
