@@ -5,10 +5,10 @@ use Rattle.std.proofs.lemmas.Bool.{cases_lt}
 use Rattle.std.proofs.lemmas.Bool.Decides.{nat_tests}
 use Rattle.std.specs.Prelude.{slice_index, nat_le, if◌then◌else◌}
 use Rattle.komihash.specs.Hash.{komi, hash_from_pair}
-use Rattle.komihash.specs.Rounds.{lanes, seeded, joined}
+use Rattle.komihash.specs.Rounds.{lanes, seeded, joined, closing}
 use Rattle.komihash.specs.Stream.{State, start, absorb, answer, tail_of, is_high}
 use Rattle.komihash.specs.Tails.{tail_end, whole_words, after_words, final_word, end_byte, block_lanes, after_blocks}
-use Rattle.komihash.specs.Words.{word_of}
+use Rattle.komihash.specs.Words.{AreBytes, word_of, padding_byte}
 use Rattle.komihash.proofs.Absorbing.{blocks_state, absorb-few, absorb-blocks}
 use Rattle.komihash.proofs.Blocks.{hash_from_lanes-k_blocks}
 use Rattle.komihash.proofs.HashSteps.{komi-by_lanes, komi-by_pair}
@@ -77,12 +77,20 @@ answer-joined v seed m =
           ∙ komi-by_lanes v seed m (seeded seed) refl last refl
     ]
 
--- ---- what an answer reads in version 4
+-- ---- what an answer reads
 
 top_bit : (b : ℕ) → b < 256 → 1 + b / 128 ≡ (if nat_le 128 b then 2 else 1)
 top_bit b h = grind (arith, nat_tests)
 
-pub tail_end-four : (m : List ℕ) (absorbed high : Bool) → 0 < length m → slice_index m (length m - 1) < 256 → 1 + slice_index m (length m - 1) / 128 ≡ tail_end 4 m absorbed high
-tail_end-four [] absorbed high some byte = absurd (omega arith)
-tail_end-four (b ∷ m) absorbed high some byte =
-    top_bit (slice_index (b ∷ m) (length (b ∷ m) - 1)) byte
+-- the padding byte of version 4, from the last byte
+pub padding_byte-four : (m : List ℕ) → AreBytes m → 1 + slice_index m (length m - 1) / 128 ≡ padding_byte 4 m
+padding_byte-four m h = top_bit (slice_index m (length m - 1)) (h (length m - 1))
+
+pub tail_end-pending : (v : ℕ) (m : List ℕ) (absorbed high : Bool) → 0 < length m → tail_end v m absorbed high ≡ padding_byte v m
+tail_end-pending v [] absorbed high some = absurd (omega arith)
+tail_end-pending v (b ∷ m) absorbed high some = refl
+
+-- an answer with nothing pending
+pub answer-none : (v : ℕ) (s : State) → s.pending ≡ [] → answer v s ≡ closing (joined s.absorbed s.lanes) (tail_end v [] s.absorbed s.high ∷ [])
+unfolding answer
+answer-none v s none = ap (λ m. hash_from_pair (joined s.absorbed s.lanes) (tail_of v m s.absorbed s.high)) none

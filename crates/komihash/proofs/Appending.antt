@@ -1,5 +1,5 @@
 -- Pieces appended to the kept bytes one after the other.
-use Rattle.std.proofs.Common.{◌≡◌, ℕ, ◌+◌, ◌*◌, List, [], ◌∷◌, ◌++◌, length, take, drop, refl, ap, arith, ◌∙◌, sym}
+use Rattle.std.proofs.Common.{◌≤◌, ◌-◌, ◌≡◌, ℕ, ◌+◌, ◌*◌, List, [], ◌∷◌, ◌++◌, length, take, drop, refl, ap, arith, ◌∙◌, sym}
 use Rattle.std.proofs.lemmas.List.{append_assoc, append-nil, length-append, take-append-drop, take-take, drop-take, drop-drop}
 use Rattle.komihash.specs.Kept.{filled, Appended}
 use Rattle.komihash.specs.Words.{AreBytes, word_of}
@@ -20,6 +20,10 @@ take-more m n xs =
 pub take-next : (m n from : ℕ) (xs : List ℕ) → take m (drop from xs) ++ take n (drop (from + m) xs) ≡ take (m + n) (drop from xs)
 take-next m n from xs =
     ap (λ ys. take m (drop from xs) ++ take n ys) (sym (drop-drop m from xs)) ∙ take-more m n (drop from xs)
+
+-- the bytes up to a place and from there to the next
+pub take-to : (a b : ℕ) (xs : List ℕ) → a ≤ b → take a xs ++ take (b - a) (drop a xs) ≡ take b xs
+take-to a b xs le = let n : a + (b - a) ≡ b = omega arith in take-more a (b - a) xs ∙ ap (λ k. take k xs) n
 
 -- two pieces
 pub Appended-two : (old mid new : List ℕ) (fill next : ℕ) (xs ys zs : List ℕ) → AreBytes xs → fill + length xs ≡ next → xs ++ ys ≡ zs → Appended old fill xs mid → Appended mid next ys new → Appended old fill zs new

@@ -7,10 +7,10 @@ use Rattle.komihash.specs.Halves.{lanes_in}
 use Rattle.komihash.specs.Kept.{filled, held, Holds, Appended, IsKept}
 use Rattle.komihash.specs.Stream.{State, absorb, answer, is_high}
 use Rattle.komihash.specs.Hash.{hash_from_pair}
-use Rattle.komihash.specs.Rounds.{joined}
-use Rattle.komihash.proofs.Answers.{answer-by_pair}
+use Rattle.komihash.specs.Rounds.{joined, closing}
+use Rattle.komihash.proofs.Answers.{answer-by_pair, answer-none, tail_end-pending}
 use Rattle.komihash.specs.Tails.{whole_words, block_lanes, after_blocks, final_word, tail_end}
-use Rattle.komihash.specs.Words.{AreBytes}
+use Rattle.komihash.specs.Words.{AreBytes, padding_byte}
 use Rattle.komihash.proofs.Absorbing.{absorb-few, absorb-blocks}
 use Rattle.komihash.proofs.BegunBlock.{Holds-none}
 use Rattle.std.proofs.lemmas.Bool.{false≢true}
@@ -104,18 +104,28 @@ keeps_nothing v =
 
 -- ---- an answer
 
-pub answers_shown : (v : ℕ) (ls ws : List ℕ) (fill : ℕ) (absorbed high : Bool) → length ws ≡ 8 → IsKept v ws fill absorbed high → (pair : ℕ × ℕ) (end : ℕ) → pair ≡ joined absorbed (lanes_in ls) → end ≡ tail_end v (held ws fill) absorbed high → end < 4 → hash_from_pair pair (take (fill / 8) ws ++ bit_or (get_or ws (fill / 8) 0) (end * 2 ^ (8 * (fill % 8)) % 2 ^ 64) ∷ []) ≡ answer v (shown ls ws fill absorbed high)
-answers_shown v ls ws fill absorbed high eight kept pair end pair_is end_is small =
-    let pending = held ws fill in
-    let held_now = Holds-held ws fill eight kept.few kept.filled in
-    let words : take (fill / 8) ws ≡ whole_words pending =
-    ap (take (fill / 8)) kept.filled ∙ ap (λ n. take (n / 8) (filled 8 pending)) (sym held_now.size) ∙ take-filled 8 pending (omega (arith, held_now.size)) in
-    let last : bit_or (get_or ws (fill / 8) 0) (end * 2 ^ (8 * (fill % 8)) % 2 ^ 64) ≡ final_word pending end =
-    ap (λ w. bit_or (get_or w (fill / 8) 0) (end * 2 ^ (8 * (fill % 8)) % 2 ^ 64)) kept.filled ∙ final_word-filled pending fill end held_now.are held_now.size kept.few (omega arith) in
-    ap (λ s. hash_from_pair s (take (fill / 8) ws ++ bit_or (get_or ws (fill / 8) 0) (end * 2 ^ (8 * (fill % 8)) % 2 ^ 64) ∷ [])) pair_is
-    ∙ ap (λ us. hash_from_pair (joined absorbed (lanes_in ls)) (us ++ bit_or (get_or ws (fill / 8) 0) (end * 2 ^ (8 * (fill % 8)) % 2 ^ 64) ∷ [])) words
-    ∙ ap (λ w. hash_from_pair (joined absorbed (lanes_in ls)) (whole_words pending ++ w ∷ [])) (last ∙ ap (final_word pending) end_is)
-    ∙ sym (answer-by_pair v (shown ls ws fill absorbed high))
+module _ (v : ℕ) (ls ws : List ℕ) (fill : ℕ) (absorbed high : Bool) (eight : length ws ≡ 8) (kept : IsKept v ws fill absorbed high) (pair : ℕ × ℕ) (pair_is : pair ≡ joined absorbed (lanes_in ls)) (end : ℕ) where
+  -- nothing is pending
+  pub answers_none : fill ≡ 0 → end ≡ tail_end v [] absorbed high → closing pair (end ∷ []) ≡ answer v (shown ls ws fill absorbed high)
+  answers_none none end_is =
+      ap (λ s. closing s (end ∷ [])) pair_is
+      ∙ ap (λ b. closing (joined absorbed (lanes_in ls)) (b ∷ [])) end_is
+      ∙ sym (answer-none v (shown ls ws fill absorbed high) (ap (held ws) none ∙ held-nothing ws))
+
+  -- some bytes are
+  pub answers_some : 0 < fill → end ≡ padding_byte v (held ws fill) → end < 4 → hash_from_pair pair (take (fill / 8) ws ++ bit_or (get_or ws (fill / 8) 0) (end * 2 ^ (8 * (fill % 8)) % 2 ^ 64) ∷ []) ≡ answer v (shown ls ws fill absorbed high)
+  answers_some some end_is small =
+      let pending = held ws fill in
+      let held_now = Holds-held ws fill eight kept.few kept.filled in
+      let words : take (fill / 8) ws ≡ whole_words pending =
+      ap (take (fill / 8)) kept.filled ∙ ap (λ n. take (n / 8) (filled 8 pending)) (sym held_now.size) ∙ take-filled 8 pending (omega (arith, held_now.size)) in
+      let last : bit_or (get_or ws (fill / 8) 0) (end * 2 ^ (8 * (fill % 8)) % 2 ^ 64) ≡ final_word pending end =
+      ap (λ w. bit_or (get_or w (fill / 8) 0) (end * 2 ^ (8 * (fill % 8)) % 2 ^ 64)) kept.filled ∙ final_word-filled pending fill end held_now.are held_now.size kept.few (omega arith) in
+      let tail : end ≡ tail_end v pending absorbed high = end_is ∙ sym (tail_end-pending v pending absorbed high (omega (arith, held_now.size))) in
+      ap (λ s. hash_from_pair s (take (fill / 8) ws ++ bit_or (get_or ws (fill / 8) 0) (end * 2 ^ (8 * (fill % 8)) % 2 ^ 64) ∷ [])) pair_is
+      ∙ ap (λ us. hash_from_pair (joined absorbed (lanes_in ls)) (us ++ bit_or (get_or ws (fill / 8) 0) (end * 2 ^ (8 * (fill % 8)) % 2 ^ 64) ∷ [])) words
+      ∙ ap (λ w. hash_from_pair (joined absorbed (lanes_in ls)) (whole_words pending ++ w ∷ [])) (last ∙ ap (final_word pending) tail)
+      ∙ sym (answer-by_pair v (shown ls ws fill absorbed high))
 
 -- how many bytes a stream shows as pending
 pub pending_shown : (ls ws : List ℕ) (fill : ℕ) (absorbed high : Bool) (t : State) → shown ls ws fill absorbed high ≡ t → length ws ≡ 8 → fill < 64 → length t.pending ≡ fill

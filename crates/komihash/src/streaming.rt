@@ -1,16 +1,17 @@
 //! The stream of both versions.
 
-ghost use Rattle.std.specs.Prelude.{◌≡◌, ℕ, ◌+◌, ◌-◌, ◌*◌, ◌/◌, ◌%◌, ◌<◌, ◌≤◌, ◌==◌, if◌then◌else◌, List, [], ◌++◌, length, slice_index};
+ghost use Rattle.std.specs.Prelude.{◌≡◌, ℕ, true, ◌+◌, ◌-◌, ◌*◌, ◌/◌, ◌%◌, ◌<◌, ◌≤◌, ◌==◌, if◌then◌else◌, List, [], ◌++◌, length, slice_index};
 ghost use Rattle.komihash.specs.Counts.{write_products, answer_products, kept_bytes};
 ghost use Rattle.komihash.specs.Halves.{lanes_in};
 ghost use Rattle.komihash.specs.Kept.{Holds};
 ghost use Rattle.komihash.specs.Stream.{start, absorb, answer, is_high};
-ghost use Rattle.komihash.specs.Tails.{whole_words, block_lanes, after_blocks, tail_end};
+ghost use Rattle.komihash.specs.Tails.{whole_words, block_lanes, after_blocks};
+ghost use Rattle.komihash.specs.Words.{padding_byte};
 
 use crate::ending::{FullWords, end_of_eight};
 use crate::rounds::blocks::absorb_blocks;
 use crate::rounds::buffer::put;
-use crate::rounds::{block_round, joined, lanes, places, seeded};
+use crate::rounds::{block_round, close_one, joined, lanes, places, seeded};
 use crate::tally::Tally;
 use std::marker::Model;
 
@@ -28,7 +29,7 @@ fn absorb_begun<'a, const V: u8>(
     requires many { 64 ≤ fill + length bytes.now }
     ensures lanes { (pending : List ℕ) → Holds words.old fill pending
         → block_lanes V (lanes_in result.0) (whole_words result.1.now)
-            ≡ block_lanes V (lanes_in lanes.now) (whole_words (pending ++ bytes.now)) }
+        ≡ block_lanes V (lanes_in lanes.now) (whole_words (pending ++ bytes.now)) }
     ensures left { (pending : List ℕ) → Holds words.old fill pending
         → after_blocks result.1.now ≡ after_blocks (pending ++ bytes.now) }
     ensures words { (pending : List ℕ) → Holds words.old fill pending → Holds words.new 0 [] }
@@ -87,23 +88,25 @@ fn write_blocks<const V: u8>(
     )
 }
 
-// The byte that ends a stream's tail. Of pending bytes it depends on the last, which nothing stands
-// above in its word.
+// The byte that ends the tail behind a block, where nothing is pending.
 #[inline(always)]
-fn tail_end<const V: u8>(words: &[u64; 8], fill: usize, absorbed: bool, high: bool) -> u64
-    requires { fill < 64 }
-    ensures byte { (pending : List ℕ) → Holds words.now fill pending → result ≡ tail_end V pending absorbed high }
+fn block_end<const V: u8>(high: bool) -> u64
+    requires { high ≡ true → V ≡ 4 }
+    ensures { result ≡ (if high then 2 else 1) }
+{
+    if V == 4 && high { 2 } else { 1 }
+}
+
+// The padding byte of the pending bytes. It depends on the last of them, which nothing stands above
+// in its word.
+#[inline(always)]
+fn pending_end<const V: u8>(words: &[u64; 8], fill: usize) -> u64
+    requires some { 0 < fill }
+    requires begun { fill < 64 }
+    ensures byte { (pending : List ℕ) → Holds words.now fill pending → result ≡ padding_byte V pending }
     ensures small { (pending : List ℕ) → Holds words.now fill pending → result < 4 }
 {
-    if fill == 0 {
-        if !absorbed {
-            0
-        } else if high {
-            2
-        } else {
-            1
-        }
-    } else if V == 4 {
+    if V == 4 {
         1 + (words[(fill - 1) / 8] >> (8 * ((fill - 1) % 8)) >> 7)
     } else {
         1
@@ -185,7 +188,15 @@ impl<const V: u8> Streaming<V> {
         ensures kept { tally.new.kept ≡ tally.old.kept }
     {
         let fill = self.fill;
-        let end = tail_end::<V>(&self.words, fill, self.absorbed, self.high);
+        if fill == 0 {
+            return if self.absorbed {
+                let end = block_end::<V>(self.high);
+                close_one(joined(&self.lanes, true), end, tally)
+            } else {
+                close_one(joined(&self.lanes, false), 0, tally)
+            };
+        }
+        let end = pending_end::<V>(&self.words, fill);
         let last = self.words[fill / 8] | end << (8 * (fill % 8));
         let left = FullWords {
             words: &self.words,

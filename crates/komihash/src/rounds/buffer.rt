@@ -43,18 +43,20 @@ fn put_few(words: &mut [u64; 8], fill: usize, bytes: &[u8])
     }
 }
 
-// Moves four words from a place of the bytes on, where there are so many: the number of words moved.
+// Moves four words from a place of the bytes on, where there are so many: the next places.
 #[inline(always)]
-fn move_four(words: &mut [u64; 8], at: usize, bytes: &[u8], from: usize) -> usize
+fn move_four(words: &mut [u64; 8], at: usize, bytes: &[u8], from: usize) -> (usize, usize)
     requires within { from ≤ length bytes.now }
     requires room { 8 * at + (length bytes.now - from) ≤ 64 }
     requires few { length bytes.now < from + 64 }
-    ensures within { from + 8 * result ≤ length bytes.now }
-    ensures left { length bytes.now < from + 8 * result + 32 }
-    ensures words { Appended words.old (8 * at) (take (8 * result) (drop from bytes.now)) words.new }
+    ensures on { from ≤ result.1 }
+    ensures within { result.1 ≤ length bytes.now }
+    ensures left { length bytes.now < result.1 + 32 }
+    ensures place { 8 * result.0 ≡ 8 * at + (result.1 - from) }
+    ensures words { Appended words.old (8 * at) (take (result.1 - from) (drop from bytes.now)) words.new }
 {
     if bytes.len() - from < 32 {
-        return 0;
+        return (at, from);
     }
     let first = word_at(bytes, from);
     let second = word_at(bytes, from + 8);
@@ -64,44 +66,48 @@ fn move_four(words: &mut [u64; 8], at: usize, bytes: &[u8], from: usize) -> usiz
     set_word(words, at + 1, second);
     set_word(words, at + 2, third);
     set_word(words, at + 3, fourth);
-    4
+    (at + 4, from + 32)
 }
 
 // The same with two words.
 #[inline(always)]
-fn move_two(words: &mut [u64; 8], at: usize, bytes: &[u8], from: usize) -> usize
+fn move_two(words: &mut [u64; 8], at: usize, bytes: &[u8], from: usize) -> (usize, usize)
     requires within { from ≤ length bytes.now }
     requires room { 8 * at + (length bytes.now - from) ≤ 64 }
     requires few { length bytes.now < from + 32 }
-    ensures within { from + 8 * result ≤ length bytes.now }
-    ensures left { length bytes.now < from + 8 * result + 16 }
-    ensures words { Appended words.old (8 * at) (take (8 * result) (drop from bytes.now)) words.new }
+    ensures on { from ≤ result.1 }
+    ensures within { result.1 ≤ length bytes.now }
+    ensures left { length bytes.now < result.1 + 16 }
+    ensures place { 8 * result.0 ≡ 8 * at + (result.1 - from) }
+    ensures words { Appended words.old (8 * at) (take (result.1 - from) (drop from bytes.now)) words.new }
 {
     if bytes.len() - from < 16 {
-        return 0;
+        return (at, from);
     }
     let first = word_at(bytes, from);
     let second = word_at(bytes, from + 8);
     set_word(words, at, first);
     set_word(words, at + 1, second);
-    2
+    (at + 2, from + 16)
 }
 
 // The same with one word.
 #[inline(always)]
-fn move_one(words: &mut [u64; 8], at: usize, bytes: &[u8], from: usize) -> usize
+fn move_one(words: &mut [u64; 8], at: usize, bytes: &[u8], from: usize) -> (usize, usize)
     requires within { from ≤ length bytes.now }
     requires room { 8 * at + (length bytes.now - from) ≤ 64 }
     requires few { length bytes.now < from + 16 }
-    ensures within { from + 8 * result ≤ length bytes.now }
-    ensures left { length bytes.now < from + 8 * result + 8 }
-    ensures words { Appended words.old (8 * at) (take (8 * result) (drop from bytes.now)) words.new }
+    ensures on { from ≤ result.1 }
+    ensures within { result.1 ≤ length bytes.now }
+    ensures left { length bytes.now < result.1 + 8 }
+    ensures place { 8 * result.0 ≡ 8 * at + (result.1 - from) }
+    ensures words { Appended words.old (8 * at) (take (result.1 - from) (drop from bytes.now)) words.new }
 {
     if bytes.len() - from < 8 {
-        return 0;
+        return (at, from);
     }
     set_word(words, at, word_at(bytes, from));
-    1
+    (at + 1, from + 8)
 }
 
 // Puts what is left behind the words that were moved: it is read with the last eight bytes.
@@ -128,16 +134,10 @@ fn put_many(words: &mut [u64; 8], fill: usize, bytes: &[u8])
     ensures { Appended words.old fill bytes.now words.new }
 {
     join_word(words, fill, read_word(bytes));
-    let at = fill / 8 + 1;
-    let from = 8 - fill % 8;
-    let four = move_four(words, at, bytes, from);
-    let at = at + four;
-    let from = from + 8 * four;
-    let two = move_two(words, at, bytes, from);
-    let at = at + two;
-    let from = from + 8 * two;
-    let one = move_one(words, at, bytes, from);
-    put_last(words, at + one, bytes, from + 8 * one);
+    let (at, from) = move_four(words, fill / 8 + 1, bytes, 8 - fill % 8);
+    let (at, from) = move_two(words, at, bytes, from);
+    let (at, from) = move_one(words, at, bytes, from);
+    put_last(words, at, bytes, from);
 }
 
 /// Puts bytes behind those that the words hold up to the fill, and counts them as kept.

@@ -1,4 +1,4 @@
-use Rattle.std.proofs.Common.{ℕ, ◌≡◌, ◌≤◌, ◌+◌, ◌*◌, take, drop, length, arith}
+use Rattle.std.proofs.Common.{◌-◌, ℕ, ◌≡◌, ◌≤◌, ◌+◌, ◌*◌, take, drop, length, arith}
 use Rattle.std.proofs.lemmas.List.{length-drop, length-take-le}
 use Rattle.komihash.proofs.Appending.{take-next, Appended-two}
 use Rattle.komihash.proofs.WordsOfBytes.{AreBytes-typed, AreBytes-take, AreBytes-drop}
@@ -6,6 +6,7 @@ use Rattle.komihash.proofs.rounds.buffer.move_four.Goals as goal
 
 pub returns-clause-words : goal.returns-clause-words
 returns-clause-words c =
+    let all : c.args.from + 32 - c.args.from ≡ 32 = omega arith in
     let bytes = c.args.bytes.now in
     let from = c.args.from in
     let at = c.args.at in
@@ -20,5 +21,5 @@ returns-clause-words c =
     (AreBytes-take 8 (drop from bytes) are) (omega (arith, long 8 (omega arith))) (take-next 8 8 from bytes) one (c.set_word-2.ensures (piece 8) (size 8 (omega arith)) c.word_at-second.ensures) in
     let three = Appended-two old c.set_word-2.new.words c.set_word-3.new.words (8 * at) (8 * (at + 2)) (front 16) (piece 16) (front 24)
     (AreBytes-take 16 (drop from bytes) are) (omega (arith, long 16 (omega arith))) (take-next 16 8 from bytes) two (c.set_word-3.ensures (piece 16) (size 16 (omega arith)) c.word_at-third.ensures) in
-    Appended-two old c.set_word-3.new.words c.set_word-4.new.words (8 * at) (8 * (at + 3)) (front 24) (piece 24) (front 32)
-    (AreBytes-take 24 (drop from bytes) are) (omega (arith, long 24 (omega arith))) (take-next 24 8 from bytes) three (c.set_word-4.ensures (piece 24) (size 24 (omega arith)) c.word_at-fourth.ensures)
+    rw all (Appended-two old c.set_word-3.new.words c.set_word-4.new.words (8 * at) (8 * (at + 3)) (front 24) (piece 24) (front 32)
+    (AreBytes-take 24 (drop from bytes) are) (omega (arith, long 24 (omega arith))) (take-next 24 8 from bytes) three (c.set_word-4.ensures (piece 24) (size 24 (omega arith)) c.word_at-fourth.ensures))
