@@ -190,18 +190,18 @@ impl<const V: u8> Streaming<V> {
         let fill = self.fill;
         if fill == 0 {
             return if self.absorbed {
-                let end = block_end::<V>(self.high);
-                close_one(joined(&self.lanes, true), end, tally)
+                close_one(joined(&self.lanes, true), block_end::<V>(self.high), tally)
             } else {
                 close_one(joined(&self.lanes, false), 0, tally)
             };
         }
+        let pair = joined(&self.lanes, self.absorbed);
         let end = pending_end::<V>(&self.words, fill);
         let last = self.words[fill / 8] | end << (8 * (fill % 8));
         let left = FullWords {
             words: &self.words,
             count: fill / 8,
         };
-        end_of_eight(joined(&self.lanes, self.absorbed), &left, last, tally)
+        end_of_eight(pair, &left, last, tally)
     }
 }

@@ -12,9 +12,9 @@ pub returns-then-self-clause-answer : goal.returns-then-self-clause-answer
 returns-then-self-clause-answer g c =
     let s = c.self.inside in
     let pair = c.joined.ensures ∙ ap (λ b. joined b (lanes_in s.lanes)) (sym c.if-self.true) in
-    let end = c.block_end-end.ensures ∙ ap (λ b. tail_end g.row.V [] b s.high) (sym c.if-self.true) in
+    let end = c.block_end.ensures ∙ ap (λ b. tail_end g.row.V [] b s.high) (sym c.if-self.true) in
     c.close_one.ensures.answer
-    ∙ answers_none g.row.V s.lanes s.words s.fill s.absorbed s.high c.self.told.1 c.self.invariant (pair_in c.joined.result) pair c.block_end-end.result c.if-fill-eq0.true end
+    ∙ answers_none g.row.V s.lanes s.words s.fill s.absorbed s.high c.self.told.1 c.self.invariant (pair_in c.joined.result) pair c.block_end.result c.if-fill-eq0.true end
     ∙ ap (answer g.row.V) c.self.view_is
 
 pub returns-then-self-clause-products : goal.returns-then-self-clause-products
@@ -43,7 +43,7 @@ returns-clause-answer g c =
     let s = c.self.inside in
     let holds = Holds-held s.words s.fill c.self.told.1 c.self.invariant.few c.self.invariant.filled in
     c.end_of_eight.ensures.answer
-    ∙ answers_some g.row.V s.lanes s.words s.fill s.absorbed s.high c.self.told.1 c.self.invariant (pair_in c.joined-2.result) c.joined-2.ensures c.pending_end-end.result (omega arith) (c.pending_end-end.ensures.byte (held s.words s.fill) holds) (c.pending_end-end.ensures.small (held s.words s.fill) holds)
+    ∙ answers_some g.row.V s.lanes s.words s.fill s.absorbed s.high c.self.told.1 c.self.invariant (pair_in c.joined-pair.result) c.joined-pair.ensures c.pending_end-end.result (omega arith) (c.pending_end-end.ensures.byte (held s.words s.fill) holds) (c.pending_end-end.ensures.small (held s.words s.fill) holds)
     ∙ ap (answer g.row.V) c.self.view_is
 
 pub returns-clause-products : goal.returns-clause-products
