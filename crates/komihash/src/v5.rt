@@ -31,8 +31,8 @@ pub fn komihash_counted(bytes: &[u8], seed: u64, tally: &mut Tally) -> u64
 /// A stream: it takes a message in pieces, and answers the hash of all bytes so far at any time.
 ///
 /// However the bytes are cut, the answers are those of `komihash`. There is no limit to their
-/// number. Pieces whose lengths are multiples of 64 are read where they lie; of others the stream
-/// keeps up to 63 bytes.
+/// number. Pieces of a multiple of 64 bytes are best: as long as all are, each is read where it
+/// lies, and nothing is copied into the stream. Of others it keeps up to 63 bytes.
 #[derive(Drop)]
 pub struct StreamedKomihash {
     stream: Streaming<5>,
