@@ -8,6 +8,7 @@ pub mod HashSteps
 pub mod KeptBytes
 pub mod KeptHalves
 pub mod PaddedWords
+pub mod Runs
 pub mod StreamSteps
 pub mod WordsOfBytes
 pub mod Xor

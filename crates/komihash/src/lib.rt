@@ -9,6 +9,7 @@ pub mod laws;
 mod one_shot;
 mod padding;
 mod rounds;
+pub mod stream;
 mod streaming;
 pub mod tally;
 #[cfg(test)]

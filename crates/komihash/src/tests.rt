@@ -4,4 +4,5 @@ mod definitions;
 mod hash;
 mod messages;
 mod rounds;
+mod stream;
 mod tally;

@@ -6,6 +6,7 @@ ghost use Rattle.komihash.specs.Hash.{komi};
 ghost use Rattle.komihash.specs.Stream.{start, absorb, answer};
 
 use crate::one_shot;
+use crate::stream::KomiStream;
 use crate::streaming::Streaming;
 use crate::tally::Tally;
 use std::marker::Model;
@@ -92,4 +93,33 @@ impl Default for StreamedKomihash {
     fn default() -> Self {
         StreamedKomihash::new()
     }
+}
+
+impl KomiStream for StreamedKomihash {
+    ghost use Rattle.std.proofs.Common.{inr, refl};
+
+    const VERSION: u8 = 5;
+
+    ghost VERSION = { 5 };
+
+    ghost state = { λ s. s };
+
+    #[inline(always)]
+    fn start(seed: u64, tally: &mut Tally) -> Self {
+        StreamedKomihash {
+            stream: Streaming::start(seed, tally),
+        }
+    }
+
+    #[inline(always)]
+    fn absorb(&mut self, bytes: &[u8], tally: &mut Tally) {
+        self.stream.write(bytes, tally);
+    }
+
+    #[inline(always)]
+    fn answer(&self, tally: &mut Tally) -> u64 {
+        self.stream.finish(tally)
+    }
+
+    ghost versions = { inr refl };
 }

@@ -1,0 +1,108 @@
+-- A run of calls on a stream, call by call.
+use Rattle.std.proofs.Common.{◌≡◌, ℕ, suc, ◌+◌, ◌-◌, ◌*◌, ◌/◌, ◌%◌, ◌<◌, List, [], ◌∷◌, ◌++◌, length, drop, get_or, add-one, refl, ap, arith, ◌∙◌, sym, inl, inr}
+use Rattle.std.proofs.lemmas.List.{append_assoc, append-nil, length-append, length-drop}
+use Rattle.std.proofs.Math.Seq.{drop-cons}
+use Rattle.std.proofs.lemmas.Bool.{cases_lt}
+use Rattle.komihash.specs.Calls.{answers_after, answers, onward, bytes_of_calls, AreAbsorbs, run_products, products_of_answers, onward_products, onward_kept}
+use Rattle.komihash.specs.Counts.{hash_products, write_products, answer_products, kept_bytes}
+use Rattle.komihash.specs.Hash.{komi}
+use Rattle.komihash.specs.Stream.{State, start, absorb, answer}
+use Rattle.komihash.specs.declared.stream.Call.{Call}
+use Rattle.komihash.specs.declared.stream.Call.TheVariants.{Absorb, Answer}
+use Rattle.komihash.proofs.Absorbing.{absorb-append, absorb-few, absorb-blocks}
+use Rattle.komihash.proofs.Answers.{answer-joined}
+
+-- two functions that agree on all that may come have the same answers
+answers_after-same : (f g : List ℕ → ℕ) (m n : List ℕ) (calls : List Call) → ((x : List ℕ) → f (m ++ x) ≡ g (n ++ x)) → answers_after f m calls ≡ answers_after g n calls
+answers_after-same f g m n [] same = refl
+answers_after-same f g m n (Absorb bytes ∷ calls) same =
+    answers_after-same f g (m ++ bytes.now) (n ++ bytes.now) calls (λ x. ap f (append_assoc m bytes.now x) ∙ same (bytes.now ++ x) ∙ ap g (sym (append_assoc n bytes.now x)))
+answers_after-same f g m n (Answer ∷ calls) same =
+    let here : f m ≡ g n = ap f (sym (append-nil m)) ∙ same [] ∙ ap g (append-nil n) in
+    let rest = answers_after-same f g m n calls same in
+    cc
+
+-- the answers of a new stream are hashes
+pub onward-start : (v seed : ℕ) (calls : List Call) → onward v (start seed) calls ≡ answers v seed calls
+onward-start v seed calls =
+    answers_after-same (λ m. answer v (absorb v (start seed) m)) (komi v seed) [] [] calls (λ x. answer-joined v seed x)
+
+-- the first call, and the others from the state that it leaves
+pub onward-absorb : (v : ℕ) (s : State) (bytes : List ℕ) (calls : List Call) → answers_after (λ m. answer v (absorb v s m)) bytes calls ≡ onward v (absorb v s bytes) calls
+onward-absorb v s bytes calls =
+    answers_after-same (λ m. answer v (absorb v s m)) (λ m. answer v (absorb v (absorb v s bytes) m)) bytes [] calls (λ x. ap (answer v) (absorb-append v s bytes x))
+
+-- the calls that are left begin with the next one
+pub next_call : (calls : List Call) (i : ℕ) (other call : Call) → i < length calls → get_or calls i other ≡ call → drop i calls ≡ call ∷ drop (i + 1) calls
+next_call calls i other call within is =
+    rw add-one (drop-cons calls i other within ∙ ap (λ x. x ∷ drop (suc i) calls) is)
+
+-- an answer first
+pub onward-answer : (v : ℕ) (s : State) (calls : List Call) → onward v s (Answer ∷ calls) ≡ answer v s ∷ onward v s calls
+unfolding absorb
+onward-answer v s calls = refl
+
+-- nothing absorbed
+pub absorb-nothing : (v : ℕ) (s : State) → absorb v s [] ≡ s
+unfolding absorb
+absorb-nothing v s = refl
+
+-- how many bytes are pending
+pub pending-absorb : (v : ℕ) (s : State) (bytes : List ℕ) → length s.pending < 64 → length (absorb v s bytes).pending ≡ (length s.pending + length bytes) % 64
+pending-absorb v s bytes few =
+    elim (cases_lt (length s.pending + length bytes) 64) as (λ _. length (absorb v s bytes).pending ≡ (length s.pending + length bytes) % 64) [
+      | inl lt ↦ ap (λ t. length t.pending) (absorb-few v s bytes lt) ∙ omega (arith, length-append s.pending bytes)
+      | inr le ↦
+          let all = s.pending ++ bytes in
+          ap (λ t. length t.pending) (absorb-blocks v s bytes few le)
+          ∙ omega (arith, length-append s.pending bytes, length-drop (length all - length all % 64) all)
+    ]
+
+-- ---- costs depend on the bytes before up to whole blocks
+
+products_of_answers-same : (m n : ℕ) (calls : List Call) → m % 64 ≡ n % 64 → products_of_answers m calls ≡ products_of_answers n calls
+products_of_answers-same m n [] same = refl
+products_of_answers-same m n (Absorb bytes ∷ calls) same = products_of_answers-same (m + length bytes.now) (n + length bytes.now) calls (omega arith)
+products_of_answers-same m n (Answer ∷ calls) same =
+    let rest = products_of_answers-same m n calls same in cc
+
+onward_kept-same : (m n : ℕ) (calls : List Call) → m % 64 ≡ n % 64 → onward_kept m calls ≡ onward_kept n calls
+onward_kept-same m n [] same = refl
+onward_kept-same m n (Absorb bytes ∷ calls) same =
+    let rest = onward_kept-same (m + length bytes.now) (n + length bytes.now) calls (omega arith) in cc
+onward_kept-same m n (Answer ∷ calls) same = onward_kept-same m n calls same
+
+pub onward_products-absorb : (p n : ℕ) (bytes : List ℕ) (calls : List Call) → n ≡ (p + length bytes) % 64 → write_products p (length bytes) + onward_products n calls ≡ 4 * ((p + length (bytes ++ bytes_of_calls calls)) / 64) + products_of_answers (p + length bytes) calls
+onward_products-absorb p n bytes calls e =
+    omega (arith, length-append bytes (bytes_of_calls calls), products_of_answers-same n (p + length bytes) calls (omega arith))
+
+pub onward_kept-absorb : (p n b : ℕ) (calls : List Call) → p < 64 → n ≡ (p + b) % 64 → kept_bytes p b + onward_kept n calls ≡ kept_bytes (p % 64) b + onward_kept (p + b) calls
+onward_kept-absorb p n b calls few e =
+    let here : p % 64 ≡ p = omega arith in
+    let rest = onward_kept-same n (p + b) calls (omega arith) in
+    cc
+
+pub onward_products-answer : (p : ℕ) (calls : List Call) → p < 64 → answer_products p + onward_products p calls ≡ onward_products p (Answer ∷ calls)
+onward_products-answer p calls few = omega arith
+
+-- where the rest of a cost completes it, so it does after a step
+pub counted : (before after first here rest left all : ℕ) → after ≡ before + here → left ≡ here + rest → before + left ≡ first + all → after + rest ≡ first + all
+counted before after first here rest left all step split so_far = omega arith
+
+-- ---- pieces, and one answer at their end
+
+bytes_of_calls-answer : (pieces : List Call) → bytes_of_calls (pieces ++ Answer ∷ []) ≡ bytes_of_calls pieces
+bytes_of_calls-answer [] = refl
+bytes_of_calls-answer (Absorb bytes ∷ pieces) = ap (λ m. bytes.now ++ m) (bytes_of_calls-answer pieces)
+bytes_of_calls-answer (Answer ∷ pieces) = bytes_of_calls-answer pieces
+
+products_of_answers-answer : (n : ℕ) (pieces : List Call) → AreAbsorbs pieces → products_of_answers n (pieces ++ Answer ∷ []) ≡ answer_products ((n + length (bytes_of_calls pieces)) % 64)
+products_of_answers-answer n [] only = omega arith
+products_of_answers-answer n (Absorb bytes ∷ pieces) only =
+    let size : n + length bytes.now + length (bytes_of_calls pieces) ≡ n + length (bytes.now ++ bytes_of_calls pieces) = omega (arith, length-append bytes.now (bytes_of_calls pieces)) in
+    products_of_answers-answer (n + length bytes.now) pieces only ∙ ap (λ k. answer_products (k % 64)) size
+products_of_answers-answer n (Answer ∷ pieces) only = absurd only
+
+pub run_products-pieces : (pieces : List Call) → AreAbsorbs pieces → run_products (pieces ++ Answer ∷ []) ≡ hash_products (length (bytes_of_calls pieces))
+run_products-pieces pieces only =
+    omega (arith, ap length (bytes_of_calls-answer pieces), products_of_answers-answer 0 pieces only)

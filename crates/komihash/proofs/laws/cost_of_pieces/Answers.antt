@@ -1,0 +1,5 @@
+use Rattle.komihash.proofs.Runs.{run_products-pieces}
+use Rattle.komihash.proofs.laws.cost_of_pieces.Goals as goal
+
+pub returns : goal.returns
+returns c = run_products-pieces

@@ -1,0 +1,5 @@
+use Rattle.komihash.proofs.Absorbing.{absorb-append}
+use Rattle.komihash.proofs.laws.cut.Goals as goal
+
+pub returns : goal.returns
+returns c = absorb-append

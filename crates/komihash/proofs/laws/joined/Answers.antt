@@ -1,0 +1,5 @@
+use Rattle.komihash.proofs.Answers.{answer-joined}
+use Rattle.komihash.proofs.laws.joined.Goals as goal
+
+pub returns : goal.returns
+returns c = answer-joined

@@ -1,0 +1,57 @@
+-- A list of calls on a stream: its answers, the bytes that it absorbs, and what it costs.
+use Rattle.std.specs.Prelude.{ℕ, ◌+◌, ◌*◌, ◌/◌, ◌%◌, List, [], ◌∷◌, ◌++◌, length}
+use Rattle.komihash.specs.Counts.{answer_products, kept_bytes}
+use Rattle.komihash.specs.Hash.{komi}
+use Rattle.komihash.specs.Stream.{State, absorb, answer}
+use Rattle.komihash.specs.declared.stream.Call.{Call}
+use Rattle.komihash.specs.declared.stream.Call.TheVariants.{Absorb, Answer}
+
+-- for each Answer in order, f of the bytes m and those that the calls before it absorb, joined
+abbrev pub answers_after : (List ℕ → ℕ) → List ℕ → List Call → List ℕ
+answers_after f m [] = []
+answers_after f m (Absorb bytes ∷ calls) = answers_after f (m ++ bytes.now) calls
+answers_after f m (Answer ∷ calls) = f m ∷ answers_after f m calls
+
+-- the answers of a new stream: the hashes of all bytes before each
+abbrev pub answers : ℕ → ℕ → List Call → List ℕ
+answers v seed calls = answers_after (komi v seed) [] calls
+
+-- the answers of a stream from a state onward
+abbrev pub onward : ℕ → State → List Call → List ℕ
+onward v s calls = answers_after (λ m. answer v (absorb v s m)) [] calls
+
+-- the bytes of all calls, joined
+abbrev pub bytes_of_calls : List Call → List ℕ
+bytes_of_calls [] = []
+bytes_of_calls (Absorb bytes ∷ calls) = bytes.now ++ bytes_of_calls calls
+bytes_of_calls (Answer ∷ calls) = bytes_of_calls calls
+
+-- none of the calls is an Answer
+abbrev pub AreAbsorbs : List Call → Type 0
+AreAbsorbs [] = Unit {0}
+AreAbsorbs (Absorb bytes ∷ calls) = AreAbsorbs calls
+AreAbsorbs (Answer ∷ calls) = ⊥
+
+-- the products of the answers alone, where n bytes came before the first call
+abbrev pub products_of_answers : ℕ → List Call → ℕ
+products_of_answers n [] = 0
+products_of_answers n (Absorb bytes ∷ calls) = products_of_answers (n + length bytes.now) calls
+products_of_answers n (Answer ∷ calls) = answer_products (n % 64) + products_of_answers n calls
+
+-- the products of calls where p bytes are pending: four a block of all bytes, and those of the answers
+abbrev pub onward_products : ℕ → List Call → ℕ
+onward_products p calls = 4 * ((p + length (bytes_of_calls calls)) / 64) + products_of_answers p calls
+
+-- the bytes that calls put into the buffer, where n bytes came before the first
+abbrev pub onward_kept : ℕ → List Call → ℕ
+onward_kept n [] = 0
+onward_kept n (Absorb bytes ∷ calls) =
+    kept_bytes (n % 64) (length bytes.now) + onward_kept (n + length bytes.now) calls
+onward_kept n (Answer ∷ calls) = onward_kept n calls
+
+-- the products and the kept bytes of calls on a new stream, with those of its seed
+abbrev pub run_products : List Call → ℕ
+run_products calls = 1 + onward_products 0 calls
+
+abbrev pub run_kept : List Call → ℕ
+run_kept calls = onward_kept 0 calls

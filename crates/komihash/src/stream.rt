@@ -1,0 +1,102 @@
+//! What the streams of both versions share, and runs of calls on one.
+
+ghost use Rattle.std.specs.Prelude.{◌≡◌, ℕ, ◌+◌, ◌<◌, ◌≤◌, ◌⊎◌, ◌++◌, length, drop};
+ghost use Rattle.komihash.specs.Calls.{answers, onward, bytes_of_calls, onward_products, onward_kept, run_products, run_kept};
+ghost use Rattle.komihash.specs.Counts.{write_products, answer_products, kept_bytes};
+ghost use Rattle.komihash.specs.Stream.{State, start, absorb, answer};
+
+use crate::tally::Tally;
+
+/// A stream of one of the versions.
+pub trait KomiStream: Sized + Drop {
+    /// The version: 4 or 5.
+    const VERSION: u8;
+
+    ghost VERSION: { ℕ };
+
+    /// What a stream holds.
+    ghost state: { Self → State };
+
+    /// The new stream of a seed; the tally rises by one product.
+    fn start(seed: u64, tally: &mut Tally) -> Self
+        ensures state { state result ≡ start seed }
+        ensures products { tally.new.products ≡ tally.old.products + 1 }
+        ensures kept { tally.new.kept ≡ tally.old.kept };
+
+    /// Absorbs bytes; the tally rises by four products for each block that is filled, and by the
+    /// bytes that are kept.
+    fn absorb(&mut self, bytes: &[u8], tally: &mut Tally)
+        ensures state { state self.new ≡ absorb VERSION (state self.old) bytes.now }
+        ensures products { tally.new.products
+            ≡ tally.old.products + write_products (length (state self.old).pending) (length bytes.now) }
+        ensures kept { tally.new.kept
+            ≡ tally.old.kept + kept_bytes (length (state self.old).pending) (length bytes.now) };
+
+    /// The hash of all bytes so far; the tally rises by what the answer costs. The stream stays as
+    /// it is, and may go on.
+    fn answer(&self, tally: &mut Tally) -> u64
+        ensures answer { result ≡ answer VERSION (state self.now) }
+        ensures products { tally.new.products
+            ≡ tally.old.products + answer_products (length (state self.now).pending) }
+        ensures kept { tally.new.kept ≡ tally.old.kept };
+
+    ghost versions: { (VERSION ≡ 4) ⊎ (VERSION ≡ 5) };
+}
+
+/// One call on a stream: absorb these bytes, or answer.
+#[derive(Clone, Copy)]
+pub enum Call<'a> {
+    Absorb(&'a [u8]),
+    Answer,
+}
+
+// Makes calls on a stream in any state. The answers stand first in `out`.
+fn run_calls<S: KomiStream>(
+    stream: &mut S,
+    calls: &[Call<'_>],
+    out: &mut [u64],
+    tally: &mut Tally,
+) -> usize
+    requires room { length calls.now ≤ length out.old }
+    requires few { length (S.state stream.old).pending < 64 }
+    ensures answers { out.new ≡ onward S.VERSION (S.state stream.old) calls.now ++ drop result out.old }
+    ensures count { result ≡ length (onward S.VERSION (S.state stream.old) calls.now) }
+    ensures state { S.state stream.new ≡ absorb S.VERSION (S.state stream.old) (bytes_of_calls calls.now) }
+    ensures products { tally.new.products
+        ≡ tally.old.products + onward_products (length (S.state stream.old).pending) calls.now }
+    ensures kept { tally.new.kept
+        ≡ tally.old.kept + onward_kept (length (S.state stream.old).pending) calls.now }
+{
+    let mut count = 0;
+    for call in calls {
+        match *call {
+            Call::Absorb(bytes) => stream.absorb(bytes, tally),
+            Call::Answer => {
+                out[count] = stream.answer(tally);
+                count += 1;
+            }
+        }
+    }
+    count
+}
+
+/// Makes calls on a new stream of a seed, in order, and answers how many answers there are.
+///
+/// They stand first in `out`, in order; behind them `out` stays as it is. There has to be a place
+/// for each call. Each answer is the hash of all bytes that the calls before it absorb, joined. The
+/// tally rises by what the stream, its blocks and its answers cost, and by the bytes that it keeps.
+pub fn run<S: KomiStream>(
+    seed: u64,
+    calls: &[Call<'_>],
+    out: &mut [u64],
+    tally: &mut Tally,
+) -> usize
+    requires { length calls.now ≤ length out.old }
+    ensures answers { out.new ≡ answers S.VERSION seed calls.now ++ drop result out.old }
+    ensures count { result ≡ length (answers S.VERSION seed calls.now) }
+    ensures products { tally.new.products ≡ tally.old.products + run_products calls.now }
+    ensures kept { tally.new.kept ≡ tally.old.kept + run_kept calls.now }
+{
+    let mut stream = S::start(seed, tally);
+    run_calls(&mut stream, calls, out, tally)
+}

@@ -1,0 +1,262 @@
+//! Streams and runs of calls on them, at messages whose hash is known.
+
+ghost use Rattle.std.specs.Prelude.{◌≢◌};
+
+use super::messages::{BLOCK_FIVE, BLOCK_FOUR, LONGEST, ZERO, pattern};
+use crate::stream::{Call, KomiStream, run};
+use crate::tally::Tally;
+use crate::{v4, v5};
+use std::process::Abort;
+
+const SEEDS: [u64; 2] = [0, u64::MAX];
+
+// The hash of a message in one call.
+fn hash<S: KomiStream>(message: &[u8], seed: u64) -> u64 {
+    if S::VERSION == 4 {
+        v4::komihash(message, seed)
+    } else {
+        v5::komihash(message, seed)
+    }
+}
+
+// The answer of a new stream that absorbs a message in pieces.
+fn hash_in_pieces<S: KomiStream>(message: &[u8], size: usize, seed: u64) -> u64
+    requires { size ≢ 0 }
+{
+    let mut tally = Tally::new();
+    let mut stream = S::start(seed, &mut tally);
+    for piece in message.chunks(size) {
+        stream.absorb(piece, &mut tally);
+    }
+    stream.answer(&mut tally)
+}
+
+// Every beginning of the pattern of up to 200 bytes, in pieces of every size up to a greatest.
+fn agrees_in_pieces<S: KomiStream>(rt: &impl Abort, greatest: usize) {
+    let message = pattern();
+    for n in 0..=200usize {
+        for seed in SEEDS {
+            let answer = hash::<S>(&message[..n], seed);
+            for size in 1..=greatest {
+                assert_eq!(rt;
+                    hash_in_pieces::<S>(&message[..n], size, seed),
+                    answer,
+                    "{n} bytes in pieces of {size}"
+                );
+            }
+        }
+    }
+}
+
+#[test]
+fn answers_alike_however_a_message_is_cut(rt: HostRuntime) {
+    agrees_in_pieces::<v4::StreamedKomihash>(&rt, 126);
+    agrees_in_pieces::<v5::StreamedKomihash>(&rt, 62);
+}
+
+// Zeros in one write behind every number of pending bytes.
+fn agrees_behind_pending_bytes<S: KomiStream>(rt: &impl Abort) {
+    let mut tally = Tally::new();
+    let pending = pattern();
+    let zeros = [0; 130];
+    for fill in 0..64usize {
+        let mut message = [0; 193];
+        message[..fill].copy_from_slice(&pending[..fill]);
+        for more in 0..=130usize {
+            let mut stream = S::start(0, &mut tally);
+            stream.absorb(&pending[..fill], &mut tally);
+            stream.absorb(&zeros[..more], &mut tally);
+            assert_eq!(rt;
+                stream.answer(&mut tally),
+                hash::<S>(&message[..fill + more], 0),
+                "{more} bytes behind {fill}"
+            );
+        }
+    }
+}
+
+#[test]
+fn fills_up_a_begun_block(rt: HostRuntime) {
+    agrees_behind_pending_bytes::<v4::StreamedKomihash>(&rt);
+    agrees_behind_pending_bytes::<v5::StreamedKomihash>(&rt);
+}
+
+// Answers in between change nothing: after a whole block, and one byte before it, at it and behind.
+fn agrees_after_answers<S: KomiStream>(rt: &impl Abort) {
+    let mut tally = Tally::new();
+    let mut message = [0xff; 65];
+    message[64] = 0;
+    let mut stream = S::start(0, &mut tally);
+    stream.absorb(&message[..64], &mut tally);
+    let block = hash::<S>(&message[..64], 0);
+    assert_eq!(rt; stream.answer(&mut tally), block);
+    assert_eq!(rt; stream.answer(&mut tally), block);
+    stream.absorb(&message[64..], &mut tally);
+    assert_eq!(rt; stream.answer(&mut tally), hash::<S>(&message, 0));
+
+    let mut message = [0xaa; 65];
+    message[63] = 0xbb;
+    message[64] = 0xcc;
+    let mut stream = S::start(0, &mut tally);
+    for (from, to) in [(0usize, 63usize), (63, 64), (64, 65)] {
+        assert!(rt; from <= to && to <= 65);
+        stream.absorb(&message[from..to], &mut tally);
+        assert_eq!(rt;
+            stream.answer(&mut tally),
+            hash::<S>(&message[..to], 0),
+            "{to} bytes"
+        );
+    }
+}
+
+#[test]
+fn goes_on_after_an_answer(rt: HostRuntime) {
+    agrees_after_answers::<v4::StreamedKomihash>(&rt);
+    agrees_after_answers::<v5::StreamedKomihash>(&rt);
+}
+
+#[test]
+fn keeps_the_top_bit_of_a_block_in_version_four(rt: HostRuntime) {
+    for last in [0x80, 0x7f] {
+        let mut message = [0; 64];
+        message[63] = last;
+        let mut stream = v4::StreamedKomihash::new();
+        stream.write(&message);
+        assert_eq!(rt;
+            stream.finish(),
+            v4::komihash(&message, 0),
+            "last byte {last}"
+        );
+    }
+}
+
+#[test]
+fn answers_what_one_call_does(rt: HostRuntime) {
+    let message = pattern();
+    for n in 0..=LONGEST {
+        for seed in SEEDS {
+            let mut four = v4::StreamedKomihash::new_with_seed(seed);
+            four.write(&message[..n]);
+            assert_eq!(rt;
+                four.finish(),
+                v4::komihash(&message[..n], seed),
+                "version 4, {n} bytes"
+            );
+            let mut five = v5::StreamedKomihash::new_with_seed(seed);
+            five.write(&message[..n]);
+            assert_eq!(rt;
+                five.finish(),
+                v5::komihash(&message[..n], seed),
+                "version 5, {n} bytes"
+            );
+        }
+    }
+}
+
+#[test]
+fn begins_with_seed_zero(rt: HostRuntime) {
+    let empty = 0xb768_3ea7_4301_32b4;
+    assert_eq!(rt; v4::StreamedKomihash::new().finish(), empty);
+    assert_eq!(rt; v4::StreamedKomihash::new_with_seed(0).finish(), empty);
+    assert_eq!(rt; v4::StreamedKomihash::default().finish(), empty);
+    assert_eq!(rt; v5::StreamedKomihash::new().finish(), empty);
+    assert_eq!(rt; v5::StreamedKomihash::new_with_seed(0).finish(), empty);
+    assert_eq!(rt; v5::StreamedKomihash::default().finish(), empty);
+}
+
+#[test]
+fn runs_calls_in_order(rt: HostRuntime) {
+    let mut tally = Tally::new();
+    let message = BLOCK_FIVE;
+    let calls = [
+        Call::Answer,
+        Call::Absorb(&message[..1]),
+        Call::Answer,
+        Call::Absorb(&message[1..64]),
+        Call::Answer,
+        Call::Absorb(&[]),
+        Call::Answer,
+        Call::Absorb(&message[64..]),
+        Call::Answer,
+    ];
+    let mut out = [9; 9];
+    assert_eq!(rt;
+        run::<v5::StreamedKomihash>(0, &calls, &mut out, &mut tally),
+        5
+    );
+    let answers = [
+        0xb768_3ea7_4301_32b4,
+        0xfd45_482d_180d_0441,
+        0x2a2f_07ac_9381_0128,
+        0x2a2f_07ac_9381_0128,
+        6,
+        9,
+        9,
+        9,
+        9,
+    ];
+    assert_eq!(rt; out, answers);
+
+    let message = BLOCK_FOUR;
+    let calls = [
+        Call::Answer,
+        Call::Absorb(&message[..64]),
+        Call::Answer,
+        Call::Absorb(&message[64..]),
+        Call::Answer,
+    ];
+    let mut out = [9; 5];
+    assert_eq!(rt;
+        run::<v4::StreamedKomihash>(0, &calls, &mut out, &mut tally),
+        3
+    );
+    assert_eq!(rt;
+        out,
+        [0xb768_3ea7_4301_32b4, 0x2a2f_07ac_9381_0128, 6, 9, 9]
+    );
+}
+
+#[test]
+fn runs_few_calls(rt: HostRuntime) {
+    let mut tally = Tally::new();
+    let mut out = [9; 2];
+    assert_eq!(rt;
+        run::<v5::StreamedKomihash>(0, &[], &mut out, &mut tally),
+        0
+    );
+    assert_eq!(rt; out, [9, 9]);
+
+    let message = ZERO;
+    let calls = [
+        Call::Absorb(&message),
+        Call::Answer,
+        Call::Absorb(&[]),
+        Call::Answer,
+    ];
+    let mut out = [9; 4];
+    assert_eq!(rt;
+        run::<v5::StreamedKomihash>(0, &calls, &mut out, &mut tally),
+        2
+    );
+    assert_eq!(rt; out, [0, 0, 9, 9]);
+}
+
+#[test]
+fn answers_after_every_byte(rt: HostRuntime) {
+    let message = BLOCK_FIVE;
+    let mut calls = [Call::Answer; 190];
+    for i in 0..95usize {
+        calls[2 * i] = Call::Absorb(&message[i..i + 1]);
+    }
+    let mut out = [9; 190];
+    assert_eq!(rt;
+        run::<v5::StreamedKomihash>(0, &calls, &mut out, &mut Tally::new()),
+        95
+    );
+    assert_eq!(rt; out[63], 0x2a2f_07ac_9381_0128);
+    for answer in &out[79..94] {
+        assert_eq!(rt; *answer, 0);
+    }
+    assert_eq!(rt; out[94], 6);
+    assert_eq!(rt; out[95], 9);
+}
