@@ -1,6 +1,7 @@
 -- A run of calls on a stream, call by call.
-use Rattle.std.proofs.Common.{◌≡◌, ℕ, suc, ◌+◌, ◌-◌, ◌*◌, ◌/◌, ◌%◌, ◌<◌, List, [], ◌∷◌, ◌++◌, length, drop, get_or, add-one, refl, ap, arith, ◌∙◌, sym, inl, inr}
+use Rattle.std.proofs.Common.{◌≡◌, ℕ, suc, ◌+◌, ◌-◌, ◌*◌, ◌/◌, ◌%◌, ◌<◌, List, [], ◌∷◌, ◌++◌, length, drop, get_or, add-one, add-zero, zero-add, add_assoc, refl, ap, arith, ◌∙◌, sym, inl, inr}
 use Rattle.std.proofs.lemmas.List.{append_assoc, append-nil, length-append, length-drop}
+use Rattle.std.proofs.lemmas.Bool.Decides.{nat_tests}
 use Rattle.std.proofs.Math.Seq.{drop-cons}
 use Rattle.std.proofs.lemmas.Bool.{cases_lt}
 use Rattle.komihash.specs.Calls.{answers_after, answers, onward, bytes_of_calls, AreAbsorbs, run_products, products_of_answers, onward_products, onward_kept}
@@ -58,6 +59,11 @@ pending-absorb v s bytes few =
           ∙ omega (arith, length-append s.pending bytes, length-drop (length all - length all % 64) all)
     ]
 
+-- the same of a state that is known to be the one after, with both lengths
+pub pending_after : (v : ℕ) (s after : State) (bytes : List ℕ) (p b : ℕ) → after ≡ absorb v s bytes → length s.pending ≡ p → length bytes ≡ b → p < 64 → length after.pending ≡ (p + b) % 64
+pending_after v s after bytes p b is pending size few =
+    ap (λ t. length t.pending) is ∙ pending-absorb v s bytes (omega arith) ∙ omega arith
+
 -- ---- costs depend on the bytes before up to whole blocks
 
 products_of_answers-same : (m n : ℕ) (calls : List Call) → m % 64 ≡ n % 64 → products_of_answers m calls ≡ products_of_answers n calls
@@ -89,12 +95,36 @@ onward_products-answer p calls few = omega arith
 pub counted : (before after first here rest left all : ℕ) → after ≡ before + here → left ≡ here + rest → before + left ≡ first + all → after + rest ≡ first + all
 counted before after first here rest left all step split so_far = omega arith
 
+-- ---- lists of calls, joined
+
+pub AreAbsorbs-append : (xs ys : List Call) → AreAbsorbs xs → AreAbsorbs ys → AreAbsorbs (xs ++ ys)
+AreAbsorbs-append [] ys first then = then
+AreAbsorbs-append (Absorb bytes ∷ xs) ys first then = AreAbsorbs-append xs ys first then
+AreAbsorbs-append (Answer ∷ xs) ys first then = absurd first
+
+pub bytes_of_calls-append : (xs ys : List Call) → bytes_of_calls (xs ++ ys) ≡ bytes_of_calls xs ++ bytes_of_calls ys
+bytes_of_calls-append [] ys = refl
+bytes_of_calls-append (Absorb bytes ∷ xs) ys =
+    ap (λ m. bytes.now ++ m) (bytes_of_calls-append xs ys) ∙ sym (append_assoc bytes.now (bytes_of_calls xs) (bytes_of_calls ys))
+bytes_of_calls-append (Answer ∷ xs) ys = bytes_of_calls-append xs ys
+
+-- what the first calls keep, and then the others
+pub onward_kept-append : (n : ℕ) (xs ys : List Call) → onward_kept n (xs ++ ys) ≡ onward_kept n xs + onward_kept (n + length (bytes_of_calls xs)) ys
+onward_kept-append n [] ys = ap (λ k. onward_kept k ys) (sym (add-zero n)) ∙ sym (zero-add _)
+onward_kept-append n (Absorb bytes ∷ xs) ys =
+    let size : n + length bytes.now + length (bytes_of_calls xs) ≡ n + length (bytes.now ++ bytes_of_calls xs) = omega (arith, length-append bytes.now (bytes_of_calls xs)) in
+    let rest = onward_kept-append (n + length bytes.now) xs ys ∙ ap (λ k. onward_kept (n + length bytes.now) xs + onward_kept k ys) size in
+    ap (λ k. kept_bytes (n % 64) (length bytes.now) + k) rest ∙ sym (add_assoc (kept_bytes (n % 64) (length bytes.now)) (onward_kept (n + length bytes.now) xs) _)
+onward_kept-append n (Answer ∷ xs) ys = onward_kept-append n xs ys
+
+-- one byte is always kept
+pub kept_bytes-one : (p : ℕ) → p < 64 → kept_bytes p 1 ≡ 1
+kept_bytes-one p few = grind (arith, nat_tests)
+
 -- ---- pieces, and one answer at their end
 
-bytes_of_calls-answer : (pieces : List Call) → bytes_of_calls (pieces ++ Answer ∷ []) ≡ bytes_of_calls pieces
-bytes_of_calls-answer [] = refl
-bytes_of_calls-answer (Absorb bytes ∷ pieces) = ap (λ m. bytes.now ++ m) (bytes_of_calls-answer pieces)
-bytes_of_calls-answer (Answer ∷ pieces) = bytes_of_calls-answer pieces
+pub bytes_of_calls-answer : (pieces : List Call) → bytes_of_calls (pieces ++ Answer ∷ []) ≡ bytes_of_calls pieces
+bytes_of_calls-answer pieces = bytes_of_calls-append pieces (Answer ∷ []) ∙ append-nil (bytes_of_calls pieces)
 
 products_of_answers-answer : (n : ℕ) (pieces : List Call) → AreAbsorbs pieces → products_of_answers n (pieces ++ Answer ∷ []) ≡ answer_products ((n + length (bytes_of_calls pieces)) % 64)
 products_of_answers-answer n [] only = omega arith

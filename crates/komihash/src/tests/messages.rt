@@ -1,5 +1,10 @@
 //! Messages whose hashes were worked out by hand from the rules, and one made of a pattern.
 
+ghost use Rattle.std.specs.Prelude.{◌≡◌, [], ◌∷◌, take, drop};
+ghost use Rattle.komihash.specs.Calls.{AreAbsorbs, bytes_of_calls, onward_kept};
+
+use crate::stream::Call;
+
 /// Its pair round with seed 0 takes e to 0 and a to a word whose closing gives 0.
 pub(crate) const ZERO: [u8; 16] = [
     0x23, 0xb7, 0xf5, 0x1b, 0xf5, 0x11, 0x2d, 0xfe, 0xf1, 0xff, 0xff, 0xff, 0xff, 0xff, 0xff, 0xff,
@@ -47,4 +52,18 @@ pub(crate) fn pattern() -> [u8; LONGEST] {
         bytes[i] = ((7 * i + 3) % 256) as u8;
     }
     bytes
+}
+
+/// A message, each byte in an Absorb of its own, and one Answer at the end.
+pub(crate) fn byte_by_byte(message: &[u8; 95]) -> [Call<'_>; 96]
+    ensures pieces { AreAbsorbs (take 95 result) }
+    ensures answer { drop 95 result ≡ Call.Answer ∷ [] }
+    ensures bytes { bytes_of_calls result ≡ message.now }
+    ensures kept { onward_kept 0 result ≡ 95 }
+{
+    let mut calls = [Call::Answer; 96];
+    for i in 0..95usize {
+        calls[i] = Call::Absorb(&message[i..i + 1]);
+    }
+    calls
 }

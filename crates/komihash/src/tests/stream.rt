@@ -2,7 +2,7 @@
 
 ghost use Rattle.std.specs.Prelude.{◌≢◌};
 
-use super::messages::{BLOCK_FIVE, BLOCK_FOUR, LONGEST, ZERO, pattern};
+use super::messages::{BLOCK_FIVE, BLOCK_FOUR, LONGEST, ZERO, byte_by_byte, pattern};
 use crate::stream::{Call, KomiStream, run};
 use crate::tally::Tally;
 use crate::{v4, v5};
@@ -244,9 +244,10 @@ fn runs_few_calls(rt: HostRuntime) {
 #[test]
 fn answers_after_every_byte(rt: HostRuntime) {
     let message = BLOCK_FIVE;
+    let absorbs = byte_by_byte(&message);
     let mut calls = [Call::Answer; 190];
     for i in 0..95usize {
-        calls[2 * i] = Call::Absorb(&message[i..i + 1]);
+        calls[2 * i] = absorbs[i];
     }
     let mut out = [9; 190];
     assert_eq!(rt;
