@@ -25,6 +25,11 @@ bytes_of-word_of (suc n) (x ∷ xs) h le =
     let rest : suc n - suc (length xs) ≡ n - length xs = omega arith in
     rw (low, high, rest) (ap (λ bs. x ∷ bs) (bytes_of-word_of n xs (λ k. h (suc k)) (omega arith)))
 
+-- a list that was cut behind its first eight, and what stands behind it
+halves_joined : (xs zs : List ℕ) → (take 8 xs ++ []) ++ (drop 8 xs ++ zs) ≡ xs ++ zs
+halves_joined xs zs =
+    ap (λ front. front ++ (drop 8 xs ++ zs)) (append-nil (take 8 xs)) ∙ sym (append_assoc (take 8 xs) (drop 8 xs) zs) ∙ ap (λ all. all ++ zs) (take-append-drop 8 xs)
+
 -- the zeros behind less than a word, and behind the words
 zeros_joined : (n : ℕ) (xs : List ℕ) → (take 8 xs ++ replicate (8 - length (take 8 xs)) 0) ++ (drop 8 xs ++ replicate (8 * n - length (drop 8 xs)) 0) ≡ xs ++ replicate (8 * suc n - length xs) 0
 zeros_joined n xs =
@@ -33,11 +38,13 @@ zeros_joined n xs =
           let front : take 8 xs ≡ xs = take_all 8 xs (omega arith) in
           let back : drop 8 xs ≡ [] = drop_all 8 xs (omega arith) in
           let sum : 8 - length xs + (8 * n - 0) ≡ 8 * suc n - length xs = omega arith in
-          rw (front, back) (append_assoc xs (replicate (8 - length xs) 0) (replicate (8 * n - 0) 0) ∙ ap (λ z. xs ++ z) (replicate-append-replicate (8 - length xs) (8 * n - 0) 0 ∙ ap (λ k. replicate k 0) sum))
+          let zeros : replicate (8 - length xs) 0 ++ replicate (8 * n - 0) 0 ≡ replicate (8 * suc n - length xs) 0 =
+          replicate-append-replicate (8 - length xs) (8 * n - 0) 0 ∙ ap (λ k. replicate k 0) sum in
+          rw (front, back) (append_assoc xs (replicate (8 - length xs) 0) (replicate (8 * n - 0) 0) ∙ ap (λ z. xs ++ z) zeros)
       | inr le ↦
           let none : 8 - length (take 8 xs) ≡ 0 = omega (arith, length-take 8 xs) in
           let sum : 8 * n - length (drop 8 xs) ≡ 8 * suc n - length xs = omega (arith, length-drop 8 xs) in
-          rw (none, sum) (ap (λ z. z ++ (drop 8 xs ++ replicate (8 * suc n - length xs) 0)) (append-nil (take 8 xs)) ∙ sym (append_assoc (take 8 xs) (drop 8 xs) (replicate (8 * suc n - length xs) 0)) ∙ ap (λ z. z ++ replicate (8 * suc n - length xs) 0) (take-append-drop 8 xs))
+          rw (none, sum) (halves_joined xs (replicate (8 * suc n - length xs) 0))
     ]
 
 -- what words hold that were filled with bytes
