@@ -1,11 +1,11 @@
 -- The fields that keep a stream after a write: what they show is what the rules absorb.
-use Rattle.std.proofs.Common.{◌≡◌, ℕ, ◌+◌, ◌-◌, ◌*◌, ◌%◌, ◌<◌, ◌≤◌, Bool, true, false, List, [], ◌∷◌, ◌++◌, length, refl, ap, arith, ◌∙◌, sym, ◌/◌, ◌^◌, get_or, take}
+use Rattle.std.proofs.Common.{◌≡◌, ℕ, ◌+◌, ◌-◌, ◌*◌, ◌%◌, ◌<◌, ◌≤◌, Bool, true, false, List, [], ◌∷◌, ◌++◌, length, refl, ap, arith, ◌∙◌, sym, ◌/◌, ◌^◌, get_or, take, subst}
 use Rattle.std.proofs.lemmas.List.{length-append, get_or-append-add}
 use Rattle.std.proofs.lemmas.Bool.Decides.{nat_tests}
 use Rattle.std.specs.Prelude.{bit_or, slice_index}
 use Rattle.komihash.specs.Halves.{lanes_in}
 use Rattle.komihash.specs.Kept.{filled, held, Holds, Appended, IsKept}
-use Rattle.komihash.specs.Stream.{State, absorb, answer, is_high}
+use Rattle.komihash.specs.Stream.{State, IsState, absorb, answer, is_high}
 use Rattle.komihash.specs.Hash.{hash_from_pair}
 use Rattle.komihash.specs.Rounds.{joined, closing}
 use Rattle.komihash.proofs.Answers.{answer-by_pair, answer-none, tail_end-pending}
@@ -14,7 +14,7 @@ use Rattle.komihash.specs.Words.{AreBytes, padding_byte}
 use Rattle.komihash.proofs.Absorbing.{absorb-few, absorb-blocks}
 use Rattle.komihash.proofs.BegunBlock.{Holds-none}
 use Rattle.std.proofs.lemmas.Bool.{false≢true}
-use Rattle.komihash.proofs.KeptBytes.{held-filled, length-held, AreBytes-held, AreBytes-append, take-filled, final_word-filled}
+use Rattle.komihash.proofs.KeptBytes.{held-filled, length-held, length-filled, AreBytes-held, AreBytes-append, take-filled, final_word-filled}
 
 -- what fields show
 abbrev pub shown : List ℕ → List ℕ → ℕ → Bool → Bool → State
@@ -131,3 +131,17 @@ module _ (v : ℕ) (ls ws : List ℕ) (fill : ℕ) (absorbed high : Bool) (eight
 pub pending_shown : (ls ws : List ℕ) (fill : ℕ) (absorbed high : Bool) (t : State) → shown ls ws fill absorbed high ≡ t → length ws ≡ 8 → fill < 64 → length t.pending ≡ fill
 pending_shown ls ws fill absorbed high t is eight lt =
     ap (λ (s : State). length s.pending) (sym is) ∙ length-held ws fill eight (omega arith)
+
+-- what fields show is a state of the version
+pub IsKept-state : (v : ℕ) (ls ws : List ℕ) (fill : ℕ) (absorbed high : Bool) → IsKept v ws fill absorbed high → IsState v (shown ls ws fill absorbed high)
+IsKept-state v ls ws fill absorbed high kept =
+    let eight : length ws ≡ 8 = ap length kept.filled ∙ length-filled 8 (held ws fill) in
+    record {
+      bytes = AreBytes-held ws fill;
+      few = omega (arith, length-held ws fill eight (omega (arith, kept.few)), kept.few);
+      high_absorbed = kept.high_absorbed;
+      high_version = kept.high_version;
+    }
+
+pub is_state : (v : ℕ) (ls ws : List ℕ) (fill : ℕ) (absorbed high : Bool) (t : State) → shown ls ws fill absorbed high ≡ t → IsKept v ws fill absorbed high → IsState v t
+is_state v ls ws fill absorbed high t is kept = subst (IsState v) is (IsKept-state v ls ws fill absorbed high kept)

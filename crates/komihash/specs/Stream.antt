@@ -1,9 +1,8 @@
 -- A stream: what it holds, how it absorbs bytes one after the other, and what it answers.
-use Rattle.std.specs.Prelude.{ℕ, ◌^◌, ◌<◌, ◌≡◌, Bool, true, false, List, [], ◌∷◌, ◌++◌, length, ◌==◌, ◌&&◌, nat_le, if◌then◌else◌}
-use Rattle.std.specs.List.{AllByRecursion}
+use Rattle.std.specs.Prelude.{ℕ, ◌<◌, ◌≡◌, Bool, true, false, List, [], ◌∷◌, ◌++◌, length, ◌==◌, ◌&&◌, nat_le, if◌then◌else◌}
 use Rattle.komihash.specs.Hash.{hash_from_pair}
 use Rattle.komihash.specs.Rounds.{Lanes, seeded, lanes, block, joined}
-use Rattle.komihash.specs.Words.{words_of, words}
+use Rattle.komihash.specs.Words.{AreBytes, words_of, words}
 
 -- eight lanes, the bytes that no block has taken yet, whether a block was absorbed, and in version
 -- 4 whether the last byte of the last block is at least 128
@@ -44,11 +43,10 @@ tail_of v [] absorbed high = (if absorbed then (if high then 2 else 1) else 0) �
 unfoldable pub answer : ℕ → State → ℕ
 answer v s = hash_from_pair (joined s.absorbed s.lanes) (tail_of v s.pending s.absorbed s.high)
 
--- a state of version v: its lanes are words, at most 63 bytes are pending, and the bit is set only
--- where a block was absorbed, and only in version 4
+-- a state of version v: at most 63 bytes are pending, and the bit is set only where a block was
+-- absorbed, and only in version 4
 pub record IsState (v : ℕ) (s : State) : Type 0 where
-  pub lanes : AllByRecursion (λ w. w < 2 ^ 64) (s.lanes.s1 ∷ s.lanes.s2 ∷ s.lanes.s3 ∷ s.lanes.s4 ∷ s.lanes.s5 ∷ s.lanes.s6 ∷ s.lanes.s7 ∷ s.lanes.s8 ∷ [])
-  pub bytes : AllByRecursion (λ b. b < 2 ^ 8) s.pending
+  pub bytes : AreBytes s.pending
   pub few : length s.pending < 64
   pub high_absorbed : s.high ≡ true → s.absorbed ≡ true
   pub high_version : s.high ≡ true → v ≡ 4

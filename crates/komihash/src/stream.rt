@@ -3,7 +3,7 @@
 ghost use Rattle.std.specs.Prelude.{◌≡◌, ℕ, ◌+◌, ◌<◌, ◌≤◌, ◌⊎◌, ◌++◌, length, drop};
 ghost use Rattle.komihash.specs.Calls.{answers, onward, bytes_of_calls, onward_products, onward_kept, run_products, run_kept};
 ghost use Rattle.komihash.specs.Counts.{write_products, answer_products, kept_bytes};
-ghost use Rattle.komihash.specs.Stream.{State, start, absorb, answer};
+ghost use Rattle.komihash.specs.Stream.{State, IsState, start, absorb, answer};
 
 use crate::tally::Tally;
 
@@ -20,6 +20,7 @@ pub trait KomiStream: Sized + Drop {
     /// The new stream of a seed; the tally rises by one product.
     fn start(seed: u64, tally: &mut Tally) -> Self
         ensures state { state result ≡ start seed }
+        ensures is_state { IsState VERSION (state result) }
         ensures products { tally.new.products ≡ tally.old.products + 1 }
         ensures kept { tally.new.kept ≡ tally.old.kept };
 
@@ -27,6 +28,7 @@ pub trait KomiStream: Sized + Drop {
     /// bytes that are kept.
     fn absorb(&mut self, bytes: &[u8], tally: &mut Tally)
         ensures state { state self.new ≡ absorb VERSION (state self.old) bytes.now }
+        ensures is_state { IsState VERSION (state self.new) }
         ensures products { tally.new.products
             ≡ tally.old.products + write_products (length (state self.old).pending) (length bytes.now) }
         ensures kept { tally.new.kept
@@ -36,6 +38,7 @@ pub trait KomiStream: Sized + Drop {
     /// it is, and may go on.
     fn answer(&self, tally: &mut Tally) -> u64
         ensures answer { result ≡ answer VERSION (state self.now) }
+        ensures is_state { IsState VERSION (state self.now) }
         ensures products { tally.new.products
             ≡ tally.old.products + answer_products (length (state self.now).pending) }
         ensures kept { tally.new.kept ≡ tally.old.kept };
@@ -58,10 +61,11 @@ fn run_calls<S: KomiStream>(
     tally: &mut Tally,
 ) -> usize
     requires room { length calls.now ≤ length out.old }
-    requires few { length (S.state stream.old).pending < 64 }
+    requires is_state { IsState S.VERSION (S.state stream.old) }
     ensures answers { out.new ≡ onward S.VERSION (S.state stream.old) calls.now ++ drop result out.old }
     ensures count { result ≡ length (onward S.VERSION (S.state stream.old) calls.now) }
     ensures state { S.state stream.new ≡ absorb S.VERSION (S.state stream.old) (bytes_of_calls calls.now) }
+    ensures is_state { IsState S.VERSION (S.state stream.new) }
     ensures products { tally.new.products
         ≡ tally.old.products + onward_products (length (S.state stream.old).pending) calls.now }
     ensures kept { tally.new.kept

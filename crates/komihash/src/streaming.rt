@@ -4,7 +4,7 @@ ghost use Rattle.std.specs.Prelude.{◌≡◌, ℕ, true, ◌+◌, ◌-◌, ◌*
 ghost use Rattle.komihash.specs.Counts.{write_products, answer_products, kept_bytes};
 ghost use Rattle.komihash.specs.Halves.{lanes_in};
 ghost use Rattle.komihash.specs.Kept.{Holds};
-ghost use Rattle.komihash.specs.Stream.{start, absorb, answer, is_high};
+ghost use Rattle.komihash.specs.Stream.{IsState, start, absorb, answer, is_high};
 ghost use Rattle.komihash.specs.Tails.{whole_words, block_lanes, after_blocks};
 ghost use Rattle.komihash.specs.Words.{padding_byte};
 
@@ -141,6 +141,7 @@ impl<const V: u8> Streaming<V> {
     #[inline(always)]
     pub(crate) fn start(seed: u64, tally: &mut Tally) -> Self
         ensures state { result ≡ start seed }
+        ensures is_state { IsState V result }
         ensures products { tally.new.products ≡ tally.old.products + 1 }
         ensures kept { tally.new.kept ≡ tally.old.kept }
     {
@@ -157,6 +158,7 @@ impl<const V: u8> Streaming<V> {
     #[inline(always)]
     pub(crate) fn write(&mut self, bytes: &[u8], tally: &mut Tally)
         ensures state { self.new ≡ absorb V self.old bytes.now }
+        ensures is_state { IsState V self.new }
         ensures products { tally.new.products
             ≡ tally.old.products + write_products (length self.old.pending) (length bytes.now) }
         ensures kept { tally.new.kept
@@ -184,6 +186,7 @@ impl<const V: u8> Streaming<V> {
     #[inline(always)]
     pub(crate) fn finish(&self, tally: &mut Tally) -> u64
         ensures answer { result ≡ answer V self.now }
+        ensures is_state { IsState V self.now }
         ensures products { tally.new.products ≡ tally.old.products + answer_products (length self.now.pending) }
         ensures kept { tally.new.kept ≡ tally.old.kept }
     {

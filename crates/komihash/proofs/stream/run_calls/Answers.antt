@@ -23,17 +23,17 @@ loop-call-preserved g c =
           let bytes = w.in-Absorb.bytes.now in
           let next = next_call calls i _ (Absorb w.in-Absorb.bytes) c.loop-call-test.true w.in-Absorb.is in
           let is : after ≡ absorb v before bytes = ap g.S.KomiStream.state w.stream-is ∙ w.absorb.ensures.state in
-          let size : length after.pending ≡ (length before.pending + length bytes) % 64 = ap (λ s. length s.pending) is ∙ pending-absorb v before bytes kept_so_far.few in
+          let size : length after.pending ≡ (length before.pending + length bytes) % 64 = ap (λ s. length s.pending) is ∙ pending-absorb v before bytes kept_so_far.is_state.few in
           let answers : onward v before (drop i calls) ≡ onward v after rest = ap (onward v before) next ∙ onward-absorb v before bytes rest ∙ ap (λ s. onward v s rest) (sym is) in
           let state : absorb v before (bytes_of_calls (drop i calls)) ≡ absorb v after (bytes_of_calls rest) =
           ap (λ left. absorb v before (bytes_of_calls left)) next ∙ absorb-append v before bytes (bytes_of_calls rest) ∙ ap (λ s. absorb v s (bytes_of_calls rest)) (sym is) in
           let products : onward_products (length before.pending) (drop i calls) ≡ write_products (length before.pending) (length bytes) + onward_products (length after.pending) rest =
           ap (onward_products (length before.pending)) next ∙ sym (onward_products-absorb (length before.pending) (length after.pending) bytes rest size) in
           let kept : onward_kept (length before.pending) (drop i calls) ≡ kept_bytes (length before.pending) (length bytes) + onward_kept (length after.pending) rest =
-          ap (onward_kept (length before.pending)) next ∙ sym (onward_kept-absorb (length before.pending) (length after.pending) (length bytes) rest kept_so_far.few size) in
+          ap (onward_kept (length before.pending)) next ∙ sym (onward_kept-absorb (length before.pending) (length after.pending) (length bytes) rest kept_so_far.is_state.few size) in
           record {
             count = omega arith;
-            few = omega arith;
+            is_state = rw w.stream-is w.absorb.ensures.is_state;
             answers = cc;
             beyond = cc;
             state = sym state ∙ kept_so_far.state;
@@ -53,12 +53,12 @@ loop-call-preserved g c =
           let state : absorb v before (bytes_of_calls (drop i calls)) ≡ absorb v after (bytes_of_calls rest) =
           ap (λ left. absorb v before (bytes_of_calls left)) next ∙ ap (λ s. absorb v s (bytes_of_calls rest)) (sym is) in
           let products : onward_products (length before.pending) (drop i calls) ≡ answer_products (length before.pending) + onward_products (length after.pending) rest =
-          ap (onward_products (length before.pending)) next ∙ sym (onward_products-answer (length before.pending) rest kept_so_far.few) ∙ ap (λ s. answer_products (length before.pending) + onward_products (length s.pending) rest) (sym is) in
+          ap (onward_products (length before.pending)) next ∙ sym (onward_products-answer (length before.pending) rest kept_so_far.is_state.few) ∙ ap (λ s. answer_products (length before.pending) + onward_products (length s.pending) rest) (sym is) in
           let kept : onward_kept (length before.pending) (drop i calls) ≡ onward_kept (length after.pending) rest =
           ap (onward_kept (length before.pending)) next ∙ ap (λ s. onward_kept (length s.pending) rest) (sym is) in
           record {
             count = omega arith;
-            few = rw is kept_so_far.few;
+            is_state = rw w.stream-is kept_so_far.is_state;
             answers = rw now (append_assoc (take count out) (w.answer.result ∷ []) (onward v after rest) ∙ ap (λ xs. take count out ++ xs) (sym answers) ∙ kept_so_far.answers);
             beyond = more ∙ sym (drop-drop 1 count out) ∙ ap (drop 1) kept_so_far.beyond ∙ drop-drop 1 count c.args.out.now ∙ ap (λ n. drop n c.args.out.now) (sym w.count-is);
             state = sym state ∙ kept_so_far.state;

@@ -1,7 +1,7 @@
 -- what the calls that are left give and cost completes what all calls do
-use Rattle.std.proofs.Common.{◌≡◌, ◌+◌, ◌<◌, ◌≤◌, ◌++◌, length, take, drop}
+use Rattle.std.proofs.Common.{◌≡◌, ◌+◌, ◌≤◌, ◌++◌, length, take, drop}
 use Rattle.komihash.specs.Calls.{onward, bytes_of_calls, onward_products, onward_kept}
-use Rattle.komihash.specs.Stream.{absorb}
+use Rattle.komihash.specs.Stream.{IsState, absorb}
 use Rattle.komihash.proofs.stream.run_calls.Given as goal
 
 abbrev pub invariant-loop-call : goal.invariant-loop-call
@@ -12,7 +12,7 @@ invariant-loop-call g l =
     let left = drop l.call-index l.calls in
     record {
       count : l.count ≤ l.call-index;
-      few : length now.pending < 64;
+      is_state : IsState v now;
       answers : take l.count l.out ++ onward v now left ≡ onward v first l.calls;
       beyond : drop l.count l.out ≡ drop l.count l.fn.out;
       state : absorb v now (bytes_of_calls left) ≡ absorb v first (bytes_of_calls l.calls);

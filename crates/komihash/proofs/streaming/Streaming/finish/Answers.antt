@@ -5,7 +5,7 @@ use Rattle.komihash.specs.Kept.{held}
 use Rattle.komihash.specs.Rounds.{joined}
 use Rattle.komihash.specs.Stream.{answer}
 use Rattle.komihash.specs.Tails.{tail_end}
-use Rattle.komihash.proofs.StreamSteps.{Holds-held, answers_none, answers_some, pending_shown}
+use Rattle.komihash.proofs.StreamSteps.{Holds-held, answers_none, answers_some, pending_shown, is_state}
 use Rattle.komihash.proofs.streaming.Streaming.finish.Goals as goal
 
 pub returns-then-self-clause-answer : goal.returns-then-self-clause-answer
@@ -51,3 +51,12 @@ returns-clause-products g c =
     let s = c.self.inside in
     let size = pending_shown s.lanes s.words s.fill s.absorbed s.high c.args.self.now c.self.view_is c.self.told.1 c.self.invariant.few in
     omega (arith, length-take (s.fill / 8) s.words, c.self.told.1, c.self.invariant.few)
+
+pub returns-then-self-clause-is_state : goal.returns-then-self-clause-is_state
+returns-then-self-clause-is_state g c = is_state g.row.V c.self.inside.lanes c.self.inside.words c.self.inside.fill c.self.inside.absorbed c.self.inside.high _ c.self.view_is c.self.invariant
+
+pub returns-else-self-clause-is_state : goal.returns-else-self-clause-is_state
+returns-else-self-clause-is_state g c = is_state g.row.V c.self.inside.lanes c.self.inside.words c.self.inside.fill c.self.inside.absorbed c.self.inside.high _ c.self.view_is c.self.invariant
+
+pub returns-clause-is_state : goal.returns-clause-is_state
+returns-clause-is_state g c = is_state g.row.V c.self.inside.lanes c.self.inside.words c.self.inside.fill c.self.inside.absorbed c.self.inside.high _ c.self.view_is c.self.invariant

@@ -2,7 +2,7 @@ use Rattle.std.proofs.Common.{◌∙◌, ap}
 use Rattle.komihash.specs.Kept.{held}
 use Rattle.komihash.specs.Rounds.{lanes}
 use Rattle.komihash.specs.Stream.{start}
-use Rattle.komihash.proofs.StreamSteps.{keeps_nothing}
+use Rattle.komihash.proofs.StreamSteps.{keeps_nothing, IsKept-state}
 use Rattle.komihash.proofs.streaming.Streaming.start.Goals as goal
 
 pub invariant_of-result : goal.invariant_of-result
@@ -12,3 +12,7 @@ pub returns-clause-state : goal.returns-clause-state
 unfolding held
 returns-clause-state g c =
     ap (λ l. record (start c.args.seed) { lanes = l }) (c.lanes.ensures ∙ ap lanes c.seeded.ensures.pair)
+
+pub returns-clause-is_state : goal.returns-clause-is_state
+returns-clause-is_state g c =
+    IsKept-state g.row.V c.lanes.result _ 0 _ _ (keeps_nothing g.row.V)

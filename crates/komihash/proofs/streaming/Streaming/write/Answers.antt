@@ -2,7 +2,7 @@ use Rattle.std.proofs.Common.{◌≡◌, ◌∙◌, ap, arith, length}
 use Rattle.std.proofs.lemmas.Bool.Decides.{nat_tests}
 use Rattle.komihash.specs.Kept.{held}
 use Rattle.komihash.specs.Stream.{absorb}
-use Rattle.komihash.proofs.StreamSteps.{pending_shown, holds, keeps, shows, keeps_left, shows_left}
+use Rattle.komihash.proofs.StreamSteps.{pending_shown, holds, keeps, shows, keeps_left, shows_left, IsKept-state}
 use Rattle.komihash.proofs.WordsOfBytes.{AreBytes-typed}
 use Rattle.komihash.proofs.streaming.Streaming.write.Goals as goal
 
@@ -53,3 +53,12 @@ pub returns-else-bytes-fill-clause-kept : goal.returns-else-bytes-fill-clause-ke
 returns-else-bytes-fill-clause-kept g c =
     let size : length c.args.self.now.pending ≡ c.self.inside.fill = pending_shown c.self.inside.lanes c.self.inside.words c.self.inside.fill c.self.inside.absorbed c.self.inside.high c.args.self.now c.self.view_is c.self.told.1 c.self.invariant.few in
     rw size c.write_blocks-left.ensures.kept
+
+pub returns-then-bytes-fill-clause-is_state : goal.returns-then-bytes-fill-clause-is_state
+returns-then-bytes-fill-clause-is_state g c =
+    IsKept-state g.row.V c.self.inside.lanes c.put.new.words _ _ _ (invariant_of-self g c)
+
+pub returns-else-bytes-fill-clause-is_state : goal.returns-else-bytes-fill-clause-is_state
+returns-else-bytes-fill-clause-is_state g c =
+    let w = c.write_blocks-left in
+    IsKept-state g.row.V w.new.lanes w.new.words _ _ _ (invariant_of-self-else-bytes-fill g c)
