@@ -1,4 +1,4 @@
-use Rattle.std.proofs.Common.{◌∙◌, ap}
+use Rattle.std.proofs.Common.{false, ◌∙◌, ap}
 use Rattle.komihash.specs.Kept.{held}
 use Rattle.komihash.specs.Rounds.{lanes}
 use Rattle.komihash.specs.Stream.{start}
@@ -15,4 +15,4 @@ returns-clause-state g c =
 
 pub returns-clause-is_state : goal.returns-clause-is_state
 returns-clause-is_state g c =
-    IsKept-state g.row.V c.lanes.result _ 0 _ _ (keeps_nothing g.row.V)
+    IsKept-state g.row.V (record { lanes = c.lanes.result; words = _; fill = 0; absorbed = false; high = false }) (keeps_nothing g.row.V)
