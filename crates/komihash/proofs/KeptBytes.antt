@@ -183,12 +183,12 @@ last-filled (suc n) xs i h e lt =
 
 -- ---- what words hold
 
-length-bytes_of : (n w : ℕ) → length (bytes_of n w) ≡ n
+pub length-bytes_of : (n w : ℕ) → length (bytes_of n w) ≡ n
 unfolding bytes_of
 length-bytes_of zero w = refl
 length-bytes_of (suc n) w = ap suc (length-bytes_of n (w / 256))
 
-length-all_bytes : (ws : List ℕ) → length (all_bytes ws) ≡ 8 * length ws
+pub length-all_bytes : (ws : List ℕ) → length (all_bytes ws) ≡ 8 * length ws
 length-all_bytes [] = refl
 length-all_bytes (w ∷ ws) =
     omega (arith, length-append (bytes_of 8 w) (all_bytes ws), length-bytes_of 8 w, length-all_bytes ws)

@@ -4,6 +4,7 @@ pub mod Appending
 pub mod BegunBlock
 pub mod Blocks
 pub mod Facts
+pub mod Filling
 pub mod HashSteps
 pub mod KeptBytes
 pub mod KeptHalves

@@ -1,5 +1,6 @@
 pub mod Calls
 pub mod Counts
+pub mod Generator
 pub mod Halves
 pub mod Hash
 pub mod Kept

@@ -5,6 +5,7 @@
 #![tactic(auto)]
 
 mod ending;
+mod generator;
 pub mod laws;
 mod one_shot;
 mod padding;

@@ -1,0 +1,28 @@
+use Rattle.std.proofs.Common.{◌-◌, ◌∙◌, refl, length, take, drop, set, get_or, arith, ap}
+use Rattle.komihash.specs.Kept.{bytes_of}
+use Rattle.komihash.proofs.Filling.{to_le_bytes-word, two_pieces, one_byte}
+use Rattle.komihash.proofs.KeptBytes.{length-bytes_of}
+use Rattle.komihash.proofs.generator.write_lowest.Goals as goal
+
+pub returns-then-n-ge4 : goal.returns-then-n-ge4
+returns-then-n-ge4 c =
+    let n = length c.args.out.now in
+    let bytes = c.to_le_bytes-bytes.ensures ∙ to_le_bytes-word c.args.word in
+    let size = length-bytes_of 8 c.args.word in
+    two_pieces 4 n (bytes_of 8 c.args.word) c.args.out.now c.copy_from_slice.new.self c.copy_from_slice-then-n-ge4.new.self refl (omega arith) (omega arith) (omega arith)
+    (c.copy_from_slice.ensures.after ∙ ap (take 4) bytes)
+    (c.copy_from_slice-then-n-ge4.ensures.after ∙ ap (λ bs. take (n - (n - 4)) (drop (n - 4) bs)) bytes)
+
+pub returns-then-n-ge2 : goal.returns-then-n-ge2
+returns-then-n-ge2 c =
+    let n = length c.args.out.now in
+    let bytes = c.to_le_bytes-bytes.ensures ∙ to_le_bytes-word c.args.word in
+    let size = length-bytes_of 8 c.args.word in
+    two_pieces 2 n (bytes_of 8 c.args.word) c.args.out.now c.copy_from_slice-then-n-ge2.new.self c.copy_from_slice-then-n-ge2-2.new.self refl (omega arith) (omega arith) (omega arith)
+    (c.copy_from_slice-then-n-ge2.ensures.after ∙ ap (take 2) bytes)
+    (c.copy_from_slice-then-n-ge2-2.ensures.after ∙ ap (λ bs. take (n - (n - 2)) (drop (n - 2) bs)) bytes)
+
+pub returns-then-n-eq1 : goal.returns-then-n-eq1
+returns-then-n-eq1 c =
+    ap (λ bs. set c.args.out.now 0 (get_or bs 0 0)) c.to_le_bytes-bytes.ensures
+    ∙ one_byte c.args.out.now c.args.word c.if-n-eq1.true

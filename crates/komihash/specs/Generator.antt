@@ -1,0 +1,41 @@
+-- The generator: a pair of words, what a step makes of it, and the bytes that its outputs are.
+use Rattle.std.specs.Prelude.{ℕ, zero, suc, ◌+◌, ◌*◌, ◌/◌, List, [], ◌∷◌, take, bit_xor, ◌==◌, if◌then◌else◌}
+use Rattle.komihash.specs.Kept.{all_bytes}
+use Rattle.komihash.specs.Rounds.{low, high, plus}
+
+-- the second word after a step, in both versions
+abbrev pub next_second : ℕ × ℕ → ℕ
+next_second s = plus (plus s.1 (high (s.0 * s.1))) 0xaaaaaaaaaaaaaaaa
+
+-- the first word after a step of version v: it is the step's output
+abbrev pub next_first : ℕ → ℕ × ℕ → ℕ
+next_first v s =
+    if v == 4
+    then bit_xor (low (s.0 * s.1)) (next_second s)
+    else plus (bit_xor (low (s.0 * s.1)) (high (s.0 * s.1))) 0x5555555555555555
+
+-- the pair after a step of version v
+unfoldable pub next : ℕ → ℕ × ℕ → ℕ × ℕ
+next v s = (next_first v s, next_second s)
+
+-- the pair after n steps
+unfoldable pub after_steps : ℕ → ℕ → ℕ × ℕ → ℕ × ℕ
+after_steps v zero s = s
+after_steps v (suc n) s = after_steps v n (next v s)
+
+-- the next n outputs
+unfoldable pub outputs : ℕ → ℕ → ℕ × ℕ → List ℕ
+outputs v zero s = []
+outputs v (suc n) s = (next v s).0 ∷ outputs v n (next v s)
+
+-- how many outputs a fill of n bytes takes: one for each eight bytes, and one more for a rest
+abbrev pub fill_steps : ℕ → ℕ
+fill_steps n = (n + 7) / 8
+
+-- what a fill of n bytes writes: the first n bytes of the outputs that it takes
+abbrev pub fill : ℕ → ℕ × ℕ → ℕ → List ℕ
+fill v s n = take n (all_bytes (outputs v (fill_steps n) s))
+
+-- the pair after a fill of n bytes
+abbrev pub after_fill : ℕ → ℕ × ℕ → ℕ → ℕ × ℕ
+after_fill v s n = after_steps v (fill_steps n) s
