@@ -1,4 +1,5 @@
 pub mod Calls
+pub mod Chain
 pub mod Counts
 pub mod Generator
 pub mod Halves
