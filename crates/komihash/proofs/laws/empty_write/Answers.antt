@@ -1,5 +1,5 @@
 use Rattle.komihash.proofs.Runs.{absorb-nothing}
 use Rattle.komihash.proofs.laws.empty_write.Goals as goal
 
-pub returns : goal.returns
-returns c = absorb-nothing
+pub returns-clause-stream : goal.returns-clause-stream
+returns-clause-stream c = absorb-nothing
