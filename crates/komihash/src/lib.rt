@@ -18,3 +18,5 @@ mod tests;
 mod utils;
 pub mod v4;
 pub mod v5;
+
+pub use v5::{KomiHasher, Komirand, StreamedKomihash, komihash};
