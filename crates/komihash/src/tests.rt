@@ -1,8 +1,11 @@
 //! Tests of what the contracts do not say: that the definitions mean what they should.
 
+mod chain;
 mod definitions;
+mod generator;
 mod hash;
 mod messages;
+mod root;
 mod rounds;
 mod stream;
 mod tally;
