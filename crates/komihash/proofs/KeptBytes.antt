@@ -118,7 +118,7 @@ word_of-shl xs o h le =
           ∙ ap (λ z. word_of z * 2 ^ (8 * o)) (sym (take_all (8 - o) xs few))
     ]
 
-length-after_words : (xs : List ℕ) → length (after_words xs) ≡ length xs % 8
+pub length-after_words : (xs : List ℕ) → length (after_words xs) ≡ length xs % 8
 length-after_words xs = ap length (after_words-drop xs) ∙ omega (arith, length-drop (length xs - length xs % 8) xs)
 
 -- a word joined to the begun one: what fits of its bytes is held too

@@ -13,3 +13,5 @@ pub mod Runs
 pub mod StreamSteps
 pub mod WordsOfBytes
 pub mod Xor
+pub mod CopiedBytes
+pub mod PaddedBack

@@ -10,7 +10,7 @@ use Rattle.komihash.specs.Words.{AreBytes, word_of}
 pub AreBytes-typed : (xs : List ℕ) → ((k : ℕ) → Fits w8 (get_or xs k 0)) → AreBytes xs
 AreBytes-typed xs h k = (h k).fits
 
-pow_byte : (n : ℕ) → 2 ^ (8 * suc n) ≡ 256 * 2 ^ (8 * n)
+pub pow_byte : (n : ℕ) → 2 ^ (8 * suc n) ≡ 256 * 2 ^ (8 * n)
 pow_byte n = let e : 8 * suc n ≡ 8 + 8 * n = omega arith in ap (λ k. 2 ^ k) e ∙ pow-add 2 8 (8 * n)
 
 -- the word of two pieces, the second as high as the first is long

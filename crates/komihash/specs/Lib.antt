@@ -9,3 +9,4 @@ pub mod Rounds
 pub mod Stream
 pub mod Tails
 pub mod Words
+pub mod Padding

@@ -8,6 +8,7 @@ mod ending;
 mod generator;
 pub mod laws;
 mod one_shot;
+mod padded;
 mod padding;
 mod rounds;
 pub mod stream;

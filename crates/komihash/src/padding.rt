@@ -1,6 +1,6 @@
 //! The word that ends the padded words of a message.
 
-ghost use Rattle.std.specs.Prelude.{◌≡◌, ◌+◌, ◌<◌, ◌≤◌, length};
+ghost use Rattle.std.specs.Prelude.{◌≡◌, ◌+◌, ◌<◌, ◌≤◌, ◌==◌, ◌&&◌, length, nat_le, if◌then◌else◌};
 ghost use Rattle.komihash.specs.Tails.{end_byte, final_word};
 
 use crate::utils::{read_partial_word, word_at};
@@ -42,4 +42,12 @@ pub(crate) fn final_of_many(bytes: &[u8], end: u64) -> u64
 {
     let last = word_at(bytes, bytes.len() - 8);
     (last >> 4 | end << 60) >> (60 - 8 * (bytes.len() % 8))
+}
+
+/// The padding byte of a message that ends with this byte.
+#[inline(always)]
+pub(crate) fn padding_byte<const V: u8>(last: u8) -> u64
+    ensures { result ≡ (if V == 4 && nat_le 128 last then 2 else 1) }
+{
+    if V == 4 { 1 + u64::from(last >> 7) } else { 1 }
 }

@@ -1,16 +1,18 @@
 //! Komihash version 4.
 
-ghost use Rattle.std.specs.Prelude.{◌≡◌, ◌+◌, length};
+ghost use Rattle.std.specs.Prelude.{◌≡◌, ◌+◌, ◌*◌, ◌/◌, ◌≤◌, ◌↔◌, IfSome, IfNone, IsNone, length, take, drop};
 ghost use Rattle.komihash.specs.Counts.{hash_products, write_products, answer_products, kept_bytes};
 ghost use Rattle.komihash.specs.Generator.{next, after_steps, fill, after_fill};
 ghost use Rattle.komihash.specs.Hash.{komi};
+ghost use Rattle.komihash.specs.Padding.{ArePadded};
 ghost use Rattle.komihash.specs.Stream.{start, absorb, answer};
+ghost use Rattle.komihash.specs.Words.{words as padded_words};
 
 use crate::generator::Generator;
-use crate::one_shot;
 use crate::stream::KomiStream;
 use crate::streaming::Streaming;
 use crate::tally::Tally;
+use crate::{one_shot, padded};
 use std::hash::Hasher;
 use std::marker::Model;
 
@@ -254,4 +256,35 @@ impl Komirand {
     {
         self.generator.fill_bytes(buffer, &mut Tally::new());
     }
+}
+
+/// Writes the padded words of a message, and answers how many they are: one for each eight bytes
+/// of the message, and one more.
+///
+/// They stand first in `out`, which must have room for them. What is behind them is not touched.
+#[inline]
+pub fn pad(bytes: &[u8], out: &mut [u64]) -> usize
+    requires { length bytes.now / 8 + 1 ≤ length out.old }
+    ensures count { result ≡ length bytes.now / 8 + 1 }
+    ensures padded { take result out.new ≡ padded_words 4 bytes.now }
+    ensures rest { drop result out.new ≡ drop result out.old }
+{
+    padded::pad::<4>(bytes, out)
+}
+
+/// Reads padded words back: writes the message that has them, and answers its length in bytes.
+///
+/// The message stands first in `out`, which must have eight bytes for each word. What is behind it
+/// is not touched. The answer is `None`, and `out` as it was, where no message has these words in
+/// this version.
+#[inline]
+pub fn unpad(words: &[u64], out: &mut [u8]) -> Option<usize>
+    requires { 8 * length words.now ≤ length out.old }
+    ensures length { IfSome result (λ n. n / 8 + 1 ≡ length words.now) }
+    ensures message { IfSome result (λ n. padded_words 4 (take n out.new) ≡ words.now) }
+    ensures rest { IfSome result (λ n. drop n out.new ≡ drop n out.old) }
+    ensures none { IsNone result ↔ ¬ ArePadded 4 words.now }
+    ensures unchanged { IfNone result (out.new ≡ out.old) }
+{
+    padded::unpad::<4>(words, out)
 }

@@ -1,0 +1,10 @@
+-- The bytes of the words so far, and behind them what was there.
+use Rattle.std.proofs.Common.{◌≡◌, ◌*◌, take, drop}
+use Rattle.komihash.specs.Kept.{all_bytes}
+use Rattle.komihash.proofs.padded.copies.write_bytes.Given as goal
+
+abbrev pub invariant-whole : goal.invariant-whole
+invariant-whole l = record {
+  bytes : take (8 * l.i) l.out ≡ take (8 * l.i) (all_bytes l.words);
+  rest : drop (8 * l.i) l.out ≡ drop (8 * l.i) l.fn.out;
+}

@@ -1,0 +1,37 @@
+//! Bytes copied into words, and words into bytes.
+
+ghost use Rattle.std.specs.Prelude.{◌≡◌, ◌*◌, ◌/◌, ◌≤◌, ◌++◌, length, take, drop};
+ghost use Rattle.komihash.specs.Kept.{all_bytes};
+ghost use Rattle.komihash.specs.Tails.{whole_words};
+
+use crate::utils::word_at;
+
+/// Writes the whole words of the bytes.
+#[inline(always)]
+pub(crate) fn write_words(bytes: &[u8], out: &mut [u64])
+    requires { length bytes.now / 8 ≤ length out.old }
+    ensures words { take (length bytes.now / 8) out.new ≡ whole_words bytes.now }
+    ensures rest { drop (length bytes.now / 8) out.new ≡ drop (length bytes.now / 8) out.old }
+{
+    'whole: for i in 0..bytes.len() / 8 {
+        out[i] = word_at(bytes, 8 * i);
+    }
+}
+
+/// Writes the first bytes of the words.
+#[inline(always)]
+pub(crate) fn write_bytes(words: &[u64], count: usize, out: &mut [u8])
+    requires within { count ≤ 8 * length words.now }
+    requires room { 8 * length words.now ≤ length out.old }
+    ensures bytes { take count out.new ≡ take count (all_bytes words.now) }
+    ensures rest { drop count out.new ≡ drop count out.old }
+{
+    let whole = count / 8;
+    'whole: for i in 0..whole {
+        out[8 * i..8 * i + 8].copy_from_slice(&words[i].to_le_bytes());
+    }
+    let over = count % 8;
+    if over > 0 {
+        out[8 * whole..count].copy_from_slice(&words[whole].to_le_bytes()[..over]);
+    }
+}

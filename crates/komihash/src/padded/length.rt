@@ -1,0 +1,70 @@
+//! The length of the message that words were padded from.
+
+ghost use Rattle.std.specs.Prelude.{◌≡◌, ◌+◌, ◌*◌, ◌/◌, ◌^◌, ◌<◌, ◌≤◌, ◌↔◌, IfSome, IfNone, IsTrue, length, take, slice_index};
+ghost use Rattle.komihash.specs.Kept.{all_bytes};
+ghost use Rattle.komihash.specs.Padding.{ArePadded};
+ghost use Rattle.komihash.specs.Words.{words as padded_words, padding_byte};
+
+use crate::padding::padding_byte;
+
+// The place of a word's highest byte that is not 0.
+#[inline(always)]
+fn highest_place(word: u64) -> usize
+    requires { 0 < word }
+    ensures place { result < 8 }
+    ensures above { 2 ^ (8 * result) ≤ word }
+    ensures below { word < 2 ^ (8 * result + 8) }
+{
+    (word.ilog2() / 8) as usize
+}
+
+// The byte of words at a place.
+#[inline(always)]
+fn byte_at(words: &[u64], at: usize) -> u8
+    requires { at < 8 * length words.now }
+    ensures { result ≡ slice_index (all_bytes words.now) at }
+{
+    words[at / 8].to_le_bytes()[at % 8]
+}
+
+// Whether a byte is the padding byte of the first bytes of words.
+#[inline(always)]
+#[tactic(auto, using(crate::proofs::PaddedBack::padding_byte_at))]
+fn is_padding_byte<const V: u8>(byte: u64, words: &[u64], count: usize) -> bool
+    requires some { 0 < count }
+    requires within { count ≤ 8 * length words.now }
+    ensures { IsTrue result ↔ (byte ≡ padding_byte V (take count (all_bytes words.now))) }
+{
+    byte == padding_byte::<V>(byte_at(words, count - 1))
+}
+
+/// The length of the message whose padded words in version V these are, where there is one.
+///
+/// The last word's highest nonzero byte can only be the padding byte, which the byte before it
+/// decides.
+#[inline(always)]
+pub(crate) fn message_length<const V: u8>(words: &[u64]) -> Option<usize>
+    requires { 8 * length words.now < 2 ^ 64 }
+    ensures length { IfSome result (λ n. n / 8 + 1 ≡ length words.now) }
+    ensures message { IfSome result (λ n. padded_words V (take n (all_bytes words.now)) ≡ words.now) }
+    ensures none { IfNone result (¬ ArePadded V words.now) }
+{
+    let count = words.len();
+    if count == 0 {
+        return None;
+    }
+    let last = words[count - 1];
+    if last == 0 {
+        return if count == 1 { Some(0) } else { None };
+    }
+    let place = highest_place(last);
+    let length = 8 * (count - 1) + place;
+    if length == 0 {
+        return None;
+    }
+    if is_padding_byte::<V>(last >> (8 * place), words, length) {
+        Some(length)
+    } else {
+        None
+    }
+}
