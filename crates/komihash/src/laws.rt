@@ -11,6 +11,7 @@ ghost use Rattle.komihash.specs.Rounds.{seed_words, constant};
 ghost use Rattle.komihash.specs.Stream.{State, start, absorb, answer};
 ghost use Rattle.komihash.specs.declared.stream.Call.{Call};
 ghost use Rattle.komihash.specs.declared.stream.Call.TheVariants.{Answer};
+ghost use Rattle.komihash.specs.Words.{AreBytes, words};
 
 /// A seed can be told from its two words before the first product, so no two seeds share them.
 pub fn seed_back()
@@ -59,4 +60,9 @@ pub fn one_seed()
         ≡ fill v (seed, seed) 32 ++ fill v (after_steps v 4 (seed, seed)) n }
     ensures pair { (v seed n : ℕ) → after_fill v (seed, seed) (32 + n)
         ≡ after_fill v (after_steps v 4 (seed, seed)) n }
+{}
+
+/// Padding loses nothing: two messages with the same padded words in one version are the same.
+pub fn same_words()
+    ensures { (v : ℕ) (x y : List ℕ) → AreBytes x → AreBytes y → words v x ≡ words v y → x ≡ y }
 {}

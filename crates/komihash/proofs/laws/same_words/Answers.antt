@@ -1,0 +1,5 @@
+use Rattle.komihash.proofs.PaddedBack.{same_message}
+use Rattle.komihash.proofs.laws.same_words.Goals as goal
+
+pub returns : goal.returns
+returns c v x y xs ys same = same_message v x y xs ys same
