@@ -19,7 +19,6 @@ take-set_next xs ws i w within some before is =
 
 pub drop-set_next : (xs old : List ℕ) (i w : ℕ) → drop i xs ≡ drop i old → drop (i + 1) (set xs i w) ≡ drop (i + 1) old
 drop-set_next xs old i w e =
-    let n : i + 1 ≡ i + 1 = refl in
     drop-set-lt (i + 1) xs i w (omega arith) ∙ sym (drop-drop 1 i xs) ∙ ap (drop 1) e ∙ drop-drop 1 i old
 
 -- ---- bytes

@@ -1,7 +1,7 @@
 //! Padded words written, and read back.
 
-pub(crate) mod copies;
-pub(crate) mod length;
+mod copies;
+mod length;
 
 ghost use Rattle.std.specs.Prelude.{◌≡◌, ◌+◌, ◌*◌, ◌/◌, ◌≤◌, ◌↔◌, IfSome, IfNone, IsNone, length, take, drop};
 ghost use Rattle.komihash.specs.Padding.{ArePadded};

@@ -5,6 +5,7 @@ mod definitions;
 mod generator;
 mod hash;
 mod messages;
+mod padding;
 mod root;
 mod rounds;
 mod stream;
