@@ -1,13 +1,12 @@
 -- Lists written over piece by piece: words by an index, and bytes by ranges.
-use Rattle.std.proofs.Common.{◌≡◌, ℕ, zero, suc, ◌+◌, ◌*◌, ◌/◌, ◌<◌, ◌≤◌, List, [], ◌∷◌, ◌++◌, length, take, drop, get_or, set, refl, ap, arith, ◌∙◌, sym, w64}
+use Rattle.std.proofs.Common.{◌≡◌, ℕ, zero, suc, ◌+◌, ◌*◌, ◌<◌, ◌≤◌, List, [], ◌∷◌, ◌++◌, length, take, drop, get_or, set, refl, ap, arith, ◌∙◌, sym}
 use Rattle.std.proofs.Math.Seq.{take-suc, take-suc-set}
 use Rattle.std.proofs.lemmas.List.{drop-drop, drop-set-lt, take-append-le}
-use Rattle.std.proofs.lemmas.Nat.{shr-shr}
 use Rattle.std.proofs.lemmas.Slice.{take-put_mid, drop-put_mid}
-use Rattle.std.specs.Int.{to_le_bytes}
 use borrow.Rule.Slice.PartMut.{put_mid}
-use Rattle.komihash.specs.Kept.{bytes_of, all_bytes}
+use Rattle.komihash.specs.Words.{bytes_of, all_bytes}
 use Rattle.komihash.proofs.Appending.{take-more}
+use Rattle.komihash.proofs.KeptBytes.{length-bytes_of}
 
 -- ---- words
 
@@ -35,29 +34,7 @@ module _ (xs ys all old : List ℕ) (a k n : ℕ) (within : a + k ≤ length xs)
       drop-put_mid a k xs ys n (omega arith) (omega arith) size
       ∙ ap (λ n. drop n xs) (sym sum) ∙ sym (drop-drop k a xs) ∙ ap (drop k) e ∙ drop-drop k a old ∙ ap (λ n. drop n old) sum
 
--- the bytes of a word, as the machine has them
-pub to_le_bytes-bytes_of : (w : ℕ) → to_le_bytes w64 w ≡ bytes_of 8 w
-unfolding bytes_of
-to_le_bytes-bytes_of w =
-    let e2 : w / 256 / 256 ≡ w / 65536 = shr-shr w 8 8 in
-    let e3 : w / 65536 / 256 ≡ w / 16777216 = shr-shr w 16 8 in
-    let e4 : w / 16777216 / 256 ≡ w / 4294967296 = shr-shr w 24 8 in
-    let e5 : w / 4294967296 / 256 ≡ w / 1099511627776 = shr-shr w 32 8 in
-    let e6 : w / 1099511627776 / 256 ≡ w / 281474976710656 = shr-shr w 40 8 in
-    let e7 : w / 281474976710656 / 256 ≡ w / 72057594037927936 = shr-shr w 48 8 in
-    rw (e2, e3, e4, e5, e6, e7) refl
-
 -- ---- the bytes of words, by place
-
-pub length-bytes_of : (n w : ℕ) → length (bytes_of n w) ≡ n
-unfolding bytes_of
-length-bytes_of zero w = refl
-length-bytes_of (suc n) w = ap suc (length-bytes_of n (w / 256))
-
-pub length-all_bytes : (ws : List ℕ) → length (all_bytes ws) ≡ 8 * length ws
-unfolding bytes_of
-length-all_bytes [] = refl
-length-all_bytes (w ∷ ws) = omega (arith, length-all_bytes ws)
 
 pub drop-all_bytes : (ws : List ℕ) (i : ℕ) → i < length ws → drop (8 * i) (all_bytes ws) ≡ bytes_of 8 (get_or ws i 0) ++ drop (8 * suc i) (all_bytes ws)
 unfolding bytes_of

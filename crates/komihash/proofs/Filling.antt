@@ -8,7 +8,7 @@ use Rattle.std.proofs.Math.Seq.{take-append-add}
 use Rattle.std.specs.Int.{bytes_low_first, to_le_bytes}
 use borrow.Rule.Slice.PartMut.{put_mid}
 use Rattle.komihash.specs.Generator.{next, after_steps, outputs, fill, after_fill}
-use Rattle.komihash.specs.Kept.{bytes_of, all_bytes}
+use Rattle.komihash.specs.Words.{bytes_of, all_bytes}
 use Rattle.komihash.proofs.Appending.{take-to}
 use Rattle.komihash.proofs.KeptBytes.{length-bytes_of, length-all_bytes}
 

@@ -5,9 +5,9 @@ use Rattle.std.proofs.lemmas.Nat.{pow-add, shl_whole, shl_below, mod_low}
 use Rattle.std.proofs.Math.Nat.{add-mul, mul_assoc}
 use Rattle.std.proofs.lemmas.Bool.{cases_lt}
 use Rattle.std.specs.Prelude.{bit_or}
-use Rattle.komihash.specs.Kept.{filled, bytes_of, all_bytes, held}
+use Rattle.komihash.specs.Kept.{filled, held}
 use Rattle.komihash.specs.Tails.{after_words, whole_words, final_word}
-use Rattle.komihash.specs.Words.{AreBytes, word_of}
+use Rattle.komihash.specs.Words.{AreBytes, word_of, bytes_of, all_bytes}
 use Rattle.komihash.proofs.PaddedWords.{after_words-drop}
 use Rattle.komihash.proofs.WordsOfBytes.{AreBytes-take, AreBytes-drop, word_of-lt, word_of-append, word_of-or, word_of-push, word_of-shr}
 

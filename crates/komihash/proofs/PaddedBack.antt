@@ -6,13 +6,12 @@ use Rattle.std.proofs.lemmas.Bool.{cases_lt}
 use Rattle.std.proofs.lemmas.List.{length-append, length-take-le, take_all, get_or-take, get_or-drop, get_or_append_left, get_or_past}
 use Rattle.std.proofs.lemmas.Nat.{pow-add, pow_pos, shr-shr, shr_high}
 use Rattle.std.specs.Prelude.{slice_index, nat_le, if◌then◌else◌, ◌==◌, ◌&&◌}
-use Rattle.komihash.specs.Kept.{bytes_of, all_bytes}
 use Rattle.komihash.specs.Tails.{whole_words, after_words, final_word, end_byte}
-use Rattle.komihash.specs.Words.{AreBytes, word_of, words, padding_byte}
+use Rattle.komihash.specs.Words.{AreBytes, word_of, words, padding_byte, bytes_of, all_bytes}
 use Rattle.komihash.proofs.Appending.{take-more}
-use Rattle.komihash.proofs.CopiedBytes.{take-all_bytes, drop-all_bytes, length-bytes_of, length-all_bytes}
+use Rattle.komihash.proofs.CopiedBytes.{take-all_bytes, drop-all_bytes}
 use Rattle.komihash.proofs.HashSteps.{length-whole_words}
-use Rattle.komihash.proofs.KeptBytes.{length-after_words}
+use Rattle.komihash.proofs.KeptBytes.{length-after_words, length-bytes_of, length-all_bytes}
 use Rattle.komihash.proofs.PaddedWords.{words-by_tail, whole_words-few, after_words-few, after_words-drop}
 use Rattle.komihash.proofs.WordsOfBytes.{AreBytes-take, pow_byte, word_of-append, word_of-lt, AreBytes-drop}
 

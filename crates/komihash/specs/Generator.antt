@@ -1,6 +1,6 @@
 -- The generator: a pair of words, what a step makes of it, and the bytes that its outputs are.
 use Rattle.std.specs.Prelude.{ℕ, zero, suc, ◌+◌, ◌*◌, ◌/◌, List, [], ◌∷◌, take, bit_xor, ◌==◌, if◌then◌else◌}
-use Rattle.komihash.specs.Kept.{all_bytes}
+use Rattle.komihash.specs.Words.{all_bytes}
 use Rattle.komihash.specs.Rounds.{low, high, plus}
 
 -- the second word after a step, in both versions

@@ -1,21 +1,11 @@
 -- How the code keeps a stream's pending bytes: as eight words, zero above the last byte.
-use Rattle.std.specs.Prelude.{ℕ, ◌/◌, ◌%◌, List, [], ◌∷◌, ◌++◌, take, drop, zero, suc, ◌≡◌, ◌<◌, length, Bool, true}
-use Rattle.komihash.specs.Words.{AreBytes, word_of}
+use Rattle.std.specs.Prelude.{ℕ, List, [], ◌∷◌, ◌++◌, take, drop, zero, suc, ◌≡◌, ◌<◌, length, Bool, true}
+use Rattle.komihash.specs.Words.{AreBytes, word_of, all_bytes}
 
 -- n words that hold these bytes, with zeros behind them
 unfoldable pub filled : ℕ → List ℕ → List ℕ
 filled zero bytes = []
 filled (suc n) bytes = word_of (take 8 bytes) ∷ filled n (drop 8 bytes)
-
--- the first n bytes of a word: its lowest digits to base 256
-unfoldable pub bytes_of : ℕ → ℕ → List ℕ
-bytes_of zero w = []
-bytes_of (suc n) w = w % 256 ∷ bytes_of n (w / 256)
-
--- the bytes of words
-abbrev pub all_bytes : List ℕ → List ℕ
-all_bytes [] = []
-all_bytes (w ∷ ws) = bytes_of 8 w ++ all_bytes ws
 
 -- the bytes that words hold up to a fill
 unfoldable pub held : List ℕ → ℕ → List ℕ

@@ -5,8 +5,8 @@ pub mod Generator
 pub mod Halves
 pub mod Hash
 pub mod Kept
+pub mod Padding
 pub mod Rounds
 pub mod Stream
 pub mod Tails
 pub mod Words
-pub mod Padding

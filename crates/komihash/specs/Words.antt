@@ -1,6 +1,6 @@
 -- Bytes, words, and the padded words of a message. A byte is a number below 2 ^ 8, a word a number
 -- below 2 ^ 64, and a message a list of bytes.
-use Rattle.std.specs.Prelude.{ℕ, ◌+◌, ◌-◌, ◌*◌, ◌%◌, ◌<◌, List, [], ◌∷◌, ◌++◌, length, replicate, slice_index, ◌==◌, ◌&&◌, nat_le, if◌then◌else◌}
+use Rattle.std.specs.Prelude.{ℕ, zero, suc, ◌+◌, ◌-◌, ◌*◌, ◌/◌, ◌%◌, ◌<◌, List, [], ◌∷◌, ◌++◌, length, replicate, slice_index, ◌==◌, ◌&&◌, nat_le, if◌then◌else◌}
 
 -- every number of a list is a byte
 abbrev pub AreBytes : List ℕ → Type 0
@@ -17,6 +17,16 @@ words_of (a ∷ b ∷ c ∷ d ∷ e ∷ f ∷ g ∷ h ∷ bs) =
     word_of (a ∷ b ∷ c ∷ d ∷ e ∷ f ∷ g ∷ h ∷ []) ∷ words_of bs
 words_of [] = []
 words_of bs = word_of bs ∷ []
+
+-- the first n bytes of a word: its lowest digits to base 256
+unfoldable pub bytes_of : ℕ → ℕ → List ℕ
+bytes_of zero w = []
+bytes_of (suc n) w = w % 256 ∷ bytes_of n (w / 256)
+
+-- the bytes of words
+abbrev pub all_bytes : List ℕ → List ℕ
+all_bytes [] = []
+all_bytes (w ∷ ws) = bytes_of 8 w ++ all_bytes ws
 
 -- the byte that ends a nonempty message in version v: 1, but 2 in version 4 where the message's
 -- last byte is at least 128

@@ -2,7 +2,7 @@
 
 ghost use Rattle.std.specs.Prelude.{◌≡◌, ◌<◌, length, take};
 ghost use Rattle.komihash.specs.Generator.{next, after_steps, fill, after_fill};
-ghost use Rattle.komihash.specs.Kept.{bytes_of};
+ghost use Rattle.komihash.specs.Words.{bytes_of};
 
 use crate::tally::Tally;
 use crate::utils::multiply128;

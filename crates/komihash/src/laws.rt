@@ -9,9 +9,9 @@ ghost use Rattle.komihash.specs.Generator.{after_steps, fill, after_fill};
 ghost use Rattle.komihash.specs.Hash.{komi};
 ghost use Rattle.komihash.specs.Rounds.{seed_words, constant};
 ghost use Rattle.komihash.specs.Stream.{State, start, absorb, answer};
+ghost use Rattle.komihash.specs.Words.{AreBytes, words};
 ghost use Rattle.komihash.specs.declared.stream.Call.{Call};
 ghost use Rattle.komihash.specs.declared.stream.Call.TheVariants.{Answer};
-ghost use Rattle.komihash.specs.Words.{AreBytes, words};
 
 /// A seed can be told from its two words before the first product, so no two seeds share them.
 pub fn seed_back()

@@ -5,6 +5,14 @@ ghost use Rattle.komihash.specs.Tails.{end_byte, final_word};
 
 use crate::utils::{read_partial_word, word_at};
 
+/// The padding byte of a message that ends with this byte.
+#[inline(always)]
+pub(crate) fn padding_byte<const V: u8>(last: u8) -> u64
+    ensures { result ≡ (if V == 4 && nat_le 128 last then 2 else 1) }
+{
+    if V == 4 { 1 + u64::from(last >> 7) } else { 1 }
+}
+
 /// The byte that ends a message: its padding byte, or 0 where the message is empty.
 #[inline(always)]
 pub(crate) fn end_byte<const V: u8>(message: &[u8]) -> u64
@@ -13,10 +21,8 @@ pub(crate) fn end_byte<const V: u8>(message: &[u8]) -> u64
 {
     if message.is_empty() {
         0
-    } else if V == 4 {
-        1 + u64::from(message[message.len() - 1] >> 7)
     } else {
-        1
+        padding_byte::<V>(message[message.len() - 1])
     }
 }
 
@@ -42,12 +48,4 @@ pub(crate) fn final_of_many(bytes: &[u8], end: u64) -> u64
 {
     let last = word_at(bytes, bytes.len() - 8);
     (last >> 4 | end << 60) >> (60 - 8 * (bytes.len() % 8))
-}
-
-/// The padding byte of a message that ends with this byte.
-#[inline(always)]
-pub(crate) fn padding_byte<const V: u8>(last: u8) -> u64
-    ensures { result ≡ (if V == 4 && nat_le 128 last then 2 else 1) }
-{
-    if V == 4 { 1 + u64::from(last >> 7) } else { 1 }
 }

@@ -1,7 +1,7 @@
 //! Bytes copied into words, and words into bytes.
 
 ghost use Rattle.std.specs.Prelude.{◌≡◌, ◌*◌, ◌/◌, ◌≤◌, length, take, drop};
-ghost use Rattle.komihash.specs.Kept.{all_bytes};
+ghost use Rattle.komihash.specs.Words.{all_bytes};
 ghost use Rattle.komihash.specs.Tails.{whole_words};
 
 use crate::utils::word_at;

@@ -1,5 +1,5 @@
 use Rattle.std.proofs.Common.{◌-◌, ◌∙◌, refl, length, take, drop, set, get_or, arith, ap}
-use Rattle.komihash.specs.Kept.{bytes_of}
+use Rattle.komihash.specs.Words.{bytes_of}
 use Rattle.komihash.proofs.Filling.{to_le_bytes-word, two_pieces, one_byte}
 use Rattle.komihash.proofs.KeptBytes.{length-bytes_of}
 use Rattle.komihash.proofs.generator.write_lowest.Goals as goal

@@ -1,7 +1,7 @@
 use Rattle.std.proofs.Common.{◌≡◌, ◌-◌, ◌+◌, ◌*◌, ◌/◌, ◌∙◌, length, take, drop, arith, ap}
 use Rattle.std.proofs.lemmas.List.{length-take-le, length-drop}
 use Rattle.komihash.specs.Generator.{fill, after_fill}
-use Rattle.komihash.specs.Kept.{bytes_of}
+use Rattle.komihash.specs.Words.{bytes_of}
 use Rattle.komihash.proofs.Filling.{to_le_bytes-word, Filled-none, Filled-more, whole-bytes, whole-pair, rest-bytes, rest-pair}
 use Rattle.komihash.proofs.generator.Generator.fill_bytes.Goals as goal
 

@@ -1,7 +1,9 @@
 use Rattle.std.proofs.Common.{◌≡◌, ◌+◌, ◌-◌, ◌*◌, ◌/◌, ◌%◌, length, take, drop, get_or, ap, arith, sym, ◌∙◌}
 use Rattle.std.proofs.lemmas.List.{length-take-le, length-drop, take_all}
-use Rattle.komihash.specs.Kept.{bytes_of, all_bytes}
-use Rattle.komihash.proofs.CopiedBytes.{take-put_mid_next, drop-put_mid_next, to_le_bytes-bytes_of, take-all_bytes, length-bytes_of}
+use Rattle.komihash.specs.Words.{bytes_of, all_bytes}
+use Rattle.komihash.proofs.CopiedBytes.{take-put_mid_next, drop-put_mid_next, take-all_bytes}
+use Rattle.komihash.proofs.Filling.{to_le_bytes-word}
+use Rattle.komihash.proofs.KeptBytes.{length-bytes_of}
 use Rattle.komihash.proofs.padded.copies.write_bytes.Goals as goal
 
 pub whole-preserved : goal.whole-preserved
@@ -11,7 +13,7 @@ whole-preserved c =
     let w = get_or c.args.words.now i 0 in
     let written = c.copy_from_slice.new.self in
     let k : 8 * i + 8 - 8 * i ≡ 8 = omega arith in
-    let bytes : written ≡ bytes_of 8 w = c.copy_from_slice.ensures.after ∙ c.to_le_bytes.ensures ∙ to_le_bytes-bytes_of w in
+    let bytes : written ≡ bytes_of 8 w = c.copy_from_slice.ensures.after ∙ c.to_le_bytes.ensures ∙ to_le_bytes-word w in
     let size : length written ≡ 8 = ap length bytes ∙ length-bytes_of 8 w in
     let is : written ≡ take 8 (drop (8 * i) all) =
     bytes ∙ sym (take_all 8 (bytes_of 8 w) (omega (arith, length-bytes_of 8 w))) ∙ sym (take-all_bytes c.args.words.now i 8 (omega arith) (omega arith)) in
@@ -29,7 +31,7 @@ returns-then-over-gt0-clause-bytes c =
     let written = c.copy_from_slice-then-over-gt0.new.self in
     let same : c.whole.i ≡ i = omega arith in
     let k : c.args.count - 8 * i ≡ over = omega arith in
-    let bytes : written ≡ take over (bytes_of 8 w) = c.copy_from_slice-then-over-gt0.ensures.after ∙ ap (take over) (c.to_le_bytes-then-over-gt0.ensures ∙ to_le_bytes-bytes_of w) in
+    let bytes : written ≡ take over (bytes_of 8 w) = c.copy_from_slice-then-over-gt0.ensures.after ∙ ap (take over) (c.to_le_bytes-then-over-gt0.ensures ∙ to_le_bytes-word w) in
     let size : length written ≡ over = ap length bytes ∙ length-take-le over (bytes_of 8 w) (omega (arith, length-bytes_of 8 w)) in
     let is : written ≡ take over (drop (8 * i) all) = bytes ∙ sym (take-all_bytes c.args.words.now i over (omega arith) (omega arith)) in
     rw k (take-put_mid_next c.whole.out written all c.args.out.now (8 * i) over c.args.count (omega arith) size (omega arith) (rw same at c.whole.invariant.bytes) is)

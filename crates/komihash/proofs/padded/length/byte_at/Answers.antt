@@ -1,5 +1,5 @@
 use Rattle.std.proofs.Common.{◌/◌, ◌%◌, get_or, ap, ◌∙◌}
-use Rattle.komihash.proofs.CopiedBytes.{to_le_bytes-bytes_of}
+use Rattle.komihash.proofs.Filling.{to_le_bytes-word}
 use Rattle.komihash.proofs.PaddedBack.{byte_of-all_bytes}
 use Rattle.komihash.proofs.padded.length.byte_at.Goals as goal
 
@@ -7,4 +7,4 @@ pub returns : goal.returns
 returns c =
     let words = c.args.words.now in
     let at = c.args.at in
-    ap (λ bs. get_or bs (at % 8) 0) (c.to_le_bytes.ensures ∙ to_le_bytes-bytes_of (get_or words (at / 8) 0)) ∙ byte_of-all_bytes words at c.requires
+    ap (λ bs. get_or bs (at % 8) 0) (c.to_le_bytes.ensures ∙ to_le_bytes-word (get_or words (at / 8) 0)) ∙ byte_of-all_bytes words at c.requires
