@@ -6,7 +6,7 @@ ghost use Rattle.komihash.specs.Generator.{outputs, fill, after_steps};
 use crate::{v4, v5};
 
 // What the definitions alone say: the clauses are proved, and nothing is run.
-#[tactic(auto, unfolding(crate::specs::Generator::next, crate::specs::Generator::after_steps, crate::specs::Generator::outputs, crate::specs::Kept::bytes_of))]
+#[tactic(auto, unfolding(crate::specs::Generator::next, crate::specs::Generator::after_steps, crate::specs::Generator::outputs, crate::specs::Words::bytes_of))]
 fn definitions()
     ensures outputs { outputs 5 2 (0, 0) ≡ 0x5555555555555555 ∷ 0x79e79e79e79e79e6 ∷ [] }
     ensures outputs_in_four { outputs 4 2 (0, 0) ≡ 0xaaaaaaaaaaaaaaaa ∷ 0xfffffffffffffffe ∷ [] }
