@@ -4,9 +4,9 @@ use Rattle.std.proofs.lemmas.List.{append_assoc, append-nil, length-append, leng
 use Rattle.std.proofs.lemmas.Bool.Decides.{nat_tests}
 use Rattle.std.specs.Prelude.{slice_index, ◌==◌}
 use Rattle.komihash.specs.Rounds.{Lanes, block}
-use Rattle.komihash.specs.Stream.{State, absorb, absorb_byte, is_high}
+use Rattle.komihash.specs.Stream.{State, absorb, absorb_byte}
 use Rattle.komihash.specs.Tails.{whole_words, block_lanes}
-use Rattle.komihash.specs.Words.{word_of, words_of}
+use Rattle.komihash.specs.Words.{is_high, word_of, words_of}
 use Rattle.komihash.proofs.Blocks.{block_lanes-bytes, block_lanes-few_bytes}
 
 -- a cut anywhere

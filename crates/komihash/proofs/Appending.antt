@@ -1,6 +1,6 @@
 -- Pieces appended to the kept bytes one after the other.
 use Rattle.std.proofs.Common.{◌≤◌, ◌-◌, ◌≡◌, ℕ, ◌+◌, ◌*◌, List, [], ◌∷◌, ◌++◌, length, take, drop, refl, ap, arith, ◌∙◌, sym}
-use Rattle.std.proofs.lemmas.List.{append_assoc, append-nil, length-append, take-append-drop, take-take, drop-take, drop-drop}
+use Rattle.std.proofs.lemmas.List.{append_assoc, length-append, take-append-drop, take-take, drop-take, drop-drop}
 use Rattle.komihash.specs.Kept.{filled, Appended}
 use Rattle.komihash.specs.Words.{AreBytes, word_of}
 use Rattle.komihash.proofs.KeptBytes.{AreBytes-append}
@@ -30,7 +30,3 @@ pub Appended-two : (old mid new : List ℕ) (fill next : ℕ) (xs ys zs : List �
 Appended-two old mid new fill next xs ys zs h e joined first second held bytes size is =
     second (held ++ xs) (AreBytes-append held xs bytes h) (omega (arith, length-append held xs)) (first held bytes size is)
     ∙ ap (filled 8) (append_assoc held xs ys ∙ ap (λ b. held ++ b) joined)
-
--- no piece
-pub Appended-none : (words : List ℕ) (fill : ℕ) → Appended words fill [] words
-Appended-none words fill held bytes size is = is ∙ ap (filled 8) (sym (append-nil held))

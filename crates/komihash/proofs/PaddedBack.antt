@@ -5,9 +5,9 @@ use Rattle.std.proofs.Math.Seq.{take-suc, get_or-append_seam}
 use Rattle.std.proofs.lemmas.Bool.{cases_lt}
 use Rattle.std.proofs.lemmas.List.{length-append, length-take-le, take_all, get_or-take, get_or-drop, get_or_append_left, get_or_past}
 use Rattle.std.proofs.lemmas.Nat.{pow-add, pow_pos, shr-shr, shr_high}
-use Rattle.std.specs.Prelude.{slice_index, nat_le, if◌then◌else◌, ◌==◌, ◌&&◌}
+use Rattle.std.specs.Prelude.{slice_index}
 use Rattle.komihash.specs.Tails.{whole_words, after_words, final_word, end_byte}
-use Rattle.komihash.specs.Words.{AreBytes, word_of, words, padding_byte, bytes_of, all_bytes}
+use Rattle.komihash.specs.Words.{AreBytes, is_high, padding_behind, word_of, words, padding_byte, bytes_of, all_bytes}
 use Rattle.komihash.proofs.Appending.{take-more}
 use Rattle.komihash.proofs.CopiedBytes.{take-all_bytes, drop-all_bytes}
 use Rattle.komihash.proofs.HashSteps.{length-whole_words}
@@ -72,7 +72,7 @@ take-all_words (w ∷ ws) (suc i) =
 
 -- ---- what the code reads back has these padded words
 
-pub padding_byte_at : (v : ℕ) (ws : List ℕ) (n last : ℕ) → 0 < n → n ≤ 8 * length ws → last ≡ slice_index (all_bytes ws) (n - 1) → (if v == 4 && nat_le 128 last then 2 else 1) ≡ padding_byte v (take n (all_bytes ws))
+pub padding_byte_at : (v : ℕ) (ws : List ℕ) (n last : ℕ) → 0 < n → n ≤ 8 * length ws → last ≡ slice_index (all_bytes ws) (n - 1) → padding_behind (is_high v last) ≡ padding_byte v (take n (all_bytes ws))
 padding_byte_at v ws n last some le is =
     let size : length (take n (all_bytes ws)) ≡ n = length-take-le n (all_bytes ws) (omega (arith, length-all_bytes ws)) in
     let same : get_or (take n (all_bytes ws)) (n - 1) 0 ≡ get_or (all_bytes ws) (n - 1) 0 = get_or-take n (all_bytes ws) (n - 1) 0 (omega arith) in
@@ -153,7 +153,7 @@ take-words_back v m bytes =
 
 padding_byte-cases : (v : ℕ) (m : List ℕ) → (padding_byte v m ≡ 1) ⊎ (padding_byte v m ≡ 2)
 padding_byte-cases v m =
-    elim (v == 4 && nat_le 128 (slice_index m (length m - 1))) as (λ b. (◌≡◌ {A = ℕ} (if b then 2 else 1) 1) ⊎ (◌≡◌ {A = ℕ} (if b then 2 else 1) 2)) [
+    elim (is_high v (slice_index m (length m - 1))) as (λ b. (padding_behind b ≡ 1) ⊎ (padding_behind b ≡ 2)) [
       | true ↦ inr refl
       | false ↦ inl refl
     ]

@@ -6,12 +6,12 @@ use Rattle.std.specs.Prelude.{bit_or, slice_index}
 use Rattle.komihash.specs.Halves.{lanes_in}
 use Rattle.komihash.specs.declared.streaming.Streaming.TheInside.{Inside}
 use Rattle.komihash.specs.Kept.{filled, held, Holds, Appended, IsKept}
-use Rattle.komihash.specs.Stream.{State, IsState, absorb, answer, is_high}
+use Rattle.komihash.specs.Stream.{State, IsState, absorb, answer}
 use Rattle.komihash.specs.Hash.{hash_from_pair}
 use Rattle.komihash.specs.Rounds.{joined, closing}
 use Rattle.komihash.proofs.Answers.{answer-by_pair, answer-none, tail_end-pending}
 use Rattle.komihash.specs.Tails.{whole_words, block_lanes, after_blocks, final_word, tail_end}
-use Rattle.komihash.specs.Words.{AreBytes, padding_byte}
+use Rattle.komihash.specs.Words.{is_high, AreBytes, padding_byte}
 use Rattle.komihash.proofs.Absorbing.{absorb-few, absorb-blocks}
 use Rattle.komihash.proofs.BegunBlock.{Holds-none}
 use Rattle.std.proofs.lemmas.Bool.{false≢true}

@@ -1,8 +1,8 @@
 -- A stream: what it holds, how it absorbs bytes one after the other, and what it answers.
-use Rattle.std.specs.Prelude.{ℕ, ◌<◌, ◌≡◌, Bool, true, false, List, [], ◌∷◌, ◌++◌, length, ◌==◌, ◌&&◌, nat_le, if◌then◌else◌}
+use Rattle.std.specs.Prelude.{ℕ, ◌<◌, ◌≡◌, Bool, true, false, List, [], ◌∷◌, ◌++◌, length, ◌==◌, if◌then◌else◌}
 use Rattle.komihash.specs.Hash.{hash_from_pair}
 use Rattle.komihash.specs.Rounds.{Lanes, seeded, lanes, block, joined}
-use Rattle.komihash.specs.Words.{AreBytes, words_of, words}
+use Rattle.komihash.specs.Words.{AreBytes, is_high, padding_behind, words_of, words}
 
 -- eight lanes, the bytes that no block has taken yet, whether a block was absorbed, and in version
 -- 4 whether the last byte of the last block is at least 128
@@ -15,10 +15,6 @@ pub record State : Type 0 where
 -- the new stream of a seed
 abbrev pub start : ℕ → State
 start seed = record { lanes = lanes (seeded seed); pending = []; absorbed = false; high = false }
-
--- whether version v keeps the top bit of a block's last byte, and it is set
-abbrev pub is_high : ℕ → ℕ → Bool
-is_high v b = v == 4 && nat_le 128 b
 
 -- the state after one byte: it is pending, and where 64 are, they go through one block round
 abbrev pub absorb_byte : ℕ → State → ℕ → State
@@ -37,7 +33,7 @@ absorb v s (b ∷ bytes) = absorb v (absorb_byte v s b) bytes
 -- the padding byte of the last block alone, or 0 where no block was absorbed
 abbrev pub tail_of : ℕ → List ℕ → Bool → Bool → List ℕ
 tail_of v (b ∷ m) absorbed high = words v (b ∷ m)
-tail_of v [] absorbed high = (if absorbed then (if high then 2 else 1) else 0) ∷ []
+tail_of v [] absorbed high = (if absorbed then padding_behind high else 0) ∷ []
 
 -- what a stream answers
 unfoldable pub answer : ℕ → State → ℕ

@@ -2,7 +2,7 @@
 -- word that ends them. `proofs/PaddedWords.antt` shows that this is the same list.
 use Rattle.std.specs.Prelude.{ℕ, Bool, if◌then◌else◌, ◌-◌, ◌%◌, length, drop, List, [], ◌∷◌, ◌++◌}
 use Rattle.komihash.specs.Rounds.{Lanes, block}
-use Rattle.komihash.specs.Words.{word_of, padding_byte}
+use Rattle.komihash.specs.Words.{word_of, padding_behind, padding_byte}
 
 -- the words of the bytes, as far as they make whole words
 abbrev pub whole_words : List ℕ → List ℕ
@@ -38,4 +38,4 @@ after_blocks m = drop (length m - length m % 64) m
 -- of the last block, or 0 where no block was absorbed
 abbrev pub tail_end : ℕ → List ℕ → Bool → Bool → ℕ
 tail_end v (b ∷ m) absorbed high = padding_byte v (b ∷ m)
-tail_end v [] absorbed high = if absorbed then (if high then 2 else 1) else 0
+tail_end v [] absorbed high = if absorbed then padding_behind high else 0

@@ -39,7 +39,7 @@ impl Words for &[u8] {
 }
 
 /// The full words of those that hold pending bytes.
-#[derive(Clone, Copy)]
+#[derive(Drop)]
 pub(crate) struct FullWords<'a> {
     pub(crate) words: &'a [u64; 8],
     pub(crate) count: usize,

@@ -1,32 +1,11 @@
 //! The generator of both versions.
 
-ghost use Rattle.std.specs.Prelude.{◌≡◌, ◌<◌, length, take};
+ghost use Rattle.std.specs.Prelude.{◌≡◌, length};
 ghost use Rattle.komihash.specs.Generator.{next, after_steps, fill, after_fill};
-ghost use Rattle.komihash.specs.Words.{bytes_of};
 
 use crate::tally::Tally;
-use crate::utils::multiply128;
+use crate::utils::{multiply128, write_partial_word};
 use std::marker::Model;
-
-// Fills fewer than eight bytes with the lowest bytes of a word. They are written in two pieces that
-// may overlap.
-#[inline(always)]
-fn write_lowest(word: u64, out: &mut [u8])
-    requires few { length out.old < 8 }
-    ensures { out.new ≡ take (length out.old) (bytes_of 8 word) }
-{
-    let bytes = word.to_le_bytes();
-    let n = out.len();
-    if n >= 4 {
-        out[..4].copy_from_slice(&bytes[..4]);
-        out[n - 4..].copy_from_slice(&bytes[n - 4..n]);
-    } else if n >= 2 {
-        out[..2].copy_from_slice(&bytes[..2]);
-        out[n - 2..].copy_from_slice(&bytes[n - 2..n]);
-    } else if n == 1 {
-        out[0] = bytes[0];
-    }
-}
 
 /// A generator of version V: its pair of words.
 #[derive(Drop)]
@@ -99,7 +78,7 @@ impl<const V: u8> Generator<V> {
         }
         if buffer.len() % 8 > 0 {
             let last = self.next(tally);
-            write_lowest(last, &mut buffer[8 * whole..]);
+            write_partial_word(last, &mut buffer[8 * whole..]);
         }
     }
 }

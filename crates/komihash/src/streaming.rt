@@ -4,9 +4,9 @@ ghost use Rattle.std.specs.Prelude.{◌≡◌, ℕ, true, ◌+◌, ◌-◌, ◌*
 ghost use Rattle.komihash.specs.Counts.{write_products, answer_products, kept_bytes};
 ghost use Rattle.komihash.specs.Halves.{lanes_in};
 ghost use Rattle.komihash.specs.Kept.{Holds};
-ghost use Rattle.komihash.specs.Stream.{IsState, start, absorb, answer, is_high};
+ghost use Rattle.komihash.specs.Stream.{IsState, start, absorb, answer};
 ghost use Rattle.komihash.specs.Tails.{whole_words, block_lanes, after_blocks};
-ghost use Rattle.komihash.specs.Words.{padding_byte};
+ghost use Rattle.komihash.specs.Words.{is_high, padding_behind, padding_byte};
 
 use crate::ending::{FullWords, end_of_eight};
 use crate::rounds::blocks::absorb_blocks;
@@ -92,7 +92,7 @@ fn write_blocks<const V: u8>(
 #[inline(always)]
 fn block_end<const V: u8>(high: bool) -> u64
     requires { high ≡ true → V ≡ 4 }
-    ensures { result ≡ (if high then 2 else 1) }
+    ensures { result ≡ padding_behind high }
 {
     if V == 4 && high { 2 } else { 1 }
 }

@@ -1,8 +1,8 @@
-//! Words read from bytes, and the one product of two words.
+//! Words read from bytes and written to them, and the one product of two words.
 
 ghost use Rattle.std.specs.Prelude.{◌≡◌, ◌+◌, ◌*◌, ◌^◌, ◌<◌, ◌≤◌, [], ◌∷◌, ◌++◌, length, take, drop};
 ghost use Rattle.komihash.specs.Rounds.{low, high};
-ghost use Rattle.komihash.specs.Words.{word_of};
+ghost use Rattle.komihash.specs.Words.{word_of, bytes_of};
 
 use crate::tally::Tally;
 
@@ -65,6 +65,27 @@ pub(crate) fn read_partial_word(bytes: &[u8], end: u64) -> u64
         u64::from(bytes[0]) | end << 8
     } else {
         end
+    }
+}
+
+/// Writes the lowest bytes of a word: as many as there is room for, which is at most seven.
+///
+/// They are written in two pieces that may overlap.
+#[inline(always)]
+pub(crate) fn write_partial_word(word: u64, out: &mut [u8])
+    requires few { length out.old ≤ 7 }
+    ensures { out.new ≡ take (length out.old) (bytes_of 8 word) }
+{
+    let bytes = word.to_le_bytes();
+    let n = out.len();
+    if n >= 4 {
+        out[..4].copy_from_slice(&bytes[..4]);
+        out[n - 4..].copy_from_slice(&bytes[n - 4..n]);
+    } else if n >= 2 {
+        out[..2].copy_from_slice(&bytes[..2]);
+        out[n - 2..].copy_from_slice(&bytes[n - 2..n]);
+    } else if n == 1 {
+        out[0] = bytes[0];
     }
 }
 

@@ -4,7 +4,7 @@ ghost use Rattle.std.specs.Prelude.{◌≡◌, ◌*◌, ◌/◌, ◌≤◌, leng
 ghost use Rattle.komihash.specs.Words.{all_bytes};
 ghost use Rattle.komihash.specs.Tails.{whole_words};
 
-use crate::utils::word_at;
+use crate::utils::{word_at, write_partial_word};
 
 /// Writes the whole words of the bytes.
 #[inline(always)]
@@ -30,8 +30,7 @@ pub(crate) fn write_bytes(words: &[u64], count: usize, out: &mut [u8])
     'whole: for i in 0..whole {
         out[8 * i..8 * i + 8].copy_from_slice(&words[i].to_le_bytes());
     }
-    let over = count % 8;
-    if over > 0 {
-        out[8 * whole..count].copy_from_slice(&words[whole].to_le_bytes()[..over]);
+    if count % 8 > 0 {
+        write_partial_word(words[whole], &mut out[8 * whole..count]);
     }
 }

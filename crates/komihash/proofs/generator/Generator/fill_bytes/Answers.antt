@@ -2,7 +2,8 @@ use Rattle.std.proofs.Common.{◌≡◌, ◌-◌, ◌+◌, ◌*◌, ◌/◌, ◌
 use Rattle.std.proofs.lemmas.List.{length-take-le, length-drop}
 use Rattle.komihash.specs.Generator.{fill, after_fill}
 use Rattle.komihash.specs.Words.{bytes_of}
-use Rattle.komihash.proofs.Filling.{to_le_bytes-word, Filled-none, Filled-more, whole-bytes, whole-pair, rest-bytes, rest-pair}
+use Rattle.komihash.proofs.BytesOfWord.{to_le_bytes-word}
+use Rattle.komihash.proofs.Filling.{Filled-none, Filled-more, whole-bytes, whole-pair, rest-bytes, rest-pair}
 use Rattle.komihash.proofs.generator.Generator.fill_bytes.Goals as goal
 
 pub words-init : goal.words-init
@@ -19,8 +20,8 @@ returns-then-buffer-gt0-clause-bytes g c =
     let done : c.words.i ≡ whole = omega arith in
     let j = length c.words.buffer - 8 * whole in
     let rest = length-take-le j (drop (8 * whole) c.words.buffer) (omega (arith, length-drop (8 * whole) c.words.buffer)) in
-    let wrote = c.write_lowest.ensures ∙ ap (λ k. take k (bytes_of 8 c.next-last.result)) rest in
-    rest-bytes g.row.V whole j c.args.self.now c.words.self c.next-last.new.self c.words.buffer (rw done at c.words.invariant) c.next-last.ensures.pair (omega arith) (omega arith) (omega arith) c.next-last.result c.write_lowest.new.out c.next-last.ensures.output wrote
+    let wrote = c.write_partial_word.ensures ∙ ap (λ k. take k (bytes_of 8 c.next-last.result)) rest in
+    rest-bytes g.row.V whole j c.args.self.now c.words.self c.next-last.new.self c.words.buffer (rw done at c.words.invariant) c.next-last.ensures.pair (omega arith) (omega arith) (omega arith) c.next-last.result c.write_partial_word.new.out c.next-last.ensures.output wrote
     ∙ ap (fill g.row.V c.args.self.now) c.words.auto.buffer
 
 pub returns-then-buffer-gt0-clause-pair : goal.returns-then-buffer-gt0-clause-pair

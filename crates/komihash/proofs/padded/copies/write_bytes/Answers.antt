@@ -2,7 +2,7 @@ use Rattle.std.proofs.Common.{◌≡◌, ◌+◌, ◌-◌, ◌*◌, ◌/◌, ◌
 use Rattle.std.proofs.lemmas.List.{length-take-le, length-drop, take_all}
 use Rattle.komihash.specs.Words.{bytes_of, all_bytes}
 use Rattle.komihash.proofs.CopiedBytes.{take-put_mid_next, drop-put_mid_next, take-all_bytes}
-use Rattle.komihash.proofs.Filling.{to_le_bytes-word}
+use Rattle.komihash.proofs.BytesOfWord.{to_le_bytes-word}
 use Rattle.komihash.proofs.KeptBytes.{length-bytes_of}
 use Rattle.komihash.proofs.padded.copies.write_bytes.Goals as goal
 
@@ -22,27 +22,28 @@ whole-preserved c =
       rest = drop-put_mid_next c.whole.out written all c.args.out.now (8 * i) 8 (8 * (i + 1)) (omega arith) size (omega arith) c.whole.invariant.rest;
     }
 
-pub returns-then-over-gt0-clause-bytes : goal.returns-then-over-gt0-clause-bytes
-returns-then-over-gt0-clause-bytes c =
+pub returns-then-count-gt0-clause-bytes : goal.returns-then-count-gt0-clause-bytes
+returns-then-count-gt0-clause-bytes c =
     let all = all_bytes c.args.words.now in
     let i = c.args.count / 8 in
     let over = c.args.count % 8 in
     let w = get_or c.args.words.now i 0 in
-    let written = c.copy_from_slice-then-over-gt0.new.self in
+    let written = c.write_partial_word.new.out in
     let same : c.whole.i ≡ i = omega arith in
     let k : c.args.count - 8 * i ≡ over = omega arith in
-    let bytes : written ≡ take over (bytes_of 8 w) = c.copy_from_slice-then-over-gt0.ensures.after ∙ ap (take over) (c.to_le_bytes-then-over-gt0.ensures ∙ to_le_bytes-word w) in
+    let room = length-take-le over (drop (8 * i) c.whole.out) (omega (arith, length-drop (8 * i) c.whole.out)) in
+    let bytes : written ≡ take over (bytes_of 8 w) = c.write_partial_word.ensures ∙ ap (λ n. take n (bytes_of 8 w)) (ap (λ n. length (take n (drop (8 * i) c.whole.out))) k ∙ room) in
     let size : length written ≡ over = ap length bytes ∙ length-take-le over (bytes_of 8 w) (omega (arith, length-bytes_of 8 w)) in
     let is : written ≡ take over (drop (8 * i) all) = bytes ∙ sym (take-all_bytes c.args.words.now i over (omega arith) (omega arith)) in
     rw k (take-put_mid_next c.whole.out written all c.args.out.now (8 * i) over c.args.count (omega arith) size (omega arith) (rw same at c.whole.invariant.bytes) is)
 
-pub returns-then-over-gt0-clause-rest : goal.returns-then-over-gt0-clause-rest
-returns-then-over-gt0-clause-rest c =
+pub returns-then-count-gt0-clause-rest : goal.returns-then-count-gt0-clause-rest
+returns-then-count-gt0-clause-rest c =
     let i = c.args.count / 8 in
     let over = c.args.count % 8 in
-    let written = c.copy_from_slice-then-over-gt0.new.self in
+    let written = c.write_partial_word.new.out in
     let same : c.whole.i ≡ i = omega arith in
     let k : c.args.count - 8 * i ≡ over = omega arith in
-    let size : length written ≡ over =
-    c.copy_from_slice-then-over-gt0.ensures.len ∙ ap (λ k. length (take k (drop (8 * i) c.whole.out))) k ∙ length-take-le over (drop (8 * i) c.whole.out) (omega (arith, length-drop (8 * i) c.whole.out)) in
+    let room = length-take-le over (drop (8 * i) c.whole.out) (omega (arith, length-drop (8 * i) c.whole.out)) in
+    let size : length written ≡ over = c.write_partial_word.auto.out ∙ ap (λ n. length (take n (drop (8 * i) c.whole.out))) k ∙ room in
     rw k (drop-put_mid_next c.whole.out written c.args.out.now c.args.out.now (8 * i) over c.args.count (omega arith) size (omega arith) (rw same at c.whole.invariant.rest))
