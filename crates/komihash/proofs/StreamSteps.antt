@@ -4,14 +4,15 @@ use Rattle.std.proofs.lemmas.List.{length-append, get_or-append-add}
 use Rattle.std.proofs.lemmas.Bool.Decides.{nat_tests}
 use Rattle.std.specs.Prelude.{bit_or, slice_index}
 use Rattle.komihash.specs.Halves.{lanes_in}
-use Rattle.komihash.specs.declared.streaming.Streaming.TheInside.{Inside}
+use Rattle.komihash.specs.declared.stream.engine.Engine.TheInside.{Inside}
 use Rattle.komihash.specs.Kept.{filled, held, Holds, Appended, IsKept}
-use Rattle.komihash.specs.Stream.{State, IsState, absorb, answer}
+use Rattle.komihash.specs.Stream.{AreWords, State, IsState, absorb, answer}
 use Rattle.komihash.specs.Hash.{hash_from_pair}
 use Rattle.komihash.specs.Rounds.{joined, closing}
 use Rattle.komihash.proofs.Answers.{answer-by_pair, answer-none, tail_end-pending}
 use Rattle.komihash.specs.Tails.{whole_words, block_lanes, after_blocks, final_word, tail_end}
 use Rattle.komihash.specs.Words.{is_high, AreBytes, padding_byte}
+use Rattle.komihash.proofs.LaneWords.{AreWords-block_lanes}
 use Rattle.komihash.proofs.Absorbing.{absorb-few, absorb-blocks}
 use Rattle.komihash.proofs.BegunBlock.{Holds-none}
 use Rattle.std.proofs.lemmas.Bool.{false≢true}
@@ -38,7 +39,7 @@ is_high-version : (v b : ℕ) → is_high v b ≡ true → v ≡ 4
 is_high-version v b h = grind (arith, nat_tests)
 
 -- a stream's fields before a write of some bytes
-module _ (v : ℕ) (s : Inside v) (eight : length s.words ≡ 8) (kept : IsKept v s.words s.fill s.absorbed s.high) (bytes : List ℕ) (are : AreBytes bytes) where
+module _ (v : ℕ) (s : Inside v) (eight : length s.words ≡ 8) (kept : IsKept v s.lanes s.words s.fill s.absorbed s.high) (bytes : List ℕ) (are : AreBytes bytes) where
   pub holds : Holds s.words s.fill (held s.words s.fill)
   holds = Holds-held s.words s.fill eight kept.few kept.filled
 
@@ -51,8 +52,9 @@ module _ (v : ℕ) (s : Inside v) (eight : length s.words ≡ 8) (kept : IsKept 
       filled = appended (held s.words s.fill) holds.are holds.size holds.filled;
     }
 
-    pub keeps : IsKept v new (s.fill + length bytes) s.absorbed s.high
+    pub keeps : IsKept v s.lanes new (s.fill + length bytes) s.absorbed s.high
     keeps = record {
+      words = kept.words;
       few = few;
       filled = filled-Holds new (s.fill + length bytes) (held s.words s.fill ++ bytes) held_more few;
       high_absorbed = kept.high_absorbed;
@@ -66,8 +68,9 @@ module _ (v : ℕ) (s : Inside v) (eight : length s.words ≡ 8) (kept : IsKept 
 
   -- the bytes fill at least one block
   module _ (ls' new : List ℕ) (left : ℕ) (high' : Bool) (many : 64 ≤ s.fill + length bytes) (lanes : lanes_in ls' ≡ block_lanes v (lanes_in s.lanes) (whole_words (held s.words s.fill ++ bytes))) (holds_left : Holds new left (after_blocks (held s.words s.fill ++ bytes))) (rest : left ≡ (s.fill + length bytes) % 64) (bit : high' ≡ is_high v (slice_index bytes (length bytes - left - 1))) where
-    pub keeps_left : IsKept v new left true high'
+    pub keeps_left : IsKept v ls' new left true high'
     keeps_left = record {
+      words = subst AreWords (sym lanes) (AreWords-block_lanes v (lanes_in s.lanes) (whole_words (held s.words s.fill ++ bytes)) kept.words);
       few = omega arith;
       filled = filled-Holds new left (after_blocks (held s.words s.fill ++ bytes)) holds_left (omega arith);
       high_absorbed = λ _. refl;
@@ -93,10 +96,11 @@ pub held-nothing : (ws : List ℕ) → held ws 0 ≡ []
 unfolding held
 held-nothing ws = refl
 
-pub keeps_nothing : (v : ℕ) → IsKept v (0 ∷ 0 ∷ 0 ∷ 0 ∷ 0 ∷ 0 ∷ 0 ∷ 0 ∷ []) 0 false false
-keeps_nothing v =
+pub keeps_nothing : (v : ℕ) (ls : List ℕ) → AreWords (lanes_in ls) → IsKept v ls (0 ∷ 0 ∷ 0 ∷ 0 ∷ 0 ∷ 0 ∷ 0 ∷ 0 ∷ []) 0 false false
+keeps_nothing v ls words =
     let zeros : List ℕ = 0 ∷ 0 ∷ 0 ∷ 0 ∷ 0 ∷ 0 ∷ 0 ∷ 0 ∷ [] in
     record {
+      words = words;
       few = omega arith;
       filled = Holds-none.filled ∙ ap (filled 8) (sym (held-nothing zeros));
       high_absorbed = λ h. absurd (false≢true h);
@@ -105,7 +109,7 @@ keeps_nothing v =
 
 -- ---- an answer
 
-module _ (v : ℕ) (s : Inside v) (eight : length s.words ≡ 8) (kept : IsKept v s.words s.fill s.absorbed s.high) (pair : ℕ × ℕ) (pair_is : pair ≡ joined s.absorbed (lanes_in s.lanes)) (end : ℕ) where
+module _ (v : ℕ) (s : Inside v) (eight : length s.words ≡ 8) (kept : IsKept v s.lanes s.words s.fill s.absorbed s.high) (pair : ℕ × ℕ) (pair_is : pair ≡ joined s.absorbed (lanes_in s.lanes)) (end : ℕ) where
   -- nothing is pending
   pub answers_none : s.fill ≡ 0 → end ≡ tail_end v [] s.absorbed s.high → closing pair (end ∷ []) ≡ answer v (shown s)
   answers_none none end_is =
@@ -134,15 +138,16 @@ pending_shown s t is eight lt =
     ap (λ (u : State). length u.pending) (sym is) ∙ length-held s.words s.fill eight (omega arith)
 
 -- what fields show is a state of the version
-pub IsKept-state : (v : ℕ) (s : Inside v) → IsKept v s.words s.fill s.absorbed s.high → IsState v (shown s)
+pub IsKept-state : (v : ℕ) (s : Inside v) → IsKept v s.lanes s.words s.fill s.absorbed s.high → IsState v (shown s)
 IsKept-state v s kept =
     let eight : length s.words ≡ 8 = ap length kept.filled ∙ length-filled 8 (held s.words s.fill) in
     record {
+      words = kept.words;
       bytes = AreBytes-held s.words s.fill;
       few = omega (arith, length-held s.words s.fill eight (omega (arith, kept.few)), kept.few);
       high_absorbed = kept.high_absorbed;
       high_version = kept.high_version;
     }
 
-pub is_state : (v : ℕ) (s : Inside v) (t : State) → shown s ≡ t → IsKept v s.words s.fill s.absorbed s.high → IsState v t
+pub is_state : (v : ℕ) (s : Inside v) (t : State) → shown s ≡ t → IsKept v s.lanes s.words s.fill s.absorbed s.high → IsState v t
 is_state v s t is kept = subst (IsState v) is (IsKept-state v s kept)

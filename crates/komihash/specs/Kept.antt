@@ -1,5 +1,7 @@
 -- How the code keeps a stream's pending bytes: as eight words, zero above the last byte.
 use Rattle.std.specs.Prelude.{ℕ, List, [], ◌∷◌, ◌++◌, take, drop, zero, suc, ◌≡◌, ◌<◌, length, Bool, true}
+use Rattle.komihash.specs.Halves.{lanes_in}
+use Rattle.komihash.specs.Stream.{AreWords}
 use Rattle.komihash.specs.Words.{AreBytes, word_of, all_bytes}
 
 -- n words that hold these bytes, with zeros behind them
@@ -23,7 +25,8 @@ Appended old fill bytes new =
     (xs : List ℕ) → AreBytes xs → length xs ≡ fill → old ≡ filled 8 xs → new ≡ filled 8 (xs ++ bytes)
 
 -- what is true of the fields that keep a stream of version v
-pub record IsKept (v : ℕ) (ws : List ℕ) (fill : ℕ) (absorbed high : Bool) : Type 0 where
+pub record IsKept (v : ℕ) (lanes ws : List ℕ) (fill : ℕ) (absorbed high : Bool) : Type 0 where
+  pub words : AreWords (lanes_in lanes)
   pub few : fill < 64
   pub filled : ws ≡ filled 8 (held ws fill)
   pub high_absorbed : high ≡ true → absorbed ≡ true

@@ -7,6 +7,8 @@ pub mod Hash
 pub mod Kept
 pub mod Padding
 pub mod Rounds
+mod Sealed
 pub mod Stream
 pub mod Tails
+pub mod Tallies
 pub mod Words

@@ -1,5 +1,5 @@
 -- A stream: what it holds, how it absorbs bytes one after the other, and what it answers.
-use Rattle.std.specs.Prelude.{ℕ, ◌<◌, ◌≡◌, Bool, true, false, List, [], ◌∷◌, ◌++◌, length, ◌==◌, if◌then◌else◌}
+use Rattle.std.specs.Prelude.{ℕ, ◌<◌, ◌^◌, ◌≡◌, Bool, true, false, List, [], ◌∷◌, ◌++◌, length, ◌==◌, if◌then◌else◌}
 use Rattle.komihash.specs.Hash.{hash_from_pair}
 use Rattle.komihash.specs.Rounds.{Lanes, seeded, lanes, block, joined}
 use Rattle.komihash.specs.Words.{AreBytes, is_high, padding_behind, words_of, words}
@@ -29,6 +29,10 @@ unfoldable pub absorb : ℕ → State → List ℕ → State
 absorb v s [] = s
 absorb v s (b ∷ bytes) = absorb v (absorb_byte v s b) bytes
 
+-- the state is that of a new stream of the seed that absorbed the message, in whatever pieces
+unfoldable pub HasAbsorbed : ℕ → ℕ → State → List ℕ → Type 0
+HasAbsorbed v seed s m = s ≡ absorb v (start seed) m
+
 -- the words that an answer has left: the padded words of the pending bytes; where there are none,
 -- the padding byte of the last block alone, or 0 where no block was absorbed
 abbrev pub tail_of : ℕ → List ℕ → Bool → Bool → List ℕ
@@ -39,10 +43,27 @@ tail_of v [] absorbed high = (if absorbed then padding_behind high else 0) ∷ [
 unfoldable pub answer : ℕ → State → ℕ
 answer v s = hash_from_pair (joined s.absorbed s.lanes) (tail_of v s.pending s.absorbed s.high)
 
--- a state of version v: at most 63 bytes are pending, and the bit is set only where a block was
--- absorbed, and only in version 4
+-- all eight lanes are words
+pub record AreWords (s : Lanes) : Type 0 where
+  pub s1 : s.s1 < 2 ^ 64
+  pub s2 : s.s2 < 2 ^ 64
+  pub s3 : s.s3 < 2 ^ 64
+  pub s4 : s.s4 < 2 ^ 64
+  pub s5 : s.s5 < 2 ^ 64
+  pub s6 : s.s6 < 2 ^ 64
+  pub s7 : s.s7 < 2 ^ 64
+  pub s8 : s.s8 < 2 ^ 64
+
+-- a state of version v: the lanes are words, at most 63 bytes are pending, and the bit is set only
+-- where a block was absorbed, and only in version 4
 pub record IsState (v : ℕ) (s : State) : Type 0 where
+  pub words : AreWords s.lanes
   pub bytes : AreBytes s.pending
   pub few : length s.pending < 64
   pub high_absorbed : s.high ≡ true → s.absorbed ≡ true
   pub high_version : s.high ≡ true → v ≡ 4
+
+-- what a stream of version v shows: a state, and that it is one of this version
+pub record StateOf (v : ℕ) : Type 0 where
+  pub state : State
+  pub is_state : IsState v state

@@ -7,14 +7,17 @@ use crate::tally::Tally;
 use crate::utils::{multiply128, write_partial_word};
 use std::marker::Model;
 
-/// A generator of version V: its pair of words.
+/// A generator of version V, of words and bytes that look random, from a pair of numbers. It is not
+/// cryptographic.
+///
+/// The same pair gives the same outputs. Each version has a step of its own.
 #[derive(Drop)]
-pub(crate) struct Generator<const V: u8> {
+pub struct Komirand<const V: u8> {
     s1: u64,
     s2: u64,
 }
 
-impl<const V: u8> Model for Generator<V> {
+impl<const V: u8> Model for Komirand<V> {
     ghost use Rattle.std.specs.Prelude.{ℕ};
 
     ghost Value = { ℕ × ℕ };
@@ -22,37 +25,45 @@ impl<const V: u8> Model for Generator<V> {
     ghost view = { λ g. (g.s1, g.s2) };
 }
 
-impl<const V: u8> Generator<V> {
-    /// The generator of a pair.
-    #[inline(always)]
-    pub(crate) fn new(s1: u64, s2: u64) -> Self
+impl<const V: u8> Komirand<V> {
+    /// The generator of this pair, which takes no step. Any numbers will do, even 0.
+    #[inline]
+    pub fn new(s1: u64, s2: u64) -> Self
         ensures { result ≡ (s1, s2) }
     {
-        Generator { s1, s2 }
+        Komirand { s1, s2 }
     }
 
-    /// The generator of a pair after four steps.
+    /// The generator of a seed, taken as both numbers, after four steps.
+    #[inline]
+    pub fn init(seed: u64) -> Self
+        ensures { result ≡ after_steps V 4 (seed, seed) }
+    {
+        Komirand::init_with_extra_seed(seed, seed)
+    }
+
+    /// The generator of two seeds after four steps.
+    #[inline]
     #[tactic(auto, unfolding(crate::specs::Generator::after_steps))]
-    #[inline(always)]
-    pub(crate) fn warmed(s1: u64, s2: u64, tally: &mut Tally) -> Self
+    pub fn init_with_extra_seed(s1: u64, s2: u64) -> Self
         ensures { result ≡ after_steps V 4 (s1, s2) }
     {
-        let mut generator = Generator::new(s1, s2);
-        generator.next(tally);
-        generator.next(tally);
-        generator.next(tally);
-        generator.next(tally);
+        let mut generator = Komirand::new(s1, s2);
+        generator.next();
+        generator.next();
+        generator.next();
+        generator.next();
         generator
     }
 
     /// Takes one step, and gives its output.
+    #[inline]
     #[tactic(auto, unfolding(crate::specs::Generator::next))]
-    #[inline(always)]
-    pub(crate) fn next(&mut self, tally: &mut Tally) -> u64
+    pub fn next(&mut self) -> u64
         ensures output { result ≡ (next V self.old).0 }
         ensures pair { self.new ≡ next V self.old }
     {
-        let (low, high) = multiply128(self.s1, self.s2, tally);
+        let (low, high) = multiply128(self.s1, self.s2, &mut Tally::new());
         self.s2 = self
             .s2
             .wrapping_add(high)
@@ -65,19 +76,22 @@ impl<const V: u8> Generator<V> {
         self.s1
     }
 
-    /// Fills a buffer with the bytes of the next outputs.
-    #[inline(always)]
-    pub(crate) fn fill_bytes(&mut self, buffer: &mut [u8], tally: &mut Tally)
+    /// Fills the buffer with the bytes of the next outputs, of each the lowest byte first.
+    ///
+    /// Each eight bytes take one output, and a rest of fewer takes one more, whose other bytes are
+    /// dropped. A fill of no bytes takes none.
+    #[inline]
+    pub fn fill_bytes(&mut self, buffer: &mut [u8])
         ensures bytes { buffer.new ≡ fill V self.old (length buffer.old) }
         ensures pair { self.new ≡ after_fill V self.old (length buffer.old) }
     {
         let whole = buffer.len() / 8;
         'words: for i in 0..whole {
-            let word = self.next(tally);
+            let word = self.next();
             buffer[8 * i..8 * i + 8].copy_from_slice(&word.to_le_bytes());
         }
         if buffer.len() % 8 > 0 {
-            let last = self.next(tally);
+            let last = self.next();
             write_partial_word(last, &mut buffer[8 * whole..]);
         }
     }

@@ -1,18 +1,18 @@
 //! Komihash, a fast hash of 64 bits that is not cryptographic, in its versions 4 and 5.
 //!
-//! The same bytes and the same seed give the same number, on every machine, and that number is
+//! The same bytes and the same seed give the same number, however they were cut, and that number is
 //! proved to be what the definitions in `specs/` say.
 #![tactic(auto)]
 
 mod ending;
 mod generator;
+mod hasher;
 pub mod laws;
 mod one_shot;
 mod padded;
 mod padding;
 mod rounds;
 pub mod stream;
-mod streaming;
 pub mod tally;
 #[cfg(test)]
 mod tests;

@@ -5,6 +5,9 @@ ghost use Rattle.komihash.specs.Calls.{answers, onward, bytes_of_calls, onward_p
 ghost use Rattle.komihash.specs.Counts.{write_products, answer_products, kept_bytes};
 ghost use Rattle.komihash.specs.Stream.{State, IsState, start, absorb, answer};
 
+mod engine;
+pub(crate) mod streamed;
+
 use crate::tally::Tally;
 
 /// A stream of one of the versions.
@@ -20,7 +23,6 @@ pub trait KomiStream: Sized + Drop {
     /// The new stream of a seed; the tally rises by one product.
     fn start(seed: u64, tally: &mut Tally) -> Self
         ensures state { state result ≡ start seed }
-        ensures is_state { IsState VERSION (state result) }
         ensures products { tally.new.products ≡ tally.old.products + 1 }
         ensures kept { tally.new.kept ≡ tally.old.kept };
 
@@ -28,7 +30,6 @@ pub trait KomiStream: Sized + Drop {
     /// bytes that are kept.
     fn absorb(&mut self, bytes: &[u8], tally: &mut Tally)
         ensures state { state self.new ≡ absorb VERSION (state self.old) bytes.now }
-        ensures is_state { IsState VERSION (state self.new) }
         ensures products { tally.new.products
             ≡ tally.old.products + write_products (length (state self.old).pending) (length bytes.now) }
         ensures kept { tally.new.kept
@@ -38,12 +39,14 @@ pub trait KomiStream: Sized + Drop {
     /// it is, and may go on.
     fn answer(&self, tally: &mut Tally) -> u64
         ensures answer { result ≡ answer VERSION (state self.now) }
-        ensures is_state { IsState VERSION (state self.now) }
         ensures products { tally.new.products
             ≡ tally.old.products + answer_products (length (state self.now).pending) }
         ensures kept { tally.new.kept ≡ tally.old.kept };
 
     ghost versions: { (VERSION ≡ 4) ⊎ (VERSION ≡ 5) };
+
+    /// What a stream holds is a state of its version, so at most 63 bytes are pending.
+    ghost is_state: { (stream : Self) → IsState VERSION (state stream) };
 }
 
 /// One call on a stream: absorb these bytes, or answer.
@@ -53,19 +56,20 @@ pub enum Call<'a> {
     Answer,
 }
 
-// Makes calls on a stream in any state. The answers stand first in `out`.
-fn run_calls<S: KomiStream>(
+/// Makes calls on a stream, in order, and answers how many answers there are.
+///
+/// They stand first in `out`, in order; behind them `out` stays as it is. There has to be a place
+/// for each call. The stream stays with all bytes absorbed, and may go on.
+pub fn run_on<S: KomiStream>(
     stream: &mut S,
     calls: &[Call<'_>],
     out: &mut [u64],
     tally: &mut Tally,
 ) -> usize
-    requires room { length calls.now ≤ length out.old }
-    requires is_state { IsState S.VERSION (S.state stream.old) }
+    requires { length calls.now ≤ length out.old }
     ensures answers { out.new ≡ onward S.VERSION (S.state stream.old) calls.now ++ drop result out.old }
     ensures count { result ≡ length (onward S.VERSION (S.state stream.old) calls.now) }
     ensures state { S.state stream.new ≡ absorb S.VERSION (S.state stream.old) (bytes_of_calls calls.now) }
-    ensures is_state { IsState S.VERSION (S.state stream.new) }
     ensures products { tally.new.products
         ≡ tally.old.products + onward_products (length (S.state stream.old).pending) calls.now }
     ensures kept { tally.new.kept
@@ -102,5 +106,5 @@ pub fn run<S: KomiStream>(
     ensures kept { tally.new.kept ≡ tally.old.kept + run_kept calls.now }
 {
     let mut stream = S::start(seed, tally);
-    run_calls(&mut stream, calls, out, tally)
+    run_on(&mut stream, calls, out, tally)
 }

@@ -1,7 +1,6 @@
 //! What a call costs, for contracts alone.
 
 ghost use Rattle.std.specs.Prelude.{◌≡◌, ℕ, ◌+◌};
-ghost use Rattle.std.specs.Borrow.{ftrue};
 
 use std::marker::{Model, PhantomData};
 
@@ -18,7 +17,24 @@ pub struct Tally {
 }
 
 impl Model for Tally {
-    ghost also_owns = { λ _. ftrue };
+    ghost use Rattle.komihash.specs.Tallies.{counted};
+
+    ghost also_owns = { λ t. counted t.products t.kept };
+}
+
+// The key to what a tally owns, without which no proof can make or raise one. No other crate can
+// name it, since this struct is private. No value of it is ever made.
+struct TallyKey;
+
+impl Model for TallyKey {
+    ghost use Rattle.std.specs.Coded.{prop_coded};
+    ghost use Rattle.komihash.specs.Sealed.{Key, Key-prop, key};
+
+    ghost Value = { Key };
+
+    ghost coded = { prop_coded Key-prop };
+
+    ghost view = { λ _. key };
 }
 
 impl Tally {

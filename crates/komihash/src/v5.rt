@@ -1,9 +1,5 @@
 //! Komihash version 5.
 
-mod generator;
-mod hasher;
-mod stream;
-
 ghost use Rattle.std.specs.Prelude.{◌≡◌, ◌+◌, ◌*◌, ◌/◌, ◌≤◌, ◌↔◌, IfSome, IfNone, IsNone, length, take, drop};
 ghost use Rattle.komihash.specs.Counts.{hash_products};
 ghost use Rattle.komihash.specs.Hash.{komi};
@@ -11,10 +7,16 @@ ghost use Rattle.komihash.specs.Padding.{ArePadded};
 ghost use Rattle.komihash.specs.Words.{words as padded_words};
 
 use crate::tally::Tally;
-use crate::{one_shot, padded};
-pub use generator::Komirand;
-pub use hasher::KomiHasher;
-pub use stream::StreamedKomihash;
+use crate::{generator, hasher, one_shot, padded, stream};
+
+/// The stream of version 5.
+pub type StreamedKomihash = stream::streamed::StreamedKomihash<5>;
+
+/// The hasher of version 5.
+pub type KomiHasher = hasher::KomiHasher<5>;
+
+/// The generator of version 5.
+pub type Komirand = generator::Komirand<5>;
 
 /// The hash of a message with a seed.
 #[inline]

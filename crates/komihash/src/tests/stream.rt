@@ -3,7 +3,7 @@
 ghost use Rattle.std.specs.Prelude.{◌≢◌};
 
 use super::messages::{BLOCK_FIVE, BLOCK_FOUR, LONGEST, ZERO, byte_by_byte, pattern};
-use crate::stream::{Call, KomiStream, run};
+use crate::stream::{Call, KomiStream, run, run_on};
 use crate::tally::Tally;
 use crate::{v4, v5};
 use std::process::Abort;
@@ -239,6 +239,19 @@ fn runs_few_calls(rt: HostRuntime) {
         2
     );
     assert_eq!(rt; out, [0, 0, 9, 9]);
+}
+
+#[test]
+fn runs_on_in_mid_stream(rt: HostRuntime) {
+    let message = BLOCK_FIVE;
+    let mut stream = v5::StreamedKomihash::new();
+    stream.write(&message[..1]);
+    let calls = [Call::Absorb(&message[1..64]), Call::Answer];
+    let mut out = [9; 3];
+    assert_eq!(rt; run_on(&mut stream, &calls, &mut out, &mut Tally::new()), 1);
+    assert_eq!(rt; out, [0x2a2f_07ac_9381_0128, 9, 9]);
+    stream.write(&message[64..]);
+    assert_eq!(rt; stream.finish(), 6);
 }
 
 #[test]

@@ -7,11 +7,11 @@ use Rattle.komihash.proofs.stream.run.Goals as goal
 pub returns-clause-answers : goal.returns-clause-answers
 returns-clause-answers g c =
     let v = g.S.KomiStream.VERSION in
-    c.run_calls.ensures.answers
-    ∙ ap (λ xs. xs ++ drop c.run_calls.result c.args.out.now) (ap (λ s. onward v s c.args.calls.now) c.start-stream.ensures.state ∙ onward-start v c.args.seed c.args.calls.now)
+    c.run_on.ensures.answers
+    ∙ ap (λ xs. xs ++ drop c.run_on.result c.args.out.now) (ap (λ s. onward v s c.args.calls.now) c.start-stream.ensures.state ∙ onward-start v c.args.seed c.args.calls.now)
 
 pub returns-clause-count : goal.returns-clause-count
 returns-clause-count g c =
     let v = g.S.KomiStream.VERSION in
-    c.run_calls.ensures.count
+    c.run_on.ensures.count
     ∙ ap length (ap (λ s. onward v s c.args.calls.now) c.start-stream.ensures.state ∙ onward-start v c.args.seed c.args.calls.now)

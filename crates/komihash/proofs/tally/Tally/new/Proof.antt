@@ -1,6 +1,10 @@
 -- `new` makes a value of no bytes, at 0 and 0.
 use Rattle.std.proofs.Common.{[], ◌∷◌, refl}
 use Rattle.komihash.proofs.Facts.{both}
+use Rattle.komihash.proofs.Raised.{made}
+use base.Fml.{Fml, fsep, ftrue}
+use denote.Struct.Struct.{Struct}
+use denote.Struct.Owning as Owning
 use seplogic.Ra.Ura.{Ura}
 use mir.Val.{Val, vstruct, vcons, vnil}
 use base.Logic.{SProp}
@@ -11,7 +15,7 @@ use types.Logic.{Logic}
 use contract.Monad.{Fun}
 use contract.Running.{tables, tables_of}
 use sound.WpLaws.{WpFn-mono}
-use types.Kit.{raw, ◌$◌, ◌∵◌, !, qed, by, keep, join, suffices, frame}
+use types.Kit.{‵, use1, raw, ◌$◌, ◌∵◌, !, qed, by, keep, join, suffices, frame}
 use types.Run.{no_more, and_then, returns, enter}
 use types.Part.{agg}
 use types.ByLocal.{alloc_all, pass_all, free_all, look_at, get, sets}
@@ -34,6 +38,10 @@ v = vstruct (vcons (vstruct vnil) vnil)
 abbrev r : Tally
 r = record { marker = record {}; products = 0; kept = 0 }
 
+-- what the fields own
+abbrev own : Fml
+own = (Struct (Owning.shape T.the_type)).own_val (Owning.to T.the_type r) (v ∷ [])
+
 meets : {M : Type 1} {𝓤 : Ura M} (𝓛 : Logic 𝓤) → (at_mem : Memory → SProp 𝓤) (run : Routine → Fun 𝓤) (𝓣 : Tables 𝓤 𝓛.H)
     → Meets 𝓛 it.signature (WpFn 𝓤 𝓛.H 𝓣.C 𝓣.Λ code.function) (it.spec 𝓛 at_mem run)
 meets {𝓤 = 𝓤} 𝓛 at_mem run 𝓣 =
@@ -43,7 +51,8 @@ meets {𝓤 = 𝓤} 𝓛 at_mem run 𝓣 =
     enter ! 𝓣.C 𝓣.Λ code.function [] _ $ alloc_all ! (λ l. pass_all ! refl tt $
     sets ! (agg ! (no_more !)) refl (tt, tt) $ sets ! (agg ! (and_then ! (get ! refl) (no_more !))) refl (tt, (tt, tt)) $
     returns ! (look_at ! 0 refl) $ free_all ! refl $
-    pure_i ! ((T.the_row).own_val r (v ∷ [])) ((λ vss. (tt, ((λ uss. (tt, tt)), tt))), tt) (((vstruct vnil ∷ [], tt), (refl, ((tt, (refl, tt)), tt))), tt) $
+    pure_i ! (fsep own ftrue) ((λ vss. (tt, ((λ uss. (tt, tt)), tt))), tt) (((vstruct vnil ∷ [], tt), (refl, ((tt, (refl, tt)), tt))), tt) $
+    use1 𝓛 (‵ ((T.the_row).own_val r (v ∷ []))) (made 𝓛 own 0 0) $
     suffices ! _ (ends_at 𝓛 it.ended tt (it.clauses 𝓛 at_mem run) ((κs, qs, bounds, a, tt), g) v r tt tt) $ nothing ! $ join ! $ nothing ! $ join ! $ frame ! $
     by ! (both 𝓤 refl refl))))
 

@@ -1,7 +1,9 @@
 -- An empty body. The borrow is opened, and closed at the higher ghost values.
 use Rattle.std.proofs.Common.{◌+◌, List, [], ◌∷◌, refl}
 use Rattle.std.proofs.raw_atomic.Walks.{proved}
-use base.Logic.{id⊢}
+use Rattle.komihash.proofs.Raised.{changed}
+use denote.Struct.Struct.{Struct}
+use denote.Struct.Owning as Owning
 use base.Fml.{ftrue, flft}
 use mir.Syntax.{named, w64}
 use mir.Val.{Val, vunit}
@@ -19,7 +21,7 @@ use denote.Steps.{opens, closes, nothing}
 use denote.Triple.Walked.{Stays, stay_ref, stay_dropped, walk_of, Goes-ref, Goes-dropped, ends_at}
 use Rattle.komihash.proofs.Facts.{both}
 use Rattle.komihash.specs.declared.tally.Tally.{Tally}
-use Rattle.komihash.specs.contracts.tally.Tally.{the_row as R}
+use Rattle.komihash.specs.contracts.tally.Tally.{the_row as R, the_type as T}
 use Rattle.komihash.specs.contracts.tally.Tally.raise as f
 use Rattle.komihash.proofs.tally.Tally.raise.Statement.{statement}
 use Rattle.komihash.proofs.tally.Tally.raise.Code as code
@@ -42,7 +44,7 @@ raise_spec 𝓤 𝓛 𝓜 𝓡 wired =
     split ! $ split ! $ move ! (2 ∷ []) $ fsplit ! $ fsplit3 ! $ keep ! (1 ∷ 2 ∷ 4 ∷ []) $
     enter ! _ _ _ _ _ $ alloc_all ! (λ l. pass_all ! refl ((tt, tt), ((tt, record { fits = are.1.0.1 }), ((tt, record { fits = are.1.1.0.1 }), tt))) $
     opens ! tt R b o (λ us. sets ! (of_opd ! (unit_lit !)) refl (tt, tt) $
-    move ! (1 ∷ []) $ use1 𝓛 (‵ (R.own_val h' us)) (id⊢ 𝓤 _) $ move ! (1 ∷ 0 ∷ []) $ closes ! tt R h' us b o $
+    move ! (1 ∷ []) $ use1 𝓛 (‵ (R.own_val h' us)) (changed 𝓛 ((Struct (Owning.shape T)).own_val (Owning.to T h) us) h.products h.kept h'.products h'.kept) $ move ! (1 ∷ 0 ∷ []) $ closes ! tt R h' us b o $
     returns ! (look_at ! 0 refl) $ free_all ! refl $
     suffices ! _ (ends_at 𝓛 f.ended stayed c y vunit tt (h', (tt, (tt, tt))) (tt, (tt, (tt, tt)))) $
     feq_i ! (List Val) vs vs refl $ fjoin3 ! $ nothing ! $ nothing ! $ fjoin ! $ nothing ! $ fjoin ! $ move ! (1 ∷ 0 ∷ []) $ fjoin ! $

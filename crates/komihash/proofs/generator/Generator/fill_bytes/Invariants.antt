@@ -1,5 +1,0 @@
-use Rattle.komihash.proofs.Filling.{Filled}
-use Rattle.komihash.proofs.generator.Generator.fill_bytes.Given as goal
-
-abbrev pub invariant-words : goal.invariant-words
-invariant-words g l = Filled g.row.V l.i l.fn.self l.buffer l.self

@@ -1,0 +1,25 @@
+-- What a tally owns beside its numbers, and the key to it. `specs/Lib.antt` keeps this file private:
+-- no other crate can name the key, and none can unfold these definitions.
+use Rattle.std.specs.Prelude.{ℕ, ◌≡◌, refl}
+use Rattle.std.specs.Coded.{Unit-prop}
+use base.Fml.{Fml, ftrue}
+
+-- what a tally of these numbers owns: nothing, but nobody outside can tell
+pub counted : ℕ → ℕ → Fml
+counted products kept = ftrue
+
+pub Key : Type 0
+Key = Unit {0}
+
+pub key : Key
+unfolding Key
+key = tt
+
+pub Key-prop : IsProp Key
+unfolding Key
+Key-prop = Unit-prop
+
+-- who has the key can make what a tally of any numbers owns
+pub opened : Key → (products kept : ℕ) → counted products kept ≡ ftrue
+unfolding counted
+opened _ products kept = refl

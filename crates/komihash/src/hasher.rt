@@ -1,0 +1,63 @@
+//! The hasher of both versions.
+
+ghost use Rattle.std.specs.Prelude.{◌≡◌, ℕ};
+ghost use Rattle.komihash.specs.Hash.{komi};
+
+use crate::one_shot::hash;
+use crate::tally::Tally;
+use std::hash::Hasher;
+use std::marker::Model;
+
+/// A hasher of version V that shows one number: each write replaces it by the write's hash, with
+/// the number before as the seed.
+///
+/// So writes are not joined: the number after two writes is not the hash of all their bytes. A write
+/// of no bytes is a step too, and replaces the number.
+#[derive(Drop)]
+pub struct KomiHasher<const V: u8> {
+    number: u64,
+}
+
+impl<const V: u8> Model for KomiHasher<V> {
+    ghost Value = { ℕ };
+
+    ghost view = { λ h. h.number };
+}
+
+impl<const V: u8> KomiHasher<V> {
+    /// The hasher of a number, which is the seed of its first write.
+    #[inline]
+    pub fn new(seed: u64) -> Self
+        ensures { result ≡ seed }
+    {
+        KomiHasher { number: seed }
+    }
+}
+
+impl<const V: u8> Default for KomiHasher<V> {
+    ghost is_default = { λ s. s ≡ 0 };
+
+    /// The hasher of the number 0.
+    #[inline]
+    fn default() -> Self {
+        KomiHasher::new(0)
+    }
+}
+
+impl<const V: u8> Hasher for KomiHasher<V> {
+    ghost write = { komi V };
+
+    ghost finish = { λ s. s };
+
+    /// The number. The hasher stays as it is, and may go on.
+    #[inline]
+    fn finish(&self) -> u64 {
+        self.number
+    }
+
+    /// Replaces the number by the hash of the bytes, with the number as the seed.
+    #[inline]
+    fn write(&mut self, bytes: &[u8]) {
+        self.number = hash::<V>(bytes, self.number, &mut Tally::new());
+    }
+}

@@ -1,0 +1,149 @@
+//! The stream of both versions, as callers have it.
+
+ghost use Rattle.std.specs.Prelude.{◌≡◌, ℕ, List, [], ◌++◌};
+ghost use Rattle.komihash.specs.Hash.{komi};
+ghost use Rattle.komihash.specs.Stream.{IsState, HasAbsorbed, start, absorb, answer};
+
+use super::KomiStream;
+use super::engine::Engine;
+use crate::tally::Tally;
+use std::marker::Model;
+
+/// A stream of version V: it takes a message in pieces, and answers the hash of all bytes so far at
+/// any time.
+///
+/// However the bytes are cut, the answers are those of `komihash`. There is no limit to their
+/// number. Pieces of a multiple of 64 bytes are best: as long as all are, each is read where it
+/// lies, and nothing is copied into the stream. Of other pieces up to 63 bytes are pending at a
+/// time, and are copied.
+#[derive(Drop)]
+pub struct StreamedKomihash<const V: u8> {
+    engine: Engine<V>,
+    ghost is_state: { IsState V engine },
+}
+
+impl<const V: u8> Model for StreamedKomihash<V> {
+    ghost use Rattle.komihash.specs.Stream.{StateOf};
+
+    ghost Value = { StateOf V };
+
+    ghost view = { λ s. record { state = s.engine; is_state = s.is_state } };
+}
+
+impl<const V: u8> StreamedKomihash<V> {
+    /// The new stream of seed 0.
+    #[inline]
+    pub fn new() -> Self
+        ensures state { result.state ≡ start 0 }
+        ensures message { HasAbsorbed V 0 result.state [] }
+    {
+        StreamedKomihash::new_with_seed(0)
+    }
+
+    /// The new stream of a seed.
+    #[inline]
+    #[tactic(auto, unfolding(crate::specs::Stream::absorb, crate::specs::Stream::HasAbsorbed))]
+    pub fn new_with_seed(seed: u64) -> StreamedKomihash<V>
+        ensures state { result.state ≡ start seed }
+        ensures message { HasAbsorbed V seed result.state [] }
+    {
+        StreamedKomihash {
+            engine: Engine::start(seed, &mut Tally::new()),
+        }
+    }
+
+    /// Absorbs bytes.
+    #[inline(always)]
+    pub fn write(&mut self, bytes: &[u8])
+        ensures state { self.new.state ≡ absorb V self.old.state bytes.now }
+        ensures message { (seed : ℕ) (m : List ℕ) → HasAbsorbed V seed self.old.state m
+            → HasAbsorbed V seed self.new.state (m ++ bytes.now) }
+    {
+        self.engine.absorb(bytes, &mut Tally::new());
+    }
+
+    /// The hash of all bytes so far. The stream stays as it is, and may go on.
+    #[inline]
+    pub fn finish(&self) -> u64
+        ensures answer { result ≡ answer V self.now.state }
+        ensures hash { (seed : ℕ) (m : List ℕ) → HasAbsorbed V seed self.now.state m
+            → result ≡ komi V seed m }
+    {
+        self.engine.answer(&mut Tally::new())
+    }
+}
+
+impl<const V: u8> Default for StreamedKomihash<V> {
+    ghost use Rattle.std.specs.Prelude.{◌≡◌};
+    ghost use Rattle.komihash.specs.Stream.{start};
+
+    ghost is_default = { λ s. s.state ≡ start 0 };
+
+    /// The new stream of seed 0.
+    #[inline]
+    fn default() -> Self {
+        StreamedKomihash::new()
+    }
+}
+
+impl KomiStream for StreamedKomihash<4> {
+    ghost use Rattle.std.proofs.Common.{inl, refl};
+
+    const VERSION: u8 = 4;
+
+    ghost VERSION = { 4 };
+
+    ghost state = { λ s. s.state };
+
+    #[inline(always)]
+    fn start(seed: u64, tally: &mut Tally) -> Self {
+        StreamedKomihash {
+            engine: Engine::start(seed, tally),
+        }
+    }
+
+    #[inline(always)]
+    fn absorb(&mut self, bytes: &[u8], tally: &mut Tally) {
+        self.engine.absorb(bytes, tally);
+    }
+
+    #[inline(always)]
+    fn answer(&self, tally: &mut Tally) -> u64 {
+        self.engine.answer(tally)
+    }
+
+    ghost versions = { inl refl };
+
+    ghost is_state = { λ s. s.is_state };
+}
+
+impl KomiStream for StreamedKomihash<5> {
+    ghost use Rattle.std.proofs.Common.{inr, refl};
+
+    const VERSION: u8 = 5;
+
+    ghost VERSION = { 5 };
+
+    ghost state = { λ s. s.state };
+
+    #[inline(always)]
+    fn start(seed: u64, tally: &mut Tally) -> Self {
+        StreamedKomihash {
+            engine: Engine::start(seed, tally),
+        }
+    }
+
+    #[inline(always)]
+    fn absorb(&mut self, bytes: &[u8], tally: &mut Tally) {
+        self.engine.absorb(bytes, tally);
+    }
+
+    #[inline(always)]
+    fn answer(&self, tally: &mut Tally) -> u64 {
+        self.engine.answer(tally)
+    }
+
+    ghost versions = { inr refl };
+
+    ghost is_state = { λ s. s.is_state };
+}
