@@ -5,26 +5,27 @@ use Rattle.std.proofs.lemmas.Bool.{cases_lt}
 use Rattle.std.proofs.lemmas.Bool.Decides.{nat_tests}
 use Rattle.std.specs.Prelude.{slice_index, nat_le, if◌then◌else◌}
 use Rattle.komihash.specs.Hash.{komi, hash_from_pair}
-use Rattle.komihash.specs.Rounds.{lanes, seeded, joined, closing}
+use Rattle.komihash.specs.Rounds.{lanes, seed_pair, join, closing}
 use Rattle.komihash.specs.Stream.{State, start, absorb, answer, tail_of}
 use Rattle.komihash.specs.Tails.{tail_end, whole_words, after_words, final_word, end_byte, block_lanes, after_blocks}
-use Rattle.komihash.specs.Words.{is_high, AreBytes, word_of, padding_byte}
+use Rattle.komihash.specs.Padding.{has_top_bit, padding_byte}
+use Rattle.komihash.specs.Words.{AreBytes, word_of}
 use Rattle.komihash.proofs.Absorbing.{blocks_state, absorb-few, absorb-blocks}
 use Rattle.komihash.proofs.Blocks.{hash_from_lanes-k_blocks}
 use Rattle.komihash.proofs.HashSteps.{komi-by_lanes, komi-by_pair}
-use Rattle.komihash.proofs.PaddedWords.{words-by_tail}
+use Rattle.komihash.proofs.PaddedWords.{padded_words-by_tail}
 
 tail_of-words : (v : ℕ) (m : List ℕ) (absorbed high : Bool) → tail_of v m absorbed high ≡ whole_words m ++ final_word m (tail_end v m absorbed high) ∷ []
 tail_of-words v [] false high = refl
 tail_of-words v [] true true = refl
 tail_of-words v [] true false = refl
-tail_of-words v (b ∷ m) absorbed high = words-by_tail v (b ∷ m)
+tail_of-words v (b ∷ m) absorbed high = padded_words-by_tail v (b ∷ m)
 
 -- an answer, from the pair of its lanes and its final word
-pub answer-by_pair : (v : ℕ) (s : State) → answer v s ≡ hash_from_pair (joined s.absorbed s.lanes) (whole_words s.pending ++ final_word s.pending (tail_end v s.pending s.absorbed s.high) ∷ [])
+pub answer-by_pair : (v : ℕ) (s : State) → answer v s ≡ hash_from_pair (join s.absorbed s.lanes) (whole_words s.pending ++ final_word s.pending (tail_end v s.pending s.absorbed s.high) ∷ [])
 unfolding answer
 answer-by_pair v s =
-    ap (hash_from_pair (joined s.absorbed s.lanes)) (tail_of-words v s.pending s.absorbed s.high)
+    ap (hash_from_pair (join s.absorbed s.lanes)) (tail_of-words v s.pending s.absorbed s.high)
 
 -- ---- the final word, from what is behind the whole blocks
 
@@ -40,19 +41,19 @@ after_words-after_blocks m =
     ∙ after_words-append (take n m) (drop n m) (n / 8) (length-take-le n m (omega arith) ∙ omega arith)
 
 -- the last byte is the last of what is behind the blocks, or of the last block
-tail_end-blocks : (v : ℕ) (m p : List ℕ) → p ≡ after_blocks m → 64 ≤ length m → tail_end v p true (is_high v (slice_index m (length m - length m % 64 - 1))) ≡ end_byte v m
+tail_end-blocks : (v : ℕ) (m p : List ℕ) → p ≡ after_blocks m → 64 ≤ length m → tail_end v p true (has_top_bit v (slice_index m (length m - length m % 64 - 1))) ≡ end_byte v m
 tail_end-blocks v [] p e le = absurd (omega arith)
 tail_end-blocks v (c ∷ m) [] e le =
     let n : length (after_blocks (c ∷ m)) ≡ 0 = ap length (sym e) in
     let k : length (c ∷ m) - length (c ∷ m) % 64 - 1 ≡ length (c ∷ m) - 1 = omega (arith, n, length-drop (length (c ∷ m) - length (c ∷ m) % 64) (c ∷ m)) in
-    ap (λ i. if is_high v (slice_index (c ∷ m) i) then 2 else 1) k
+    ap (λ i. if has_top_bit v (slice_index (c ∷ m) i) then 2 else 1) k
 tail_end-blocks v (c ∷ m) (b ∷ p) e le =
     let n = length (c ∷ m) - length (c ∷ m) % 64 in
     let some : 0 < length (drop n (c ∷ m)) = subst (λ q. 0 < length q) e (omega arith) in
     let place : n + (length (drop n (c ∷ m)) - 1) ≡ length (c ∷ m) - 1 = omega (arith, length-drop n (c ∷ m)) in
     let last : slice_index (b ∷ p) (length (b ∷ p) - 1) ≡ slice_index (c ∷ m) (length (c ∷ m) - 1) =
     ap (λ q. slice_index q (length q - 1)) e ∙ get_or-drop n (c ∷ m) (length (drop n (c ∷ m)) - 1) 0 ∙ ap (slice_index (c ∷ m)) place in
-    ap (λ x. if is_high v x then 2 else 1) last
+    ap (λ x. if has_top_bit v x then 2 else 1) last
 
 tail_end-start : (v : ℕ) (m : List ℕ) → tail_end v m false false ≡ end_byte v m
 tail_end-start v [] = refl
@@ -65,16 +66,16 @@ answer-joined v seed m =
       | inl lt ↦
           ap (answer v) (absorb-few v (start seed) m (omega arith))
           ∙ answer-by_pair v (record (start seed) { pending = m })
-          ∙ komi-by_pair v seed m (seeded seed) refl (final_word m (tail_end v m false false)) (ap (final_word m) (tail_end-start v m)) lt
+          ∙ komi-by_pair v seed m (seed_pair seed) refl (final_word m (tail_end v m false false)) (ap (final_word m) (tail_end-start v m)) lt
       | inr le ↦
           let last = final_word m (end_byte v m) in
-          let ends : final_word (after_blocks m) (tail_end v (after_blocks m) true (is_high v (slice_index m (length m - length m % 64 - 1)))) ≡ last =
+          let ends : final_word (after_blocks m) (tail_end v (after_blocks m) true (has_top_bit v (slice_index m (length m - length m % 64 - 1)))) ≡ last =
           ap (final_word (after_blocks m)) (tail_end-blocks v m (after_blocks m) refl le) ∙ ap (λ ys. word_of (ys ++ end_byte v m ∷ [])) (sym (after_words-after_blocks m)) in
           ap (answer v) (absorb-blocks v (start seed) m (omega arith) (omega arith))
-          ∙ answer-by_pair v (blocks_state v (lanes (seeded seed)) m)
-          ∙ ap (λ w. hash_from_pair (joined true (block_lanes v (lanes (seeded seed)) (whole_words m))) (whole_words (after_blocks m) ++ w ∷ [])) ends
-          ∙ sym (hash_from_lanes-k_blocks (length m / 64 - 1) v (lanes (seeded seed)) false m last (omega arith))
-          ∙ komi-by_lanes v seed m (seeded seed) refl last refl
+          ∙ answer-by_pair v (blocks_state v (lanes (seed_pair seed)) m)
+          ∙ ap (λ w. hash_from_pair (join true (block_lanes v (lanes (seed_pair seed)) (whole_words m))) (whole_words (after_blocks m) ++ w ∷ [])) ends
+          ∙ sym (hash_from_lanes-k_blocks (length m / 64 - 1) v (lanes (seed_pair seed)) false m last (omega arith))
+          ∙ komi-by_lanes v seed m (seed_pair seed) refl last refl
     ]
 
 -- ---- what an answer reads
@@ -91,6 +92,6 @@ tail_end-pending v [] absorbed high some = absurd (omega arith)
 tail_end-pending v (b ∷ m) absorbed high some = refl
 
 -- an answer with nothing pending
-pub answer-none : (v : ℕ) (s : State) → s.pending ≡ [] → answer v s ≡ closing (joined s.absorbed s.lanes) (tail_end v [] s.absorbed s.high ∷ [])
+pub answer-none : (v : ℕ) (s : State) → s.pending ≡ [] → answer v s ≡ closing (join s.absorbed s.lanes) (tail_end v [] s.absorbed s.high ∷ [])
 unfolding answer
-answer-none v s none = ap (λ m. hash_from_pair (joined s.absorbed s.lanes) (tail_of v m s.absorbed s.high)) none
+answer-none v s none = ap (λ m. hash_from_pair (join s.absorbed s.lanes) (tail_of v m s.absorbed s.high)) none

@@ -2,7 +2,7 @@
 use Rattle.std.proofs.Common.{◌≡◌, ℕ, zero, suc, ◌+◌, ◌-◌, ◌*◌, ◌%◌, ◌<◌, ◌≤◌, List, [], ◌∷◌, ◌++◌, length, take, drop, refl, ap, arith, ◌∙◌, sym}
 use Rattle.std.proofs.lemmas.List.{append_assoc, length-append, length-drop, length-take-le, take-append-drop, drop_at}
 use Rattle.komihash.specs.Kept.{filled, Holds, Appended}
-use Rattle.komihash.specs.Rounds.{Lanes, block}
+use Rattle.komihash.specs.Rounds.{Lanes, block_round}
 use Rattle.komihash.specs.Tails.{whole_words, block_lanes, after_blocks}
 use Rattle.komihash.specs.Words.{AreBytes, word_of}
 use Rattle.komihash.proofs.Blocks.{block_lanes-bytes, after_blocks-more}
@@ -31,10 +31,10 @@ module _ (v : ℕ) (l : Lanes) (old new : List ℕ) (fill : ℕ) (pending bytes 
   first_block =
       omega (arith, holds.size, length-append pending (take (64 - fill) bytes), length-take-le (64 - fill) bytes (omega arith))
 
-  pub begun_lanes : Appended old fill (take (64 - fill) bytes) new → block_lanes v (block v l new) (whole_words (drop (64 - fill) bytes)) ≡ block_lanes v l (whole_words (pending ++ bytes))
+  pub begun_lanes : Appended old fill (take (64 - fill) bytes) new → block_lanes v (block_round v l new) (whole_words (drop (64 - fill) bytes)) ≡ block_lanes v l (whole_words (pending ++ bytes))
   begun_lanes appended =
       let words = appended pending holds.are holds.size holds.filled ∙ filled-whole 8 (pending ++ take (64 - fill) bytes) first_block in
-      ap (λ ws. block_lanes v (block v l ws) (whole_words (drop (64 - fill) bytes))) words
+      ap (λ ws. block_lanes v (block_round v l ws) (whole_words (drop (64 - fill) bytes))) words
       ∙ sym (block_lanes-bytes v l (pending ++ take (64 - fill) bytes) (drop (64 - fill) bytes) first_block)
       ∙ ap (λ all. block_lanes v l (whole_words all)) joined_at
 

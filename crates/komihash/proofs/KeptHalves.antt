@@ -20,8 +20,8 @@ lanes_in-lanes low e =
     cc
 
 -- all lanes joined: the low halves, and the words that they belong to
-pub pair_in-joined : (l1 e1 l2 e2 l3 e3 l4 e4 : ℕ) → bit_xor (bit_xor (bit_xor (bit_xor e1 e2) e3) e4) (bit_xor (bit_xor (bit_xor l1 l2) l3) l4) ≡ bit_xor (bit_xor (bit_xor (bit_xor e4 l1) (bit_xor e1 l2)) (bit_xor e2 l3)) (bit_xor e3 l4)
-pair_in-joined l1 e1 l2 e2 l3 e3 l4 e4 =
+pub pair_in-join : (l1 e1 l2 e2 l3 e3 l4 e4 : ℕ) → bit_xor (bit_xor (bit_xor (bit_xor e1 e2) e3) e4) (bit_xor (bit_xor (bit_xor l1 l2) l3) l4) ≡ bit_xor (bit_xor (bit_xor (bit_xor e4 l1) (bit_xor e1 l2)) (bit_xor e2 l3)) (bit_xor e3 l4)
+pair_in-join l1 e1 l2 e2 l3 e3 l4 e4 =
     sym (ap (λ x. bit_xor (bit_xor x (bit_xor e2 l3)) (bit_xor e3 l4)) (xor_middle e4 l1 e1 l2)
     ∙ ap (λ x. bit_xor x (bit_xor e3 l4)) (xor_middle (bit_xor e4 e1) (bit_xor l1 l2) e2 l3)
     ∙ xor_middle (bit_xor (bit_xor e4 e1) e2) (bit_xor (bit_xor l1 l2) l3) e3 l4

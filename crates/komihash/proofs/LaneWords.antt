@@ -1,7 +1,7 @@
 -- Lanes are words: those of a seed, and those after a block round.
 use Rattle.std.proofs.Common.{ℕ, ◌^◌, ◌<◌, List, [], ◌∷◌, arith}
 use Rattle.std.proofs.lemmas.Nat.{xor_lt}
-use Rattle.komihash.specs.Rounds.{Lanes, low, plus, constant, mix, seeded, lanes, block, block_by}
+use Rattle.komihash.specs.Rounds.{Lanes, low, plus, constant, mix, seed_pair, lanes, block_round, block_round_by}
 use Rattle.komihash.specs.Stream.{AreWords}
 use Rattle.komihash.specs.Tails.{block_lanes}
 
@@ -25,14 +25,14 @@ AreWords-lanes s a e =
     }
 
 -- the lanes of a seed
-pub AreWords-seeded : (seed : ℕ) → AreWords (lanes (seeded seed))
+pub AreWords-seed_pair : (seed : ℕ) → AreWords (lanes (seed_pair seed))
 unfolding mix
-AreWords-seeded seed =
-    AreWords-lanes (seeded seed) (xor_lt 64 _ _ (plus-word _ _) (low-word _)) (plus-word _ _)
+AreWords-seed_pair seed =
+    AreWords-lanes (seed_pair seed) (xor_lt 64 _ _ (plus-word _ _) (low-word _)) (plus-word _ _)
 
 -- the lanes after a block round
-AreWords-block : (v : ℕ) (s : Lanes) (ws : List ℕ) → AreWords (block v s ws)
-unfolding block_by
+AreWords-block : (v : ℕ) (s : Lanes) (ws : List ℕ) → AreWords (block_round v s ws)
+unfolding block_round_by
 AreWords-block v s ws =
     record {
       s1 = xor_lt 64 _ _ (plus-word _ _) (low-word _);
@@ -48,5 +48,5 @@ AreWords-block v s ws =
 -- the lanes after whole blocks
 pub AreWords-block_lanes : (v : ℕ) (s : Lanes) (ws : List ℕ) → AreWords s → AreWords (block_lanes v s ws)
 AreWords-block_lanes v s (w0 ∷ w1 ∷ w2 ∷ w3 ∷ w4 ∷ w5 ∷ w6 ∷ w7 ∷ ws) words =
-    AreWords-block_lanes v (block v s (w0 ∷ w1 ∷ w2 ∷ w3 ∷ w4 ∷ w5 ∷ w6 ∷ w7 ∷ [])) ws (AreWords-block v s _)
+    AreWords-block_lanes v (block_round v s (w0 ∷ w1 ∷ w2 ∷ w3 ∷ w4 ∷ w5 ∷ w6 ∷ w7 ∷ [])) ws (AreWords-block v s _)
 AreWords-block_lanes v s ws words = words

@@ -7,12 +7,13 @@ use Rattle.std.proofs.lemmas.List.{length-append, length-take-le, take_all, get_
 use Rattle.std.proofs.lemmas.Nat.{pow-add, pow_pos, shr-shr, shr_high}
 use Rattle.std.specs.Prelude.{slice_index}
 use Rattle.komihash.specs.Tails.{whole_words, after_words, final_word, end_byte}
-use Rattle.komihash.specs.Words.{AreBytes, is_high, padding_behind, word_of, words, padding_byte, bytes_of, all_bytes}
+use Rattle.komihash.specs.Padding.{has_top_bit, padding_behind, padded_words, padding_byte}
+use Rattle.komihash.specs.Words.{AreBytes, word_of, bytes_of, all_bytes}
 use Rattle.komihash.proofs.Appending.{take-more}
 use Rattle.komihash.proofs.CopiedBytes.{take-all_bytes, drop-all_bytes}
 use Rattle.komihash.proofs.HashSteps.{length-whole_words}
 use Rattle.komihash.proofs.KeptBytes.{length-after_words, length-bytes_of, length-all_bytes}
-use Rattle.komihash.proofs.PaddedWords.{words-by_tail, whole_words-few, after_words-few, after_words-drop}
+use Rattle.komihash.proofs.PaddedWords.{padded_words-by_tail, whole_words-few, after_words-few, after_words-drop}
 use Rattle.komihash.proofs.WordsOfBytes.{AreBytes-take, pow_byte, word_of-append, word_of-lt, AreBytes-drop}
 
 -- ---- a word and its bytes
@@ -72,7 +73,7 @@ take-all_words (w ∷ ws) (suc i) =
 
 -- ---- what the code reads back has these padded words
 
-pub padding_byte_at : (v : ℕ) (ws : List ℕ) (n last : ℕ) → 0 < n → n ≤ 8 * length ws → last ≡ slice_index (all_bytes ws) (n - 1) → padding_behind (is_high v last) ≡ padding_byte v (take n (all_bytes ws))
+pub padding_byte_at : (v : ℕ) (ws : List ℕ) (n last : ℕ) → 0 < n → n ≤ 8 * length ws → last ≡ slice_index (all_bytes ws) (n - 1) → padding_behind (has_top_bit v last) ≡ padding_byte v (take n (all_bytes ws))
 padding_byte_at v ws n last some le is =
     let size : length (take n (all_bytes ws)) ≡ n = length-take-le n (all_bytes ws) (omega (arith, length-all_bytes ws)) in
     let same : get_or (take n (all_bytes ws)) (n - 1) 0 ≡ get_or (all_bytes ws) (n - 1) 0 = get_or-take n (all_bytes ws) (n - 1) 0 (omega arith) in
@@ -113,10 +114,10 @@ module _ (v : ℕ) (ws : List ℕ) (h : (k : ℕ) → get_or ws k 0 < 2 ^ 64) (s
             omega arith
       ]
 
-  pub words-message : last_word / 2 ^ (8 * r) ≡ end_byte v message → words v message ≡ ws
-  words-message ends =
+  pub padded_words-message : last_word / 2 ^ (8 * r) ≡ end_byte v message → padded_words v message ≡ ws
+  padded_words-message ends =
       let size : length (bytes_of r last_word) < 8 = omega (arith, length-bytes_of r last_word) in
-      words-by_tail v message
+      padded_words-by_tail v message
       ∙ ap (λ m. whole_words m ++ word_of (after_words m ++ end_byte v message ∷ []) ∷ []) in_bytes
       ∙ ap (λ us. us ++ word_of (after_words (all_bytes (take before ws) ++ bytes_of r last_word) ++ end_byte v message ∷ []) ∷ []) (whole_words-all_bytes (take before ws) (bytes_of r last_word) words_fit size)
       ∙ ap (λ bs. take before ws ++ word_of (bs ++ end_byte v message ∷ []) ∷ []) (after_words-all_bytes (take before ws) (bytes_of r last_word) size)
@@ -125,14 +126,14 @@ module _ (v : ℕ) (ws : List ℕ) (h : (k : ℕ) → get_or ws k 0 < 2 ^ 64) (s
 
 -- ---- a message, from its padded words
 
-pub length-words : (v : ℕ) (m : List ℕ) → length (words v m) ≡ length m / 8 + 1
+pub length-words : (v : ℕ) (m : List ℕ) → length (padded_words v m) ≡ length m / 8 + 1
 length-words v m =
-    ap length (words-by_tail v m) ∙ omega (arith, length-append (whole_words m) (final_word m (end_byte v m) ∷ []), length-whole_words m)
+    ap length (padded_words-by_tail v m) ∙ omega (arith, length-append (whole_words m) (final_word m (end_byte v m) ∷ []), length-whole_words m)
 
-last-words : (v : ℕ) (m : List ℕ) → get_or (words v m) (length (words v m) - 1) 0 ≡ final_word m (end_byte v m)
+last-words : (v : ℕ) (m : List ℕ) → get_or (padded_words v m) (length (padded_words v m) - 1) 0 ≡ final_word m (end_byte v m)
 last-words v m =
-    let place : length (words v m) - 1 ≡ length (whole_words m) = omega (arith, length-words v m, length-whole_words m) in
-    ap (λ k. get_or (words v m) k 0) place ∙ ap (λ ws. get_or ws (length (whole_words m)) 0) (words-by_tail v m)
+    let place : length (padded_words v m) - 1 ≡ length (whole_words m) = omega (arith, length-words v m, length-whole_words m) in
+    ap (λ k. get_or (padded_words v m) k 0) place ∙ ap (λ ws. get_or ws (length (whole_words m)) 0) (padded_words-by_tail v m)
     ∙ get_or-append_seam (whole_words m) (final_word m (end_byte v m)) [] 0
 
 take-all_bytes_back : (m : List ℕ) (end : ℕ) → AreBytes m → take (length m) (all_bytes (whole_words m ++ final_word m end ∷ [])) ≡ m
@@ -145,15 +146,15 @@ take-all_bytes_back (a ∷ b ∷ c ∷ d ∷ e ∷ f ∷ g ∷ h ∷ bs) end byt
     ∙ ap (λ xs. eight ++ xs) (take-all_bytes_back bs end (AreBytes-drop 8 (a ∷ b ∷ c ∷ d ∷ e ∷ f ∷ g ∷ h ∷ bs) bytes))
 take-all_bytes_back m end bytes = bytes_of-word_of_append m (end ∷ []) bytes
 
-pub take-words_back : (v : ℕ) (m : List ℕ) → AreBytes m → take (length m) (all_bytes (words v m)) ≡ m
+pub take-words_back : (v : ℕ) (m : List ℕ) → AreBytes m → take (length m) (all_bytes (padded_words v m)) ≡ m
 take-words_back v m bytes =
-    ap (λ ws. take (length m) (all_bytes ws)) (words-by_tail v m) ∙ take-all_bytes_back m (end_byte v m) bytes
+    ap (λ ws. take (length m) (all_bytes ws)) (padded_words-by_tail v m) ∙ take-all_bytes_back m (end_byte v m) bytes
 
 -- ---- the last word: the padding byte is its highest that is not 0
 
 padding_byte-cases : (v : ℕ) (m : List ℕ) → (padding_byte v m ≡ 1) ⊎ (padding_byte v m ≡ 2)
 padding_byte-cases v m =
-    elim (is_high v (slice_index m (length m - 1))) as (λ b. (padding_behind b ≡ 1) ⊎ (padding_behind b ≡ 2)) [
+    elim (has_top_bit v (slice_index m (length m - 1))) as (λ b. (padding_behind b ≡ 1) ⊎ (padding_behind b ≡ 2)) [
       | true ↦ inr refl
       | false ↦ inl refl
     ]
@@ -208,7 +209,7 @@ last-empty v (b ∷ m) e = absurd (omega arith)
 
 -- ---- what padded words say of their message
 
-module _ (v : ℕ) (ws m : List ℕ) (bytes : AreBytes m) (padded : words v m ≡ ws) where
+module _ (v : ℕ) (ws m : List ℕ) (bytes : AreBytes m) (padded : padded_words v m ≡ ws) where
   last_is : get_or ws (length ws - 1) 0 ≡ final_word m (end_byte v m)
   last_is = ap (λ us. get_or us (length us - 1) 0) (sym padded) ∙ last-words v m
 
@@ -248,9 +249,9 @@ module _ (v : ℕ) (ws m : List ℕ) (bytes : AreBytes m) (padded : words v m �
         ∙ ap (λ n. padding_byte v (take n (all_bytes ws))) padded-by_place
 
 -- no two messages share their padded words
-pub same_message : (v : ℕ) (x y : List ℕ) → AreBytes x → AreBytes y → words v x ≡ words v y → x ≡ y
+pub same_message : (v : ℕ) (x y : List ℕ) → AreBytes x → AreBytes y → padded_words v x ≡ padded_words v y → x ≡ y
 same_message v x y xs ys same =
-    let ws = words v y in
+    let ws = padded_words v y in
     let sizes : length x ≡ length y =
     elim (cases_lt 0 (get_or ws (length ws - 1) 0)) as (λ _. length x ≡ length y) [
       | inl above ↦

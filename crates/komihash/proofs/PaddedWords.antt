@@ -1,6 +1,7 @@
 -- The padded words of a message are its whole words, and the word that ends them.
 use Rattle.std.proofs.Common.{◌≤◌, take, drop, ◌≡◌, ℕ, suc, ◌-◌, ◌%◌, ◌<◌, List, [], ◌∷◌, ◌++◌, length, replicate, refl, ap, arith, ◌∙◌, sym}
-use Rattle.komihash.specs.Words.{word_of, words_of, words, padding_byte}
+use Rattle.komihash.specs.Padding.{padded_words, padding_byte}
+use Rattle.komihash.specs.Words.{word_of, words_of}
 use Rattle.komihash.specs.Tails.{whole_words, after_words, end_byte, final_word}
 
 -- eight bytes more need as many zeros
@@ -15,9 +16,9 @@ words_of-padded (a ∷ b ∷ c ∷ d ∷ e ∷ f ∷ g ∷ h ∷ bs) p =
 words_of-padded bs p = refl
 
 -- the padded words as the code reads them
-pub words-by_tail : (v : ℕ) (m : List ℕ) → words v m ≡ whole_words m ++ final_word m (end_byte v m) ∷ []
-words-by_tail v [] = refl
-words-by_tail v (b ∷ m) = words_of-padded (b ∷ m) (padding_byte v (b ∷ m))
+pub padded_words-by_tail : (v : ℕ) (m : List ℕ) → padded_words v m ≡ whole_words m ++ final_word m (end_byte v m) ∷ []
+padded_words-by_tail v [] = refl
+padded_words-by_tail v (b ∷ m) = words_of-padded (b ∷ m) (padding_byte v (b ∷ m))
 
 -- the next whole word
 pub whole_words-more : (xs : List ℕ) → 8 ≤ length xs → whole_words xs ≡ word_of (take 8 xs) ∷ whole_words (drop 8 xs)

@@ -8,10 +8,11 @@ use Rattle.komihash.specs.declared.stream.engine.Engine.TheInside.{Inside}
 use Rattle.komihash.specs.Kept.{filled, held, Holds, Appended, IsKept}
 use Rattle.komihash.specs.Stream.{AreWords, State, IsState, absorb, answer}
 use Rattle.komihash.specs.Hash.{hash_from_pair}
-use Rattle.komihash.specs.Rounds.{joined, closing}
+use Rattle.komihash.specs.Rounds.{join, closing}
 use Rattle.komihash.proofs.Answers.{answer-by_pair, answer-none, tail_end-pending}
 use Rattle.komihash.specs.Tails.{whole_words, block_lanes, after_blocks, final_word, tail_end}
-use Rattle.komihash.specs.Words.{is_high, AreBytes, padding_byte}
+use Rattle.komihash.specs.Padding.{has_top_bit, padding_byte}
+use Rattle.komihash.specs.Words.{AreBytes}
 use Rattle.komihash.proofs.LaneWords.{AreWords-block_lanes}
 use Rattle.komihash.proofs.Absorbing.{absorb-few, absorb-blocks}
 use Rattle.komihash.proofs.BegunBlock.{Holds-none}
@@ -35,8 +36,8 @@ held-Holds ws fill bytes holds lt =
 filled-Holds : (ws : List ℕ) (fill : ℕ) (bytes : List ℕ) → Holds ws fill bytes → fill < 64 → ws ≡ filled 8 (held ws fill)
 filled-Holds ws fill bytes holds lt = holds.filled ∙ ap (filled 8) (sym (held-Holds ws fill bytes holds lt))
 
-is_high-version : (v b : ℕ) → is_high v b ≡ true → v ≡ 4
-is_high-version v b h = grind (arith, nat_tests)
+has_top_bit-version : (v b : ℕ) → has_top_bit v b ≡ true → v ≡ 4
+has_top_bit-version v b h = grind (arith, nat_tests)
 
 -- a stream's fields before a write of some bytes
 module _ (v : ℕ) (s : Inside v) (eight : length s.words ≡ 8) (kept : IsKept v s.lanes s.words s.fill s.absorbed s.high) (bytes : List ℕ) (are : AreBytes bytes) where
@@ -67,14 +68,14 @@ module _ (v : ℕ) (s : Inside v) (eight : length s.words ≡ 8) (kept : IsKept 
         ∙ sym (absorb-few v (shown s) bytes (omega (arith, holds.size)))
 
   -- the bytes fill at least one block
-  module _ (ls' new : List ℕ) (left : ℕ) (high' : Bool) (many : 64 ≤ s.fill + length bytes) (lanes : lanes_in ls' ≡ block_lanes v (lanes_in s.lanes) (whole_words (held s.words s.fill ++ bytes))) (holds_left : Holds new left (after_blocks (held s.words s.fill ++ bytes))) (rest : left ≡ (s.fill + length bytes) % 64) (bit : high' ≡ is_high v (slice_index bytes (length bytes - left - 1))) where
+  module _ (ls' new : List ℕ) (left : ℕ) (high' : Bool) (many : 64 ≤ s.fill + length bytes) (lanes : lanes_in ls' ≡ block_lanes v (lanes_in s.lanes) (whole_words (held s.words s.fill ++ bytes))) (holds_left : Holds new left (after_blocks (held s.words s.fill ++ bytes))) (rest : left ≡ (s.fill + length bytes) % 64) (bit : high' ≡ has_top_bit v (slice_index bytes (length bytes - left - 1))) where
     pub keeps_left : IsKept v ls' new left true high'
     keeps_left = record {
       words = subst AreWords (sym lanes) (AreWords-block_lanes v (lanes_in s.lanes) (whole_words (held s.words s.fill ++ bytes)) kept.words);
       few = omega arith;
       filled = filled-Holds new left (after_blocks (held s.words s.fill ++ bytes)) holds_left (omega arith);
       high_absorbed = λ _. refl;
-      high_version = λ h. is_high-version v (slice_index bytes (length bytes - left - 1)) (sym bit ∙ h);
+      high_version = λ h. has_top_bit-version v (slice_index bytes (length bytes - left - 1)) (sym bit ∙ h);
     }
 
     last : slice_index bytes (length bytes - left - 1) ≡ slice_index (held s.words s.fill ++ bytes) (length (held s.words s.fill ++ bytes) - length (held s.words s.fill ++ bytes) % 64 - 1)
@@ -86,8 +87,8 @@ module _ (v : ℕ) (s : Inside v) (eight : length s.words ≡ 8) (kept : IsKept 
     pub shows_left : shown {v = v} (record { lanes = ls'; words = new; fill = left; absorbed = true; high = high' }) ≡ absorb v (shown s) bytes
     shows_left =
         let pending = held-Holds new left (after_blocks (held s.words s.fill ++ bytes)) holds_left (omega arith) in
-        let high_is = bit ∙ ap (is_high v) last in
-        let fields : shown {v = v} (record { lanes = ls'; words = new; fill = left; absorbed = true; high = high' }) ≡ record { lanes = block_lanes v (lanes_in s.lanes) (whole_words (held s.words s.fill ++ bytes)); pending = after_blocks (held s.words s.fill ++ bytes); absorbed = true; high = is_high v (slice_index (held s.words s.fill ++ bytes) (length (held s.words s.fill ++ bytes) - length (held s.words s.fill ++ bytes) % 64 - 1)) } = cc in
+        let high_is = bit ∙ ap (has_top_bit v) last in
+        let fields : shown {v = v} (record { lanes = ls'; words = new; fill = left; absorbed = true; high = high' }) ≡ record { lanes = block_lanes v (lanes_in s.lanes) (whole_words (held s.words s.fill ++ bytes)); pending = after_blocks (held s.words s.fill ++ bytes); absorbed = true; high = has_top_bit v (slice_index (held s.words s.fill ++ bytes) (length (held s.words s.fill ++ bytes) - length (held s.words s.fill ++ bytes) % 64 - 1)) } = cc in
         fields ∙ sym (absorb-blocks v (shown s) bytes (omega (arith, holds.size)) (omega (arith, holds.size)))
 
 -- ---- a new stream
@@ -109,12 +110,12 @@ keeps_nothing v ls words =
 
 -- ---- an answer
 
-module _ (v : ℕ) (s : Inside v) (eight : length s.words ≡ 8) (kept : IsKept v s.lanes s.words s.fill s.absorbed s.high) (pair : ℕ × ℕ) (pair_is : pair ≡ joined s.absorbed (lanes_in s.lanes)) (end : ℕ) where
+module _ (v : ℕ) (s : Inside v) (eight : length s.words ≡ 8) (kept : IsKept v s.lanes s.words s.fill s.absorbed s.high) (pair : ℕ × ℕ) (pair_is : pair ≡ join s.absorbed (lanes_in s.lanes)) (end : ℕ) where
   -- nothing is pending
   pub answers_none : s.fill ≡ 0 → end ≡ tail_end v [] s.absorbed s.high → closing pair (end ∷ []) ≡ answer v (shown s)
   answers_none none end_is =
       ap (λ p. closing p (end ∷ [])) pair_is
-      ∙ ap (λ b. closing (joined s.absorbed (lanes_in s.lanes)) (b ∷ [])) end_is
+      ∙ ap (λ b. closing (join s.absorbed (lanes_in s.lanes)) (b ∷ [])) end_is
       ∙ sym (answer-none v (shown s) (ap (held s.words) none ∙ held-nothing s.words))
 
   -- some bytes are
@@ -128,8 +129,8 @@ module _ (v : ℕ) (s : Inside v) (eight : length s.words ≡ 8) (kept : IsKept 
       ap (λ w. bit_or (get_or w (s.fill / 8) 0) (end * 2 ^ (8 * (s.fill % 8)) % 2 ^ 64)) kept.filled ∙ final_word-filled pending s.fill end held_now.are held_now.size kept.few (omega arith) in
       let tail : end ≡ tail_end v pending s.absorbed s.high = end_is ∙ sym (tail_end-pending v pending s.absorbed s.high (omega (arith, held_now.size))) in
       ap (λ p. hash_from_pair p (take (s.fill / 8) s.words ++ bit_or (get_or s.words (s.fill / 8) 0) (end * 2 ^ (8 * (s.fill % 8)) % 2 ^ 64) ∷ [])) pair_is
-      ∙ ap (λ us. hash_from_pair (joined s.absorbed (lanes_in s.lanes)) (us ++ bit_or (get_or s.words (s.fill / 8) 0) (end * 2 ^ (8 * (s.fill % 8)) % 2 ^ 64) ∷ [])) words
-      ∙ ap (λ w. hash_from_pair (joined s.absorbed (lanes_in s.lanes)) (whole_words pending ++ w ∷ [])) (last ∙ ap (final_word pending) tail)
+      ∙ ap (λ us. hash_from_pair (join s.absorbed (lanes_in s.lanes)) (us ++ bit_or (get_or s.words (s.fill / 8) 0) (end * 2 ^ (8 * (s.fill % 8)) % 2 ^ 64) ∷ [])) words
+      ∙ ap (λ w. hash_from_pair (join s.absorbed (lanes_in s.lanes)) (whole_words pending ++ w ∷ [])) (last ∙ ap (final_word pending) tail)
       ∙ sym (answer-by_pair v (shown s))
 
 -- how many bytes a stream shows as pending

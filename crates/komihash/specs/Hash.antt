@@ -1,7 +1,7 @@
 -- The hash of a message, as one pass over its padded words.
 use Rattle.std.specs.Prelude.{ℕ, Bool, true, false, List, [], ◌∷◌}
-use Rattle.komihash.specs.Rounds.{Lanes, seeded, lanes, block, joined, pair_round, closing}
-use Rattle.komihash.specs.Words.{words}
+use Rattle.komihash.specs.Rounds.{Lanes, seed_pair, lanes, block_round, join, pair_round, closing}
+use Rattle.komihash.specs.Padding.{padded_words}
 
 -- while three or more words are left, two go to a pair round; the closing takes the rest
 abbrev pub hash_from_pair : ℕ × ℕ → List ℕ → ℕ
@@ -11,9 +11,9 @@ hash_from_pair s ws = closing s ws
 -- while nine or more words are left, eight go to a block round; then the lanes are joined
 abbrev pub hash_from_lanes : ℕ → Lanes → Bool → List ℕ → ℕ
 hash_from_lanes v s absorbed (w0 ∷ w1 ∷ w2 ∷ w3 ∷ w4 ∷ w5 ∷ w6 ∷ w7 ∷ w ∷ ws) =
-    hash_from_lanes v (block v s (w0 ∷ w1 ∷ w2 ∷ w3 ∷ w4 ∷ w5 ∷ w6 ∷ w7 ∷ [])) true (w ∷ ws)
-hash_from_lanes v s absorbed ws = hash_from_pair (joined absorbed s) ws
+    hash_from_lanes v (block_round v s (w0 ∷ w1 ∷ w2 ∷ w3 ∷ w4 ∷ w5 ∷ w6 ∷ w7 ∷ [])) true (w ∷ ws)
+hash_from_lanes v s absorbed ws = hash_from_pair (join absorbed s) ws
 
 -- the hash of a message with a seed in version v
 unfoldable pub komi : ℕ → ℕ → List ℕ → ℕ
-komi v seed m = hash_from_lanes v (lanes (seeded seed)) false (words v m)
+komi v seed m = hash_from_lanes v (lanes (seed_pair seed)) false (padded_words v m)

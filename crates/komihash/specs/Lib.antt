@@ -1,9 +1,9 @@
 pub mod Calls
-pub mod Chain
 pub mod Counts
 pub mod Generator
 pub mod Halves
 pub mod Hash
+pub mod Hasher
 pub mod Kept
 pub mod Padding
 pub mod Rounds

@@ -1,7 +1,29 @@
--- Which words are padded words.
-use Rattle.std.specs.Prelude.{◌≡◌, ℕ, List}
-use Rattle.komihash.specs.Words.{AreBytes, words}
+-- The padding of a message: its padding byte, and its padded words.
+use Rattle.std.specs.Prelude.{◌≡◌, ℕ, Bool, ◌-◌, ◌%◌, List, [], ◌∷◌, ◌++◌, length, replicate, slice_index, ◌==◌, ◌&&◌, nat_le, if◌then◌else◌}
+use Rattle.komihash.specs.Words.{AreBytes, words_of}
+
+-- whether a last byte is at least 128, where version v looks at that: only version 4 does
+abbrev pub has_top_bit : ℕ → ℕ → Bool
+has_top_bit v b = v == 4 && nat_le 128 b
+
+-- the padding byte: 2 behind a last byte that is high, else 1
+abbrev pub padding_behind : Bool → ℕ
+padding_behind high = if high then 2 else 1
+
+-- the byte that ends a nonempty message in version v: 1, but 2 in version 4 where the message's
+-- last byte is at least 128
+abbrev pub padding_byte : ℕ → List ℕ → ℕ
+padding_byte v m = padding_behind (has_top_bit v (slice_index m (length m - 1)))
+
+-- a nonempty message, its padding byte, and zeros up to a multiple of eight bytes
+abbrev pub padded_bytes : ℕ → List ℕ → List ℕ
+padded_bytes v m = m ++ padding_byte v m ∷ replicate (7 - length m % 8) 0
+
+-- the padded words of a message in version v
+abbrev pub padded_words : ℕ → List ℕ → List ℕ
+padded_words v [] = 0 ∷ []
+padded_words v (b ∷ m) = words_of (padded_bytes v (b ∷ m))
 
 -- the words are the padded words of some message in version v
 abbrev pub ArePadded : ℕ → List ℕ → Type 0
-ArePadded v ws = (m : List ℕ) × AreBytes m × (words v m ≡ ws)
+ArePadded v ws = (m : List ℕ) × AreBytes m × (padded_words v m ≡ ws)

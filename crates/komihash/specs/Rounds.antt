@@ -33,8 +33,8 @@ seed_words seed =
     (bit_xor (constant 1) (bit_and seed 0x5555555555555555), bit_xor (constant 5) (bit_and seed 0xaaaaaaaaaaaaaaaa))
 
 -- the pair that a seed begins with
-abbrev pub seeded : ℕ → ℕ × ℕ
-seeded seed = mix (seed_words seed).0 (seed_words seed).1 (seed_words seed).1
+abbrev pub seed_pair : ℕ → ℕ × ℕ
+seed_pair seed = mix (seed_words seed).0 (seed_words seed).1 (seed_words seed).1
 
 -- the eight words that a block round changes
 pub record Lanes : Type 0 where
@@ -68,16 +68,16 @@ places v =
     else 0 ∷ 4 ∷ 1 ∷ 5 ∷ 2 ∷ 6 ∷ 3 ∷ 7 ∷ []
 
 -- the word whose place is number i of a table
-abbrev pub placed : List ℕ → List ℕ → ℕ → ℕ
-placed table ws i = slice_index ws (slice_index table i)
+abbrev pub word_at_place : List ℕ → List ℕ → ℕ → ℕ
+word_at_place table ws i = slice_index ws (slice_index table i)
 
 -- the lanes after a round on a block of eight words, with a table of places
-unfoldable pub block_by : List ℕ → Lanes → List ℕ → Lanes
-block_by table s ws =
-    let r1 = bit_xor (placed table ws 0) s.s1 * bit_xor (placed table ws 1) s.s5 in
-    let r2 = bit_xor (placed table ws 2) s.s2 * bit_xor (placed table ws 3) s.s6 in
-    let r3 = bit_xor (placed table ws 4) s.s3 * bit_xor (placed table ws 5) s.s7 in
-    let r4 = bit_xor (placed table ws 6) s.s4 * bit_xor (placed table ws 7) s.s8 in
+unfoldable pub block_round_by : List ℕ → Lanes → List ℕ → Lanes
+block_round_by table s ws =
+    let r1 = bit_xor (word_at_place table ws 0) s.s1 * bit_xor (word_at_place table ws 1) s.s5 in
+    let r2 = bit_xor (word_at_place table ws 2) s.s2 * bit_xor (word_at_place table ws 3) s.s6 in
+    let r3 = bit_xor (word_at_place table ws 4) s.s3 * bit_xor (word_at_place table ws 5) s.s7 in
+    let r4 = bit_xor (word_at_place table ws 6) s.s4 * bit_xor (word_at_place table ws 7) s.s8 in
     let t5 = plus s.s5 (high r1) in
     let t6 = plus s.s6 (high r2) in
     let t7 = plus s.s7 (high r3) in
@@ -94,12 +94,12 @@ block_by table s ws =
     }
 
 -- the block round of version v
-abbrev pub block : ℕ → Lanes → List ℕ → Lanes
-block v s ws = block_by (places v) s ws
+abbrev pub block_round : ℕ → Lanes → List ℕ → Lanes
+block_round v s ws = block_round_by (places v) s ws
 
 -- the pair of the lanes: all of them joined where a block was absorbed, else the pair they came from
-abbrev pub joined : Bool → Lanes → ℕ × ℕ
-joined absorbed s =
+abbrev pub join : Bool → Lanes → ℕ × ℕ
+join absorbed s =
     if absorbed
     then (bit_xor (bit_xor (bit_xor s.s1 s.s2) s.s3) s.s4, bit_xor (bit_xor (bit_xor s.s5 s.s6) s.s7) s.s8)
     else (s.s1, s.s5)
@@ -109,11 +109,11 @@ abbrev pub pair_round : ℕ × ℕ → ℕ → ℕ → ℕ × ℕ
 pair_round s w0 w1 = mix (bit_xor w0 s.0) (bit_xor w1 s.1) s.1
 
 -- the answer from the pair of the closing's first mix: one more mix
-abbrev pub mixed_again : ℕ × ℕ → ℕ
-mixed_again s = (mix s.0 s.1 s.1).0
+abbrev pub mix_again : ℕ × ℕ → ℕ
+mix_again s = (mix s.0 s.1 s.1).0
 
 -- the answer from a pair and the one or two words that are left
 abbrev pub closing : ℕ × ℕ → List ℕ → ℕ
-closing s (p ∷ []) = mixed_again (mix (bit_xor s.0 p) s.1 s.1)
-closing s (w ∷ p ∷ []) = mixed_again (mix (bit_xor s.1 p) (bit_xor s.0 w) s.1)
+closing s (p ∷ []) = mix_again (mix (bit_xor s.0 p) s.1 s.1)
+closing s (w ∷ p ∷ []) = mix_again (mix (bit_xor s.1 p) (bit_xor s.0 w) s.1)
 closing s _ = 0

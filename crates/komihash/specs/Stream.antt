@@ -1,8 +1,9 @@
 -- A stream: what it holds, how it absorbs bytes one after the other, and what it answers.
 use Rattle.std.specs.Prelude.{ℕ, ◌<◌, ◌^◌, ◌≡◌, Bool, true, false, List, [], ◌∷◌, ◌++◌, length, ◌==◌, if◌then◌else◌}
 use Rattle.komihash.specs.Hash.{hash_from_pair}
-use Rattle.komihash.specs.Rounds.{Lanes, seeded, lanes, block, joined}
-use Rattle.komihash.specs.Words.{AreBytes, is_high, padding_behind, words_of, words}
+use Rattle.komihash.specs.Rounds.{Lanes, seed_pair, lanes, block_round, join}
+use Rattle.komihash.specs.Padding.{has_top_bit, padding_behind, padded_words}
+use Rattle.komihash.specs.Words.{AreBytes, words_of}
 
 -- eight lanes, the bytes that no block has taken yet, whether a block was absorbed, and in version
 -- 4 whether the last byte of the last block is at least 128
@@ -14,14 +15,14 @@ pub record State : Type 0 where
 
 -- the new stream of a seed
 abbrev pub start : ℕ → State
-start seed = record { lanes = lanes (seeded seed); pending = []; absorbed = false; high = false }
+start seed = record { lanes = lanes (seed_pair seed); pending = []; absorbed = false; high = false }
 
 -- the state after one byte: it is pending, and where 64 are, they go through one block round
 abbrev pub absorb_byte : ℕ → State → ℕ → State
 absorb_byte v s b =
     let bytes = s.pending ++ b ∷ [] in
     if length bytes == 64
-    then record { lanes = block v s.lanes (words_of bytes); pending = []; absorbed = true; high = is_high v b }
+    then record { lanes = block_round v s.lanes (words_of bytes); pending = []; absorbed = true; high = has_top_bit v b }
     else record s { pending = bytes }
 
 -- the state after bytes, one after the other
@@ -36,12 +37,12 @@ HasAbsorbed v seed s m = s ≡ absorb v (start seed) m
 -- the words that an answer has left: the padded words of the pending bytes; where there are none,
 -- the padding byte of the last block alone, or 0 where no block was absorbed
 abbrev pub tail_of : ℕ → List ℕ → Bool → Bool → List ℕ
-tail_of v (b ∷ m) absorbed high = words v (b ∷ m)
+tail_of v (b ∷ m) absorbed high = padded_words v (b ∷ m)
 tail_of v [] absorbed high = (if absorbed then padding_behind high else 0) ∷ []
 
 -- what a stream answers
 unfoldable pub answer : ℕ → State → ℕ
-answer v s = hash_from_pair (joined s.absorbed s.lanes) (tail_of v s.pending s.absorbed s.high)
+answer v s = hash_from_pair (join s.absorbed s.lanes) (tail_of v s.pending s.absorbed s.high)
 
 -- all eight lanes are words
 pub record AreWords (s : Lanes) : Type 0 where

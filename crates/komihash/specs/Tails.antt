@@ -1,8 +1,9 @@
 -- The padded words of a message in the form that the code reads them: its whole words, and the one
 -- word that ends them. `proofs/PaddedWords.antt` shows that this is the same list.
 use Rattle.std.specs.Prelude.{ℕ, Bool, if◌then◌else◌, ◌-◌, ◌%◌, length, drop, List, [], ◌∷◌, ◌++◌}
-use Rattle.komihash.specs.Rounds.{Lanes, block}
-use Rattle.komihash.specs.Words.{word_of, padding_behind, padding_byte}
+use Rattle.komihash.specs.Rounds.{Lanes, block_round}
+use Rattle.komihash.specs.Padding.{padding_behind, padding_byte}
+use Rattle.komihash.specs.Words.{word_of}
 
 -- the words of the bytes, as far as they make whole words
 abbrev pub whole_words : List ℕ → List ℕ
@@ -27,7 +28,7 @@ final_word m end = word_of (after_words m ++ end ∷ [])
 -- the lanes after a block round on each whole block of the words
 abbrev pub block_lanes : ℕ → Lanes → List ℕ → Lanes
 block_lanes v s (w0 ∷ w1 ∷ w2 ∷ w3 ∷ w4 ∷ w5 ∷ w6 ∷ w7 ∷ ws) =
-    block_lanes v (block v s (w0 ∷ w1 ∷ w2 ∷ w3 ∷ w4 ∷ w5 ∷ w6 ∷ w7 ∷ [])) ws
+    block_lanes v (block_round v s (w0 ∷ w1 ∷ w2 ∷ w3 ∷ w4 ∷ w5 ∷ w6 ∷ w7 ∷ [])) ws
 block_lanes v s ws = s
 
 -- the bytes behind the last whole block

@@ -1,6 +1,6 @@
--- Bytes, words, and the padded words of a message. A byte is a number below 2 ^ 8, a word a number
--- below 2 ^ 64, and a message a list of bytes.
-use Rattle.std.specs.Prelude.{ℕ, Bool, zero, suc, ◌+◌, ◌-◌, ◌*◌, ◌/◌, ◌%◌, ◌<◌, List, [], ◌∷◌, ◌++◌, length, replicate, slice_index, ◌==◌, ◌&&◌, nat_le, if◌then◌else◌}
+-- Bytes and words. A byte is a number below 2 ^ 8, a word a number below 2 ^ 64, and a message a
+-- list of bytes.
+use Rattle.std.specs.Prelude.{ℕ, zero, suc, ◌+◌, ◌*◌, ◌/◌, ◌%◌, ◌<◌, List, [], ◌∷◌, ◌++◌, slice_index}
 
 -- every number of a list is a byte
 abbrev pub AreBytes : List ℕ → Type 0
@@ -27,25 +27,3 @@ bytes_of (suc n) w = w % 256 ∷ bytes_of n (w / 256)
 abbrev pub all_bytes : List ℕ → List ℕ
 all_bytes [] = []
 all_bytes (w ∷ ws) = bytes_of 8 w ++ all_bytes ws
-
--- whether version v looks at the top bit of a last byte, and it is set
-abbrev pub is_high : ℕ → ℕ → Bool
-is_high v b = v == 4 && nat_le 128 b
-
--- the padding byte: 2 behind a last byte that is high, else 1
-abbrev pub padding_behind : Bool → ℕ
-padding_behind high = if high then 2 else 1
-
--- the byte that ends a nonempty message in version v: 1, but 2 in version 4 where the message's
--- last byte is at least 128
-abbrev pub padding_byte : ℕ → List ℕ → ℕ
-padding_byte v m = padding_behind (is_high v (slice_index m (length m - 1)))
-
--- a nonempty message, its padding byte, and zeros up to a multiple of eight bytes
-abbrev pub padded : ℕ → List ℕ → List ℕ
-padded v m = m ++ padding_byte v m ∷ replicate (7 - length m % 8) 0
-
--- the padded words of a message in version v
-abbrev pub words : ℕ → List ℕ → List ℕ
-words v [] = 0 ∷ []
-words v (b ∷ m) = words_of (padded v (b ∷ m))

@@ -3,13 +3,14 @@
 
 ghost use Rattle.std.specs.Prelude.{◌≡◌, ℕ, ◌+◌, ◌%◌, ◌^◌, ◌<◌, bit_xor, List, [], ◌∷◌, ◌++◌, length};
 ghost use Rattle.komihash.specs.Calls.{AreAbsorbs, bytes_of_calls, run_products};
-ghost use Rattle.komihash.specs.Chain.{chain};
+ghost use Rattle.komihash.specs.Hasher.{number_after};
 ghost use Rattle.komihash.specs.Counts.{hash_products};
 ghost use Rattle.komihash.specs.Generator.{after_steps, fill, after_fill};
 ghost use Rattle.komihash.specs.Hash.{komi};
 ghost use Rattle.komihash.specs.Rounds.{seed_words, constant};
 ghost use Rattle.komihash.specs.Stream.{State, start, absorb, answer};
-ghost use Rattle.komihash.specs.Words.{AreBytes, words};
+ghost use Rattle.komihash.specs.Padding.{padded_words};
+ghost use Rattle.komihash.specs.Words.{AreBytes};
 ghost use Rattle.komihash.specs.declared.stream.Call.{Call};
 ghost use Rattle.komihash.specs.declared.stream.Call.TheVariants.{Answer};
 
@@ -34,7 +35,7 @@ pub fn joined()
 pub fn empty_write()
     ensures stream { (v : ℕ) (s : State) → absorb v s [] ≡ s }
     ensures chain { (v number : ℕ) (writes : List (List ℕ)) →
-        chain v number ([] ∷ writes) ≡ chain v (komi v number []) writes }
+        number_after v number ([] ∷ writes) ≡ number_after v (komi v number []) writes }
 {}
 
 /// However n bytes are cut, a run that absorbs them and answers once at the end takes 3 products, 4
@@ -64,5 +65,5 @@ pub fn one_seed()
 
 /// Padding loses nothing: two messages with the same padded words in one version are the same.
 pub fn same_words()
-    ensures { (v : ℕ) (x y : List ℕ) → AreBytes x → AreBytes y → words v x ≡ words v y → x ≡ y }
+    ensures { (v : ℕ) (x y : List ℕ) → AreBytes x → AreBytes y → padded_words v x ≡ padded_words v y → x ≡ y }
 {}

@@ -4,15 +4,15 @@
 //! proved to be what the definitions in `specs/` say.
 #![tactic(auto)]
 
-mod ending;
 mod generator;
+mod hash;
 mod hasher;
 pub mod laws;
-mod one_shot;
 mod padded;
 mod padding;
 mod rounds;
 pub mod stream;
+mod tails;
 pub mod tally;
 #[cfg(test)]
 mod tests;

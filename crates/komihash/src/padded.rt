@@ -4,9 +4,8 @@ mod copies;
 mod length;
 
 ghost use Rattle.std.specs.Prelude.{◌≡◌, ◌+◌, ◌*◌, ◌/◌, ◌≤◌, ◌↔◌, IfSome, IfNone, IsNone, length, take, drop};
-ghost use Rattle.komihash.specs.Padding.{ArePadded};
+ghost use Rattle.komihash.specs.Padding.{ArePadded, padded_words};
 ghost use Rattle.komihash.specs.Tails.{end_byte, final_word};
-ghost use Rattle.komihash.specs.Words.{words as padded_words};
 
 use crate::padding::{end_byte, final_of_few, final_of_many};
 use copies::{write_bytes, write_words};

@@ -2,14 +2,14 @@
 
 ghost use Rattle.std.specs.Prelude.{◌≡◌, ◌+◌, ◌<◌, ◌≤◌, length};
 ghost use Rattle.komihash.specs.Tails.{end_byte, final_word};
-ghost use Rattle.komihash.specs.Words.{is_high, padding_behind};
+ghost use Rattle.komihash.specs.Padding.{has_top_bit, padding_behind};
 
 use crate::utils::{read_partial_word, word_at};
 
 /// The padding byte of a message that ends with this byte.
 #[inline(always)]
 pub(crate) fn padding_byte<const V: u8>(last: u8) -> u64
-    ensures { result ≡ padding_behind (is_high V last) }
+    ensures { result ≡ padding_behind (has_top_bit V last) }
 {
     if V == 4 { 1 + u64::from(last >> 7) } else { 1 }
 }

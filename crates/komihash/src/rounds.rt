@@ -4,7 +4,7 @@
 
 ghost use Rattle.std.specs.Prelude.{◌≡◌, ℕ, ◌+◌, ◌*◌, ◌<◌, List, [], ◌∷◌, true, All};
 ghost use Rattle.komihash.specs.Halves.{pair_in, lanes_in};
-ghost use Rattle.komihash.specs.Rounds.{low, high, plus, seed_words, mix, seeded, lanes, places, block_by, joined, pair_round, mixed_again, closing};
+ghost use Rattle.komihash.specs.Rounds.{low, high, plus, seed_words, mix, seed_pair, lanes, places, block_round_by, join, pair_round, mix_again, closing};
 
 pub(crate) mod blocks;
 pub(crate) mod buffer;
@@ -13,16 +13,21 @@ use crate::tally::Tally;
 use crate::utils::multiply128;
 
 // The first 512 bits of the fraction of π, as the hash's eight constants.
-const C: [u64; 8] = [
-    0x243f_6a88_85a3_08d3,
-    0x1319_8a2e_0370_7344,
-    0xa409_3822_299f_31d0,
-    0x082e_fa98_ec4e_6c89,
-    0x4528_21e6_38d0_1377,
-    0xbe54_66cf_34e9_0c6c,
-    0xc0ac_29b7_c97c_50dd,
-    0x3f84_d5b5_b547_0917,
-];
+const C1: u64 = 0x243f_6a88_85a3_08d3;
+
+const C2: u64 = 0x1319_8a2e_0370_7344;
+
+const C3: u64 = 0xa409_3822_299f_31d0;
+
+const C4: u64 = 0x082e_fa98_ec4e_6c89;
+
+const C5: u64 = 0x4528_21e6_38d0_1377;
+
+const C6: u64 = 0xbe54_66cf_34e9_0c6c;
+
+const C7: u64 = 0xc0ac_29b7_c97c_50dd;
+
+const C8: u64 = 0x3f84_d5b5_b547_0917;
 
 /// A pair (a, e) as the code keeps it: the low half of the last product, and the word e. The pair's
 /// a is their xor, which is taken only where a factor is made of it.
@@ -48,15 +53,15 @@ pub(crate) fn seed_words(seed: u64) -> (u64, u64)
     ensures { result ≡ seed_words seed }
 {
     (
-        C[0] ^ (seed & 0x5555_5555_5555_5555),
-        C[4] ^ (seed & 0xaaaa_aaaa_aaaa_aaaa),
+        C1 ^ (seed & 0x5555_5555_5555_5555),
+        C5 ^ (seed & 0xaaaa_aaaa_aaaa_aaaa),
     )
 }
 
 /// The pair that a seed begins with.
 #[inline(always)]
-pub(crate) fn seeded(seed: u64, tally: &mut Tally) -> Pair
-    ensures pair { pair_in result ≡ seeded seed }
+pub(crate) fn seed_pair(seed: u64, tally: &mut Tally) -> Pair
+    ensures pair { pair_in result ≡ seed_pair seed }
     ensures products { tally.new.products ≡ tally.old.products + 1 }
     ensures kept { tally.new.kept ≡ tally.old.kept }
 {
@@ -71,14 +76,14 @@ pub(crate) fn lanes(pair: Pair) -> [u64; 8]
 {
     let (low, e) = pair;
     [
-        C[7] ^ low,
+        C8 ^ low,
         e,
-        C[1] ^ low,
-        C[5] ^ e,
-        (C[2] ^ C[5]) ^ low,
-        C[6] ^ e,
-        (C[3] ^ C[6]) ^ low,
-        C[7] ^ e,
+        C2 ^ low,
+        C6 ^ e,
+        (C3 ^ C6) ^ low,
+        C7 ^ e,
+        (C4 ^ C7) ^ low,
+        C8 ^ e,
     ]
 }
 
@@ -97,7 +102,7 @@ pub(crate) fn places<const V: u8>() -> [usize; 8]
 
 /// The block round, with a table of places.
 #[inline(always)]
-#[tactic(auto, using(crate::proofs::Xor::xor_late), unfolding(crate::specs::Rounds::block_by))]
+#[tactic(auto, using(crate::proofs::Xor::xor_late), unfolding(crate::specs::Rounds::block_round_by))]
 pub(crate) fn block_round(
     lanes: &mut [u64; 8],
     words: &[u64; 8],
@@ -105,7 +110,7 @@ pub(crate) fn block_round(
     tally: &mut Tally,
 )
     requires { All (λ place. place < 8) places }
-    ensures lanes { lanes_in lanes.new ≡ block_by places (lanes_in lanes.old) words.now }
+    ensures lanes { lanes_in lanes.new ≡ block_round_by places (lanes_in lanes.old) words.now }
     ensures products { tally.new.products ≡ tally.old.products + 4 }
     ensures kept { tally.new.kept ≡ tally.old.kept }
 {
@@ -124,8 +129,8 @@ pub(crate) fn block_round(
 /// The pair of the lanes: all of them joined where a block was absorbed, else the pair that they
 /// were made of.
 #[inline(always)]
-pub(crate) fn joined(lanes: &[u64; 8], absorbed: bool) -> Pair
-    ensures { pair_in result ≡ joined absorbed (lanes_in lanes.now) }
+pub(crate) fn join(lanes: &[u64; 8], absorbed: bool) -> Pair
+    ensures { pair_in result ≡ join absorbed (lanes_in lanes.now) }
 {
     let [low1, e1, low2, e2, low3, e3, low4, e4] = *lanes;
     if absorbed {
@@ -149,8 +154,8 @@ pub(crate) fn pair_round(pair: Pair, w0: u64, w1: u64, tally: &mut Tally) -> Pai
 
 // The answer from the pair of the closing's first mix.
 #[inline(always)]
-fn mixed_again(pair: Pair, tally: &mut Tally) -> u64
-    ensures answer { result ≡ mixed_again (pair_in pair) }
+fn mix_again(pair: Pair, tally: &mut Tally) -> u64
+    ensures answer { result ≡ mix_again (pair_in pair) }
     ensures products { tally.new.products ≡ tally.old.products + 1 }
     ensures kept { tally.new.kept ≡ tally.old.kept }
 {
@@ -169,7 +174,7 @@ pub(crate) fn close_one(pair: Pair, word: u64, tally: &mut Tally) -> u64
 {
     let (low, e) = pair;
     let mixed = mix((low ^ word) ^ e, e, e, tally);
-    mixed_again(mixed, tally)
+    mix_again(mixed, tally)
 }
 
 /// The answer from a pair and the two words that are left.
@@ -182,5 +187,5 @@ pub(crate) fn close_two(pair: Pair, word: u64, last: u64, tally: &mut Tally) -> 
 {
     let (low, e) = pair;
     let mixed = mix(e ^ last, (low ^ word) ^ e, e, tally);
-    mixed_again(mixed, tally)
+    mix_again(mixed, tally)
 }

@@ -1,9 +1,9 @@
 //! Tests of what the contracts do not say: that the definitions mean what they should.
 
-mod chain;
 mod definitions;
 mod generator;
 mod hash;
+mod hasher;
 mod messages;
 mod padding;
 mod root;

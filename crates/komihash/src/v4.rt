@@ -3,11 +3,10 @@
 ghost use Rattle.std.specs.Prelude.{◌≡◌, ◌+◌, ◌*◌, ◌/◌, ◌≤◌, ◌↔◌, IfSome, IfNone, IsNone, length, take, drop};
 ghost use Rattle.komihash.specs.Counts.{hash_products};
 ghost use Rattle.komihash.specs.Hash.{komi};
-ghost use Rattle.komihash.specs.Padding.{ArePadded};
-ghost use Rattle.komihash.specs.Words.{words as padded_words};
+ghost use Rattle.komihash.specs.Padding.{ArePadded, padded_words};
 
 use crate::tally::Tally;
-use crate::{generator, hasher, one_shot, padded, stream};
+use crate::{generator, hash, hasher, padded, stream};
 
 /// The stream of version 4.
 pub type StreamedKomihash = stream::streamed::StreamedKomihash<4>;
@@ -23,7 +22,7 @@ pub type Komirand = generator::Komirand<4>;
 pub fn komihash(bytes: &[u8], seed: u64) -> u64
     ensures { result ≡ komi 4 seed bytes.now }
 {
-    komihash_counted(bytes, seed, &mut Tally::new())
+    hash::komihash::<4>(bytes, seed)
 }
 
 /// The hash of a message with a seed; the tally rises by what it costs.
@@ -33,7 +32,7 @@ pub fn komihash_counted(bytes: &[u8], seed: u64, tally: &mut Tally) -> u64
     ensures products { tally.new.products ≡ tally.old.products + hash_products (length bytes.now) }
     ensures kept { tally.new.kept ≡ tally.old.kept }
 {
-    one_shot::hash::<4>(bytes, seed, tally)
+    hash::komihash_counted::<4>(bytes, seed, tally)
 }
 
 /// Writes the padded words of a message, and answers how many they are: one for each eight bytes

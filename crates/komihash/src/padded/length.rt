@@ -1,8 +1,8 @@
 //! The length of the message that words were padded from.
 
 ghost use Rattle.std.specs.Prelude.{◌≡◌, ◌+◌, ◌*◌, ◌/◌, ◌^◌, ◌<◌, ◌≤◌, ◌↔◌, IfSome, IfNone, IsTrue, length, take, slice_index};
-ghost use Rattle.komihash.specs.Padding.{ArePadded};
-ghost use Rattle.komihash.specs.Words.{words as padded_words, padding_byte, all_bytes};
+ghost use Rattle.komihash.specs.Padding.{ArePadded, padded_words, padding_byte};
+ghost use Rattle.komihash.specs.Words.{all_bytes};
 
 use crate::padding::padding_byte;
 

@@ -6,12 +6,12 @@ ghost use Rattle.komihash.specs.Halves.{lanes_in};
 ghost use Rattle.komihash.specs.Kept.{Holds};
 ghost use Rattle.komihash.specs.Stream.{IsState, start, absorb, answer};
 ghost use Rattle.komihash.specs.Tails.{whole_words, block_lanes, after_blocks};
-ghost use Rattle.komihash.specs.Words.{is_high, padding_behind, padding_byte};
+ghost use Rattle.komihash.specs.Padding.{has_top_bit, padding_behind, padding_byte};
 
-use crate::ending::{FullWords, end_of_eight};
 use crate::rounds::blocks::absorb_blocks;
 use crate::rounds::buffer::put;
-use crate::rounds::{block_round, close_one, joined, lanes, places, seeded};
+use crate::rounds::{block_round, close_one, join, lanes, places, seed_pair};
+use crate::tails::{FullWords, answer_below_eight};
 use crate::tally::Tally;
 use std::marker::Model;
 
@@ -51,8 +51,8 @@ fn absorb_begun<'a, const V: u8>(
 
 // Whether the version keeps the top bit of a block's last byte, and it is set.
 #[inline(always)]
-fn is_high<const V: u8>(last: u8) -> bool
-    ensures { result ≡ is_high V last }
+fn has_top_bit<const V: u8>(last: u8) -> bool
+    ensures { result ≡ has_top_bit V last }
 {
     V == 4 && last >= 128
 }
@@ -74,7 +74,7 @@ fn write_blocks<const V: u8>(
     ensures words { (pending : List ℕ) → Holds words.old fill pending
         → Holds words.new result.0 (after_blocks (pending ++ bytes.now)) }
     ensures fill { result.0 ≡ (fill + length bytes.now) % 64 }
-    ensures high { result.1 ≡ is_high V (slice_index bytes.now (length bytes.now - result.0 - 1)) }
+    ensures high { result.1 ≡ has_top_bit V (slice_index bytes.now (length bytes.now - result.0 - 1)) }
     ensures products { tally.new.products ≡ tally.old.products + write_products fill (length bytes.now) }
     ensures kept { tally.new.kept ≡ tally.old.kept + kept_bytes fill (length bytes.now) }
 {
@@ -84,7 +84,7 @@ fn write_blocks<const V: u8>(
     put(words, 0, left, tally);
     (
         left.len(),
-        is_high::<V>(bytes[bytes.len() - left.len() - 1]),
+        has_top_bit::<V>(bytes[bytes.len() - left.len() - 1]),
     )
 }
 
@@ -146,7 +146,7 @@ impl<const V: u8> Engine<V> {
         ensures kept { tally.new.kept ≡ tally.old.kept }
     {
         Engine {
-            lanes: lanes(seeded(seed, tally)),
+            lanes: lanes(seed_pair(seed, tally)),
             words: [0; 8],
             fill: 0,
             absorbed: false,
@@ -193,18 +193,18 @@ impl<const V: u8> Engine<V> {
         let fill = self.fill;
         if fill == 0 {
             return if self.absorbed {
-                close_one(joined(&self.lanes, true), block_end::<V>(self.high), tally)
+                close_one(join(&self.lanes, true), block_end::<V>(self.high), tally)
             } else {
-                close_one(joined(&self.lanes, false), 0, tally)
+                close_one(join(&self.lanes, false), 0, tally)
             };
         }
-        let pair = joined(&self.lanes, self.absorbed);
+        let pair = join(&self.lanes, self.absorbed);
         let end = pending_end::<V>(&self.words, fill);
         let last = self.words[fill / 8] | end << (8 * (fill % 8));
         let left = FullWords {
             words: &self.words,
             count: fill / 8,
         };
-        end_of_eight(pair, &left, last, tally)
+        answer_below_eight(pair, &left, last, tally)
     }
 }

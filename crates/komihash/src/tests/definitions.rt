@@ -2,11 +2,11 @@
 
 ghost use Rattle.std.specs.Prelude.{◌≡◌, ◌+◌, [], ◌∷◌};
 ghost use Rattle.komihash.specs.Hash.{komi};
-ghost use Rattle.komihash.specs.Words.{words};
+ghost use Rattle.komihash.specs.Padding.{padded_words};
 
 use super::messages::{BLOCK_FIVE, BLOCK_FOUR, HIGH_END, SIX, ZERO};
 
-#[tactic(auto, unfolding(crate::specs::Hash::komi, crate::specs::Rounds::mix, crate::specs::Rounds::block_by))]
+#[tactic(auto, unfolding(crate::specs::Hash::komi, crate::specs::Rounds::mix, crate::specs::Rounds::block_round_by))]
 fn hashes()
     ensures none { komi 5 0 [] ≡ 0xb7683ea7430132b4 }
     ensures none_in_four { komi 4 0 [] ≡ 0xb7683ea7430132b4 }
@@ -23,13 +23,13 @@ fn hashes()
 {}
 
 fn padded_words()
-    ensures none { words 5 [] ≡ 0 ∷ [] }
-    ensures three { words 4 (0x61 ∷ 0x62 ∷ 0x63 ∷ []) ≡ 0x01636261 ∷ [] }
-    ensures high { words 5 (0x80 ∷ []) ≡ 0x0180 ∷ [] }
-    ensures high_in_four { words 4 (0x80 ∷ []) ≡ 0x0280 ∷ [] }
-    ensures full { words 5 (0xff ∷ 0xff ∷ 0xff ∷ 0xff ∷ 0xff ∷ 0xff ∷ 0xff ∷ 0xff ∷ [])
+    ensures none { padded_words 5 [] ≡ 0 ∷ [] }
+    ensures three { padded_words 4 (0x61 ∷ 0x62 ∷ 0x63 ∷ []) ≡ 0x01636261 ∷ [] }
+    ensures high { padded_words 5 (0x80 ∷ []) ≡ 0x0180 ∷ [] }
+    ensures high_in_four { padded_words 4 (0x80 ∷ []) ≡ 0x0280 ∷ [] }
+    ensures full { padded_words 5 (0xff ∷ 0xff ∷ 0xff ∷ 0xff ∷ 0xff ∷ 0xff ∷ 0xff ∷ 0xff ∷ [])
         ≡ 0xffffffffffffffff ∷ 1 ∷ [] }
-    ensures full_in_four { words 4 (0xff ∷ 0xff ∷ 0xff ∷ 0xff ∷ 0xff ∷ 0xff ∷ 0xff ∷ 0xff ∷ [])
+    ensures full_in_four { padded_words 4 (0xff ∷ 0xff ∷ 0xff ∷ 0xff ∷ 0xff ∷ 0xff ∷ 0xff ∷ 0xff ∷ [])
         ≡ 0xffffffffffffffff ∷ 2 ∷ [] }
 {}
 

@@ -1,6 +1,6 @@
 //! The steps before the first message word, with seed 0.
 
-use crate::rounds::{lanes, seed_words, seeded};
+use crate::rounds::{lanes, seed_pair, seed_words};
 use crate::tally::Tally;
 
 #[test]
@@ -13,7 +13,7 @@ fn takes_the_words_of_a_seed(rt: HostRuntime) {
 
 #[test]
 fn makes_the_lanes_of_a_seed(rt: HostRuntime) {
-    let pair = seeded(0, &mut Tally::new());
+    let pair = seed_pair(0, &mut Tally::new());
     assert_eq!(rt; pair.1 ^ pair.0, 0x01d2_ee0a_e40a_48dc);
     assert_eq!(rt; pair.1, 0x4ef2_e852_6fea_8bc9);
     let [low1, s5, low2, s6, low3, s7, low4, s8] = lanes(pair);

@@ -4,7 +4,7 @@
 ghost use Rattle.std.specs.Prelude.{◌≡◌, ◌+◌};
 
 use super::messages::{BLOCK_FIVE, BLOCK_FOUR, byte_by_byte};
-use crate::one_shot::hash;
+use crate::hash::komihash_counted;
 use crate::stream::{Call, KomiStream, run};
 use crate::tally::Tally;
 use crate::{v4, v5};
@@ -25,11 +25,11 @@ fn hash_costs<const V: u8>(
     ensures all { all.new.products ≡ all.old.products + 9 }
     ensures kept { all.new.kept ≡ all.old.kept }
 {
-    hash::<V>(&bytes[..0], 0, none)
-        ^ hash::<V>(&bytes[..16], 0, pair)
-        ^ hash::<V>(&bytes[..64], 0, block)
-        ^ hash::<V>(&bytes[..95], 0, more)
-        ^ hash::<V>(bytes, 0, all)
+    komihash_counted::<V>(&bytes[..0], 0, none)
+        ^ komihash_counted::<V>(&bytes[..16], 0, pair)
+        ^ komihash_counted::<V>(&bytes[..64], 0, block)
+        ^ komihash_counted::<V>(&bytes[..95], 0, more)
+        ^ komihash_counted::<V>(bytes, 0, all)
 }
 
 // Two hashes of 95 bytes: nothing is kept.

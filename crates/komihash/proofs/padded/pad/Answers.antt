@@ -1,7 +1,7 @@
 use Rattle.std.proofs.Common.{◌≡◌, ◌+◌, ◌/◌, suc, [], ◌∷◌, ◌++◌, length, take, set, ap, arith, sym, ◌∙◌}
 use Rattle.std.proofs.Math.Seq.{take-suc-set}
 use Rattle.komihash.specs.Tails.{whole_words}
-use Rattle.komihash.proofs.PaddedWords.{words-by_tail}
+use Rattle.komihash.proofs.PaddedWords.{padded_words-by_tail}
 use Rattle.komihash.proofs.padded.pad.Goals as goal
 
 pub returns-clause-padded : goal.returns-clause-padded
@@ -15,4 +15,4 @@ returns-clause-padded g c =
     ∙ take-suc-set out whole last (omega arith)
     ∙ ap (λ ws. ws ++ last ∷ []) c.write_words.ensures.words
     ∙ ap (λ w. whole_words bytes ++ w ∷ []) c.last_word.ensures
-    ∙ sym (words-by_tail g.row.V bytes)
+    ∙ sym (padded_words-by_tail g.row.V bytes)

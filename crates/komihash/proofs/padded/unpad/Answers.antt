@@ -1,7 +1,6 @@
 use Rattle.std.proofs.Common.{take, ap, ◌∙◌, sym}
 use Rattle.std.proofs.lemmas.Bool.{false≢true}
-use Rattle.komihash.specs.Padding.{ArePadded}
-use Rattle.komihash.specs.Words.{words as padded_words}
+use Rattle.komihash.specs.Padding.{ArePadded, padded_words}
 use Rattle.komihash.proofs.WordsOfBytes.{AreBytes-typed, AreBytes-take}
 use Rattle.komihash.proofs.padded.unpad.Goals as goal
 

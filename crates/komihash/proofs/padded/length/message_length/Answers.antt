@@ -3,7 +3,7 @@ use Rattle.std.proofs.lemmas.Bool.{iff_false}
 use Rattle.std.proofs.lemmas.List.{length-take-le}
 use Rattle.komihash.specs.Words.{all_bytes}
 use Rattle.komihash.proofs.KeptBytes.{length-all_bytes}
-use Rattle.komihash.proofs.PaddedBack.{words-message, end_byte-some, padded-length, padded-zero, padded-some, padded-by_place, padded-end}
+use Rattle.komihash.proofs.PaddedBack.{padded_words-message, end_byte-some, padded-length, padded-zero, padded-some, padded-by_place, padded-end}
 use Rattle.komihash.proofs.padded.length.message_length.Goals as goal
 
 pub returns-else-count-eq1-clause-none : goal.returns-else-count-eq1-clause-none
@@ -23,7 +23,7 @@ returns-then-is_padding_byte-clause-message g c =
     let place = c.highest_place-place in
     let n = 8 * (length ws - 1) + place.result in
     let size : length (take n (all_bytes ws)) ≡ n = length-take-le n (all_bytes ws) (omega (arith, length-all_bytes ws)) in
-    words-message g.row.V ws (λ k. (c.type_inv.words k).fits) (omega arith) place.result place.ensures.place
+    padded_words-message g.row.V ws (λ k. (c.type_inv.words k).fits) (omega arith) place.result place.ensures.place
     (c.is_padding_byte.ensures.0 c.if-is_padding_byte.true ∙ sym (end_byte-some g.row.V (take n (all_bytes ws)) (omega arith)))
 
 pub returns-else-is_padding_byte-clause-none : goal.returns-else-is_padding_byte-clause-none

@@ -1,5 +1,5 @@
 use Rattle.std.proofs.Common.{◌≡◌, ◌+◌, ◌-◌, ◌*◌, ◌/◌, ◌%◌, ◌^◌, ◌∙◌, ap, sym, arith, length, get_or}
-use Rattle.komihash.specs.Words.{padding_byte}
+use Rattle.komihash.specs.Padding.{padding_byte}
 use Rattle.komihash.proofs.Answers.{padding_byte-four}
 use Rattle.komihash.proofs.KeptBytes.{last-filled}
 use Rattle.komihash.proofs.stream.engine.pending_end.Goals as goal

@@ -2,7 +2,7 @@ use Rattle.std.proofs.Common.{◌/◌, ◌∙◌, ap, arith, [], sym}
 use Rattle.std.proofs.lemmas.List.{length-take}
 use Rattle.komihash.specs.Halves.{lanes_in, pair_in}
 use Rattle.komihash.specs.Kept.{held}
-use Rattle.komihash.specs.Rounds.{joined}
+use Rattle.komihash.specs.Rounds.{join}
 use Rattle.komihash.specs.Stream.{answer}
 use Rattle.komihash.specs.Tails.{tail_end}
 use Rattle.komihash.proofs.StreamSteps.{Holds-held, answers_none, answers_some, pending_shown, is_state}
@@ -11,10 +11,10 @@ use Rattle.komihash.proofs.stream.engine.Engine.answer.Goals as goal
 pub returns-then-self-clause-answer : goal.returns-then-self-clause-answer
 returns-then-self-clause-answer g c =
     let s = c.self.inside in
-    let pair = c.joined.ensures ∙ ap (λ b. joined b (lanes_in s.lanes)) (sym c.if-self.true) in
+    let pair = c.join.ensures ∙ ap (λ b. join b (lanes_in s.lanes)) (sym c.if-self.true) in
     let end = c.block_end.ensures ∙ ap (λ b. tail_end g.row.V [] b s.high) (sym c.if-self.true) in
     c.close_one.ensures.answer
-    ∙ answers_none g.row.V s c.self.told.1 c.self.invariant (pair_in c.joined.result) pair c.block_end.result c.if-fill-eq0.true end
+    ∙ answers_none g.row.V s c.self.told.1 c.self.invariant (pair_in c.join.result) pair c.block_end.result c.if-fill-eq0.true end
     ∙ ap (answer g.row.V) c.self.view_is
 
 pub returns-then-self-clause-products : goal.returns-then-self-clause-products
@@ -26,10 +26,10 @@ returns-then-self-clause-products g c =
 pub returns-else-self-clause-answer : goal.returns-else-self-clause-answer
 returns-else-self-clause-answer g c =
     let s = c.self.inside in
-    let pair = c.joined-else-self.ensures ∙ ap (λ b. joined b (lanes_in s.lanes)) (sym c.if-self.false) in
+    let pair = c.join-else-self.ensures ∙ ap (λ b. join b (lanes_in s.lanes)) (sym c.if-self.false) in
     let end = ap (λ b. tail_end g.row.V [] b s.high) (sym c.if-self.false) in
     c.close_one-else-self.ensures.answer
-    ∙ answers_none g.row.V s c.self.told.1 c.self.invariant (pair_in c.joined-else-self.result) pair 0 c.if-fill-eq0.true end
+    ∙ answers_none g.row.V s c.self.told.1 c.self.invariant (pair_in c.join-else-self.result) pair 0 c.if-fill-eq0.true end
     ∙ ap (answer g.row.V) c.self.view_is
 
 pub returns-else-self-clause-products : goal.returns-else-self-clause-products
@@ -42,8 +42,8 @@ pub returns-clause-answer : goal.returns-clause-answer
 returns-clause-answer g c =
     let s = c.self.inside in
     let holds = Holds-held s.words s.fill c.self.told.1 c.self.invariant.few c.self.invariant.filled in
-    c.end_of_eight.ensures.answer
-    ∙ answers_some g.row.V s c.self.told.1 c.self.invariant (pair_in c.joined-pair.result) c.joined-pair.ensures c.pending_end-end.result (omega arith) (c.pending_end-end.ensures.byte (held s.words s.fill) holds) (c.pending_end-end.ensures.small (held s.words s.fill) holds)
+    c.answer_below_eight.ensures.answer
+    ∙ answers_some g.row.V s c.self.told.1 c.self.invariant (pair_in c.join-pair.result) c.join-pair.ensures c.pending_end-end.result (omega arith) (c.pending_end-end.ensures.byte (held s.words s.fill) holds) (c.pending_end-end.ensures.small (held s.words s.fill) holds)
     ∙ ap (answer g.row.V) c.self.view_is
 
 pub returns-clause-products : goal.returns-clause-products

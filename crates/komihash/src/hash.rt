@@ -4,10 +4,10 @@ ghost use Rattle.std.specs.Prelude.{◌≡◌, ◌+◌, ◌≤◌, length};
 ghost use Rattle.komihash.specs.Counts.{hash_products};
 ghost use Rattle.komihash.specs.Hash.{komi};
 
-use crate::ending::end_of_eight;
 use crate::padding::{end_byte, final_of_few, final_of_many};
 use crate::rounds::blocks::absorb_blocks;
-use crate::rounds::{close_one, joined, lanes, seeded};
+use crate::rounds::{close_one, join, lanes, seed_pair};
+use crate::tails::answer_below_eight;
 use crate::tally::Tally;
 
 // The hash of a message with at least one block: a function of its own, since only its loop needs
@@ -19,16 +19,16 @@ fn hash_of_blocks<const V: u8>(bytes: &[u8], seed: u64, tally: &mut Tally) -> u6
     ensures products { tally.new.products ≡ tally.old.products + hash_products (length bytes.now) }
     ensures kept { tally.new.kept ≡ tally.old.kept }
 {
-    let pair = seeded(seed, tally);
+    let pair = seed_pair(seed, tally);
     let last = final_of_many(bytes, end_byte::<V>(bytes));
     let mut lanes = lanes(pair);
     let rest = absorb_blocks::<V>(&mut lanes, bytes, tally);
-    end_of_eight(joined(&lanes, true), &rest, last, tally)
+    answer_below_eight(join(&lanes, true), &rest, last, tally)
 }
 
-/// The hash of a message with a seed in version V.
+/// The hash of a message with a seed in version V; the tally rises by what it costs.
 #[inline(always)]
-pub(crate) fn hash<const V: u8>(bytes: &[u8], seed: u64, tally: &mut Tally) -> u64
+pub(crate) fn komihash_counted<const V: u8>(bytes: &[u8], seed: u64, tally: &mut Tally) -> u64
     ensures hash { result ≡ komi V seed bytes.now }
     ensures products { tally.new.products ≡ tally.old.products + hash_products (length bytes.now) }
     ensures kept { tally.new.kept ≡ tally.old.kept }
@@ -36,14 +36,22 @@ pub(crate) fn hash<const V: u8>(bytes: &[u8], seed: u64, tally: &mut Tally) -> u
     if bytes.len() >= 64 {
         return hash_of_blocks::<V>(bytes, seed, tally);
     }
-    let pair = seeded(seed, tally);
+    let pair = seed_pair(seed, tally);
     if bytes.len() >= 8 {
         let last = final_of_many(bytes, end_byte::<V>(bytes));
-        end_of_eight(pair, &bytes, last, tally)
+        answer_below_eight(pair, &bytes, last, tally)
     } else if bytes.is_empty() {
         close_one(pair, 0, tally)
     } else {
         let last = final_of_few(bytes, end_byte::<V>(bytes));
         close_one(pair, last, tally)
     }
+}
+
+/// The hash of a message with a seed in version V.
+#[inline(always)]
+pub(crate) fn komihash<const V: u8>(bytes: &[u8], seed: u64) -> u64
+    ensures { result ≡ komi V seed bytes.now }
+{
+    komihash_counted::<V>(bytes, seed, &mut Tally::new())
 }

@@ -62,7 +62,7 @@ impl Words for FullWords<'_> {
 
 // The answer from a pair, less than two words from a place on, and the final word.
 #[inline(always)]
-fn end_of_two<W: Words>(pair: Pair, left: &W, at: usize, last: u64, tally: &mut Tally) -> u64
+fn answer_below_two<W: Words>(pair: Pair, left: &W, at: usize, last: u64, tally: &mut Tally) -> u64
     requires within { at ≤ length (W.words left.now) }
     requires few { length (W.words left.now) < at + 2 }
     requires place { at < 7 }
@@ -92,7 +92,7 @@ fn take_two<W: Words>(pair: Pair, left: &W, at: usize, tally: &mut Tally) -> Pai
 
 // The answer from a pair, less than four words from a place on, and the final word.
 #[inline(always)]
-fn end_of_four<W: Words>(pair: Pair, left: &W, at: usize, last: u64, tally: &mut Tally) -> u64
+fn answer_below_four<W: Words>(pair: Pair, left: &W, at: usize, last: u64, tally: &mut Tally) -> u64
     requires within { at ≤ length (W.words left.now) }
     requires few { length (W.words left.now) < at + 4 }
     requires place { at < 5 }
@@ -102,26 +102,31 @@ fn end_of_four<W: Words>(pair: Pair, left: &W, at: usize, last: u64, tally: &mut
     ensures kept { tally.new.kept ≡ tally.old.kept }
 {
     if left.count() < at + 2 {
-        end_of_two(pair, left, at, last, tally)
+        answer_below_two(pair, left, at, last, tally)
     } else {
         let pair = take_two(pair, left, at, tally);
-        end_of_two(pair, left, at + 2, last, tally)
+        answer_below_two(pair, left, at + 2, last, tally)
     }
 }
 
 /// The answer from a pair, less than eight words, and the final word.
 #[inline(always)]
-pub(crate) fn end_of_eight<W: Words>(pair: Pair, left: &W, last: u64, tally: &mut Tally) -> u64
+pub(crate) fn answer_below_eight<W: Words>(
+    pair: Pair,
+    left: &W,
+    last: u64,
+    tally: &mut Tally,
+) -> u64
     requires { length (W.words left.now) < 8 }
     ensures answer { result ≡ hash_from_pair (pair_in pair) (W.words left.now ++ last ∷ []) }
     ensures products { tally.new.products ≡ tally.old.products + (2 + length (W.words left.now) / 2) }
     ensures kept { tally.new.kept ≡ tally.old.kept }
 {
     if left.count() < 4 {
-        end_of_four(pair, left, 0, last, tally)
+        answer_below_four(pair, left, 0, last, tally)
     } else {
         let pair = take_two(pair, left, 0, tally);
         let pair = take_two(pair, left, 2, tally);
-        end_of_four(pair, left, 4, last, tally)
+        answer_below_four(pair, left, 4, last, tally)
     }
 }

@@ -1,6 +1,6 @@
 use Rattle.komihash.specs.Halves.{pair_in}
 use Rattle.komihash.proofs.HashSteps.{hash_from_pair-two}
-use Rattle.komihash.proofs.ending.take_two.Goals as goal
+use Rattle.komihash.proofs.tails.take_two.Goals as goal
 
 pub returns-clause-answer : goal.returns-clause-answer
 returns-clause-answer g c last =

@@ -1,14 +1,14 @@
 //! The hashers of both versions at writes whose numbers are known.
 
 ghost use Rattle.std.specs.Prelude.{◌≡◌, [], ◌∷◌};
-ghost use Rattle.komihash.specs.Chain.{chain};
+ghost use Rattle.komihash.specs.Hasher.{number_after};
 
 use super::messages::{HIGH_END, ZERO};
 use crate::{v4, v5};
 use std::hash::Hasher;
 
 // What the definitions alone say: the clauses are proved, and nothing is run.
-#[tactic(auto, unfolding(crate::specs::Hash::komi, crate::specs::Rounds::mix, crate::specs::Rounds::block_by))]
+#[tactic(auto, unfolding(crate::specs::Hash::komi, crate::specs::Rounds::mix, crate::specs::Rounds::block_round_by))]
 fn definitions()
     ensures none { chain 5 7 [] ≡ 7 }
     ensures no_bytes { chain 5 0 ([] ∷ []) ≡ 0xb7683ea7430132b4 }

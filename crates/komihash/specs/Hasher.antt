@@ -3,6 +3,6 @@ use Rattle.std.specs.Prelude.{ℕ, List, [], ◌∷◌}
 use Rattle.komihash.specs.Hash.{komi}
 
 -- the number that a list of writes leads to from a number s, in version v
-abbrev pub chain : ℕ → ℕ → List (List ℕ) → ℕ
-chain v s [] = s
-chain v s (m ∷ writes) = chain v (komi v s m) writes
+abbrev pub number_after : ℕ → ℕ → List (List ℕ) → ℕ
+number_after v s [] = s
+number_after v s (m ∷ writes) = number_after v (komi v s m) writes

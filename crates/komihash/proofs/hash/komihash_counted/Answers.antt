@@ -2,25 +2,25 @@ use Rattle.std.proofs.Common.{◌≡◌, length, ◌∙◌, ap, arith}
 use Rattle.std.proofs.lemmas.Bool.Decides.{nat_tests}
 use Rattle.komihash.specs.Tails.{final_word}
 use Rattle.komihash.proofs.HashSteps.{length-whole_words, komi-by_pair, komi-by_closing, komi-empty}
-use Rattle.komihash.proofs.one_shot.hash.Goals as goal
+use Rattle.komihash.proofs.hash.komihash_counted.Goals as goal
 
-pub end_of_eight-requires : goal.end_of_eight-requires
-end_of_eight-requires g c = omega (arith, length-whole_words c.args.bytes.now)
+pub answer_below_eight-requires : goal.answer_below_eight-requires
+answer_below_eight-requires g c = omega (arith, length-whole_words c.args.bytes.now)
 
 pub returns-then-bytes-ge8-clause-products : goal.returns-then-bytes-ge8-clause-products
 returns-then-bytes-ge8-clause-products g c = omega (arith, length-whole_words c.args.bytes.now)
 
 pub returns-then-bytes-ge8-clause-hash : goal.returns-then-bytes-ge8-clause-hash
 returns-then-bytes-ge8-clause-hash g c =
-    c.end_of_eight.ensures.answer
-    ∙ komi-by_pair g.row.V c.args.seed c.args.bytes.now _ c.seeded-pair.ensures.pair _ (c.final_of_many-last.ensures ∙ ap (final_word c.args.bytes.now) c.end_byte.ensures.byte) c.if-bytes-ge64.false
+    c.answer_below_eight.ensures.answer
+    ∙ komi-by_pair g.row.V c.args.seed c.args.bytes.now _ c.seed_pair-pair.ensures.pair _ (c.final_of_many-last.ensures ∙ ap (final_word c.args.bytes.now) c.end_byte.ensures.byte) c.if-bytes-ge64.false
 
 pub returns-then-is_empty-clause-hash : goal.returns-then-is_empty-clause-hash
 returns-then-is_empty-clause-hash g c =
     let none : length c.args.bytes.now ≡ 0 = grind (arith, nat_tests) in
-    c.close_one.ensures.answer ∙ komi-empty g.row.V c.args.seed c.args.bytes.now _ c.seeded-pair.ensures.pair none
+    c.close_one.ensures.answer ∙ komi-empty g.row.V c.args.seed c.args.bytes.now _ c.seed_pair-pair.ensures.pair none
 
 pub returns-else-is_empty-clause-hash : goal.returns-else-is_empty-clause-hash
 returns-else-is_empty-clause-hash g c =
     c.close_one-else-is_empty.ensures.answer
-    ∙ komi-by_closing g.row.V c.args.seed c.args.bytes.now _ c.seeded-pair.ensures.pair _ (c.final_of_few-last.ensures ∙ ap (final_word c.args.bytes.now) c.end_byte-else-is_empty.ensures.byte) c.if-bytes-ge8.false
+    ∙ komi-by_closing g.row.V c.args.seed c.args.bytes.now _ c.seed_pair-pair.ensures.pair _ (c.final_of_few-last.ensures ∙ ap (final_word c.args.bytes.now) c.end_byte-else-is_empty.ensures.byte) c.if-bytes-ge8.false
