@@ -8,6 +8,7 @@ mod generator;
 mod hash;
 mod hasher;
 pub mod laws;
+mod names;
 mod padded;
 mod padding;
 mod rounds;

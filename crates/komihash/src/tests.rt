@@ -1,5 +1,6 @@
 //! Tests of what the contracts do not say: that the definitions mean what they should.
 
+mod callers;
 mod definitions;
 mod generator;
 mod hash;
