@@ -4,16 +4,26 @@
 ghost use Rattle.std.specs.Prelude.{◌≡◌};
 ghost use Rattle.komihash.specs.Generator.{next};
 ghost use Rattle.komihash.specs.Hash.{komi};
+ghost use Rattle.komihash.specs.Stream.{absorb};
 
-use crate::stream::KomiStream;
 use crate::{v4, v5};
 use std::hash::Hasher;
 
-const _: () = prove!(<v4::StreamedKomihash as KomiStream>::VERSION == 4);
-
-const _: () = prove!(<v5::StreamedKomihash as KomiStream>::VERSION == 5);
-
-const _: () = prove!(<crate::StreamedKomihash as KomiStream>::VERSION == 5);
+// The stream of each name absorbs bytes.
+fn write_by_each_name(
+    bytes: &[u8],
+    four: &mut v4::StreamedKomihash,
+    five: &mut v5::StreamedKomihash,
+    root: &mut crate::StreamedKomihash,
+)
+    ensures four { four.new.state ≡ absorb 4 four.old.state bytes.now }
+    ensures five { five.new.state ≡ absorb 5 five.old.state bytes.now }
+    ensures root { root.new.state ≡ absorb 5 root.old.state bytes.now }
+{
+    four.write(bytes);
+    five.write(bytes);
+    root.write(bytes);
+}
 
 // The hasher of each name takes bytes.
 fn hash_by_each_name(

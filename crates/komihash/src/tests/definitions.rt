@@ -1,8 +1,9 @@
 //! What the definitions alone say of known messages: each clause is proved, and nothing is run.
 
-ghost use Rattle.std.specs.Prelude.{◌≡◌, ◌+◌, [], ◌∷◌};
+ghost use Rattle.std.specs.Prelude.{◌≡◌, ℕ, ◌+◌, ◌≤◌, List, [], ◌∷◌, ◌++◌, length};
 ghost use Rattle.komihash.specs.Hash.{komi};
 ghost use Rattle.komihash.specs.Padding.{padded_words};
+ghost use Rattle.komihash.specs.Rounds.{pair_round, seed_pair};
 
 use super::messages::{BLOCK_FIVE, BLOCK_FOUR, HIGH_END, SIX, ZERO};
 
@@ -22,6 +23,17 @@ fn hashes()
     ensures block_in_four { komi 4 0 BLOCK_FOUR ≡ 6 }
 {}
 
+// The pair round on the two words of `ZERO`.
+#[tactic(auto, unfolding(crate::specs::Rounds::mix))]
+fn round_of_zero()
+    ensures { pair_round (seed_pair 0) 0xfe2d11f51bf5b723 0xfffffffffffffff1 ≡ (0x4ef2e8526fea8bc8, 0) }
+{}
+
+// Whatever up to seven bytes follow `ZERO`, the hash is 0.
+fn zero_and_more()
+    ensures { (v : ℕ) (bytes : List ℕ) → length bytes ≤ 7 → komi v 0 (ZERO ++ bytes) ≡ 0 }
+{}
+
 fn padded_words()
     ensures none { padded_words 5 [] ≡ 0 ∷ [] }
     ensures three { padded_words 4 (0x61 ∷ 0x62 ∷ 0x63 ∷ []) ≡ 0x01636261 ∷ [] }
@@ -36,5 +48,7 @@ fn padded_words()
 #[test]
 fn holds() {
     hashes();
+    round_of_zero();
+    zero_and_more();
     padded_words();
 }

@@ -1,13 +1,27 @@
 //! What calls cost, as statements: a tally cannot be read by a program, so the numbers stand in
 //! contracts, which are proved. The test makes the calls.
 
-ghost use Rattle.std.specs.Prelude.{◌≡◌, ◌+◌};
+ghost use Rattle.std.specs.Prelude.{◌≡◌, ◌+◌, length};
+ghost use Rattle.komihash.specs.Counts.{hash_products};
 
 use super::messages::{BLOCK_FIVE, BLOCK_FOUR, byte_by_byte};
-use crate::hash::komihash_counted;
+use crate::hash::komihash;
 use crate::stream::{Call, KomiStream, run};
 use crate::tally::Tally;
 use crate::{v4, v5};
+use std::process::Abort;
+
+// The hash of a message by the counted call of a version.
+fn hash_counted<const V: u8>(bytes: &[u8], tally: &mut Tally) -> u64
+    ensures products { tally.new.products ≡ tally.old.products + hash_products (length bytes.now) }
+    ensures kept { tally.new.kept ≡ tally.old.kept }
+{
+    if V == 4 {
+        v4::komihash_counted(bytes, 0, tally)
+    } else {
+        v5::komihash_counted(bytes, 0, tally)
+    }
+}
 
 // The hash of 0, 16, 64, 95 and 100 bytes, each on a tally of its own.
 fn hash_costs<const V: u8>(
@@ -23,24 +37,17 @@ fn hash_costs<const V: u8>(
     ensures block { block.new.products ≡ block.old.products + 7 }
     ensures more { more.new.products ≡ more.old.products + 8 }
     ensures all { all.new.products ≡ all.old.products + 9 }
-    ensures kept { all.new.kept ≡ all.old.kept }
+    ensures none_kept { none.new.kept ≡ none.old.kept }
+    ensures pair_kept { pair.new.kept ≡ pair.old.kept }
+    ensures block_kept { block.new.kept ≡ block.old.kept }
+    ensures more_kept { more.new.kept ≡ more.old.kept }
+    ensures all_kept { all.new.kept ≡ all.old.kept }
 {
-    komihash_counted::<V>(&bytes[..0], 0, none)
-        ^ komihash_counted::<V>(&bytes[..16], 0, pair)
-        ^ komihash_counted::<V>(&bytes[..64], 0, block)
-        ^ komihash_counted::<V>(&bytes[..95], 0, more)
-        ^ komihash_counted::<V>(bytes, 0, all)
-}
-
-// Two hashes of 95 bytes: nothing is kept.
-fn block_costs(tally: &mut Tally) -> (u64, u64)
-    ensures products { tally.new.products ≡ tally.old.products + 16 }
-    ensures kept { tally.new.kept ≡ tally.old.kept }
-{
-    (
-        v4::komihash_counted(&BLOCK_FOUR, 0, tally),
-        v5::komihash_counted(&BLOCK_FIVE, 0, tally),
-    )
+    hash_counted::<V>(&bytes[..0], none)
+        ^ hash_counted::<V>(&bytes[..16], pair)
+        ^ hash_counted::<V>(&bytes[..64], block)
+        ^ hash_counted::<V>(&bytes[..95], more)
+        ^ hash_counted::<V>(bytes, all)
 }
 
 // Answers between cuts at 0, 1 and 64 bytes, twice there, and at the end.
@@ -88,20 +95,22 @@ fn nothing_costs<S: KomiStream>(out: &mut [u64; 2], tally: &mut Tally) -> usize
     run::<S>(0, &[], out, tally)
 }
 
-// Absorbs 10, 54, 64 and 3 bytes in turn, each on a tally of its own.
+// A start, and then Absorbs of 10, 54, 64 and 3 bytes in turn, each on a tally of its own.
 fn absorbs_cost<S: KomiStream>(
     bytes: &[u8; 64],
+    start: &mut Tally,
     ten: &mut Tally,
     filled: &mut Tally,
     block: &mut Tally,
     three: &mut Tally,
 )
+    ensures start { start.new.products ≡ start.old.products + 1 }
     ensures ten { ten.new.kept ≡ ten.old.kept + 10 }
     ensures filled { filled.new.kept ≡ filled.old.kept + 54 }
     ensures block { block.new.kept ≡ block.old.kept }
     ensures three { three.new.kept ≡ three.old.kept + 3 }
 {
-    let mut stream = S::start(0, &mut Tally::new());
+    let mut stream = S::start(0, start);
     stream.absorb(&bytes[..10], ten);
     stream.absorb(&bytes[..54], filled);
     stream.absorb(bytes, block);
@@ -139,10 +148,18 @@ fn counted_runs_answer_as_others(rt: HostRuntime) {
         1
     );
     assert_eq!(rt; out[0], 6);
-    let mut block = Tally::new();
+    let mut ten = Tally::new();
     let mut filled = Tally::new();
+    let mut block = Tally::new();
     let mut three = Tally::new();
-    absorbs_cost::<v5::StreamedKomihash>(&[0; 64], &mut tally, &mut filled, &mut block, &mut three);
+    absorbs_cost::<v5::StreamedKomihash>(
+        &[0; 64],
+        &mut tally,
+        &mut ten,
+        &mut filled,
+        &mut block,
+        &mut three,
+    );
 }
 
 #[test]
@@ -150,23 +167,27 @@ fn takes_no_bytes(rt: HostRuntime) {
     assert_eq!(rt; size_of::<Tally>(), 0);
 }
 
-#[test]
-fn counted_calls_answer_as_others(rt: HostRuntime) {
-    let mut tally = Tally::new();
-    assert_eq!(rt; block_costs(&mut tally), (6, 6));
+// The sums of the counted hashes and of the plain ones are the same.
+fn agrees_counted<const V: u8>(rt: &impl Abort) {
     let bytes = [0; 100];
     let mut none = Tally::new();
     let mut pair = Tally::new();
     let mut block = Tally::new();
     let mut more = Tally::new();
     let mut all = Tally::new();
-    let sum = hash_costs::<5>(
+    let sum = hash_costs::<V>(
         &bytes, &mut none, &mut pair, &mut block, &mut more, &mut all,
     );
-    let wanted = v5::komihash(&[], 0)
-        ^ v5::komihash(&bytes[..16], 0)
-        ^ v5::komihash(&bytes[..64], 0)
-        ^ v5::komihash(&bytes[..95], 0)
-        ^ v5::komihash(&bytes, 0);
+    let wanted = komihash::<V>(&[], 0)
+        ^ komihash::<V>(&bytes[..16], 0)
+        ^ komihash::<V>(&bytes[..64], 0)
+        ^ komihash::<V>(&bytes[..95], 0)
+        ^ komihash::<V>(&bytes, 0);
     assert_eq!(rt; sum, wanted);
+}
+
+#[test]
+fn counted_calls_answer_as_others(rt: HostRuntime) {
+    agrees_counted::<4>(&rt);
+    agrees_counted::<5>(&rt);
 }
