@@ -2,14 +2,13 @@
 use Rattle.std.proofs.Common.{◌≡◌, ℕ, ◌+◌, ◌-◌, ◌*◌, ◌/◌, ◌%◌, ◌<◌, ◌≤◌, Bool, true, false, List, [], ◌∷◌, ◌++◌, length, take, drop, refl, ap, arith, ◌∙◌, sym, subst, inl, inr}
 use Rattle.std.proofs.lemmas.List.{length-drop, length-take-le, take-append-drop, get_or-drop}
 use Rattle.std.proofs.lemmas.Bool.{cases_lt}
-use Rattle.std.proofs.lemmas.Bool.Decides.{nat_tests}
-use Rattle.std.specs.Prelude.{slice_index, nat_le, if◌then◌else◌}
+use Rattle.std.specs.Prelude.{slice_index, if◌then◌else◌}
 use Rattle.komihash.specs.Hash.{komi, hash_from_pair}
 use Rattle.komihash.specs.Rounds.{lanes, seed_pair, join, closing}
 use Rattle.komihash.specs.Stream.{State, start, absorb, answer, tail_of}
 use Rattle.komihash.specs.Tails.{tail_end, whole_words, after_words, final_word, end_byte, block_lanes, after_blocks}
 use Rattle.komihash.specs.Padding.{has_top_bit, padding_byte}
-use Rattle.komihash.specs.Words.{AreBytes, word_of}
+use Rattle.komihash.specs.Words.{word_of}
 use Rattle.komihash.proofs.Absorbing.{blocks_state, absorb-few, absorb-blocks}
 use Rattle.komihash.proofs.Blocks.{hash_from_lanes-k_blocks}
 use Rattle.komihash.proofs.HashSteps.{komi-by_lanes, komi-by_pair}
@@ -41,7 +40,7 @@ after_words-after_blocks m =
     ∙ after_words-append (take n m) (drop n m) (n / 8) (length-take-le n m (omega arith) ∙ omega arith)
 
 -- the last byte is the last of what is behind the blocks, or of the last block
-tail_end-blocks : (v : ℕ) (m p : List ℕ) → p ≡ after_blocks m → 64 ≤ length m → tail_end v p true (has_top_bit v (slice_index m (length m - length m % 64 - 1))) ≡ end_byte v m
+pub tail_end-blocks : (v : ℕ) (m p : List ℕ) → p ≡ after_blocks m → 64 ≤ length m → tail_end v p true (has_top_bit v (slice_index m (length m - length m % 64 - 1))) ≡ end_byte v m
 tail_end-blocks v [] p e le = absurd (omega arith)
 tail_end-blocks v (c ∷ m) [] e le =
     let n : length (after_blocks (c ∷ m)) ≡ 0 = ap length (sym e) in
@@ -77,15 +76,6 @@ answer-joined v seed m =
           ∙ sym (hash_from_lanes-k_blocks (length m / 64 - 1) v (lanes (seed_pair seed)) false m last (omega arith))
           ∙ komi-by_lanes v seed m (seed_pair seed) refl last refl
     ]
-
--- ---- what an answer reads
-
-top_bit : (b : ℕ) → b < 256 → 1 + b / 128 ≡ (if nat_le 128 b then 2 else 1)
-top_bit b h = grind (arith, nat_tests)
-
--- the padding byte of version 4, from the last byte
-pub padding_byte-four : (m : List ℕ) → AreBytes m → 1 + slice_index m (length m - 1) / 128 ≡ padding_byte 4 m
-padding_byte-four m h = top_bit (slice_index m (length m - 1)) (h (length m - 1))
 
 pub tail_end-pending : (v : ℕ) (m : List ℕ) (absorbed high : Bool) → 0 < length m → tail_end v m absorbed high ≡ padding_byte v m
 tail_end-pending v [] absorbed high some = absurd (omega arith)

@@ -7,7 +7,7 @@ use Rattle.std.proofs.Math.Nat.{div-div-eq-div-mul}
 use Rattle.std.specs.Int.{bytes_low_first, to_le_bytes}
 use borrow.Rule.Slice.PartMut.{put_mid}
 use Rattle.komihash.specs.Words.{bytes_of}
-use Rattle.komihash.proofs.Appending.{take-to}
+use Rattle.komihash.proofs.PendingPieces.{take-to}
 
 bytes_from : (i k w : ℕ) → bytes_low_first (suc i) k w ≡ bytes_of k (w / 256 ^ suc i)
 unfolding bytes_of

@@ -5,8 +5,8 @@ use Rattle.std.proofs.lemmas.List.{drop-drop, drop-set-lt, take-append-le}
 use Rattle.std.proofs.lemmas.Slice.{take-put_mid, drop-put_mid}
 use borrow.Rule.Slice.PartMut.{put_mid}
 use Rattle.komihash.specs.Words.{bytes_of, all_bytes}
-use Rattle.komihash.proofs.Appending.{take-more}
-use Rattle.komihash.proofs.KeptBytes.{length-bytes_of}
+use Rattle.komihash.proofs.PendingPieces.{take-more}
+use Rattle.komihash.proofs.PendingBytes.{length-bytes_of}
 
 -- ---- words
 

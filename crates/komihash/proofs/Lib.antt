@@ -1,20 +1,20 @@
 pub mod Absorbing
 pub mod Answers
-pub mod Appending
-pub mod BegunBlock
+pub mod PendingPieces
+pub mod PendingSteps
 pub mod Blocks
 pub mod BytesOfWord
 pub mod CopiedBytes
 mod Facts
+pub mod EngineSteps
 pub mod Filling
 pub mod HashSteps
-pub mod KeptBytes
+pub mod PendingBytes
 pub mod KeptHalves
 pub mod LaneWords
 pub mod PaddedBack
 pub mod PaddedWords
 mod Raised
 pub mod Runs
-pub mod StreamSteps
 pub mod WordsOfBytes
 pub mod Xor

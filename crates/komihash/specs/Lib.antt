@@ -1,11 +1,12 @@
 pub mod Calls
 pub mod Counts
+pub mod Engine
 pub mod Generator
 pub mod Halves
 pub mod Hash
 pub mod Hasher
-pub mod Kept
 pub mod Padding
+pub mod Pending
 pub mod Rounds
 mod Sealed
 pub mod Stream

@@ -1,6 +1,6 @@
 //! Padded words written, and read back.
 
-mod copies;
+pub(crate) mod copies;
 mod length;
 
 ghost use Rattle.std.specs.Prelude.{◌≡◌, ◌+◌, ◌*◌, ◌/◌, ◌≤◌, ◌↔◌, IfSome, IfNone, IsNone, length, take, drop};

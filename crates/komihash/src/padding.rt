@@ -6,12 +6,20 @@ ghost use Rattle.komihash.specs.Padding.{has_top_bit, padding_behind};
 
 use crate::utils::{read_partial_word, word_at};
 
-/// The padding byte of a message that ends with this byte.
+/// Whether version V looks at the top bit of a last byte, and it is set.
 #[inline(always)]
-pub(crate) fn padding_byte<const V: u8>(last: u8) -> u64
-    ensures { result ≡ padding_behind (has_top_bit V last) }
+pub(crate) fn has_top_bit<const V: u8>(last: u8) -> bool
+    ensures { result ≡ has_top_bit V last }
 {
-    if V == 4 { 1 + u64::from(last >> 7) } else { 1 }
+    V == 4 && last >= 128
+}
+
+/// The padding byte, by whether the last byte before it is high.
+#[inline(always)]
+pub(crate) fn padding_behind(high: bool) -> u64
+    ensures { result ≡ padding_behind high }
+{
+    1 + u64::from(high)
 }
 
 /// The byte that ends a message: its padding byte, or 0 where the message is empty.
@@ -23,7 +31,7 @@ pub(crate) fn end_byte<const V: u8>(message: &[u8]) -> u64
     if message.is_empty() {
         0
     } else {
-        padding_byte::<V>(message[message.len() - 1])
+        padding_behind(has_top_bit::<V>(message[message.len() - 1]))
     }
 }
 

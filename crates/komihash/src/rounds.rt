@@ -7,7 +7,7 @@ ghost use Rattle.komihash.specs.Halves.{pair_in, lanes_in};
 ghost use Rattle.komihash.specs.Rounds.{low, high, plus, seed_words, mix, seed_pair, lanes, places, block_round_by, join, pair_round, mix_again, closing};
 
 pub(crate) mod blocks;
-pub(crate) mod buffer;
+pub(crate) mod pending;
 
 use crate::tally::Tally;
 use crate::utils::multiply128;

@@ -38,28 +38,6 @@ impl Words for &[u8] {
     }
 }
 
-/// The full words of those that hold pending bytes.
-#[derive(Drop)]
-pub(crate) struct FullWords<'a> {
-    pub(crate) words: &'a [u64; 8],
-    pub(crate) count: usize,
-    pub(crate) ghost within: { count ≤ length words.now },
-}
-
-impl Words for FullWords<'_> {
-    ghost words = { λ full. take full.count full.words.now };
-
-    #[inline(always)]
-    fn count(&self) -> usize {
-        self.count
-    }
-
-    #[inline(always)]
-    fn word(&self, at: usize) -> u64 {
-        self.words[at]
-    }
-}
-
 // The answer from a pair, less than two words from a place on, and the final word.
 #[inline(always)]
 fn answer_below_two<W: Words>(pair: Pair, left: &W, at: usize, last: u64, tally: &mut Tally) -> u64

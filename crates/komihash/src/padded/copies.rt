@@ -22,7 +22,7 @@ pub(crate) fn write_words(bytes: &[u8], out: &mut [u64])
 #[inline(always)]
 pub(crate) fn write_bytes(words: &[u64], count: usize, out: &mut [u8])
     requires within { count ≤ 8 * length words.now }
-    requires room { 8 * length words.now ≤ length out.old }
+    requires room { count ≤ length out.old }
     ensures bytes { take count out.new ≡ take count (all_bytes words.now) }
     ensures rest { drop count out.new ≡ drop count out.old }
 {

@@ -1,65 +1,52 @@
-use Rattle.std.proofs.Common.{◌≡◌, true, ◌+◌, ◌∙◌, ap, arith, length}
+use Rattle.std.proofs.Common.{◌≡◌, ◌<◌, ◌∙◌, ap, arith, length, sym}
 use Rattle.std.proofs.lemmas.Bool.Decides.{nat_tests}
-use Rattle.komihash.specs.Kept.{held}
+use Rattle.komihash.specs.Engine.{state_in}
+use Rattle.komihash.specs.Halves.{lanes_in}
 use Rattle.komihash.specs.Stream.{absorb}
-use Rattle.komihash.proofs.StreamSteps.{pending_shown, holds, keeps, shows, keeps_left, shows_left, IsKept-state}
+use Rattle.komihash.specs.Padding.{padding_behind, padding_byte}
+use Rattle.komihash.proofs.EngineSteps.{IsEngine-absorb, absorb-empty, state-few, state-blocks}
 use Rattle.komihash.proofs.WordsOfBytes.{AreBytes-typed}
 use Rattle.komihash.proofs.stream.engine.Engine.absorb.Goals as goal
 
-pub invariant_of-self : goal.invariant_of-self
-invariant_of-self g c =
-    let s = c.self.inside in
-    keeps g.row.V s c.self.told.1 c.self.invariant c.args.bytes.now (AreBytes-typed _ c.type_inv.bytes) c.put.new.words (omega arith) c.put.ensures.words
+pub returns-then-is_empty-clause-state : goal.returns-then-is_empty-clause-state
+returns-then-is_empty-clause-state g c =
+    sym (absorb-empty g.row.V c.args.self.now c.args.bytes.now (grind (arith, nat_tests)))
 
 pub returns-then-bytes-fill-clause-state : goal.returns-then-bytes-fill-clause-state
 returns-then-bytes-fill-clause-state g c =
     let s = c.self.inside in
-    shows g.row.V s c.self.told.1 c.self.invariant c.args.bytes.now (AreBytes-typed _ c.type_inv.bytes) c.put.new.words (omega arith) c.put.ensures.words
+    state-few g.row.V (state_in s.lanes s.pending s.absorbed s.high) c.args.bytes.now c.put.new.self (omega arith) c.put.ensures.bytes
     ∙ ap (λ t. absorb g.row.V t c.args.bytes.now) c.self.view_is
 
-pub returns-then-bytes-fill-clause-products : goal.returns-then-bytes-fill-clause-products
-returns-then-bytes-fill-clause-products g c =
-    let size : length c.args.self.now.pending ≡ c.self.inside.fill = pending_shown c.self.inside c.args.self.now c.self.view_is c.self.told.1 c.self.invariant.few in
-    omega arith
-
-pub returns-then-bytes-fill-clause-kept : goal.returns-then-bytes-fill-clause-kept
-returns-then-bytes-fill-clause-kept g c =
-    let size : length c.args.self.now.pending ≡ c.self.inside.fill = pending_shown c.self.inside c.args.self.now c.self.view_is c.self.told.1 c.self.invariant.few in
-    grind (arith, nat_tests)
-
-pub invariant_of-self-else-bytes-fill : goal.invariant_of-self-else-bytes-fill
-invariant_of-self-else-bytes-fill g c =
+pub invariant_of-self : goal.invariant_of-self
+invariant_of-self g c =
     let s = c.self.inside in
-    let w = c.write_blocks-left in
-    let are = AreBytes-typed _ c.type_inv.bytes in
-    let held_now = holds g.row.V s c.self.told.1 c.self.invariant c.args.bytes.now are in
-    keeps_left g.row.V s c.self.told.1 c.self.invariant c.args.bytes.now are w.new.lanes w.new.words w.result.0 w.result.1 (omega arith) (w.ensures.lanes (held s.words s.fill) held_now) (w.ensures.words (held s.words s.fill) held_now) w.ensures.fill w.ensures.high
+    let state = state_in s.lanes s.pending s.absorbed s.high in
+    let bytes = c.args.bytes.now in
+    let some : 0 < length bytes = grind (arith, nat_tests) in
+    let end : c.padding_behind-self-inside.result ≡ padding_byte g.row.V bytes = c.padding_behind-self-inside.ensures ∙ ap padding_behind c.has_top_bit.ensures in
+    IsEngine-absorb g.row.V state bytes _ s.end _ c.self.invariant (AreBytes-typed bytes c.type_inv.bytes) some (state-few g.row.V state bytes c.put.new.self (omega arith) c.put.ensures.bytes) end
+
+pub returns-then-bytes-fill-clause-is_state : goal.returns-then-bytes-fill-clause-is_state
+returns-then-bytes-fill-clause-is_state g c = (invariant_of-self g c).state
 
 pub returns-else-bytes-fill-clause-state : goal.returns-else-bytes-fill-clause-state
 returns-else-bytes-fill-clause-state g c =
     let s = c.self.inside in
-    let w = c.write_blocks-left in
-    let are = AreBytes-typed _ c.type_inv.bytes in
-    let held_now = holds g.row.V s c.self.told.1 c.self.invariant c.args.bytes.now are in
-    shows_left g.row.V s c.self.told.1 c.self.invariant c.args.bytes.now are w.new.lanes w.new.words w.result.0 w.result.1 (omega arith) (w.ensures.lanes (held s.words s.fill) held_now) (w.ensures.words (held s.words s.fill) held_now) w.ensures.fill w.ensures.high
+    let w = c.write_blocks-self-inside in
+    state-blocks g.row.V (state_in s.lanes s.pending s.absorbed s.high) c.args.bytes.now (lanes_in w.new.lanes) w.new.pending w.result c.self.invariant.state.few (omega arith) w.ensures.lanes w.ensures.pending w.ensures.high
     ∙ ap (λ t. absorb g.row.V t c.args.bytes.now) c.self.view_is
 
-pub returns-else-bytes-fill-clause-products : goal.returns-else-bytes-fill-clause-products
-returns-else-bytes-fill-clause-products g c =
-    let size : length c.args.self.now.pending ≡ c.self.inside.fill = pending_shown c.self.inside c.args.self.now c.self.view_is c.self.told.1 c.self.invariant.few in
-    omega arith
-
-pub returns-else-bytes-fill-clause-kept : goal.returns-else-bytes-fill-clause-kept
-returns-else-bytes-fill-clause-kept g c =
-    let size : length c.args.self.now.pending ≡ c.self.inside.fill = pending_shown c.self.inside c.args.self.now c.self.view_is c.self.told.1 c.self.invariant.few in
-    rw size c.write_blocks-left.ensures.kept
-
-pub returns-then-bytes-fill-clause-is_state : goal.returns-then-bytes-fill-clause-is_state
-returns-then-bytes-fill-clause-is_state g c =
+pub invariant_of-self-else-bytes-fill : goal.invariant_of-self-else-bytes-fill
+invariant_of-self-else-bytes-fill g c =
     let s = c.self.inside in
-    IsKept-state g.row.V (record s { words = c.put.new.words; fill = s.fill + length c.args.bytes.now }) (invariant_of-self g c)
+    let state = state_in s.lanes s.pending s.absorbed s.high in
+    let bytes = c.args.bytes.now in
+    let w = c.write_blocks-self-inside in
+    let some : 0 < length bytes = grind (arith, nat_tests) in
+    let end : c.padding_behind-self-inside.result ≡ padding_byte g.row.V bytes = c.padding_behind-self-inside.ensures ∙ ap padding_behind c.has_top_bit.ensures in
+    IsEngine-absorb g.row.V state bytes _ s.end _ c.self.invariant (AreBytes-typed bytes c.type_inv.bytes) some
+    (state-blocks g.row.V state bytes (lanes_in w.new.lanes) w.new.pending w.result c.self.invariant.state.few (omega arith) w.ensures.lanes w.ensures.pending w.ensures.high) end
 
 pub returns-else-bytes-fill-clause-is_state : goal.returns-else-bytes-fill-clause-is_state
-returns-else-bytes-fill-clause-is_state g c =
-    let w = c.write_blocks-left in
-    IsKept-state g.row.V (record { lanes = w.new.lanes; words = w.new.words; fill = w.result.0; absorbed = true; high = w.result.1 }) (invariant_of-self-else-bytes-fill g c)
+returns-else-bytes-fill-clause-is_state g c = (invariant_of-self-else-bytes-fill g c).state

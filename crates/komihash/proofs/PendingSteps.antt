@@ -1,0 +1,69 @@
+-- Pending bytes before and after a call: what their words and their fill show.
+use Rattle.std.proofs.Common.{◌≡◌, ℕ, ◌+◌, ◌*◌, ◌/◌, ◌%◌, ◌^◌, ◌<◌, List, [], ◌∷◌, ◌++◌, length, take, get_or, refl, ap, arith, ◌∙◌, sym, subst}
+use Rattle.std.proofs.lemmas.List.{length-append, get_or-take}
+use Rattle.std.specs.Prelude.{bit_or}
+use Rattle.komihash.specs.Pending.{pending_words, pending_bytes, ArePending, Appends}
+use Rattle.komihash.specs.Tails.{whole_words, final_word}
+use Rattle.komihash.specs.Words.{AreBytes}
+use Rattle.komihash.proofs.HashSteps.{length-whole_words}
+use Rattle.komihash.proofs.PendingBytes.{pending_bytes-pending_words, length-pending_bytes, length-pending_words, pending_words-whole, AreBytes-pending_bytes, AreBytes-append, take-pending_words, final_word-pending_words}
+
+-- no bytes
+pub pending_bytes-none : (ws : List ℕ) → pending_bytes ws 0 ≡ []
+unfolding pending_bytes
+pending_bytes-none ws = refl
+
+pub ArePending-none : ArePending (0 ∷ 0 ∷ 0 ∷ 0 ∷ 0 ∷ 0 ∷ 0 ∷ 0 ∷ []) 0
+unfolding pending_words pending_bytes
+ArePending-none = record { few = omega arith; words = refl }
+
+module _ (ws : List ℕ) (fill : ℕ) (are : ArePending ws fill) (xs : List ℕ) (shows : pending_bytes ws fill ≡ xs) where
+  pub length-pending : length xs ≡ fill
+  length-pending =
+      sym (ap length shows) ∙ length-pending_bytes ws fill (ap length are.words ∙ length-pending_words 8 (pending_bytes ws fill)) (omega (arith, are.few))
+
+  pub AreBytes-pending : AreBytes xs
+  AreBytes-pending = subst AreBytes shows (AreBytes-pending_bytes ws fill)
+
+  padded_words-pending : ws ≡ pending_words 8 xs
+  padded_words-pending = are.words ∙ ap (pending_words 8) shows
+
+  -- bytes put behind them
+  module _ (new bytes : List ℕ) (are_bytes : AreBytes bytes) (appended : Appends ws fill bytes new) where
+    padded_words-put : new ≡ pending_words 8 (xs ++ bytes)
+    padded_words-put = appended xs AreBytes-pending length-pending padded_words-pending
+
+    length-put : length (xs ++ bytes) ≡ fill + length bytes
+    length-put = omega (arith, length-append xs bytes, length-pending)
+
+    pub pending_bytes-put : fill + length bytes < 64 → pending_bytes new (fill + length bytes) ≡ xs ++ bytes
+    pending_bytes-put few =
+        ap (λ w. pending_bytes w (fill + length bytes)) padded_words-put
+        ∙ pending_bytes-pending_words (xs ++ bytes) (fill + length bytes) (AreBytes-append xs bytes AreBytes-pending are_bytes) length-put (omega arith)
+
+    pub ArePending-put : fill + length bytes < 64 → ArePending new (fill + length bytes)
+    ArePending-put few =
+        record { few = few; words = padded_words-put ∙ ap (pending_words 8) (sym (pending_bytes-put few)) }
+
+    -- as many as fill a block
+    pub block-put : fill + length bytes ≡ 64 → new ≡ whole_words (xs ++ bytes)
+    block-put full = padded_words-put ∙ pending_words-whole 8 (xs ++ bytes) (length-put ∙ full)
+
+  -- their whole words
+  whole_words-pending : take (fill / 8) ws ≡ whole_words xs
+  whole_words-pending =
+      ap (take (fill / 8)) padded_words-pending ∙ ap (λ n. take (n / 8) (pending_words 8 xs)) (sym length-pending)
+      ∙ take-pending_words 8 xs (omega (arith, length-pending, are.few))
+
+  pub count-pending : fill / 8 ≡ length (whole_words xs)
+  count-pending = sym (length-whole_words xs ∙ ap (λ n. n / 8) length-pending)
+
+  pub word-pending : (at : ℕ) → at < length (whole_words xs) → get_or ws at 0 ≡ get_or (whole_words xs) at 0
+  word-pending at lt =
+      sym (get_or-take (fill / 8) ws at 0 (omega (arith, count-pending))) ∙ ap (λ us. get_or us at 0) whole_words-pending
+
+  -- the begun word, with a byte behind it
+  pub final_word-pending : (end : ℕ) → end < 256 → bit_or (get_or ws (fill / 8) 0) (end * 2 ^ (8 * (fill % 8)) % 2 ^ 64) ≡ final_word xs end
+  final_word-pending end small =
+      ap (λ w. bit_or (get_or w (fill / 8) 0) (end * 2 ^ (8 * (fill % 8)) % 2 ^ 64)) padded_words-pending
+      ∙ final_word-pending_words xs fill end AreBytes-pending length-pending are.few small

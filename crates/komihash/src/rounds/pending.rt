@@ -1,0 +1,125 @@
+//! The pending bytes of a stream: those that no block has taken yet.
+
+ghost use Rattle.std.specs.Prelude.{◌≡◌, ◌+◌, ◌<◌, ◌≤◌, List, [], ◌++◌, length, take, drop};
+ghost use Rattle.komihash.specs.Halves.{lanes_in};
+ghost use Rattle.komihash.specs.Rounds.{block_round};
+ghost use Rattle.komihash.specs.Tails.{whole_words, final_word};
+
+mod writer;
+
+use super::{block_round, places};
+use crate::padded::copies::write_bytes;
+use crate::tails::Words;
+use crate::tally::Tally;
+use std::marker::Model;
+
+/// Fewer than 64 bytes. They stand in eight words, which are zero above them.
+#[derive(Drop)]
+pub(crate) struct Pending {
+    words: [u64; 8],
+    fill: usize,
+}
+
+impl Model for Pending {
+    ghost use Rattle.std.specs.Prelude.{ℕ, List};
+    ghost use Rattle.komihash.specs.Pending.{pending_bytes, ArePending};
+
+    ghost Value = { List ℕ };
+
+    ghost view = { λ p. pending_bytes p.words p.fill };
+
+    ghost invariant = { λ p. ArePending p.words p.fill };
+}
+
+impl Pending {
+    /// No bytes.
+    #[inline(always)]
+    pub(crate) fn new() -> Self
+        ensures { result ≡ [] }
+    {
+        Pending {
+            words: [0; 8],
+            fill: 0,
+        }
+    }
+
+    /// How many they are.
+    #[inline(always)]
+    pub(crate) fn len(&self) -> usize
+        ensures length { result ≡ length self.now }
+        ensures few { result < 64 }
+    {
+        self.fill
+    }
+
+    /// Puts bytes behind them, and counts these as kept.
+    #[inline(always)]
+    pub(crate) fn put(&mut self, bytes: &[u8], tally: &mut Tally)
+        requires { length self.old + length bytes.now < 64 }
+        ensures bytes { self.new ≡ self.old ++ bytes.now }
+        ensures products { tally.new.products ≡ tally.old.products }
+        ensures kept { tally.new.kept ≡ tally.old.kept + length bytes.now }
+    {
+        writer::put(&mut self.words, self.fill, bytes, tally);
+        self.fill += bytes.len();
+    }
+
+    /// Fills the begun block up, counts the bytes as kept, and takes the block: the lanes after it.
+    /// Nothing is pending then.
+    ///
+    /// The lanes are taken up only behind the writer, which needs the registers itself.
+    #[inline(always)]
+    pub(crate) fn fill_up<const V: u8>(
+        &mut self,
+        lanes: &[u64; 8],
+        bytes: &[u8],
+        tally: &mut Tally,
+    ) -> [u64; 8]
+        requires { length self.old + length bytes.now ≡ 64 }
+        ensures lanes { lanes_in result ≡ block_round V (lanes_in lanes.now) (whole_words (self.old ++ bytes.now)) }
+        ensures none { self.new ≡ [] }
+        ensures products { tally.new.products ≡ tally.old.products + 4 }
+        ensures kept { tally.new.kept ≡ tally.old.kept + length bytes.now }
+    {
+        writer::put(&mut self.words, self.fill, bytes, tally);
+        let mut after = *lanes;
+        block_round(&mut after, &self.words, places::<V>(), tally);
+        self.words = [0; 8];
+        self.fill = 0;
+        after
+    }
+
+    /// The final word of these bytes and the byte that ends them.
+    #[inline(always)]
+    pub(crate) fn final_word(&self, end: u64) -> u64
+        requires { end < 4 }
+        ensures { result ≡ final_word self.now end }
+    {
+        self.words[self.fill / 8] | end << (8 * (self.fill % 8))
+    }
+
+    /// Writes them to the front of `out`, and leaves the rest.
+    #[inline(always)]
+    pub(crate) fn write_to(&self, out: &mut [u8])
+        requires { length self.now ≤ length out.old }
+        ensures bytes { take (length self.now) out.new ≡ self.now }
+        ensures rest { drop (length self.now) out.new ≡ drop (length self.now) out.old }
+    {
+        write_bytes(&self.words, self.fill, out);
+    }
+}
+
+/// Their whole words.
+impl Words for Pending {
+    ghost words = { λ pending. whole_words pending };
+
+    #[inline(always)]
+    fn count(&self) -> usize {
+        self.fill / 8
+    }
+
+    #[inline(always)]
+    fn word(&self, at: usize) -> u64 {
+        self.words[at]
+    }
+}

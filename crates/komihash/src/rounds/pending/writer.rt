@@ -1,0 +1,158 @@
+//! The one writer of pending bytes: it puts them into eight words, which are zero above them.
+
+ghost use Rattle.std.specs.Prelude.{◌≡◌, ℕ, ◌+◌, ◌-◌, ◌*◌, ◌%◌, ◌<◌, ◌≤◌, List, length, take, drop};
+ghost use Rattle.komihash.specs.Pending.{Appends};
+ghost use Rattle.komihash.specs.Words.{AreBytes, word_of};
+
+use crate::tally::Tally;
+use crate::utils::{read_partial_word, read_word, word_at};
+
+// Joins a word to the one that the fill has begun: of its bytes those that fit.
+#[inline(always)]
+fn join_word(words: &mut [u64; 8], fill: usize, word: u64)
+    requires { fill < 64 }
+    ensures { (bytes : List ℕ) → AreBytes bytes → word ≡ word_of bytes
+        → Appends words.old fill (take (8 - fill % 8) bytes) words.new }
+{
+    words[fill / 8] |= word << (8 * (fill % 8));
+}
+
+// Sets a word that holds nothing yet.
+#[inline(always)]
+fn set_word(words: &mut [u64; 8], at: usize, word: u64)
+    requires { at < 8 }
+    ensures { (bytes : List ℕ) → length bytes ≤ 8 → word ≡ word_of bytes
+        → Appends words.old (8 * at) bytes words.new }
+{
+    words[at] = word;
+}
+
+// Puts less than eight bytes.
+#[inline(always)]
+fn put_few(words: &mut [u64; 8], fill: usize, bytes: &[u8])
+    requires few { length bytes.now < 8 }
+    requires begun { fill < 64 }
+    requires room { fill + length bytes.now ≤ 64 }
+    ensures { Appends words.old fill bytes.now words.new }
+{
+    let word = read_partial_word(bytes, 0);
+    let over = fill % 8;
+    join_word(words, fill, word);
+    if over + bytes.len() > 8 {
+        set_word(words, fill / 8 + 1, word >> (64 - 8 * over));
+    }
+}
+
+// Moves four words from a place of the bytes on, where there are so many: the next places.
+#[inline(always)]
+fn move_four(words: &mut [u64; 8], at: usize, bytes: &[u8], from: usize) -> (usize, usize)
+    requires within { from ≤ length bytes.now }
+    requires room { 8 * at + (length bytes.now - from) ≤ 64 }
+    requires few { length bytes.now < from + 64 }
+    ensures on { from ≤ result.1 }
+    ensures within { result.1 ≤ length bytes.now }
+    ensures left { length bytes.now < result.1 + 32 }
+    ensures place { 8 * result.0 ≡ 8 * at + (result.1 - from) }
+    ensures words { Appends words.old (8 * at) (take (result.1 - from) (drop from bytes.now)) words.new }
+{
+    if bytes.len() - from < 32 {
+        return (at, from);
+    }
+    let first = word_at(bytes, from);
+    let second = word_at(bytes, from + 8);
+    let third = word_at(bytes, from + 16);
+    let fourth = word_at(bytes, from + 24);
+    set_word(words, at, first);
+    set_word(words, at + 1, second);
+    set_word(words, at + 2, third);
+    set_word(words, at + 3, fourth);
+    (at + 4, from + 32)
+}
+
+// The same with two words.
+#[inline(always)]
+fn move_two(words: &mut [u64; 8], at: usize, bytes: &[u8], from: usize) -> (usize, usize)
+    requires within { from ≤ length bytes.now }
+    requires room { 8 * at + (length bytes.now - from) ≤ 64 }
+    requires few { length bytes.now < from + 32 }
+    ensures on { from ≤ result.1 }
+    ensures within { result.1 ≤ length bytes.now }
+    ensures left { length bytes.now < result.1 + 16 }
+    ensures place { 8 * result.0 ≡ 8 * at + (result.1 - from) }
+    ensures words { Appends words.old (8 * at) (take (result.1 - from) (drop from bytes.now)) words.new }
+{
+    if bytes.len() - from < 16 {
+        return (at, from);
+    }
+    let first = word_at(bytes, from);
+    let second = word_at(bytes, from + 8);
+    set_word(words, at, first);
+    set_word(words, at + 1, second);
+    (at + 2, from + 16)
+}
+
+// The same with one word.
+#[inline(always)]
+fn move_one(words: &mut [u64; 8], at: usize, bytes: &[u8], from: usize) -> (usize, usize)
+    requires within { from ≤ length bytes.now }
+    requires room { 8 * at + (length bytes.now - from) ≤ 64 }
+    requires few { length bytes.now < from + 16 }
+    ensures on { from ≤ result.1 }
+    ensures within { result.1 ≤ length bytes.now }
+    ensures left { length bytes.now < result.1 + 8 }
+    ensures place { 8 * result.0 ≡ 8 * at + (result.1 - from) }
+    ensures words { Appends words.old (8 * at) (take (result.1 - from) (drop from bytes.now)) words.new }
+{
+    if bytes.len() - from < 8 {
+        return (at, from);
+    }
+    set_word(words, at, word_at(bytes, from));
+    (at + 1, from + 8)
+}
+
+// Puts what is left behind the words that were moved: it is read with the last eight bytes.
+#[inline(always)]
+fn put_last(words: &mut [u64; 8], at: usize, bytes: &[u8], from: usize)
+    requires many { 8 ≤ length bytes.now }
+    requires within { from ≤ length bytes.now }
+    requires room { 8 * at + (length bytes.now - from) ≤ 64 }
+    requires few { length bytes.now < from + 8 }
+    ensures { Appends words.old (8 * at) (drop from bytes.now) words.new }
+{
+    let left = bytes.len() - from;
+    if 0 < left {
+        let last = word_at(bytes, bytes.len() - 8);
+        set_word(words, at, last >> (64 - 8 * left));
+    }
+}
+
+// Puts eight bytes or more: the first fill up the begun word, then whole words follow.
+#[inline(always)]
+fn put_many(words: &mut [u64; 8], fill: usize, bytes: &[u8])
+    requires many { 8 ≤ length bytes.now }
+    requires room { fill + length bytes.now ≤ 64 }
+    ensures { Appends words.old fill bytes.now words.new }
+{
+    join_word(words, fill, read_word(bytes));
+    let (at, from) = move_four(words, fill / 8 + 1, bytes, 8 - fill % 8);
+    let (at, from) = move_two(words, at, bytes, from);
+    let (at, from) = move_one(words, at, bytes, from);
+    put_last(words, at, bytes, from);
+}
+
+/// Puts bytes behind those that the words hold up to the fill, and counts them as kept.
+#[inline(always)]
+pub(crate) fn put(words: &mut [u64; 8], fill: usize, bytes: &[u8], tally: &mut Tally)
+    requires begun { fill < 64 }
+    requires room { fill + length bytes.now ≤ 64 }
+    ensures words { Appends words.old fill bytes.now words.new }
+    ensures products { tally.new.products ≡ tally.old.products }
+    ensures kept { tally.new.kept ≡ tally.old.kept + length bytes.now }
+{
+    tally.count_kept(bytes.len());
+    if bytes.len() < 8 {
+        put_few(words, fill, bytes);
+    } else {
+        put_many(words, fill, bytes);
+    }
+}
