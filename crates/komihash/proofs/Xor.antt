@@ -1,5 +1,6 @@
 -- Orders of `^`: which two of several words meet first.
-use Rattle.std.proofs.Common.{◌≡◌, ℕ, ◌+◌, ◌^◌, ◌<◌, ap, ◌∙◌, sym, arith, lit<}
+use Rattle.std.proofs.Common.{◌≡◌, ℕ, ◌+◌, ◌*◌, ◌^◌, ◌<◌, ap, ◌∙◌, sym, arith, lit<}
+use Rattle.std.proofs.Math.Nat.{mul_comm}
 use Rattle.std.proofs.lemmas.Nat.{and_comm, and_assoc, and-not}
 use Rattle.std.specs.Prelude.{bit_xor, bit_and}
 use Rattle.std.specs.Int.Bits.{xor_assoc, xor_comm, xor_self, xor_zero_l, xor_disjoint}
@@ -10,6 +11,11 @@ xor_late w low e = xor_assoc w low e ∙ ap (bit_xor w) (xor_comm low e)
 
 pub xor_late_left : (w low e : ℕ) → bit_xor (bit_xor low w) e ≡ bit_xor (bit_xor e low) w
 xor_late_left w low e = xor_comm (bit_xor low w) e ∙ sym (xor_assoc e low w)
+
+-- the same for a factor that stands behind the other
+pub xor_late_behind : (v f w low e : ℕ) → bit_xor v f * bit_xor (bit_xor w low) e ≡ bit_xor w (bit_xor e low) * bit_xor v f
+xor_late_behind v f w low e =
+    mul_comm (bit_xor v f) (bit_xor (bit_xor w low) e) ∙ ap (λ x. x * bit_xor v f) (xor_late w low e)
 
 -- the middle ones change places
 pub xor_middle : (a b c d : ℕ) → bit_xor (bit_xor a b) (bit_xor c d) ≡ bit_xor (bit_xor a c) (bit_xor b d)

@@ -102,7 +102,7 @@ pub(crate) fn places<const V: u8>() -> [usize; 8]
 
 /// The block round, with a table of places.
 #[inline(always)]
-#[tactic(auto, using(crate::proofs::Xor::xor_late), unfolding(crate::specs::Rounds::block_round_by))]
+#[tactic(auto, using(crate::proofs::Xor::xor_late_behind), unfolding(crate::specs::Rounds::block_round_by))]
 pub(crate) fn block_round(
     lanes: &mut [u64; 8],
     words: &[u64; 8],
@@ -116,11 +116,16 @@ pub(crate) fn block_round(
 {
     let [low1, e1, low2, e2, low3, e3, low4, e4] = *lanes;
     let [p0, p1, p2, p3, p4, p5, p6, p7] = places;
+    // The first factors, all before the first product: then no word e is wanted behind its own sum.
     // Each low half meets its word first: it is there before the raised word that it belongs to.
-    let first = mix((words[p0] ^ low1) ^ e4, words[p1] ^ e1, e1, tally);
-    let second = mix((words[p2] ^ low2) ^ e1, words[p3] ^ e2, e2, tally);
-    let third = mix((words[p4] ^ low3) ^ e2, words[p5] ^ e3, e3, tally);
-    let fourth = mix((words[p6] ^ low4) ^ e3, words[p7] ^ e4, e4, tally);
+    let x1 = (words[p0] ^ low1) ^ e4;
+    let x2 = (words[p2] ^ low2) ^ e1;
+    let x3 = (words[p4] ^ low3) ^ e2;
+    let x4 = (words[p6] ^ low4) ^ e3;
+    let first = mix(words[p1] ^ e1, x1, e1, tally);
+    let second = mix(words[p3] ^ e2, x2, e2, tally);
+    let third = mix(words[p5] ^ e3, x3, e3, tally);
+    let fourth = mix(words[p7] ^ e4, x4, e4, tally);
     *lanes = [
         first.0, first.1, second.0, second.1, third.0, third.1, fourth.0, fourth.1,
     ];
