@@ -39,6 +39,14 @@ block_lanes-more v l xs le =
     ap (λ ys. block_lanes v l (whole_words ys)) (sym (take-append-drop 64 xs))
     ∙ block_lanes-bytes v l (take 64 xs) (drop 64 xs) (length-take-le 64 xs le)
 
+-- the lanes after one block, and the bytes behind it, lead where the lanes and the bytes before it led
+module _ (v : ℕ) (before after : Lanes) (xs ys : List ℕ) (le : 64 ≤ length xs) (left : ys ≡ drop 64 xs) (round : after ≡ block_round v before (whole_words (take 64 xs))) where
+  pub block_lanes-next : block_lanes v after (whole_words ys) ≡ block_lanes v before (whole_words xs)
+  block_lanes-next = rw (left, round) (sym (block_lanes-more v before xs le))
+
+  pub after_blocks-next : after_blocks ys ≡ after_blocks xs
+  after_blocks-next = rw left (sym (after_blocks-more xs le))
+
 pub hash_from_lanes-k_blocks : (k v : ℕ) (l : Lanes) (b : Bool) (xs : List ℕ) (last : ℕ) → length xs / 64 ≡ suc k → hash_from_lanes v l b (whole_words xs ++ last ∷ []) ≡ hash_from_pair (join true (block_lanes v l (whole_words xs))) (whole_words (after_blocks xs) ++ last ∷ [])
 hash_from_lanes-k_blocks zero v l b xs last e =
     let ys = drop 64 xs in

@@ -1,7 +1,8 @@
 //! Whole blocks, read where they lie.
 
-ghost use Rattle.std.specs.Prelude.{◌≡◌, ◌+◌, ◌*◌, ◌/◌, length};
+ghost use Rattle.std.specs.Prelude.{◌≡◌, ◌+◌, ◌*◌, ◌/◌, ◌≤◌, length, take, drop};
 ghost use Rattle.komihash.specs.Halves.{lanes_in};
+ghost use Rattle.komihash.specs.Rounds.{block_round};
 ghost use Rattle.komihash.specs.Tails.{whole_words, block_lanes, after_blocks};
 
 use super::{block_round, places};
@@ -10,7 +11,8 @@ use crate::utils::word_at;
 
 // The eight words of a block.
 #[inline(always)]
-fn block_words(block: &[u8; 64]) -> [u64; 8]
+fn block_words(block: &[u8]) -> [u64; 8]
+    requires { length block.now ≡ 64 }
     ensures { result ≡ whole_words block.now }
 {
     [
@@ -25,7 +27,28 @@ fn block_words(block: &[u8; 64]) -> [u64; 8]
     ]
 }
 
+// A block round on the first 64 bytes; those behind them.
+#[inline(always)]
+fn absorb_block<'a, const V: u8>(
+    lanes: &mut [u64; 8],
+    bytes: &'a [u8],
+    tally: &mut Tally,
+) -> &'a [u8]
+    requires { 64 ≤ length bytes.now }
+    ensures left { result.now ≡ drop 64 bytes.now }
+    ensures lanes { lanes_in lanes.new ≡ block V (lanes_in lanes.old) (whole_words (take 64 bytes.now)) }
+    ensures products { tally.new.products ≡ tally.old.products + 4 }
+    ensures kept { tally.new.kept ≡ tally.old.kept }
+{
+    let (block, rest) = bytes.split_at(64);
+    let words = block_words(block);
+    block_round(lanes, &words, places::<V>(), tally);
+    rest
+}
+
 /// A block round on each whole block of the bytes; what is left of them.
+///
+/// Two blocks are taken a turn, and one ahead of them where their number is odd.
 #[inline(always)]
 pub(crate) fn absorb_blocks<'a, const V: u8>(
     lanes: &mut [u64; 8],
@@ -38,10 +61,12 @@ pub(crate) fn absorb_blocks<'a, const V: u8>(
     ensures kept { tally.new.kept ≡ tally.old.kept }
 {
     let mut rest = bytes;
-    'whole: while let Some((block, after)) = rest.split_first_chunk::<64>() {
-        let words = block_words(block);
-        block_round(lanes, &words, places::<V>(), tally);
-        rest = after;
+    if rest.len() / 64 % 2 == 1 {
+        rest = absorb_block::<V>(lanes, rest, tally);
+    }
+    'whole: while rest.len() >= 128 {
+        let behind = absorb_block::<V>(lanes, rest, tally);
+        rest = absorb_block::<V>(lanes, behind, tally);
     }
     rest
 }

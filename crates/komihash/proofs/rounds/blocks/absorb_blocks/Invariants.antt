@@ -1,5 +1,6 @@
--- What is left leads to the same lanes and the same rest, by the products that are left.
-use Rattle.std.proofs.Common.{◌≡◌, ◌+◌, ◌*◌, ◌/◌, length}
+-- What is left leads to the same lanes and the same rest, by the products that are left. It is an
+-- even number of blocks.
+use Rattle.std.proofs.Common.{◌≡◌, ◌+◌, ◌*◌, ◌/◌, ◌%◌, length}
 use Rattle.komihash.specs.Halves.{lanes_in}
 use Rattle.komihash.specs.Tails.{whole_words, block_lanes, after_blocks}
 use Rattle.komihash.proofs.rounds.blocks.absorb_blocks.Given as goal
@@ -10,6 +11,7 @@ invariant-whole g l = record {
   left : after_blocks l.rest ≡ after_blocks l.bytes;
   products : l.tally.products + 4 * (length l.rest / 64) ≡ l.fn.tally.products + 4 * (length l.bytes / 64);
   kept : l.tally.kept ≡ l.fn.tally.kept;
+  even : length l.rest / 64 % 2 ≡ 0;
 }
 
 abbrev pub decreases-whole : goal.decreases-whole
