@@ -36,7 +36,7 @@ fn absorb_block<'a, const V: u8>(
 ) -> &'a [u8]
     requires { 64 ≤ length bytes.now }
     ensures left { result.now ≡ drop 64 bytes.now }
-    ensures lanes { lanes_in lanes.new ≡ block V (lanes_in lanes.old) (whole_words (take 64 bytes.now)) }
+    ensures lanes { lanes_in lanes.new ≡ block_round V (lanes_in lanes.old) (whole_words (take 64 bytes.now)) }
     ensures products { tally.new.products ≡ tally.old.products + 4 }
     ensures kept { tally.new.kept ≡ tally.old.kept }
 {
