@@ -4,10 +4,9 @@ ghost use Rattle.std.specs.Prelude.{◌≡◌, ◌+◌, ◌≤◌, length};
 ghost use Rattle.komihash.specs.Counts.{hash_products};
 ghost use Rattle.komihash.specs.Hash.{komi};
 
-use crate::padding::{end_byte, final_of_few, final_of_many};
 use crate::rounds::blocks::absorb_blocks;
 use crate::rounds::{close_one, join, lanes, seed_pair};
-use crate::tails::answer_below_eight;
+use crate::tails::{answer_below_eight, end_byte, final_of_few, final_of_many};
 use crate::tally::Tally;
 
 // The hash of a message with at least one block: a function of its own, since only its loop needs

@@ -9,7 +9,6 @@ mod hash;
 mod hasher;
 pub mod laws;
 mod names;
-mod padded;
 mod padding;
 mod rounds;
 pub mod stream;

@@ -1,10 +1,13 @@
-//! The word that ends the padded words of a message.
+//! The padding of a message: its padding byte, and its padded words, written and read back.
 
-ghost use Rattle.std.specs.Prelude.{◌≡◌, ◌+◌, ◌<◌, ◌≤◌, length};
-ghost use Rattle.komihash.specs.Tails.{end_byte, final_word};
-ghost use Rattle.komihash.specs.Padding.{has_top_bit, padding_behind};
+mod length;
 
-use crate::utils::{read_partial_word, word_at};
+ghost use Rattle.std.specs.Prelude.{◌≡◌, ◌+◌, ◌*◌, ◌/◌, ◌≤◌, ◌↔◌, IfSome, IfNone, IsNone, length, take, drop};
+ghost use Rattle.komihash.specs.Padding.{ArePadded, has_top_bit, padded_words, padding_behind};
+
+use crate::tails::final_word;
+use crate::utils::copies::{write_bytes, write_words};
+use length::message_length;
 
 /// Whether version V looks at the top bit of a last byte, and it is set.
 #[inline(always)]
@@ -22,39 +25,31 @@ pub(crate) fn padding_behind(high: bool) -> u64
     1 + u64::from(high)
 }
 
-/// The byte that ends a message: its padding byte, or 0 where the message is empty.
+/// Writes the padded words of a message in version V, and answers how many they are.
 #[inline(always)]
-pub(crate) fn end_byte<const V: u8>(message: &[u8]) -> u64
-    ensures byte { result ≡ end_byte V message.now }
-    ensures small { result < 4 }
+pub(crate) fn pad<const V: u8>(bytes: &[u8], out: &mut [u64]) -> usize
+    requires { length bytes.now / 8 + 1 ≤ length out.old }
+    ensures count { result ≡ length bytes.now / 8 + 1 }
+    ensures padded { take result out.new ≡ padded_words V bytes.now }
+    ensures rest { drop result out.new ≡ drop result out.old }
 {
-    if message.is_empty() {
-        0
-    } else {
-        padding_behind(has_top_bit::<V>(message[message.len() - 1]))
-    }
+    let whole = bytes.len() / 8;
+    write_words(bytes, out);
+    out[whole] = final_word::<V>(bytes);
+    whole + 1
 }
 
-/// The final word of less than eight bytes.
+/// Writes the message whose padded words in version V these are, and answers its length.
 #[inline(always)]
-pub(crate) fn final_of_few(bytes: &[u8], end: u64) -> u64
-    requires few { length bytes.now < 8 }
-    requires end { end < 4 }
-    ensures { result ≡ final_word bytes.now end }
+pub(crate) fn unpad<const V: u8>(words: &[u64], out: &mut [u8]) -> Option<usize>
+    requires { 8 * length words.now ≤ length out.old }
+    ensures length { IfSome result (λ n. n / 8 + 1 ≡ length words.now) }
+    ensures message { IfSome result (λ n. padded_words V (take n out.new) ≡ words.now) }
+    ensures rest { IfSome result (λ n. drop n out.new ≡ drop n out.old) }
+    ensures none { IsNone result ↔ ¬ ArePadded V words.now }
+    ensures unchanged { IfNone result (out.new ≡ out.old) }
 {
-    read_partial_word(bytes, end)
-}
-
-/// The final word of at least eight bytes.
-///
-/// The bytes behind the last whole word are read with the last eight. `end` is set above them, and
-/// one shift brings all down.
-#[inline(always)]
-pub(crate) fn final_of_many(bytes: &[u8], end: u64) -> u64
-    requires many { 8 ≤ length bytes.now }
-    requires end { end < 4 }
-    ensures { result ≡ final_word bytes.now end }
-{
-    let last = word_at(bytes, bytes.len() - 8);
-    (last >> 4 | end << 60) >> (60 - 8 * (bytes.len() % 8))
+    let count = message_length::<V>(words)?;
+    write_bytes(words, count, out);
+    Some(count)
 }

@@ -3,11 +3,62 @@
 ghost use Rattle.std.specs.Prelude.{◌≡◌, ℕ, ◌+◌, ◌-◌, ◌/◌, ◌<◌, ◌≤◌, List, [], ◌∷◌, ◌++◌, length, take, drop, slice_index};
 ghost use Rattle.komihash.specs.Halves.{pair_in};
 ghost use Rattle.komihash.specs.Hash.{hash_from_pair};
-ghost use Rattle.komihash.specs.Tails.{whole_words};
+ghost use Rattle.komihash.specs.Tails.{end_byte, final_word, whole_words};
 
+use crate::padding::{has_top_bit, padding_behind};
 use crate::rounds::{Pair, close_one, close_two, pair_round};
 use crate::tally::Tally;
-use crate::utils::word_at;
+use crate::utils::{read_partial_word, word_at};
+
+/// The byte that ends a message: its padding byte, or 0 where the message is empty.
+#[inline(always)]
+pub(crate) fn end_byte<const V: u8>(message: &[u8]) -> u64
+    ensures byte { result ≡ end_byte V message.now }
+    ensures small { result < 4 }
+{
+    if message.is_empty() {
+        0
+    } else {
+        padding_behind(has_top_bit::<V>(message[message.len() - 1]))
+    }
+}
+
+/// The final word of less than eight bytes.
+#[inline(always)]
+pub(crate) fn final_of_few(bytes: &[u8], end: u64) -> u64
+    requires few { length bytes.now < 8 }
+    requires end { end < 4 }
+    ensures { result ≡ final_word bytes.now end }
+{
+    read_partial_word(bytes, end)
+}
+
+/// The final word of at least eight bytes.
+///
+/// The bytes behind the last whole word are read with the last eight. `end` is set above them, and
+/// one shift brings all down.
+#[inline(always)]
+pub(crate) fn final_of_many(bytes: &[u8], end: u64) -> u64
+    requires many { 8 ≤ length bytes.now }
+    requires end { end < 4 }
+    ensures { result ≡ final_word bytes.now end }
+{
+    let last = word_at(bytes, bytes.len() - 8);
+    (last >> 4 | end << 60) >> (60 - 8 * (bytes.len() % 8))
+}
+
+/// The final word of a message.
+#[inline(always)]
+pub(crate) fn final_word<const V: u8>(bytes: &[u8]) -> u64
+    ensures { result ≡ final_word bytes.now (end_byte V bytes.now) }
+{
+    let end = end_byte::<V>(bytes);
+    if bytes.len() < 8 {
+        final_of_few(bytes, end)
+    } else {
+        final_of_many(bytes, end)
+    }
+}
 
 /// Whole words that are left, wherever they lie.
 pub(crate) trait Words {

@@ -1,5 +1,7 @@
 //! Words read from bytes and written to them, and the one product of two words.
 
+pub(crate) mod copies;
+
 ghost use Rattle.std.specs.Prelude.{◌≡◌, ◌+◌, ◌*◌, ◌^◌, ◌<◌, ◌≤◌, [], ◌∷◌, ◌++◌, length, take, drop};
 ghost use Rattle.komihash.specs.Rounds.{low, high};
 ghost use Rattle.komihash.specs.Words.{word_of, bytes_of};

@@ -6,7 +6,7 @@ ghost use Rattle.komihash.specs.Hash.{komi};
 ghost use Rattle.komihash.specs.Padding.{ArePadded, padded_words};
 
 use crate::tally::Tally;
-use crate::{generator, hash, hasher, padded, stream};
+use crate::{generator, hash, hasher, padding, stream};
 
 /// The stream of version 4.
 pub type StreamedKomihash = stream::streamed::StreamedKomihash<4>;
@@ -46,7 +46,7 @@ pub fn pad(bytes: &[u8], out: &mut [u64]) -> usize
     ensures padded { take result out.new ≡ padded_words 4 bytes.now }
     ensures rest { drop result out.new ≡ drop result out.old }
 {
-    padded::pad::<4>(bytes, out)
+    padding::pad::<4>(bytes, out)
 }
 
 /// Reads padded words back: writes the message that has them, and answers its length in bytes.
@@ -63,5 +63,5 @@ pub fn unpad(words: &[u64], out: &mut [u8]) -> Option<usize>
     ensures none { IsNone result ↔ ¬ ArePadded 4 words.now }
     ensures unchanged { IfNone result (out.new ≡ out.old) }
 {
-    padded::unpad::<4>(words, out)
+    padding::unpad::<4>(words, out)
 }

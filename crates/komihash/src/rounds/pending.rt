@@ -8,9 +8,9 @@ ghost use Rattle.komihash.specs.Tails.{whole_words, final_word};
 mod writer;
 
 use super::{block_round, places};
-use crate::padded::copies::write_bytes;
 use crate::tails::Words;
 use crate::tally::Tally;
+use crate::utils::copies::write_bytes;
 use std::marker::Model;
 
 /// Fewer than 64 bytes. They stand in eight words, which are zero above them.

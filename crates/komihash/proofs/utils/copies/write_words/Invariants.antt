@@ -1,7 +1,7 @@
 -- The words so far, and behind them what was there.
 use Rattle.std.proofs.Common.{◌≡◌, take, drop}
 use Rattle.komihash.specs.Tails.{whole_words}
-use Rattle.komihash.proofs.padded.copies.write_words.Given as goal
+use Rattle.komihash.proofs.utils.copies.write_words.Given as goal
 
 abbrev pub invariant-whole : goal.invariant-whole
 invariant-whole l = record {

@@ -4,7 +4,7 @@ use Rattle.komihash.specs.Words.{bytes_of, all_bytes}
 use Rattle.komihash.proofs.CopiedBytes.{take-put_mid_next, drop-put_mid_next, take-all_bytes}
 use Rattle.komihash.proofs.BytesOfWord.{to_le_bytes-word}
 use Rattle.komihash.proofs.PendingBytes.{length-bytes_of}
-use Rattle.komihash.proofs.padded.copies.write_bytes.Goals as goal
+use Rattle.komihash.proofs.utils.copies.write_bytes.Goals as goal
 
 pub whole-preserved : goal.whole-preserved
 whole-preserved c =

@@ -1,5 +1,5 @@
 use Rattle.komihash.proofs.PaddedBack.{place-above, place-below}
-use Rattle.komihash.proofs.padded.length.highest_place.Goals as goal
+use Rattle.komihash.proofs.padding.length.highest_place.Goals as goal
 
 pub returns-clause-above : goal.returns-clause-above
 returns-clause-above c =

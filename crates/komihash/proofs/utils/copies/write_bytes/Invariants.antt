@@ -1,7 +1,7 @@
 -- The bytes of the words so far, and behind them what was there.
 use Rattle.std.proofs.Common.{◌≡◌, ◌*◌, take, drop}
 use Rattle.komihash.specs.Words.{all_bytes}
-use Rattle.komihash.proofs.padded.copies.write_bytes.Given as goal
+use Rattle.komihash.proofs.utils.copies.write_bytes.Given as goal
 
 abbrev pub invariant-whole : goal.invariant-whole
 invariant-whole l = record {

@@ -2,7 +2,7 @@ use Rattle.std.proofs.Common.{take, ap, ◌∙◌, sym}
 use Rattle.std.proofs.lemmas.Bool.{false≢true}
 use Rattle.komihash.specs.Padding.{ArePadded, padded_words}
 use Rattle.komihash.proofs.WordsOfBytes.{AreBytes-typed, AreBytes-take}
-use Rattle.komihash.proofs.padded.unpad.Goals as goal
+use Rattle.komihash.proofs.padding.unpad.Goals as goal
 
 pub returns-clause-none : goal.returns-clause-none
 returns-clause-none g c =

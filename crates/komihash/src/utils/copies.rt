@@ -4,7 +4,7 @@ ghost use Rattle.std.specs.Prelude.{◌≡◌, ◌*◌, ◌/◌, ◌≤◌, leng
 ghost use Rattle.komihash.specs.Words.{all_bytes};
 ghost use Rattle.komihash.specs.Tails.{whole_words};
 
-use crate::utils::{word_at, write_partial_word};
+use super::{word_at, write_partial_word};
 
 /// Writes the whole words of the bytes.
 #[inline(always)]

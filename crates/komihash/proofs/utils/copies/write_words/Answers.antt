@@ -3,7 +3,7 @@ use Rattle.std.proofs.lemmas.List.{take_all}
 use Rattle.komihash.specs.Tails.{whole_words}
 use Rattle.komihash.proofs.CopiedBytes.{take-set_next, drop-set_next}
 use Rattle.komihash.proofs.HashSteps.{length-whole_words, slice_index-whole_words}
-use Rattle.komihash.proofs.padded.copies.write_words.Goals as goal
+use Rattle.komihash.proofs.utils.copies.write_words.Goals as goal
 
 pub whole-preserved : goal.whole-preserved
 whole-preserved c =

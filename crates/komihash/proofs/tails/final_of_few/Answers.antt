@@ -1,6 +1,6 @@
 use Rattle.std.proofs.Common.{◌∙◌}
 use Rattle.komihash.proofs.PaddedWords.{final_word-few}
-use Rattle.komihash.proofs.padding.final_of_few.Goals as goal
+use Rattle.komihash.proofs.tails.final_of_few.Goals as goal
 
 pub returns : goal.returns
 returns c =
