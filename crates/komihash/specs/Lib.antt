@@ -8,6 +8,7 @@ pub mod Hasher
 pub mod Padding
 pub mod Pending
 pub mod Rounds
+pub mod Saved
 mod Sealed
 pub mod Stream
 pub mod Tails

@@ -11,3 +11,4 @@ mod root;
 mod rounds;
 mod stream;
 mod tally;
+mod texts;

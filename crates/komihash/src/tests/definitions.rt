@@ -1,11 +1,14 @@
 //! What the definitions alone say of known messages: each clause is proved, and nothing is run.
 
-ghost use Rattle.std.specs.Prelude.{◌≡◌, ℕ, ◌+◌, ◌≤◌, List, [], ◌∷◌, ◌++◌, length};
+ghost use Rattle.std.specs.Prelude.{◌≡◌, ℕ, ◌+◌, ◌≤◌, List, [], ◌∷◌, ◌++◌, length, take};
 ghost use Rattle.komihash.specs.Hash.{komi};
+ghost use Rattle.komihash.specs.Saved.{text};
+ghost use Rattle.komihash.specs.Stream.{start, absorb};
 ghost use Rattle.komihash.specs.Padding.{padded_words};
 ghost use Rattle.komihash.specs.Rounds.{pair_round, seed_pair};
 
 use super::messages::{BLOCK_FIVE, BLOCK_FOUR, HIGH_END, SIX, ZERO};
+use super::texts::{BLOCK_SAVED, LETTERS_FIVE, NEW_FIVE, NEW_FOUR};
 
 #[tactic(auto, unfolding(crate::specs::Hash::komi, crate::specs::Rounds::mix, crate::specs::Rounds::block_round_by))]
 fn hashes()
@@ -45,10 +48,19 @@ fn padded_words()
         ≡ 0xffffffffffffffff ∷ 2 ∷ [] }
 {}
 
+#[tactic(auto, unfolding(crate::specs::Saved::text, crate::specs::Stream::absorb, crate::specs::Rounds::mix, crate::specs::Rounds::block_round_by, crate::specs::Words::bytes_of))]
+fn texts()
+    ensures new { text 5 (start 0) ≡ NEW_FIVE }
+    ensures new_in_four { text 4 (start 0) ≡ NEW_FOUR }
+    ensures letters { text 5 (absorb 5 (start 0) (0x61 ∷ 0x62 ∷ 0x63 ∷ [])) ≡ LETTERS_FIVE }
+    ensures block { text 5 (absorb 5 (start 0) (take 64 BLOCK_FIVE)) ≡ BLOCK_SAVED }
+{}
+
 #[test]
 fn holds() {
     hashes();
     round_of_zero();
     zero_and_more();
     padded_words();
+    texts();
 }

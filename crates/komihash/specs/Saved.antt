@@ -1,0 +1,26 @@
+-- The text that a stream is saved as.
+use Rattle.std.specs.Prelude.{ℕ, ◌≡◌, Bool, List, [], ◌∷◌, ◌++◌, length, if◌then◌else◌}
+use Rattle.komihash.specs.Rounds.{Lanes}
+use Rattle.komihash.specs.Stream.{State, IsState}
+use Rattle.komihash.specs.Words.{all_bytes}
+
+-- a flag as a byte
+abbrev pub flag_byte : Bool → ℕ
+flag_byte flag = if flag then 1 else 0
+
+-- the eight lanes, s1 first
+abbrev pub in_order : Lanes → List ℕ
+in_order s = s.s1 ∷ s.s2 ∷ s.s3 ∷ s.s4 ∷ s.s5 ∷ s.s6 ∷ s.s7 ∷ s.s8 ∷ []
+
+-- the first four bytes: the version, whether a block was absorbed, the bit of version 4, and how many
+-- bytes are pending
+abbrev pub head : ℕ → State → List ℕ
+head v s = v ∷ flag_byte s.absorbed ∷ flag_byte s.high ∷ length s.pending ∷ []
+
+-- the text of a state of version v: the first four bytes, the eight lanes, the pending bytes
+unfoldable pub text : ℕ → State → List ℕ
+text v s = head v s ++ all_bytes (in_order s.lanes) ++ s.pending
+
+-- the bytes are the text of some state of version v
+abbrev pub IsText : ℕ → List ℕ → Type 0
+IsText v bytes = (s : State) × IsState v s × (text v s ≡ bytes)
