@@ -8,7 +8,8 @@ ghost use Rattle.komihash.specs.Counts.{hash_products};
 ghost use Rattle.komihash.specs.Generator.{after_steps, fill, after_fill};
 ghost use Rattle.komihash.specs.Hash.{komi};
 ghost use Rattle.komihash.specs.Rounds.{seed_words, constant};
-ghost use Rattle.komihash.specs.Stream.{State, start, absorb, answer};
+ghost use Rattle.komihash.specs.Saved.{text};
+ghost use Rattle.komihash.specs.Stream.{State, IsState, start, absorb, answer};
 ghost use Rattle.komihash.specs.Padding.{padded_words};
 ghost use Rattle.komihash.specs.Words.{AreBytes};
 ghost use Rattle.komihash.specs.declared.stream.Call.{Call};
@@ -66,4 +67,10 @@ pub fn one_seed()
 /// Padding loses nothing: two messages with the same padded words in one version are the same.
 pub fn same_words()
     ensures { (v : ℕ) (x y : List ℕ) → AreBytes x → AreBytes y → padded_words v x ≡ padded_words v y → x ≡ y }
+{}
+
+/// A saved stream can only be one: two states never share a text, not even states of both versions.
+pub fn saved_once()
+    ensures version { (v w : ℕ) (s t : State) → IsState v s → IsState w t → text v s ≡ text w t → v ≡ w }
+    ensures state { (v w : ℕ) (s t : State) → IsState v s → IsState w t → text v s ≡ text w t → s ≡ t }
 {}
