@@ -7,7 +7,7 @@ use Rattle.komihash.specs.Saved.{flag_byte, in_order, text}
 use Rattle.komihash.specs.Stream.{AreWords, State}
 use Rattle.komihash.specs.Tails.{whole_words}
 use Rattle.komihash.specs.Words.{all_bytes}
-use Rattle.komihash.proofs.KeptBytes.{length-all_bytes}
+use Rattle.komihash.proofs.PendingBytes.{length-all_bytes}
 use Rattle.komihash.proofs.PaddedBack.{whole_words-all_bytes}
 
 -- ---- the parts
