@@ -1,5 +1,6 @@
 -- The padded words of a message are its whole words, and the word that ends them.
 use Rattle.std.proofs.Common.{◌≤◌, take, drop, ◌≡◌, ℕ, suc, ◌-◌, ◌%◌, ◌<◌, List, [], ◌∷◌, ◌++◌, length, replicate, refl, ap, arith, ◌∙◌, sym}
+use Rattle.std.proofs.lemmas.List.{drop_all}
 use Rattle.komihash.specs.Padding.{padded_words, padding_byte}
 use Rattle.komihash.specs.Words.{word_of, words_of}
 use Rattle.komihash.specs.Tails.{whole_words, after_words, end_byte, final_word}
@@ -47,3 +48,9 @@ final_word-few xs end few = ap (λ ys. word_of (ys ++ end ∷ [])) (sym (after_w
 -- the final word of more
 pub final_word-many : (xs : List ℕ) (end : ℕ) → word_of (drop (length xs - length xs % 8) xs ++ end ∷ []) ≡ final_word xs end
 final_word-many xs end = ap (λ ys. word_of (ys ++ end ∷ [])) (sym (after_words-drop xs))
+
+-- the same where no byte stands behind the last whole word
+pub final_word-whole : (xs : List ℕ) (end : ℕ) → length xs % 8 ≡ 0 → end ≡ final_word xs end
+final_word-whole xs end whole =
+    let one : end ≡ word_of (end ∷ []) = omega arith in
+    one ∙ ap (λ ys. word_of (ys ++ end ∷ [])) (sym (drop_all (length xs - length xs % 8) xs (omega arith))) ∙ final_word-many xs end

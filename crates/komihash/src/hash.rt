@@ -36,11 +36,12 @@ pub(crate) fn komihash_counted<const V: u8>(bytes: &[u8], seed: u64, tally: &mut
         return hash_of_blocks::<V>(bytes, seed, tally);
     }
     let pair = seed_pair(seed, tally);
+    if bytes.is_empty() {
+        return close_one(pair, 0, tally);
+    }
     if bytes.len() >= 8 {
         let last = final_of_many(bytes, end_byte::<V>(bytes));
         answer_below_eight(pair, &bytes, last, tally)
-    } else if bytes.is_empty() {
-        close_one(pair, 0, tally)
     } else {
         let last = final_of_few(bytes, end_byte::<V>(bytes));
         close_one(pair, last, tally)
