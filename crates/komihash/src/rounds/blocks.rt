@@ -11,8 +11,7 @@ use crate::utils::word_at;
 
 // The eight words of a block.
 #[inline(always)]
-fn block_words(block: &[u8]) -> [u64; 8]
-    requires { length block.now ≡ 64 }
+fn block_words(block: &[u8; 64]) -> [u64; 8]
     ensures { result ≡ whole_words block.now }
 {
     [
@@ -40,7 +39,9 @@ fn absorb_block<'a, const V: u8>(
     ensures products { tally.new.products ≡ tally.old.products + 4 }
     ensures kept { tally.new.kept ≡ tally.old.kept }
 {
-    let (block, rest) = bytes.split_at(64);
+    let Some((block, rest)) = bytes.split_first_chunk::<64>() else {
+        unreachable!()
+    };
     let words = block_words(block);
     block_round(lanes, &words, places::<V>(), tally);
     rest
