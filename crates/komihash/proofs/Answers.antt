@@ -40,7 +40,7 @@ after_words-after_blocks m =
     ∙ after_words-append (take n m) (drop n m) (n / 8) (length-take-le n m (omega arith) ∙ omega arith)
 
 -- the last byte is the last of what is behind the blocks, or of the last block
-pub tail_end-blocks : (v : ℕ) (m p : List ℕ) → p ≡ after_blocks m → 64 ≤ length m → tail_end v p true (has_top_bit v (slice_index m (length m - length m % 64 - 1))) ≡ end_byte v m
+tail_end-blocks : (v : ℕ) (m p : List ℕ) → p ≡ after_blocks m → 64 ≤ length m → tail_end v p true (has_top_bit v (slice_index m (length m - length m % 64 - 1))) ≡ end_byte v m
 tail_end-blocks v [] p e le = absurd (omega arith)
 tail_end-blocks v (c ∷ m) [] e le =
     let n : length (after_blocks (c ∷ m)) ≡ 0 = ap length (sym e) in

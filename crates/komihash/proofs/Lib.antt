@@ -11,6 +11,7 @@ pub mod KeptHalves
 pub mod LaneWords
 pub mod PaddedBack
 pub mod PaddedWords
+pub mod PendingBlocks
 pub mod PendingBytes
 pub mod PendingPieces
 pub mod PendingSteps

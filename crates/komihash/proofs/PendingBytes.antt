@@ -1,6 +1,6 @@
 -- Bytes in words: what eight words hold, and what a word set behind them adds.
 use Rattle.std.proofs.Common.{◌≡◌, ℕ, zero, suc, ◌+◌, ◌-◌, ◌*◌, ◌/◌, ◌%◌, ◌^◌, ◌<◌, ◌≤◌, List, [], ◌∷◌, ◌++◌, length, take, drop, get_or, set, replicate, refl, ap, arith, ◌∙◌, sym, subst, inl, inr}
-use Rattle.std.proofs.lemmas.List.{append_assoc, append-nil, length-append, length-drop, length-take, length-take-le, take-append-drop, take_at, take_all, drop_all, replicate-append-replicate, nil_from_length}
+use Rattle.std.proofs.lemmas.List.{append_assoc, append-nil, length-append, length-drop, length-take, length-take-le, take-append-drop, take_at, take_all, drop_all, replicate-append-replicate, nil_from_length, drop_more, get_or-drop}
 use Rattle.std.proofs.lemmas.Nat.{pow-add, shl_whole, shl_below, mod_low}
 use Rattle.std.proofs.Math.Nat.{add-mul, mul_assoc}
 use Rattle.std.proofs.lemmas.Bool.{cases_lt}
@@ -9,7 +9,7 @@ use Rattle.komihash.specs.Pending.{pending_words, pending_bytes}
 use Rattle.komihash.specs.Tails.{after_words, whole_words, final_word}
 use Rattle.komihash.specs.Words.{AreBytes, word_of, bytes_of, all_bytes}
 use Rattle.komihash.proofs.PaddedWords.{after_words-drop, whole_words-more, whole_words-few}
-use Rattle.komihash.proofs.WordsOfBytes.{AreBytes-take, AreBytes-drop, word_of-lt, word_of-append, word_of-or, word_of-push}
+use Rattle.komihash.proofs.WordsOfBytes.{AreBytes-take, AreBytes-drop, word_of-lt, word_of-append, word_of-or, word_of-push, word_of-shr}
 
 -- a word's bytes are those that it was made of, and zeros
 bytes_of-word_of : (n : ℕ) (xs : List ℕ) → AreBytes xs → length xs ≤ n → bytes_of n (word_of xs) ≡ xs ++ replicate (n - length xs) 0
@@ -169,6 +169,25 @@ final_word-pending_words xs fill end h e lt small =
     let begun = after_words xs in
     let bytes : AreBytes begun = subst AreBytes (sym (after_words-drop xs)) (AreBytes-drop (length xs - length xs % 8) xs h) in
     rw (← e) (ap (λ w. bit_or w (end * 2 ^ (8 * (length xs % 8)) % 2 ^ 64)) (get_or-pending_words 8 xs (omega arith)) ∙ word_of-push begun (length xs % 8) end bytes (length-after_words xs) (omega arith) small)
+
+-- the last byte, which nothing stands above
+pub last-pending_words : (n : ℕ) (xs : List ℕ) (i : ℕ) → AreBytes xs → length xs ≡ i + 1 → i < 8 * n → get_or (pending_words n xs) (i / 8) 0 / 2 ^ (8 * (i % 8)) ≡ get_or xs i 0
+unfolding pending_words
+last-pending_words zero xs i h e lt = absurd (omega arith)
+last-pending_words (suc n) xs i h e lt =
+    elim (cases_lt i 8) as (λ _. get_or (pending_words (suc n) xs) (i / 8) 0 / 2 ^ (8 * (i % 8)) ≡ get_or xs i 0) [
+      | inl few ↦
+          let place : i / 8 ≡ 0 = omega arith in
+          let over : i % 8 ≡ i = omega arith in
+          let whole : take 8 xs ≡ xs = take_all 8 xs (omega arith) in
+          let last : drop i xs ≡ get_or xs i 0 ∷ [] = drop_more xs i 0 (omega arith) ∙ ap (λ ys. get_or xs i 0 ∷ ys) (drop_all (i + 1) xs (omega arith)) in
+          rw (place, over, whole) (word_of-shr i xs h (omega arith) ∙ ap word_of last ∙ omega arith)
+      | inr many ↦
+          let place : i / 8 ≡ suc ((i - 8) / 8) = omega arith in
+          let over : i % 8 ≡ (i - 8) % 8 = omega arith in
+          let next : 8 + (i - 8) ≡ i = omega arith in
+          rw (place, over) (last-pending_words n (drop 8 xs) (i - 8) (AreBytes-drop 8 xs h) (omega (arith, length-drop 8 xs)) (omega arith) ∙ get_or-drop 8 xs (i - 8) 0 ∙ ap (λ k. get_or xs k 0) next)
+    ]
 
 -- ---- what words hold
 

@@ -1,12 +1,12 @@
 -- Pending bytes before and after a call: what their words and their fill show.
-use Rattle.std.proofs.Common.{◌≡◌, ℕ, ◌+◌, ◌*◌, ◌/◌, ◌%◌, ◌^◌, ◌<◌, List, [], ◌∷◌, ◌++◌, length, take, get_or, refl, ap, arith, ◌∙◌, sym, subst}
+use Rattle.std.proofs.Common.{◌≡◌, ℕ, ◌+◌, ◌-◌, ◌*◌, ◌/◌, ◌%◌, ◌^◌, ◌<◌, List, [], ◌∷◌, ◌++◌, length, take, get_or, refl, ap, arith, ◌∙◌, sym, subst}
 use Rattle.std.proofs.lemmas.List.{length-append, get_or-take}
 use Rattle.std.specs.Prelude.{bit_or}
 use Rattle.komihash.specs.Pending.{pending_words, pending_bytes, ArePending, Appends}
 use Rattle.komihash.specs.Tails.{whole_words, final_word}
 use Rattle.komihash.specs.Words.{AreBytes}
 use Rattle.komihash.proofs.HashSteps.{length-whole_words}
-use Rattle.komihash.proofs.PendingBytes.{pending_bytes-pending_words, length-pending_bytes, length-pending_words, pending_words-whole, AreBytes-pending_bytes, AreBytes-append, take-pending_words, final_word-pending_words}
+use Rattle.komihash.proofs.PendingBytes.{pending_bytes-pending_words, length-pending_bytes, length-pending_words, pending_words-whole, AreBytes-pending_bytes, AreBytes-append, take-pending_words, final_word-pending_words, last-pending_words}
 
 -- no bytes
 pub pending_bytes-none : (ws : List ℕ) → pending_bytes ws 0 ≡ []
@@ -36,14 +36,14 @@ module _ (ws : List ℕ) (fill : ℕ) (are : ArePending ws fill) (xs : List ℕ)
     length-put : length (xs ++ bytes) ≡ fill + length bytes
     length-put = omega (arith, length-append xs bytes, length-pending)
 
-    pub pending_bytes-put : fill + length bytes < 64 → pending_bytes new (fill + length bytes) ≡ xs ++ bytes
-    pending_bytes-put few =
-        ap (λ w. pending_bytes w (fill + length bytes)) padded_words-put
-        ∙ pending_bytes-pending_words (xs ++ bytes) (fill + length bytes) (AreBytes-append xs bytes AreBytes-pending are_bytes) length-put (omega arith)
+    pub pending_bytes-put : (n : ℕ) → n ≡ fill + length bytes → n < 64 → pending_bytes new n ≡ xs ++ bytes
+    pending_bytes-put n sum few =
+        ap (λ w. pending_bytes w n) padded_words-put
+        ∙ pending_bytes-pending_words (xs ++ bytes) n (AreBytes-append xs bytes AreBytes-pending are_bytes) (length-put ∙ sym sum) (omega arith)
 
-    pub ArePending-put : fill + length bytes < 64 → ArePending new (fill + length bytes)
-    ArePending-put few =
-        record { few = few; words = padded_words-put ∙ ap (pending_words 8) (sym (pending_bytes-put few)) }
+    pub ArePending-put : (n : ℕ) → n ≡ fill + length bytes → n < 64 → ArePending new n
+    ArePending-put n sum few =
+        record { few = few; words = padded_words-put ∙ ap (pending_words 8) (sym (pending_bytes-put n sum few)) }
 
     -- as many as fill a block
     pub block-put : fill + length bytes ≡ 64 → new ≡ whole_words (xs ++ bytes)
@@ -67,3 +67,11 @@ module _ (ws : List ℕ) (fill : ℕ) (are : ArePending ws fill) (xs : List ℕ)
   final_word-pending end small =
       ap (λ w. bit_or (get_or w (fill / 8) 0) (end * 2 ^ (8 * (fill % 8)) % 2 ^ 64)) padded_words-pending
       ∙ final_word-pending_words xs fill end AreBytes-pending length-pending are.few small
+
+  -- the last of them, which nothing stands above
+  pub last-pending : 0 < fill → get_or ws ((fill - 1) / 8) 0 / 2 ^ (8 * ((fill - 1) % 8)) ≡ get_or xs (length xs - 1) 0
+  last-pending some =
+      let size = length-pending in
+      ap (λ w. get_or w ((fill - 1) / 8) 0 / 2 ^ (8 * ((fill - 1) % 8))) padded_words-pending
+      ∙ last-pending_words 8 xs (fill - 1) AreBytes-pending (omega arith) (omega (arith, are.few))
+      ∙ ap (λ n. get_or xs (n - 1) 0) (sym size)

@@ -1,6 +1,5 @@
 pub mod Calls
 pub mod Counts
-pub mod Engine
 pub mod Generator
 pub mod Halves
 pub mod Hash

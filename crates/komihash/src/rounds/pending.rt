@@ -1,13 +1,14 @@
 //! The pending bytes of a stream: those that no block has taken yet.
 
-ghost use Rattle.std.specs.Prelude.{◌≡◌, ◌+◌, ◌<◌, ◌≤◌, List, [], ◌++◌, length, take, drop};
+ghost use Rattle.std.specs.Prelude.{◌≡◌, ◌+◌, ◌-◌, ◌<◌, ◌≤◌, [], ◌++◌, length, take, drop, slice_index};
+ghost use Rattle.komihash.specs.Counts.{write_products, kept_bytes};
 ghost use Rattle.komihash.specs.Halves.{lanes_in};
-ghost use Rattle.komihash.specs.Rounds.{block_round};
-ghost use Rattle.komihash.specs.Tails.{whole_words, final_word};
+ghost use Rattle.komihash.specs.Tails.{whole_words, final_word, block_lanes, after_blocks};
+ghost use Rattle.komihash.specs.Padding.{has_top_bit};
 
+mod blocks;
 mod writer;
 
-use super::{block_round, places};
 use crate::tails::Words;
 use crate::tally::Tally;
 use crate::utils::copies::write_bytes;
@@ -52,6 +53,16 @@ impl Pending {
         self.fill
     }
 
+    /// The last of them. Nothing stands above it in its word.
+    #[inline(always)]
+    pub(crate) fn last_byte(&self) -> u8
+        requires { 0 < length self.now }
+        ensures { result ≡ slice_index self.now (length self.now - 1) }
+    {
+        let at = self.fill - 1;
+        (self.words[at / 8] >> (8 * (at % 8))) as u8
+    }
+
     /// Puts bytes behind them, and counts these as kept.
     #[inline(always)]
     pub(crate) fn put(&mut self, bytes: &[u8], tally: &mut Tally)
@@ -64,29 +75,27 @@ impl Pending {
         self.fill += bytes.len();
     }
 
-    /// Fills the begun block up, counts the bytes as kept, and takes the block: the lanes after it.
-    /// Nothing is pending then.
-    ///
-    /// The lanes are taken up only behind the writer, which needs the registers itself.
+    /// Puts bytes behind them of which some fill a block, and absorbs all whole blocks: whether the
+    /// last byte of the last block is high.
     #[inline(always)]
-    pub(crate) fn fill_up<const V: u8>(
+    pub(crate) fn absorb<const V: u8>(
         &mut self,
-        lanes: &[u64; 8],
+        lanes: &mut [u64; 8],
         bytes: &[u8],
         tally: &mut Tally,
-    ) -> [u64; 8]
-        requires { length self.old + length bytes.now ≡ 64 }
-        ensures lanes { lanes_in result ≡ block_round V (lanes_in lanes.now) (whole_words (self.old ++ bytes.now)) }
-        ensures none { self.new ≡ [] }
-        ensures products { tally.new.products ≡ tally.old.products + 4 }
-        ensures kept { tally.new.kept ≡ tally.old.kept + length bytes.now }
+    ) -> bool
+        requires { 64 ≤ length self.old + length bytes.now }
+        ensures lanes { lanes_in lanes.new
+            ≡ block_lanes V (lanes_in lanes.old) (whole_words (self.old ++ bytes.now)) }
+        ensures bytes { self.new ≡ after_blocks (self.old ++ bytes.now) }
+        ensures high { result ≡ has_top_bit V (slice_index bytes.now (length bytes.now - length self.new - 1)) }
+        ensures products { tally.new.products
+            ≡ tally.old.products + write_products (length self.old) (length bytes.now) }
+        ensures kept { tally.new.kept ≡ tally.old.kept + kept_bytes (length self.old) (length bytes.now) }
     {
-        writer::put(&mut self.words, self.fill, bytes, tally);
-        let mut after = *lanes;
-        block_round(&mut after, &self.words, places::<V>(), tally);
-        self.words = [0; 8];
-        self.fill = 0;
-        after
+        let (fill, high) = blocks::absorb::<V>(lanes, &mut self.words, self.fill, bytes, tally);
+        self.fill = fill;
+        high
     }
 
     /// The final word of these bytes and the byte that ends them.

@@ -1,0 +1,94 @@
+//! The begun block filled up, and the whole blocks behind it.
+
+ghost use Rattle.std.specs.Prelude.{◌≡◌, ◌+◌, ◌-◌, ◌*◌, ◌/◌, ◌<◌, ◌≤◌, ◌==◌, if◌then◌else◌, ◌++◌, length, slice_index};
+ghost use Rattle.komihash.specs.Counts.{write_products, kept_bytes};
+ghost use Rattle.komihash.specs.Halves.{lanes_in};
+ghost use Rattle.komihash.specs.Pending.{pending_bytes, ArePending};
+ghost use Rattle.komihash.specs.Tails.{whole_words, block_lanes, after_blocks};
+ghost use Rattle.komihash.specs.Padding.{has_top_bit};
+
+use super::writer::put;
+use crate::padding::has_top_bit;
+use crate::rounds::blocks::absorb_blocks;
+use crate::rounds::{block_round, places};
+use crate::tally::Tally;
+
+// Fills up the begun block, if there is one, and absorbs it: the lanes after it, and what is left of
+// the bytes. The lanes are taken up only behind the writer, which needs the registers itself.
+#[inline(always)]
+fn absorb_begun<'a, const V: u8>(
+    lanes: &[u64; 8],
+    words: &mut [u64; 8],
+    fill: usize,
+    bytes: &'a [u8],
+    tally: &mut Tally,
+) -> ([u64; 8], &'a [u8])
+    requires pending { ArePending words.old fill }
+    requires many { 64 ≤ fill + length bytes.now }
+    ensures lanes { block_lanes V (lanes_in result.0) (whole_words result.1.now)
+        ≡ block_lanes V (lanes_in lanes.now) (whole_words (pending_bytes words.old fill ++ bytes.now)) }
+    ensures left { after_blocks result.1.now ≡ after_blocks (pending_bytes words.old fill ++ bytes.now) }
+    ensures none { ArePending words.new 0 }
+    ensures taken { length result.1.now + (if fill == 0 then 0 else 64 - fill) ≡ length bytes.now }
+    ensures products { tally.new.products + 4 * (length result.1.now / 64)
+        ≡ tally.old.products + 4 * ((fill + length bytes.now) / 64) }
+    ensures kept { tally.new.kept ≡ tally.old.kept + (if fill == 0 then 0 else 64 - fill) }
+{
+    if fill == 0 {
+        return (*lanes, bytes);
+    }
+    let (head, rest) = bytes.split_at(64 - fill);
+    put(words, fill, head, tally);
+    let mut after = *lanes;
+    block_round(&mut after, words, places::<V>(), tally);
+    *words = [0; 8];
+    (after, rest)
+}
+
+// Puts what is left behind the blocks, if anything is.
+#[inline(always)]
+fn put_left(words: &mut [u64; 8], left: &[u8], tally: &mut Tally)
+    requires none { ArePending words.old 0 }
+    requires few { length left.now < 64 }
+    ensures pending { ArePending words.new (length left.now) }
+    ensures bytes { pending_bytes words.new (length left.now) ≡ left.now }
+    ensures products { tally.new.products ≡ tally.old.products }
+    ensures kept { tally.new.kept ≡ tally.old.kept + length left.now }
+{
+    if left.is_empty() {
+        return;
+    }
+    put(words, 0, left, tally);
+}
+
+/// Absorbs bytes of which some fill a block: how many are pending then, and whether the last byte
+/// that a block took is high.
+///
+/// The fill goes in and out by value, so that a caller's loop over pieces keeps it in a register.
+#[inline(never)]
+pub(crate) fn absorb<const V: u8>(
+    lanes: &mut [u64; 8],
+    words: &mut [u64; 8],
+    fill: usize,
+    bytes: &[u8],
+    tally: &mut Tally,
+) -> (usize, bool)
+    requires pending { ArePending words.old fill }
+    requires many { 64 ≤ fill + length bytes.now }
+    ensures lanes { lanes_in lanes.new
+        ≡ block_lanes V (lanes_in lanes.old) (whole_words (pending_bytes words.old fill ++ bytes.now)) }
+    ensures pending { ArePending words.new result.0 }
+    ensures bytes { pending_bytes words.new result.0 ≡ after_blocks (pending_bytes words.old fill ++ bytes.now) }
+    ensures high { result.1 ≡ has_top_bit V (slice_index bytes.now (length bytes.now - result.0 - 1)) }
+    ensures products { tally.new.products ≡ tally.old.products + write_products fill (length bytes.now) }
+    ensures kept { tally.new.kept ≡ tally.old.kept + kept_bytes fill (length bytes.now) }
+{
+    let (mut local, rest) = absorb_begun::<V>(lanes, words, fill, bytes, tally);
+    let left = absorb_blocks::<V>(&mut local, rest, tally);
+    *lanes = local;
+    put_left(words, left, tally);
+    (
+        left.len(),
+        has_top_bit::<V>(bytes[bytes.len() - left.len() - 1]),
+    )
+}
