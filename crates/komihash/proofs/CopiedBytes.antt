@@ -1,7 +1,7 @@
 -- Lists written over piece by piece: words by an index, and bytes by ranges.
 use Rattle.std.proofs.Common.{◌≡◌, ℕ, zero, suc, ◌+◌, ◌*◌, ◌<◌, ◌≤◌, List, [], ◌∷◌, ◌++◌, length, take, drop, get_or, set, refl, ap, arith, ◌∙◌, sym}
 use Rattle.std.proofs.Math.Seq.{take-suc, take-suc-set}
-use Rattle.std.proofs.lemmas.List.{drop-drop, drop-set-lt, take-append-le}
+use Rattle.std.proofs.lemmas.List.{append_assoc, drop-drop, drop-set-lt, take-append-le, take_all}
 use Rattle.std.proofs.lemmas.Slice.{take-put_mid, drop-put_mid}
 use borrow.Rule.Slice.PartMut.{put_mid}
 use Rattle.komihash.specs.Words.{bytes_of, all_bytes}
@@ -33,6 +33,17 @@ module _ (xs ys all old : List ℕ) (a k n : ℕ) (within : a + k ≤ length xs)
   drop-put_mid_next e =
       drop-put_mid a k xs ys n (omega arith) (omega arith) size
       ∙ ap (λ n. drop n xs) (sym sum) ∙ sym (drop-drop k a xs) ∙ ap (drop k) e ∙ drop-drop k a old ∙ ap (λ n. drop n old) sum
+
+-- a range written over, and what was there before it and behind it
+pub put_mid-between : (a k n : ℕ) (xs ys zs : List ℕ) → a + k ≡ n → ys ≡ zs → put_mid a k xs ys ≡ take a xs ++ zs ++ drop n xs
+put_mid-between a k n xs ys zs sum is =
+    ap (λ bs. take a xs ++ (bs ++ drop k (drop a xs))) is
+    ∙ ap (λ bs. take a xs ++ (zs ++ bs)) (drop-drop k a xs ∙ ap (λ n. drop n xs) sum)
+    ∙ sym (append_assoc (take a xs) zs (drop n xs))
+
+-- what was written whole
+pub written : (k : ℕ) (ys all : List ℕ) → length ys ≡ k → take k ys ≡ take k all → ys ≡ take k all
+written k ys all size same = sym (take_all k ys (omega arith)) ∙ same
 
 -- ---- the bytes of words, by place
 

@@ -17,6 +17,7 @@ pub mod PendingPieces
 pub mod PendingSteps
 mod Raised
 pub mod Runs
+pub mod SavedStreams
 pub mod SavedTexts
 pub mod WordsOfBytes
 pub mod Xor

@@ -1,14 +1,18 @@
 -- What the text of a state says: the state can be read back from it.
-use Rattle.std.proofs.Common.{◌≡◌, ℕ, zero, suc, ◌+◌, ◌^◌, ◌<◌, Bool, true, false, List, [], length, take, drop, get_or, refl, ap, arith, ◌∙◌, sym}
-use Rattle.std.proofs.lemmas.List.{append-nil, length-append, take_at, drop_at}
+use Rattle.std.proofs.Common.{◌≡◌, ℕ, zero, suc, ◌+◌, ◌-◌, ◌*◌, ◌^◌, ◌<◌, ◌≤◌, Bool, true, false, List, [], ◌∷◌, ◌++◌, length, take, drop, get_or, refl, ap, arith, ◌∙◌, sym, subst}
+use Rattle.std.proofs.lemmas.Bool.{false≢true}
+use Rattle.std.proofs.lemmas.Bool.Decides.{nat_tests}
+use Rattle.std.proofs.lemmas.List.{append-nil, length-append, length-drop, length-take-le, take-append-drop, take_at, drop_at}
 use Rattle.std.specs.Prelude.{slice_index, ◌==◌}
 use Rattle.komihash.specs.Rounds.{Lanes}
-use Rattle.komihash.specs.Saved.{flag_byte, in_order, text}
-use Rattle.komihash.specs.Stream.{AreWords, State}
+use Rattle.komihash.specs.Saved.{flag_byte, in_order, text, IsText, IsLaidOut}
+use Rattle.komihash.specs.Stream.{AreWords, State, IsState}
 use Rattle.komihash.specs.Tails.{whole_words}
-use Rattle.komihash.specs.Words.{all_bytes}
+use Rattle.komihash.specs.Words.{AreBytes, all_bytes}
+use Rattle.komihash.proofs.HashSteps.{length-whole_words}
 use Rattle.komihash.proofs.PendingBytes.{length-all_bytes}
-use Rattle.komihash.proofs.PaddedBack.{whole_words-all_bytes}
+use Rattle.komihash.proofs.PaddedBack.{bytes_of-word_of_append, whole_words-all_bytes}
+use Rattle.komihash.proofs.WordsOfBytes.{AreBytes-take, AreBytes-drop, word_of-lt}
 
 -- ---- the parts
 
@@ -29,6 +33,10 @@ lanes_of ws = record {
   s7 = slice_index ws 6;
   s8 = slice_index ws 7;
 }
+
+pub in_order-back : (ws : List ℕ) → length ws ≡ 8 → in_order (lanes_of ws) ≡ ws
+in_order-back (a ∷ b ∷ c ∷ d ∷ e ∷ f ∷ g ∷ h ∷ []) eight = refl
+in_order-back ws eight = absurd (omega arith)
 
 in_order-words : (s : Lanes) → AreWords s → (k : ℕ) → get_or (in_order s) k 0 < 2 ^ 64
 in_order-words s are zero = are.s1
@@ -105,3 +113,94 @@ module _ (v w : ℕ) (s t : State) (same : text v s ≡ text w t) where
 
   pub same_state : AreWords s.lanes → AreWords t.lanes → s ≡ t
   same_state first second = sym (state_of-text v s first) ∙ ap state_of same ∙ state_of-text w t second
+
+-- ---- which bytes are a text
+
+-- the bytes of whole words
+all_bytes-whole_words : (k : ℕ) (xs : List ℕ) → AreBytes xs → length xs ≡ 8 * k → all_bytes (whole_words xs) ≡ xs
+all_bytes-whole_words k [] are size = refl
+all_bytes-whole_words k (a ∷ b ∷ c ∷ d ∷ e ∷ f ∷ g ∷ h ∷ xs) are size =
+    let eight = a ∷ b ∷ c ∷ d ∷ e ∷ f ∷ g ∷ h ∷ [] in
+    ap (λ bs. bs ++ all_bytes (whole_words xs)) (bytes_of-word_of_append eight [] (AreBytes-take 8 (eight ++ xs) are))
+    ∙ ap (λ bs. eight ++ bs) (all_bytes-whole_words (k - 1) xs (AreBytes-drop 8 (eight ++ xs) are) (omega arith))
+all_bytes-whole_words k xs are size = absurd (omega arith)
+
+whole_words-lt : (xs : List ℕ) → AreBytes xs → (i : ℕ) → slice_index (whole_words xs) i < 2 ^ 64
+whole_words-lt (a ∷ b ∷ c ∷ d ∷ e ∷ f ∷ g ∷ h ∷ xs) are zero = word_of-lt (a ∷ b ∷ c ∷ d ∷ e ∷ f ∷ g ∷ h ∷ []) (AreBytes-take 8 (a ∷ b ∷ c ∷ d ∷ e ∷ f ∷ g ∷ h ∷ xs) are)
+whole_words-lt (a ∷ b ∷ c ∷ d ∷ e ∷ f ∷ g ∷ h ∷ xs) are (suc i) = whole_words-lt xs (AreBytes-drop 8 (a ∷ b ∷ c ∷ d ∷ e ∷ f ∷ g ∷ h ∷ xs) are) i
+whole_words-lt xs are i = omega arith
+
+flag_byte-of : (b : ℕ) → b < 2 → flag_byte (b == 1) ≡ b
+flag_byte-of b h = grind (arith, nat_tests)
+
+some_one : (b : ℕ) → (b == 1) ≡ true → 0 < b
+some_one b one = grind (arith, nat_tests)
+
+one_below : (a b : ℕ) → a ≤ b → b < 2 → (a == 1) ≡ true → (b == 1) ≡ true
+one_below a b le lt one = grind (arith, nat_tests)
+
+flag_byte-lt : (flag : Bool) → flag_byte flag < 2
+flag_byte-lt true = omega arith
+flag_byte-lt false = omega arith
+
+flag_byte-some : (flag : Bool) → 0 < flag_byte flag → flag ≡ true
+flag_byte-some true some = refl
+flag_byte-some false some = absurd (omega arith)
+
+flag_byte-le : (a b : Bool) → (a ≡ true → b ≡ true) → flag_byte a ≤ flag_byte b
+flag_byte-le false b then = omega arith
+flag_byte-le true true then = omega arith
+flag_byte-le true false then = absurd (false≢true (then refl))
+
+-- what is laid out as a text is one
+pub laid_out-text : (v : ℕ) (bytes : List ℕ) → AreBytes bytes → IsLaidOut v bytes → text v (state_of bytes) ≡ bytes
+unfolding text
+laid_out-text v (b0 ∷ b1 ∷ b2 ∷ b3 ∷ rest) are laid =
+    let size : length (take 64 rest) ≡ 64 = length-take-le 64 rest (omega (arith, laid.size)) in
+    let words : all_bytes (in_order (lanes_of (whole_words (take 64 rest)))) ≡ take 64 rest =
+    ap all_bytes (in_order-back (whole_words (take 64 rest)) (length-whole_words (take 64 rest) ∙ omega arith))
+    ∙ all_bytes-whole_words 8 (take 64 rest) (AreBytes-take 64 rest (AreBytes-drop 4 (b0 ∷ b1 ∷ b2 ∷ b3 ∷ rest) are)) size in
+    let bytes : all_bytes (in_order (lanes_of (whole_words (take 64 rest)))) ++ drop 64 rest ≡ rest =
+    ap (λ bs. bs ++ drop 64 rest) words ∙ take-append-drop 64 rest in
+    let version : v ≡ b0 = sym laid.version in
+    let absorbed : flag_byte (b1 == 1) ≡ b1 = flag_byte-of b1 laid.absorbed in
+    let high : flag_byte (b2 == 1) ≡ b2 = flag_byte-of b2 (omega (arith, laid.high, laid.absorbed)) in
+    let fill : length (drop 64 rest) ≡ b3 = omega (arith, laid.size, length-drop 64 rest) in
+    ap (λ b. b ∷ flag_byte (b1 == 1) ∷ flag_byte (b2 == 1) ∷ length (drop 64 rest) ∷ (all_bytes (in_order (lanes_of (whole_words (take 64 rest)))) ++ drop 64 rest)) version
+    ∙ ap (λ b. b0 ∷ b ∷ flag_byte (b2 == 1) ∷ length (drop 64 rest) ∷ (all_bytes (in_order (lanes_of (whole_words (take 64 rest)))) ++ drop 64 rest)) absorbed
+    ∙ ap (λ b. b0 ∷ b1 ∷ b ∷ length (drop 64 rest) ∷ (all_bytes (in_order (lanes_of (whole_words (take 64 rest)))) ++ drop 64 rest)) high
+    ∙ ap (λ b. b0 ∷ b1 ∷ b2 ∷ b ∷ (all_bytes (in_order (lanes_of (whole_words (take 64 rest)))) ++ drop 64 rest)) fill
+    ∙ ap (λ bs. b0 ∷ b1 ∷ b2 ∷ b3 ∷ bs) bytes
+laid_out-text v bytes are laid = absurd (omega (arith, laid.size))
+
+pub laid_out-state : (v : ℕ) (bytes : List ℕ) → AreBytes bytes → IsLaidOut v bytes → IsState v (state_of bytes)
+laid_out-state v bytes are laid =
+    let lanes = take 64 (drop 4 bytes) in
+    let fit = whole_words-lt lanes (AreBytes-take 64 (drop 4 bytes) (AreBytes-drop 4 bytes are)) in
+    let absorbed = slice_index bytes 1 in
+    let high = slice_index bytes 2 in
+    record {
+      words = record { s1 = fit 0; s2 = fit 1; s3 = fit 2; s4 = fit 3; s5 = fit 4; s6 = fit 5; s7 = fit 6; s8 = fit 7 };
+      bytes = AreBytes-drop 68 bytes are;
+      few = omega (arith, laid.size, laid.few, length-drop 68 bytes);
+      high_absorbed = one_below high absorbed laid.high laid.absorbed;
+      high_version = λ one. laid.high_version (some_one high one);
+    }
+
+pub laid_out : (v : ℕ) (bytes : List ℕ) → AreBytes bytes → IsLaidOut v bytes → IsText v bytes
+laid_out v bytes are laid = (state_of bytes, laid_out-state v bytes are laid, laid_out-text v bytes are laid)
+
+-- a text is laid out as one
+text-laid_out : (v : ℕ) (s : State) → IsState v s → IsLaidOut v (text v s)
+text-laid_out v s is =
+    record {
+      version = text-version v s;
+      absorbed = rw text-absorbed (flag_byte-lt s.absorbed);
+      high = rw (text-high, text-absorbed) (flag_byte-le s.high s.absorbed is.high_absorbed);
+      high_version = rw text-high (λ some. is.high_version (flag_byte-some s.high some));
+      few = rw text-fill is.few;
+      size = rw text-fill (length-text v s);
+    }
+
+pub IsText-laid_out : (v : ℕ) (bytes : List ℕ) → IsText v bytes → IsLaidOut v bytes
+IsText-laid_out v bytes text_of = subst (IsLaidOut v) text_of.2 (text-laid_out v text_of.0 text_of.1)

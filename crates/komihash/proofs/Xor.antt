@@ -30,8 +30,11 @@ xor_turn a b c d =
     ap (λ x. bit_xor x d) (xor_assoc a b c) ∙ xor_assoc a (bit_xor b c) d ∙ xor_comm a (bit_xor (bit_xor b c) d)
 
 -- what a word met twice is gone
+pub xor_again : (c x : ℕ) → bit_xor c (bit_xor c x) ≡ x
+xor_again c x = sym (xor_assoc c c x) ∙ ap (λ n. bit_xor n x) (xor_self c) ∙ xor_zero_l x
+
 pub xor_back : (c x : ℕ) → bit_xor (bit_xor c x) c ≡ x
-xor_back c x = xor_comm (bit_xor c x) c ∙ sym (xor_assoc c c x) ∙ ap (λ n. bit_xor n x) (xor_self c) ∙ xor_zero_l x
+xor_back c x = xor_comm (bit_xor c x) c ∙ xor_again c x
 
 -- the bits of a word at even and at odd places make the word
 pub xor_masks : (n : ℕ) → n < 2 ^ 64 → bit_xor (bit_and n 0x5555555555555555) (bit_and n 0xaaaaaaaaaaaaaaaa) ≡ n

@@ -1,5 +1,5 @@
 -- The text that a stream is saved as.
-use Rattle.std.specs.Prelude.{ℕ, ◌≡◌, Bool, List, [], ◌∷◌, ◌++◌, length, if◌then◌else◌}
+use Rattle.std.specs.Prelude.{ℕ, ◌≡◌, ◌+◌, ◌<◌, ◌≤◌, Bool, List, [], ◌∷◌, ◌++◌, length, slice_index, if◌then◌else◌}
 use Rattle.komihash.specs.Rounds.{Lanes}
 use Rattle.komihash.specs.Stream.{State, IsState}
 use Rattle.komihash.specs.Words.{all_bytes}
@@ -24,3 +24,12 @@ text v s = head v s ++ all_bytes (in_order s.lanes) ++ s.pending
 -- the bytes are the text of some state of version v
 abbrev pub IsText : ℕ → List ℕ → Type 0
 IsText v bytes = (s : State) × IsState v s × (text v s ≡ bytes)
+
+-- the same by the first four bytes and the length, as the code tests it
+pub record IsLaidOut (v : ℕ) (bytes : List ℕ) : Type 0 where
+  pub version : slice_index bytes 0 ≡ v
+  pub absorbed : slice_index bytes 1 < 2
+  pub high : slice_index bytes 2 ≤ slice_index bytes 1
+  pub high_version : 0 < slice_index bytes 2 → v ≡ 4
+  pub few : slice_index bytes 3 < 64
+  pub size : length bytes ≡ 68 + slice_index bytes 3

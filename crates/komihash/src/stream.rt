@@ -1,11 +1,13 @@
 //! What the streams of both versions share, and runs of calls on one.
 
-ghost use Rattle.std.specs.Prelude.{◌≡◌, ℕ, ◌+◌, ◌<◌, ◌≤◌, ◌⊎◌, ◌++◌, length, drop};
+ghost use Rattle.std.specs.Prelude.{◌≡◌, ℕ, ◌+◌, ◌<◌, ◌≤◌, ◌⊎◌, ◌↔◌, IfSome, IsSomeAnd, IsNone, ◌++◌, length, drop};
 ghost use Rattle.komihash.specs.Calls.{answers, onward, bytes_of_calls, onward_products, onward_kept, run_products, run_kept};
 ghost use Rattle.komihash.specs.Counts.{write_products, answer_products, kept_bytes};
+ghost use Rattle.komihash.specs.Saved.{text, IsText};
 ghost use Rattle.komihash.specs.Stream.{State, IsState, start, absorb, answer};
 
 mod engine;
+mod saved;
 pub(crate) mod streamed;
 
 use crate::tally::Tally;
@@ -42,6 +44,21 @@ pub trait KomiStream: Sized + Drop {
         ensures products { tally.new.products
             ≡ tally.old.products + answer_products (length (state self.now).pending) }
         ensures kept { tally.new.kept ≡ tally.old.kept };
+
+    /// Writes the text that the stream is saved as, and answers its length, which is at most 131. The
+    /// text stands first in `out`; behind it `out` stays as it is.
+    fn store(&self, out: &mut [u8]) -> usize
+        requires { 131 ≤ length out.old }
+        ensures text { out.new ≡ text VERSION (state self.now) ++ drop result out.old }
+        ensures length { result ≡ length (text VERSION (state self.now)) };
+
+    /// The stream whose text the bytes are, and `None` where they are the text of no stream of this
+    /// version.
+    fn restore(bytes: &[u8]) -> Option<Self>
+        ensures text { IfSome result (λ stream. text VERSION (state stream) ≡ bytes.now) }
+        ensures same { (s : State) → IsState VERSION s → text VERSION s ≡ bytes.now
+            → IsSomeAnd result (λ stream. state stream ≡ s) }
+        ensures none { IsNone result ↔ ¬ IsText VERSION bytes.now };
 
     ghost versions: { (VERSION ≡ 4) ⊎ (VERSION ≡ 5) };
 

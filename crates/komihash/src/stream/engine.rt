@@ -1,13 +1,17 @@
 //! What keeps a stream of either version, and its three calls.
 
-ghost use Rattle.std.specs.Prelude.{◌≡◌, ◌+◌, ◌<◌, length};
+ghost use Rattle.std.specs.Prelude.{◌≡◌, ◌+◌, ◌<◌, ◌≤◌, ◌↔◌, ◌++◌, IfSome, IsNone, length, drop};
 ghost use Rattle.komihash.specs.Counts.{write_products, answer_products, kept_bytes};
+ghost use Rattle.komihash.specs.Saved.{text, IsText};
 ghost use Rattle.komihash.specs.Stream.{IsState, start, absorb, answer};
 ghost use Rattle.komihash.specs.Tails.{tail_end};
 
 use crate::padding::{has_top_bit, padding_behind};
 use crate::rounds::pending::Pending;
 use crate::rounds::{close_one, join, lanes, seed_pair};
+use crate::stream::saved::{
+    is_laid_out, read_lanes, read_pending, write_head, write_lanes, write_pending,
+};
 use crate::tails::answer_below_eight;
 use crate::tally::Tally;
 use std::marker::Model;
@@ -98,5 +102,35 @@ impl<const V: u8> Engine<V> {
         }
         let word = self.pending.final_word(end);
         answer_below_eight(pair, &self.pending, word, tally)
+    }
+
+    /// Writes the stream's text, and answers its length.
+    #[inline(always)]
+    pub(crate) fn save(&self, out: &mut [u8]) -> usize
+        requires { 131 ≤ length out.old }
+        ensures text { out.new ≡ text V self.now ++ drop result out.old }
+        ensures length { result ≡ length (text V self.now) }
+    {
+        write_head::<V>(self.absorbed, self.high, self.pending.len(), out);
+        write_lanes(&self.lanes, out);
+        write_pending(&self.pending, out)
+    }
+
+    /// The stream whose text the bytes are, where there is one.
+    #[inline(always)]
+    pub(crate) fn resume(bytes: &[u8]) -> Option<Self>
+        ensures text { IfSome result (λ state. text V state ≡ bytes.now) }
+        ensures is_state { IfSome result (λ state. IsState V state) }
+        ensures none { IsNone result ↔ ¬ IsText V bytes.now }
+    {
+        if !is_laid_out::<V>(bytes) {
+            return None;
+        }
+        Some(Engine {
+            lanes: read_lanes(bytes),
+            pending: read_pending(bytes),
+            absorbed: bytes[1] == 1,
+            high: bytes[2] == 1,
+        })
     }
 }

@@ -1,8 +1,9 @@
 //! The stream of both versions, as callers have it.
 
-ghost use Rattle.std.specs.Prelude.{◌≡◌, ℕ, List, [], ◌++◌};
+ghost use Rattle.std.specs.Prelude.{◌≡◌, ◌≤◌, ◌↔◌, ℕ, IfSome, IsSomeAnd, IsNone, List, [], ◌++◌, length, drop};
 ghost use Rattle.komihash.specs.Hash.{komi};
-ghost use Rattle.komihash.specs.Stream.{IsState, HasAbsorbed, start, absorb, answer};
+ghost use Rattle.komihash.specs.Saved.{text, IsText};
+ghost use Rattle.komihash.specs.Stream.{State, IsState, HasAbsorbed, start, absorb, answer};
 
 use super::KomiStream;
 use super::engine::Engine;
@@ -71,6 +72,35 @@ impl<const V: u8> StreamedKomihash<V> {
     {
         self.engine.answer(&mut Tally::new())
     }
+
+    /// Writes the text that the stream is saved as, and answers its length: 68 bytes, and one for
+    /// each pending byte.
+    ///
+    /// The text stands first in `out`, which must have room for 131 bytes, the longest text. What is
+    /// behind it is not touched. `resume` makes the same stream of it, also in another process and
+    /// on another day.
+    #[inline]
+    pub fn save(&self, out: &mut [u8]) -> usize
+        requires { 131 ≤ length out.old }
+        ensures text { out.new ≡ text V self.now.state ++ drop result out.old }
+        ensures length { result ≡ length (text V self.now.state) }
+    {
+        self.engine.save(out)
+    }
+
+    /// The stream whose text the bytes are. The answer is `None` where they are the text of no
+    /// stream of this version.
+    #[inline]
+    pub fn resume(bytes: &[u8]) -> Option<Self>
+        ensures text { IfSome result (λ stream. text V stream.state ≡ bytes.now) }
+        ensures same { (s : State) → IsState V s → text V s ≡ bytes.now
+            → IsSomeAnd result (λ stream. stream.state ≡ s) }
+        ensures none { IsNone result ↔ ¬ IsText V bytes.now }
+    {
+        Some(StreamedKomihash {
+            engine: Engine::resume(bytes)?,
+        })
+    }
 }
 
 impl<const V: u8> Default for StreamedKomihash<V> {
@@ -112,6 +142,16 @@ impl KomiStream for StreamedKomihash<4> {
         self.engine.answer(tally)
     }
 
+    #[inline(always)]
+    fn store(&self, out: &mut [u8]) -> usize {
+        self.save(out)
+    }
+
+    #[inline(always)]
+    fn restore(bytes: &[u8]) -> Option<Self> {
+        StreamedKomihash::resume(bytes)
+    }
+
     ghost versions = { inl refl };
 
     ghost is_state = { λ s. s.is_state };
@@ -141,6 +181,16 @@ impl KomiStream for StreamedKomihash<5> {
     #[inline(always)]
     fn answer(&self, tally: &mut Tally) -> u64 {
         self.engine.answer(tally)
+    }
+
+    #[inline(always)]
+    fn store(&self, out: &mut [u8]) -> usize {
+        self.save(out)
+    }
+
+    #[inline(always)]
+    fn restore(bytes: &[u8]) -> Option<Self> {
+        StreamedKomihash::resume(bytes)
     }
 
     ghost versions = { inr refl };
