@@ -7,7 +7,7 @@ use Rattle.std.proofs.lemmas.Bool.{cases_lt}
 use Rattle.komihash.specs.Calls.{answers_after, answers, onward, bytes_of_calls, AreAbsorbs, run_products, products_of_answers, onward_products, onward_kept}
 use Rattle.komihash.specs.Counts.{hash_products, write_products, answer_products, kept_bytes}
 use Rattle.komihash.specs.Hash.{komi}
-use Rattle.komihash.specs.Stream.{State, start, absorb, answer}
+use Rattle.komihash.specs.Stream.{State, HasAbsorbed, start, absorb, answer}
 use Rattle.komihash.specs.declared.stream.Call.{Call}
 use Rattle.komihash.specs.declared.stream.Call.TheVariants.{Absorb, Answer}
 use Rattle.komihash.proofs.Absorbing.{absorb-append, absorb-few, absorb-blocks}
@@ -23,10 +23,22 @@ answers_after-same f g m n (Answer ∷ calls) same =
     let rest = answers_after-same f g m n calls same in
     cc
 
--- the answers of a new stream are hashes
-pub onward-start : (v seed : ℕ) (calls : List Call) → onward v (start seed) calls ≡ answers v seed calls
-onward-start v seed calls =
-    answers_after-same (λ m. answer v (absorb v (start seed) m)) (komi v seed) [] [] calls (λ x. answer-joined v seed x)
+-- a new stream has absorbed nothing
+pub HasAbsorbed-start : (v seed : ℕ) (s : State) → s ≡ start seed → HasAbsorbed v seed s []
+unfolding HasAbsorbed absorb
+HasAbsorbed-start v seed s is = is
+
+-- more bytes behind a message
+pub HasAbsorbed-more : (v seed : ℕ) (s after : State) (m bytes : List ℕ) → HasAbsorbed v seed s m → after ≡ absorb v s bytes → HasAbsorbed v seed after (m ++ bytes)
+unfolding HasAbsorbed
+HasAbsorbed-more v seed s after m bytes is then =
+    then ∙ ap (λ t. absorb v t bytes) is ∙ sym (absorb-append v (start seed) m bytes)
+
+-- the answers of a stream that absorbed a message are hashes
+pub onward-message : (v seed : ℕ) (s : State) (m : List ℕ) (calls : List Call) → HasAbsorbed v seed s m → onward v s calls ≡ answers_after (komi v seed) m calls
+unfolding HasAbsorbed
+onward-message v seed s m calls is =
+    answers_after-same (λ x. answer v (absorb v s x)) (komi v seed) [] m calls (λ x. ap (λ t. answer v (absorb v t x)) is ∙ ap (answer v) (sym (absorb-append v (start seed) m x)) ∙ answer-joined v seed (m ++ x))
 
 -- the first call, and the others from the state that it leaves
 pub onward-absorb : (v : ℕ) (s : State) (bytes : List ℕ) (calls : List Call) → answers_after (λ m. answer v (absorb v s m)) bytes calls ≡ onward v (absorb v s bytes) calls

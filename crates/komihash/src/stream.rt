@@ -1,10 +1,11 @@
 //! What the streams of both versions share, and runs of calls on one.
 
-ghost use Rattle.std.specs.Prelude.{◌≡◌, ℕ, ◌+◌, ◌<◌, ◌≤◌, ◌⊎◌, ◌↔◌, IfSome, IsSomeAnd, IsNone, ◌++◌, length, drop};
-ghost use Rattle.komihash.specs.Calls.{answers, onward, bytes_of_calls, onward_products, onward_kept, run_products, run_kept};
+ghost use Rattle.std.specs.Prelude.{◌≡◌, ℕ, ◌+◌, ◌<◌, ◌≤◌, ◌⊎◌, ◌↔◌, IfSome, IsSomeAnd, IsNone, List, ◌++◌, length, drop};
+ghost use Rattle.komihash.specs.Calls.{answers_after, answers, onward, bytes_of_calls, onward_products, onward_kept, run_products, run_kept};
 ghost use Rattle.komihash.specs.Counts.{write_products, answer_products, kept_bytes};
+ghost use Rattle.komihash.specs.Hash.{komi};
 ghost use Rattle.komihash.specs.Saved.{text, IsText};
-ghost use Rattle.komihash.specs.Stream.{State, IsState, start, absorb, answer};
+ghost use Rattle.komihash.specs.Stream.{State, IsState, HasAbsorbed, start, absorb, answer};
 
 mod engine;
 mod saved;
@@ -76,7 +77,8 @@ pub enum Call<'a> {
 /// Makes calls on a stream, in order, and answers how many answers there are.
 ///
 /// They stand first in `out`, in order; behind them `out` stays as it is. There has to be a place
-/// for each call. The stream stays with all bytes absorbed, and may go on.
+/// for each call. The stream stays with all bytes absorbed, and may go on. Where it has absorbed a
+/// message from a seed on, each answer is the hash of that message and the bytes since, joined.
 pub fn run_on<S: KomiStream>(
     stream: &mut S,
     calls: &[Call<'_>],
@@ -86,7 +88,11 @@ pub fn run_on<S: KomiStream>(
     requires { length calls.now ≤ length out.old }
     ensures answers { out.new ≡ onward S.VERSION (S.state stream.old) calls.now ++ drop result out.old }
     ensures count { result ≡ length (onward S.VERSION (S.state stream.old) calls.now) }
+    ensures hashes { (seed : ℕ) (m : List ℕ) → HasAbsorbed S.VERSION seed (S.state stream.old) m
+        → out.new ≡ answers_after (komi S.VERSION seed) m calls.now ++ drop result out.old }
     ensures state { S.state stream.new ≡ absorb S.VERSION (S.state stream.old) (bytes_of_calls calls.now) }
+    ensures message { (seed : ℕ) (m : List ℕ) → HasAbsorbed S.VERSION seed (S.state stream.old) m
+        → HasAbsorbed S.VERSION seed (S.state stream.new) (m ++ bytes_of_calls calls.now) }
     ensures products { tally.new.products
         ≡ tally.old.products + onward_products (length (S.state stream.old).pending) calls.now }
     ensures kept { tally.new.kept

@@ -1,17 +1,15 @@
--- a new stream's answers from its start onward are hashes
-use Rattle.std.proofs.Common.{◌∙◌, ◌++◌, ap, length, drop}
-use Rattle.komihash.specs.Calls.{onward}
-use Rattle.komihash.proofs.Runs.{onward-start}
+-- a new stream has absorbed no bytes, so its answers are hashes
+use Rattle.std.proofs.Common.{◌∙◌, [], ap, length}
+use Rattle.komihash.proofs.Runs.{HasAbsorbed-start, onward-message}
 use Rattle.komihash.proofs.stream.run.Goals as goal
 
 pub returns-clause-answers : goal.returns-clause-answers
 returns-clause-answers g c =
     let v = g.S.KomiStream.VERSION in
-    c.run_on.ensures.answers
-    ∙ ap (λ xs. xs ++ drop c.run_on.result c.args.out.now) (ap (λ s. onward v s c.args.calls.now) c.start-stream.ensures.state ∙ onward-start v c.args.seed c.args.calls.now)
+    c.run_on.ensures.hashes c.args.seed [] (HasAbsorbed-start v c.args.seed _ c.start-stream.ensures.state)
 
 pub returns-clause-count : goal.returns-clause-count
 returns-clause-count g c =
     let v = g.S.KomiStream.VERSION in
     c.run_on.ensures.count
-    ∙ ap length (ap (λ s. onward v s c.args.calls.now) c.start-stream.ensures.state ∙ onward-start v c.args.seed c.args.calls.now)
+    ∙ ap length (onward-message v c.args.seed _ [] c.args.calls.now (HasAbsorbed-start v c.args.seed _ c.start-stream.ensures.state))

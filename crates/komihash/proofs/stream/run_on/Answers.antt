@@ -1,10 +1,11 @@
 use Rattle.std.proofs.Common.{◌≡◌, ◌+◌, ◌%◌, ◌<◌, ◌++◌, length, take, drop, ap, arith, ◌∙◌, sym, [], ◌∷◌}
-use Rattle.std.proofs.lemmas.List.{append_assoc, take_more_set, drop-set-lt, drop-drop, drop_all}
-use Rattle.komihash.specs.Calls.{onward, bytes_of_calls, onward_products, onward_kept}
+use Rattle.std.proofs.lemmas.List.{append_assoc, append-nil, take-append-drop, take_more_set, drop-set-lt, drop-drop, drop_all}
+use Rattle.komihash.specs.Calls.{answers_after, onward, bytes_of_calls, onward_products, onward_kept}
 use Rattle.komihash.specs.Counts.{write_products, answer_products, kept_bytes}
+use Rattle.komihash.specs.Hash.{komi}
 use Rattle.komihash.specs.Stream.{absorb}
 use Rattle.komihash.proofs.Absorbing.{absorb-append}
-use Rattle.komihash.proofs.Runs.{absorb-nothing, next_call, pending-absorb, onward-absorb, onward-answer, onward_products-absorb, onward_kept-absorb, onward_products-answer, counted}
+use Rattle.komihash.proofs.Runs.{HasAbsorbed-more, onward-message, absorb-nothing, next_call, pending-absorb, onward-absorb, onward-answer, onward_products-absorb, onward_kept-absorb, onward_products-answer, counted}
 use Rattle.komihash.specs.declared.stream.Call.TheVariants.{Absorb, Answer}
 use Rattle.komihash.proofs.stream.run_on.Goals as goal
 use Rattle.komihash.proofs.stream.run_on.Goals.{in-Absorb, in-Answer}
@@ -72,3 +73,21 @@ returns-clause-state g c =
     let now = g.S.KomiStream.state c.loop-call.stream in
     let none = drop_all c.loop-call.call-index c.args.calls.now c.loop-call-test.false in
     sym (absorb-nothing v now) ∙ ap (λ left. absorb v now (bytes_of_calls left)) (sym none) ∙ c.loop-call.invariant.state
+
+pub returns-clause-hashes : goal.returns-clause-hashes
+returns-clause-hashes g c seed m is =
+    let v = g.S.KomiStream.VERSION in
+    let first = g.S.KomiStream.state c.args.stream.now in
+    let calls = c.args.calls.now in
+    let count = c.loop-call.count in
+    let out = c.loop-call.out in
+    let none = drop_all c.loop-call.call-index calls c.loop-call-test.false in
+    let answered : take count out ≡ onward v first calls =
+    sym (append-nil (take count out)) ∙ ap (λ left. take count out ++ onward v (g.S.KomiStream.state c.loop-call.stream) left) (sym none) ∙ c.loop-call.invariant.answers in
+    sym (take-append-drop count out)
+    ∙ ap (λ xs. xs ++ drop count out) (answered ∙ onward-message v seed first m calls is)
+    ∙ ap (λ xs. answers_after (komi v seed) m calls ++ xs) c.loop-call.invariant.beyond
+
+pub returns-clause-message : goal.returns-clause-message
+returns-clause-message g c seed m is =
+    HasAbsorbed-more g.S.KomiStream.VERSION seed _ _ m (bytes_of_calls c.args.calls.now) is (returns-clause-state g c)
