@@ -1,11 +1,13 @@
 //! The stream of both versions, as callers have it.
 
+mod version_five;
+mod version_four;
+
 ghost use Rattle.std.specs.Prelude.{◌≡◌, ◌≤◌, ◌↔◌, ℕ, IfSome, IsSomeAnd, IsNone, List, [], ◌++◌, length, drop};
 ghost use Rattle.komihash.specs.Hash.{komi};
 ghost use Rattle.komihash.specs.Saved.{text, IsText};
 ghost use Rattle.komihash.specs.Stream.{State, IsState, HasAbsorbed, start, absorb, answer};
 
-use super::KomiStream;
 use super::engine::Engine;
 use crate::tally::Tally;
 use std::marker::Model;
@@ -114,86 +116,4 @@ impl<const V: u8> Default for StreamedKomihash<V> {
     fn default() -> Self {
         StreamedKomihash::new()
     }
-}
-
-impl KomiStream for StreamedKomihash<4> {
-    ghost use Rattle.std.proofs.Common.{inl, refl};
-
-    const VERSION: u8 = 4;
-
-    ghost VERSION = { 4 };
-
-    ghost state = { λ s. s.state };
-
-    #[inline(always)]
-    fn start(seed: u64, tally: &mut Tally) -> Self {
-        StreamedKomihash {
-            engine: Engine::start(seed, tally),
-        }
-    }
-
-    #[inline(always)]
-    fn absorb(&mut self, bytes: &[u8], tally: &mut Tally) {
-        self.engine.absorb(bytes, tally);
-    }
-
-    #[inline(always)]
-    fn answer(&self, tally: &mut Tally) -> u64 {
-        self.engine.answer(tally)
-    }
-
-    #[inline(always)]
-    fn store(&self, out: &mut [u8]) -> usize {
-        self.save(out)
-    }
-
-    #[inline(always)]
-    fn restore(bytes: &[u8]) -> Option<Self> {
-        StreamedKomihash::resume(bytes)
-    }
-
-    ghost versions = { inl refl };
-
-    ghost is_state = { λ s. s.is_state };
-}
-
-impl KomiStream for StreamedKomihash<5> {
-    ghost use Rattle.std.proofs.Common.{inr, refl};
-
-    const VERSION: u8 = 5;
-
-    ghost VERSION = { 5 };
-
-    ghost state = { λ s. s.state };
-
-    #[inline(always)]
-    fn start(seed: u64, tally: &mut Tally) -> Self {
-        StreamedKomihash {
-            engine: Engine::start(seed, tally),
-        }
-    }
-
-    #[inline(always)]
-    fn absorb(&mut self, bytes: &[u8], tally: &mut Tally) {
-        self.engine.absorb(bytes, tally);
-    }
-
-    #[inline(always)]
-    fn answer(&self, tally: &mut Tally) -> u64 {
-        self.engine.answer(tally)
-    }
-
-    #[inline(always)]
-    fn store(&self, out: &mut [u8]) -> usize {
-        self.save(out)
-    }
-
-    #[inline(always)]
-    fn restore(bytes: &[u8]) -> Option<Self> {
-        StreamedKomihash::resume(bytes)
-    }
-
-    ghost versions = { inr refl };
-
-    ghost is_state = { λ s. s.is_state };
 }
