@@ -1,16 +1,16 @@
 -- An engine before and after a call: what its fields show is what the rules absorb.
-use Rattle.std.proofs.Common.{◌≡◌, ℕ, ◌+◌, ◌-◌, ◌%◌, ◌<◌, ◌≤◌, Bool, true, List, [], ◌∷◌, ◌++◌, length, take, drop, refl, ap, arith, ◌∙◌, sym, subst, inl, inr}
+use Rattle.std.proofs.Common.{◌≡◌, ℕ, ◌+◌, ◌-◌, ◌%◌, ◌<◌, ◌≤◌, Bool, true, List, ◌++◌, length, refl, ap, arith, ◌∙◌, sym, inl, inr}
 use Rattle.std.proofs.lemmas.Bool.{cases_lt, false≢true}
 use Rattle.std.proofs.lemmas.Bool.Decides.{nat_tests}
-use Rattle.std.proofs.lemmas.List.{append_assoc, length-append, length-take-le, take-append-drop, drop_at, get_or-append-add}
+use Rattle.std.proofs.lemmas.List.{length-append, get_or-append-add}
 use Rattle.std.specs.Prelude.{slice_index}
-use Rattle.komihash.specs.Rounds.{Lanes, block_round, lanes}
+use Rattle.komihash.specs.Rounds.{Lanes, lanes}
 use Rattle.komihash.specs.Stream.{State, IsState, start, absorb}
-use Rattle.komihash.specs.Tails.{whole_words, block_lanes, after_blocks, end_byte, tail_end}
-use Rattle.komihash.specs.Padding.{has_top_bit, padding_behind, padding_byte}
+use Rattle.komihash.specs.Tails.{whole_words, block_lanes, after_blocks}
+use Rattle.komihash.specs.Padding.{has_top_bit}
 use Rattle.komihash.specs.Words.{AreBytes}
 use Rattle.komihash.proofs.Absorbing.{blocks_state, absorb-few, absorb-blocks}
-use Rattle.komihash.proofs.Blocks.{block_lanes-bytes, after_blocks-more, length-after_blocks}
+use Rattle.komihash.proofs.Blocks.{length-after_blocks}
 use Rattle.komihash.proofs.LaneWords.{AreWords-block_lanes, AreWords-seed_pair}
 use Rattle.komihash.proofs.PendingBytes.{AreBytes-append}
 use Rattle.komihash.proofs.WordsOfBytes.{AreBytes-drop}

@@ -71,8 +71,9 @@ impl Pending {
         ensures products { tally.new.products ≡ tally.old.products }
         ensures kept { tally.new.kept ≡ tally.old.kept + length bytes.now }
     {
-        writer::put(&mut self.words, self.fill, bytes, tally);
-        self.fill += bytes.len();
+        let fill = self.fill;
+        writer::put(&mut self.words, fill, bytes, tally);
+        self.fill = fill + bytes.len();
     }
 
     /// Puts bytes behind them of which some fill a block, and absorbs all whole blocks: whether the

@@ -1,6 +1,5 @@
-use Rattle.std.proofs.Common.{◌≡◌, ◌<◌, ◌∙◌, [], true, false, ap, arith, length, sym, refl}
+use Rattle.std.proofs.Common.{◌∙◌, ap, arith, sym, refl}
 use Rattle.std.proofs.lemmas.List.{nil_from_length}
-use Rattle.komihash.specs.Tails.{tail_end}
 use Rattle.komihash.specs.Padding.{has_top_bit, padding_behind}
 use Rattle.komihash.proofs.Answers.{tail_end-pending}
 use Rattle.komihash.proofs.stream.engine.tail_end.Goals as goal

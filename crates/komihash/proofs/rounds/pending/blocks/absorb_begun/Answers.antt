@@ -1,4 +1,4 @@
-use Rattle.std.proofs.Common.{◌≡◌, ◌-◌, ◌∙◌, ◌++◌, [], refl, ap, sym, arith, take, drop, length}
+use Rattle.std.proofs.Common.{◌≡◌, ◌-◌, ◌∙◌, ◌++◌, [], refl, ap, arith, take}
 use Rattle.std.proofs.lemmas.List.{length-take-le}
 use Rattle.komihash.specs.Halves.{lanes_in}
 use Rattle.komihash.specs.Pending.{pending_bytes}
