@@ -3,9 +3,12 @@
 ghost use Rattle.std.specs.Prelude.{◌≢◌};
 
 use super::messages::{BLOCK_FIVE, BLOCK_FOUR, LONGEST, ZERO, byte_by_byte, pattern};
+use crate::hash::komihash;
+use crate::stream::streamed::StreamedKomihash;
 use crate::stream::{Call, KomiStream, run, run_on};
 use crate::tally::Tally;
 use crate::{v4, v5};
+use std::alloc::AllocError;
 use std::process::Abort;
 
 const SEEDS: [u64; 2] = [0, u64::MAX];
@@ -81,38 +84,58 @@ fn fills_up_a_begun_block(rt: HostRuntime) {
     agrees_behind_pending_bytes::<v5::StreamedKomihash>(&rt);
 }
 
-// Answers in between change nothing: after a whole block, and one byte before it, at it and behind.
-fn agrees_after_answers<S: KomiStream>(rt: &impl Abort) {
-    let mut tally = Tally::new();
+// By the plain calls: answers in between change nothing, after a whole block, and one byte before
+// it, at it and behind; and pieces of 13 bytes with an answer after each.
+fn agrees_by_plain_calls<const V: u8>(rt: &impl Abort) {
     let mut message = [0xff; 65];
     message[64] = 0;
-    let mut stream = S::start(0, &mut tally);
-    stream.absorb(&message[..64], &mut tally);
-    let block = hash::<S>(&message[..64], 0);
-    assert_eq!(rt; stream.answer(&mut tally), block);
-    assert_eq!(rt; stream.answer(&mut tally), block);
-    stream.absorb(&message[64..], &mut tally);
-    assert_eq!(rt; stream.answer(&mut tally), hash::<S>(&message, 0));
+    let mut stream = StreamedKomihash::<V>::new();
+    stream.write(&message[..64]);
+    let block = komihash::<V>(&message[..64], 0);
+    assert_eq!(rt; stream.finish(), block);
+    assert_eq!(rt; stream.finish(), block);
+    stream.write(&message[64..]);
+    assert_eq!(rt; stream.finish(), komihash::<V>(&message, 0));
 
     let mut message = [0xaa; 65];
     message[63] = 0xbb;
     message[64] = 0xcc;
-    let mut stream = S::start(0, &mut tally);
+    let mut stream = StreamedKomihash::<V>::default();
     for (from, to) in [(0usize, 63usize), (63, 64), (64, 65)] {
         assert!(rt; from <= to && to <= 65);
-        stream.absorb(&message[from..to], &mut tally);
+        stream.write(&message[from..to]);
         assert_eq!(rt;
-            stream.answer(&mut tally),
-            hash::<S>(&message[..to], 0),
+            stream.finish(),
+            komihash::<V>(&message[..to], 0),
             "{to} bytes"
         );
+    }
+
+    let message = pattern();
+    for seed in SEEDS {
+        let mut stream = StreamedKomihash::<V>::new_with_seed(seed);
+        for i in 0..15usize {
+            stream.write(&message[13 * i..13 * i + 13]);
+            let answer = komihash::<V>(&message[..13 * i + 13], seed);
+            assert_eq!(rt; stream.finish(), answer, "13 bytes behind {i} pieces");
+        }
     }
 }
 
 #[test]
 fn goes_on_after_an_answer(rt: HostRuntime) {
-    agrees_after_answers::<v4::StreamedKomihash>(&rt);
-    agrees_after_answers::<v5::StreamedKomihash>(&rt);
+    agrees_by_plain_calls::<4>(&rt);
+    agrees_by_plain_calls::<5>(&rt);
+}
+
+#[test]
+fn copies_a_call_as_it_is(rt: HostRuntime) {
+    let call = Call::Absorb(&ZERO);
+    let again: Result<Call, AllocError> = call.clone();
+    assert!(rt; matches!(again, Ok(Call::Absorb(bytes)) if bytes == ZERO.as_slice()));
+    let answer = Call::Answer;
+    let again: Result<Call, AllocError> = answer.clone();
+    assert!(rt; matches!(again, Ok(Call::Answer)));
 }
 
 #[test]
