@@ -29,7 +29,7 @@ absorb_byte-few v s b few =
     let n : (length (s.pending ++ b ∷ []) == 64) ≡ false = grind (arith, nat_tests, length-append s.pending (b ∷ [])) in
     rw n
 
-absorb_byte-full : (v : ℕ) (s : State) (b : ℕ) → length s.pending ≡ 63 → absorb_byte v s b ≡ record { lanes = block_round v s.lanes (whole_words (s.pending ++ b ∷ [])); pending = []; absorbed = true; high = has_top_bit v b }
+absorb_byte-full : (v : ℕ) (s : State) (b : ℕ) → length s.pending ≡ 63 → absorb_byte v s b ≡ record { lanes = block_round v s.lanes (whole_words (s.pending ++ b ∷ [])); pending = []; absorbed = true; top_bit = has_top_bit v b }
 absorb_byte-full v s b full =
     let m : length (s.pending ++ b ∷ []) ≡ 64 = omega (arith, length-append s.pending (b ∷ [])) in
     let n : (length (s.pending ++ b ∷ []) == 64) ≡ true = grind (arith, nat_tests) in
@@ -45,13 +45,13 @@ absorb-few v s (b ∷ bytes) few =
     ∙ ap (λ p. record s { pending = p }) (append_assoc s.pending (b ∷ []) bytes)
 
 -- bytes that fill one block exactly
-pub absorb-full : (v : ℕ) (s : State) (b : ℕ) (bytes : List ℕ) → length s.pending + suc (length bytes) ≡ 64 → absorb v s (b ∷ bytes) ≡ record { lanes = block_round v s.lanes (whole_words (s.pending ++ b ∷ bytes)); pending = []; absorbed = true; high = has_top_bit v (slice_index (b ∷ bytes) (length bytes)) }
+pub absorb-full : (v : ℕ) (s : State) (b : ℕ) (bytes : List ℕ) → length s.pending + suc (length bytes) ≡ 64 → absorb v s (b ∷ bytes) ≡ record { lanes = block_round v s.lanes (whole_words (s.pending ++ b ∷ bytes)); pending = []; absorbed = true; top_bit = has_top_bit v (slice_index (b ∷ bytes) (length bytes)) }
 unfolding absorb
 absorb-full v s b [] full = absorb_byte-full v s b (omega arith)
 absorb-full v s b (c ∷ bytes) full =
     ap (λ t. absorb v t (c ∷ bytes)) (absorb_byte-few v s b (omega arith))
     ∙ absorb-full v (record s { pending = s.pending ++ b ∷ [] }) c bytes (omega (arith, length-append s.pending (b ∷ [])))
-    ∙ ap (λ p. record { lanes = block_round v s.lanes (whole_words p); pending = []; absorbed = true; high = has_top_bit v (slice_index (c ∷ bytes) (length bytes)) }) (append_assoc s.pending (b ∷ []) (c ∷ bytes))
+    ∙ ap (λ p. record { lanes = block_round v s.lanes (whole_words p); pending = []; absorbed = true; top_bit = has_top_bit v (slice_index (c ∷ bytes) (length bytes)) }) (append_assoc s.pending (b ∷ []) (c ∷ bytes))
 
 -- ---- whole blocks
 
@@ -61,11 +61,11 @@ blocks_state v l all = record {
   lanes = block_lanes v l (whole_words all);
   pending = drop (length all - length all % 64) all;
   absorbed = true;
-  high = has_top_bit v (slice_index all (length all - length all % 64 - 1));
+  top_bit = has_top_bit v (slice_index all (length all - length all % 64 - 1));
 }
 
 -- a first block of 64 bytes, and at most 63 more
-one_block : (v : ℕ) (l : Lanes) (xs ys : List ℕ) → length xs ≡ 64 → length ys < 64 → blocks_state v l (xs ++ ys) ≡ record { lanes = block_round v l (whole_words xs); pending = ys; absorbed = true; high = has_top_bit v (slice_index xs 63) }
+one_block : (v : ℕ) (l : Lanes) (xs ys : List ℕ) → length xs ≡ 64 → length ys < 64 → blocks_state v l (xs ++ ys) ≡ record { lanes = block_round v l (whole_words xs); pending = ys; absorbed = true; top_bit = has_top_bit v (slice_index xs 63) }
 one_block v l xs ys e lt =
     let n : length (xs ++ ys) - length (xs ++ ys) % 64 ≡ 64 = omega (arith, length-append xs ys) in
     let lanes = block_lanes-bytes v l xs ys e ∙ block_lanes-few_bytes v (block_round v l (whole_words xs)) ys lt in
@@ -88,14 +88,14 @@ more_blocks v l xs ys e le =
 -- the state after a block of pending bytes and others
 abbrev block_state : ℕ → Lanes → List ℕ → State
 block_state v l xs =
-    record { lanes = block_round v l (whole_words xs); pending = []; absorbed = true; high = has_top_bit v (slice_index xs 63) }
+    record { lanes = block_round v l (whole_words xs); pending = []; absorbed = true; top_bit = has_top_bit v (slice_index xs 63) }
 
 absorb-block : (v : ℕ) (s : State) (xs : List ℕ) → length s.pending + length xs ≡ 64 → 0 < length xs → absorb v s xs ≡ block_state v s.lanes (s.pending ++ xs)
 absorb-block v s [] full some = absurd (omega arith)
 absorb-block v s (b ∷ xs) full some =
     let n : 63 ≡ length s.pending + length xs = omega arith in
     absorb-full v s b xs full
-    ∙ ap (λ c. record { lanes = block_round v s.lanes (whole_words (s.pending ++ b ∷ xs)); pending = []; absorbed = true; high = has_top_bit v c }) (sym (ap (slice_index (s.pending ++ b ∷ xs)) n ∙ get_or-append-add s.pending (b ∷ xs) (length xs) 0))
+    ∙ ap (λ c. record { lanes = block_round v s.lanes (whole_words (s.pending ++ b ∷ xs)); pending = []; absorbed = true; top_bit = has_top_bit v c }) (sym (ap (slice_index (s.pending ++ b ∷ xs)) n ∙ get_or-append-add s.pending (b ∷ xs) (length xs) 0))
 
 -- what is behind the first block, by how many blocks it fills
 absorb-rest : (k v : ℕ) (l : Lanes) (xs ys : List ℕ) → length xs ≡ 64 → length ys / 64 ≡ k → absorb v (block_state v l xs) ys ≡ blocks_state v l (xs ++ ys)

@@ -14,17 +14,17 @@ use Rattle.komihash.proofs.Blocks.{hash_from_lanes-k_blocks}
 use Rattle.komihash.proofs.HashSteps.{komi-by_lanes, komi-by_pair}
 use Rattle.komihash.proofs.PaddedWords.{padded_words-by_tail}
 
-tail_of-words : (v : ℕ) (m : List ℕ) (absorbed high : Bool) → tail_of v m absorbed high ≡ whole_words m ++ final_word m (tail_end v m absorbed high) ∷ []
-tail_of-words v [] false high = refl
+tail_of-words : (v : ℕ) (m : List ℕ) (absorbed top_bit : Bool) → tail_of v m absorbed top_bit ≡ whole_words m ++ final_word m (tail_end v m absorbed top_bit) ∷ []
+tail_of-words v [] false top_bit = refl
 tail_of-words v [] true true = refl
 tail_of-words v [] true false = refl
-tail_of-words v (b ∷ m) absorbed high = padded_words-by_tail v (b ∷ m)
+tail_of-words v (b ∷ m) absorbed top_bit = padded_words-by_tail v (b ∷ m)
 
 -- an answer, from the pair of its lanes and its final word
-pub answer-by_pair : (v : ℕ) (s : State) → answer v s ≡ hash_from_pair (join s.absorbed s.lanes) (whole_words s.pending ++ final_word s.pending (tail_end v s.pending s.absorbed s.high) ∷ [])
+pub answer-by_pair : (v : ℕ) (s : State) → answer v s ≡ hash_from_pair (join s.absorbed s.lanes) (whole_words s.pending ++ final_word s.pending (tail_end v s.pending s.absorbed s.top_bit) ∷ [])
 unfolding answer
 answer-by_pair v s =
-    ap (hash_from_pair (join s.absorbed s.lanes)) (tail_of-words v s.pending s.absorbed s.high)
+    ap (hash_from_pair (join s.absorbed s.lanes)) (tail_of-words v s.pending s.absorbed s.top_bit)
 
 -- ---- the final word, from what is behind the whole blocks
 
@@ -77,11 +77,11 @@ answer-joined v seed m =
           ∙ komi-by_lanes v seed m (seed_pair seed) refl last refl
     ]
 
-pub tail_end-pending : (v : ℕ) (m : List ℕ) (absorbed high : Bool) → 0 < length m → tail_end v m absorbed high ≡ padding_byte v m
-tail_end-pending v [] absorbed high some = absurd (omega arith)
-tail_end-pending v (b ∷ m) absorbed high some = refl
+pub tail_end-pending : (v : ℕ) (m : List ℕ) (absorbed top_bit : Bool) → 0 < length m → tail_end v m absorbed top_bit ≡ padding_byte v m
+tail_end-pending v [] absorbed top_bit some = absurd (omega arith)
+tail_end-pending v (b ∷ m) absorbed top_bit some = refl
 
 -- an answer with nothing pending
-pub answer-none : (v : ℕ) (s : State) → s.pending ≡ [] → answer v s ≡ closing (join s.absorbed s.lanes) (tail_end v [] s.absorbed s.high ∷ [])
+pub answer-none : (v : ℕ) (s : State) → s.pending ≡ [] → answer v s ≡ closing (join s.absorbed s.lanes) (tail_end v [] s.absorbed s.top_bit ∷ [])
 unfolding answer
-answer-none v s none = ap (λ m. hash_from_pair (join s.absorbed s.lanes) (tail_of v m s.absorbed s.high)) none
+answer-none v s none = ap (λ m. hash_from_pair (join s.absorbed s.lanes) (tail_of v m s.absorbed s.top_bit)) none

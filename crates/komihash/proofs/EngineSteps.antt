@@ -23,8 +23,8 @@ IsState-start v seed =
       words = AreWords-seed_pair seed;
       bytes = λ k. omega arith;
       few = omega arith;
-      high_absorbed = λ h. absurd (false≢true h);
-      high_version = λ h. absurd (false≢true h);
+      top_bit_absorbed = λ h. absurd (false≢true h);
+      top_bit_version = λ h. absurd (false≢true h);
     }
 
 -- ---- a write
@@ -42,15 +42,15 @@ IsState-absorb v s bytes after is are absorbed =
         words = is.words;
         bytes = AreBytes-append s.pending bytes is.bytes are;
         few = omega (arith, n);
-        high_absorbed = is.high_absorbed;
-        high_version = is.high_version;
+        top_bit_absorbed = is.top_bit_absorbed;
+        top_bit_version = is.top_bit_version;
       }
       | inr le ↦ rw (absorbed, absorb-blocks v s bytes is.few le) record {
         words = AreWords-block_lanes v s.lanes (whole_words all) is.words;
         bytes = AreBytes-drop (length all - length all % 64) all (AreBytes-append s.pending bytes is.bytes are);
         few = omega (arith, length-after_blocks all);
-        high_absorbed = λ _. refl;
-        high_version = has_top_bit-version v (slice_index all (length all - length all % 64 - 1));
+        top_bit_absorbed = λ _. refl;
+        top_bit_version = has_top_bit-version v (slice_index all (length all - length all % 64 - 1));
       }
     ]
 
@@ -66,8 +66,8 @@ module _ (v : ℕ) (s : State) (bytes : List ℕ) where
   state-few new few put = ap (λ p. record s { pending = p }) put ∙ sym (absorb-few v s bytes few)
 
   -- a write that fills at least one
-  pub state-blocks : (l : Lanes) (new : List ℕ) (high : Bool) → length s.pending < 64 → 64 ≤ length s.pending + length bytes → l ≡ block_lanes v s.lanes (whole_words (s.pending ++ bytes)) → new ≡ after_blocks (s.pending ++ bytes) → high ≡ has_top_bit v (slice_index bytes (length bytes - length new - 1)) → record { lanes = l; pending = new; absorbed = true; high = high } ≡ absorb v s bytes
-  state-blocks l new high few many lanes left bit =
+  pub state-blocks : (l : Lanes) (new : List ℕ) (top_bit : Bool) → length s.pending < 64 → 64 ≤ length s.pending + length bytes → l ≡ block_lanes v s.lanes (whole_words (s.pending ++ bytes)) → new ≡ after_blocks (s.pending ++ bytes) → top_bit ≡ has_top_bit v (slice_index bytes (length bytes - length new - 1)) → record { lanes = l; pending = new; absorbed = true; top_bit = top_bit } ≡ absorb v s bytes
+  state-blocks l new top_bit few many lanes left bit =
       let last = bit ∙ ap (has_top_bit v) (last_of_block s.pending bytes (length new) few many (ap length left)) in
-      let fields : record { lanes = l; pending = new; absorbed = true; high = high } ≡ blocks_state v s.lanes (s.pending ++ bytes) = cc in
+      let fields : record { lanes = l; pending = new; absorbed = true; top_bit = top_bit } ≡ blocks_state v s.lanes (s.pending ++ bytes) = cc in
       fields ∙ sym (absorb-blocks v s bytes few many)

@@ -73,9 +73,9 @@ pub text-absorbed : (v : ℕ) (s : State) → slice_index (text v s) 1 ≡ flag_
 unfolding text
 text-absorbed v s = refl
 
-pub text-high : (v : ℕ) (s : State) → slice_index (text v s) 2 ≡ flag_byte s.high
+pub text-top_bit : (v : ℕ) (s : State) → slice_index (text v s) 2 ≡ flag_byte s.top_bit
 unfolding text
-text-high v s = refl
+text-top_bit v s = refl
 
 pub text-fill : (v : ℕ) (s : State) → slice_index (text v s) 3 ≡ length s.pending
 unfolding text
@@ -94,7 +94,7 @@ state_of bytes = record {
   lanes = lanes_of (whole_words (take 64 (drop 4 bytes)));
   pending = drop 68 bytes;
   absorbed = slice_index bytes 1 == 1;
-  high = slice_index bytes 2 == 1;
+  top_bit = slice_index bytes 2 == 1;
 }
 
 pub state_of-text : (v : ℕ) (s : State) → AreWords s.lanes → state_of (text v s) ≡ s
@@ -102,8 +102,8 @@ state_of-text v s are =
     let lanes : lanes_of (whole_words (take 64 (drop 4 (text v s)))) ≡ s.lanes = ap lanes_of (text-words v s are) in
     let pending = text-pending v s in
     let absorbed : (slice_index (text v s) 1 == 1) ≡ s.absorbed = ap (λ b. b == 1) (text-absorbed v s) ∙ flag_byte-back s.absorbed in
-    let high : (slice_index (text v s) 2 == 1) ≡ s.high = ap (λ b. b == 1) (text-high v s) ∙ flag_byte-back s.high in
-    let parts : state_of (text v s) ≡ record { lanes = s.lanes; pending = s.pending; absorbed = s.absorbed; high = s.high } = cc in
+    let top_bit : (slice_index (text v s) 2 == 1) ≡ s.top_bit = ap (λ b. b == 1) (text-top_bit v s) ∙ flag_byte-back s.top_bit in
+    let parts : state_of (text v s) ≡ record { lanes = s.lanes; pending = s.pending; absorbed = s.absorbed; top_bit = s.top_bit } = cc in
     parts
 
 -- two states never share a text
@@ -164,11 +164,11 @@ laid_out-text v (b0 ∷ b1 ∷ b2 ∷ b3 ∷ rest) are laid =
     ap (λ bs. bs ++ drop 64 rest) words ∙ take-append-drop 64 rest in
     let version : v ≡ b0 = sym laid.version in
     let absorbed : flag_byte (b1 == 1) ≡ b1 = flag_byte-of b1 laid.absorbed in
-    let high : flag_byte (b2 == 1) ≡ b2 = flag_byte-of b2 (omega (arith, laid.high, laid.absorbed)) in
+    let top_bit : flag_byte (b2 == 1) ≡ b2 = flag_byte-of b2 (omega (arith, laid.top_bit, laid.absorbed)) in
     let fill : length (drop 64 rest) ≡ b3 = omega (arith, laid.size, length-drop 64 rest) in
     ap (λ b. b ∷ flag_byte (b1 == 1) ∷ flag_byte (b2 == 1) ∷ length (drop 64 rest) ∷ (all_bytes (in_order (lanes_of (whole_words (take 64 rest)))) ++ drop 64 rest)) version
     ∙ ap (λ b. b0 ∷ b ∷ flag_byte (b2 == 1) ∷ length (drop 64 rest) ∷ (all_bytes (in_order (lanes_of (whole_words (take 64 rest)))) ++ drop 64 rest)) absorbed
-    ∙ ap (λ b. b0 ∷ b1 ∷ b ∷ length (drop 64 rest) ∷ (all_bytes (in_order (lanes_of (whole_words (take 64 rest)))) ++ drop 64 rest)) high
+    ∙ ap (λ b. b0 ∷ b1 ∷ b ∷ length (drop 64 rest) ∷ (all_bytes (in_order (lanes_of (whole_words (take 64 rest)))) ++ drop 64 rest)) top_bit
     ∙ ap (λ b. b0 ∷ b1 ∷ b2 ∷ b ∷ (all_bytes (in_order (lanes_of (whole_words (take 64 rest)))) ++ drop 64 rest)) fill
     ∙ ap (λ bs. b0 ∷ b1 ∷ b2 ∷ b3 ∷ bs) bytes
 laid_out-text v bytes are laid = absurd (omega (arith, laid.size))
@@ -178,13 +178,13 @@ laid_out-state v bytes are laid =
     let lanes = take 64 (drop 4 bytes) in
     let fit = whole_words-lt lanes (AreBytes-take 64 (drop 4 bytes) (AreBytes-drop 4 bytes are)) in
     let absorbed = slice_index bytes 1 in
-    let high = slice_index bytes 2 in
+    let top_bit = slice_index bytes 2 in
     record {
       words = record { s1 = fit 0; s2 = fit 1; s3 = fit 2; s4 = fit 3; s5 = fit 4; s6 = fit 5; s7 = fit 6; s8 = fit 7 };
       bytes = AreBytes-drop 68 bytes are;
       few = omega (arith, laid.size, laid.few, length-drop 68 bytes);
-      high_absorbed = one_below high absorbed laid.high laid.absorbed;
-      high_version = λ one. laid.high_version (some_one high one);
+      top_bit_absorbed = one_below top_bit absorbed laid.top_bit laid.absorbed;
+      top_bit_version = λ one. laid.top_bit_version (some_one top_bit one);
     }
 
 pub laid_out : (v : ℕ) (bytes : List ℕ) → AreBytes bytes → IsLaidOut v bytes → IsText v bytes
@@ -196,8 +196,8 @@ text-laid_out v s is =
     record {
       version = text-version v s;
       absorbed = rw text-absorbed (flag_byte-lt s.absorbed);
-      high = rw (text-high, text-absorbed) (flag_byte-le s.high s.absorbed is.high_absorbed);
-      high_version = rw text-high (λ some. is.high_version (flag_byte-some s.high some));
+      top_bit = rw (text-top_bit, text-absorbed) (flag_byte-le s.top_bit s.absorbed is.top_bit_absorbed);
+      top_bit_version = rw text-top_bit (λ some. is.top_bit_version (flag_byte-some s.top_bit some));
       few = rw text-fill is.few;
       size = rw text-fill (length-text v s);
     }

@@ -24,5 +24,5 @@ lanes_in halves = record {
 
 -- the state whose lanes are kept in this way
 abbrev pub state_in : List ℕ → List ℕ → Bool → Bool → State
-state_in halves pending absorbed high =
-    record { lanes = lanes_in halves; pending = pending; absorbed = absorbed; high = high }
+state_in halves pending absorbed top_bit =
+    record { lanes = lanes_in halves; pending = pending; absorbed = absorbed; top_bit = top_bit }

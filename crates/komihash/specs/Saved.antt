@@ -15,7 +15,7 @@ in_order s = s.s1 ∷ s.s2 ∷ s.s3 ∷ s.s4 ∷ s.s5 ∷ s.s6 ∷ s.s7 ∷ s.s8
 -- the first four bytes: the version, whether a block was absorbed, the bit of version 4, and how many
 -- bytes are pending
 abbrev pub head : ℕ → State → List ℕ
-head v s = v ∷ flag_byte s.absorbed ∷ flag_byte s.high ∷ length s.pending ∷ []
+head v s = v ∷ flag_byte s.absorbed ∷ flag_byte s.top_bit ∷ length s.pending ∷ []
 
 -- the text of a state of version v: the first four bytes, the eight lanes, the pending bytes
 unfoldable pub text : ℕ → State → List ℕ
@@ -29,7 +29,7 @@ IsText v bytes = (s : State) × IsState v s × (text v s ≡ bytes)
 pub record IsLaidOut (v : ℕ) (bytes : List ℕ) : Type 0 where
   pub version : slice_index bytes 0 ≡ v
   pub absorbed : slice_index bytes 1 < 2
-  pub high : slice_index bytes 2 ≤ slice_index bytes 1
-  pub high_version : 0 < slice_index bytes 2 → v ≡ 4
+  pub top_bit : slice_index bytes 2 ≤ slice_index bytes 1
+  pub top_bit_version : 0 < slice_index bytes 2 → v ≡ 4
   pub few : slice_index bytes 3 < 64
   pub size : length bytes ≡ 68 + slice_index bytes 3

@@ -11,18 +11,18 @@ pub record State : Type 0 where
   pub lanes : Lanes
   pub pending : List ℕ
   pub absorbed : Bool
-  pub high : Bool
+  pub top_bit : Bool
 
 -- the new stream of a seed
 abbrev pub start : ℕ → State
-start seed = record { lanes = lanes (seed_pair seed); pending = []; absorbed = false; high = false }
+start seed = record { lanes = lanes (seed_pair seed); pending = []; absorbed = false; top_bit = false }
 
 -- the state after one byte: it is pending, and where 64 are, they go through one block round
 abbrev pub absorb_byte : ℕ → State → ℕ → State
 absorb_byte v s b =
     let bytes = s.pending ++ b ∷ [] in
     if length bytes == 64
-    then record { lanes = block_round v s.lanes (words_of bytes); pending = []; absorbed = true; high = has_top_bit v b }
+    then record { lanes = block_round v s.lanes (words_of bytes); pending = []; absorbed = true; top_bit = has_top_bit v b }
     else record s { pending = bytes }
 
 -- the state after bytes, one after the other
@@ -37,12 +37,12 @@ HasAbsorbed v seed s m = s ≡ absorb v (start seed) m
 -- the words that an answer has left: the padded words of the pending bytes; where there are none,
 -- the padding byte of the last block alone, or 0 where no block was absorbed
 abbrev pub tail_of : ℕ → List ℕ → Bool → Bool → List ℕ
-tail_of v (b ∷ m) absorbed high = padded_words v (b ∷ m)
-tail_of v [] absorbed high = (if absorbed then padding_behind high else 0) ∷ []
+tail_of v (b ∷ m) absorbed top_bit = padded_words v (b ∷ m)
+tail_of v [] absorbed top_bit = (if absorbed then padding_behind top_bit else 0) ∷ []
 
 -- what a stream answers
 unfoldable pub answer : ℕ → State → ℕ
-answer v s = hash_from_pair (join s.absorbed s.lanes) (tail_of v s.pending s.absorbed s.high)
+answer v s = hash_from_pair (join s.absorbed s.lanes) (tail_of v s.pending s.absorbed s.top_bit)
 
 -- all eight lanes are words
 pub record AreWords (s : Lanes) : Type 0 where
@@ -61,8 +61,8 @@ pub record IsState (v : ℕ) (s : State) : Type 0 where
   pub words : AreWords s.lanes
   pub bytes : AreBytes s.pending
   pub few : length s.pending < 64
-  pub high_absorbed : s.high ≡ true → s.absorbed ≡ true
-  pub high_version : s.high ≡ true → v ≡ 4
+  pub top_bit_absorbed : s.top_bit ≡ true → s.absorbed ≡ true
+  pub top_bit_version : s.top_bit ≡ true → v ≡ 4
 
 -- what a stream of version v shows: a state, and that it is one of this version
 pub record StateOf (v : ℕ) : Type 0 where

@@ -38,5 +38,5 @@ after_blocks m = drop (length m - length m % 64) m
 -- the byte that ends a stream's tail: the pending bytes' padding byte; where none is pending, that
 -- of the last block, or 0 where no block was absorbed
 abbrev pub tail_end : ℕ → List ℕ → Bool → Bool → ℕ
-tail_end v (b ∷ m) absorbed high = padding_byte v (b ∷ m)
-tail_end v [] absorbed high = if absorbed then padding_behind high else 0
+tail_end v (b ∷ m) absorbed top_bit = padding_byte v (b ∷ m)
+tail_end v [] absorbed top_bit = if absorbed then padding_behind top_bit else 0

@@ -17,12 +17,12 @@ pub(crate) fn has_top_bit<const V: u8>(last: u8) -> bool
     V == 4 && last >= 128
 }
 
-/// The padding byte, by whether the last byte before it is high.
+/// The padding byte, by the last byte's top bit, where the version looks at it.
 #[inline(always)]
-pub(crate) fn padding_behind(high: bool) -> u64
-    ensures { result ≡ padding_behind high }
+pub(crate) fn padding_behind(top_bit: bool) -> u64
+    ensures { result ≡ padding_behind top_bit }
 {
-    1 + u64::from(high)
+    1 + u64::from(top_bit)
 }
 
 /// Writes the padded words of a message in version V, and answers how many they are.

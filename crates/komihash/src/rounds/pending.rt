@@ -89,14 +89,14 @@ impl Pending {
         ensures lanes { lanes_in lanes.new
             ≡ block_lanes V (lanes_in lanes.old) (whole_words (self.old ++ bytes.now)) }
         ensures bytes { self.new ≡ after_blocks (self.old ++ bytes.now) }
-        ensures high { result ≡ has_top_bit V (slice_index bytes.now (length bytes.now - length self.new - 1)) }
+        ensures top_bit { result ≡ has_top_bit V (slice_index bytes.now (length bytes.now - length self.new - 1)) }
         ensures products { tally.new.products
             ≡ tally.old.products + write_products (length self.old) (length bytes.now) }
         ensures kept { tally.new.kept ≡ tally.old.kept + kept_bytes (length self.old) (length bytes.now) }
     {
-        let (fill, high) = blocks::absorb::<V>(lanes, &mut self.words, self.fill, bytes, tally);
+        let (fill, top_bit) = blocks::absorb::<V>(lanes, &mut self.words, self.fill, bytes, tally);
         self.fill = fill;
-        high
+        top_bit
     }
 
     /// The final word of these bytes and the byte that ends them.

@@ -18,14 +18,14 @@ use std::marker::Model;
 
 // The byte that ends a stream's tail.
 #[inline(always)]
-fn tail_end<const V: u8>(pending: &Pending, absorbed: bool, high: bool) -> u64
-    ensures byte { result ≡ tail_end V pending.now absorbed high }
+fn tail_end<const V: u8>(pending: &Pending, absorbed: bool, top_bit: bool) -> u64
+    ensures byte { result ≡ tail_end V pending.now absorbed top_bit }
     ensures small { result < 4 }
 {
     if pending.len() > 0 {
         padding_behind(has_top_bit::<V>(pending.last_byte()))
     } else if absorbed {
-        padding_behind(high)
+        padding_behind(top_bit)
     } else {
         0
     }
@@ -38,7 +38,7 @@ pub(crate) struct Engine<const V: u8> {
     lanes: [u64; 8],
     pending: Pending,
     absorbed: bool,
-    high: bool,
+    top_bit: bool,
 }
 
 impl<const V: u8> Model for Engine<V> {
@@ -47,9 +47,9 @@ impl<const V: u8> Model for Engine<V> {
 
     ghost Value = { State };
 
-    ghost view = { λ s. state_in s.lanes s.pending s.absorbed s.high };
+    ghost view = { λ s. state_in s.lanes s.pending s.absorbed s.top_bit };
 
-    ghost invariant = { λ s. IsState V (state_in s.lanes s.pending s.absorbed s.high) };
+    ghost invariant = { λ s. IsState V (state_in s.lanes s.pending s.absorbed s.top_bit) };
 }
 
 impl<const V: u8> Engine<V> {
@@ -65,7 +65,7 @@ impl<const V: u8> Engine<V> {
             lanes: lanes(seed_pair(seed, tally)),
             pending: Pending::new(),
             absorbed: false,
-            high: false,
+            top_bit: false,
         }
     }
 
@@ -82,7 +82,7 @@ impl<const V: u8> Engine<V> {
         if bytes.len() < 64 - self.pending.len() {
             self.pending.put(bytes, tally);
         } else {
-            self.high = self.pending.absorb::<V>(&mut self.lanes, bytes, tally);
+            self.top_bit = self.pending.absorb::<V>(&mut self.lanes, bytes, tally);
             self.absorbed = true;
         }
     }
@@ -96,7 +96,7 @@ impl<const V: u8> Engine<V> {
         ensures kept { tally.new.kept ≡ tally.old.kept }
     {
         let pair = join(&self.lanes, self.absorbed);
-        let end = tail_end::<V>(&self.pending, self.absorbed, self.high);
+        let end = tail_end::<V>(&self.pending, self.absorbed, self.top_bit);
         if self.pending.len() == 0 {
             return close_one(pair, end, tally);
         }
@@ -111,7 +111,7 @@ impl<const V: u8> Engine<V> {
         ensures text { out.new ≡ text V self.now ++ drop result out.old }
         ensures length { result ≡ length (text V self.now) }
     {
-        write_head::<V>(self.absorbed, self.high, self.pending.len(), out);
+        write_head::<V>(self.absorbed, self.top_bit, self.pending.len(), out);
         write_lanes(&self.lanes, out);
         write_pending(&self.pending, out)
     }
@@ -130,7 +130,7 @@ impl<const V: u8> Engine<V> {
             lanes: read_lanes(bytes),
             pending: read_pending(bytes),
             absorbed: bytes[1] == 1,
-            high: bytes[2] == 1,
+            top_bit: bytes[2] == 1,
         })
     }
 }

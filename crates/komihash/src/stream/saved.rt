@@ -19,14 +19,14 @@ const PENDING: usize = 68;
 
 /// Writes the first four bytes.
 #[inline(always)]
-pub(crate) fn write_head<const V: u8>(absorbed: bool, high: bool, fill: usize, out: &mut [u8])
+pub(crate) fn write_head<const V: u8>(absorbed: bool, top_bit: bool, fill: usize, out: &mut [u8])
     requires few { fill < 64 }
     requires room { 4 ≤ length out.old }
-    ensures { out.new ≡ (V ∷ flag_byte absorbed ∷ flag_byte high ∷ fill ∷ []) ++ drop 4 out.old }
+    ensures { out.new ≡ (V ∷ flag_byte absorbed ∷ flag_byte top_bit ∷ fill ∷ []) ++ drop 4 out.old }
 {
     out[0] = V;
     out[1] = u8::from(absorbed);
-    out[2] = u8::from(high);
+    out[2] = u8::from(top_bit);
     out[3] = fill as u8;
 }
 

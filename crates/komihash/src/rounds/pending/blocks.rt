@@ -79,7 +79,7 @@ pub(crate) fn absorb<const V: u8>(
         ≡ block_lanes V (lanes_in lanes.old) (whole_words (pending_bytes words.old fill ++ bytes.now)) }
     ensures pending { ArePending words.new result.0 }
     ensures bytes { pending_bytes words.new result.0 ≡ after_blocks (pending_bytes words.old fill ++ bytes.now) }
-    ensures high { result.1 ≡ has_top_bit V (slice_index bytes.now (length bytes.now - result.0 - 1)) }
+    ensures top_bit { result.1 ≡ has_top_bit V (slice_index bytes.now (length bytes.now - result.0 - 1)) }
     ensures products { tally.new.products ≡ tally.old.products + write_products fill (length bytes.now) }
     ensures kept { tally.new.kept ≡ tally.old.kept + kept_bytes fill (length bytes.now) }
 {

@@ -8,7 +8,7 @@ pub returns-then-len-gt0-clause-byte : goal.returns-then-len-gt0-clause-byte
 returns-then-len-gt0-clause-byte g c =
     let a = c.args in
     c.padding_behind.ensures ∙ ap padding_behind (c.has_top_bit.ensures ∙ ap (has_top_bit g.row.V) c.last_byte.ensures)
-    ∙ sym (tail_end-pending g.row.V a.pending.now a.absorbed a.high (omega arith))
+    ∙ sym (tail_end-pending g.row.V a.pending.now a.absorbed a.top_bit (omega arith))
 
 pub returns-then-absorbed-clause-byte : goal.returns-then-absorbed-clause-byte
 returns-then-absorbed-clause-byte g c =

@@ -9,11 +9,11 @@ absorb-fill-requires-clause-many g c =
     let size = length-pending _ _ c.self.invariant c.args.self.now c.self.view_is in
     omega arith
 
-pub returns-clause-high : goal.returns-clause-high
-returns-clause-high g c =
+pub returns-clause-top_bit : goal.returns-clause-top_bit
+returns-clause-top_bit g c =
     let bytes = c.args.bytes.now in
     let size = length-pending _ _ c.absorb-fill.ensures.pending _ refl in
-    c.absorb-fill.ensures.high ∙ ap (λ n. has_top_bit g.row.V (slice_index bytes (length bytes - n - 1))) (sym size)
+    c.absorb-fill.ensures.top_bit ∙ ap (λ n. has_top_bit g.row.V (slice_index bytes (length bytes - n - 1))) (sym size)
 
 pub returns-clause-products : goal.returns-clause-products
 returns-clause-products g c =

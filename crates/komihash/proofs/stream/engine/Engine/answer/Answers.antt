@@ -13,11 +13,11 @@ pub returns-then-len-eq0-clause-answer : goal.returns-then-len-eq0-clause-answer
 returns-then-len-eq0-clause-answer g c =
     let s = c.self.inside in
     let none = nil_from_length s.pending (omega arith) in
-    let end = c.tail_end-end.ensures.byte ∙ ap (λ m. tail_end g.row.V m s.absorbed s.high) none in
+    let end = c.tail_end-end.ensures.byte ∙ ap (λ m. tail_end g.row.V m s.absorbed s.top_bit) none in
     c.close_one.ensures.answer
     ∙ ap (λ p. closing p (c.tail_end-end.result ∷ [])) c.join-pair.ensures
     ∙ ap (λ b. closing (join s.absorbed (lanes_in s.lanes)) (b ∷ [])) end
-    ∙ sym (answer-none g.row.V (state_in s.lanes s.pending s.absorbed s.high) none)
+    ∙ sym (answer-none g.row.V (state_in s.lanes s.pending s.absorbed s.top_bit) none)
     ∙ ap (answer g.row.V) c.self.view_is
 
 pub answer_below_eight-requires : goal.answer_below_eight-requires
@@ -31,7 +31,7 @@ returns-clause-answer g c =
     c.answer_below_eight.ensures.answer
     ∙ ap (λ p. hash_from_pair p (whole_words s.pending ++ c.final_word-word.result ∷ [])) c.join-pair.ensures
     ∙ ap (λ w. hash_from_pair (join s.absorbed (lanes_in s.lanes)) (whole_words s.pending ++ w ∷ [])) word
-    ∙ sym (answer-by_pair g.row.V (state_in s.lanes s.pending s.absorbed s.high))
+    ∙ sym (answer-by_pair g.row.V (state_in s.lanes s.pending s.absorbed s.top_bit))
     ∙ ap (answer g.row.V) c.self.view_is
 
 pub returns-clause-products : goal.returns-clause-products

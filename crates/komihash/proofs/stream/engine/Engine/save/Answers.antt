@@ -12,10 +12,10 @@ pub returns-clause-text : goal.returns-clause-text
 unfolding text
 returns-clause-text g c =
     let s = c.self.inside in
-    let shown = state_in s.lanes s.pending s.absorbed s.high in
+    let shown = state_in s.lanes s.pending s.absorbed s.top_bit in
     let lanes = all_bytes (in_order (lanes_in s.lanes)) in
     let end = c.write_pending.result in
-    let first = c.write_head.ensures ∙ ap (λ n. (g.row.V ∷ flag_byte s.absorbed ∷ flag_byte s.high ∷ n ∷ []) ++ drop 4 c.args.out.now) c.len.ensures.length in
+    let first = c.write_head.ensures ∙ ap (λ n. (g.row.V ∷ flag_byte s.absorbed ∷ flag_byte s.top_bit ∷ n ∷ []) ++ drop 4 c.args.out.now) c.len.ensures.length in
     parts_written (head g.row.V shown) lanes s.pending c.args.out.now c.write_head.new.out c.write_lanes.new.out c.write_pending.new.out end refl (length-all_bytes (in_order (lanes_in s.lanes))) (omega (arith, c.write_pending.ensures.end)) first c.write_lanes.ensures c.write_pending.ensures.bytes
     ∙ ap (λ t. text g.row.V t ++ drop end c.args.out.now) c.self.view_is
 
