@@ -6,7 +6,7 @@ ghost use Rattle.komihash.specs.Hash.{komi};
 
 use crate::rounds::blocks::absorb_blocks;
 use crate::rounds::{close_one, join, lanes, seed_pair};
-use crate::tails::{answer_below_eight, end_byte, final_of_few, final_of_many};
+use crate::tails::{answer_below_eight, end_byte, final_of_few, final_of_long, final_of_many};
 use crate::tally::Tally;
 
 // The hash of a message with at least one block: a function of its own, since only its loop needs
@@ -19,7 +19,7 @@ fn hash_of_blocks<const V: u8>(bytes: &[u8], seed: u64, tally: &mut Tally) -> u6
     ensures kept { tally.new.kept ≡ tally.old.kept }
 {
     let pair = seed_pair(seed, tally);
-    let last = final_of_many(bytes, end_byte::<V>(bytes));
+    let last = final_of_long(bytes, end_byte::<V>(bytes));
     let mut lanes = lanes(pair);
     let rest = absorb_blocks::<V>(&mut lanes, bytes, tally);
     answer_below_eight(join(&lanes, true), &rest, last, tally)
@@ -36,12 +36,11 @@ pub(crate) fn komihash_counted<const V: u8>(bytes: &[u8], seed: u64, tally: &mut
         return hash_of_blocks::<V>(bytes, seed, tally);
     }
     let pair = seed_pair(seed, tally);
-    if bytes.is_empty() {
-        return close_one(pair, 0, tally);
-    }
     if bytes.len() >= 8 {
         let last = final_of_many(bytes, end_byte::<V>(bytes));
         answer_below_eight(pair, &bytes, last, tally)
+    } else if bytes.is_empty() {
+        close_one(pair, 0, tally)
     } else {
         let last = final_of_few(bytes, end_byte::<V>(bytes));
         close_one(pair, last, tally)

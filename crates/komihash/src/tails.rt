@@ -35,10 +35,22 @@ pub(crate) fn final_of_few(bytes: &[u8], end: u64) -> u64
 
 /// The final word of at least eight bytes.
 ///
-/// Where none stands behind the last whole word, it is `end` alone. Else the bytes behind it are
-/// read with the last eight. `end` is set above them, and one shift brings all down.
+/// The bytes behind the last whole word are read with the last eight. `end` is set above them, and
+/// one shift brings all down.
 #[inline(always)]
 pub(crate) fn final_of_many(bytes: &[u8], end: u64) -> u64
+    requires many { 8 ≤ length bytes.now }
+    requires end { end < 4 }
+    ensures { result ≡ final_word bytes.now end }
+{
+    let last = word_at(bytes, bytes.len() - 8);
+    (last >> 4 | end << 60) >> (60 - 8 * (bytes.len() % 8))
+}
+
+/// The same for a long message, which often has whole words alone: then it is `end`, and nothing is
+/// read.
+#[inline(always)]
+pub(crate) fn final_of_long(bytes: &[u8], end: u64) -> u64
     requires many { 8 ≤ length bytes.now }
     requires end { end < 4 }
     ensures { result ≡ final_word bytes.now end }
@@ -46,8 +58,7 @@ pub(crate) fn final_of_many(bytes: &[u8], end: u64) -> u64
     if bytes.len() % 8 == 0 {
         return end;
     }
-    let last = word_at(bytes, bytes.len() - 8);
-    (last >> 4 | end << 60) >> (60 - 8 * (bytes.len() % 8))
+    final_of_many(bytes, end)
 }
 
 /// The final word of a message.

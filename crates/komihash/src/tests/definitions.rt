@@ -2,6 +2,7 @@
 
 ghost use Rattle.std.specs.Prelude.{◌≡◌, ℕ, ◌+◌, ◌≤◌, List, [], ◌∷◌, ◌++◌, length, take};
 ghost use Rattle.komihash.specs.Hash.{komi};
+ghost use Rattle.komihash.specs.Hasher.{number_after};
 ghost use Rattle.komihash.specs.Saved.{text};
 ghost use Rattle.komihash.specs.Stream.{start, absorb};
 ghost use Rattle.komihash.specs.Padding.{padded_words};
@@ -24,6 +25,15 @@ fn hashes()
     ensures six { komi 5 0 SIX ≡ 6 }
     ensures block { komi 5 0 BLOCK_FIVE ≡ 6 }
     ensures block_in_four { komi 4 0 BLOCK_FOUR ≡ 6 }
+{}
+
+#[tactic(auto, unfolding(crate::specs::Hash::komi, crate::specs::Rounds::mix, crate::specs::Rounds::block_round_by))]
+fn numbers_after_writes()
+    ensures none { number_after 5 7 [] ≡ 7 }
+    ensures no_bytes { number_after 5 0 ([] ∷ []) ≡ 0xb7683ea7430132b4 }
+    ensures no_bytes_in_four { number_after 4 0 ([] ∷ []) ≡ 0xb7683ea7430132b4 }
+    ensures zeros { number_after 5 0 (ZERO ∷ ZERO ∷ []) ≡ 0 }
+    ensures high_end_in_four { number_after 4 0 (ZERO ∷ HIGH_END ∷ []) ≡ 7 }
 {}
 
 // The pair round on the two words of `ZERO`.
@@ -59,6 +69,7 @@ fn texts()
 #[test]
 fn holds() {
     hashes();
+    numbers_after_writes();
     round_of_zero();
     zero_and_more();
     padded_words();

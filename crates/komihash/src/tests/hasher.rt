@@ -1,26 +1,8 @@
 //! The hashers of both versions at writes whose numbers are known.
 
-ghost use Rattle.std.specs.Prelude.{◌≡◌, [], ◌∷◌};
-ghost use Rattle.komihash.specs.Hasher.{number_after};
-
 use super::messages::{HIGH_END, ZERO};
 use crate::{v4, v5};
 use std::hash::Hasher;
-
-// What the definitions alone say: the clauses are proved, and nothing is run.
-#[tactic(auto, unfolding(crate::specs::Hash::komi, crate::specs::Rounds::mix, crate::specs::Rounds::block_round_by))]
-fn definitions()
-    ensures none { chain 5 7 [] ≡ 7 }
-    ensures no_bytes { chain 5 0 ([] ∷ []) ≡ 0xb7683ea7430132b4 }
-    ensures no_bytes_in_four { chain 4 0 ([] ∷ []) ≡ 0xb7683ea7430132b4 }
-    ensures zeros { chain 5 0 (ZERO ∷ ZERO ∷ []) ≡ 0 }
-    ensures high_end_in_four { chain 4 0 (ZERO ∷ HIGH_END ∷ []) ≡ 7 }
-{}
-
-#[test]
-fn is_defined_so() {
-    definitions();
-}
 
 // What a hasher answers after these writes, by the trait alone.
 fn after_writes<H: Hasher>(hasher: &mut H, writes: &[&[u8]]) -> u64 {

@@ -20,7 +20,7 @@ returns-then-is_empty-clause-hash g c =
     let none : length c.args.bytes.now ≡ 0 = grind (arith, nat_tests) in
     c.close_one.ensures.answer ∙ komi-empty g.row.V c.args.seed c.args.bytes.now _ c.seed_pair-pair.ensures.pair none
 
-pub returns-else-bytes-ge8-clause-hash : goal.returns-else-bytes-ge8-clause-hash
-returns-else-bytes-ge8-clause-hash g c =
-    c.close_one-else-bytes-ge8.ensures.answer
-    ∙ komi-by_closing g.row.V c.args.seed c.args.bytes.now _ c.seed_pair-pair.ensures.pair _ (c.final_of_few-last.ensures ∙ ap (final_word c.args.bytes.now) c.end_byte-else-bytes-ge8.ensures.byte) c.if-bytes-ge8.false
+pub returns-else-is_empty-clause-hash : goal.returns-else-is_empty-clause-hash
+returns-else-is_empty-clause-hash g c =
+    c.close_one-else-is_empty.ensures.answer
+    ∙ komi-by_closing g.row.V c.args.seed c.args.bytes.now _ c.seed_pair-pair.ensures.pair _ (c.final_of_few-last.ensures ∙ ap (final_word c.args.bytes.now) c.end_byte-else-is_empty.ensures.byte) c.if-bytes-ge8.false

@@ -1,10 +1,7 @@
 use Rattle.std.proofs.Common.{length, ◌%◌, ◌∙◌, arith}
-use Rattle.komihash.proofs.PaddedWords.{final_word-many, final_word-whole}
+use Rattle.komihash.proofs.PaddedWords.{final_word-many}
 use Rattle.komihash.proofs.WordsOfBytes.{AreBytes-typed, word_of-last_eight}
 use Rattle.komihash.proofs.tails.final_of_many.Goals as goal
-
-pub returns-then-bytes-eq0 : goal.returns-then-bytes-eq0
-returns-then-bytes-eq0 c = final_word-whole c.args.bytes.now c.args.end c.if-bytes-eq0.true
 
 pub returns : goal.returns
 returns c =
