@@ -1,5 +1,5 @@
 -- Absorbing byte by byte is absorbing whole blocks, and keeping what is left.
-use Rattle.std.proofs.Common.{◌≡◌, ℕ, zero, suc, ◌+◌, ◌-◌, ◌*◌, ◌/◌, ◌%◌, ◌<◌, ◌≤◌, true, false, List, [], ◌∷◌, ◌++◌, length, take, drop, refl, ap, arith, ◌∙◌, sym}
+use Rattle.std.proofs.Common.{◌≡◌, ℕ, zero, suc, ◌+◌, ◌-◌, ◌/◌, ◌%◌, ◌<◌, ◌≤◌, true, false, List, [], ◌∷◌, ◌++◌, length, take, drop, refl, ap, arith, ◌∙◌, sym}
 use Rattle.std.proofs.lemmas.List.{append_assoc, append-nil, length-append, length-drop, length-take-le, take-append-drop, drop-drop, drop_at, get_or-append-add, get_or_append_left}
 use Rattle.std.proofs.lemmas.Bool.Decides.{nat_tests}
 use Rattle.std.specs.Prelude.{slice_index, ◌==◌}
@@ -7,21 +7,14 @@ use Rattle.komihash.specs.Rounds.{Lanes, block_round}
 use Rattle.komihash.specs.Stream.{State, absorb, absorb_byte}
 use Rattle.komihash.specs.Tails.{whole_words, block_lanes}
 use Rattle.komihash.specs.Padding.{has_top_bit}
-use Rattle.komihash.specs.Words.{word_of, words_of}
 use Rattle.komihash.proofs.Blocks.{block_lanes-bytes, block_lanes-few_bytes}
+use Rattle.komihash.proofs.WholeWords.{words_of-whole}
 
 -- a cut anywhere
 pub absorb-append : (v : ℕ) (s : State) (x y : List ℕ) → absorb v s (x ++ y) ≡ absorb v (absorb v s x) y
 unfolding absorb
 absorb-append v s [] y = refl
 absorb-append v s (b ∷ x) y = absorb-append v (absorb_byte v s b) x y
-
--- whole words have no rest
-words_of-whole : (xs : List ℕ) (k : ℕ) → length xs ≡ 8 * k → words_of xs ≡ whole_words xs
-words_of-whole [] k e = refl
-words_of-whole (a ∷ b ∷ c ∷ d ∷ e ∷ f ∷ g ∷ h ∷ xs) k is =
-    ap (λ ws. word_of (a ∷ b ∷ c ∷ d ∷ e ∷ f ∷ g ∷ h ∷ []) ∷ ws) (words_of-whole xs (k - 1) (omega arith))
-words_of-whole xs k is = absurd (omega arith)
 
 -- a byte that fills no block, and one that does
 absorb_byte-few : (v : ℕ) (s : State) (b : ℕ) → length s.pending < 63 → absorb_byte v s b ≡ record s { pending = s.pending ++ b ∷ [] }

@@ -1,5 +1,5 @@
 -- What a stream answers, from the words and the byte that its tail is made of.
-use Rattle.std.proofs.Common.{◌≡◌, ℕ, ◌+◌, ◌-◌, ◌*◌, ◌/◌, ◌%◌, ◌<◌, ◌≤◌, Bool, true, false, List, [], ◌∷◌, ◌++◌, length, take, drop, refl, ap, arith, ◌∙◌, sym, subst, inl, inr}
+use Rattle.std.proofs.Common.{◌≡◌, ℕ, ◌+◌, ◌-◌, ◌/◌, ◌%◌, ◌<◌, ◌≤◌, Bool, true, false, List, [], ◌∷◌, ◌++◌, length, take, drop, refl, ap, arith, ◌∙◌, sym, subst, inl, inr}
 use Rattle.std.proofs.lemmas.List.{length-drop, length-take-le, take-append-drop, get_or-drop}
 use Rattle.std.proofs.lemmas.Bool.{cases_lt}
 use Rattle.std.specs.Prelude.{slice_index, if◌then◌else◌}
@@ -13,6 +13,7 @@ use Rattle.komihash.proofs.Absorbing.{blocks_state, absorb-few, absorb-blocks}
 use Rattle.komihash.proofs.Blocks.{hash_from_lanes-k_blocks}
 use Rattle.komihash.proofs.HashSteps.{komi-by_lanes, komi-by_pair}
 use Rattle.komihash.proofs.PaddedWords.{padded_words-by_tail}
+use Rattle.komihash.proofs.WholeWords.{after_words-append}
 
 tail_of-words : (v : ℕ) (m : List ℕ) (absorbed top_bit : Bool) → tail_of v m absorbed top_bit ≡ whole_words m ++ final_word m (tail_end v m absorbed top_bit) ∷ []
 tail_of-words v [] false top_bit = refl
@@ -27,11 +28,6 @@ answer-by_pair v s =
     ap (hash_from_pair (join s.absorbed s.lanes)) (tail_of-words v s.pending s.absorbed s.top_bit)
 
 -- ---- the final word, from what is behind the whole blocks
-
-after_words-append : (xs ys : List ℕ) (k : ℕ) → length xs ≡ 8 * k → after_words (xs ++ ys) ≡ after_words ys
-after_words-append [] ys k e = refl
-after_words-append (a ∷ b ∷ c ∷ d ∷ e ∷ f ∷ g ∷ h ∷ xs) ys k is = after_words-append xs ys (k - 1) (omega arith)
-after_words-append xs ys k is = absurd (omega arith)
 
 after_words-after_blocks : (m : List ℕ) → after_words m ≡ after_words (after_blocks m)
 after_words-after_blocks m =

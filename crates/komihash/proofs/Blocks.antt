@@ -4,7 +4,8 @@ use Rattle.std.proofs.lemmas.List.{length-drop, length-take-le, take-append-drop
 use Rattle.komihash.specs.Hash.{hash_from_pair, hash_from_lanes}
 use Rattle.komihash.specs.Rounds.{Lanes, block_round, join}
 use Rattle.komihash.specs.Tails.{whole_words, block_lanes, after_blocks}
-use Rattle.komihash.proofs.HashSteps.{whole_words-append, length-whole_words, hash_from_lanes-end, hash_from_lanes-bytes}
+use Rattle.komihash.proofs.WholeWords.{whole_words-append, length-whole_words}
+use Rattle.komihash.proofs.HashSteps.{hash_from_lanes-end, hash_from_lanes-bytes}
 
 -- a block of words, and others behind it
 block_lanes-round : (v : ℕ) (l : Lanes) (ws us : List ℕ) → length ws ≡ 8 → block_lanes v l (ws ++ us) ≡ block_lanes v (block_round v l ws) us

@@ -12,8 +12,7 @@ use Rattle.komihash.specs.Words.{AreBytes}
 use Rattle.komihash.proofs.Absorbing.{blocks_state, absorb-few, absorb-blocks}
 use Rattle.komihash.proofs.Blocks.{length-after_blocks}
 use Rattle.komihash.proofs.LaneWords.{AreWords-block_lanes, AreWords-seed_pair}
-use Rattle.komihash.proofs.PendingBytes.{AreBytes-append}
-use Rattle.komihash.proofs.WordsOfBytes.{AreBytes-drop}
+use Rattle.komihash.proofs.BytesInWords.{AreBytes-append, AreBytes-drop}
 
 -- ---- a new stream
 

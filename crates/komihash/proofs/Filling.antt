@@ -6,7 +6,7 @@ use Rattle.std.proofs.Math.Seq.{take-append-add}
 use borrow.Rule.Slice.PartMut.{put_mid}
 use Rattle.komihash.specs.Generator.{next, after_steps, outputs, fill, after_fill}
 use Rattle.komihash.specs.Words.{bytes_of, all_bytes}
-use Rattle.komihash.proofs.PendingBytes.{length-bytes_of, length-all_bytes}
+use Rattle.komihash.proofs.BytesOfWords.{length-bytes_of, length-all_bytes}
 
 -- ---- the bytes of words
 

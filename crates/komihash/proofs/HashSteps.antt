@@ -1,48 +1,12 @@
 -- One round takes the next words of a list that still has others behind them.
-use Rattle.std.proofs.Common.{◌≡◌, ℕ, zero, suc, ◌+◌, ◌-◌, ◌*◌, ◌/◌, ◌<◌, ◌≤◌, Bool, true, false, List, [], ◌∷◌, ◌++◌, length, take, drop, refl, ap, arith, ◌∙◌, sym}
-use Rattle.std.proofs.lemmas.List.{drop-drop, length-drop, length-take-le, take-append-drop, append_assoc, length-append, drop_more}
+use Rattle.std.proofs.Common.{◌≡◌, ℕ, ◌+◌, ◌/◌, ◌<◌, ◌≤◌, Bool, true, false, List, [], ◌∷◌, ◌++◌, length, take, drop, refl, ap, arith, ◌∙◌, sym}
+use Rattle.std.proofs.lemmas.List.{length-take-le, take-append-drop, append_assoc, length-append, drop_more}
 use Rattle.std.specs.Prelude.{slice_index}
 use Rattle.komihash.specs.Rounds.{Lanes, lanes, seed_pair, block_round, pair_round, join, closing}
 use Rattle.komihash.specs.Hash.{hash_from_pair, hash_from_lanes, komi}
 use Rattle.komihash.specs.Tails.{whole_words, final_word, end_byte}
-use Rattle.komihash.specs.Words.{word_of}
-use Rattle.komihash.proofs.PaddedWords.{padded_words-by_tail, whole_words-more, whole_words-few}
-
--- ---- whole words
-
--- a cut between two words
-pub whole_words-append : (xs ys : List ℕ) (k : ℕ) → length xs ≡ 8 * k → whole_words (xs ++ ys) ≡ whole_words xs ++ whole_words ys
-whole_words-append [] ys k e = refl
-whole_words-append (a ∷ b ∷ c ∷ d ∷ e ∷ f ∷ g ∷ h ∷ xs) ys k is =
-    ap (λ ws. word_of (a ∷ b ∷ c ∷ d ∷ e ∷ f ∷ g ∷ h ∷ []) ∷ ws) (whole_words-append xs ys (k - 1) (omega arith))
-whole_words-append xs ys k is = absurd (omega arith)
-
-pub length-whole_words : (xs : List ℕ) → length (whole_words xs) ≡ length xs / 8
-length-whole_words (a ∷ b ∷ c ∷ d ∷ e ∷ f ∷ g ∷ h ∷ xs) = omega (arith, length-whole_words xs)
-length-whole_words xs = refl
-
--- n words from a place on
-abbrev words_from : ℕ → ℕ → List ℕ → List ℕ
-words_from zero at xs = []
-words_from (suc n) at xs = word_of (take 8 (drop at xs)) ∷ words_from n (at + 8) xs
-
-whole_words-from : (n at : ℕ) (xs : List ℕ) → length xs ≡ at + 8 * n → whole_words (drop at xs) ≡ words_from n at xs
-whole_words-from zero at xs e = whole_words-few (drop at xs) (omega (arith, length-drop at xs))
-whole_words-from (suc n) at xs e =
-    whole_words-more (drop at xs) (omega (arith, length-drop at xs))
-    ∙ ap (λ ws. word_of (take 8 (drop at xs)) ∷ ws) (ap whole_words (drop-drop 8 at xs) ∙ whole_words-from n (at + 8) xs (omega arith))
-
--- the eight words of a block
-pub whole_words-block : (xs : List ℕ) → length xs ≡ 64 → whole_words xs ≡ words_from 8 0 xs
-whole_words-block xs e = whole_words-from 8 0 xs e
-
--- the word at a place
-pub slice_index-whole_words : (xs : List ℕ) (at : ℕ) → at < length (whole_words xs) → slice_index (whole_words xs) at ≡ word_of (take 8 (drop (8 * at) xs))
-slice_index-whole_words (a ∷ b ∷ c ∷ d ∷ e ∷ f ∷ g ∷ h ∷ xs) zero lt = refl
-slice_index-whole_words (a ∷ b ∷ c ∷ d ∷ e ∷ f ∷ g ∷ h ∷ xs) (suc at) lt =
-    slice_index-whole_words xs at (omega arith)
-    ∙ let n : 8 * suc at ≡ suc (suc (suc (suc (suc (suc (suc (suc (8 * at)))))))) = omega arith in ap (λ n. word_of (take 8 (drop n (a ∷ b ∷ c ∷ d ∷ e ∷ f ∷ g ∷ h ∷ xs)))) (sym n)
-slice_index-whole_words xs at lt = absurd (omega arith)
+use Rattle.komihash.proofs.PaddedWords.{padded_words-by_tail}
+use Rattle.komihash.proofs.WholeWords.{whole_words-few, whole_words-append, length-whole_words}
 
 -- ---- rounds
 

@@ -1,23 +1,23 @@
 pub mod Absorbing
 pub mod Answers
 pub mod Blocks
-pub mod BytesOfWord
-pub mod CopiedBytes
+pub mod BytesInWords
+pub mod BytesOfWords
 pub mod EngineSteps
 mod Facts
 pub mod Filling
 pub mod HashSteps
 pub mod KeptHalves
 pub mod LaneWords
+pub mod Lists
 pub mod PaddedBack
 pub mod PaddedWords
 pub mod PendingBlocks
 pub mod PendingBytes
-pub mod PendingPieces
-pub mod PendingSteps
+pub mod PendingWords
 mod Raised
 pub mod Runs
 pub mod SavedStreams
 pub mod SavedTexts
-pub mod WordsOfBytes
+pub mod WholeWords
 pub mod Xor

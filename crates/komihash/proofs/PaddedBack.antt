@@ -9,12 +9,11 @@ use Rattle.std.specs.Prelude.{slice_index}
 use Rattle.komihash.specs.Tails.{whole_words, after_words, final_word, end_byte}
 use Rattle.komihash.specs.Padding.{has_top_bit, padding_behind, padded_words, padding_byte}
 use Rattle.komihash.specs.Words.{AreBytes, word_of, bytes_of, all_bytes}
-use Rattle.komihash.proofs.PendingPieces.{take-more}
-use Rattle.komihash.proofs.CopiedBytes.{take-all_bytes, drop-all_bytes}
-use Rattle.komihash.proofs.HashSteps.{length-whole_words}
-use Rattle.komihash.proofs.PendingBytes.{length-after_words, length-bytes_of, length-all_bytes}
-use Rattle.komihash.proofs.PaddedWords.{padded_words-by_tail, whole_words-few, after_words-few, after_words-drop}
-use Rattle.komihash.proofs.WordsOfBytes.{AreBytes-take, pow_byte, word_of-append, word_of-lt, AreBytes-drop}
+use Rattle.komihash.proofs.Lists.{take-more}
+use Rattle.komihash.proofs.BytesOfWords.{take-all_bytes, drop-all_bytes, length-bytes_of, length-all_bytes}
+use Rattle.komihash.proofs.WholeWords.{length-whole_words, length-after_words, whole_words-few, after_words-few, after_words-drop}
+use Rattle.komihash.proofs.PaddedWords.{padded_words-by_tail}
+use Rattle.komihash.proofs.BytesInWords.{AreBytes-take, pow_byte, word_of-append, word_of-lt, AreBytes-drop}
 
 -- ---- a word and its bytes
 

@@ -1,9 +1,10 @@
 -- The padded words of a message are its whole words, and the word that ends them.
-use Rattle.std.proofs.Common.{◌≤◌, take, drop, ◌≡◌, ℕ, suc, ◌-◌, ◌%◌, ◌<◌, List, [], ◌∷◌, ◌++◌, length, replicate, refl, ap, arith, ◌∙◌, sym}
+use Rattle.std.proofs.Common.{drop, ◌≡◌, ℕ, suc, ◌-◌, ◌%◌, ◌<◌, List, [], ◌∷◌, ◌++◌, length, replicate, refl, ap, arith, ◌∙◌, sym}
 use Rattle.std.proofs.lemmas.List.{drop_all}
 use Rattle.komihash.specs.Padding.{padded_words, padding_byte}
 use Rattle.komihash.specs.Words.{word_of, words_of}
 use Rattle.komihash.specs.Tails.{whole_words, after_words, end_byte, final_word}
+use Rattle.komihash.proofs.WholeWords.{after_words-few, after_words-drop}
 
 -- eight bytes more need as many zeros
 zeros_more : (n : ℕ) → 7 - suc (suc (suc (suc (suc (suc (suc (suc n))))))) % 8 ≡ 7 - n % 8
@@ -20,26 +21,6 @@ words_of-padded bs p = refl
 pub padded_words-by_tail : (v : ℕ) (m : List ℕ) → padded_words v m ≡ whole_words m ++ final_word m (end_byte v m) ∷ []
 padded_words-by_tail v [] = refl
 padded_words-by_tail v (b ∷ m) = words_of-padded (b ∷ m) (padding_byte v (b ∷ m))
-
--- the next whole word
-pub whole_words-more : (xs : List ℕ) → 8 ≤ length xs → whole_words xs ≡ word_of (take 8 xs) ∷ whole_words (drop 8 xs)
-whole_words-more (a ∷ b ∷ c ∷ d ∷ e ∷ f ∷ g ∷ h ∷ bs) le = refl
-whole_words-more xs le = absurd (omega arith)
-
-pub whole_words-few : (xs : List ℕ) → length xs < 8 → whole_words xs ≡ []
-whole_words-few (a ∷ b ∷ c ∷ d ∷ e ∷ f ∷ g ∷ h ∷ bs) le = absurd (omega arith)
-whole_words-few xs le = refl
-
-pub after_words-few : (xs : List ℕ) → length xs < 8 → after_words xs ≡ xs
-after_words-few (a ∷ b ∷ c ∷ d ∷ e ∷ f ∷ g ∷ h ∷ bs) le = absurd (omega arith)
-after_words-few xs le = refl
-
--- the bytes behind the last whole word, by place
-pub after_words-drop : (xs : List ℕ) → after_words xs ≡ drop (length xs - length xs % 8) xs
-after_words-drop (a ∷ b ∷ c ∷ d ∷ e ∷ f ∷ g ∷ h ∷ bs) =
-    let n : suc (suc (suc (suc (suc (suc (suc (suc (length bs)))))))) - suc (suc (suc (suc (suc (suc (suc (suc (length bs)))))))) % 8 ≡ suc (suc (suc (suc (suc (suc (suc (suc (length bs - length bs % 8)))))))) = omega arith in
-    after_words-drop bs ∙ ap (λ k. drop k (a ∷ b ∷ c ∷ d ∷ e ∷ f ∷ g ∷ h ∷ bs)) (sym n)
-after_words-drop xs = refl
 
 -- the final word of less than eight bytes
 pub final_word-few : (xs : List ℕ) (end : ℕ) → length xs < 8 → word_of (xs ++ end ∷ []) ≡ final_word xs end

@@ -9,10 +9,10 @@ use Rattle.komihash.specs.Saved.{flag_byte, in_order, text, IsText, IsLaidOut}
 use Rattle.komihash.specs.Stream.{AreWords, State, IsState}
 use Rattle.komihash.specs.Tails.{whole_words}
 use Rattle.komihash.specs.Words.{AreBytes, all_bytes}
-use Rattle.komihash.proofs.HashSteps.{length-whole_words}
-use Rattle.komihash.proofs.PendingBytes.{length-all_bytes}
+use Rattle.komihash.proofs.WholeWords.{length-whole_words}
+use Rattle.komihash.proofs.BytesOfWords.{length-all_bytes}
 use Rattle.komihash.proofs.PaddedBack.{bytes_of-word_of_append, whole_words-all_bytes}
-use Rattle.komihash.proofs.WordsOfBytes.{AreBytes-take, AreBytes-drop, word_of-lt}
+use Rattle.komihash.proofs.BytesInWords.{AreBytes-take, AreBytes-drop, word_of-lt}
 
 -- ---- the parts
 

@@ -4,7 +4,8 @@ use Rattle.komihash.specs.Rounds.{lanes, join}
 use Rattle.komihash.specs.Tails.{final_word, whole_words, block_lanes}
 use Rattle.komihash.specs.Hash.{hash_from_pair}
 use Rattle.komihash.proofs.Blocks.{hash_from_lanes-k_blocks, length-after_blocks}
-use Rattle.komihash.proofs.HashSteps.{length-whole_words, komi-by_lanes}
+use Rattle.komihash.proofs.WholeWords.{length-whole_words}
+use Rattle.komihash.proofs.HashSteps.{komi-by_lanes}
 use Rattle.komihash.proofs.hash.hash_of_blocks.Goals as goal
 
 pub answer_below_eight-requires : goal.answer_below_eight-requires

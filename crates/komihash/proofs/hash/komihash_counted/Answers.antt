@@ -1,7 +1,8 @@
 use Rattle.std.proofs.Common.{◌≡◌, length, ◌∙◌, ap, arith}
 use Rattle.std.proofs.lemmas.Bool.Decides.{nat_tests}
 use Rattle.komihash.specs.Tails.{final_word}
-use Rattle.komihash.proofs.HashSteps.{length-whole_words, komi-by_pair, komi-by_closing, komi-empty}
+use Rattle.komihash.proofs.WholeWords.{length-whole_words}
+use Rattle.komihash.proofs.HashSteps.{komi-by_pair, komi-by_closing, komi-empty}
 use Rattle.komihash.proofs.hash.komihash_counted.Goals as goal
 
 pub answer_below_eight-requires : goal.answer_below_eight-requires

@@ -1,7 +1,7 @@
 use Rattle.std.proofs.Common.{take, ap, ◌∙◌, sym}
 use Rattle.std.proofs.lemmas.Bool.{false≢true}
 use Rattle.komihash.specs.Padding.{ArePadded, padded_words}
-use Rattle.komihash.proofs.WordsOfBytes.{AreBytes-typed, AreBytes-take}
+use Rattle.komihash.proofs.BytesInWords.{AreBytes-typed, AreBytes-take}
 use Rattle.komihash.proofs.padding.unpad.Goals as goal
 
 pub returns-clause-none : goal.returns-clause-none

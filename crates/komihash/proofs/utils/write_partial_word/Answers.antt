@@ -1,7 +1,7 @@
 use Rattle.std.proofs.Common.{◌-◌, ◌∙◌, refl, length, take, drop, set, get_or, arith, ap}
 use Rattle.komihash.specs.Words.{bytes_of}
-use Rattle.komihash.proofs.BytesOfWord.{to_le_bytes-word, two_pieces, one_byte}
-use Rattle.komihash.proofs.PendingBytes.{length-bytes_of}
+use Rattle.komihash.proofs.BytesOfWords.{to_le_bytes-word, one_byte, length-bytes_of}
+use Rattle.komihash.proofs.Lists.{two_pieces}
 use Rattle.komihash.proofs.utils.write_partial_word.Goals as goal
 
 pub returns-then-n-ge4 : goal.returns-then-n-ge4

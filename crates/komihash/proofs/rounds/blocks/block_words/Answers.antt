@@ -1,4 +1,4 @@
-use Rattle.komihash.proofs.HashSteps.{whole_words-block}
+use Rattle.komihash.proofs.WholeWords.{whole_words-block}
 use Rattle.komihash.proofs.rounds.blocks.block_words.Goals as goal
 
 pub returns : goal.returns

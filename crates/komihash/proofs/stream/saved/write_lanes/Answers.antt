@@ -3,8 +3,8 @@ use Rattle.std.proofs.lemmas.List.{length-take-le, length-drop, take_all}
 use Rattle.komihash.specs.Halves.{lanes_in}
 use Rattle.komihash.specs.Saved.{in_order}
 use Rattle.komihash.specs.Words.{all_bytes}
-use Rattle.komihash.proofs.CopiedBytes.{put_mid-between, written}
-use Rattle.komihash.proofs.PendingBytes.{length-all_bytes}
+use Rattle.komihash.proofs.Lists.{put_mid-between, written}
+use Rattle.komihash.proofs.BytesOfWords.{length-all_bytes}
 use Rattle.komihash.proofs.stream.saved.write_lanes.Goals as goal
 
 pub returns : goal.returns

@@ -1,5 +1,5 @@
 use Rattle.std.proofs.Common.{sym}
-use Rattle.komihash.proofs.HashSteps.{length-whole_words}
+use Rattle.komihash.proofs.WholeWords.{length-whole_words}
 use Rattle.komihash.proofs.tails.RefSliceU8Words.count.Goals as goal
 
 pub returns : goal.returns

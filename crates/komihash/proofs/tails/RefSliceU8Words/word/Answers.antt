@@ -1,5 +1,5 @@
 use Rattle.std.proofs.Common.{arith, ◌∙◌, sym}
-use Rattle.komihash.proofs.HashSteps.{length-whole_words, slice_index-whole_words}
+use Rattle.komihash.proofs.WholeWords.{length-whole_words, slice_index-whole_words}
 use Rattle.komihash.proofs.tails.RefSliceU8Words.word.Goals as goal
 
 pub word_at-requires : goal.word_at-requires

@@ -1,9 +1,8 @@
 use Rattle.std.proofs.Common.{◌≡◌, ◌+◌, ◌-◌, ◌*◌, ◌/◌, ◌%◌, length, take, drop, get_or, ap, arith, sym, ◌∙◌}
 use Rattle.std.proofs.lemmas.List.{length-take-le, length-drop, take_all}
 use Rattle.komihash.specs.Words.{bytes_of, all_bytes}
-use Rattle.komihash.proofs.CopiedBytes.{take-put_mid_next, drop-put_mid_next, take-all_bytes}
-use Rattle.komihash.proofs.BytesOfWord.{to_le_bytes-word}
-use Rattle.komihash.proofs.PendingBytes.{length-bytes_of}
+use Rattle.komihash.proofs.Lists.{take-put_mid_next, drop-put_mid_next}
+use Rattle.komihash.proofs.BytesOfWords.{take-all_bytes, to_le_bytes-word, length-bytes_of}
 use Rattle.komihash.proofs.utils.copies.write_bytes.Goals as goal
 
 pub whole-preserved : goal.whole-preserved

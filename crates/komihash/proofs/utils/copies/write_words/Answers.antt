@@ -1,8 +1,8 @@
 use Rattle.std.proofs.Common.{◌≡◌, ◌/◌, ◌<◌, length, take, ap, arith, sym, ◌∙◌}
 use Rattle.std.proofs.lemmas.List.{take_all}
 use Rattle.komihash.specs.Tails.{whole_words}
-use Rattle.komihash.proofs.CopiedBytes.{take-set_next, drop-set_next}
-use Rattle.komihash.proofs.HashSteps.{length-whole_words, slice_index-whole_words}
+use Rattle.komihash.proofs.Lists.{take-set_next, drop-set_next}
+use Rattle.komihash.proofs.WholeWords.{length-whole_words, slice_index-whole_words}
 use Rattle.komihash.proofs.utils.copies.write_words.Goals as goal
 
 pub whole-preserved : goal.whole-preserved

@@ -1,7 +1,7 @@
 use Rattle.std.proofs.Common.{◌-◌, ◌∙◌, ap, arith, length, sym, refl}
 use Rattle.std.specs.Prelude.{slice_index}
 use Rattle.komihash.specs.Padding.{has_top_bit}
-use Rattle.komihash.proofs.PendingSteps.{length-pending}
+use Rattle.komihash.proofs.PendingBytes.{length-pending}
 use Rattle.komihash.proofs.rounds.pending.Pending.absorb.Goals as goal
 
 pub absorb-fill-requires-clause-many : goal.absorb-fill-requires-clause-many

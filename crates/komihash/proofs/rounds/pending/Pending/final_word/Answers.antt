@@ -1,5 +1,5 @@
 use Rattle.std.proofs.Common.{arith}
-use Rattle.komihash.proofs.PendingSteps.{final_word-pending}
+use Rattle.komihash.proofs.PendingBytes.{final_word-pending}
 use Rattle.komihash.proofs.rounds.pending.Pending.final_word.Goals as goal
 
 pub returns : goal.returns

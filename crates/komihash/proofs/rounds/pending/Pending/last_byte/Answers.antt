@@ -1,5 +1,5 @@
 use Rattle.std.proofs.Common.{arith}
-use Rattle.komihash.proofs.PendingSteps.{length-pending, AreBytes-pending, last-pending}
+use Rattle.komihash.proofs.PendingBytes.{length-pending, AreBytes-pending, last-pending}
 use Rattle.komihash.proofs.rounds.pending.Pending.last_byte.Goals as goal
 
 pub overflow_sub-at : goal.overflow_sub-at

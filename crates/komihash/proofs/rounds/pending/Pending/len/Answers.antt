@@ -1,5 +1,5 @@
 use Rattle.std.proofs.Common.{sym}
-use Rattle.komihash.proofs.PendingSteps.{length-pending}
+use Rattle.komihash.proofs.PendingBytes.{length-pending}
 use Rattle.komihash.proofs.rounds.pending.Pending.len.Goals as goal
 
 pub returns-clause-length : goal.returns-clause-length

@@ -1,4 +1,4 @@
-use Rattle.komihash.proofs.PendingSteps.{pending_bytes-none, ArePending-none}
+use Rattle.komihash.proofs.PendingBytes.{pending_bytes-none, ArePending-none}
 use Rattle.komihash.proofs.rounds.pending.Pending.new.Goals as goal
 
 pub invariant_of-result : goal.invariant_of-result

@@ -1,6 +1,6 @@
 use Rattle.std.proofs.Common.{arith, refl}
-use Rattle.komihash.proofs.PendingSteps.{length-pending, ArePending-put, pending_bytes-put}
-use Rattle.komihash.proofs.WordsOfBytes.{AreBytes-typed}
+use Rattle.komihash.proofs.PendingBytes.{length-pending, ArePending-put, pending_bytes-put}
+use Rattle.komihash.proofs.BytesInWords.{AreBytes-typed}
 use Rattle.komihash.proofs.rounds.pending.Pending.put.Goals as goal
 
 pub put-requires-clause-room : goal.put-requires-clause-room

@@ -1,6 +1,6 @@
 use Rattle.std.proofs.Common.{◌∙◌, ap, arith, take}
 use Rattle.komihash.specs.Pending.{pending_bytes}
-use Rattle.komihash.proofs.PendingSteps.{length-pending}
+use Rattle.komihash.proofs.PendingBytes.{length-pending}
 use Rattle.komihash.proofs.rounds.pending.Pending.write_to.Goals as goal
 
 pub write_bytes-requires-clause-room : goal.write_bytes-requires-clause-room

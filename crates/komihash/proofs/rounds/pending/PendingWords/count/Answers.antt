@@ -1,4 +1,4 @@
-use Rattle.komihash.proofs.PendingSteps.{count-pending}
+use Rattle.komihash.proofs.PendingBytes.{count-pending}
 use Rattle.komihash.proofs.rounds.pending.PendingWords.count.Goals as goal
 
 pub returns : goal.returns

@@ -1,4 +1,4 @@
-use Rattle.komihash.proofs.PendingSteps.{word-pending}
+use Rattle.komihash.proofs.PendingBytes.{word-pending}
 use Rattle.komihash.proofs.rounds.pending.PendingWords.word.Goals as goal
 
 pub returns : goal.returns

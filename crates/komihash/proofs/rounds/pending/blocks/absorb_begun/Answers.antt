@@ -5,8 +5,8 @@ use Rattle.komihash.specs.Pending.{pending_bytes}
 use Rattle.komihash.specs.Rounds.{Lanes, block_round}
 use Rattle.komihash.specs.Tails.{whole_words, block_lanes, after_blocks}
 use Rattle.komihash.proofs.PendingBlocks.{begun_lanes, begun_left}
-use Rattle.komihash.proofs.PendingSteps.{pending_bytes-none, ArePending-none, length-pending, block-put}
-use Rattle.komihash.proofs.WordsOfBytes.{AreBytes-typed, AreBytes-take}
+use Rattle.komihash.proofs.PendingBytes.{pending_bytes-none, ArePending-none, length-pending, block-put}
+use Rattle.komihash.proofs.BytesInWords.{AreBytes-typed, AreBytes-take}
 use Rattle.komihash.proofs.rounds.pending.blocks.absorb_begun.Goals as goal
 
 pub returns-then-fill-eq0-clause-lanes : goal.returns-then-fill-eq0-clause-lanes

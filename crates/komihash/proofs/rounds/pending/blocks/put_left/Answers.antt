@@ -1,8 +1,8 @@
 use Rattle.std.proofs.Common.{◌≡◌, [], ◌∙◌, arith, length, sym}
 use Rattle.std.proofs.lemmas.Bool.Decides.{nat_tests}
 use Rattle.std.proofs.lemmas.List.{nil_from_length}
-use Rattle.komihash.proofs.PendingSteps.{pending_bytes-none, ArePending-put, pending_bytes-put}
-use Rattle.komihash.proofs.WordsOfBytes.{AreBytes-typed}
+use Rattle.komihash.proofs.PendingBytes.{pending_bytes-none, ArePending-put, pending_bytes-put}
+use Rattle.komihash.proofs.BytesInWords.{AreBytes-typed}
 use Rattle.komihash.proofs.rounds.pending.blocks.put_left.Goals as goal
 
 pub returns-then-is_empty-clause-pending : goal.returns-then-is_empty-clause-pending

@@ -1,4 +1,4 @@
-use Rattle.komihash.proofs.PendingBytes.{or-pending_words}
+use Rattle.komihash.proofs.PendingWords.{or-pending_words}
 use Rattle.komihash.proofs.rounds.pending.writer.join_word.Goals as goal
 
 pub returns : goal.returns

@@ -1,7 +1,8 @@
 use Rattle.std.proofs.Common.{◌-◌, ℕ, ◌≡◌, ◌≤◌, ◌+◌, ◌*◌, take, drop, length, arith}
 use Rattle.std.proofs.lemmas.List.{length-drop, length-take-le}
-use Rattle.komihash.proofs.PendingPieces.{take-next, Appends-two}
-use Rattle.komihash.proofs.WordsOfBytes.{AreBytes-typed, AreBytes-take, AreBytes-drop}
+use Rattle.komihash.proofs.Lists.{take-next}
+use Rattle.komihash.proofs.PendingWords.{Appends-two}
+use Rattle.komihash.proofs.BytesInWords.{AreBytes-typed, AreBytes-take, AreBytes-drop}
 use Rattle.komihash.proofs.rounds.pending.writer.move_four.Goals as goal
 
 pub returns-clause-words : goal.returns-clause-words

@@ -1,8 +1,8 @@
 use Rattle.std.proofs.Common.{◌≡◌, ◌∙◌, ◌-◌, ◌+◌, ◌*◌, ◌%◌, ◌/◌, ◌^◌, take, drop, arith, ap}
 use Rattle.std.proofs.lemmas.List.{take-append-drop, take_all, length-drop, length-take-le}
 use Rattle.komihash.specs.Words.{word_of}
-use Rattle.komihash.proofs.PendingPieces.{word_of-zero, Appends-two}
-use Rattle.komihash.proofs.WordsOfBytes.{AreBytes-typed, AreBytes-take, word_of-shr}
+use Rattle.komihash.proofs.BytesInWords.{word_of-zero, AreBytes-typed, AreBytes-take, word_of-shr}
+use Rattle.komihash.proofs.PendingWords.{Appends-two}
 use Rattle.komihash.proofs.rounds.pending.writer.put_few.Goals as goal
 
 pub returns-then-over-bytes-gt8 : goal.returns-then-over-bytes-gt8

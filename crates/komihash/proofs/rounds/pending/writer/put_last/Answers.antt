@@ -1,7 +1,7 @@
 use Rattle.std.proofs.Common.{◌≡◌, ◌+◌, ◌-◌, ◌*◌, ◌/◌, ◌^◌, ◌∙◌, length, drop, take, arith, ap}
 use Rattle.std.proofs.lemmas.List.{length-drop}
 use Rattle.komihash.specs.Words.{word_of}
-use Rattle.komihash.proofs.WordsOfBytes.{AreBytes-typed, word_of-last}
+use Rattle.komihash.proofs.BytesInWords.{AreBytes-typed, word_of-last}
 use Rattle.komihash.proofs.rounds.pending.writer.put_last.Goals as goal
 
 pub returns-then-left-gt0 : goal.returns-then-left-gt0

@@ -1,7 +1,8 @@
 use Rattle.std.proofs.Common.{◌≡◌, ◌≤◌, ◌+◌, ◌-◌, ◌*◌, ◌/◌, ◌%◌, take, drop, length, arith}
 use Rattle.std.proofs.lemmas.List.{length-take-le, take-take, take-append-drop}
-use Rattle.komihash.proofs.PendingPieces.{take-to, Appends-two}
-use Rattle.komihash.proofs.WordsOfBytes.{AreBytes-typed, AreBytes-take}
+use Rattle.komihash.proofs.Lists.{take-to}
+use Rattle.komihash.proofs.PendingWords.{Appends-two}
+use Rattle.komihash.proofs.BytesInWords.{AreBytes-typed, AreBytes-take}
 use Rattle.komihash.proofs.rounds.pending.writer.put_many.Goals as goal
 
 pub returns : goal.returns

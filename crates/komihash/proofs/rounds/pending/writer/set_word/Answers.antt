@@ -1,4 +1,4 @@
-use Rattle.komihash.proofs.PendingBytes.{put-pending_words}
+use Rattle.komihash.proofs.PendingWords.{put-pending_words}
 use Rattle.komihash.proofs.rounds.pending.writer.set_word.Goals as goal
 
 pub returns : goal.returns

@@ -2,7 +2,7 @@ use Rattle.std.proofs.Common.{◌∙◌, ap, arith}
 use Rattle.komihash.specs.Halves.{lanes_in, state_in}
 use Rattle.komihash.specs.Stream.{absorb}
 use Rattle.komihash.proofs.EngineSteps.{IsState-absorb, state-few, state-blocks}
-use Rattle.komihash.proofs.WordsOfBytes.{AreBytes-typed}
+use Rattle.komihash.proofs.BytesInWords.{AreBytes-typed}
 use Rattle.komihash.proofs.stream.engine.Engine.absorb.Goals as goal
 
 pub returns-then-bytes-len-clause-state : goal.returns-then-bytes-len-clause-state

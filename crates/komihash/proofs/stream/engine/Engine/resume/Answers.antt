@@ -6,7 +6,7 @@ use Rattle.komihash.specs.Saved.{text, IsLaidOut}
 use Rattle.komihash.specs.Stream.{State, IsState}
 use Rattle.komihash.proofs.SavedStreams.{shows_text}
 use Rattle.komihash.proofs.SavedTexts.{state_of, laid_out, laid_out-text, laid_out-state, IsText-laid_out}
-use Rattle.komihash.proofs.WordsOfBytes.{AreBytes-typed}
+use Rattle.komihash.proofs.BytesInWords.{AreBytes-typed}
 use Rattle.komihash.proofs.stream.engine.Engine.resume.Goals as goal
 
 pub returns-then-not-is_laid_out-clause-none : goal.returns-then-not-is_laid_out-clause-none

@@ -3,7 +3,7 @@ use Rattle.komihash.specs.Halves.{lanes_in, state_in}
 use Rattle.komihash.specs.Saved.{flag_byte, in_order, head, text}
 use Rattle.komihash.specs.Stream.{State}
 use Rattle.komihash.specs.Words.{all_bytes}
-use Rattle.komihash.proofs.PendingBytes.{length-all_bytes}
+use Rattle.komihash.proofs.BytesOfWords.{length-all_bytes}
 use Rattle.komihash.proofs.SavedStreams.{parts_written}
 use Rattle.komihash.proofs.SavedTexts.{length-text}
 use Rattle.komihash.proofs.stream.engine.Engine.save.Goals as goal

@@ -1,10 +1,16 @@
 -- Words of lists of bytes that are cut and joined.
-use Rattle.std.proofs.Common.{◌≡◌, ℕ, zero, suc, ◌+◌, ◌-◌, ◌*◌, ◌/◌, ◌%◌, ◌^◌, ◌<◌, ◌≤◌, List, [], ◌∷◌, ◌++◌, length, get_or, take, drop, ap, arith, subst, ◌∙◌, sym, Fits, w8}
-use Rattle.std.proofs.lemmas.Nat.{pow-add, shr_high, shr-shr, shl_whole, shl-shr, or_shr, or_shifted, or_comm}
-use Rattle.std.proofs.Math.Nat.{mul_assoc}
-use Rattle.std.proofs.lemmas.List.{take-append-drop, length-take-le, length-drop, get_or-drop, drop-drop, drop-append-le, take_all, length-append, append_assoc}
+use Rattle.std.proofs.Common.{◌≡◌, ℕ, zero, suc, ◌+◌, ◌-◌, ◌*◌, ◌/◌, ◌%◌, ◌^◌, ◌<◌, ◌≤◌, List, [], ◌∷◌, ◌++◌, length, take, drop, get_or, refl, ap, arith, ◌∙◌, sym, subst, inl, inr, Fits, w8}
+use Rattle.std.proofs.lemmas.List.{append_assoc, length-append, length-drop, length-take-le, take-append-drop, take_all, get_or-drop, drop-drop, drop-append-le}
+use Rattle.std.proofs.lemmas.Nat.{pow-add, shl_whole, shl_below, mod_low, shr_high, shr-shr, shl-shr, or_shr, or_shifted, or_comm}
+use Rattle.std.proofs.Math.Nat.{add-mul, mul_assoc}
+use Rattle.std.proofs.lemmas.Bool.{cases_lt}
 use Rattle.std.specs.Prelude.{bit_or}
 use Rattle.komihash.specs.Words.{AreBytes, word_of}
+
+pub AreBytes-append : (xs ys : List ℕ) → AreBytes xs → AreBytes ys → AreBytes (xs ++ ys)
+AreBytes-append [] ys h g k = g k
+AreBytes-append (x ∷ xs) ys h g zero = h 0
+AreBytes-append (x ∷ xs) ys h g (suc k) = AreBytes-append xs ys (λ j. h (suc j)) g k
 
 -- what the type of a slice of bytes says
 pub AreBytes-typed : (xs : List ℕ) → ((k : ℕ) → Fits w8 (get_or xs k 0)) → AreBytes xs
@@ -123,3 +129,31 @@ word_of-last_eight r xs b h many few small =
     ∙ ap (λ w. bit_or w (b * 2 ^ 60 % 2 ^ 64 / 2 ^ (60 - 8 * r))) bytes
     ∙ ap (bit_or (word_of ys)) above
     ∙ sym (word_of-or ys (b ∷ []) (AreBytes-drop (length xs - r) xs h))
+
+-- a zero behind adds nothing
+pub word_of-zero : (xs : List ℕ) → word_of (xs ++ 0 ∷ []) ≡ word_of xs
+word_of-zero [] = refl
+word_of-zero (x ∷ xs) = ap (λ w. x + 256 * w) (word_of-zero xs)
+
+-- a shift drops the bytes that do not fit a word
+pub word_of-shl : (xs : List ℕ) (o : ℕ) → AreBytes xs → o ≤ 8 → word_of xs * 2 ^ (8 * o) % 2 ^ 64 ≡ word_of (take (8 - o) xs) * 2 ^ (8 * o)
+word_of-shl xs o h le =
+    elim (cases_lt (8 - o) (length xs)) as (λ _. word_of xs * 2 ^ (8 * o) % 2 ^ 64 ≡ word_of (take (8 - o) xs) * 2 ^ (8 * o)) [
+      | inl lt ↦
+          let j = 8 - o in
+          let low = word_of (take j xs) in
+          let high = word_of (drop j xs) in
+          let front : length (take j xs) ≡ j = length-take-le j xs (omega arith) in
+          let sum : 8 * j + 8 * o ≡ 64 = omega arith in
+          let cut : word_of xs ≡ high * 2 ^ (8 * j) + low =
+          ap word_of (sym (take-append-drop j xs)) ∙ word_of-append (take j xs) (drop j xs) ∙ ap (λ n. high * 2 ^ (8 * n) + low) front in
+          let below : low < 2 ^ (8 * j) = subst (λ n. low < 2 ^ (8 * n)) front (word_of-lt (take j xs) (AreBytes-take j xs h)) in
+          let fits : low * 2 ^ (8 * o) < 2 ^ 64 = subst (λ n. low * 2 ^ (8 * o) < 2 ^ n) sum (shl_below low (8 * j) (8 * o) below) in
+          let power : 2 ^ (8 * j) * 2 ^ (8 * o) ≡ 2 ^ 64 = sym (pow-add 2 (8 * j) (8 * o)) ∙ ap (λ n. 2 ^ n) sum in
+          let apart : word_of xs * 2 ^ (8 * o) ≡ high * 2 ^ 64 + low * 2 ^ (8 * o) =
+          ap (λ w. w * 2 ^ (8 * o)) cut ∙ add-mul (high * 2 ^ (8 * j)) low (2 ^ (8 * o)) ∙ ap (λ x. x + low * 2 ^ (8 * o)) (mul_assoc high (2 ^ (8 * j)) (2 ^ (8 * o)) ∙ ap (λ p. high * p) power) in
+          ap (λ w. w % 2 ^ 64) apart ∙ mod_low high 64 (low * 2 ^ (8 * o)) fits
+      | inr few ↦
+          shl_whole (word_of xs) (8 * length xs) (8 * o) 64 (word_of-lt xs h) (omega arith)
+          ∙ ap (λ z. word_of z * 2 ^ (8 * o)) (sym (take_all (8 - o) xs few))
+    ]

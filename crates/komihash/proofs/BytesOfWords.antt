@@ -1,0 +1,78 @@
+-- The bytes of words: how many, by place, and as the standard library writes them.
+use Rattle.std.proofs.Common.{◌≡◌, ℕ, zero, suc, ◌+◌, ◌-◌, ◌*◌, ◌/◌, ◌%◌, ◌^◌, ◌<◌, ◌≤◌, List, [], ◌∷◌, ◌++◌, length, take, drop, get_or, set, replicate, refl, ap, arith, ◌∙◌, sym, w64}
+use Rattle.std.proofs.lemmas.List.{length-append, take-append-le}
+use Rattle.std.proofs.lemmas.Nat.{pow-add}
+use Rattle.std.proofs.Math.Nat.{div-div-eq-div-mul}
+use Rattle.komihash.specs.Words.{AreBytes, word_of, bytes_of, all_bytes}
+use Rattle.komihash.proofs.BytesInWords.{AreBytes-append}
+use Rattle.std.specs.Int.{bytes_low_first, to_le_bytes}
+
+-- a word's bytes are those that it was made of, and zeros
+pub bytes_of-word_of : (n : ℕ) (xs : List ℕ) → AreBytes xs → length xs ≤ n → bytes_of n (word_of xs) ≡ xs ++ replicate (n - length xs) 0
+unfolding bytes_of
+bytes_of-word_of zero [] h le = refl
+bytes_of-word_of zero (x ∷ xs) h le = absurd (omega arith)
+bytes_of-word_of (suc n) [] h le =
+    let rest : suc n - 0 ≡ suc (n - 0) = omega arith in
+    rw rest (ap (λ bs. 0 ∷ bs) (bytes_of-word_of n [] h (omega arith)))
+bytes_of-word_of (suc n) (x ∷ xs) h le =
+    let low : (x + 256 * word_of xs) % 256 ≡ x = omega (arith, h 0) in
+    let high : (x + 256 * word_of xs) / 256 ≡ word_of xs = omega (arith, h 0) in
+    let rest : suc n - suc (length xs) ≡ n - length xs = omega arith in
+    rw (low, high, rest) (ap (λ bs. x ∷ bs) (bytes_of-word_of n xs (λ k. h (suc k)) (omega arith)))
+
+pub length-bytes_of : (n w : ℕ) → length (bytes_of n w) ≡ n
+unfolding bytes_of
+length-bytes_of zero w = refl
+length-bytes_of (suc n) w = ap suc (length-bytes_of n (w / 256))
+
+pub length-all_bytes : (ws : List ℕ) → length (all_bytes ws) ≡ 8 * length ws
+length-all_bytes [] = refl
+length-all_bytes (w ∷ ws) =
+    omega (arith, length-append (bytes_of 8 w) (all_bytes ws), length-bytes_of 8 w, length-all_bytes ws)
+
+pub AreBytes-bytes_of : (n w : ℕ) → AreBytes (bytes_of n w)
+unfolding bytes_of
+AreBytes-bytes_of zero w k = omega arith
+AreBytes-bytes_of (suc n) w zero = omega arith
+AreBytes-bytes_of (suc n) w (suc k) = AreBytes-bytes_of n (w / 256) k
+
+pub AreBytes-all_bytes : (ws : List ℕ) → AreBytes (all_bytes ws)
+AreBytes-all_bytes [] k = omega arith
+AreBytes-all_bytes (w ∷ ws) k =
+    AreBytes-append (bytes_of 8 w) (all_bytes ws) (AreBytes-bytes_of 8 w) (AreBytes-all_bytes ws) k
+
+pub drop-all_bytes : (ws : List ℕ) (i : ℕ) → i < length ws → drop (8 * i) (all_bytes ws) ≡ bytes_of 8 (get_or ws i 0) ++ drop (8 * suc i) (all_bytes ws)
+unfolding bytes_of
+drop-all_bytes [] i lt = absurd (omega arith)
+drop-all_bytes (w ∷ ws) zero lt = refl
+drop-all_bytes (w ∷ ws) (suc i) lt =
+    let n : 8 * suc i ≡ suc (suc (suc (suc (suc (suc (suc (suc (8 * i)))))))) = omega arith in
+    let m : 8 * suc (suc i) ≡ suc (suc (suc (suc (suc (suc (suc (suc (8 * suc i)))))))) = omega arith in
+    ap (λ n. drop n (all_bytes (w ∷ ws))) n ∙ drop-all_bytes ws i (omega arith) ∙ ap (λ m. bytes_of 8 (get_or ws i 0) ++ drop m (all_bytes (w ∷ ws))) (sym m)
+
+-- the first bytes of the word at a place
+pub take-all_bytes : (ws : List ℕ) (i over : ℕ) → i < length ws → over ≤ 8 → take over (drop (8 * i) (all_bytes ws)) ≡ take over (bytes_of 8 (get_or ws i 0))
+take-all_bytes ws i over lt le =
+    ap (take over) (drop-all_bytes ws i lt)
+    ∙ take-append-le over (bytes_of 8 (get_or ws i 0)) _ (omega (arith, length-bytes_of 8 (get_or ws i 0)))
+
+bytes_from : (i k w : ℕ) → bytes_low_first (suc i) k w ≡ bytes_of k (w / 256 ^ suc i)
+unfolding bytes_of
+bytes_from i zero w = refl
+bytes_from i (suc k) w =
+    let places : suc (suc i) ≡ suc i + 1 = omega arith in
+    let power : 256 ^ suc (suc i) ≡ 256 ^ suc i * 256 = ap (λ n. 256 ^ n) places ∙ pow-add 256 (suc i) 1 in
+    let shifted : w / 256 ^ suc (suc i) ≡ w / 256 ^ suc i / 256 = ap (λ p. w / p) power ∙ sym (div-div-eq-div-mul w (256 ^ suc i) 256) in
+    ap (λ bs. w / 256 ^ suc i % 256 ∷ bs) (bytes_from (suc i) k w ∙ ap (bytes_of k) shifted)
+
+-- a word's bytes, as the standard library writes them
+pub to_le_bytes-word : (w : ℕ) → to_le_bytes w64 w ≡ bytes_of 8 w
+unfolding bytes_of
+to_le_bytes-word w = ap (λ bs. w % 256 ∷ bs) (bytes_from 0 7 w)
+
+pub one_byte : (out : List ℕ) (w : ℕ) → length out ≡ 1 → set out 0 (w % 256) ≡ take (length out) (bytes_of 8 w)
+unfolding bytes_of
+one_byte [] w one = absurd (omega arith)
+one_byte (x ∷ []) w one = refl
+one_byte (x ∷ y ∷ out) w one = absurd (omega arith)

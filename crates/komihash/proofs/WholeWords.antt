@@ -1,0 +1,75 @@
+-- The whole words of bytes, and the bytes behind them.
+use Rattle.std.proofs.Common.{◌≤◌, take, drop, ◌≡◌, ℕ, suc, ◌-◌, ◌%◌, ◌<◌, List, [], ◌∷◌, ◌++◌, length, refl, ap, arith, ◌∙◌, sym, zero, ◌+◌, ◌*◌, ◌/◌}
+use Rattle.komihash.specs.Words.{word_of, words_of}
+use Rattle.komihash.specs.Tails.{whole_words, after_words}
+use Rattle.std.proofs.lemmas.List.{length-drop, drop-drop}
+use Rattle.std.specs.Prelude.{slice_index}
+
+-- the next whole word
+pub whole_words-more : (xs : List ℕ) → 8 ≤ length xs → whole_words xs ≡ word_of (take 8 xs) ∷ whole_words (drop 8 xs)
+whole_words-more (a ∷ b ∷ c ∷ d ∷ e ∷ f ∷ g ∷ h ∷ bs) le = refl
+whole_words-more xs le = absurd (omega arith)
+
+pub whole_words-few : (xs : List ℕ) → length xs < 8 → whole_words xs ≡ []
+whole_words-few (a ∷ b ∷ c ∷ d ∷ e ∷ f ∷ g ∷ h ∷ bs) le = absurd (omega arith)
+whole_words-few xs le = refl
+
+pub after_words-few : (xs : List ℕ) → length xs < 8 → after_words xs ≡ xs
+after_words-few (a ∷ b ∷ c ∷ d ∷ e ∷ f ∷ g ∷ h ∷ bs) le = absurd (omega arith)
+after_words-few xs le = refl
+
+-- the bytes behind the last whole word, by place
+pub after_words-drop : (xs : List ℕ) → after_words xs ≡ drop (length xs - length xs % 8) xs
+after_words-drop (a ∷ b ∷ c ∷ d ∷ e ∷ f ∷ g ∷ h ∷ bs) =
+    let n : suc (suc (suc (suc (suc (suc (suc (suc (length bs)))))))) - suc (suc (suc (suc (suc (suc (suc (suc (length bs)))))))) % 8 ≡ suc (suc (suc (suc (suc (suc (suc (suc (length bs - length bs % 8)))))))) = omega arith in
+    after_words-drop bs ∙ ap (λ k. drop k (a ∷ b ∷ c ∷ d ∷ e ∷ f ∷ g ∷ h ∷ bs)) (sym n)
+after_words-drop xs = refl
+
+pub length-after_words : (xs : List ℕ) → length (after_words xs) ≡ length xs % 8
+length-after_words xs = ap length (after_words-drop xs) ∙ omega (arith, length-drop (length xs - length xs % 8) xs)
+
+pub after_words-append : (xs ys : List ℕ) (k : ℕ) → length xs ≡ 8 * k → after_words (xs ++ ys) ≡ after_words ys
+after_words-append [] ys k e = refl
+after_words-append (a ∷ b ∷ c ∷ d ∷ e ∷ f ∷ g ∷ h ∷ xs) ys k is = after_words-append xs ys (k - 1) (omega arith)
+after_words-append xs ys k is = absurd (omega arith)
+
+-- a cut between two words
+pub whole_words-append : (xs ys : List ℕ) (k : ℕ) → length xs ≡ 8 * k → whole_words (xs ++ ys) ≡ whole_words xs ++ whole_words ys
+whole_words-append [] ys k e = refl
+whole_words-append (a ∷ b ∷ c ∷ d ∷ e ∷ f ∷ g ∷ h ∷ xs) ys k is =
+    ap (λ ws. word_of (a ∷ b ∷ c ∷ d ∷ e ∷ f ∷ g ∷ h ∷ []) ∷ ws) (whole_words-append xs ys (k - 1) (omega arith))
+whole_words-append xs ys k is = absurd (omega arith)
+
+pub length-whole_words : (xs : List ℕ) → length (whole_words xs) ≡ length xs / 8
+length-whole_words (a ∷ b ∷ c ∷ d ∷ e ∷ f ∷ g ∷ h ∷ xs) = omega (arith, length-whole_words xs)
+length-whole_words xs = refl
+
+-- n words from a place on
+abbrev words_from : ℕ → ℕ → List ℕ → List ℕ
+words_from zero at xs = []
+words_from (suc n) at xs = word_of (take 8 (drop at xs)) ∷ words_from n (at + 8) xs
+
+whole_words-from : (n at : ℕ) (xs : List ℕ) → length xs ≡ at + 8 * n → whole_words (drop at xs) ≡ words_from n at xs
+whole_words-from zero at xs e = whole_words-few (drop at xs) (omega (arith, length-drop at xs))
+whole_words-from (suc n) at xs e =
+    whole_words-more (drop at xs) (omega (arith, length-drop at xs))
+    ∙ ap (λ ws. word_of (take 8 (drop at xs)) ∷ ws) (ap whole_words (drop-drop 8 at xs) ∙ whole_words-from n (at + 8) xs (omega arith))
+
+-- the eight words of a block
+pub whole_words-block : (xs : List ℕ) → length xs ≡ 64 → whole_words xs ≡ words_from 8 0 xs
+whole_words-block xs e = whole_words-from 8 0 xs e
+
+-- the word at a place
+pub slice_index-whole_words : (xs : List ℕ) (at : ℕ) → at < length (whole_words xs) → slice_index (whole_words xs) at ≡ word_of (take 8 (drop (8 * at) xs))
+slice_index-whole_words (a ∷ b ∷ c ∷ d ∷ e ∷ f ∷ g ∷ h ∷ xs) zero lt = refl
+slice_index-whole_words (a ∷ b ∷ c ∷ d ∷ e ∷ f ∷ g ∷ h ∷ xs) (suc at) lt =
+    slice_index-whole_words xs at (omega arith)
+    ∙ let n : 8 * suc at ≡ suc (suc (suc (suc (suc (suc (suc (suc (8 * at)))))))) = omega arith in ap (λ n. word_of (take 8 (drop n (a ∷ b ∷ c ∷ d ∷ e ∷ f ∷ g ∷ h ∷ xs)))) (sym n)
+slice_index-whole_words xs at lt = absurd (omega arith)
+
+-- whole words have no rest
+pub words_of-whole : (xs : List ℕ) (k : ℕ) → length xs ≡ 8 * k → words_of xs ≡ whole_words xs
+words_of-whole [] k e = refl
+words_of-whole (a ∷ b ∷ c ∷ d ∷ e ∷ f ∷ g ∷ h ∷ xs) k is =
+    ap (λ ws. word_of (a ∷ b ∷ c ∷ d ∷ e ∷ f ∷ g ∷ h ∷ []) ∷ ws) (words_of-whole xs (k - 1) (omega arith))
+words_of-whole xs k is = absurd (omega arith)
