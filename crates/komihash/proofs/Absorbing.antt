@@ -38,7 +38,7 @@ absorb-few v s (b ∷ bytes) few =
     ∙ ap (λ p. record s { pending = p }) (append_assoc s.pending (b ∷ []) bytes)
 
 -- bytes that fill one block exactly
-pub absorb-full : (v : ℕ) (s : State) (b : ℕ) (bytes : List ℕ) → length s.pending + suc (length bytes) ≡ 64 → absorb v s (b ∷ bytes) ≡ record { lanes = block_round v s.lanes (whole_words (s.pending ++ b ∷ bytes)); pending = []; absorbed = true; top_bit = has_top_bit v (slice_index (b ∷ bytes) (length bytes)) }
+absorb-full : (v : ℕ) (s : State) (b : ℕ) (bytes : List ℕ) → length s.pending + suc (length bytes) ≡ 64 → absorb v s (b ∷ bytes) ≡ record { lanes = block_round v s.lanes (whole_words (s.pending ++ b ∷ bytes)); pending = []; absorbed = true; top_bit = has_top_bit v (slice_index (b ∷ bytes) (length bytes)) }
 unfolding absorb
 absorb-full v s b [] full = absorb_byte-full v s b (omega arith)
 absorb-full v s b (c ∷ bytes) full =

@@ -8,7 +8,8 @@ use Rattle.komihash.proofs.BytesInWords.{AreBytes-append}
 use Rattle.std.specs.Int.{bytes_low_first, to_le_bytes}
 
 -- a word's bytes are those that it was made of, and zeros
-pub bytes_of-word_of : (n : ℕ) (xs : List ℕ) → AreBytes xs → length xs ≤ n → bytes_of n (word_of xs) ≡ xs ++ replicate (n - length xs) 0
+pub bytes_of-word_of : (n : ℕ) (xs : List ℕ) → AreBytes xs → length xs ≤ n
+    → bytes_of n (word_of xs) ≡ xs ++ replicate (n - length xs) 0
 unfolding bytes_of
 bytes_of-word_of zero [] h le = refl
 bytes_of-word_of zero (x ∷ xs) h le = absurd (omega arith)
@@ -31,7 +32,7 @@ length-all_bytes [] = refl
 length-all_bytes (w ∷ ws) =
     omega (arith, length-append (bytes_of 8 w) (all_bytes ws), length-bytes_of 8 w, length-all_bytes ws)
 
-pub AreBytes-bytes_of : (n w : ℕ) → AreBytes (bytes_of n w)
+AreBytes-bytes_of : (n w : ℕ) → AreBytes (bytes_of n w)
 unfolding bytes_of
 AreBytes-bytes_of zero w k = omega arith
 AreBytes-bytes_of (suc n) w zero = omega arith
@@ -42,17 +43,20 @@ AreBytes-all_bytes [] k = omega arith
 AreBytes-all_bytes (w ∷ ws) k =
     AreBytes-append (bytes_of 8 w) (all_bytes ws) (AreBytes-bytes_of 8 w) (AreBytes-all_bytes ws) k
 
-pub drop-all_bytes : (ws : List ℕ) (i : ℕ) → i < length ws → drop (8 * i) (all_bytes ws) ≡ bytes_of 8 (get_or ws i 0) ++ drop (8 * suc i) (all_bytes ws)
+pub drop-all_bytes : (ws : List ℕ) (i : ℕ) → i < length ws
+    → drop (8 * i) (all_bytes ws) ≡ bytes_of 8 (get_or ws i 0) ++ drop (8 * suc i) (all_bytes ws)
 unfolding bytes_of
 drop-all_bytes [] i lt = absurd (omega arith)
 drop-all_bytes (w ∷ ws) zero lt = refl
 drop-all_bytes (w ∷ ws) (suc i) lt =
     let n : 8 * suc i ≡ suc (suc (suc (suc (suc (suc (suc (suc (8 * i)))))))) = omega arith in
     let m : 8 * suc (suc i) ≡ suc (suc (suc (suc (suc (suc (suc (suc (8 * suc i)))))))) = omega arith in
-    ap (λ n. drop n (all_bytes (w ∷ ws))) n ∙ drop-all_bytes ws i (omega arith) ∙ ap (λ m. bytes_of 8 (get_or ws i 0) ++ drop m (all_bytes (w ∷ ws))) (sym m)
+    ap (λ n. drop n (all_bytes (w ∷ ws))) n ∙ drop-all_bytes ws i (omega arith)
+    ∙ ap (λ m. bytes_of 8 (get_or ws i 0) ++ drop m (all_bytes (w ∷ ws))) (sym m)
 
 -- the first bytes of the word at a place
-pub take-all_bytes : (ws : List ℕ) (i over : ℕ) → i < length ws → over ≤ 8 → take over (drop (8 * i) (all_bytes ws)) ≡ take over (bytes_of 8 (get_or ws i 0))
+pub take-all_bytes : (ws : List ℕ) (i over : ℕ) → i < length ws → over ≤ 8
+    → take over (drop (8 * i) (all_bytes ws)) ≡ take over (bytes_of 8 (get_or ws i 0))
 take-all_bytes ws i over lt le =
     ap (take over) (drop-all_bytes ws i lt)
     ∙ take-append-le over (bytes_of 8 (get_or ws i 0)) _ (omega (arith, length-bytes_of 8 (get_or ws i 0)))
@@ -63,7 +67,8 @@ bytes_from i zero w = refl
 bytes_from i (suc k) w =
     let places : suc (suc i) ≡ suc i + 1 = omega arith in
     let power : 256 ^ suc (suc i) ≡ 256 ^ suc i * 256 = ap (λ n. 256 ^ n) places ∙ pow-add 256 (suc i) 1 in
-    let shifted : w / 256 ^ suc (suc i) ≡ w / 256 ^ suc i / 256 = ap (λ p. w / p) power ∙ sym (div-div-eq-div-mul w (256 ^ suc i) 256) in
+    let shifted : w / 256 ^ suc (suc i) ≡ w / 256 ^ suc i / 256 = ap (λ p. w / p) power
+    ∙ sym (div-div-eq-div-mul w (256 ^ suc i) 256) in
     ap (λ bs. w / 256 ^ suc i % 256 ∷ bs) (bytes_from (suc i) k w ∙ ap (bytes_of k) shifted)
 
 -- a word's bytes, as the standard library writes them

@@ -10,7 +10,7 @@ use Rattle.komihash.proofs.WholeWords.{whole_words-few, whole_words-append, leng
 
 -- ---- rounds
 
-pub hash_from_pair-round : (s : ℕ × ℕ) (w0 w1 : ℕ) (ws : List ℕ) (last : ℕ) → hash_from_pair s (w0 ∷ w1 ∷ (ws ++ last ∷ [])) ≡ hash_from_pair (pair_round s w0 w1) (ws ++ last ∷ [])
+hash_from_pair-round : (s : ℕ × ℕ) (w0 w1 : ℕ) (ws : List ℕ) (last : ℕ) → hash_from_pair s (w0 ∷ w1 ∷ (ws ++ last ∷ [])) ≡ hash_from_pair (pair_round s w0 w1) (ws ++ last ∷ [])
 hash_from_pair-round s w0 w1 [] last = refl
 hash_from_pair-round s w0 w1 (w ∷ ws) last = refl
 

@@ -7,7 +7,10 @@ use Rattle.komihash.specs.Halves.{pair_in, lanes_in}
 use Rattle.komihash.proofs.Xor.{xor_back, xor_middle, xor_turn}
 
 -- the lanes of a pair
-pub lanes_in-lanes : (low e : ℕ) → lanes_in (bit_xor (constant 8) low ∷ e ∷ bit_xor (constant 2) low ∷ bit_xor (constant 6) e ∷ bit_xor (bit_xor (constant 3) (constant 6)) low ∷ bit_xor (constant 7) e ∷ bit_xor (bit_xor (constant 4) (constant 7)) low ∷ bit_xor (constant 8) e ∷ []) ≡ lanes (pair_in (low, e))
+pub lanes_in-lanes : (low e : ℕ)
+    → lanes_in (bit_xor (constant 8) low ∷ e ∷ bit_xor (constant 2) low ∷ bit_xor (constant 6) e ∷ bit_xor
+    (bit_xor (constant 3) (constant 6)) low ∷ bit_xor (constant 7) e ∷ bit_xor
+    (bit_xor (constant 4) (constant 7)) low ∷ bit_xor (constant 8) e ∷ []) ≡ lanes (pair_in (low, e))
 lanes_in-lanes low e =
     let c = constant in
     let p1 : bit_xor (bit_xor (c 8) e) (bit_xor (c 8) low) ≡ bit_xor e low = xor_middle (c 8) e (c 8) low in
@@ -20,7 +23,9 @@ lanes_in-lanes low e =
     cc
 
 -- all lanes joined: the low halves, and the words that they belong to
-pub pair_in-join : (l1 e1 l2 e2 l3 e3 l4 e4 : ℕ) → bit_xor (bit_xor (bit_xor (bit_xor e1 e2) e3) e4) (bit_xor (bit_xor (bit_xor l1 l2) l3) l4) ≡ bit_xor (bit_xor (bit_xor (bit_xor e4 l1) (bit_xor e1 l2)) (bit_xor e2 l3)) (bit_xor e3 l4)
+pub pair_in-join : (l1 e1 l2 e2 l3 e3 l4 e4 : ℕ)
+    → bit_xor (bit_xor (bit_xor (bit_xor e1 e2) e3) e4) (bit_xor (bit_xor (bit_xor l1 l2) l3) l4)
+    ≡ bit_xor (bit_xor (bit_xor (bit_xor e4 l1) (bit_xor e1 l2)) (bit_xor e2 l3)) (bit_xor e3 l4)
 pair_in-join l1 e1 l2 e2 l3 e3 l4 e4 =
     sym (ap (λ x. bit_xor (bit_xor x (bit_xor e2 l3)) (bit_xor e3 l4)) (xor_middle e4 l1 e1 l2)
     ∙ ap (λ x. bit_xor x (bit_xor e3 l4)) (xor_middle (bit_xor e4 e1) (bit_xor l1 l2) e2 l3)

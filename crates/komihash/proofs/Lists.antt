@@ -12,7 +12,8 @@ take-more m n xs =
     ∙ take-append-drop m (take (m + n) xs)
 
 -- the bytes from a place on, in two pieces
-pub take-next : (m n from : ℕ) (xs : List ℕ) → take m (drop from xs) ++ take n (drop (from + m) xs) ≡ take (m + n) (drop from xs)
+pub take-next : (m n from : ℕ) (xs : List ℕ)
+    → take m (drop from xs) ++ take n (drop (from + m) xs) ≡ take (m + n) (drop from xs)
 take-next m n from xs =
     ap (λ ys. take m (drop from xs) ++ take n ys) (sym (drop-drop m from xs)) ∙ take-more m n (drop from xs)
 
@@ -21,16 +22,20 @@ pub take-to : (a b : ℕ) (xs : List ℕ) → a ≤ b → take a xs ++ take (b -
 take-to a b xs le = let n : a + (b - a) ≡ b = omega arith in take-more a (b - a) xs ∙ ap (λ k. take k xs) n
 
 -- an item written behind those before
-pub take-set_next : (xs ws : List ℕ) (i w : ℕ) → i < length xs → i < length ws → take i xs ≡ take i ws → w ≡ get_or ws i 0 → take (i + 1) (set xs i w) ≡ take (i + 1) ws
+pub take-set_next : (xs ws : List ℕ) (i w : ℕ) → i < length xs → i < length ws → take i xs ≡ take i ws
+    → w ≡ get_or ws i 0 → take (i + 1) (set xs i w) ≡ take (i + 1) ws
 take-set_next xs ws i w within some before is =
     let n : i + 1 ≡ suc i = omega arith in
-    rw n (take-suc-set xs i w within ∙ ap (λ ys. ys ++ w ∷ []) before ∙ ap (λ x. take i ws ++ x ∷ []) is ∙ sym (take-suc ws i 0 some))
+    rw n (take-suc-set xs i w within ∙ ap (λ ys. ys ++ w ∷ []) before ∙ ap (λ x. take i ws ++ x ∷ []) is
+    ∙ sym (take-suc ws i 0 some))
 
-pub drop-set_next : (xs old : List ℕ) (i w : ℕ) → drop i xs ≡ drop i old → drop (i + 1) (set xs i w) ≡ drop (i + 1) old
+pub drop-set_next : (xs old : List ℕ) (i w : ℕ) → drop i xs ≡ drop i old
+    → drop (i + 1) (set xs i w) ≡ drop (i + 1) old
 drop-set_next xs old i w e =
     drop-set-lt (i + 1) xs i w (omega arith) ∙ sym (drop-drop 1 i xs) ∙ ap (drop 1) e ∙ drop-drop 1 i old
 
-module _ (xs ys all old : List ℕ) (a k n : ℕ) (within : a + k ≤ length xs) (size : length ys ≡ k) (sum : a + k ≡ n) where
+module _ (xs ys all old : List ℕ) (a k n : ℕ) (within : a + k ≤ length xs) (size : length ys ≡ k)
+    (sum : a + k ≡ n) where
   -- a range written behind those before
   pub take-put_mid_next : take a xs ≡ take a all → ys ≡ take k (drop a all) → take n (put_mid a k xs ys) ≡ take n all
   take-put_mid_next before is =
@@ -40,22 +45,27 @@ module _ (xs ys all old : List ℕ) (a k n : ℕ) (within : a + k ≤ length xs)
   pub drop-put_mid_next : drop a xs ≡ drop a old → drop n (put_mid a k xs ys) ≡ drop n old
   drop-put_mid_next e =
       drop-put_mid a k xs ys n (omega arith) (omega arith) size
-      ∙ ap (λ n. drop n xs) (sym sum) ∙ sym (drop-drop k a xs) ∙ ap (drop k) e ∙ drop-drop k a old ∙ ap (λ n. drop n old) sum
+      ∙ ap (λ n. drop n xs) (sym sum) ∙ sym (drop-drop k a xs) ∙ ap (drop k) e ∙ drop-drop k a old
+      ∙ ap (λ n. drop n old) sum
 
 -- two pieces of k bytes that may overlap
-pub two_pieces : (k n : ℕ) (bs out zs ys : List ℕ) → length out ≡ n → k ≤ n → n ≤ k + k → n ≤ length bs → zs ≡ take k bs → ys ≡ take (n - (n - k)) (drop (n - k) bs) → put_mid (n - k) (length (zs ++ drop k out) - (n - k)) (zs ++ drop k out) ys ≡ take n bs
+pub two_pieces : (k n : ℕ) (bs out zs ys : List ℕ) → length out ≡ n → k ≤ n → n ≤ k + k → n ≤ length bs
+    → zs ≡ take k bs → ys ≡ take (n - (n - k)) (drop (n - k) bs)
+    → put_mid (n - k) (length (zs ++ drop k out) - (n - k)) (zs ++ drop k out) ys ≡ take n bs
 two_pieces k n bs out zs ys len le most fits first second =
     let xs = take k bs ++ drop k out in
     let j = length xs - (n - k) in
     let front = length-take-le k bs (omega arith) in
     let all : length xs ≡ n = omega (arith, length-append (take k bs) (drop k out), front, length-drop k out) in
-    let size : length ys ≡ k = ap length second ∙ length-take-le (n - (n - k)) (drop (n - k) bs) (omega (arith, length-drop (n - k) bs)) ∙ omega arith in
+    let size : length ys ≡ k = ap length second
+    ∙ length-take-le (n - (n - k)) (drop (n - k) bs) (omega (arith, length-drop (n - k) bs)) ∙ omega arith in
     let last : n ≡ n - k + length ys = omega arith in
     let long : length (put_mid (n - k) j xs ys) ≤ n - k + length ys = search (rules, overwrites) in
     rw first (
     sym (take_all n (put_mid (n - k) j xs ys) (omega arith))
     ∙ take-put_mid (n - k) j xs ys n last (omega arith)
-    ∙ ap (λ bytes. bytes ++ ys) (take-append-le (n - k) (take k bs) (drop k out) (omega arith) ∙ take-take (n - k) k bs (omega arith))
+    ∙ ap (λ bytes. bytes ++ ys)
+    (take-append-le (n - k) (take k bs) (drop k out) (omega arith) ∙ take-take (n - k) k bs (omega arith))
     ∙ ap (λ bytes. take (n - k) bs ++ bytes) second
     ∙ take-to (n - k) n bs (omega arith))
 

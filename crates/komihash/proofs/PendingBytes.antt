@@ -21,7 +21,8 @@ ArePending-none = record { few = omega arith; words = refl }
 module _ (ws : List ℕ) (fill : ℕ) (are : ArePending ws fill) (xs : List ℕ) (shows : pending_bytes ws fill ≡ xs) where
   pub length-pending : length xs ≡ fill
   length-pending =
-      sym (ap length shows) ∙ length-pending_bytes ws fill (ap length are.words ∙ length-pending_words 8 (pending_bytes ws fill)) (omega (arith, are.few))
+      sym (ap length shows) ∙ length-pending_bytes ws fill (ap length are.words ∙ length-pending_words 8
+      (pending_bytes ws fill)) (omega (arith, are.few))
 
   pub AreBytes-pending : AreBytes xs
   AreBytes-pending = subst AreBytes shows (AreBytes-pending_bytes ws fill)
@@ -40,7 +41,8 @@ module _ (ws : List ℕ) (fill : ℕ) (are : ArePending ws fill) (xs : List ℕ)
     pub pending_bytes-put : (n : ℕ) → n ≡ fill + length bytes → n < 64 → pending_bytes new n ≡ xs ++ bytes
     pending_bytes-put n sum few =
         ap (λ w. pending_bytes w n) padded_words-put
-        ∙ pending_bytes-pending_words (xs ++ bytes) n (AreBytes-append xs bytes AreBytes-pending are_bytes) (length-put ∙ sym sum) (omega arith)
+        ∙ pending_bytes-pending_words (xs ++ bytes) n (AreBytes-append xs bytes AreBytes-pending are_bytes)
+        (length-put ∙ sym sum) (omega arith)
 
     pub ArePending-put : (n : ℕ) → n ≡ fill + length bytes → n < 64 → ArePending new n
     ArePending-put n sum few =
@@ -61,16 +63,19 @@ module _ (ws : List ℕ) (fill : ℕ) (are : ArePending ws fill) (xs : List ℕ)
 
   pub word-pending : (at : ℕ) → at < length (whole_words xs) → get_or ws at 0 ≡ get_or (whole_words xs) at 0
   word-pending at lt =
-      sym (get_or-take (fill / 8) ws at 0 (omega (arith, count-pending))) ∙ ap (λ us. get_or us at 0) whole_words-pending
+      sym (get_or-take (fill / 8) ws at 0 (omega (arith, count-pending)))
+      ∙ ap (λ us. get_or us at 0) whole_words-pending
 
   -- the begun word, with a byte behind it
-  pub final_word-pending : (end : ℕ) → end < 256 → bit_or (get_or ws (fill / 8) 0) (end * 2 ^ (8 * (fill % 8)) % 2 ^ 64) ≡ final_word xs end
+  pub final_word-pending : (end : ℕ) → end < 256
+      → bit_or (get_or ws (fill / 8) 0) (end * 2 ^ (8 * (fill % 8)) % 2 ^ 64) ≡ final_word xs end
   final_word-pending end small =
       ap (λ w. bit_or (get_or w (fill / 8) 0) (end * 2 ^ (8 * (fill % 8)) % 2 ^ 64)) padded_words-pending
       ∙ final_word-pending_words xs fill end AreBytes-pending length-pending are.few small
 
   -- the last of them, which nothing stands above
-  pub last-pending : 0 < fill → get_or ws ((fill - 1) / 8) 0 / 2 ^ (8 * ((fill - 1) % 8)) ≡ get_or xs (length xs - 1) 0
+  pub last-pending : 0 < fill → get_or ws ((fill - 1) / 8) 0 / 2 ^ (8 * ((fill - 1) % 8))
+      ≡ get_or xs (length xs - 1) 0
   last-pending some =
       let size = length-pending in
       ap (λ w. get_or w ((fill - 1) / 8) 0 / 2 ^ (8 * ((fill - 1) % 8))) padded_words-pending

@@ -21,7 +21,9 @@ after_words-few xs le = refl
 -- the bytes behind the last whole word, by place
 pub after_words-drop : (xs : List ℕ) → after_words xs ≡ drop (length xs - length xs % 8) xs
 after_words-drop (a ∷ b ∷ c ∷ d ∷ e ∷ f ∷ g ∷ h ∷ bs) =
-    let n : suc (suc (suc (suc (suc (suc (suc (suc (length bs)))))))) - suc (suc (suc (suc (suc (suc (suc (suc (length bs)))))))) % 8 ≡ suc (suc (suc (suc (suc (suc (suc (suc (length bs - length bs % 8)))))))) = omega arith in
+    let n : suc (suc (suc (suc (suc (suc (suc (suc (length bs)))))))) - suc
+    (suc (suc (suc (suc (suc (suc (suc (length bs)))))))) % 8
+    ≡ suc (suc (suc (suc (suc (suc (suc (suc (length bs - length bs % 8)))))))) = omega arith in
     after_words-drop bs ∙ ap (λ k. drop k (a ∷ b ∷ c ∷ d ∷ e ∷ f ∷ g ∷ h ∷ bs)) (sym n)
 after_words-drop xs = refl
 
@@ -34,7 +36,8 @@ after_words-append (a ∷ b ∷ c ∷ d ∷ e ∷ f ∷ g ∷ h ∷ xs) ys k is 
 after_words-append xs ys k is = absurd (omega arith)
 
 -- a cut between two words
-pub whole_words-append : (xs ys : List ℕ) (k : ℕ) → length xs ≡ 8 * k → whole_words (xs ++ ys) ≡ whole_words xs ++ whole_words ys
+pub whole_words-append : (xs ys : List ℕ) (k : ℕ) → length xs ≡ 8 * k
+    → whole_words (xs ++ ys) ≡ whole_words xs ++ whole_words ys
 whole_words-append [] ys k e = refl
 whole_words-append (a ∷ b ∷ c ∷ d ∷ e ∷ f ∷ g ∷ h ∷ xs) ys k is =
     ap (λ ws. word_of (a ∷ b ∷ c ∷ d ∷ e ∷ f ∷ g ∷ h ∷ []) ∷ ws) (whole_words-append xs ys (k - 1) (omega arith))
@@ -53,18 +56,21 @@ whole_words-from : (n at : ℕ) (xs : List ℕ) → length xs ≡ at + 8 * n →
 whole_words-from zero at xs e = whole_words-few (drop at xs) (omega (arith, length-drop at xs))
 whole_words-from (suc n) at xs e =
     whole_words-more (drop at xs) (omega (arith, length-drop at xs))
-    ∙ ap (λ ws. word_of (take 8 (drop at xs)) ∷ ws) (ap whole_words (drop-drop 8 at xs) ∙ whole_words-from n (at + 8) xs (omega arith))
+    ∙ ap (λ ws. word_of (take 8 (drop at xs)) ∷ ws)
+    (ap whole_words (drop-drop 8 at xs) ∙ whole_words-from n (at + 8) xs (omega arith))
 
 -- the eight words of a block
 pub whole_words-block : (xs : List ℕ) → length xs ≡ 64 → whole_words xs ≡ words_from 8 0 xs
 whole_words-block xs e = whole_words-from 8 0 xs e
 
 -- the word at a place
-pub slice_index-whole_words : (xs : List ℕ) (at : ℕ) → at < length (whole_words xs) → slice_index (whole_words xs) at ≡ word_of (take 8 (drop (8 * at) xs))
+pub slice_index-whole_words : (xs : List ℕ) (at : ℕ) → at < length (whole_words xs)
+    → slice_index (whole_words xs) at ≡ word_of (take 8 (drop (8 * at) xs))
 slice_index-whole_words (a ∷ b ∷ c ∷ d ∷ e ∷ f ∷ g ∷ h ∷ xs) zero lt = refl
 slice_index-whole_words (a ∷ b ∷ c ∷ d ∷ e ∷ f ∷ g ∷ h ∷ xs) (suc at) lt =
     slice_index-whole_words xs at (omega arith)
-    ∙ let n : 8 * suc at ≡ suc (suc (suc (suc (suc (suc (suc (suc (8 * at)))))))) = omega arith in ap (λ n. word_of (take 8 (drop n (a ∷ b ∷ c ∷ d ∷ e ∷ f ∷ g ∷ h ∷ xs)))) (sym n)
+    ∙ let n : 8 * suc at ≡ suc (suc (suc (suc (suc (suc (suc (suc (8 * at)))))))) =
+    omega arith in ap (λ n. word_of (take 8 (drop n (a ∷ b ∷ c ∷ d ∷ e ∷ f ∷ g ∷ h ∷ xs)))) (sym n)
 slice_index-whole_words xs at lt = absurd (omega arith)
 
 -- whole words have no rest

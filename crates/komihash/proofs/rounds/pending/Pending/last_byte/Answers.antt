@@ -10,7 +10,8 @@ overflow_sub-at c =
 pub overflow_cast-result : goal.overflow_cast-result
 overflow_cast-result c =
     let size = length-pending _ _ c.self.invariant c.args.self.now c.self.view_is in
-    rw (last-pending _ _ c.self.invariant c.args.self.now c.self.view_is (omega arith)) record { fits = AreBytes-pending _ _ c.self.invariant c.args.self.now c.self.view_is _ }
+    rw (last-pending _ _ c.self.invariant c.args.self.now c.self.view_is (omega arith)) record
+    { fits = AreBytes-pending _ _ c.self.invariant c.args.self.now c.self.view_is _ }
 
 pub returns : goal.returns
 returns c =

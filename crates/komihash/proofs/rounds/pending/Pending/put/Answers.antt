@@ -11,9 +11,11 @@ put-requires-clause-room c =
 pub invariant_of-self : goal.invariant_of-self
 invariant_of-self c =
     let size = length-pending _ _ c.self.invariant c.args.self.now c.self.view_is in
-    ArePending-put _ _ c.self.invariant c.args.self.now c.self.view_is _ _ (AreBytes-typed _ c.type_inv.bytes) c.put.ensures.words _ refl (omega arith)
+    ArePending-put _ _ c.self.invariant c.args.self.now c.self.view_is _ _
+    (AreBytes-typed _ c.type_inv.bytes) c.put.ensures.words _ refl (omega arith)
 
 pub returns-clause-bytes : goal.returns-clause-bytes
 returns-clause-bytes c =
     let size = length-pending _ _ c.self.invariant c.args.self.now c.self.view_is in
-    pending_bytes-put _ _ c.self.invariant c.args.self.now c.self.view_is _ _ (AreBytes-typed _ c.type_inv.bytes) c.put.ensures.words _ refl (omega arith)
+    pending_bytes-put _ _ c.self.invariant c.args.self.now c.self.view_is _ _
+    (AreBytes-typed _ c.type_inv.bytes) c.put.ensures.words _ refl (omega arith)

@@ -15,4 +15,5 @@ returns-clause-bytes c =
     ap (λ n. take n c.write_bytes.new.out) size ∙ c.write_bytes.ensures.bytes ∙ c.self.view_is
 
 pub returns-clause-rest : goal.returns-clause-rest
-returns-clause-rest c = rw (length-pending _ _ c.self.invariant c.args.self.now c.self.view_is) c.write_bytes.ensures.rest
+returns-clause-rest c =
+    rw (length-pending _ _ c.self.invariant c.args.self.now c.self.view_is) c.write_bytes.ensures.rest

@@ -17,8 +17,12 @@ returns-then-is_empty-clause-bytes c =
 
 pub returns-clause-pending : goal.returns-clause-pending
 returns-clause-pending c =
-    ArePending-put c.args.words.now 0 c.requires.none [] (pending_bytes-none c.args.words.now) c.put.new.words c.args.left.now (AreBytes-typed _ c.type_inv.left) c.put.ensures.words (length c.args.left.now) (omega arith) c.requires.few
+    ArePending-put c.args.words.now 0 c.requires.none []
+    (pending_bytes-none c.args.words.now) c.put.new.words c.args.left.now
+    (AreBytes-typed _ c.type_inv.left) c.put.ensures.words (length c.args.left.now) (omega arith) c.requires.few
 
 pub returns-clause-bytes : goal.returns-clause-bytes
 returns-clause-bytes c =
-    pending_bytes-put c.args.words.now 0 c.requires.none [] (pending_bytes-none c.args.words.now) c.put.new.words c.args.left.now (AreBytes-typed _ c.type_inv.left) c.put.ensures.words (length c.args.left.now) (omega arith) c.requires.few
+    pending_bytes-put c.args.words.now 0 c.requires.none []
+    (pending_bytes-none c.args.words.now) c.put.new.words c.args.left.now
+    (AreBytes-typed _ c.type_inv.left) c.put.ensures.words (length c.args.left.now) (omega arith) c.requires.few

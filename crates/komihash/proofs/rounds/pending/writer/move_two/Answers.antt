@@ -12,9 +12,12 @@ returns-clause-words c =
     let from = c.args.from in
     let are = AreBytes-typed bytes c.type_inv.bytes in
     let piece = λ (k : ℕ). take 8 (drop (from + k) bytes) in
-    let size : (k : ℕ) → k ≤ 8 → length (piece k) ≡ 8 = λ k le. length-take-le 8 (drop (from + k) bytes) (omega (arith, length-drop (from + k) bytes)) in
+    let size : (k : ℕ) → k ≤ 8 → length (piece k) ≡ 8 =
+    λ k le. length-take-le 8 (drop (from + k) bytes) (omega (arith, length-drop (from + k) bytes)) in
     let first = take 8 (drop from bytes) in
     let long : length first ≡ 8 = length-take-le 8 (drop from bytes) (omega (arith, length-drop from bytes)) in
-    rw all (Appends-two c.args.words.now c.set_word.new.words c.set_word-2.new.words (8 * c.args.at) (8 * (c.args.at + 1)) first (piece 8) (take 16 (drop from bytes))
+    rw all (Appends-two c.args.words.now c.set_word.new.words c.set_word-2.new.words (8 * c.args.at)
+    (8 * (c.args.at + 1)) first (piece 8) (take 16 (drop from bytes))
     (AreBytes-take 8 (drop from bytes) (AreBytes-drop from bytes are)) (omega arith) (take-next 8 8 from bytes)
-    (c.set_word.ensures first (omega arith) c.word_at-first.ensures) (c.set_word-2.ensures (piece 8) (omega (arith, size 8 (omega arith))) c.word_at-second.ensures))
+    (c.set_word.ensures first (omega arith) c.word_at-first.ensures)
+    (c.set_word-2.ensures (piece 8) (omega (arith, size 8 (omega arith))) c.word_at-second.ensures))

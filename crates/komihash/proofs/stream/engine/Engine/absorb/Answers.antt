@@ -8,7 +8,8 @@ use Rattle.komihash.proofs.stream.engine.Engine.absorb.Goals as goal
 pub returns-then-bytes-len-clause-state : goal.returns-then-bytes-len-clause-state
 returns-then-bytes-len-clause-state g c =
     let s = c.self.inside in
-    state-few g.row.V (state_in s.lanes s.pending s.absorbed s.top_bit) c.args.bytes.now c.put.new.self (omega arith) c.put.ensures.bytes
+    state-few g.row.V (state_in s.lanes s.pending s.absorbed s.top_bit) c.args.bytes.now c.put.new.self
+    (omega arith) c.put.ensures.bytes
     ∙ ap (λ t. absorb g.row.V t c.args.bytes.now) c.self.view_is
 
 pub invariant_of-self : goal.invariant_of-self
@@ -26,7 +27,9 @@ pub returns-else-bytes-len-clause-state : goal.returns-else-bytes-len-clause-sta
 returns-else-bytes-len-clause-state g c =
     let s = c.self.inside in
     let w = c.absorb-self-inside in
-    state-blocks g.row.V (state_in s.lanes s.pending s.absorbed s.top_bit) c.args.bytes.now (lanes_in w.new.lanes) w.new.self w.result c.self.invariant.few (omega arith) w.ensures.lanes w.ensures.bytes w.ensures.top_bit
+    state-blocks g.row.V (state_in s.lanes s.pending s.absorbed s.top_bit) c.args.bytes.now
+    (lanes_in w.new.lanes) w.new.self w.result c.self.invariant.few
+    (omega arith) w.ensures.lanes w.ensures.bytes w.ensures.top_bit
     ∙ ap (λ t. absorb g.row.V t c.args.bytes.now) c.self.view_is
 
 pub invariant_of-self-else-bytes-len : goal.invariant_of-self-else-bytes-len
@@ -36,7 +39,8 @@ invariant_of-self-else-bytes-len g c =
     let bytes = c.args.bytes.now in
     let w = c.absorb-self-inside in
     IsState-absorb g.row.V state bytes _ c.self.invariant (AreBytes-typed bytes c.type_inv.bytes)
-    (state-blocks g.row.V state bytes (lanes_in w.new.lanes) w.new.self w.result c.self.invariant.few (omega arith) w.ensures.lanes w.ensures.bytes w.ensures.top_bit)
+    (state-blocks g.row.V state bytes (lanes_in w.new.lanes) w.new.self w.result c.self.invariant.few
+    (omega arith) w.ensures.lanes w.ensures.bytes w.ensures.top_bit)
 
 pub returns-else-bytes-len-clause-is_state : goal.returns-else-bytes-len-clause-is_state
 returns-else-bytes-len-clause-is_state g c = invariant_of-self-else-bytes-len g c
