@@ -1,10 +1,10 @@
 -- A run of calls on a stream, call by call.
-use Rattle.std.proofs.Common.{◌≡◌, ℕ, suc, ◌+◌, ◌-◌, ◌*◌, ◌/◌, ◌%◌, ◌<◌, List, [], ◌∷◌, ◌++◌, length, drop, get_or, add-one, add-zero, zero-add, add_assoc, refl, ap, arith, ◌∙◌, sym, inl, inr}
+use Rattle.std.proofs.Common.{◌≡◌, ℕ, suc, ◌+◌, ◌-◌, ◌*◌, ◌/◌, ◌%◌, ◌<◌, ◌≤◌, List, [], ◌∷◌, ◌++◌, length, drop, get_or, add-one, add-zero, zero-add, add_assoc, refl, ap, arith, ◌∙◌, sym, inl, inr}
 use Rattle.std.proofs.lemmas.List.{append_assoc, append-nil, length-append, length-drop}
 use Rattle.std.proofs.lemmas.Bool.Decides.{nat_tests}
 use Rattle.std.proofs.Math.Seq.{drop-cons}
 use Rattle.std.proofs.lemmas.Bool.{cases_lt}
-use Rattle.komihash.specs.Calls.{answers_after, answers, onward, bytes_of_calls, AreAbsorbs, run_products, products_of_answers, onward_products, onward_kept}
+use Rattle.komihash.specs.Calls.{answers_after, onward, bytes_of_calls, AreAbsorbs, run_products, products_of_answers, onward_products, onward_kept}
 use Rattle.komihash.specs.Counts.{hash_products, write_products, answer_products, kept_bytes}
 use Rattle.komihash.specs.Hash.{komi}
 use Rattle.komihash.specs.Stream.{State, HasAbsorbed, start, absorb, answer}
@@ -128,6 +128,29 @@ onward_kept-append n (Absorb bytes ∷ xs) ys =
     let rest = onward_kept-append (n + length bytes.now) xs ys ∙ ap (λ k. onward_kept (n + length bytes.now) xs + onward_kept k ys) size in
     ap (λ k. kept_bytes (n % 64) (length bytes.now) + k) rest ∙ sym (add_assoc (kept_bytes (n % 64) (length bytes.now)) (onward_kept (n + length bytes.now) xs) _)
 onward_kept-append n (Answer ∷ xs) ys = onward_kept-append n xs ys
+
+products_of_answers-append : (n : ℕ) (xs ys : List Call) → products_of_answers n (xs ++ ys) ≡ products_of_answers n xs + products_of_answers (n + length (bytes_of_calls xs)) ys
+products_of_answers-append n [] ys = ap (λ k. products_of_answers k ys) (sym (add-zero n)) ∙ sym (zero-add _)
+products_of_answers-append n (Absorb bytes ∷ xs) ys =
+    let size : n + length bytes.now + length (bytes_of_calls xs) ≡ n + length (bytes.now ++ bytes_of_calls xs) = omega (arith, length-append bytes.now (bytes_of_calls xs)) in
+    products_of_answers-append (n + length bytes.now) xs ys ∙ ap (λ k. products_of_answers (n + length bytes.now) xs + products_of_answers k ys) size
+products_of_answers-append n (Answer ∷ xs) ys =
+    ap (λ k. answer_products (n % 64) + k) (products_of_answers-append n xs ys) ∙ sym (add_assoc (answer_products (n % 64)) (products_of_answers n xs) _)
+
+-- what calls cost, and then others on the stream that they leave
+pub onward_products-cut : (p q : ℕ) (xs ys : List Call) → q ≡ (p + length (bytes_of_calls xs)) % 64 → onward_products p (xs ++ ys) ≡ onward_products p xs + onward_products q ys
+onward_products-cut p q xs ys is =
+    omega (arith, ap length (bytes_of_calls-append xs ys), length-append (bytes_of_calls xs) (bytes_of_calls ys), products_of_answers-append p xs ys, products_of_answers-same q (p + length (bytes_of_calls xs)) ys (omega arith))
+
+pub onward_kept-cut : (p q : ℕ) (xs ys : List Call) → q ≡ (p + length (bytes_of_calls xs)) % 64 → onward_kept p (xs ++ ys) ≡ onward_kept p xs + onward_kept q ys
+onward_kept-cut p q xs ys is =
+    onward_kept-append p xs ys ∙ ap (λ k. onward_kept p xs + k) (onward_kept-same (p + length (bytes_of_calls xs)) q ys (omega arith))
+
+-- there are no more answers than calls
+pub length-answers_after : (f : List ℕ → ℕ) (m : List ℕ) (calls : List Call) → length (answers_after f m calls) ≤ length calls
+length-answers_after f m [] = omega arith
+length-answers_after f m (Absorb bytes ∷ calls) = omega (arith, length-answers_after f (m ++ bytes.now) calls)
+length-answers_after f m (Answer ∷ calls) = omega (arith, length-answers_after f m calls)
 
 -- one byte is always kept
 pub kept_bytes-one : (p : ℕ) → p < 64 → kept_bytes p 1 ≡ 1

@@ -1,6 +1,6 @@
 //! What the streams of both versions share, and runs of calls on one.
 
-ghost use Rattle.std.specs.Prelude.{◌≡◌, ℕ, ◌+◌, ◌<◌, ◌≤◌, ◌⊎◌, ◌↔◌, IfSome, IsSomeAnd, IsNone, List, ◌++◌, length, drop};
+ghost use Rattle.std.specs.Prelude.{◌≡◌, ℕ, ◌+◌, ◌<◌, ◌≤◌, ◌⊎◌, ◌↔◌, IfSome, IsSomeAnd, IsNone, List, ◌++◌, length, take, drop};
 ghost use Rattle.komihash.specs.Calls.{answers_after, answers, onward, bytes_of_calls, onward_products, onward_kept, run_products, run_kept};
 ghost use Rattle.komihash.specs.Counts.{write_products, answer_products, kept_bytes};
 ghost use Rattle.komihash.specs.Hash.{komi};
@@ -50,8 +50,10 @@ pub trait KomiStream: Sized + Drop {
     /// text stands first in `out`; behind it `out` stays as it is.
     fn store(&self, out: &mut [u8]) -> usize
         requires { 131 ≤ length out.old }
-        ensures text { out.new ≡ text VERSION (state self.now) ++ drop result out.old }
-        ensures length { result ≡ length (text VERSION (state self.now)) };
+        ensures length { result ≡ length (text VERSION (state self.now)) }
+        ensures most { result ≤ 131 }
+        ensures text { take result out.new ≡ text VERSION (state self.now) }
+        ensures rest { drop result out.new ≡ drop result out.old };
 
     /// The stream whose text the bytes are, and `None` where they are the text of no stream of this
     /// version.

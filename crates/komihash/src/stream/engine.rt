@@ -1,6 +1,6 @@
 //! What keeps a stream of either version, and its three calls.
 
-ghost use Rattle.std.specs.Prelude.{◌≡◌, ◌+◌, ◌<◌, ◌≤◌, ◌↔◌, ◌++◌, IfSome, IsNone, length, drop};
+ghost use Rattle.std.specs.Prelude.{◌≡◌, ◌+◌, ◌<◌, ◌≤◌, ◌↔◌, IfSome, IsNone, length, take, drop};
 ghost use Rattle.komihash.specs.Counts.{write_products, answer_products, kept_bytes};
 ghost use Rattle.komihash.specs.Saved.{text, IsText};
 ghost use Rattle.komihash.specs.Stream.{IsState, start, absorb, answer};
@@ -108,8 +108,10 @@ impl<const V: u8> Engine<V> {
     #[inline(always)]
     pub(crate) fn save(&self, out: &mut [u8]) -> usize
         requires { 131 ≤ length out.old }
-        ensures text { out.new ≡ text V self.now ++ drop result out.old }
         ensures length { result ≡ length (text V self.now) }
+        ensures most { result ≤ 131 }
+        ensures text { take result out.new ≡ text V self.now }
+        ensures rest { drop result out.new ≡ drop result out.old }
     {
         write_head::<V>(self.absorbed, self.top_bit, self.pending.len(), out);
         write_lanes(&self.lanes, out);

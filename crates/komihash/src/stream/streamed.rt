@@ -3,7 +3,7 @@
 mod version_five;
 mod version_four;
 
-ghost use Rattle.std.specs.Prelude.{◌≡◌, ◌≤◌, ◌↔◌, ℕ, IfSome, IsSomeAnd, IsNone, List, [], ◌++◌, length, drop};
+ghost use Rattle.std.specs.Prelude.{◌≡◌, ◌≤◌, ◌↔◌, ℕ, IfSome, IsSomeAnd, IsNone, List, [], ◌++◌, length, take, drop};
 ghost use Rattle.komihash.specs.Hash.{komi};
 ghost use Rattle.komihash.specs.Saved.{text, IsText};
 ghost use Rattle.komihash.specs.Stream.{State, IsState, HasAbsorbed, start, absorb, answer};
@@ -84,8 +84,10 @@ impl<const V: u8> StreamedKomihash<V> {
     #[inline]
     pub fn save(&self, out: &mut [u8]) -> usize
         requires { 131 ≤ length out.old }
-        ensures text { out.new ≡ text V self.now.state ++ drop result out.old }
         ensures length { result ≡ length (text V self.now.state) }
+        ensures most { result ≤ 131 }
+        ensures text { take result out.new ≡ text V self.now.state }
+        ensures rest { drop result out.new ≡ drop result out.old }
     {
         self.engine.save(out)
     }

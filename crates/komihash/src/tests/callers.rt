@@ -1,11 +1,11 @@
 //! Callers as others may write them: what each promises follows from the contracts of the calls.
 //! CALLING.md shows them.
 
-ghost use Rattle.std.specs.Prelude.{◌≡◌, ◌≢◌, ◌+◌, ◌%◌, ◌<◌, ◌++◌, false, length};
+ghost use Rattle.std.specs.Prelude.{◌≡◌, ◌≢◌, ◌+◌, ◌%◌, ◌<◌, ◌++◌, IsSomeAnd, false, length};
 ghost use Rattle.komihash.specs.Generator.{after_steps, fill};
 ghost use Rattle.komihash.specs.Hash.{komi};
 
-use super::messages::{SIX, ZERO};
+use super::messages::{BLOCK_FIVE, SIX, ZERO};
 use crate::tally::Tally;
 use crate::{Komirand, StreamedKomihash, komihash, laws, v5};
 
@@ -54,6 +54,20 @@ fn sample_in_two(seed: u64, first: &mut [u8; 32], rest: &mut [u8])
     generator.fill_bytes(rest);
 }
 
+/// The hash of two pieces, with a rest between them: the stream is saved, and another one is resumed
+/// from its text and goes on.
+fn hash_with_a_rest(first: &[u8], second: &[u8], seed: u64) -> Option<u64>
+    ensures { IsSomeAnd result (λ hash. hash ≡ komi 5 seed (first.now ++ second.now)) }
+{
+    let mut stream = StreamedKomihash::new_with_seed(seed);
+    stream.write(first);
+    let mut text = [0; 131];
+    let length = stream.save(&mut text);
+    let mut resumed = StreamedKomihash::resume(&text[..length])?;
+    resumed.write(second);
+    Some(resumed.finish())
+}
+
 /// The hash of a key of 16 bytes, which takes four multiplications.
 fn hash_of_key(key: &[u8; 16], tally: &mut Tally) -> u64
     ensures hash { result ≡ komi 5 0 key.now }
@@ -80,4 +94,16 @@ fn samples_are_drawn_again(rt: HostRuntime) {
     sample_in_two(7, &mut first, &mut rest);
     assert!(rt; whole.starts_with(&first));
     assert!(rt; whole.ends_with(&rest));
+}
+
+#[test]
+fn goes_on_after_a_rest(rt: HostRuntime) {
+    let message = BLOCK_FIVE;
+    for cut in [0, 1, 63, 64, 65, 95] {
+        assert_eq!(rt;
+            hash_with_a_rest(&message[..cut], &message[cut..], 0),
+            Some(6),
+            "cut at {cut}"
+        );
+    }
 }

@@ -1,7 +1,7 @@
 //! Messages whose hashes were worked out by hand from the rules, and one made of a pattern.
 
-ghost use Rattle.std.specs.Prelude.{◌≡◌, [], ◌∷◌, take, drop};
-ghost use Rattle.komihash.specs.Calls.{AreAbsorbs, bytes_of_calls, onward_kept};
+ghost use Rattle.std.specs.Prelude.{◌≡◌};
+ghost use Rattle.komihash.specs.Calls.{run_products, run_kept};
 
 use crate::stream::Call;
 
@@ -54,12 +54,28 @@ pub(crate) fn pattern() -> [u8; LONGEST] {
     bytes
 }
 
+/// Answers between cuts of a message at 0, 1 and 64 bytes, twice there, and at the end.
+pub(crate) fn at_cuts(message: &[u8; 95]) -> [Call<'_>; 9]
+    ensures products { run_products result ≡ 16 }
+    ensures kept { run_kept result ≡ 95 }
+{
+    [
+        Call::Answer,
+        Call::Absorb(&message[..1]),
+        Call::Answer,
+        Call::Absorb(&message[1..64]),
+        Call::Answer,
+        Call::Absorb(&[]),
+        Call::Answer,
+        Call::Absorb(&message[64..]),
+        Call::Answer,
+    ]
+}
+
 /// A message, each byte in an Absorb of its own, and one Answer at the end.
 pub(crate) fn byte_by_byte(message: &[u8; 95]) -> [Call<'_>; 96]
-    ensures pieces { AreAbsorbs (take 95 result) }
-    ensures answer { drop 95 result ≡ Call.Answer ∷ [] }
-    ensures bytes { bytes_of_calls result ≡ message.now }
-    ensures kept { onward_kept 0 result ≡ 95 }
+    ensures products { run_products result ≡ 8 }
+    ensures kept { run_kept result ≡ 95 }
 {
     let mut calls = [Call::Answer; 96];
     for i in 0..95usize {

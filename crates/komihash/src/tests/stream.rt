@@ -2,7 +2,7 @@
 
 ghost use Rattle.std.specs.Prelude.{◌≢◌};
 
-use super::messages::{BLOCK_FIVE, BLOCK_FOUR, LONGEST, ZERO, byte_by_byte, pattern};
+use super::messages::{BLOCK_FIVE, BLOCK_FOUR, LONGEST, ZERO, at_cuts, byte_by_byte, pattern};
 use crate::hash::komihash;
 use crate::stream::streamed::StreamedKomihash;
 use crate::stream::{Call, KomiStream, run, run_on};
@@ -13,8 +13,8 @@ use std::process::Abort;
 
 const SEEDS: [u64; 2] = [0, u64::MAX];
 
-// The hash of a message in one call.
-fn hash<S: KomiStream>(message: &[u8], seed: u64) -> u64 {
+/// The hash of a message in one call.
+pub(crate) fn hash<S: KomiStream>(message: &[u8], seed: u64) -> u64 {
     if S::VERSION == 4 {
         v4::komihash(message, seed)
     } else {
@@ -191,17 +191,7 @@ fn begins_with_seed_zero(rt: HostRuntime) {
 fn runs_calls_in_order(rt: HostRuntime) {
     let mut tally = Tally::new();
     let message = BLOCK_FIVE;
-    let calls = [
-        Call::Answer,
-        Call::Absorb(&message[..1]),
-        Call::Answer,
-        Call::Absorb(&message[1..64]),
-        Call::Answer,
-        Call::Absorb(&[]),
-        Call::Answer,
-        Call::Absorb(&message[64..]),
-        Call::Answer,
-    ];
+    let calls = at_cuts(&message);
     let mut out = [9; 9];
     assert_eq!(rt;
         run::<v5::StreamedKomihash>(0, &calls, &mut out, &mut tally),

@@ -4,7 +4,7 @@
 ghost use Rattle.std.specs.Prelude.{◌≡◌, ◌+◌, length};
 ghost use Rattle.komihash.specs.Counts.{hash_products};
 
-use super::messages::{BLOCK_FIVE, BLOCK_FOUR, byte_by_byte};
+use super::messages::{BLOCK_FIVE, BLOCK_FOUR, at_cuts, byte_by_byte};
 use crate::hash::komihash;
 use crate::stream::{Call, KomiStream, run};
 use crate::tally::Tally;
@@ -55,17 +55,7 @@ fn cuts_cost<S: KomiStream>(message: &[u8; 95], out: &mut [u64; 9], tally: &mut 
     ensures products { tally.new.products ≡ tally.old.products + 16 }
     ensures kept { tally.new.kept ≡ tally.old.kept + 95 }
 {
-    let calls = [
-        Call::Answer,
-        Call::Absorb(&message[..1]),
-        Call::Answer,
-        Call::Absorb(&message[1..64]),
-        Call::Answer,
-        Call::Absorb(&[]),
-        Call::Answer,
-        Call::Absorb(&message[64..]),
-        Call::Answer,
-    ];
+    let calls = at_cuts(message);
     run::<S>(0, &calls, out, tally)
 }
 

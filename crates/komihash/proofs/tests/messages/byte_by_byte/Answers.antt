@@ -2,11 +2,11 @@ use Rattle.std.proofs.Common.{◌≡◌, ℕ, List, ◌+◌, ◌-◌, ◌%◌, �
 use Rattle.std.proofs.Math.ListN.{length-set}
 use Rattle.std.proofs.Math.Seq.{take-add}
 use Rattle.std.proofs.lemmas.List.{append-nil, take_more_set, drop-set-lt, take-append-drop, length-take-le, length-drop, take_all}
-use Rattle.komihash.specs.Calls.{bytes_of_calls, onward_kept}
-use Rattle.komihash.specs.Counts.{kept_bytes}
+use Rattle.komihash.specs.Calls.{bytes_of_calls, run_products, onward_kept}
+use Rattle.komihash.specs.Counts.{hash_products, kept_bytes}
 use Rattle.komihash.specs.declared.stream.Call.{Call}
 use Rattle.komihash.specs.declared.stream.Call.TheVariants.{Answer}
-use Rattle.komihash.proofs.Runs.{AreAbsorbs-append, bytes_of_calls-append, onward_kept-append, kept_bytes-one}
+use Rattle.komihash.proofs.Runs.{AreAbsorbs-append, bytes_of_calls-append, onward_kept-append, kept_bytes-one, run_products-pieces}
 use Rattle.komihash.proofs.tests.messages.byte_by_byte.Goals as goal
 
 pub loop-i-preserved : goal.loop-i-preserved
@@ -37,15 +37,16 @@ ended : (calls : List Call) (i : ℕ) → i ≡ 95 → drop 95 calls ≡ Answer 
 ended calls i all answer =
     sym (take-append-drop i calls) ∙ ap (λ n. take i calls ++ drop n calls) all ∙ ap (λ xs. take i calls ++ xs) answer
 
-pub returns-clause-bytes : goal.returns-clause-bytes
-returns-clause-bytes c =
+pub returns-clause-products : goal.returns-clause-products
+returns-clause-products c =
     let calls = c.loop-i.calls in
     let i = c.loop-i.i in
-    ap bytes_of_calls (ended calls i (omega arith) c.loop-i.invariant.answer)
-    ∙ bytes_of_calls-append (take i calls) (Answer ∷ [])
-    ∙ append-nil (bytes_of_calls (take i calls))
-    ∙ c.loop-i.invariant.bytes
-    ∙ take_all i c.args.message.now (omega arith)
+    let pieces = take i calls in
+    let so_far = c.loop-i.invariant in
+    let bytes : bytes_of_calls pieces ≡ c.args.message.now = so_far.bytes ∙ take_all i c.args.message.now (omega arith) in
+    ap run_products (ended calls i (omega arith) so_far.answer)
+    ∙ run_products-pieces pieces so_far.pieces
+    ∙ ap (λ m. hash_products (length m)) bytes ∙ ap hash_products c.told-message
 
 pub returns-clause-kept : goal.returns-clause-kept
 returns-clause-kept c =

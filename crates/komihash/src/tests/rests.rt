@@ -1,0 +1,162 @@
+//! Runs with a rest behind each call: the stream is saved, and a new one that is resumed from its
+//! text takes its place. What the calls cost stands in contracts, which are proved.
+
+ghost use Rattle.std.specs.Prelude.{◌≡◌, ◌+◌, ◌≤◌, IsTrue, IfSome, length};
+ghost use Rattle.komihash.specs.Calls.{onward_products, onward_kept};
+
+use super::messages::{BLOCK_FIVE, at_cuts, byte_by_byte};
+use super::texts::{BLOCK_SAVED, NEW_FIVE};
+use crate::stream::{Call, KomiStream, run_on};
+use crate::tally::Tally;
+use crate::{v4, v5};
+
+// A rest: it is one from every state, and changes nothing.
+fn rest<S: KomiStream>(stream: &mut S) -> bool
+    ensures resumed { IsTrue result }
+    ensures state { S.state stream.new ≡ S.state stream.old }
+{
+    let mut text = [0; 131];
+    let end = stream.store(&mut text);
+    match S::restore(&text[..end]) {
+        Some(resumed) => {
+            *stream = resumed;
+            true
+        }
+        None => false,
+    }
+}
+
+// Makes each call in a run of its own, with a rest behind it. They cost what one run of them does.
+fn run_with_rests<S: KomiStream>(
+    stream: &mut S,
+    calls: &[Call<'_>],
+    out: &mut [u64],
+    tally: &mut Tally,
+) -> usize
+    requires { length calls.now ≤ length out.old }
+    ensures products { tally.new.products
+        ≡ tally.old.products + onward_products (length (S.state stream.old).pending) calls.now }
+    ensures kept { tally.new.kept
+        ≡ tally.old.kept + onward_kept (length (S.state stream.old).pending) calls.now }
+{
+    let mut count = 0;
+    for i in 0..calls.len() {
+        count += run_on(stream, &calls[i..i + 1], &mut out[count..], tally);
+        rest(stream);
+    }
+    count
+}
+
+// Answers between cuts at 0, 1 and 64 bytes, twice there, and at the end; then the text.
+fn cuts_cost<S: KomiStream>(
+    message: &[u8; 95],
+    out: &mut [u64; 9],
+    text: &mut [u8; 131],
+    tally: &mut Tally,
+) -> (usize, usize)
+    ensures products { tally.new.products ≡ tally.old.products + 16 }
+    ensures kept { tally.new.kept ≡ tally.old.kept + 95 }
+{
+    let mut stream = S::start(0, tally);
+    let count = run_with_rests(&mut stream, &at_cuts(message), out, tally);
+    (count, stream.store(text))
+}
+
+// 95 bytes, each in an Absorb of its own, and an Answer.
+fn bytes_cost<S: KomiStream>(message: &[u8; 95], out: &mut [u64; 96], tally: &mut Tally) -> usize
+    ensures products { tally.new.products ≡ tally.old.products + 8 }
+    ensures kept { tally.new.kept ≡ tally.old.kept + 95 }
+{
+    let mut stream = S::start(0, tally);
+    run_with_rests(&mut stream, &byte_by_byte(message), out, tally)
+}
+
+// No calls on a new stream, and then its text.
+fn nothing_costs<S: KomiStream>(
+    out: &mut [u64; 2],
+    text: &mut [u8; 131],
+    tally: &mut Tally,
+) -> (usize, usize)
+    ensures products { tally.new.products ≡ tally.old.products + 1 }
+    ensures kept { tally.new.kept ≡ tally.old.kept }
+{
+    let mut stream = S::start(0, tally);
+    let count = run_on(&mut stream, &[], out, tally);
+    (count, stream.store(text))
+}
+
+// An Answer of a stream that is resumed with nothing pending.
+fn answer_costs<S: KomiStream>(
+    text: &[u8; 68],
+    out: &mut [u64; 1],
+    tally: &mut Tally,
+) -> Option<usize>
+    ensures products { IfSome result (λ _. tally.new.products ≡ tally.old.products + 2) }
+    ensures kept { tally.new.kept ≡ tally.old.kept }
+{
+    let mut stream = S::restore(text)?;
+    Some(run_on(&mut stream, &[Call::Answer], out, tally))
+}
+
+#[test]
+fn rests_change_nothing(rt: HostRuntime) {
+    let mut tally = Tally::new();
+    let mut out = [9; 9];
+    let mut text = [0; 131];
+    let message = BLOCK_FIVE;
+    let (count, end) = cuts_cost::<v5::StreamedKomihash>(&message, &mut out, &mut text, &mut tally);
+    assert_eq!(rt; count, 5);
+    let answers = [
+        0xb768_3ea7_4301_32b4,
+        0xfd45_482d_180d_0441,
+        0x2a2f_07ac_9381_0128,
+        0x2a2f_07ac_9381_0128,
+        6,
+        9,
+        9,
+        9,
+        9,
+    ];
+    assert_eq!(rt; out, answers);
+    assert_eq!(rt; end, 99);
+    assert_eq!(rt; text[..4], [5, 1, 0, 31][..]);
+    assert_eq!(rt; text[4..68], BLOCK_SAVED[4..]);
+    assert_eq!(rt; text[68..99], message[64..]);
+
+    let mut out = [9; 96];
+    assert_eq!(rt;
+        bytes_cost::<v5::StreamedKomihash>(&message, &mut out, &mut tally),
+        1
+    );
+    assert_eq!(rt; out[0], 6);
+}
+
+#[test]
+fn runs_on_with_no_calls(rt: HostRuntime) {
+    let mut out = [9; 2];
+    let mut text = [0xee; 131];
+    let mut wanted = text;
+    wanted[..68].copy_from_slice(&NEW_FIVE);
+    let (count, end) = nothing_costs::<v5::StreamedKomihash>(
+        &mut out,
+        &mut text,
+        &mut Tally::new(),
+    );
+    assert_eq!(rt; count, 0);
+    assert_eq!(rt; end, 68);
+    assert_eq!(rt; text, wanted);
+    assert_eq!(rt; out, [9, 9]);
+}
+
+#[test]
+fn answers_from_a_text(rt: HostRuntime) {
+    let mut high = [0; 68];
+    high[..3].copy_from_slice(&[4, 1, 1]);
+    high[67] = 0x80;
+    let mut out = [9];
+    assert_eq!(rt;
+        answer_costs::<v4::StreamedKomihash>(&high, &mut out, &mut Tally::new()),
+        Some(1)
+    );
+    assert_eq!(rt; out, [0xc000_0000_0000_0003]);
+}
