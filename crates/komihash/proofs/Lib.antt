@@ -6,8 +6,8 @@ pub mod BytesOfWords
 pub mod EngineSteps
 mod Facts
 pub mod Filling
+pub mod Halves
 pub mod HashSteps
-pub mod KeptHalves
 pub mod LaneWords
 pub mod Lists
 pub mod PaddedBack

@@ -7,6 +7,7 @@ mod hash;
 mod hasher;
 mod messages;
 mod padding;
+mod pending;
 mod rests;
 mod root;
 mod rounds;

@@ -1,4 +1,4 @@
-use Rattle.komihash.proofs.KeptHalves.{lanes_in-lanes}
+use Rattle.komihash.proofs.Halves.{lanes_in-lanes}
 use Rattle.komihash.proofs.rounds.lanes.Goals as goal
 
 pub returns : goal.returns
