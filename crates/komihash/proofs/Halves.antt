@@ -1,4 +1,4 @@
--- Pairs and lanes as the code keeps them, in halves, are those of the rules.
+-- Pairs and lanes as the code stores them, in halves, are those of the rules.
 use Rattle.std.proofs.Common.{◌≡◌, ℕ, [], ◌∷◌, ap, ◌∙◌, sym}
 use Rattle.std.specs.Prelude.{bit_xor}
 use Rattle.std.specs.Int.Bits.{xor_assoc, xor_comm}

@@ -1,15 +1,15 @@
--- How the code keeps pairs and lanes: the low half of a product stays apart from the word that it
+-- How the code stores pairs and lanes: the low half of a product stays apart from the word that it
 -- meets, and is joined to it only where the next factor is made. That takes one step off the path
 -- on which each product waits for the one before.
 use Rattle.std.specs.Prelude.{ℕ, Bool, List, slice_index, bit_xor}
 use Rattle.komihash.specs.Rounds.{Lanes}
 use Rattle.komihash.specs.Stream.{State}
 
--- the pair (a, e) that is kept as a low half and the word e
+-- the pair (a, e) that is stored as a low half and the word e
 abbrev pub pair_in : ℕ × ℕ → ℕ × ℕ
 pair_in halves = (bit_xor halves.1 halves.0, halves.1)
 
--- the lanes that are kept as four low halves, each before the word that its product raised
+-- the lanes that are stored as four low halves, each before the word that its product raised
 abbrev pub lanes_in : List ℕ → Lanes
 lanes_in halves = record {
   s1 = bit_xor (slice_index halves 7) (slice_index halves 0);
@@ -22,7 +22,7 @@ lanes_in halves = record {
   s8 = slice_index halves 7;
 }
 
--- the state whose lanes are kept in this way
+-- the state whose lanes are stored in this way
 abbrev pub state_in : List ℕ → List ℕ → Bool → Bool → State
 state_in halves pending absorbed top_bit =
     record { lanes = lanes_in halves; pending = pending; absorbed = absorbed; top_bit = top_bit }

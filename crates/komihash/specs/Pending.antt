@@ -1,4 +1,4 @@
--- How the code keeps a stream's pending bytes: as eight words, zero above the last byte.
+-- How the code stores a stream's pending bytes: as eight words, zero above the last byte.
 use Rattle.std.specs.Prelude.{ℕ, List, [], ◌∷◌, ◌++◌, take, drop, zero, suc, ◌≡◌, ◌<◌, length}
 use Rattle.komihash.specs.Words.{AreBytes, word_of, all_bytes}
 
@@ -11,7 +11,7 @@ pending_words (suc n) bytes = word_of (take 8 bytes) ∷ pending_words n (drop 8
 unfoldable pub pending_bytes : List ℕ → ℕ → List ℕ
 pending_bytes ws fill = take fill (all_bytes ws)
 
--- what is true of the fields that keep pending bytes
+-- what is true of the fields that store pending bytes
 pub record ArePending (ws : List ℕ) (fill : ℕ) : Type 0 where
   pub few : fill < 64
   pub words : ws ≡ pending_words 8 (pending_bytes ws fill)

@@ -1,4 +1,4 @@
-//! What keeps a stream of either version, and its three calls.
+//! What a stream of either version is made of, and its three calls.
 
 ghost use Rattle.std.specs.Prelude.{◌≡◌, ◌+◌, ◌<◌, ◌≤◌, ◌↔◌, IfSome, IsNone, length, take, drop};
 ghost use Rattle.komihash.specs.Counts.{write_products, answer_products, kept_bytes};
@@ -31,8 +31,8 @@ fn tail_end<const V: u8>(pending: &Pending, absorbed: bool, top_bit: bool) -> u6
     }
 }
 
-/// What keeps a stream of version V: its lanes, its pending bytes, whether a block was absorbed, and
-/// in version 4 whether the last block's last byte is at least 128. No counter of bytes is kept.
+/// A stream of version V: its lanes, its pending bytes, whether a block was absorbed, and in version
+/// 4 whether the last block's last byte is at least 128. There is no counter of bytes.
 #[derive(Drop)]
 pub(crate) struct Engine<const V: u8> {
     lanes: [u64; 8],
