@@ -1,6 +1,7 @@
 //! What the definitions alone say of known messages: each clause is proved, and nothing is run.
 
 ghost use Rattle.std.specs.Prelude.{◌≡◌, ℕ, ◌+◌, ◌≤◌, List, [], ◌∷◌, ◌++◌, length, take};
+ghost use Rattle.komihash.specs.Generator.{after_steps, fill, outputs};
 ghost use Rattle.komihash.specs.Hash.{komi};
 ghost use Rattle.komihash.specs.Hasher.{number_after};
 ghost use Rattle.komihash.specs.Saved.{text};
@@ -34,6 +35,19 @@ fn numbers_after_writes()
     ensures no_bytes_in_four { number_after 4 0 ([] ∷ []) ≡ 0xb7683ea7430132b4 }
     ensures zeros { number_after 5 0 (ZERO ∷ ZERO ∷ []) ≡ 0 }
     ensures high_end_in_four { number_after 4 0 (ZERO ∷ HIGH_END ∷ []) ≡ 7 }
+{}
+
+#[tactic(auto, unfolding(crate::specs::Generator::next, crate::specs::Generator::after_steps, crate::specs::Generator::outputs, crate::specs::Words::bytes_of))]
+fn generators()
+    ensures outputs { outputs 5 2 (0, 0) ≡ 0x5555555555555555 ∷ 0x79e79e79e79e79e6 ∷ [] }
+    ensures outputs_in_four { outputs 4 2 (0, 0) ≡ 0xaaaaaaaaaaaaaaaa ∷ 0xfffffffffffffffe ∷ [] }
+    ensures warm { outputs 5 2 (after_steps 5 4 (0x1234567890abcdef, 0x1234567890abcdef))
+        ≡ 0xb1b3fa0ce9e8fc12 ∷ 0x873b3a41c1b9ada4 ∷ [] }
+    ensures bytes { fill 5 (0, 0) 11
+        ≡ 0x55 ∷ 0x55 ∷ 0x55 ∷ 0x55 ∷ 0x55 ∷ 0x55 ∷ 0x55 ∷ 0x55 ∷ 0xe6 ∷ 0x79 ∷ 0x9e ∷ [] }
+    ensures bytes_in_four { fill 4 (0, 0) 9
+        ≡ 0xaa ∷ 0xaa ∷ 0xaa ∷ 0xaa ∷ 0xaa ∷ 0xaa ∷ 0xaa ∷ 0xaa ∷ 0xfe ∷ [] }
+    ensures none { fill 5 (0, 0) 0 ≡ [] }
 {}
 
 // The pair round on the two words of `ZERO`.
@@ -70,6 +84,7 @@ fn texts()
 fn holds() {
     hashes();
     numbers_after_writes();
+    generators();
     round_of_zero();
     zero_and_more();
     padded_words();
