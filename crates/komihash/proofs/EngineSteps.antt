@@ -9,7 +9,7 @@ use Rattle.komihash.specs.Stream.{State, IsState, start, absorb}
 use Rattle.komihash.specs.Tails.{whole_words, block_lanes, after_blocks}
 use Rattle.komihash.specs.Padding.{has_top_bit}
 use Rattle.komihash.specs.Words.{AreBytes}
-use Rattle.komihash.proofs.Absorbing.{blocks_state, absorb-few, absorb-blocks}
+use Rattle.komihash.proofs.StreamAbsorbs.{blocks_state, absorb-few, absorb-blocks}
 use Rattle.komihash.proofs.Blocks.{length-after_blocks}
 use Rattle.komihash.proofs.LaneWords.{AreWords-block_lanes, AreWords-seed_pair}
 use Rattle.komihash.proofs.BytesInWords.{AreBytes-append, AreBytes-drop}

@@ -27,35 +27,35 @@ module _ (ws : List ℕ) (fill : ℕ) (are : ArePending ws fill) (xs : List ℕ)
   pub AreBytes-pending : AreBytes xs
   AreBytes-pending = subst AreBytes shows (AreBytes-pending_bytes ws fill)
 
-  padded_words-pending : ws ≡ pending_words 8 xs
-  padded_words-pending = are.words ∙ ap (pending_words 8) shows
+  words-pending : ws ≡ pending_words 8 xs
+  words-pending = are.words ∙ ap (pending_words 8) shows
 
   -- bytes put behind them
   module _ (new bytes : List ℕ) (are_bytes : AreBytes bytes) (appended : Appends ws fill bytes new) where
-    padded_words-put : new ≡ pending_words 8 (xs ++ bytes)
-    padded_words-put = appended xs AreBytes-pending length-pending padded_words-pending
+    words-put : new ≡ pending_words 8 (xs ++ bytes)
+    words-put = appended xs AreBytes-pending length-pending words-pending
 
     length-put : length (xs ++ bytes) ≡ fill + length bytes
     length-put = omega (arith, length-append xs bytes, length-pending)
 
     pub pending_bytes-put : (n : ℕ) → n ≡ fill + length bytes → n < 64 → pending_bytes new n ≡ xs ++ bytes
     pending_bytes-put n sum few =
-        ap (λ w. pending_bytes w n) padded_words-put
+        ap (λ w. pending_bytes w n) words-put
         ∙ pending_bytes-pending_words (xs ++ bytes) n (AreBytes-append xs bytes AreBytes-pending are_bytes)
         (length-put ∙ sym sum) (omega arith)
 
     pub ArePending-put : (n : ℕ) → n ≡ fill + length bytes → n < 64 → ArePending new n
     ArePending-put n sum few =
-        record { few = few; words = padded_words-put ∙ ap (pending_words 8) (sym (pending_bytes-put n sum few)) }
+        record { few = few; words = words-put ∙ ap (pending_words 8) (sym (pending_bytes-put n sum few)) }
 
     -- as many as fill a block
     pub block-put : fill + length bytes ≡ 64 → new ≡ whole_words (xs ++ bytes)
-    block-put full = padded_words-put ∙ pending_words-whole 8 (xs ++ bytes) (length-put ∙ full)
+    block-put full = words-put ∙ pending_words-whole 8 (xs ++ bytes) (length-put ∙ full)
 
   -- their whole words
   whole_words-pending : take (fill / 8) ws ≡ whole_words xs
   whole_words-pending =
-      ap (take (fill / 8)) padded_words-pending ∙ ap (λ n. take (n / 8) (pending_words 8 xs)) (sym length-pending)
+      ap (take (fill / 8)) words-pending ∙ ap (λ n. take (n / 8) (pending_words 8 xs)) (sym length-pending)
       ∙ take-pending_words 8 xs (omega (arith, length-pending, are.few))
 
   pub count-pending : fill / 8 ≡ length (whole_words xs)
@@ -70,7 +70,7 @@ module _ (ws : List ℕ) (fill : ℕ) (are : ArePending ws fill) (xs : List ℕ)
   pub final_word-pending : (end : ℕ) → end < 256
       → bit_or (get_or ws (fill / 8) 0) (end * 2 ^ (8 * (fill % 8)) % 2 ^ 64) ≡ final_word xs end
   final_word-pending end small =
-      ap (λ w. bit_or (get_or w (fill / 8) 0) (end * 2 ^ (8 * (fill % 8)) % 2 ^ 64)) padded_words-pending
+      ap (λ w. bit_or (get_or w (fill / 8) 0) (end * 2 ^ (8 * (fill % 8)) % 2 ^ 64)) words-pending
       ∙ final_word-pending_words xs fill end AreBytes-pending length-pending are.few small
 
   -- the last of them, which nothing stands above
@@ -78,6 +78,6 @@ module _ (ws : List ℕ) (fill : ℕ) (are : ArePending ws fill) (xs : List ℕ)
       ≡ get_or xs (length xs - 1) 0
   last-pending some =
       let size = length-pending in
-      ap (λ w. get_or w ((fill - 1) / 8) 0 / 2 ^ (8 * ((fill - 1) % 8))) padded_words-pending
+      ap (λ w. get_or w ((fill - 1) / 8) 0 / 2 ^ (8 * ((fill - 1) % 8))) words-pending
       ∙ last-pending_words 8 xs (fill - 1) AreBytes-pending (omega arith) (omega (arith, are.few))
       ∙ ap (λ n. get_or xs (n - 1) 0) (sym size)

@@ -11,7 +11,7 @@ use Rattle.komihash.specs.Tails.{whole_words}
 use Rattle.komihash.specs.Words.{AreBytes, all_bytes}
 use Rattle.komihash.proofs.WholeWords.{length-whole_words}
 use Rattle.komihash.proofs.BytesOfWords.{length-all_bytes}
-use Rattle.komihash.proofs.PaddedBack.{bytes_of-word_of_append, whole_words-all_bytes}
+use Rattle.komihash.proofs.PaddingBack.{bytes_of-word_of_append, whole_words-all_bytes}
 use Rattle.komihash.proofs.BytesInWords.{AreBytes-take, AreBytes-drop, word_of-lt}
 
 -- ---- the parts

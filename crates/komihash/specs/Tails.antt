@@ -1,5 +1,5 @@
 -- The padded words of a message in the form that the code reads them: its whole words, and the one
--- word that ends them. `proofs/PaddedWords.antt` shows that this is the same list.
+-- word that ends them. `proofs/PaddingWords.antt` shows that this is the same list.
 use Rattle.std.specs.Prelude.{ℕ, Bool, if◌then◌else◌, ◌-◌, ◌%◌, length, drop, List, [], ◌∷◌, ◌++◌}
 use Rattle.komihash.specs.Rounds.{Lanes, block_round}
 use Rattle.komihash.specs.Padding.{padding_behind, padding_byte}

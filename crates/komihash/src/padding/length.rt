@@ -28,7 +28,7 @@ fn byte_at(words: &[u64], at: usize) -> u8
 
 // Whether a byte is the padding byte of the first bytes of words.
 #[inline(always)]
-#[tactic(auto, using(crate::proofs::PaddedBack::padding_byte_at))]
+#[tactic(auto, using(crate::proofs::PaddingBack::padding_byte_at))]
 fn is_padding_byte<const V: u8>(byte: u64, words: &[u64], count: usize) -> bool
     requires some { 0 < count }
     requires within { count ≤ 8 * length words.now }

@@ -1,4 +1,4 @@
-use Rattle.komihash.proofs.Runs.{run_products-pieces}
+use Rattle.komihash.proofs.CallLists.{run_products-pieces}
 use Rattle.komihash.proofs.laws.cost_of_pieces.Goals as goal
 
 pub returns : goal.returns

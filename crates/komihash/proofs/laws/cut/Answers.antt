@@ -1,4 +1,4 @@
-use Rattle.komihash.proofs.Absorbing.{absorb-append}
+use Rattle.komihash.proofs.StreamAbsorbs.{absorb-append}
 use Rattle.komihash.proofs.laws.cut.Goals as goal
 
 pub returns : goal.returns

@@ -1,4 +1,4 @@
-use Rattle.komihash.proofs.Runs.{absorb-nothing}
+use Rattle.komihash.proofs.CallLists.{absorb-nothing}
 use Rattle.komihash.proofs.laws.empty_write.Goals as goal
 
 pub returns-clause-stream : goal.returns-clause-stream

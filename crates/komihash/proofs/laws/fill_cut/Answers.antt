@@ -1,4 +1,4 @@
-use Rattle.komihash.proofs.Filling.{fill-add, after_fill-add}
+use Rattle.komihash.proofs.GeneratorFills.{fill-add, after_fill-add}
 use Rattle.komihash.proofs.laws.fill_cut.Goals as goal
 
 pub returns-clause-bytes : goal.returns-clause-bytes

@@ -1,4 +1,4 @@
-use Rattle.komihash.proofs.Answers.{answer-joined}
+use Rattle.komihash.proofs.StreamAnswers.{answer-joined}
 use Rattle.komihash.proofs.laws.joined.Goals as goal
 
 pub returns : goal.returns

@@ -1,5 +1,5 @@
 use Rattle.std.proofs.Common.{refl}
-use Rattle.komihash.proofs.Filling.{length-fill, fill-add, after_fill-add}
+use Rattle.komihash.proofs.GeneratorFills.{length-fill, fill-add, after_fill-add}
 use Rattle.komihash.proofs.laws.one_seed.Goals as goal
 
 pub returns-clause-length : goal.returns-clause-length

@@ -1,4 +1,4 @@
-use Rattle.komihash.proofs.PaddedBack.{same_message}
+use Rattle.komihash.proofs.PaddingBack.{same_message}
 use Rattle.komihash.proofs.laws.same_words.Goals as goal
 
 pub returns : goal.returns

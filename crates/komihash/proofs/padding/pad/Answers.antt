@@ -1,7 +1,7 @@
 use Rattle.std.proofs.Common.{◌≡◌, ◌+◌, ◌/◌, suc, [], ◌∷◌, ◌++◌, length, take, set, ap, arith, sym, ◌∙◌}
 use Rattle.std.proofs.Math.Seq.{take-suc-set}
 use Rattle.komihash.specs.Tails.{whole_words}
-use Rattle.komihash.proofs.PaddedWords.{padded_words-by_tail}
+use Rattle.komihash.proofs.PaddingWords.{padded_words-by_tail}
 use Rattle.komihash.proofs.padding.pad.Goals as goal
 
 pub returns-clause-padded : goal.returns-clause-padded

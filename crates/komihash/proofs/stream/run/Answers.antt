@@ -1,6 +1,6 @@
 -- a new stream has absorbed no bytes, so its answers are hashes
 use Rattle.std.proofs.Common.{◌∙◌, [], ap, length}
-use Rattle.komihash.proofs.Runs.{HasAbsorbed-start, onward-message}
+use Rattle.komihash.proofs.CallLists.{HasAbsorbed-start, onward-message}
 use Rattle.komihash.proofs.stream.run.Goals as goal
 
 pub returns-clause-answers : goal.returns-clause-answers

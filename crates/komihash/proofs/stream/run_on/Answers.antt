@@ -4,8 +4,8 @@ use Rattle.komihash.specs.Calls.{answers_after, onward, bytes_of_calls, onward_p
 use Rattle.komihash.specs.Counts.{write_products, answer_products, kept_bytes}
 use Rattle.komihash.specs.Hash.{komi}
 use Rattle.komihash.specs.Stream.{absorb}
-use Rattle.komihash.proofs.Absorbing.{absorb-append}
-use Rattle.komihash.proofs.Runs.{HasAbsorbed-more, onward-message, absorb-nothing, next_call, pending-absorb, onward-absorb, onward-answer, onward_products-absorb, onward_kept-absorb, onward_products-answer, counted}
+use Rattle.komihash.proofs.StreamAbsorbs.{absorb-append}
+use Rattle.komihash.proofs.CallLists.{HasAbsorbed-more, onward-message, absorb-nothing, next_call, pending-absorb, onward-absorb, onward-answer, onward_products-absorb, onward_kept-absorb, onward_products-answer, counted}
 use Rattle.komihash.specs.declared.stream.Call.TheVariants.{Absorb, Answer}
 use Rattle.komihash.proofs.stream.run_on.Goals as goal
 use Rattle.komihash.proofs.stream.run_on.Goals.{in-Absorb, in-Answer}

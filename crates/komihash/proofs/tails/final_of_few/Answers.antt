@@ -1,5 +1,5 @@
 use Rattle.std.proofs.Common.{◌∙◌}
-use Rattle.komihash.proofs.PaddedWords.{final_word-few}
+use Rattle.komihash.proofs.PaddingWords.{final_word-few}
 use Rattle.komihash.proofs.tails.final_of_few.Goals as goal
 
 pub returns : goal.returns

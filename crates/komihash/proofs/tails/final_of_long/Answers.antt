@@ -1,4 +1,4 @@
-use Rattle.komihash.proofs.PaddedWords.{final_word-whole}
+use Rattle.komihash.proofs.PaddingWords.{final_word-whole}
 use Rattle.komihash.proofs.tails.final_of_long.Goals as goal
 
 pub returns-then-bytes-eq0 : goal.returns-then-bytes-eq0

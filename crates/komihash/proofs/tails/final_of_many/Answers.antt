@@ -1,5 +1,5 @@
 use Rattle.std.proofs.Common.{length, ◌%◌, ◌∙◌, arith}
-use Rattle.komihash.proofs.PaddedWords.{final_word-many}
+use Rattle.komihash.proofs.PaddingWords.{final_word-many}
 use Rattle.komihash.proofs.BytesInWords.{AreBytes-typed, word_of-last_eight}
 use Rattle.komihash.proofs.tails.final_of_many.Goals as goal
 

@@ -3,7 +3,7 @@ use Rattle.std.proofs.lemmas.List.{length-take-le, length-drop}
 use Rattle.komihash.specs.Generator.{fill, after_fill}
 use Rattle.komihash.specs.Words.{bytes_of}
 use Rattle.komihash.proofs.BytesOfWords.{to_le_bytes-word}
-use Rattle.komihash.proofs.Filling.{Filled-none, Filled-more, whole-bytes, whole-pair, rest-bytes, rest-pair}
+use Rattle.komihash.proofs.GeneratorFills.{Filled-none, Filled-more, whole-bytes, whole-pair, rest-bytes, rest-pair}
 use Rattle.komihash.proofs.generator.Komirand.fill_bytes.Goals as goal
 
 pub words-init : goal.words-init

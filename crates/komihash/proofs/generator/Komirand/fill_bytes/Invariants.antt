@@ -1,4 +1,4 @@
-use Rattle.komihash.proofs.Filling.{Filled}
+use Rattle.komihash.proofs.GeneratorFills.{Filled}
 use Rattle.komihash.proofs.generator.Komirand.fill_bytes.Given as goal
 
 abbrev pub invariant-words : goal.invariant-words

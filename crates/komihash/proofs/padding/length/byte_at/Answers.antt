@@ -1,6 +1,6 @@
 use Rattle.std.proofs.Common.{◌/◌, ◌%◌, get_or, ap, ◌∙◌}
 use Rattle.komihash.proofs.BytesOfWords.{to_le_bytes-word}
-use Rattle.komihash.proofs.PaddedBack.{byte_of-all_bytes}
+use Rattle.komihash.proofs.PaddingBack.{byte_of-all_bytes}
 use Rattle.komihash.proofs.padding.length.byte_at.Goals as goal
 
 pub returns : goal.returns

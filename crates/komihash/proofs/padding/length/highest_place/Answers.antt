@@ -1,4 +1,4 @@
-use Rattle.komihash.proofs.PaddedBack.{place-above, place-below}
+use Rattle.komihash.proofs.PaddingBack.{place-above, place-below}
 use Rattle.komihash.proofs.padding.length.highest_place.Goals as goal
 
 pub returns-clause-above : goal.returns-clause-above

@@ -3,7 +3,7 @@ use Rattle.std.proofs.lemmas.Bool.{iff_false}
 use Rattle.std.proofs.lemmas.List.{length-take-le}
 use Rattle.komihash.specs.Words.{all_bytes}
 use Rattle.komihash.proofs.BytesOfWords.{length-all_bytes}
-use Rattle.komihash.proofs.PaddedBack.{padded_words-message, end_byte-some, padded-length, padded-zero, padded-some, padded-by_place, padded-end}
+use Rattle.komihash.proofs.PaddingBack.{padded_words-message, end_byte-some, padded-length, padded-zero, padded-some, padded-by_place, padded-end}
 use Rattle.komihash.proofs.padding.length.message_length.Goals as goal
 
 pub returns-else-count-eq1-clause-none : goal.returns-else-count-eq1-clause-none

@@ -1,7 +1,7 @@
 use Rattle.std.proofs.Common.{◌∙◌, ap, arith, sym, refl}
 use Rattle.std.proofs.lemmas.List.{nil_from_length}
 use Rattle.komihash.specs.Padding.{has_top_bit, padding_behind}
-use Rattle.komihash.proofs.Answers.{tail_end-pending}
+use Rattle.komihash.proofs.StreamAnswers.{tail_end-pending}
 use Rattle.komihash.proofs.stream.engine.tail_end.Goals as goal
 
 pub returns-then-len-gt0-clause-byte : goal.returns-then-len-gt0-clause-byte

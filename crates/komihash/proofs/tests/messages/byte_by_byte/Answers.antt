@@ -6,7 +6,7 @@ use Rattle.komihash.specs.Calls.{bytes_of_calls, run_products, onward_kept}
 use Rattle.komihash.specs.Counts.{hash_products, kept_bytes}
 use Rattle.komihash.specs.declared.stream.Call.{Call}
 use Rattle.komihash.specs.declared.stream.Call.TheVariants.{Answer}
-use Rattle.komihash.proofs.Runs.{AreAbsorbs-append, bytes_of_calls-append, onward_kept-append, kept_bytes-one, run_products-pieces}
+use Rattle.komihash.proofs.CallLists.{AreAbsorbs-append, bytes_of_calls-append, onward_kept-append, kept_bytes-one, run_products-pieces}
 use Rattle.komihash.proofs.tests.messages.byte_by_byte.Goals as goal
 
 pub loop-i-preserved : goal.loop-i-preserved

@@ -2,7 +2,7 @@ use Rattle.std.proofs.Common.{◌≡◌, ◌+◌, ◌-◌, ◌%◌, ◌∙◌, �
 use Rattle.std.proofs.lemmas.List.{drop-drop, length-drop, length-take-le, take-append-drop}
 use Rattle.komihash.specs.Calls.{bytes_of_calls, onward_products, onward_kept}
 use Rattle.komihash.specs.Stream.{absorb, answer}
-use Rattle.komihash.proofs.Runs.{pending-absorb, onward_products-cut, onward_kept-cut, length-answers_after, counted}
+use Rattle.komihash.proofs.CallLists.{pending-absorb, onward_products-cut, onward_kept-cut, length-answers_after, counted}
 use Rattle.komihash.proofs.tests.rests.run_with_rests.Goals as goal
 
 pub loop-i-preserved : goal.loop-i-preserved

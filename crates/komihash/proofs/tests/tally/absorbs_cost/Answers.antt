@@ -2,7 +2,7 @@
 use Rattle.std.proofs.Common.{◌≡◌, ◌+◌, length, take, ap, ◌∙◌, arith, lit<}
 use Rattle.std.proofs.lemmas.List.{length-take-le}
 use Rattle.komihash.specs.Counts.{kept_bytes}
-use Rattle.komihash.proofs.Runs.{pending_after}
+use Rattle.komihash.proofs.CallLists.{pending_after}
 use Rattle.komihash.proofs.tests.tally.absorbs_cost.Given.{Over}
 use Rattle.komihash.proofs.tests.tally.absorbs_cost.Goals as goal
 

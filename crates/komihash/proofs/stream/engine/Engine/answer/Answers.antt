@@ -5,7 +5,7 @@ use Rattle.komihash.specs.Hash.{hash_from_pair}
 use Rattle.komihash.specs.Rounds.{join, closing}
 use Rattle.komihash.specs.Stream.{State, answer}
 use Rattle.komihash.specs.Tails.{whole_words, final_word, tail_end}
-use Rattle.komihash.proofs.Answers.{answer-by_pair, answer-none}
+use Rattle.komihash.proofs.StreamAnswers.{answer-by_pair, answer-none}
 use Rattle.komihash.proofs.WholeWords.{length-whole_words}
 use Rattle.komihash.proofs.stream.engine.Engine.answer.Goals as goal
 

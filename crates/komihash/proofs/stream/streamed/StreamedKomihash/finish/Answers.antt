@@ -1,6 +1,6 @@
 use Rattle.std.proofs.Common.{◌≡◌, ◌∙◌, ap, rules}
 use Rattle.komihash.specs.Stream.{HasAbsorbed, answer}
-use Rattle.komihash.proofs.Answers.{answer-joined}
+use Rattle.komihash.proofs.StreamAnswers.{answer-joined}
 use Rattle.komihash.proofs.stream.streamed.StreamedKomihash.finish.Goals as goal
 
 pub returns-clause-hash : goal.returns-clause-hash

@@ -1,6 +1,6 @@
 use Rattle.std.proofs.Common.{◌≡◌, rules}
 use Rattle.komihash.specs.Stream.{absorb}
-use Rattle.komihash.proofs.Runs.{HasAbsorbed-more}
+use Rattle.komihash.proofs.CallLists.{HasAbsorbed-more}
 use Rattle.komihash.proofs.stream.streamed.StreamedKomihash.write.Goals as goal
 
 pub returns-clause-message : goal.returns-clause-message

@@ -10,8 +10,8 @@ use Rattle.komihash.specs.Hash.{komi}
 use Rattle.komihash.specs.Stream.{State, HasAbsorbed, start, absorb, answer}
 use Rattle.komihash.specs.declared.stream.Call.{Call}
 use Rattle.komihash.specs.declared.stream.Call.TheVariants.{Absorb, Answer}
-use Rattle.komihash.proofs.Absorbing.{absorb-append, absorb-few, absorb-blocks}
-use Rattle.komihash.proofs.Answers.{answer-joined}
+use Rattle.komihash.proofs.StreamAbsorbs.{absorb-append, absorb-few, absorb-blocks}
+use Rattle.komihash.proofs.StreamAnswers.{answer-joined}
 
 -- two functions that agree on all that may come have the same answers
 answers_after-same : (f g : List ℕ → ℕ) (m n : List ℕ) (calls : List Call) → ((x : List ℕ) → f (m ++ x) ≡ g (n ++ x)) → answers_after f m calls ≡ answers_after g n calls

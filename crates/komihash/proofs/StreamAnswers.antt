@@ -9,10 +9,10 @@ use Rattle.komihash.specs.Stream.{State, start, absorb, answer, tail_of}
 use Rattle.komihash.specs.Tails.{tail_end, whole_words, after_words, final_word, end_byte, block_lanes, after_blocks}
 use Rattle.komihash.specs.Padding.{has_top_bit, padding_byte}
 use Rattle.komihash.specs.Words.{word_of}
-use Rattle.komihash.proofs.Absorbing.{blocks_state, absorb-few, absorb-blocks}
+use Rattle.komihash.proofs.StreamAbsorbs.{blocks_state, absorb-few, absorb-blocks}
 use Rattle.komihash.proofs.Blocks.{hash_from_lanes-k_blocks}
 use Rattle.komihash.proofs.HashSteps.{komi-by_lanes, komi-by_pair}
-use Rattle.komihash.proofs.PaddedWords.{padded_words-by_tail}
+use Rattle.komihash.proofs.PaddingWords.{padded_words-by_tail}
 use Rattle.komihash.proofs.WholeWords.{after_words-append}
 
 tail_of-words : (v : ℕ) (m : List ℕ) (absorbed top_bit : Bool)

@@ -12,7 +12,7 @@ use Rattle.komihash.specs.Words.{AreBytes, word_of, bytes_of, all_bytes}
 use Rattle.komihash.proofs.Lists.{take-more}
 use Rattle.komihash.proofs.BytesOfWords.{take-all_bytes, drop-all_bytes, length-bytes_of, length-all_bytes}
 use Rattle.komihash.proofs.WholeWords.{length-whole_words, length-after_words, whole_words-few, after_words-few, after_words-drop}
-use Rattle.komihash.proofs.PaddedWords.{padded_words-by_tail}
+use Rattle.komihash.proofs.PaddingWords.{padded_words-by_tail}
 use Rattle.komihash.proofs.BytesInWords.{AreBytes-take, pow_byte, word_of-append, word_of-lt, AreBytes-drop}
 
 -- ---- a word and its bytes
