@@ -1,6 +1,9 @@
+pub mod Ending
 pub mod Fault
 pub mod Hex
+pub mod Line
 pub mod Refusal
 pub mod Settings
-pub mod Short
+pub mod Taken
 pub mod Version
+pub mod Watched

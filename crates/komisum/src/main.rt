@@ -4,26 +4,26 @@
 //! `4` or `5` with a seed of 1 to 16 lower-case hexadecimal digits.
 #![tactic(auto)]
 
+mod digest;
+mod ending;
 mod fault;
 mod hex;
+mod program;
 mod refusal;
+mod report;
 mod settings;
-mod short;
-mod status;
+mod show;
 #[cfg(test)]
 mod tests;
 mod version;
+mod watched;
 mod words;
+mod writing;
 
 use std::process::ExitCode;
+use watched::Watched;
 
 fn main(rt: HostRuntime) -> ExitCode {
-    let (version, seed) = match words::settings_given(&rt) {
-        Ok(settings) => settings,
-        Err(refusal) => return status::report(&rt, refusal.text(), refusal.status()),
-    };
-    match short::show_short(&mut rt.stdin(), &mut rt.stdout(), version, seed) {
-        Ok(()) => ExitCode::SUCCESS,
-        Err(fault) => status::report(&rt, fault.text(), 1),
-    }
+    let ending = program::run(&rt, rt.stdin(), &mut Watched::new(rt.stdout()));
+    report::report(&mut Watched::new(rt.stderr()), &ending)
 }

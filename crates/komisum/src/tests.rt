@@ -1,8 +1,11 @@
 //! Tests of the calls, on values from elsewhere.
 
+mod digest;
 mod fakes;
 mod hex;
+mod messages;
+mod program;
 mod settings;
-mod short;
+mod show;
 mod texts;
-mod words;
+mod watched;

@@ -23,8 +23,8 @@ fn refusal_for(error: &io::Error) -> Refusal
     }
 }
 
-// The words behind the program's name.
-fn words_given<R: Env + AllocGlobal>(rt: &R) -> Result<Vec<String>, Refusal> {
+/// The words behind the program's name.
+pub fn words_given<R: Env + AllocGlobal>(rt: &R) -> Result<Vec<String>, Refusal> {
     match env::args(rt) {
         Ok(words) => words
             .skip(1)
@@ -46,8 +46,8 @@ fn texts_of<'a, R: AllocGlobal>(rt: &R, words: &'a [String]) -> Result<Vec<&'a s
     Ok(texts)
 }
 
-// The version and the seed that words ask for.
-fn settings_in<R: AllocGlobal>(rt: &R, words: &[String]) -> Result<(Version, u64), Refusal>
+/// The version and the seed that words ask for.
+pub fn settings_in<R: AllocGlobal>(rt: &R, words: &[String]) -> Result<(Version, u64), Refusal>
     ensures ok { IfOk result (λ settings.
         settings_of (map string_bytes words.now) ≡ Some settings) }
     ensures usage { result ≡ Err Refusal.Usage → settings_of (map string_bytes words.now) ≡ None }
@@ -56,13 +56,4 @@ fn settings_in<R: AllocGlobal>(rt: &R, words: &[String]) -> Result<(Version, u64
         Ok(texts) => settings(texts.as_slice()).ok_or(Refusal::Usage),
         Err(_) => Err(Refusal::NoMemory),
     }
-}
-
-/// The version and the seed that the program's words ask for.
-///
-/// It is `NoMemory` where there is no memory for the words, and else `Usage` where they ask for no
-/// version and seed, or one is not UTF-8.
-pub fn settings_given<R: Env + AllocGlobal>(rt: &R) -> Result<(Version, u64), Refusal> {
-    let words = words_given(rt)?;
-    settings_in(rt, words.as_slice())
 }

@@ -66,6 +66,11 @@ impl<'a> FakeReader<'a> {
             calls,
         }
     }
+
+    /// The reads that it was asked for.
+    pub fn reads(&self) -> usize {
+        self.calls.made
+    }
 }
 
 impl Read for FakeReader<'_> {
@@ -83,18 +88,18 @@ impl Read for FakeReader<'_> {
 /// A writer that holds the first bytes that it took, and takes a few a call. A flush is a call.
 #[derive(Drop)]
 pub struct FakeWriter {
-    held: [u8; 32],
+    held: [u8; 64],
     count: usize,
     most: usize,
     calls: Calls,
-    ghost within: { count ≤ 32 },
+    ghost within: { count ≤ 64 },
 }
 
 impl FakeWriter {
     /// A writer that takes at most `most` bytes a call.
     pub fn new(most: usize, calls: Calls) -> Self {
         FakeWriter {
-            held: [0; 32],
+            held: [0; 64],
             count: 0,
             most,
             calls,
@@ -105,6 +110,11 @@ impl FakeWriter {
     pub fn taken(&self) -> &[u8] {
         &self.held[..self.count]
     }
+
+    /// The writes and flushes that it was asked for.
+    pub fn calls(&self) -> usize {
+        self.calls.made
+    }
 }
 
 impl Write for FakeWriter {
@@ -112,7 +122,7 @@ impl Write for FakeWriter {
         if !self.calls.next()? {
             return Ok(0);
         }
-        let count = self.most.min(buf.len()).min(32 - self.count);
+        let count = self.most.min(buf.len()).min(64 - self.count);
         self.held[self.count..self.count + count].copy_from_slice(&buf[..count]);
         self.count += count;
         Ok(count)

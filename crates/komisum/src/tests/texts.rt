@@ -1,7 +1,11 @@
 //! What the program says where something went wrong.
 
+use super::fakes::{Calls, FakeWriter, Stop};
+use crate::ending::Ending;
 use crate::fault::Fault;
 use crate::refusal::Refusal;
+use crate::report::report;
+use crate::watched::Watched;
 
 #[test]
 fn texts_of_faults(rt: HostRuntime) {
@@ -11,9 +15,36 @@ fn texts_of_faults(rt: HostRuntime) {
 }
 
 #[test]
-fn refusals(rt: HostRuntime) {
-    assert_eq!(rt; Refusal::NoMemory.text(), "no memory");
-    assert_eq!(rt; Refusal::NoMemory.status(), 1);
-    assert_eq!(rt; Refusal::Usage.text(), "usage: komisum [4|5 SEED]");
-    assert_eq!(rt; Refusal::Usage.status(), 2);
+fn lines_and_statuses(rt: HostRuntime) {
+    let endings: [(Ending, &[u8], u8); 6] = [
+        (Ending::Shown, b"", 0),
+        (Ending::Failed(Fault::Read), b"komisum: read failed\n", 1),
+        (Ending::Failed(Fault::TooLong), b"komisum: too long\n", 1),
+        (Ending::Failed(Fault::Write), b"komisum: write failed\n", 1),
+        (
+            Ending::Refused(Refusal::NoMemory),
+            b"komisum: no memory\n",
+            1,
+        ),
+        (
+            Ending::Refused(Refusal::Usage),
+            b"komisum: usage: komisum [4|5 SEED]\n",
+            2,
+        ),
+    ];
+    for (ending, line, status) in endings {
+        let mut errors = Watched::new(FakeWriter::new(7, Calls::endless()));
+        report(&mut errors, &ending);
+        assert_eq!(rt; errors.into_inner().taken(), line);
+        assert_eq!(rt; ending.status(), status);
+    }
+}
+
+#[test]
+fn a_line_that_cannot_be_written(rt: HostRuntime) {
+    let mut errors = Watched::new(FakeWriter::new(7, Calls::stopping(Stop::Fails, 3)));
+    report(&mut errors, &Ending::Failed(Fault::TooLong));
+    let writer = errors.into_inner();
+    assert_eq!(rt; writer.taken(), b"komisum: ".as_slice());
+    assert_eq!(rt; writer.calls(), 3);
 }

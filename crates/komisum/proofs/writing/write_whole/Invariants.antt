@@ -1,12 +1,13 @@
 -- What is written is the beginning of the bytes.
-use Rattle.std.proofs.Common.{length, ◌-◌, ◌≤◌, take}
+use Rattle.std.proofs.Common.{◌≡◌, length, ◌-◌, ◌≤◌, take, false}
 use Rattle.std.specs.Io.KnownBytes.{Appends}
-use Rattle.komisum.proofs.short.write_whole.Given as goal
+use Rattle.komisum.proofs.writing.write_whole.Given as goal
 
 abbrev pub invariant-loop-written : goal.invariant-loop-written
 invariant-loop-written g l = record {
   within : l.written ≤ length l.bytes;
-  bytes : Appends (g.W.Write.contents l.fn.writer) (g.W.Write.contents l.writer) (take l.written l.bytes);
+  bytes : Appends (g.W.Write.contents l.fn.writer.inner) (g.W.Write.contents l.writer.inner) (take l.written l.bytes);
+  sound : l.writer.failed ≡ false;
 }
 
 abbrev pub decreases-loop-written : goal.decreases-loop-written

@@ -1,0 +1,18 @@
+-- The stream has absorbed what the reader gave, which is no more than may come.
+use Rattle.std.proofs.Common.{◌≡◌, List, ℕ, ◌-◌, ◌≤◌, length, false}
+use Rattle.std.specs.Io.KnownBytes.{Consumes}
+use Rattle.komihash.specs.Stream.{start, absorb}
+use Rattle.komisum.proofs.digest.digest.Given as goal
+
+abbrev pub invariant-loop-stream : goal.invariant-loop-stream
+invariant-loop-stream g l = (bytes : List ℕ) × record {
+  state : g.S.KomiStream.state l.stream ≡ absorb g.S.KomiStream.VERSION (start l.seed) bytes;
+  consumed : Consumes (g.R.Read.remaining l.fn.reader.inner) (g.R.Read.remaining l.reader.inner) bytes;
+  count : l.taken ≡ length bytes;
+  within : l.taken ≤ l.most;
+  room : length l.chunk ≡ length l.fn.chunk;
+  sound : l.reader.failed ≡ false;
+}
+
+abbrev pub decreases-loop-stream : goal.decreases-loop-stream
+decreases-loop-stream g l = l.most - l.taken

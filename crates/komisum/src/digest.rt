@@ -1,0 +1,67 @@
+//! The hash of all that a reader gives.
+
+ghost use Rattle.std.specs.Prelude.{◌≡◌, ◌≢◌, ◌↔◌, ℕ, ◌+◌, ◌^◌, ◌<◌, ◌≤◌, length, true, false, OnOk, IfOk, IfSome};
+ghost use Rattle.std.specs.Io.KnownBytes.{IsAtEnd};
+ghost use Rattle.komihash.specs.Hash.{komi};
+ghost use Rattle.komisum.specs.Taken.{Takes};
+
+use crate::fault::Fault;
+use crate::watched::Watched;
+use komihash::laws;
+use komihash::stream::KomiStream;
+use komihash::tally::Tally;
+use std::io::Read;
+
+/// The hash of all bytes that a reader has left, in the version of `S`.
+///
+/// It reads into `chunk`, until a read answers 0. It is `Read` where a read answers an error, of any
+/// kind, and `TooLong` where more than `most` bytes came. Then it asks the reader for nothing more,
+/// which stands behind the bytes taken. It makes at most `most + 1` reads.
+///
+/// The chunk must not be empty, and the reader must not have failed before.
+pub fn digest<R: Read, S: KomiStream>(
+    reader: &mut Watched<R>,
+    seed: u64,
+    chunk: &mut [u8],
+    most: u64,
+) -> Result<u64, Fault>
+    requires room { 0 < length chunk.old }
+    requires most { most < 2 ^ 63 }
+    requires sound { reader.old.failed ≡ false }
+
+    // The number is the hash of all bytes, and none is left.
+    ensures hash { IfOk result (λ hash. IfSome (R.remaining reader.old.inner) (λ bytes.
+        hash ≡ komi S.VERSION seed bytes)) }
+    ensures all_read { OnOk result (IsAtEnd (R.remaining reader.new.inner)) }
+
+    // Each fault comes exactly where it is due.
+    ensures read { (result ≡ Err Fault.Read) ↔ (reader.new.failed ≡ true) }
+    ensures too_long { Takes (R.remaining reader.old.inner) (R.remaining reader.new.inner) (λ taken.
+        (result ≡ Err Fault.TooLong) ↔ (reader.new.failed ≡ false) × (most < taken)) }
+    ensures no_write { result ≢ Err Fault.Write }
+
+    // No more is taken than shows that there is too much, and nothing is asked for after a fault.
+    ensures bound { Takes (R.remaining reader.old.inner) (R.remaining reader.new.inner) (λ taken.
+        taken ≤ most + length chunk.old) }
+    ensures read_bound { result ≡ Err Fault.Read
+        → Takes (R.remaining reader.old.inner) (R.remaining reader.new.inner) (λ taken. taken ≤ most) }
+{
+    laws::cut();
+    laws::joined();
+    let tally = &mut Tally::new();
+    let mut stream = S::start(seed, tally);
+    let mut taken = 0u64;
+    loop {
+        match reader.read(chunk) {
+            Ok(0) => return Ok(stream.answer(tally)),
+            Ok(count) => {
+                taken += count as u64;
+                if taken > most {
+                    return Err(Fault::TooLong);
+                }
+                stream.absorb(&chunk[..count], tally);
+            }
+            Err(_) => return Err(Fault::Read),
+        }
+    }
+}

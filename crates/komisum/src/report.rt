@@ -1,0 +1,45 @@
+//! What the program says where something went wrong.
+
+ghost use Rattle.std.specs.Prelude.{◌≡◌, ◌↔◌, true, false, Some, OnOk, IsErr};
+ghost use Rattle.std.specs.Io.KnownBytes.{Appends};
+ghost use Rattle.std.specs.Process.{exit_status};
+ghost use Rattle.komisum.specs.Ending.{said, text_of, status_of};
+ghost use Rattle.komisum.specs.Line.{AppendsPrefix};
+
+use crate::ending::Ending;
+use crate::fault::Fault;
+use crate::watched::Watched;
+use crate::writing::write_whole;
+use std::io::Write;
+use std::process::ExitCode;
+
+// Writes what went wrong as a line.
+fn write_message<W: Write>(errors: &mut Watched<W>, text: &str) -> Result<(), Fault>
+    requires { errors.old.failed ≡ false }
+    ensures whole { OnOk result
+        (Appends (W.contents errors.old.inner) (W.contents errors.new.inner) (said (Some text.now))) }
+    ensures begun { AppendsPrefix (W.contents errors.old.inner) (W.contents errors.new.inner)
+        (said (Some text.now)) }
+    ensures failed { IsErr result ↔ (errors.new.failed ≡ true) }
+{
+    write_whole(errors, b"komisum: ")?;
+    write_whole(errors, text.as_bytes())?;
+    write_whole(errors, b"\n")
+}
+
+/// Writes what went wrong, if anything, as a line, and gives the status to end with. A fault in
+/// writing it changes nothing.
+pub fn report<W: Write>(errors: &mut Watched<W>, ending: &Ending) -> ExitCode
+    requires { errors.old.failed ≡ false }
+    ensures status { exit_status result ≡ status_of ending.now }
+    ensures line { errors.new.failed ≡ false
+        → Appends (W.contents errors.old.inner) (W.contents errors.new.inner)
+        (said (text_of ending.now)) }
+    ensures begun { AppendsPrefix (W.contents errors.old.inner) (W.contents errors.new.inner)
+        (said (text_of ending.now)) }
+{
+    if let Some(text) = ending.text() {
+        let _ = write_message(errors, text);
+    }
+    ExitCode::from(ending.status())
+}

@@ -1,0 +1,97 @@
+//! Hashes of what readers give, and what faults leave.
+
+ghost use Rattle.std.specs.Prelude.{◌<◌, ◌≤◌, ◌^◌};
+
+use super::fakes::{Calls, FakeReader, Stop};
+use super::messages::{TO_SEVEN, TO_SIX, TO_ZERO};
+use crate::digest::digest;
+use crate::watched::Watched;
+use komihash::stream::KomiStream;
+use komihash::{v4, v5};
+
+// What the call answers into a chunk of `room` bytes, and how many reads it makes.
+fn digested<S: KomiStream>(
+    reader: FakeReader<'_>,
+    most: u64,
+    room: usize,
+) -> (Result<u64, &'static str>, usize)
+    requires room { 0 < room }
+    requires fits { room ≤ 96 }
+    requires most { most < 2 ^ 63 }
+{
+    let mut chunk = [0xeeu8; 96];
+    let mut reader = Watched::new(reader);
+    let result = digest::<_, S>(&mut reader, 0, &mut chunk[..room], most);
+    (
+        result.map_err(|fault| fault.text()),
+        reader.into_inner().reads(),
+    )
+}
+
+// The same in version 5, where the reader gives at most `at_once` bytes a read.
+fn in_five(bytes: &[u8], at_once: usize, most: u64, room: usize) -> Result<u64, &'static str>
+    requires room { 0 < room }
+    requires fits { room ≤ 96 }
+    requires most { most < 2 ^ 63 }
+{
+    let reader = FakeReader::new(bytes, at_once, Calls::endless());
+    digested::<v5::StreamedKomihash>(reader, most, room).0
+}
+
+#[test]
+fn any_chunk(rt: HostRuntime) {
+    for room in [1, 7, 64, 95, 96] {
+        assert_eq!(rt;
+            in_five(&TO_ZERO, 96, 16, room),
+            Ok(0),
+            "16 bytes by {room}"
+        );
+        assert_eq!(rt;
+            in_five(&TO_ZERO, 96, 15, room),
+            Err("too long"),
+            "16 bytes by {room}"
+        );
+        assert_eq!(rt; in_five(&TO_SIX, 96, 95, room), Ok(6), "95 bytes by {room}");
+        assert_eq!(rt;
+            in_five(&TO_SIX, 1, 95, room),
+            Ok(6),
+            "one by one, by {room}"
+        );
+        assert_eq!(rt;
+            in_five(&TO_SIX, 96, 94, room),
+            Err("too long"),
+            "95 bytes by {room}"
+        );
+    }
+    assert_eq!(rt; in_five(b"", 96, 0, 96), Ok(0xb7683ea7430132b4));
+    assert_eq!(rt; in_five(b"a", 96, 0, 96), Err("too long"));
+}
+
+#[test]
+fn version_four(rt: HostRuntime) {
+    let reader = FakeReader::new(&TO_SEVEN, 7, Calls::endless());
+    let (answer, _) = digested::<v4::StreamedKomihash>(reader, 31, 96);
+    assert_eq!(rt; answer, Ok(7));
+}
+
+#[test]
+fn nothing_is_read_after_a_fault(rt: HostRuntime) {
+    for call in 1..=15 {
+        let reader = FakeReader::new(&TO_SIX, 7, Calls::stopping(Stop::Fails, call));
+        let answer = digested::<v5::StreamedKomihash>(reader, 95, 96);
+        assert_eq!(rt; answer, (Err("read failed"), call));
+    }
+    let reader = FakeReader::new(&TO_SIX, 7, Calls::stopping(Stop::Fails, 16));
+    let answer = digested::<v5::StreamedKomihash>(reader, 95, 96);
+    assert_eq!(rt; answer, (Ok(6), 15));
+    let reader = FakeReader::new(&TO_SIX, 7, Calls::endless());
+    let answer = digested::<v5::StreamedKomihash>(reader, 20, 96);
+    assert_eq!(rt; answer, (Err("too long"), 3));
+}
+
+#[test]
+fn a_read_of_none_is_the_end(rt: HostRuntime) {
+    let reader = FakeReader::new(&TO_SIX, 64, Calls::stopping(Stop::MovesNone, 2));
+    let answer = digested::<v5::StreamedKomihash>(reader, 95, 96);
+    assert_eq!(rt; answer, (Ok(0x2a2f07ac93810128), 2));
+}
