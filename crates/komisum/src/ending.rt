@@ -15,8 +15,18 @@ pub enum Ending {
 }
 
 impl Ending {
-    ghost use Rattle.std.specs.Prelude.{◌≡◌, None, Some, MatchOption};
+    ghost use Rattle.std.specs.Prelude.{◌≡◌, None, Some, MatchOption, MatchResult};
     ghost use Rattle.komisum.specs.Ending.{text_of, status_of};
+
+    /// The ending behind what `show` answered.
+    pub fn of(shown: Result<(), Fault>) -> Self
+        ensures { MatchResult shown (λ _. result ≡ Ending.Shown) (λ fault. result ≡ Ending.Failed fault) }
+    {
+        match shown {
+            Ok(()) => Ending::Shown,
+            Err(fault) => Ending::Failed(fault),
+        }
+    }
 
     /// What went wrong, if anything.
     pub fn text(&self) -> Option<&'static str>

@@ -24,6 +24,6 @@ use std::process::ExitCode;
 use watched::Watched;
 
 fn main(rt: HostRuntime) -> ExitCode {
-    let ending = program::run(&rt, rt.stdin(), &mut Watched::new(rt.stdout()));
+    let ending = program::run(&rt, &mut rt.stdin(), &mut Watched::new(rt.stdout()));
     report::report(&mut Watched::new(rt.stderr()), &ending)
 }

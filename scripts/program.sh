@@ -1,0 +1,116 @@
+#!/usr/bin/env bash
+# Tests of the built program: what no contract says of it. Each case prints a line; the last line is 'N passed, M failed'.
+# It needs bash, the coreutils and the program, which `rt run` builds where it is not built yet.
+set -uo pipefail
+cd "$(dirname "$0")/../crates/komisum" || exit 1
+
+room=$(mktemp -d)
+trap 'rm -rf "$room"' EXIT
+if ! rt run < stdin > "$room/built" 2>&1; then
+    cat "$room/built"
+    exit 1
+fi
+program=$PWD/out/komisum
+passed=0
+failed=0
+
+# Notes a case: whether what came is what was wanted.
+note() {
+    local name=$1 wanted=$2 came=$3
+    if [ "$wanted" = "$came" ]; then
+        passed=$((passed + 1))
+        echo "ok: $name"
+    else
+        failed=$((failed + 1))
+        echo "FAILED: $name"
+        printf 'wanted:\n%s\ncame:\n%s\n' "$wanted" "$came"
+    fi
+}
+
+# Runs the program with words, and prints its status, its output and its errors, each behind its name.
+run() {
+    "$program" "$@" > "$room/output" 2> "$room/errors"
+    told $?
+}
+
+# Prints a status, and what stands in the files of the last output and errors.
+told() {
+    printf 'status %s\n' "$1"
+    printf 'output %s|\n' "$(cat "$room/output"; printf .)"
+    printf 'errors %s|\n' "$(cat "$room/errors"; printf .)"
+}
+
+# What run prints for a line, and for a fault.
+line() { printf 'status 0\noutput %s\n.|\nerrors .|\n' "$1"; }
+fault() { printf 'status %s\noutput .|\nerrors komisum: %s\n.|\n' "$1" "$2"; }
+
+usage='usage: komisum [4|5 SEED]'
+printf a > "$room/a"
+
+# The words that it takes. The lines are those of the Rust crate.
+note 'the stored run' "$(line "$(cat stdout)")" "$(run < stdin)"
+note 'no words' "$(line 5117f5064cfd0faa)" "$(run < "$room/a")"
+note 'version 5 and seed 0' "$(line 5117f5064cfd0faa)" "$(run 5 0 < "$room/a")"
+note 'version 4 and a seed' "$(line 4bde5bdc63771675)" "$(run 4 1f < "$room/a")"
+note 'the greatest seed' "$(line 4bcc041f3f885859)" "$(run 5 ffffffffffffffff < /dev/null)"
+
+# The words that it refuses: of the input nothing is read.
+refuse() {
+    local name=$1
+    shift
+    note "refused: $name" "$(fault 2 "$usage")" "$(run "$@" < "$room/a")"
+    note "nothing read: $name" a "$({ "$program" "$@" 2> "$room/errors"; cat; } < "$room/a")"
+}
+refuse 'one word' 5
+refuse 'three words' 5 0 0
+refuse 'an empty version' '' 0
+refuse 'an empty seed' 5 ''
+refuse 'version 6' 6 0
+refuse 'capitals' 5 FF
+refuse 'seventeen digits' 5 00000000000000000
+refuse 'no digit' 5 g
+refuse 'a word that is not UTF-8' 5 $'\xff'
+refuse 'a third word that is not UTF-8' 5 0 $'\xff'
+
+# Inputs and outputs that go wrong.
+note 'a folder' "$(fault 1 'read failed')" "$(run < /)"
+note 'closed input' "$(fault 1 'read failed')" "$(run <&-)"
+: > "$room/output"
+note 'closed output' "$(fault 1 'write failed')" "$("$program" < stdin >&- 2> "$room/errors"; told $?)"
+if [ -e /dev/full ]; then
+    note 'full output' "$(fault 1 'write failed')" "$("$program" < stdin > /dev/full 2> "$room/errors"; told $?)"
+    note 'full errors' 'status 1' "$("$program" < / 2> /dev/full; printf 'status %s' $?)"
+fi
+note 'closed errors' 'status 1' "$("$program" < / 2>&-; printf 'status %s' $?)"
+note 'closed errors at usage' 'status 2' "$("$program" 6 0 < /dev/null 2>&-; printf 'status %s' $?)"
+note 'a pipe that closes early' "$(fault 1 'write failed')" \
+    "$({ sleep 0.2; printf a; } | { "$program" 2> "$room/errors"; printf %s $? > "$room/status"; } | true; told "$(cat "$room/status")")"
+
+# Sizes round the chunk and the buffer, by a file and by a slow pipe. The message is what `seq` prints.
+message() { seq 1 100000 | head -c "$1"; }
+slow_message() {
+    local half=$(($1 / 2))
+    message "$1" > "$room/slow"
+    head -c "$half" "$room/slow"
+    sleep 0.05
+    tail -c "+$((half + 1))" "$room/slow"
+}
+while read -r size five four; do
+    message "$size" > "$room/message"
+    note "$size bytes of a file, version 5" "$(line "$five")" "$(run < "$room/message")"
+    note "$size bytes of a file, version 4" "$(line "$four")" "$(run 4 1f < "$room/message")"
+    note "$size bytes of a slow pipe" "$(line "$five")" "$(slow_message "$size" | run)"
+done << 'SIZES'
+0 b7683ea7430132b4 f80fbf600441f1bd
+1 7f7f0c9b903d173d 1b8661ed829a60b5
+4095 69806fc0c3cc5d40 ef12c1e4d7a95ab5
+4096 1b3c4e665cc74b70 dea512fcedc8e721
+4097 191d2fed557f1698 323c66cc2b7850c7
+65535 df8db897ce0759de 67e3d1ad2c888534
+65536 3af8ee05196faaef 8ed2b597002c4474
+65537 8a4bc5027a81c850 96048246b1a98f8e
+200000 f1226606918aa970 5fcaf5a4c1809abc
+SIZES
+
+echo "$passed passed, $failed failed"
+[ "$failed" = 0 ]
