@@ -8,6 +8,8 @@ room=$(mktemp -d)
 trap 'rm -rf "$room"' EXIT
 if ! rt run < stdin > "$room/built" 2>&1; then
     cat "$room/built"
+    echo 'FAILED: the program is built, and its stored run ends well'
+    echo '0 passed, 1 failed'
     exit 1
 fi
 program=$PWD/out/komisum
