@@ -37,7 +37,7 @@ pub fn digest<R: Read, S: KomiStream>(
     // Each fault comes exactly where it is due.
     ensures read { (result ≡ Err Fault.Read) ↔ (reader.new.failed ≡ true) }
     ensures too_long { Takes (R.remaining reader.old.inner) (R.remaining reader.new.inner) (λ taken.
-        (result ≡ Err Fault.TooLong) ↔ (reader.new.failed ≡ false) × (most < taken)) }
+        (result ≡ Err Fault.TooLong) ↔ ((reader.new.failed ≡ false) × (most < taken))) }
     ensures no_write { result ≢ Err Fault.Write }
 
     // No more is taken than shows that there is too much, and nothing is asked for after a fault.

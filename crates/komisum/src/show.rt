@@ -46,7 +46,7 @@ pub fn show<R: Read, W: Write>(
     // Each fault comes exactly where it is due.
     ensures read { (result ≡ Err Fault.Read) ↔ (reader.new.failed ≡ true) }
     ensures too_long { Takes (R.remaining reader.old.inner) (R.remaining reader.new.inner) (λ taken.
-        (result ≡ Err Fault.TooLong) ↔ (reader.new.failed ≡ false) × (2 ^ 40 < taken)) }
+        (result ≡ Err Fault.TooLong) ↔ ((reader.new.failed ≡ false) × (2 ^ 40 < taken))) }
     ensures write { (result ≡ Err Fault.Write) ↔ (writer.new.failed ≡ true) }
 
     // Of an input that cannot be had, or is too long, nothing is written.

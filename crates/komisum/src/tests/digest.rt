@@ -81,6 +81,9 @@ fn nothing_is_read_after_a_fault(rt: HostRuntime) {
         let answer = digested::<v5::StreamedKomihash>(reader, 95, 96);
         assert_eq!(rt; answer, (Err("read failed"), call));
     }
+    let reader = FakeReader::new(&TO_ZERO, 8, Calls::stopping(Stop::Fails, 2));
+    let answer = digested::<v5::StreamedKomihash>(reader, 16, 96);
+    assert_eq!(rt; answer, (Err("read failed"), 2));
     let reader = FakeReader::new(&TO_SIX, 7, Calls::stopping(Stop::Fails, 16));
     let answer = digested::<v5::StreamedKomihash>(reader, 95, 96);
     assert_eq!(rt; answer, (Ok(6), 15));
