@@ -1,6 +1,6 @@
 -- A stream's fields and its text: what is written of them, and what they are read from.
-use Rattle.std.proofs.Common.{◌≡◌, ℕ, ◌+◌, ◌-◌, ◌<◌, ◌≤◌, List, ◌++◌, length, take, drop, ap, arith, ◌∙◌, sym, subst}
-use Rattle.std.proofs.lemmas.List.{length-append, length-drop, take_at, drop_at, drop-drop}
+use Rattle.std.proofs.Common.{◌≡◌, ℕ, ◌+◌, ◌-◌, ◌≤◌, List, ◌++◌, length, take, drop, ap, arith, ◌∙◌, sym}
+use Rattle.std.proofs.lemmas.List.{length-append, take_at, drop_at, drop-drop}
 use Rattle.std.specs.Prelude.{slice_index, ◌==◌}
 use Rattle.komihash.specs.Halves.{lanes_in, state_in}
 use Rattle.komihash.specs.Saved.{in_order}

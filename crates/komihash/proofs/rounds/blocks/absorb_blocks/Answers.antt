@@ -1,4 +1,4 @@
-use Rattle.std.proofs.Common.{◌≡◌, ◌+◌, ◌-◌, ◌/◌, ◌%◌, ◌<◌, ◌≤◌, ◌∙◌, length, refl, arith, sym, ap}
+use Rattle.std.proofs.Common.{◌≡◌, ◌+◌, ◌≤◌, ◌∙◌, length, refl, arith, sym, ap}
 use Rattle.std.proofs.lemmas.List.{length-drop}
 use Rattle.komihash.specs.Halves.{lanes_in}
 use Rattle.komihash.proofs.Blocks.{block_lanes-next, after_blocks-next, block_lanes-few_bytes, after_blocks-few}

@@ -1,10 +1,9 @@
 -- with e at 0, the closing with one word multiplies by 0 twice
-use Rattle.std.proofs.Common.{◌≡◌, ℕ, ◌*◌, ◌<◌, List, [], ◌∷◌, ◌++◌, length, refl, ap, arith, ◌∙◌, sym}
+use Rattle.std.proofs.Common.{◌≡◌, ℕ, ◌*◌, List, [], ◌∷◌, ◌++◌, refl, ap, arith, ◌∙◌, sym}
 use Rattle.std.specs.Prelude.{bit_xor}
 use Rattle.komihash.specs.Hash.{hash_from_pair}
-use Rattle.komihash.specs.Padding.{padded_words}
 use Rattle.komihash.specs.Rounds.{closing, mix, mix_again, pair_round, seed_pair}
-use Rattle.komihash.specs.Tails.{end_byte, final_word, whole_words}
+use Rattle.komihash.specs.Tails.{end_byte, final_word}
 use Rattle.komihash.proofs.HashSteps.{komi-by_pair}
 use Rattle.komihash.proofs.WholeWords.{whole_words-few}
 use Rattle.komihash.proofs.tests.definitions.zero_and_more.Goals as goal

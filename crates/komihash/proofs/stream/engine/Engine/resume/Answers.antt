@@ -1,11 +1,9 @@
-use Rattle.std.proofs.Common.{◌≡◌, refl, ◌∙◌, ap, sym, subst, drop}
+use Rattle.std.proofs.Common.{refl, ◌∙◌, ap, sym, subst}
 use Rattle.std.proofs.lemmas.Bool.{false≢true}
-use Rattle.std.specs.Prelude.{slice_index, ◌==◌}
-use Rattle.komihash.specs.Halves.{state_in}
 use Rattle.komihash.specs.Saved.{text, IsLaidOut}
-use Rattle.komihash.specs.Stream.{State, IsState}
+use Rattle.komihash.specs.Stream.{IsState}
 use Rattle.komihash.proofs.SavedStreams.{shows_text}
-use Rattle.komihash.proofs.SavedTexts.{state_of, laid_out, laid_out-text, laid_out-state, IsText-laid_out}
+use Rattle.komihash.proofs.SavedTexts.{laid_out, laid_out-text, laid_out-state, IsText-laid_out}
 use Rattle.komihash.proofs.BytesInWords.{AreBytes-typed}
 use Rattle.komihash.proofs.stream.engine.Engine.resume.Goals as goal
 
