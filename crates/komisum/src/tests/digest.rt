@@ -6,7 +6,8 @@ use super::fakes::{Calls, FakeReader, Stop};
 use super::messages::{TO_SEVEN, TO_SIX, TO_ZERO};
 use crate::digest::digest;
 use crate::watched::Watched;
-use komihash::stream::KomiStream;
+use komihash::stream::{Call, KomiStream, run_on};
+use komihash::tally::Tally;
 use komihash::{v4, v5};
 
 // What the call answers into a chunk of `room` bytes, and how many reads it makes.
@@ -97,4 +98,31 @@ fn a_read_of_none_is_the_end(rt: HostRuntime) {
     let reader = FakeReader::new(&TO_SIX, 64, Calls::stopping(Stop::MovesNone, 2));
     let answer = digested::<v5::StreamedKomihash>(reader, 95, 96);
     assert_eq!(rt; answer, (Ok(0x2a2f07ac93810128), 2));
+}
+
+// The hash of bytes that come in pieces. Behind each piece the stream is saved, and another one is
+// resumed from its text. It is `None` where a text is not taken.
+fn digested_with_rests<S: KomiStream>(bytes: &[u8], size: usize) -> Option<u64>
+    requires { 0 < size }
+{
+    let mut tally = Tally::new();
+    let mut stream = S::start(0, &mut tally);
+    let mut text = [0; 131];
+    let mut out = [0];
+    for piece in bytes.chunks(size) {
+        run_on(&mut stream, &[Call::Absorb(piece)], &mut out, &mut tally);
+        let end = stream.store(&mut text);
+        stream = S::restore(&text[..end])?;
+    }
+    run_on(&mut stream, &[Call::Answer], &mut out, &mut tally);
+    Some(out[0])
+}
+
+#[test]
+fn rests_change_nothing(rt: HostRuntime) {
+    for size in [1, 7, 63, 64, 95] {
+        let rested = digested_with_rests::<v5::StreamedKomihash>(&TO_SIX, size);
+        assert_eq!(rt; rested, Some(6), "pieces of {size}");
+        assert_eq!(rt; in_five(&TO_SIX, 96, 95, size), Ok(6), "chunks of {size}");
+    }
 }
