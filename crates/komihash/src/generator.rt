@@ -91,8 +91,8 @@ impl<const V: u8> Komirand<V> {
             buffer[8 * i..8 * i + 8].copy_from_slice(&word.to_le_bytes());
         }
         if buffer.len() % 8 > 0 {
-            let last = self.next();
-            write_partial_word(last, &mut buffer[8 * whole..]);
+            let output = self.next();
+            write_partial_word(output, &mut buffer[8 * whole..]);
         }
     }
 }

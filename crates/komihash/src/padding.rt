@@ -11,10 +11,10 @@ use length::message_length;
 
 /// Whether version V looks at the top bit of a last byte, and it is set.
 #[inline(always)]
-pub(crate) fn has_top_bit<const V: u8>(last: u8) -> bool
-    ensures { result ≡ has_top_bit V last }
+pub(crate) fn has_top_bit<const V: u8>(byte: u8) -> bool
+    ensures { result ≡ has_top_bit V byte }
 {
-    V == 4 && last >= 128
+    V == 4 && byte >= 128
 }
 
 /// The padding byte, by the last byte's top bit, where the version looks at it.

@@ -43,8 +43,8 @@ pub(crate) fn final_of_many(bytes: &[u8], end: u64) -> u64
     requires end { end < 4 }
     ensures { result ≡ final_word bytes.now end }
 {
-    let last = word_at(bytes, bytes.len() - 8);
-    (last >> 4 | end << 60) >> (60 - 8 * (bytes.len() % 8))
+    let eight = word_at(bytes, bytes.len() - 8);
+    (eight >> 4 | end << 60) >> (60 - 8 * (bytes.len() % 8))
 }
 
 /// The same for a long message, which often has whole words alone: then it is `end`, and nothing is

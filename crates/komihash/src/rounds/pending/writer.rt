@@ -121,8 +121,8 @@ fn put_last(words: &mut [u64; 8], at: usize, bytes: &[u8], from: usize)
 {
     let left = bytes.len() - from;
     if 0 < left {
-        let last = word_at(bytes, bytes.len() - 8);
-        set_word(words, at, last >> (64 - 8 * left));
+        let eight = word_at(bytes, bytes.len() - 8);
+        set_word(words, at, eight >> (64 - 8 * left));
     }
 }
 

@@ -20,14 +20,14 @@ returns-then-buffer-gt0-clause-bytes g c =
     let done : c.words.i ≡ whole = omega arith in
     let j = length c.words.buffer - 8 * whole in
     let rest = length-take-le j (drop (8 * whole) c.words.buffer) (omega (arith, length-drop (8 * whole) c.words.buffer)) in
-    let wrote = c.write_partial_word.ensures ∙ ap (λ k. take k (bytes_of 8 c.next-last.result)) rest in
-    rest-bytes g.row.V whole j c.args.self.now c.words.self c.next-last.new.self c.words.buffer (rw done at c.words.invariant) c.next-last.ensures.pair (omega arith) (omega arith) (omega arith) c.next-last.result c.write_partial_word.new.out c.next-last.ensures.output wrote
+    let wrote = c.write_partial_word.ensures ∙ ap (λ k. take k (bytes_of 8 c.next-output.result)) rest in
+    rest-bytes g.row.V whole j c.args.self.now c.words.self c.next-output.new.self c.words.buffer (rw done at c.words.invariant) c.next-output.ensures.pair (omega arith) (omega arith) (omega arith) c.next-output.result c.write_partial_word.new.out c.next-output.ensures.output wrote
     ∙ ap (fill g.row.V c.args.self.now) c.words.auto.buffer
 
 pub returns-then-buffer-gt0-clause-pair : goal.returns-then-buffer-gt0-clause-pair
 returns-then-buffer-gt0-clause-pair g c =
     let j = length c.words.buffer - 8 * c.words.i in
-    rest-pair g.row.V c.words.i j c.args.self.now c.words.self c.next-last.new.self c.words.buffer c.words.invariant c.next-last.ensures.pair (omega arith) (omega arith) (omega arith)
+    rest-pair g.row.V c.words.i j c.args.self.now c.words.self c.next-output.new.self c.words.buffer c.words.invariant c.next-output.ensures.pair (omega arith) (omega arith) (omega arith)
     ∙ ap (after_fill g.row.V c.args.self.now) c.words.auto.buffer
 
 pub returns-else-buffer-gt0-clause-bytes : goal.returns-else-buffer-gt0-clause-bytes

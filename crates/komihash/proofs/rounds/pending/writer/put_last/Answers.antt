@@ -10,7 +10,7 @@ returns-then-left-gt0 c =
     let from = c.args.from in
     let n = length bytes in
     let shift : 64 - 8 * (n - from) ≡ 8 * (from + 8 - n) = omega arith in
-    let word = ap (λ w. w / 2 ^ (64 - 8 * (n - from))) c.word_at-last.ensures
+    let word = ap (λ w. w / 2 ^ (64 - 8 * (n - from))) c.word_at-eight.ensures
     ∙ ap (λ k. word_of (take 8 (drop (n - 8) bytes)) / 2 ^ k) shift
     ∙ word_of-last from 8 bytes (AreBytes-typed bytes c.type_inv.bytes) c.requires.many
     (omega arith) c.requires.within in
