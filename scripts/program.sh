@@ -1,18 +1,29 @@
 #!/usr/bin/env bash
 # Tests of the built program: what no contract says of it. Each case prints a line; the last line is 'N passed, M failed'.
-# It needs bash, the coreutils and the program, which `rt run` builds where it is not built yet.
+# It needs bash, the coreutils and the program: `rt ci` leaves it, and else `rt run` builds it.
 set -uo pipefail
+shopt -s globstar
 cd "$(dirname "$0")/../crates/komisum" || exit 1
 
 room=$(mktemp -d)
 trap 'rm -rf "$room"' EXIT
-if ! rt run < stdin > "$room/built" 2>&1; then
+program=$PWD/out/komisum
+
+# Whether the program is there, and no source is newer.
+is_built() {
+    local source
+    [ -x "$program" ] || return 1
+    for source in {.,../komihash}/{src,specs,proofs}/**; do
+        [ ! "$source" -nt "$program" ] || return 1
+    done
+}
+
+if ! is_built && ! rt run < stdin > "$room/built" 2>&1; then
     cat "$room/built"
     echo 'FAILED: the program is built, and its stored run ends well'
     echo '0 passed, 1 failed'
     exit 1
 fi
-program=$PWD/out/komisum
 passed=0
 failed=0
 
