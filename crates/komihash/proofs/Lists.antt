@@ -70,7 +70,8 @@ two_pieces k n bs out zs ys len le most fits first second =
     ∙ take-to (n - k) n bs (omega arith))
 
 -- a range written over, and what was there before it and behind it
-pub put_mid-between : (a k n : ℕ) (xs ys zs : List ℕ) → a + k ≡ n → ys ≡ zs → put_mid a k xs ys ≡ take a xs ++ zs ++ drop n xs
+pub put_mid-between : (a k n : ℕ) (xs ys zs : List ℕ) → a + k ≡ n → ys ≡ zs
+    → put_mid a k xs ys ≡ take a xs ++ zs ++ drop n xs
 put_mid-between a k n xs ys zs sum is =
     ap (λ bs. take a xs ++ (bs ++ drop k (drop a xs))) is
     ∙ ap (λ bs. take a xs ++ (zs ++ bs)) (drop-drop k a xs ∙ ap (λ n. drop n xs) sum)

@@ -50,7 +50,8 @@ take-bytes_of (suc r) (suc n) w le = ap (λ bs. w % 256 ∷ bs) (take-bytes_of r
 
 -- ---- whole words, and less than eight bytes behind them
 
-pub whole_words-all_bytes : (ws xs : List ℕ) → ((k : ℕ) → get_or ws k 0 < 2 ^ 64) → length xs < 8 → whole_words (all_bytes ws ++ xs) ≡ ws
+pub whole_words-all_bytes : (ws xs : List ℕ) → ((k : ℕ) → get_or ws k 0 < 2 ^ 64) → length xs < 8
+    → whole_words (all_bytes ws ++ xs) ≡ ws
 unfolding bytes_of
 whole_words-all_bytes [] xs h few = whole_words-few xs few
 whole_words-all_bytes (w ∷ ws) xs h few =
@@ -72,10 +73,14 @@ take-all_words (w ∷ ws) (suc i) =
 
 -- ---- what the code reads back has these padded words
 
-pub padding_byte_at : (v : ℕ) (ws : List ℕ) (n last : ℕ) → 0 < n → n ≤ 8 * length ws → last ≡ slice_index (all_bytes ws) (n - 1) → padding_behind (has_top_bit v last) ≡ padding_byte v (take n (all_bytes ws))
+pub padding_byte_at : (v : ℕ) (ws : List ℕ) (n last : ℕ) → 0 < n → n ≤ 8 * length ws
+    → last ≡ slice_index (all_bytes ws) (n - 1)
+    → padding_behind (has_top_bit v last) ≡ padding_byte v (take n (all_bytes ws))
 padding_byte_at v ws n last some le is =
-    let size : length (take n (all_bytes ws)) ≡ n = length-take-le n (all_bytes ws) (omega (arith, length-all_bytes ws)) in
-    let same : get_or (take n (all_bytes ws)) (n - 1) 0 ≡ get_or (all_bytes ws) (n - 1) 0 = get_or-take n (all_bytes ws) (n - 1) 0 (omega arith) in
+    let size : length (take n (all_bytes ws)) ≡ n =
+    length-take-le n (all_bytes ws) (omega (arith, length-all_bytes ws)) in
+    let same : get_or (take n (all_bytes ws)) (n - 1) 0 ≡ get_or (all_bytes ws) (n - 1) 0 =
+    get_or-take n (all_bytes ws) (n - 1) 0 (omega arith) in
     rw (size, same, is) refl
 
 pub end_byte-some : (v : ℕ) (m : List ℕ) → 0 < length m → end_byte v m ≡ padding_byte v m
@@ -102,14 +107,16 @@ module _ (v : ℕ) (ws : List ℕ) (h : (k : ℕ) → get_or ws k 0 < 2 ^ 64) (s
   in_bytes =
       sym (take-more (8 * before) r (all_bytes ws))
       ∙ ap (λ bs. bs ++ take r (drop (8 * before) (all_bytes ws))) (take-all_words ws before)
-      ∙ ap (λ bs. all_bytes (take before ws) ++ bs) (take-all_bytes ws before r (omega arith) (omega arith) ∙ take-bytes_of r 8 last_word (omega arith))
+      ∙ ap (λ bs. all_bytes (take before ws) ++ bs)
+      (take-all_bytes ws before r (omega arith) (omega arith) ∙ take-bytes_of r 8 last_word (omega arith))
 
   words_fit : (k : ℕ) → get_or (take before ws) k 0 < 2 ^ 64
   words_fit k =
       elim (cases_lt k before) as (λ _. get_or (take before ws) k 0 < 2 ^ 64) [
         | inl lt ↦ rw (get_or-take before ws k 0 lt) (h k)
         | inr le ↦
-            let past : get_or (take before ws) k 0 ≡ 0 = get_or_past (take before ws) k 0 (omega (arith, length-take-le before ws (omega arith))) in
+            let past : get_or (take before ws) k 0 ≡ 0 =
+            get_or_past (take before ws) k 0 (omega (arith, length-take-le before ws (omega arith))) in
             omega arith
       ]
 
@@ -118,8 +125,11 @@ module _ (v : ℕ) (ws : List ℕ) (h : (k : ℕ) → get_or ws k 0 < 2 ^ 64) (s
       let size : length (bytes_of r last_word) < 8 = omega (arith, length-bytes_of r last_word) in
       padded_words-by_tail v message
       ∙ ap (λ m. whole_words m ++ word_of (after_words m ++ end_byte v message ∷ []) ∷ []) in_bytes
-      ∙ ap (λ us. us ++ word_of (after_words (all_bytes (take before ws) ++ bytes_of r last_word) ++ end_byte v message ∷ []) ∷ []) (whole_words-all_bytes (take before ws) (bytes_of r last_word) words_fit size)
-      ∙ ap (λ bs. take before ws ++ word_of (bs ++ end_byte v message ∷ []) ∷ []) (after_words-all_bytes (take before ws) (bytes_of r last_word) size)
+      ∙ ap (λ us. us ++ word_of (after_words (all_bytes
+      (take before ws) ++ bytes_of r last_word) ++ end_byte v message ∷ []) ∷ [])
+      (whole_words-all_bytes (take before ws) (bytes_of r last_word) words_fit size)
+      ∙ ap (λ bs. take before ws ++ word_of (bs ++ end_byte v message ∷ []) ∷ [])
+      (after_words-all_bytes (take before ws) (bytes_of r last_word) size)
       ∙ ap (λ w. take before ws ++ w ∷ []) (word_of-bytes_push r last_word (end_byte v message) ends)
       ∙ in_words
 
@@ -127,19 +137,25 @@ module _ (v : ℕ) (ws : List ℕ) (h : (k : ℕ) → get_or ws k 0 < 2 ^ 64) (s
 
 pub length-words : (v : ℕ) (m : List ℕ) → length (padded_words v m) ≡ length m / 8 + 1
 length-words v m =
-    ap length (padded_words-by_tail v m) ∙ omega (arith, length-append (whole_words m) (final_word m (end_byte v m) ∷ []), length-whole_words m)
+    ap length (padded_words-by_tail v m)
+    ∙ omega (arith, length-append (whole_words m) (final_word m (end_byte v m) ∷ []), length-whole_words m)
 
-last-words : (v : ℕ) (m : List ℕ) → get_or (padded_words v m) (length (padded_words v m) - 1) 0 ≡ final_word m (end_byte v m)
+last-words : (v : ℕ) (m : List ℕ)
+    → get_or (padded_words v m) (length (padded_words v m) - 1) 0 ≡ final_word m (end_byte v m)
 last-words v m =
-    let place : length (padded_words v m) - 1 ≡ length (whole_words m) = omega (arith, length-words v m, length-whole_words m) in
-    ap (λ k. get_or (padded_words v m) k 0) place ∙ ap (λ ws. get_or ws (length (whole_words m)) 0) (padded_words-by_tail v m)
+    let place : length (padded_words v m) - 1 ≡ length (whole_words m) =
+    omega (arith, length-words v m, length-whole_words m) in
+    ap (λ k. get_or (padded_words v m) k 0) place
+    ∙ ap (λ ws. get_or ws (length (whole_words m)) 0) (padded_words-by_tail v m)
     ∙ get_or-append_seam (whole_words m) (final_word m (end_byte v m)) [] 0
 
-take-all_bytes_back : (m : List ℕ) (end : ℕ) → AreBytes m → take (length m) (all_bytes (whole_words m ++ final_word m end ∷ [])) ≡ m
+take-all_bytes_back : (m : List ℕ) (end : ℕ) → AreBytes m
+    → take (length m) (all_bytes (whole_words m ++ final_word m end ∷ [])) ≡ m
 unfolding bytes_of
 take-all_bytes_back (a ∷ b ∷ c ∷ d ∷ e ∷ f ∷ g ∷ h ∷ bs) end bytes =
     let eight = a ∷ b ∷ c ∷ d ∷ e ∷ f ∷ g ∷ h ∷ [] in
-    let front : bytes_of 8 (word_of eight) ≡ eight = bytes_of-word_of_append eight [] (AreBytes-take 8 (a ∷ b ∷ c ∷ d ∷ e ∷ f ∷ g ∷ h ∷ bs) bytes) in
+    let front : bytes_of 8 (word_of eight) ≡ eight =
+    bytes_of-word_of_append eight [] (AreBytes-take 8 (a ∷ b ∷ c ∷ d ∷ e ∷ f ∷ g ∷ h ∷ bs) bytes) in
     let rest = all_bytes (whole_words bs ++ final_word bs end ∷ []) in
     ap (λ xs. take (length (eight ++ bs)) (xs ++ rest)) front
     ∙ ap (λ xs. eight ++ xs) (take-all_bytes_back bs end (AreBytes-drop 8 (a ∷ b ∷ c ∷ d ∷ e ∷ f ∷ g ∷ h ∷ bs) bytes))
@@ -185,7 +201,8 @@ module _ (v : ℕ) (m : List ℕ) (bytes : AreBytes m) (some : 0 < length m) whe
 
   last_high : final_word m (end_byte v m) / 2 ^ (8 * (length m % 8)) ≡ padding_byte v m
   last_high =
-      ap (λ w. w / 2 ^ (8 * (length m % 8))) last_cut ∙ shr_high (padding_byte v m) (8 * (length m % 8)) (word_of (after_words m)) after_lt
+      ap (λ w. w / 2 ^ (8 * (length m % 8))) last_cut
+      ∙ shr_high (padding_byte v m) (8 * (length m % 8)) (word_of (after_words m)) after_lt
 
   pub last_above : 2 ^ (8 * (length m % 8)) ≤ final_word m (end_byte v m)
   last_above =
@@ -232,16 +249,19 @@ module _ (v : ℕ) (ws m : List ℕ) (bytes : AreBytes m) (padded : padded_words
         | inr none ↦ absurd (omega (arith, last_is, last-empty v m (omega arith)))
       ]
 
-  module _ (above : 0 < get_or ws (length ws - 1) 0) (r : ℕ) (low : 2 ^ (8 * r) ≤ get_or ws (length ws - 1) 0) (high : get_or ws (length ws - 1) 0 < 2 ^ (8 * r + 8)) where
+  module _ (above : 0 < get_or ws (length ws - 1) 0) (r : ℕ) (low : 2 ^ (8 * r) ≤ get_or ws (length ws - 1) 0)
+      (high : get_or ws (length ws - 1) 0 < 2 ^ (8 * r + 8)) where
     place_is : r ≡ length m % 8
     place_is =
         let some = padded-some above in
-        one_place (final_word m (end_byte v m)) r (length m % 8) (rw last_is at low) (rw last_is at high) (last_above v m bytes some) (last_below v m bytes some)
+        one_place (final_word m (end_byte v m)) r (length m % 8) (rw last_is at low) (rw last_is at high)
+        (last_above v m bytes some) (last_below v m bytes some)
 
     pub padded-by_place : length m ≡ 8 * (length ws - 1) + r
     padded-by_place = omega (arith, padded-length, place_is)
 
-    pub padded-end : get_or ws (length ws - 1) 0 / 2 ^ (8 * r) ≡ padding_byte v (take (8 * (length ws - 1) + r) (all_bytes ws))
+    pub padded-end : get_or ws (length ws - 1) 0 / 2 ^ (8 * r)
+        ≡ padding_byte v (take (8 * (length ws - 1) + r) (all_bytes ws))
     padded-end =
         ap (λ w. w / 2 ^ (8 * r)) last_is ∙ ap (λ k. final_word m (end_byte v m) / 2 ^ (8 * k)) place_is
         ∙ last_high v m bytes (padded-some above) ∙ ap (padding_byte v) padded-take
@@ -275,10 +295,14 @@ module _ (w bit : ℕ) (low : 2 ^ bit ≤ w) (high : w < 2 * 2 ^ bit) where
       omega (arith, pow-add 2 1 bit)
 
 -- the byte of words at a place
-pub byte_of-all_bytes : (ws : List ℕ) (at : ℕ) → at < 8 * length ws → get_or (bytes_of 8 (get_or ws (at / 8) 0)) (at % 8) 0 ≡ slice_index (all_bytes ws) at
+pub byte_of-all_bytes : (ws : List ℕ) (at : ℕ) → at < 8 * length ws
+    → get_or (bytes_of 8 (get_or ws (at / 8) 0)) (at % 8) 0 ≡ slice_index (all_bytes ws) at
 byte_of-all_bytes ws at lt =
     let word = bytes_of 8 (get_or ws (at / 8) 0) in
     let sum : 8 * (at / 8) + at % 8 ≡ at = omega arith in
-    sym (get_or_append_left word (drop (8 * suc (at / 8)) (all_bytes ws)) 0 (at % 8) (omega (arith, length-bytes_of 8 (get_or ws (at / 8) 0))))
+    sym (get_or_append_left word (drop (8 * suc (at / 8)) (all_bytes ws)) 0 (at % 8) (omega (
+      arith,
+      length-bytes_of 8 (get_or ws (at / 8) 0),
+    )))
     ∙ ap (λ bs. get_or bs (at % 8) 0) (sym (drop-all_bytes ws (at / 8) (omega arith)))
     ∙ get_or-drop (8 * (at / 8)) (all_bytes ws) (at % 8) 0 ∙ ap (λ k. get_or (all_bytes ws) k 0) sum

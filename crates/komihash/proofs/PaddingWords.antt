@@ -11,7 +11,8 @@ zeros_more : (n : ℕ) → 7 - suc (suc (suc (suc (suc (suc (suc (suc n))))))) %
 zeros_more n = omega arith
 
 -- a list with a byte p and zeros up to a multiple of eight, in words
-words_of-padded : (m : List ℕ) (p : ℕ) → words_of (m ++ p ∷ replicate (7 - length m % 8) 0) ≡ whole_words m ++ word_of (after_words m ++ p ∷ []) ∷ []
+words_of-padded : (m : List ℕ) (p : ℕ)
+    → words_of (m ++ p ∷ replicate (7 - length m % 8) 0) ≡ whole_words m ++ word_of (after_words m ++ p ∷ []) ∷ []
 words_of-padded (a ∷ b ∷ c ∷ d ∷ e ∷ f ∷ g ∷ h ∷ bs) p =
     ap (λ n. word_of (a ∷ b ∷ c ∷ d ∷ e ∷ f ∷ g ∷ h ∷ []) ∷ words_of (bs ++ p ∷ replicate n 0)) (zeros_more (length bs))
     ∙ ap (λ ws. word_of (a ∷ b ∷ c ∷ d ∷ e ∷ f ∷ g ∷ h ∷ []) ∷ ws) (words_of-padded bs p)
@@ -27,11 +28,13 @@ pub final_word-few : (xs : List ℕ) (end : ℕ) → length xs < 8 → word_of (
 final_word-few xs end few = ap (λ ys. word_of (ys ++ end ∷ [])) (sym (after_words-few xs few))
 
 -- the final word of more
-pub final_word-many : (xs : List ℕ) (end : ℕ) → word_of (drop (length xs - length xs % 8) xs ++ end ∷ []) ≡ final_word xs end
+pub final_word-many : (xs : List ℕ) (end : ℕ)
+    → word_of (drop (length xs - length xs % 8) xs ++ end ∷ []) ≡ final_word xs end
 final_word-many xs end = ap (λ ys. word_of (ys ++ end ∷ [])) (sym (after_words-drop xs))
 
 -- the same where no byte stands behind the last whole word
 pub final_word-whole : (xs : List ℕ) (end : ℕ) → length xs % 8 ≡ 0 → end ≡ final_word xs end
 final_word-whole xs end whole =
     let one : end ≡ word_of (end ∷ []) = omega arith in
-    one ∙ ap (λ ys. word_of (ys ++ end ∷ [])) (sym (drop_all (length xs - length xs % 8) xs (omega arith))) ∙ final_word-many xs end
+    one ∙ ap (λ ys. word_of (ys ++ end ∷ [])) (sym (drop_all (length xs - length xs % 8) xs (omega arith)))
+    ∙ final_word-many xs end

@@ -17,5 +17,6 @@ module _ {M : Type 1} {𝓤 : Ura M} (𝓛 : Logic 𝓤) (P : Fml) where
 
   pub changed : (m n m' n' : ℕ) → ent 𝓤 (mean 𝓛 (‵ (fsep P (counted m n)))) (mean 𝓛 (‵ (fsep P (counted m' n'))))
   changed m n m' n' =
-      subst (λ F. ent 𝓤 (mean 𝓛 (‵ (fsep P F))) (mean 𝓛 (‵ (fsep P (counted m' n'))))) (sym (opened (view (record {})) m n))
+      subst (λ F. ent 𝓤 (mean 𝓛 (‵ (fsep P F))) (mean 𝓛 (‵ (fsep P (counted m' n')))))
+      (sym (opened (view (record {})) m n))
       (made m' n')

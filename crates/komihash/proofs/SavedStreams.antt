@@ -19,7 +19,9 @@ drop-behind front old k n size le =
     ∙ drop-drop (n - k) k old ∙ ap (λ n. drop n old) sum
 
 -- three parts, one behind the other
-pub parts_written : (head lanes pending old first second third : List ℕ) (n : ℕ) → length head ≡ 4 → length lanes ≡ 64 → 68 ≤ n → first ≡ head ++ drop 4 old → second ≡ take 4 first ++ lanes ++ drop 68 first → third ≡ take 68 second ++ pending ++ drop n second → third ≡ head ++ lanes ++ pending ++ drop n old
+pub parts_written : (head lanes pending old first second third : List ℕ) (n : ℕ) → length head ≡ 4 → length lanes ≡ 64
+    → 68 ≤ n → first ≡ head ++ drop 4 old → second ≡ take 4 first ++ lanes ++ drop 68 first
+    → third ≡ take 68 second ++ pending ++ drop n second → third ≡ head ++ lanes ++ pending ++ drop n old
 parts_written head lanes pending old first second third n four eight le first_is second_is third_is =
     let both : length (head ++ lanes) ≡ 68 = omega (arith, length-append head lanes) in
     let before : take 4 first ≡ head = ap (take 4) first_is ∙ take_at head (drop 4 old) 4 four in
@@ -33,5 +35,6 @@ parts_written head lanes pending old first second third n four eight le first_is
 -- ---- read
 
 -- the fields that are read show the text's state
-pub shows_text : (ls : List ℕ) (bytes : List ℕ) → in_order (lanes_in ls) ≡ whole_words (take 64 (drop 4 bytes)) → state_in ls (drop 68 bytes) (slice_index bytes 1 == 1) (slice_index bytes 2 == 1) ≡ state_of bytes
+pub shows_text : (ls : List ℕ) (bytes : List ℕ) → in_order (lanes_in ls) ≡ whole_words (take 64 (drop 4 bytes))
+    → state_in ls (drop 68 bytes) (slice_index bytes 1 == 1) (slice_index bytes 2 == 1) ≡ state_of bytes
 shows_text ls bytes lanes = let is : lanes_in ls ≡ lanes_of (whole_words (take 64 (drop 4 bytes))) = ap lanes_of lanes in cc is

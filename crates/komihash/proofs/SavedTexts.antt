@@ -101,9 +101,13 @@ pub state_of-text : (v : ℕ) (s : State) → AreWords s.lanes → state_of (tex
 state_of-text v s are =
     let lanes : lanes_of (whole_words (take 64 (drop 4 (text v s)))) ≡ s.lanes = ap lanes_of (text-words v s are) in
     let pending = text-pending v s in
-    let absorbed : (slice_index (text v s) 1 == 1) ≡ s.absorbed = ap (λ b. b == 1) (text-absorbed v s) ∙ flag_byte-back s.absorbed in
-    let top_bit : (slice_index (text v s) 2 == 1) ≡ s.top_bit = ap (λ b. b == 1) (text-top_bit v s) ∙ flag_byte-back s.top_bit in
-    let parts : state_of (text v s) ≡ record { lanes = s.lanes; pending = s.pending; absorbed = s.absorbed; top_bit = s.top_bit } = cc in
+    let absorbed : (slice_index (text v s) 1 == 1) ≡ s.absorbed =
+    ap (λ b. b == 1) (text-absorbed v s) ∙ flag_byte-back s.absorbed in
+    let top_bit : (slice_index (text v s) 2 == 1) ≡ s.top_bit =
+    ap (λ b. b == 1) (text-top_bit v s) ∙ flag_byte-back s.top_bit in
+    let parts : state_of (text v s)
+    ≡ record { lanes = s.lanes; pending = s.pending; absorbed = s.absorbed; top_bit = s.top_bit } =
+    cc in
     parts
 
 -- two states never share a text
@@ -126,8 +130,10 @@ all_bytes-whole_words k (a ∷ b ∷ c ∷ d ∷ e ∷ f ∷ g ∷ h ∷ xs) are
 all_bytes-whole_words k xs are size = absurd (omega arith)
 
 whole_words-lt : (xs : List ℕ) → AreBytes xs → (i : ℕ) → slice_index (whole_words xs) i < 2 ^ 64
-whole_words-lt (a ∷ b ∷ c ∷ d ∷ e ∷ f ∷ g ∷ h ∷ xs) are zero = word_of-lt (a ∷ b ∷ c ∷ d ∷ e ∷ f ∷ g ∷ h ∷ []) (AreBytes-take 8 (a ∷ b ∷ c ∷ d ∷ e ∷ f ∷ g ∷ h ∷ xs) are)
-whole_words-lt (a ∷ b ∷ c ∷ d ∷ e ∷ f ∷ g ∷ h ∷ xs) are (suc i) = whole_words-lt xs (AreBytes-drop 8 (a ∷ b ∷ c ∷ d ∷ e ∷ f ∷ g ∷ h ∷ xs) are) i
+whole_words-lt (a ∷ b ∷ c ∷ d ∷ e ∷ f ∷ g ∷ h ∷ xs) are zero = word_of-lt (a ∷ b ∷ c ∷ d ∷ e ∷ f ∷ g ∷ h ∷ [])
+    (AreBytes-take 8 (a ∷ b ∷ c ∷ d ∷ e ∷ f ∷ g ∷ h ∷ xs) are)
+whole_words-lt (a ∷ b ∷ c ∷ d ∷ e ∷ f ∷ g ∷ h ∷ xs) are (suc i) = whole_words-lt xs (AreBytes-drop 8
+    (a ∷ b ∷ c ∷ d ∷ e ∷ f ∷ g ∷ h ∷ xs) are) i
 whole_words-lt xs are i = omega arith
 
 flag_byte-of : (b : ℕ) → b < 2 → flag_byte (b == 1) ≡ b
@@ -159,16 +165,20 @@ laid_out-text v (b0 ∷ b1 ∷ b2 ∷ b3 ∷ rest) are laid =
     let size : length (take 64 rest) ≡ 64 = length-take-le 64 rest (omega (arith, laid.size)) in
     let words : all_bytes (in_order (lanes_of (whole_words (take 64 rest)))) ≡ take 64 rest =
     ap all_bytes (in_order-back (whole_words (take 64 rest)) (length-whole_words (take 64 rest) ∙ omega arith))
-    ∙ all_bytes-whole_words 8 (take 64 rest) (AreBytes-take 64 rest (AreBytes-drop 4 (b0 ∷ b1 ∷ b2 ∷ b3 ∷ rest) are)) size in
+    ∙ all_bytes-whole_words 8 (take 64 rest)
+    (AreBytes-take 64 rest (AreBytes-drop 4 (b0 ∷ b1 ∷ b2 ∷ b3 ∷ rest) are)) size in
     let bytes : all_bytes (in_order (lanes_of (whole_words (take 64 rest)))) ++ drop 64 rest ≡ rest =
     ap (λ bs. bs ++ drop 64 rest) words ∙ take-append-drop 64 rest in
     let version : v ≡ b0 = sym laid.version in
     let absorbed : flag_byte (b1 == 1) ≡ b1 = flag_byte-of b1 laid.absorbed in
     let top_bit : flag_byte (b2 == 1) ≡ b2 = flag_byte-of b2 (omega (arith, laid.top_bit, laid.absorbed)) in
     let fill : length (drop 64 rest) ≡ b3 = omega (arith, laid.size, length-drop 64 rest) in
-    ap (λ b. b ∷ flag_byte (b1 == 1) ∷ flag_byte (b2 == 1) ∷ length (drop 64 rest) ∷ (all_bytes (in_order (lanes_of (whole_words (take 64 rest)))) ++ drop 64 rest)) version
-    ∙ ap (λ b. b0 ∷ b ∷ flag_byte (b2 == 1) ∷ length (drop 64 rest) ∷ (all_bytes (in_order (lanes_of (whole_words (take 64 rest)))) ++ drop 64 rest)) absorbed
-    ∙ ap (λ b. b0 ∷ b1 ∷ b ∷ length (drop 64 rest) ∷ (all_bytes (in_order (lanes_of (whole_words (take 64 rest)))) ++ drop 64 rest)) top_bit
+    ap (λ b. b ∷ flag_byte (b1 == 1) ∷ flag_byte (b2 == 1) ∷ length (drop 64 rest) ∷ (all_bytes (in_order
+    (lanes_of (whole_words (take 64 rest)))) ++ drop 64 rest)) version
+    ∙ ap (λ b. b0 ∷ b ∷ flag_byte (b2 == 1) ∷ length (drop 64 rest) ∷ (all_bytes (in_order (lanes_of (whole_words
+    (take 64 rest)))) ++ drop 64 rest)) absorbed
+    ∙ ap (λ b. b0 ∷ b1 ∷ b ∷ length (drop 64 rest) ∷ (all_bytes (in_order (lanes_of (whole_words
+    (take 64 rest)))) ++ drop 64 rest)) top_bit
     ∙ ap (λ b. b0 ∷ b1 ∷ b2 ∷ b ∷ (all_bytes (in_order (lanes_of (whole_words (take 64 rest)))) ++ drop 64 rest)) fill
     ∙ ap (λ bs. b0 ∷ b1 ∷ b2 ∷ b3 ∷ bs) bytes
 laid_out-text v bytes are laid = absurd (omega (arith, laid.size))

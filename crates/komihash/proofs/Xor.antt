@@ -13,7 +13,8 @@ pub xor_late_left : (w low e : ℕ) → bit_xor (bit_xor low w) e ≡ bit_xor (b
 xor_late_left w low e = xor_comm (bit_xor low w) e ∙ sym (xor_assoc e low w)
 
 -- the same for a factor that stands behind the other
-pub xor_late_behind : (v f w low e : ℕ) → bit_xor v f * bit_xor (bit_xor w low) e ≡ bit_xor w (bit_xor e low) * bit_xor v f
+pub xor_late_behind : (v f w low e : ℕ)
+    → bit_xor v f * bit_xor (bit_xor w low) e ≡ bit_xor w (bit_xor e low) * bit_xor v f
 xor_late_behind v f w low e =
     mul_comm (bit_xor v f) (bit_xor (bit_xor w low) e) ∙ ap (λ x. x * bit_xor v f) (xor_late w low e)
 
@@ -42,6 +43,10 @@ xor_masks n h =
     let even = bit_and n 0x5555555555555555 in
     let odd = bit_and n 0xaaaaaaaaaaaaaaaa in
     let apart : bit_and even odd ≡ 0 =
-    and_assoc odd n 0x5555555555555555 ∙ ap (bit_and n) (ap (bit_and 0x5555555555555555) (and_comm n 0xaaaaaaaaaaaaaaaa) ∙ sym (and_assoc n 0x5555555555555555 0xaaaaaaaaaaaaaaaa)) ∙ and_comm n 0 in
-    let whole : bit_and 0xaaaaaaaaaaaaaaaa n + bit_and 0x5555555555555555 n ≡ n = and-not 64 0x5555555555555555 n (lit< tt) h in
+    and_assoc odd n 0x5555555555555555
+    ∙ ap (bit_and n)
+    (ap (bit_and 0x5555555555555555) (and_comm n 0xaaaaaaaaaaaaaaaa) ∙ sym (and_assoc n 0x5555555555555555 0xaaaaaaaaaaaaaaaa))
+    ∙ and_comm n 0 in
+    let whole : bit_and 0xaaaaaaaaaaaaaaaa n + bit_and 0x5555555555555555 n ≡ n =
+    and-not 64 0x5555555555555555 n (lit< tt) h in
     xor_disjoint even odd apart ∙ omega (arith, whole, and_comm n 0x5555555555555555, and_comm n 0xaaaaaaaaaaaaaaaa)

@@ -14,7 +14,8 @@ returns-then-bytes-ge8-clause-products g c = omega (arith, length-whole_words c.
 pub returns-then-bytes-ge8-clause-hash : goal.returns-then-bytes-ge8-clause-hash
 returns-then-bytes-ge8-clause-hash g c =
     c.answer_below_eight.ensures.answer
-    ∙ komi-by_pair g.row.V c.args.seed c.args.bytes.now _ c.seed_pair-pair.ensures.pair _ (c.final_of_many-last.ensures ∙ ap (final_word c.args.bytes.now) c.end_byte.ensures.byte) c.if-bytes-ge64.false
+    ∙ komi-by_pair g.row.V c.args.seed c.args.bytes.now _ c.seed_pair-pair.ensures.pair _
+    (c.final_of_many-last.ensures ∙ ap (final_word c.args.bytes.now) c.end_byte.ensures.byte) c.if-bytes-ge64.false
 
 pub returns-then-is_empty-clause-hash : goal.returns-then-is_empty-clause-hash
 returns-then-is_empty-clause-hash g c =
@@ -24,4 +25,5 @@ returns-then-is_empty-clause-hash g c =
 pub returns-else-is_empty-clause-hash : goal.returns-else-is_empty-clause-hash
 returns-else-is_empty-clause-hash g c =
     c.close_one-else-is_empty.ensures.answer
-    ∙ komi-by_closing g.row.V c.args.seed c.args.bytes.now _ c.seed_pair-pair.ensures.pair _ (c.final_of_few-last.ensures ∙ ap (final_word c.args.bytes.now) c.end_byte-else-is_empty.ensures.byte) c.if-bytes-ge8.false
+    ∙ komi-by_closing g.row.V c.args.seed c.args.bytes.now _ c.seed_pair-pair.ensures.pair _
+    (c.final_of_few-last.ensures ∙ ap (final_word c.args.bytes.now) c.end_byte-else-is_empty.ensures.byte) c.if-bytes-ge8.false

@@ -8,6 +8,10 @@ pub returns-clause-none : goal.returns-clause-none
 returns-clause-none g c =
     let out = c.write_bytes.new.out in
     let count = c.in_ok-count.count in
-    let padded : ArePadded g.row.V c.args.words.now =
-    (take count out, AreBytes-take count out (AreBytes-typed out c.type_inv.out), ap (padded_words g.row.V) c.write_bytes.ensures.bytes ∙ c.in_ok-count.ensures.message) in
+    let padded : ArePadded g.row.V c.args.words.now = (
+      take count out,
+      AreBytes-take count out (AreBytes-typed out c.type_inv.out),
+      ap
+          (padded_words g.row.V) c.write_bytes.ensures.bytes ∙ c.in_ok-count.ensures.message,
+    ) in
     ((λ e _. false≢true (sym e)), λ none. absurd (none padded))

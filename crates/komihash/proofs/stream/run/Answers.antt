@@ -12,4 +12,5 @@ pub returns-clause-count : goal.returns-clause-count
 returns-clause-count g c =
     let v = g.S.KomiStream.VERSION in
     c.run_on.ensures.count
-    ∙ ap length (onward-message v c.args.seed _ [] c.args.calls.now (HasAbsorbed-start v c.args.seed _ c.start-stream.ensures.state))
+    ∙ ap length
+    (onward-message v c.args.seed _ [] c.args.calls.now (HasAbsorbed-start v c.args.seed _ c.start-stream.ensures.state))

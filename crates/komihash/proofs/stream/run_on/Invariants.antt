@@ -15,6 +15,7 @@ invariant-loop-call g l =
       answers : take l.count l.out ++ onward v now left ≡ onward v first l.calls;
       beyond : drop l.count l.out ≡ drop l.count l.fn.out;
       state : absorb v now (bytes_of_calls left) ≡ absorb v first (bytes_of_calls l.calls);
-      products : l.tally.products + onward_products (length now.pending) left ≡ l.fn.tally.products + onward_products (length first.pending) l.calls;
+      products : l.tally.products + onward_products (length now.pending) left
+          ≡ l.fn.tally.products + onward_products (length first.pending) l.calls;
       kept : l.tally.kept + onward_kept (length now.pending) left ≡ l.fn.tally.kept + onward_kept (length first.pending) l.calls;
     }

@@ -9,7 +9,9 @@ returns-then-n-ge4 c =
     let n = length c.args.out.now in
     let bytes = c.to_le_bytes-bytes.ensures ∙ to_le_bytes-word c.args.word in
     let size = length-bytes_of 8 c.args.word in
-    two_pieces 4 n (bytes_of 8 c.args.word) c.args.out.now c.copy_from_slice.new.self c.copy_from_slice-then-n-ge4.new.self refl (omega arith) (omega arith) (omega arith)
+    two_pieces 4 n
+    (bytes_of 8 c.args.word) c.args.out.now c.copy_from_slice.new.self c.copy_from_slice-then-n-ge4.new.self refl
+    (omega arith) (omega arith) (omega arith)
     (c.copy_from_slice.ensures.after ∙ ap (take 4) bytes)
     (c.copy_from_slice-then-n-ge4.ensures.after ∙ ap (λ bs. take (n - (n - 4)) (drop (n - 4) bs)) bytes)
 
@@ -18,7 +20,9 @@ returns-then-n-ge2 c =
     let n = length c.args.out.now in
     let bytes = c.to_le_bytes-bytes.ensures ∙ to_le_bytes-word c.args.word in
     let size = length-bytes_of 8 c.args.word in
-    two_pieces 2 n (bytes_of 8 c.args.word) c.args.out.now c.copy_from_slice-then-n-ge2.new.self c.copy_from_slice-then-n-ge2-2.new.self refl (omega arith) (omega arith) (omega arith)
+    two_pieces 2 n
+    (bytes_of 8 c.args.word) c.args.out.now c.copy_from_slice-then-n-ge2.new.self c.copy_from_slice-then-n-ge2-2.new.self refl
+    (omega arith) (omega arith) (omega arith)
     (c.copy_from_slice-then-n-ge2.ensures.after ∙ ap (take 2) bytes)
     (c.copy_from_slice-then-n-ge2-2.ensures.after ∙ ap (λ bs. take (n - (n - 2)) (drop (n - 2) bs)) bytes)
 

@@ -10,7 +10,8 @@ whole-init g c = elim c.if-rest-eq1.branch [
   | then-rest-eq1 w ↦
       let step = w.absorb_block-rest.ensures in
       let some : 64 ≤ length c.args.bytes.now = omega arith in
-      let left : length w.absorb_block-rest.result.now + 64 ≡ length c.args.bytes.now = omega (arith, ap length step.left, length-drop 64 c.args.bytes.now) in
+      let left : length w.absorb_block-rest.result.now + 64 ≡ length c.args.bytes.now =
+      omega (arith, ap length step.left, length-drop 64 c.args.bytes.now) in
       rw (w.lanes-is, w.tally-is, w.rest-is)
       record {
         lanes = block_lanes-next g.row.V _ _ c.args.bytes.now _ some step.left step.lanes;
@@ -30,7 +31,13 @@ absorb_block-rest-requires-in-whole g c =
 
 pub whole-smaller : goal.whole-smaller
 whole-smaller g c =
-    omega (arith, ap length c.absorb_block-behind.ensures.left, length-drop 64 c.whole.rest.now, ap length c.absorb_block-rest-in-whole.ensures.left, length-drop 64 c.absorb_block-behind.result.now)
+    omega (
+      arith,
+      ap length c.absorb_block-behind.ensures.left,
+      length-drop 64 c.whole.rest.now,
+      ap length c.absorb_block-rest-in-whole.ensures.left,
+      length-drop 64 c.absorb_block-behind.result.now,
+    )
 
 pub whole-preserved : goal.whole-preserved
 whole-preserved g c =
@@ -38,9 +45,11 @@ whole-preserved g c =
     let second = c.absorb_block-rest-in-whole.ensures in
     let behind = c.absorb_block-behind.result.now in
     let some : 64 ≤ length c.whole.rest.now = omega arith in
-    let more : length behind + 64 ≡ length c.whole.rest.now = omega (arith, ap length first.left, length-drop 64 c.whole.rest.now) in
+    let more : length behind + 64 ≡ length c.whole.rest.now =
+    omega (arith, ap length first.left, length-drop 64 c.whole.rest.now) in
     let others : 64 ≤ length behind = omega arith in
-    let left : length c.absorb_block-rest-in-whole.result.now + 64 ≡ length behind = omega (arith, ap length second.left, length-drop 64 behind) in
+    let left : length c.absorb_block-rest-in-whole.result.now + 64 ≡ length behind =
+    omega (arith, ap length second.left, length-drop 64 behind) in
     record {
       lanes = block_lanes-next g.row.V _ _ behind _ others second.left second.lanes
           ∙ block_lanes-next g.row.V _ _ c.whole.rest.now _ some first.left first.lanes ∙ c.whole.invariant.lanes;
@@ -57,7 +66,8 @@ returns-clause-left g c =
 
 pub returns-clause-lanes : goal.returns-clause-lanes
 returns-clause-lanes g c =
-    sym (block_lanes-few_bytes g.row.V (lanes_in c.whole.lanes) c.whole.rest.now (omega arith)) ∙ c.whole.invariant.lanes
+    sym (block_lanes-few_bytes g.row.V (lanes_in c.whole.lanes) c.whole.rest.now (omega arith))
+    ∙ c.whole.invariant.lanes
 
 pub returns-clause-products : goal.returns-clause-products
 returns-clause-products g c = omega arith

@@ -7,7 +7,8 @@ use Rattle.komihash.proofs.rounds.blocks.absorb_blocks.Given as goal
 
 abbrev pub invariant-whole : goal.invariant-whole
 invariant-whole g l = record {
-  lanes : block_lanes g.row.V (lanes_in l.lanes) (whole_words l.rest) ≡ block_lanes g.row.V (lanes_in l.fn.lanes) (whole_words l.bytes);
+  lanes : block_lanes g.row.V (lanes_in l.lanes) (whole_words l.rest) ≡ block_lanes g.row.V (lanes_in l.fn.lanes)
+      (whole_words l.bytes);
   left : after_blocks l.rest ≡ after_blocks l.bytes;
   products : l.tally.products + 4 * (length l.rest / 64) ≡ l.fn.tally.products + 4 * (length l.bytes / 64);
   kept : l.tally.kept ≡ l.fn.tally.kept;

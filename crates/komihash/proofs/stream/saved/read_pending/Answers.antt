@@ -6,5 +6,6 @@ pub returns : goal.returns
 returns c =
     let bytes = c.args.bytes.now in
     let pending = drop 68 bytes in
-    let whole : take (length bytes - 68) pending ≡ pending = take_all (length bytes - 68) pending (omega (arith, length-drop 68 bytes)) in
+    let whole : take (length bytes - 68) pending ≡ pending =
+    take_all (length bytes - 68) pending (omega (arith, length-drop 68 bytes)) in
     c.put.ensures.bytes ∙ ap (λ xs. xs ++ take (length bytes - 68) pending) c.new-pending.ensures ∙ whole

@@ -10,6 +10,8 @@ returns-clause-bytes c =
     let bytes = c.write_to.new.out in
     let k : 68 + c.len-end.result - 68 ≡ fill = omega arith in
     let n : 68 + fill ≡ 68 + c.len-end.result = omega arith in
-    let room : length bytes ≡ fill = c.write_to.auto.out ∙ ap (λ n. length (take n (drop 68 out))) k ∙ length-take-le fill (drop 68 out) (omega (arith, length-drop 68 out)) in
+    let room : length bytes ≡ fill =
+    c.write_to.auto.out ∙ ap (λ n. length (take n (drop 68 out))) k
+    ∙ length-take-le fill (drop 68 out) (omega (arith, length-drop 68 out)) in
     let is : bytes ≡ c.args.pending.now = sym (take_all fill bytes (omega arith)) ∙ c.write_to.ensures.bytes in
     rw k (put_mid-between 68 fill (68 + c.len-end.result) out bytes c.args.pending.now n is)

@@ -10,6 +10,7 @@ invariant-loop-i g l =
     let left = drop l.i l.calls in
     record {
       count : l.count ≤ l.i;
-      products : l.tally.products + onward_products (length now) left ≡ l.fn.tally.products + onward_products (length first) l.calls;
+      products : l.tally.products + onward_products (length now) left ≡ l.fn.tally.products + onward_products
+          (length first) l.calls;
       kept : l.tally.kept + onward_kept (length now) left ≡ l.fn.tally.kept + onward_kept (length first) l.calls;
     }

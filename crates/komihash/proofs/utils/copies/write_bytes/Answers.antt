@@ -15,10 +15,13 @@ whole-preserved c =
     let bytes : written ≡ bytes_of 8 w = c.copy_from_slice.ensures.after ∙ c.to_le_bytes.ensures ∙ to_le_bytes-word w in
     let size : length written ≡ 8 = ap length bytes ∙ length-bytes_of 8 w in
     let is : written ≡ take 8 (drop (8 * i) all) =
-    bytes ∙ sym (take_all 8 (bytes_of 8 w) (omega (arith, length-bytes_of 8 w))) ∙ sym (take-all_bytes c.args.words.now i 8 (omega arith) (omega arith)) in
+    bytes ∙ sym (take_all 8 (bytes_of 8 w) (omega (arith, length-bytes_of 8 w)))
+    ∙ sym (take-all_bytes c.args.words.now i 8 (omega arith) (omega arith)) in
     rw k record {
-      bytes = take-put_mid_next c.whole.out written all c.args.out.now (8 * i) 8 (8 * (i + 1)) (omega arith) size (omega arith) c.whole.invariant.bytes is;
-      rest = drop-put_mid_next c.whole.out written all c.args.out.now (8 * i) 8 (8 * (i + 1)) (omega arith) size (omega arith) c.whole.invariant.rest;
+      bytes = take-put_mid_next c.whole.out written all c.args.out.now (8 * i) 8 (8 * (i + 1)) (omega arith) size
+          (omega arith) c.whole.invariant.bytes is;
+      rest = drop-put_mid_next c.whole.out written all c.args.out.now (8 * i) 8 (8 * (i + 1)) (omega arith) size
+          (omega arith) c.whole.invariant.rest;
     }
 
 pub returns-then-count-gt0-clause-bytes : goal.returns-then-count-gt0-clause-bytes
@@ -31,10 +34,15 @@ returns-then-count-gt0-clause-bytes c =
     let same : c.whole.i ≡ i = omega arith in
     let k : c.args.count - 8 * i ≡ over = omega arith in
     let room = length-take-le over (drop (8 * i) c.whole.out) (omega (arith, length-drop (8 * i) c.whole.out)) in
-    let bytes : written ≡ take over (bytes_of 8 w) = c.write_partial_word.ensures ∙ ap (λ n. take n (bytes_of 8 w)) (ap (λ n. length (take n (drop (8 * i) c.whole.out))) k ∙ room) in
-    let size : length written ≡ over = ap length bytes ∙ length-take-le over (bytes_of 8 w) (omega (arith, length-bytes_of 8 w)) in
-    let is : written ≡ take over (drop (8 * i) all) = bytes ∙ sym (take-all_bytes c.args.words.now i over (omega arith) (omega arith)) in
-    rw k (take-put_mid_next c.whole.out written all c.args.out.now (8 * i) over c.args.count (omega arith) size (omega arith) (rw same at c.whole.invariant.bytes) is)
+    let bytes : written ≡ take over (bytes_of 8 w) =
+    c.write_partial_word.ensures
+    ∙ ap (λ n. take n (bytes_of 8 w)) (ap (λ n. length (take n (drop (8 * i) c.whole.out))) k ∙ room) in
+    let size : length written ≡ over =
+    ap length bytes ∙ length-take-le over (bytes_of 8 w) (omega (arith, length-bytes_of 8 w)) in
+    let is : written ≡ take over (drop (8 * i) all) =
+    bytes ∙ sym (take-all_bytes c.args.words.now i over (omega arith) (omega arith)) in
+    rw k (take-put_mid_next c.whole.out written all c.args.out.now (8 * i) over c.args.count (omega arith) size
+    (omega arith) (rw same at c.whole.invariant.bytes) is)
 
 pub returns-then-count-gt0-clause-rest : goal.returns-then-count-gt0-clause-rest
 returns-then-count-gt0-clause-rest c =
@@ -44,5 +52,7 @@ returns-then-count-gt0-clause-rest c =
     let same : c.whole.i ≡ i = omega arith in
     let k : c.args.count - 8 * i ≡ over = omega arith in
     let room = length-take-le over (drop (8 * i) c.whole.out) (omega (arith, length-drop (8 * i) c.whole.out)) in
-    let size : length written ≡ over = c.write_partial_word.auto.out ∙ ap (λ n. length (take n (drop (8 * i) c.whole.out))) k ∙ room in
-    rw k (drop-put_mid_next c.whole.out written c.args.out.now c.args.out.now (8 * i) over c.args.count (omega arith) size (omega arith) (rw same at c.whole.invariant.rest))
+    let size : length written ≡ over =
+    c.write_partial_word.auto.out ∙ ap (λ n. length (take n (drop (8 * i) c.whole.out))) k ∙ room in
+    rw k (drop-put_mid_next c.whole.out written c.args.out.now c.args.out.now (8 * i) over c.args.count
+    (omega arith) size (omega arith) (rw same at c.whole.invariant.rest))

@@ -10,7 +10,8 @@ whole-preserved c =
     let words = whole_words c.args.bytes.now in
     let some : c.whole.i < length words = omega (arith, length-whole_words c.args.bytes.now) in
     record {
-      words = take-set_next c.whole.out words c.whole.i _ (omega arith) some c.whole.invariant.words (c.word_at.ensures ∙ sym (slice_index-whole_words c.args.bytes.now c.whole.i some));
+      words = take-set_next c.whole.out words c.whole.i _ (omega arith) some c.whole.invariant.words
+          (c.word_at.ensures ∙ sym (slice_index-whole_words c.args.bytes.now c.whole.i some));
       rest = drop-set_next c.whole.out c.args.out.now c.whole.i _ c.whole.invariant.rest;
     }
 

@@ -18,9 +18,14 @@ returns g c =
     let end = c.write_pending.result in
     let all = text g.row.V c.args.self.now in
     let shown = state_in s.lanes s.pending s.absorbed s.top_bit in
-    let first = c.write_head.ensures ∙ ap (λ n. (g.row.V ∷ flag_byte s.absorbed ∷ flag_byte s.top_bit ∷ n ∷ []) ++ drop 4 old) c.len.ensures.length in
+    let first =
+    c.write_head.ensures
+    ∙ ap (λ n. (g.row.V ∷ flag_byte s.absorbed ∷ flag_byte s.top_bit ∷ n ∷ []) ++ drop 4 old) c.len.ensures.length in
     let written : out ≡ all ++ drop end old =
-    parts_written (head g.row.V shown) (all_bytes (in_order (lanes_in s.lanes))) s.pending old c.write_head.new.out c.write_lanes.new.out out end refl (length-all_bytes (in_order (lanes_in s.lanes))) (omega (arith, c.write_pending.ensures.end)) first c.write_lanes.ensures c.write_pending.ensures.bytes
+    parts_written (head g.row.V shown)
+    (all_bytes (in_order (lanes_in s.lanes))) s.pending old c.write_head.new.out c.write_lanes.new.out out end refl
+    (length-all_bytes (in_order (lanes_in s.lanes)))
+    (omega (arith, c.write_pending.ensures.end)) first c.write_lanes.ensures c.write_pending.ensures.bytes
     ∙ ap (λ t. text g.row.V t ++ drop end old) c.self.view_is in
     let same = ap (λ (t : State). length t.pending) c.self.view_is in
     let size : end ≡ length all = omega (arith, length-text g.row.V c.args.self.now, c.write_pending.ensures.end) in
