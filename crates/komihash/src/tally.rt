@@ -5,10 +5,11 @@ ghost use Rattle.std.specs.Prelude.{◌≡◌, ℕ, ◌+◌};
 use std::marker::{Model, PhantomData};
 
 /// Two whole numbers without limit that only contracts see: the products of two words, and the
-/// bytes that were kept in a stream's buffer.
+/// bytes that were kept among a stream's pending bytes.
 ///
 /// A tally takes no bytes at run time, and no program can read it. A contract says by how much a
-/// call raises a tally that it is lent. Nothing outside this crate can raise one.
+/// call raises a tally that it is lent. No other crate can change its numbers but by handing it to
+/// this crate's calls. Like any value that is lent, it can be replaced by another one as a whole.
 #[derive(Drop)]
 pub struct Tally {
     marker: PhantomData<()>,
