@@ -1,6 +1,6 @@
 //! What the program says where something went wrong.
 
-ghost use Rattle.std.specs.Prelude.{◌≡◌, ◌↔◌, true, false, Some, OnOk, IsErr};
+ghost use Rattle.std.specs.Prelude.{◌≡◌, ◌↔◌, true, false, Some, OnOk, IfErr, IsErr};
 ghost use Rattle.std.specs.Io.KnownBytes.{Appends};
 ghost use Rattle.std.specs.Process.{exit_status};
 ghost use Rattle.komisum.specs.Ending.{said, text_of, status_of};
@@ -21,6 +21,7 @@ fn write_message<W: Write>(errors: &mut Watched<W>, text: &str) -> Result<(), Fa
     ensures begun { AppendsPrefix (W.contents errors.old.inner) (W.contents errors.new.inner)
         (said (Some text.now)) }
     ensures failed { IsErr result ↔ (errors.new.failed ≡ true) }
+    ensures fault { IfErr result (λ fault. fault ≡ Fault.Write) }
 {
     write_whole(errors, b"komisum: ")?;
     write_whole(errors, text.as_bytes())?;
