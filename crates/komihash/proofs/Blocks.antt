@@ -38,7 +38,7 @@ after_blocks-more xs le =
     omega (arith, length-drop 64 xs) in
     ap (λ k. drop k xs) n ∙ sym (drop-drop (length (drop 64 xs) - length (drop 64 xs) % 64) 64 xs)
 
-pub block_lanes-more : (v : ℕ) (l : Lanes) (xs : List ℕ) → 64 ≤ length xs
+block_lanes-more : (v : ℕ) (l : Lanes) (xs : List ℕ) → 64 ≤ length xs
     → block_lanes v l (whole_words xs)
     ≡ block_lanes v (block_round v l (whole_words (take 64 xs))) (whole_words (drop 64 xs))
 block_lanes-more v l xs le =

@@ -76,7 +76,7 @@ word_of-push xs n b h e few small =
     ap (λ w. bit_or (word_of xs) (w * 2 ^ (8 * n) % 2 ^ 64)) one
     ∙ word_of-set xs (b ∷ []) n h (AreBytes-one b small) e (omega arith)
 
-pub AreBytes-push : (xs : List ℕ) (b : ℕ) → AreBytes xs → b < 256 → AreBytes (xs ++ b ∷ [])
+AreBytes-push : (xs : List ℕ) (b : ℕ) → AreBytes xs → b < 256 → AreBytes (xs ++ b ∷ [])
 AreBytes-push [] b h small k = AreBytes-one b small k
 AreBytes-push (x ∷ xs) b h small zero = h 0
 AreBytes-push (x ∷ xs) b h small (suc k) = AreBytes-push xs b (λ j. h (suc j)) small k
@@ -100,7 +100,7 @@ module _ (j k : ℕ) (xs : List ℕ) (h : AreBytes xs) (le : k ≤ length xs) (m
       ∙ ap word_of last_from
 
   -- with a byte b behind them
-  pub word_of-last_push : (b : ℕ) → k < 8 → b < 256
+  word_of-last_push : (b : ℕ) → k < 8 → b < 256
       → bit_or (word_of (take k (drop (length xs - k) xs))) (b * 2 ^ (8 * k) % 2 ^ 64) / 2 ^
       (8 * (j + k - length xs)) ≡ word_of (drop j xs ++ b ∷ [])
   word_of-last_push b short small =

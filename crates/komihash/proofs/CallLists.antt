@@ -200,7 +200,7 @@ kept_bytes-one p few = grind (arith, nat_tests)
 
 -- ---- pieces, and one answer at their end
 
-pub bytes_of_calls-answer : (pieces : List Call) → bytes_of_calls (pieces ++ Answer ∷ []) ≡ bytes_of_calls pieces
+bytes_of_calls-answer : (pieces : List Call) → bytes_of_calls (pieces ++ Answer ∷ []) ≡ bytes_of_calls pieces
 bytes_of_calls-answer pieces = bytes_of_calls-append pieces (Answer ∷ []) ∙ append-nil (bytes_of_calls pieces)
 
 products_of_answers-answer : (n : ℕ) (pieces : List Call) → AreAbsorbs pieces

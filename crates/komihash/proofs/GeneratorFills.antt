@@ -18,7 +18,7 @@ all_bytes-append (x ∷ xs) ys =
 
 -- ---- steps in two parts
 
-pub after_steps-add : (v m n : ℕ) (s : ℕ × ℕ) → after_steps v (m + n) s ≡ after_steps v n (after_steps v m s)
+after_steps-add : (v m n : ℕ) (s : ℕ × ℕ) → after_steps v (m + n) s ≡ after_steps v n (after_steps v m s)
 unfolding after_steps
 after_steps-add v zero n s = rw zero-add refl
 after_steps-add v (suc m) n s = rw suc-add (after_steps-add v m n (next v s))

@@ -17,7 +17,7 @@ use Rattle.komihash.proofs.BytesInWords.{AreBytes-take, pow_byte, word_of-append
 
 -- ---- a word and its bytes
 
-pub word_of-bytes_of : (n w : ℕ) → w < 2 ^ (8 * n) → word_of (bytes_of n w) ≡ w
+word_of-bytes_of : (n w : ℕ) → w < 2 ^ (8 * n) → word_of (bytes_of n w) ≡ w
 unfolding bytes_of
 word_of-bytes_of zero w lt = omega arith
 word_of-bytes_of (suc n) w lt =
@@ -25,7 +25,7 @@ word_of-bytes_of (suc n) w lt =
     omega (arith, word_of-bytes_of n (w / 256) below)
 
 -- the bytes below a place, and all that stands from there on
-pub word_of-bytes_push : (n w end : ℕ) → w / 2 ^ (8 * n) ≡ end → word_of (bytes_of n w ++ end ∷ []) ≡ w
+word_of-bytes_push : (n w end : ℕ) → w / 2 ^ (8 * n) ≡ end → word_of (bytes_of n w ++ end ∷ []) ≡ w
 unfolding bytes_of
 word_of-bytes_push zero w end e = omega arith
 word_of-bytes_push (suc n) w end e =
@@ -42,7 +42,7 @@ bytes_of-word_of_append (x ∷ xs) ys h =
     let high : (x + 256 * word_of (xs ++ ys)) / 256 ≡ word_of (xs ++ ys) = omega (arith, h 0) in
     rw (low, high) (ap (λ bs. x ∷ bs) (bytes_of-word_of_append xs ys (λ k. h (suc k))))
 
-pub take-bytes_of : (r n w : ℕ) → r ≤ n → take r (bytes_of n w) ≡ bytes_of r w
+take-bytes_of : (r n w : ℕ) → r ≤ n → take r (bytes_of n w) ≡ bytes_of r w
 unfolding bytes_of
 take-bytes_of zero n w le = refl
 take-bytes_of (suc r) zero w le = absurd (omega arith)
@@ -58,7 +58,7 @@ whole_words-all_bytes (w ∷ ws) xs h few =
     ap (λ x. x ∷ whole_words (all_bytes ws ++ xs)) (word_of-bytes_of 8 w (h 0))
     ∙ ap (λ us. w ∷ us) (whole_words-all_bytes ws xs (λ k. h (suc k)) few)
 
-pub after_words-all_bytes : (ws xs : List ℕ) → length xs < 8 → after_words (all_bytes ws ++ xs) ≡ xs
+after_words-all_bytes : (ws xs : List ℕ) → length xs < 8 → after_words (all_bytes ws ++ xs) ≡ xs
 unfolding bytes_of
 after_words-all_bytes [] xs few = after_words-few xs few
 after_words-all_bytes (w ∷ ws) xs few = after_words-all_bytes ws xs few
@@ -135,7 +135,7 @@ module _ (v : ℕ) (ws : List ℕ) (h : (k : ℕ) → get_or ws k 0 < 2 ^ 64) (s
 
 -- ---- a message, from its padded words
 
-pub length-words : (v : ℕ) (m : List ℕ) → length (padded_words v m) ≡ length m / 8 + 1
+length-words : (v : ℕ) (m : List ℕ) → length (padded_words v m) ≡ length m / 8 + 1
 length-words v m =
     ap length (padded_words-by_tail v m)
     ∙ omega (arith, length-append (whole_words m) (final_word m (end_byte v m) ∷ []), length-whole_words m)
@@ -161,7 +161,7 @@ take-all_bytes_back (a ∷ b ∷ c ∷ d ∷ e ∷ f ∷ g ∷ h ∷ bs) end byt
     ∙ ap (λ xs. eight ++ xs) (take-all_bytes_back bs end (AreBytes-drop 8 (a ∷ b ∷ c ∷ d ∷ e ∷ f ∷ g ∷ h ∷ bs) bytes))
 take-all_bytes_back m end bytes = bytes_of-word_of_append m (end ∷ []) bytes
 
-pub take-words_back : (v : ℕ) (m : List ℕ) → AreBytes m → take (length m) (all_bytes (padded_words v m)) ≡ m
+take-words_back : (v : ℕ) (m : List ℕ) → AreBytes m → take (length m) (all_bytes (padded_words v m)) ≡ m
 take-words_back v m bytes =
     ap (λ ws. take (length m) (all_bytes ws)) (padded_words-by_tail v m) ∙ take-all_bytes_back m (end_byte v m) bytes
 
@@ -204,14 +204,14 @@ module _ (v : ℕ) (m : List ℕ) (bytes : AreBytes m) (some : 0 < length m) whe
       ap (λ w. w / 2 ^ (8 * (length m % 8))) last_cut
       ∙ shr_high (padding_byte v m) (8 * (length m % 8)) (word_of (after_words m)) after_lt
 
-  pub last_above : 2 ^ (8 * (length m % 8)) ≤ final_word m (end_byte v m)
+  last_above : 2 ^ (8 * (length m % 8)) ≤ final_word m (end_byte v m)
   last_above =
       elim (padding_byte-cases v m) as (λ _. 2 ^ (8 * (length m % 8)) ≤ final_word m (end_byte v m)) [
         | inl one ↦ omega (arith, rw one at last_cut)
         | inr two ↦ omega (arith, rw two at last_cut)
       ]
 
-  pub last_below : final_word m (end_byte v m) < 2 ^ (8 * (length m % 8) + 8)
+  last_below : final_word m (end_byte v m) < 2 ^ (8 * (length m % 8) + 8)
   last_below =
       let more : 2 ^ (8 * (length m % 8) + 8) ≡ 2 ^ (8 * (length m % 8)) * 256 = pow-add 2 (8 * (length m % 8)) 8 in
       elim (padding_byte-cases v m) as (λ _. final_word m (end_byte v m) < 2 ^ (8 * (length m % 8) + 8)) [
@@ -232,7 +232,7 @@ module _ (v : ℕ) (ws m : List ℕ) (bytes : AreBytes m) (padded : padded_words
   pub padded-length : length ws ≡ length m / 8 + 1
   padded-length = ap length (sym padded) ∙ length-words v m
 
-  pub padded-take : m ≡ take (length m) (all_bytes ws)
+  padded-take : m ≡ take (length m) (all_bytes ws)
   padded-take = sym (ap (λ us. take (length m) (all_bytes us)) (sym padded) ∙ take-words_back v m bytes)
 
   pub padded-zero : get_or ws (length ws - 1) 0 ≡ 0 → length m ≡ 0

@@ -17,7 +17,7 @@ use Rattle.komihash.proofs.BytesInWords.{AreBytes-take, AreBytes-drop, word_of-l
 -- ---- the parts
 
 -- a flag from its byte
-pub flag_byte-back : (flag : Bool) → (flag_byte flag == 1) ≡ flag
+flag_byte-back : (flag : Bool) → (flag_byte flag == 1) ≡ flag
 flag_byte-back true = refl
 flag_byte-back false = refl
 
@@ -56,28 +56,28 @@ unfolding text
 length-text v s =
     omega (arith, length-append (all_bytes (in_order s.lanes)) s.pending, length-all_bytes (in_order s.lanes))
 
-pub text-lanes : (v : ℕ) (s : State) → take 64 (drop 4 (text v s)) ≡ all_bytes (in_order s.lanes)
+text-lanes : (v : ℕ) (s : State) → take 64 (drop 4 (text v s)) ≡ all_bytes (in_order s.lanes)
 unfolding text
 text-lanes v s = take_at (all_bytes (in_order s.lanes)) s.pending 64 (length-all_bytes (in_order s.lanes))
 
-pub text-pending : (v : ℕ) (s : State) → drop 68 (text v s) ≡ s.pending
+text-pending : (v : ℕ) (s : State) → drop 68 (text v s) ≡ s.pending
 unfolding text
 text-pending v s = drop_at (all_bytes (in_order s.lanes)) s.pending 64 (length-all_bytes (in_order s.lanes))
 
 -- the first four bytes
-pub text-version : (v : ℕ) (s : State) → slice_index (text v s) 0 ≡ v
+text-version : (v : ℕ) (s : State) → slice_index (text v s) 0 ≡ v
 unfolding text
 text-version v s = refl
 
-pub text-absorbed : (v : ℕ) (s : State) → slice_index (text v s) 1 ≡ flag_byte s.absorbed
+text-absorbed : (v : ℕ) (s : State) → slice_index (text v s) 1 ≡ flag_byte s.absorbed
 unfolding text
 text-absorbed v s = refl
 
-pub text-top_bit : (v : ℕ) (s : State) → slice_index (text v s) 2 ≡ flag_byte s.top_bit
+text-top_bit : (v : ℕ) (s : State) → slice_index (text v s) 2 ≡ flag_byte s.top_bit
 unfolding text
 text-top_bit v s = refl
 
-pub text-fill : (v : ℕ) (s : State) → slice_index (text v s) 3 ≡ length s.pending
+text-fill : (v : ℕ) (s : State) → slice_index (text v s) 3 ≡ length s.pending
 unfolding text
 text-fill v s = refl
 
@@ -97,7 +97,7 @@ state_of bytes = record {
   top_bit = slice_index bytes 2 == 1;
 }
 
-pub state_of-text : (v : ℕ) (s : State) → AreWords s.lanes → state_of (text v s) ≡ s
+state_of-text : (v : ℕ) (s : State) → AreWords s.lanes → state_of (text v s) ≡ s
 state_of-text v s are =
     let lanes : lanes_of (whole_words (take 64 (drop 4 (text v s)))) ≡ s.lanes = ap lanes_of (text-words v s are) in
     let pending = text-pending v s in

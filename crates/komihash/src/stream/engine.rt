@@ -1,4 +1,4 @@
-//! What a stream of either version is made of, and its three calls.
+//! What a stream of either version is made of, and its calls: start, absorb, answer, save, resume.
 
 ghost use Rattle.std.specs.Prelude.{◌≡◌, ◌+◌, ◌<◌, ◌≤◌, ◌↔◌, IfSome, IsNone, length, take, drop};
 ghost use Rattle.komihash.specs.Counts.{write_products, answer_products, kept_bytes};
