@@ -1,61 +1,7 @@
 #!/usr/bin/env bash
-# Tests of the built program: what no contract says of it. Each case prints a line; the last line is 'N passed, M failed'.
-# It needs bash, the coreutils and the program: `rt ci` leaves it, and else `rt run` builds it.
-set -uo pipefail
-shopt -s globstar
-cd "$(dirname "$0")/../crates/komisum" || exit 1
-
-room=$(mktemp -d)
-trap 'rm -rf "$room"' EXIT
-program=$PWD/out/komisum
-
-# Whether the program is there, and no source is newer.
-is_built() {
-    local source
-    [ -x "$program" ] || return 1
-    for source in {.,../komihash}/{src,specs,proofs}/**; do
-        [ ! "$source" -nt "$program" ] || return 1
-    done
-}
-
-if ! is_built && ! rt run < stdin > "$room/built" 2>&1; then
-    cat "$room/built"
-    echo 'FAILED: the program is built, and its stored run ends well'
-    echo '0 passed, 1 failed'
-    exit 1
-fi
-passed=0
-failed=0
-
-# Notes a case: whether what came is what was wanted.
-note() {
-    local name=$1 wanted=$2 came=$3
-    if [ "$wanted" = "$came" ]; then
-        passed=$((passed + 1))
-        echo "ok: $name"
-    else
-        failed=$((failed + 1))
-        echo "FAILED: $name"
-        printf 'wanted:\n%s\ncame:\n%s\n' "$wanted" "$came"
-    fi
-}
-
-# Runs the program with words, and prints its status, its output and its errors, each behind its name.
-run() {
-    "$program" "$@" > "$room/output" 2> "$room/errors"
-    told $?
-}
-
-# Prints a status, and what stands in the files of the last output and errors.
-told() {
-    printf 'status %s\n' "$1"
-    printf 'output %s|\n' "$(cat "$room/output"; printf .)"
-    printf 'errors %s|\n' "$(cat "$room/errors"; printf .)"
-}
-
-# What run prints for a line, and for a fault.
-line() { printf 'status 0\noutput %s\n.|\nerrors .|\n' "$1"; }
-fault() { printf 'status %s\noutput .|\nerrors komisum: %s\n.|\n' "$1" "$2"; }
+# Tests of the built program: what no contract says of its words and its streams. Each case prints a line; the
+# last line is 'N passed, M failed'. It needs what cases.sh names.
+source "$(dirname "$0")/cases.sh"
 
 usage='usage: komisum [4|5 SEED]'
 printf a > "$room/a"
@@ -85,22 +31,7 @@ refuse 'no digit' 5 g
 refuse 'a word that is not UTF-8' 5 $'\xff'
 refuse 'a third word that is not UTF-8' 5 0 $'\xff'
 
-# Inputs and outputs that go wrong.
-note 'a folder' "$(fault 1 'read failed')" "$(run < /)"
-note 'closed input' "$(fault 1 'read failed')" "$(run <&-)"
-: > "$room/output"
-note 'closed output' "$(fault 1 'write failed')" "$("$program" < stdin >&- 2> "$room/errors"; told $?)"
-if [ -e /dev/full ]; then
-    note 'full output' "$(fault 1 'write failed')" "$("$program" < stdin > /dev/full 2> "$room/errors"; told $?)"
-    note 'full errors' 'status 1' "$("$program" < / 2> /dev/full; printf 'status %s' $?)"
-fi
-note 'closed errors' 'status 1' "$("$program" < / 2>&-; printf 'status %s' $?)"
-note 'closed errors at usage' 'status 2' "$("$program" 6 0 < /dev/null 2>&-; printf 'status %s' $?)"
-note 'a pipe that closes early' "$(fault 1 'write failed')" \
-    "$({ sleep 0.2; printf a; } | { "$program" 2> "$room/errors"; printf %s $? > "$room/status"; } | true; told "$(cat "$room/status")")"
-
-# Sizes round the chunk and the buffer, by a file and by a slow pipe. The message is what `seq` prints.
-message() { seq 1 100000 | head -c "$1"; }
+# Sizes round the chunk and the buffer, by a file and by a slow pipe.
 slow_message() {
     local half=$(($1 / 2))
     message "$1" > "$room/slow"
@@ -125,5 +56,4 @@ done << 'SIZES'
 200000 f1226606918aa970 5fcaf5a4c1809abc
 SIZES
 
-echo "$passed passed, $failed failed"
-[ "$failed" = 0 ]
+counted

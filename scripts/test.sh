@@ -1,6 +1,9 @@
 #!/usr/bin/env bash
-# Every proof and every test: the merge gate of the toolchain, and then the tests of the built program.
+# Every proof and every test: the merge gate of the toolchain, the rules that are read off the sources, and the tests
+# of the built program.
 set -euo pipefail
 cd "$(dirname "$0")/.."
 rt ci
-exec scripts/program.sh
+scripts/rules.py
+scripts/program.sh
+exec scripts/faults.sh

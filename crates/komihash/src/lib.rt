@@ -19,5 +19,6 @@ mod tests;
 mod utils;
 pub mod v4;
 pub mod v5;
+mod version;
 
 pub use v5::{KomiHasher, Komirand, StreamedKomihash, komihash};

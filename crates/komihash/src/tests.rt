@@ -1,6 +1,7 @@
 //! Tests of what the contracts do not say: that the definitions mean what they should.
 
 mod callers;
+mod cuts;
 mod definitions;
 mod generator;
 mod hash;
@@ -8,9 +9,11 @@ mod hasher;
 mod messages;
 mod padding;
 mod pending;
+mod random;
 mod rests;
 mod root;
 mod rounds;
+mod same;
 mod saved;
 mod stream;
 mod tally;

@@ -1,7 +1,6 @@
 //! The stream of both versions, as callers have it.
 
-mod version_five;
-mod version_four;
+mod komi_stream;
 
 ghost use Rattle.std.specs.Prelude.{◌≡◌, ◌≤◌, ◌↔◌, ℕ, IfSome, IsSomeAnd, IsNone, List, [], ◌++◌, length, take, drop};
 ghost use Rattle.komihash.specs.Hash.{komi};

@@ -6,6 +6,7 @@ ghost use Rattle.komihash.specs.Generator.{after_steps, fill};
 ghost use Rattle.komihash.specs.Hash.{komi};
 
 use super::messages::{BLOCK_FIVE, SIX, ZERO};
+use super::same::same;
 use crate::tally::Tally;
 use crate::{Komirand, StreamedKomihash, komihash, laws, v5};
 
@@ -78,11 +79,11 @@ fn hash_of_key(key: &[u8; 16], tally: &mut Tally) -> u64
 
 #[test]
 fn callers_answer(rt: HostRuntime) {
-    assert_eq!(rt; shard_of(&SIX, 4), 2);
-    assert_eq!(rt; digest_of_pieces(&SIX[..1], &[], &SIX[1..]), 6);
+    same(&rt, shard_of(&SIX, 4), 2, 0);
+    same(&rt, digest_of_pieces(&SIX[..1], &[], &SIX[1..]), 6, 1);
     assert!(rt; may_be_equal(&ZERO, &ZERO));
     assert!(rt; !may_be_equal(&ZERO, &SIX));
-    assert_eq!(rt; hash_of_key(&ZERO, &mut Tally::new()), 0);
+    same(&rt, hash_of_key(&ZERO, &mut Tally::new()), 0, 2);
 }
 
 #[test]

@@ -1,5 +1,6 @@
 //! The generators of both versions at pairs whose outputs are known.
 
+use super::same::{same, same_bytes};
 use crate::generator::Komirand;
 use crate::{v4, v5};
 use std::process::Abort;
@@ -7,7 +8,7 @@ use std::process::Abort;
 // The next outputs of a generator.
 fn gives<const V: u8>(rt: &impl Abort, mut generator: Komirand<V>, outputs: &[u64]) {
     for output in outputs {
-        assert_eq!(rt; generator.next(), *output);
+        same(rt, generator.next(), *output, 0);
     }
 }
 
@@ -108,22 +109,39 @@ fn goes_on_behind_a_fill(rt: HostRuntime) {
     goes_on::<5>(&rt, 42);
 }
 
-// Fills of every length up to 95 bytes are the bytes of the outputs.
-fn fills_with_the_outputs<const V: u8>(rt: &impl Abort, seed: u64) {
-    let mut outputs = Komirand::<V>::new(seed, seed);
-    let mut wanted = [0; 96];
-    for i in 0..12usize {
-        wanted[8 * i..8 * i + 8].copy_from_slice(&outputs.next().to_le_bytes());
+// A generator of each kind.
+fn kind<const V: u8>(number: usize) -> Komirand<V> {
+    match number {
+        0 => Komirand::new(0, 0),
+        1 => Komirand::new(42, 42),
+        2 => Komirand::init(0),
+        _ => Komirand::init(0x1234_5678_90ab_cdef),
     }
-    for n in 0..96usize {
-        let mut bytes = [0xee; 96];
-        Komirand::<V>::new(seed, seed).fill_bytes(&mut bytes[..n]);
-        assert_eq!(rt; bytes[..n], wanted[..n], "{n} bytes");
+}
+
+// Fills of every length up to 95 bytes are the bytes of the outputs, and the output behind a fill is
+// the first that it did not take.
+fn fills_with_the_outputs<const V: u8>(rt: &impl Abort) {
+    for number in 0..4usize {
+        let mut outputs = kind::<V>(number);
+        let mut words = [0; 13];
+        let mut bytes = [0; 104];
+        for i in 0..13usize {
+            words[i] = outputs.next();
+            bytes[8 * i..8 * i + 8].copy_from_slice(&words[i].to_le_bytes());
+        }
+        for n in 0..96usize {
+            let mut generator = kind::<V>(number);
+            let mut given = [0xee; 96];
+            generator.fill_bytes(&mut given[..n]);
+            same_bytes(rt, &given[..n], &bytes[..n], n);
+            same(rt, generator.next(), words[(n + 7) / 8], n);
+        }
     }
 }
 
 #[test]
 fn fills_every_length(rt: HostRuntime) {
-    fills_with_the_outputs::<4>(&rt, 0);
-    fills_with_the_outputs::<5>(&rt, 42);
+    fills_with_the_outputs::<4>(&rt);
+    fills_with_the_outputs::<5>(&rt);
 }

@@ -1,7 +1,10 @@
 //! The hash of both versions at messages whose hash is known from elsewhere.
 
 use super::messages::{BLOCK_FIVE, BLOCK_FOUR, HIGH_END, LONGEST, SIX, ZERO, pattern};
+use super::same::same;
+use crate::hash::komihash;
 use crate::{v4, v5};
+use std::process::Abort;
 
 // The length of a beginning of the pattern, and its hash in version 4 with seed 0 and with the
 // greatest seed, and in version 5 with both: answers of the Rust crate.
@@ -397,13 +400,14 @@ const ANSWERS: [(usize, [u64; 4]); 43] = [
 
 #[test]
 fn hashes_known_messages(rt: HostRuntime) {
-    assert_eq!(rt; v5::komihash(&[0xdc], 0), 0xfd45_482d_180d_0441);
-    assert_eq!(rt; v4::komihash(&HIGH_END, 0), 7);
-    assert_eq!(rt; v5::komihash(&HIGH_END, 0), 0x8000_0000_0000_0000);
-    assert_eq!(rt; v4::komihash(&BLOCK_FOUR, 0), 6);
-    assert_eq!(rt; v4::komihash(&BLOCK_FOUR[..64], 0), 0x2a2f_07ac_9381_0128);
-    assert_eq!(rt; v5::komihash(&BLOCK_FIVE, 0), 6);
-    assert_eq!(rt; v5::komihash(&BLOCK_FIVE[..64], 0), 0x2a2f_07ac_9381_0128);
+    same(&rt, v5::komihash(&[0xdc], 0), 0xfd45_482d_180d_0441, 1);
+    same(&rt, v4::komihash(&HIGH_END, 0), 7, 31);
+    same(&rt, v5::komihash(&HIGH_END, 0), 0x8000_0000_0000_0000, 31);
+    let block = 0x2a2f_07ac_9381_0128;
+    same(&rt, v4::komihash(&BLOCK_FOUR[..64], 0), block, 64);
+    same(&rt, v5::komihash(&BLOCK_FIVE[..64], 0), block, 64);
+    same(&rt, v4::komihash(&BLOCK_FOUR, 0), 6, 95);
+    same(&rt, v5::komihash(&BLOCK_FIVE, 0), 6, 95);
 }
 
 #[test]
@@ -417,37 +421,24 @@ fn hashes_alike_where_the_rules_agree(rt: HostRuntime) {
         (&SIX, 0, 6),
     ];
     for (message, seed, answer) in cases {
-        assert_eq!(rt;
-            v4::komihash(message, seed),
-            answer,
-            "version 4 of {message:?}"
-        );
-        assert_eq!(rt;
-            v5::komihash(message, seed),
-            answer,
-            "version 5 of {message:?}"
-        );
+        same(&rt, v4::komihash(message, seed), answer, message.len());
+        same(&rt, v5::komihash(message, seed), answer, message.len());
+    }
+}
+
+// The hash of each beginning of a message from some length on is 0, but for the whole.
+fn stays_at_zero<const V: u8>(rt: &impl Abort, message: &[u8], from: usize) {
+    for n in from..message.len() {
+        same(rt, komihash::<V>(&message[..n], 0), 0, n);
     }
 }
 
 #[test]
 fn stays_at_zero_until_the_last_byte(rt: HostRuntime) {
-    for n in 16..31usize {
-        assert_eq!(rt; v4::komihash(&SIX[..n], 0), 0, "version 4, {n} bytes");
-        assert_eq!(rt; v5::komihash(&SIX[..n], 0), 0, "version 5, {n} bytes");
-    }
-    for n in 80..95usize {
-        assert_eq!(rt;
-            v4::komihash(&BLOCK_FOUR[..n], 0),
-            0,
-            "version 4, {n} bytes"
-        );
-        assert_eq!(rt;
-            v5::komihash(&BLOCK_FIVE[..n], 0),
-            0,
-            "version 5, {n} bytes"
-        );
-    }
+    stays_at_zero::<4>(&rt, &SIX, 16);
+    stays_at_zero::<5>(&rt, &SIX, 16);
+    stays_at_zero::<4>(&rt, &BLOCK_FOUR, 80);
+    stays_at_zero::<5>(&rt, &BLOCK_FIVE, 80);
 }
 
 #[test]
@@ -456,11 +447,7 @@ fn stays_at_zero_behind_any_few_bytes(rt: HostRuntime) {
         for byte in [0x00, 0x01, 0x7f, 0x80, 0xff] {
             let mut message = [byte; 24];
             message[..16].copy_from_slice(&ZERO);
-            assert_eq!(rt;
-                v5::komihash(&message[..16 + more], 0),
-                0,
-                "{more} bytes {byte}"
-            );
+            same(&rt, v5::komihash(&message[..16 + more], 0), 0, more);
         }
     }
 }

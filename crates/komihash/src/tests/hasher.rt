@@ -1,8 +1,11 @@
 //! The hashers of both versions at writes whose numbers are known.
 
 use super::messages::{HIGH_END, ZERO};
-use crate::{v4, v5};
+use super::same::same;
+use crate::hash::komihash;
+use crate::hasher::KomiHasher;
 use std::hash::Hasher;
+use std::process::Abort;
 
 // What a hasher answers after these writes, by the trait alone.
 fn after_writes<H: Hasher>(hasher: &mut H, writes: &[&[u8]]) -> u64 {
@@ -12,59 +15,49 @@ fn after_writes<H: Hasher>(hasher: &mut H, writes: &[&[u8]]) -> u64 {
     hasher.finish()
 }
 
-#[test]
-fn answers_its_number(rt: HostRuntime) {
-    assert_eq!(rt; v4::KomiHasher::new(7).finish(), 7);
-    assert_eq!(rt; v5::KomiHasher::new(7).finish(), 7);
-    assert_eq!(rt; v4::KomiHasher::default().finish(), 0);
-    assert_eq!(rt; v5::KomiHasher::default().finish(), 0);
+// What a hasher of version V and a number answers after writes.
+fn number_after<const V: u8>(number: u64, writes: &[&[u8]]) -> u64 {
+    after_writes(&mut KomiHasher::<V>::new(number), writes)
+}
+
+// The writes of known messages, the last of which has another hash in each version.
+fn agrees<const V: u8>(rt: &impl Abort, high_end: u64) {
+    same(rt, KomiHasher::<V>::default().finish(), 0, 0);
+    let cases: [(u64, &[&[u8]], u64); 6] = [
+        (7, &[], 7),
+        (0, &[&[]], 0xb768_3ea7_4301_32b4),
+        (u64::MAX, &[&[]], 0x4bcc_041f_3f88_5859),
+        (0, &[&ZERO], 0),
+        (0, &[&ZERO, &ZERO], 0),
+        (0, &[&HIGH_END], high_end),
+    ];
+    for (number, writes, answer) in cases {
+        same(rt, number_after::<V>(number, writes), answer, writes.len());
+    }
 }
 
 #[test]
-fn counts_a_write_of_no_bytes(rt: HostRuntime) {
-    let mut four = v4::KomiHasher::default();
-    assert_eq!(rt; after_writes(&mut four, &[&[]]), 0xb768_3ea7_4301_32b4);
-    let mut five = v5::KomiHasher::default();
-    assert_eq!(rt; after_writes(&mut five, &[&[]]), 0xb768_3ea7_4301_32b4);
-    let mut four = v4::KomiHasher::new(u64::MAX);
-    assert_eq!(rt; after_writes(&mut four, &[&[]]), 0x4bcc_041f_3f88_5859);
-    let mut five = v5::KomiHasher::new(u64::MAX);
-    assert_eq!(rt; after_writes(&mut five, &[&[]]), 0x4bcc_041f_3f88_5859);
+fn numbers_of_known_writes(rt: HostRuntime) {
+    agrees::<4>(&rt, 7);
+    agrees::<5>(&rt, 0x8000_0000_0000_0000);
 }
 
-#[test]
-fn stays_at_zero(rt: HostRuntime) {
-    let mut four = v4::KomiHasher::default();
-    assert_eq!(rt; after_writes(&mut four, &[&ZERO]), 0);
-    assert_eq!(rt; after_writes(&mut four, &[&ZERO]), 0);
-    let mut five = v5::KomiHasher::default();
-    assert_eq!(rt; after_writes(&mut five, &[&ZERO]), 0);
-    assert_eq!(rt; after_writes(&mut five, &[&ZERO]), 0);
-}
-
-#[test]
-fn takes_each_hash_as_the_next_seed(rt: HostRuntime) {
-    let mut four = v4::KomiHasher::default();
-    assert_eq!(rt;
-        after_writes(&mut four, &[b"hello", b"world"]),
-        v4::komihash(b"world", v4::komihash(b"hello", 0))
+// Each hash is the seed of the next write, also where the same hasher goes on after an answer.
+fn takes_each_hash_as_the_next_seed<const V: u8>(rt: &impl Abort) {
+    let hello = komihash::<V>(b"hello", 0);
+    let mut hasher = KomiHasher::<V>::default();
+    same(rt, after_writes(&mut hasher, &[b"hello"]), hello, 1);
+    same(
+        rt,
+        after_writes(&mut hasher, &[b"world"]),
+        komihash::<V>(b"world", hello),
+        2,
     );
-    assert_eq!(rt; four.finish(), 0x5d27_c8da_42bb_d50f);
-    let mut five = v5::KomiHasher::default();
-    assert_eq!(rt;
-        after_writes(&mut five, &[b"hello", b"world"]),
-        v5::komihash(b"world", v5::komihash(b"hello", 0))
-    );
-    assert_eq!(rt; five.finish(), 0x5d27_c8da_42bb_d50f);
+    same(rt, hasher.finish(), 0x5d27_c8da_42bb_d50f, 3);
 }
 
 #[test]
-fn hashes_in_its_own_version(rt: HostRuntime) {
-    let mut four = v4::KomiHasher::default();
-    assert_eq!(rt; after_writes(&mut four, &[&HIGH_END]), 7);
-    let mut five = v5::KomiHasher::default();
-    assert_eq!(rt;
-        after_writes(&mut five, &[&HIGH_END]),
-        0x8000_0000_0000_0000
-    );
+fn chains_its_writes(rt: HostRuntime) {
+    takes_each_hash_as_the_next_seed::<4>(&rt);
+    takes_each_hash_as_the_next_seed::<5>(&rt);
 }

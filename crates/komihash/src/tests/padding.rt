@@ -1,9 +1,11 @@
 //! Padded words of known messages, and what is read back from known words.
 
-ghost use Rattle.std.specs.Prelude.{◌+◌, ◌*◌, ◌/◌, ◌≤◌, length};
+ghost use Rattle.std.specs.Prelude.{◌+◌, ◌*◌, ◌/◌, ◌<◌, ◌≤◌, length};
 
 use super::messages::pattern;
+use super::same::{same_bytes, same_count, same_length, same_words};
 use crate::{v4, v5};
+use std::process::Abort;
 
 // `pad` of a version.
 fn pad(version: u8, bytes: &[u8], out: &mut [u64]) -> usize
@@ -27,26 +29,48 @@ fn unpad(version: u8, words: &[u64], out: &mut [u8]) -> Option<usize>
     }
 }
 
+// What `pad` writes of a message, and nothing behind it.
+fn pads(rt: &impl Abort, version: u8, message: &[u8], words: &[u64])
+    requires message { length message.now < 16 }
+    requires words { length words.now ≤ 3 }
+{
+    let mut out = [7; 3];
+    let mut wanted = [7; 3];
+    wanted[..words.len()].copy_from_slice(words);
+    let count = pad(version, message, &mut out);
+    same_count(rt, count, words.len(), message.len());
+    same_words(rt, &out, &wanted, message.len());
+}
+
 #[test]
 fn pads_known_messages(rt: HostRuntime) {
-    let none: [u8; 0] = [];
-    let cases: [(&[u8], &[u64], &[u64]); 4] = [
-        (&none, &[0], &[0]),
-        (b"abc", &[0x0163_6261], &[0x0163_6261]),
-        (&[0x80], &[0x0280], &[0x0180]),
-        (&[0xff; 8], &[u64::MAX, 2], &[u64::MAX, 1]),
-    ];
-    for (message, four, five) in cases {
-        for (version, words) in [(4u8, four), (5u8, five)] {
-            assert!(rt; message.len() < 24 && words.len() <= 3);
-            let mut out = [7; 3];
-            let mut wanted = [7; 3];
-            wanted[..words.len()].copy_from_slice(words);
-            let count = pad(version, message, &mut out);
-            assert_eq!(rt; count, words.len(), "version {version} of {message:?}");
-            assert_eq!(rt; out, wanted, "version {version} of {message:?}");
+    pads(&rt, 4, &[], &[0]);
+    pads(&rt, 5, &[], &[0]);
+    pads(&rt, 4, b"abc", &[0x0163_6261]);
+    pads(&rt, 5, b"abc", &[0x0163_6261]);
+    pads(&rt, 4, &[0x80], &[0x0280]);
+    pads(&rt, 5, &[0x80], &[0x0180]);
+    pads(&rt, 4, &[0xff; 8], &[u64::MAX, 2]);
+    pads(&rt, 5, &[0xff; 8], &[u64::MAX, 1]);
+}
+
+// What `unpad` writes of words, and nothing behind it.
+fn reads(rt: &impl Abort, version: u8, words: &[u64], message: Option<&[u8]>)
+    requires { length words.now ≤ 3 }
+{
+    let mut out = [0xee; 25];
+    let mut wanted = [0xee; 25];
+    let length = match message {
+        Some(bytes) => {
+            assert!(rt; bytes.len() <= 25);
+            wanted[..bytes.len()].copy_from_slice(bytes);
+            Some(bytes.len())
         }
-    }
+        None => None,
+    };
+    let given = unpad(version, words, &mut out);
+    same_length(rt, given, length, words.len());
+    same_bytes(rt, &out, &wanted, words.len());
 }
 
 #[test]
@@ -80,19 +104,9 @@ fn reads_known_words_back(rt: HostRuntime) {
         (&[u64::MAX], None, None),
     ];
     for (words, four, five) in cases {
-        for (version, message) in [(4u8, four), (5u8, five)] {
-            assert!(rt; words.len() <= 3);
-            let mut out = [0xee; 25];
-            let mut wanted = [0xee; 25];
-            if let Some(bytes) = message {
-                assert!(rt; bytes.len() <= 25);
-                wanted[..bytes.len()].copy_from_slice(bytes);
-            }
-            let count = unpad(version, words, &mut out);
-            let length = message.map(|bytes| bytes.len());
-            assert_eq!(rt; count, length, "version {version} of {words:?}");
-            assert_eq!(rt; out, wanted, "version {version} of {words:?}");
-        }
+        assert!(rt; words.len() <= 3);
+        reads(&rt, 4, words, four);
+        reads(&rt, 5, words, five);
     }
 }
 
@@ -109,8 +123,8 @@ fn reads_back_what_was_padded(rt: HostRuntime) {
             let mut wanted = [0xee; 89];
             wanted[..n].copy_from_slice(message);
             let length = unpad(version, &words[..count], &mut out[..8 * count + 1]);
-            assert_eq!(rt; length, Some(n), "version {version}, {n} bytes");
-            assert_eq!(rt; out, wanted, "version {version}, {n} bytes");
+            same_length(&rt, length, Some(n), n);
+            same_bytes(&rt, &out, &wanted, n);
         }
     }
 }
@@ -134,8 +148,8 @@ fn reads_each_word_of_two_bytes(rt: HostRuntime) {
                     None
                 };
                 let given = unpad(version, &[256 * x + y], &mut out);
-                assert_eq!(rt; given, length, "version {version} of {x} and {y}");
-                assert_eq!(rt; out, wanted, "version {version} of {x} and {y}");
+                same_length(&rt, given, length, (256 * x + y) as usize);
+                same_bytes(&rt, &out, &wanted, (256 * x + y) as usize);
             }
         }
     }
@@ -145,9 +159,9 @@ fn reads_each_word_of_two_bytes(rt: HostRuntime) {
 fn reads_with_the_least_room(rt: HostRuntime) {
     for version in [4u8, 5u8] {
         let mut none: [u8; 0] = [];
-        assert_eq!(rt; unpad(version, &[], &mut none), None);
+        same_length(&rt, unpad(version, &[], &mut none), None, 0);
         let mut out = [0xee; 8];
-        assert_eq!(rt; unpad(version, &[0], &mut out), Some(0));
-        assert_eq!(rt; out, [0xee; 8]);
+        same_length(&rt, unpad(version, &[0], &mut out), Some(0), 1);
+        same_bytes(&rt, &out, &[0xee; 8], 1);
     }
 }

@@ -1,6 +1,7 @@
 //! Pending bytes, put in pieces and written to the front of a slice.
 
 use super::messages::pattern;
+use super::same::same_bytes;
 use crate::rounds::pending::Pending;
 use crate::tally::Tally;
 
@@ -13,10 +14,11 @@ fn writes_what_was_put(rt: HostRuntime) {
             let mut pending = Pending::new();
             pending.put(&message[..cut], &mut tally);
             pending.put(&message[cut..n], &mut tally);
-            let mut out = [0xffu8; 64];
+            let mut out = [0xee; 64];
+            let mut wanted = out;
+            wanted[..n].copy_from_slice(&message[..n]);
             pending.write_to(&mut out);
-            assert_eq!(rt; out[..n], message[..n], "{n} bytes cut at {cut}");
-            assert_eq!(rt; out[n], 0xff);
+            same_bytes(&rt, &out, &wanted, cut);
         }
     }
 }

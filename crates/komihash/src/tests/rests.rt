@@ -5,6 +5,7 @@ ghost use Rattle.std.specs.Prelude.{◌≡◌, ◌+◌, ◌≤◌, IsTrue, IfSom
 ghost use Rattle.komihash.specs.Calls.{onward_products, onward_kept};
 
 use super::messages::{BLOCK_FIVE, at_cuts, byte_by_byte};
+use super::same::{same, same_bytes, same_count, same_length, same_words};
 use super::texts::{BLOCK_SAVED, NEW_FIVE};
 use crate::stream::{Call, KomiStream, run_on};
 use crate::tally::Tally;
@@ -105,7 +106,7 @@ fn rests_change_nothing(rt: HostRuntime) {
     let mut text = [0; 131];
     let message = BLOCK_FIVE;
     let (count, end) = cuts_cost::<v5::StreamedKomihash>(&message, &mut out, &mut text, &mut tally);
-    assert_eq!(rt; count, 5);
+    same_count(&rt, count, 5, 0);
     let answers = [
         0xb768_3ea7_4301_32b4,
         0xfd45_482d_180d_0441,
@@ -117,18 +118,20 @@ fn rests_change_nothing(rt: HostRuntime) {
         9,
         9,
     ];
-    assert_eq!(rt; out, answers);
-    assert_eq!(rt; end, 99);
-    assert_eq!(rt; text[..4], [5, 1, 0, 31][..]);
-    assert_eq!(rt; text[4..68], BLOCK_SAVED[4..]);
-    assert_eq!(rt; text[68..99], message[64..]);
+    same_words(&rt, &out, &answers, 0);
+    same_count(&rt, end, 99, 1);
+    same_bytes(&rt, &text[..4], &[5, 1, 0, 31], 0);
+    same_bytes(&rt, &text[4..68], &BLOCK_SAVED[4..], 4);
+    same_bytes(&rt, &text[68..99], &message[64..], 68);
 
     let mut out = [9; 96];
-    assert_eq!(rt;
+    same_count(
+        &rt,
         bytes_cost::<v5::StreamedKomihash>(&message, &mut out, &mut tally),
-        1
+        1,
+        2,
     );
-    assert_eq!(rt; out[0], 6);
+    same(&rt, out[0], 6, 0);
 }
 
 #[test]
@@ -142,10 +145,10 @@ fn runs_on_with_no_calls(rt: HostRuntime) {
         &mut text,
         &mut Tally::new(),
     );
-    assert_eq!(rt; count, 0);
-    assert_eq!(rt; end, 68);
-    assert_eq!(rt; text, wanted);
-    assert_eq!(rt; out, [9, 9]);
+    same_count(&rt, count, 0, 0);
+    same_count(&rt, end, 68, 1);
+    same_bytes(&rt, &text, &wanted, 0);
+    same_words(&rt, &out, &[9, 9], 0);
 }
 
 #[test]
@@ -154,9 +157,11 @@ fn answers_from_a_text(rt: HostRuntime) {
     high[..3].copy_from_slice(&[4, 1, 1]);
     high[67] = 0x80;
     let mut out = [9];
-    assert_eq!(rt;
+    same_length(
+        &rt,
         answer_costs::<v4::StreamedKomihash>(&high, &mut out, &mut Tally::new()),
-        Some(1)
+        Some(1),
+        0,
     );
-    assert_eq!(rt; out, [0xc000_0000_0000_0003]);
+    same_words(&rt, &out, &[0xc000_0000_0000_0003], 0);
 }

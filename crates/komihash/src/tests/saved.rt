@@ -3,9 +3,11 @@
 ghost use Rattle.std.specs.Prelude.{◌≤◌};
 
 use super::messages::{BLOCK_FIVE, pattern};
+use super::same::{same, same_bytes, same_count};
 use super::stream::hash;
 use super::texts::{BLOCK_SAVED, LETTERS_FIVE, NEW_FIVE, NEW_FOUR};
 use crate::stream::KomiStream;
+use crate::stream::streamed::StreamedKomihash;
 use crate::tally::Tally;
 use crate::{v4, v5};
 use std::process::Abort;
@@ -43,25 +45,26 @@ fn text_after<S: KomiStream>(count: usize) -> ([u8; 131], usize)
     (out, end)
 }
 
+// A stream has this text, and what is behind it in `out` stays.
+fn saves<const V: u8>(rt: &impl Abort, stream: &StreamedKomihash<V>, text: &[u8]) {
+    assert!(rt; text.len() <= 131);
+    let mut out = [0xee; 140];
+    let mut wanted = [0xee; 140];
+    wanted[..text.len()].copy_from_slice(text);
+    same_count(rt, stream.save(&mut out), text.len(), text.len());
+    same_bytes(rt, &out, &wanted, text.len());
+}
+
 #[test]
 fn saves_known_texts(rt: HostRuntime) {
-    let mut out = [0xee; 140];
-    assert_eq!(rt; v5::StreamedKomihash::new().save(&mut out), 68);
-    assert_eq!(rt; out[..68], NEW_FIVE[..]);
-    assert_eq!(rt; out[68..], [0xee; 72][..]);
-    let mut out = [0; 131];
-    assert_eq!(rt; v4::StreamedKomihash::new().save(&mut out), 68);
-    assert_eq!(rt; out[..68], NEW_FOUR[..]);
-
+    saves(&rt, &v5::StreamedKomihash::new(), &NEW_FIVE);
+    saves(&rt, &v4::StreamedKomihash::new(), &NEW_FOUR);
     let mut stream = v5::StreamedKomihash::new();
     stream.write(b"abc");
-    assert_eq!(rt; stream.save(&mut out), 71);
-    assert_eq!(rt; out[..71], LETTERS_FIVE[..]);
-
+    saves(&rt, &stream, &LETTERS_FIVE);
     let mut stream = v5::StreamedKomihash::new();
     stream.write(&BLOCK_FIVE[..64]);
-    assert_eq!(rt; stream.save(&mut out), 68);
-    assert_eq!(rt; out[..68], BLOCK_SAVED[..]);
+    saves(&rt, &stream, &BLOCK_SAVED);
 }
 
 #[test]
@@ -69,12 +72,12 @@ fn saves_the_bit_in_version_four(rt: HostRuntime) {
     let mut out = [0; 131];
     let mut stream = v4::StreamedKomihash::new();
     stream.write(&[0xff; 64]);
-    assert_eq!(rt; stream.save(&mut out), 68);
-    assert_eq!(rt; out[..4], [4, 1, 1, 0][..]);
+    same_count(&rt, stream.save(&mut out), 68, 4);
+    same_bytes(&rt, &out[..4], &[4, 1, 1, 0], 4);
     let mut stream = v5::StreamedKomihash::new();
     stream.write(&[0xff; 64]);
-    assert_eq!(rt; stream.save(&mut out), 68);
-    assert_eq!(rt; out[..4], [5, 1, 0, 0][..]);
+    same_count(&rt, stream.save(&mut out), 68, 5);
+    same_bytes(&rt, &out[..4], &[5, 1, 0, 0], 5);
 }
 
 // A text of lanes that are all 0, but for the last byte.
@@ -98,7 +101,7 @@ fn resumes_a_stream_that_goes_on(rt: HostRuntime) {
         panic!(rt; "no stream");
     };
     stream.write(&BLOCK_FIVE[64..]);
-    assert_eq!(rt; stream.finish(), 6);
+    same(&rt, stream.finish(), 6, 95);
 }
 
 // States that no message reaches: all joined lanes are 0, but for the top bit of the last. Where
@@ -159,16 +162,22 @@ fn agrees_after_each_length<S: KomiStream>(rt: &impl Abort) {
     let mut tally = Tally::new();
     for count in 0..=200usize {
         let (text, end) = text_after::<S>(count);
-        assert_eq!(rt; end, 68 + count % 64);
+        same_count(rt, end, 68 + count % 64, count);
         let Some(mut stream) = S::restore(&text[..end]) else {
             panic!(rt; "no stream after {count} bytes");
         };
-        assert_eq!(rt; stream.answer(&mut tally), hash::<S>(&message[..count], 1));
+        same(
+            rt,
+            stream.answer(&mut tally),
+            hash::<S>(&message[..count], 1),
+            count,
+        );
         stream.absorb(&message[count..count + 70], &mut tally);
-        assert_eq!(rt;
+        same(
+            rt,
             stream.answer(&mut tally),
             hash::<S>(&message[..count + 70], 1),
-            "70 bytes behind {count}"
+            count,
         );
     }
 }

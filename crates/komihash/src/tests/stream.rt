@@ -3,6 +3,7 @@
 ghost use Rattle.std.specs.Prelude.{◌≢◌};
 
 use super::messages::{BLOCK_FIVE, BLOCK_FOUR, LONGEST, ZERO, at_cuts, byte_by_byte, pattern};
+use super::same::{same, same_count, same_words};
 use crate::hash::komihash;
 use crate::stream::streamed::StreamedKomihash;
 use crate::stream::{Call, KomiStream, run, run_on};
@@ -41,10 +42,11 @@ fn agrees_in_pieces<S: KomiStream>(rt: &impl Abort, greatest: usize) {
         for seed in SEEDS {
             let answer = hash::<S>(&message[..n], seed);
             for size in 1..=greatest {
-                assert_eq!(rt;
+                same(
+                    rt,
                     hash_in_pieces::<S>(&message[..n], size, seed),
                     answer,
-                    "{n} bytes in pieces of {size}"
+                    n,
                 );
             }
         }
@@ -69,10 +71,11 @@ fn agrees_behind_pending_bytes<S: KomiStream>(rt: &impl Abort) {
             let mut stream = S::start(0, &mut tally);
             stream.absorb(&pending[..fill], &mut tally);
             stream.absorb(&zeros[..more], &mut tally);
-            assert_eq!(rt;
+            same(
+                rt,
                 stream.answer(&mut tally),
                 hash::<S>(&message[..fill + more], 0),
-                "{more} bytes behind {fill}"
+                more,
             );
         }
     }
@@ -92,10 +95,10 @@ fn agrees_by_plain_calls<const V: u8>(rt: &impl Abort) {
     let mut stream = StreamedKomihash::<V>::new();
     stream.write(&message[..64]);
     let block = komihash::<V>(&message[..64], 0);
-    assert_eq!(rt; stream.finish(), block);
-    assert_eq!(rt; stream.finish(), block);
+    same(rt, stream.finish(), block, 64);
+    same(rt, stream.finish(), block, 64);
     stream.write(&message[64..]);
-    assert_eq!(rt; stream.finish(), komihash::<V>(&message, 0));
+    same(rt, stream.finish(), komihash::<V>(&message, 0), 65);
 
     let mut message = [0xaa; 65];
     message[63] = 0xbb;
@@ -104,11 +107,7 @@ fn agrees_by_plain_calls<const V: u8>(rt: &impl Abort) {
     for (from, to) in [(0usize, 63usize), (63, 64), (64, 65)] {
         assert!(rt; from <= to && to <= 65);
         stream.write(&message[from..to]);
-        assert_eq!(rt;
-            stream.finish(),
-            komihash::<V>(&message[..to], 0),
-            "{to} bytes"
-        );
+        same(rt, stream.finish(), komihash::<V>(&message[..to], 0), to);
     }
 
     let message = pattern();
@@ -117,7 +116,7 @@ fn agrees_by_plain_calls<const V: u8>(rt: &impl Abort) {
         for i in 0..15usize {
             stream.write(&message[13 * i..13 * i + 13]);
             let answer = komihash::<V>(&message[..13 * i + 13], seed);
-            assert_eq!(rt; stream.finish(), answer, "13 bytes behind {i} pieces");
+            same(rt, stream.finish(), answer, i);
         }
     }
 }
@@ -145,11 +144,7 @@ fn keeps_the_top_bit_of_a_block_in_version_four(rt: HostRuntime) {
         message[63] = last;
         let mut stream = v4::StreamedKomihash::new();
         stream.write(&message);
-        assert_eq!(rt;
-            stream.finish(),
-            v4::komihash(&message, 0),
-            "last byte {last}"
-        );
+        same(&rt, stream.finish(), v4::komihash(&message, 0), 64);
     }
 }
 
@@ -160,18 +155,10 @@ fn answers_what_one_call_does(rt: HostRuntime) {
         for seed in SEEDS {
             let mut four = v4::StreamedKomihash::new_with_seed(seed);
             four.write(&message[..n]);
-            assert_eq!(rt;
-                four.finish(),
-                v4::komihash(&message[..n], seed),
-                "version 4, {n} bytes"
-            );
+            same(&rt, four.finish(), v4::komihash(&message[..n], seed), n);
             let mut five = v5::StreamedKomihash::new_with_seed(seed);
             five.write(&message[..n]);
-            assert_eq!(rt;
-                five.finish(),
-                v5::komihash(&message[..n], seed),
-                "version 5, {n} bytes"
-            );
+            same(&rt, five.finish(), v5::komihash(&message[..n], seed), n);
         }
     }
 }
@@ -179,12 +166,22 @@ fn answers_what_one_call_does(rt: HostRuntime) {
 #[test]
 fn begins_with_seed_zero(rt: HostRuntime) {
     let empty = 0xb768_3ea7_4301_32b4;
-    assert_eq!(rt; v4::StreamedKomihash::new().finish(), empty);
-    assert_eq!(rt; v4::StreamedKomihash::new_with_seed(0).finish(), empty);
-    assert_eq!(rt; v4::StreamedKomihash::default().finish(), empty);
-    assert_eq!(rt; v5::StreamedKomihash::new().finish(), empty);
-    assert_eq!(rt; v5::StreamedKomihash::new_with_seed(0).finish(), empty);
-    assert_eq!(rt; v5::StreamedKomihash::default().finish(), empty);
+    same(&rt, v4::StreamedKomihash::new().finish(), empty, 0);
+    same(
+        &rt,
+        v4::StreamedKomihash::new_with_seed(0).finish(),
+        empty,
+        1,
+    );
+    same(&rt, v4::StreamedKomihash::default().finish(), empty, 2);
+    same(&rt, v5::StreamedKomihash::new().finish(), empty, 3);
+    same(
+        &rt,
+        v5::StreamedKomihash::new_with_seed(0).finish(),
+        empty,
+        4,
+    );
+    same(&rt, v5::StreamedKomihash::default().finish(), empty, 5);
 }
 
 #[test]
@@ -193,9 +190,11 @@ fn runs_calls_in_order(rt: HostRuntime) {
     let message = BLOCK_FIVE;
     let calls = at_cuts(&message);
     let mut out = [9; 9];
-    assert_eq!(rt;
+    same_count(
+        &rt,
         run::<v5::StreamedKomihash>(0, &calls, &mut out, &mut tally),
-        5
+        5,
+        0,
     );
     let answers = [
         0xb768_3ea7_4301_32b4,
@@ -208,7 +207,7 @@ fn runs_calls_in_order(rt: HostRuntime) {
         9,
         9,
     ];
-    assert_eq!(rt; out, answers);
+    same_words(&rt, &out, &answers, 0);
 
     let message = BLOCK_FOUR;
     let calls = [
@@ -219,13 +218,17 @@ fn runs_calls_in_order(rt: HostRuntime) {
         Call::Answer,
     ];
     let mut out = [9; 5];
-    assert_eq!(rt;
+    same_count(
+        &rt,
         run::<v4::StreamedKomihash>(0, &calls, &mut out, &mut tally),
-        3
+        3,
+        1,
     );
-    assert_eq!(rt;
-        out,
-        [0xb768_3ea7_4301_32b4, 0x2a2f_07ac_9381_0128, 6, 9, 9]
+    same_words(
+        &rt,
+        &out,
+        &[0xb768_3ea7_4301_32b4, 0x2a2f_07ac_9381_0128, 6, 9, 9],
+        1,
     );
 }
 
@@ -233,11 +236,13 @@ fn runs_calls_in_order(rt: HostRuntime) {
 fn runs_few_calls(rt: HostRuntime) {
     let mut tally = Tally::new();
     let mut out = [9; 2];
-    assert_eq!(rt;
+    same_count(
+        &rt,
         run::<v5::StreamedKomihash>(0, &[], &mut out, &mut tally),
-        0
+        0,
+        0,
     );
-    assert_eq!(rt; out, [9, 9]);
+    same_words(&rt, &out, &[9, 9], 0);
 
     let message = ZERO;
     let calls = [
@@ -247,11 +252,13 @@ fn runs_few_calls(rt: HostRuntime) {
         Call::Answer,
     ];
     let mut out = [9; 4];
-    assert_eq!(rt;
+    same_count(
+        &rt,
         run::<v5::StreamedKomihash>(0, &calls, &mut out, &mut tally),
-        2
+        2,
+        1,
     );
-    assert_eq!(rt; out, [0, 0, 9, 9]);
+    same_words(&rt, &out, &[0, 0, 9, 9], 1);
 }
 
 #[test]
@@ -261,10 +268,15 @@ fn runs_on_in_mid_stream(rt: HostRuntime) {
     stream.write(&message[..1]);
     let calls = [Call::Absorb(&message[1..64]), Call::Answer];
     let mut out = [9; 3];
-    assert_eq!(rt; run_on(&mut stream, &calls, &mut out, &mut Tally::new()), 1);
-    assert_eq!(rt; out, [0x2a2f_07ac_9381_0128, 9, 9]);
+    same_count(
+        &rt,
+        run_on(&mut stream, &calls, &mut out, &mut Tally::new()),
+        1,
+        0,
+    );
+    same_words(&rt, &out, &[0x2a2f_07ac_9381_0128, 9, 9], 0);
     stream.write(&message[64..]);
-    assert_eq!(rt; stream.finish(), 6);
+    same(&rt, stream.finish(), 6, 95);
 }
 
 #[test]
@@ -276,14 +288,16 @@ fn answers_after_every_byte(rt: HostRuntime) {
         calls[2 * i] = absorbs[i];
     }
     let mut out = [9; 190];
-    assert_eq!(rt;
+    same_count(
+        &rt,
         run::<v5::StreamedKomihash>(0, &calls, &mut out, &mut Tally::new()),
-        95
+        95,
+        0,
     );
-    assert_eq!(rt; out[63], 0x2a2f_07ac_9381_0128);
+    same(&rt, out[63], 0x2a2f_07ac_9381_0128, 63);
     for answer in &out[79..94] {
-        assert_eq!(rt; *answer, 0);
+        same(&rt, *answer, 0, 79);
     }
-    assert_eq!(rt; out[94], 6);
-    assert_eq!(rt; out[95], 9);
+    same(&rt, out[94], 6, 94);
+    same(&rt, out[95], 9, 95);
 }

@@ -5,6 +5,7 @@ ghost use Rattle.std.specs.Prelude.{◌≡◌, ◌+◌, length};
 ghost use Rattle.komihash.specs.Counts.{hash_products};
 
 use super::messages::{BLOCK_FIVE, BLOCK_FOUR, at_cuts, byte_by_byte};
+use super::same::{same, same_count, same_words};
 use crate::hash::komihash;
 use crate::stream::{Call, KomiStream, run};
 use crate::tally::Tally;
@@ -112,32 +113,42 @@ fn absorbs_cost<S: KomiStream>(
 fn counted_runs_answer_as_others(rt: HostRuntime) {
     let mut tally = Tally::new();
     let mut out = [9; 9];
-    assert_eq!(rt;
+    same_count(
+        &rt,
         cuts_cost::<v5::StreamedKomihash>(&BLOCK_FIVE, &mut out, &mut tally),
-        5
+        5,
+        0,
     );
-    assert_eq!(rt; out[4], 6);
-    assert_eq!(rt;
+    same(&rt, out[4], 6, 0);
+    same_count(
+        &rt,
         cuts_cost::<v4::StreamedKomihash>(&BLOCK_FOUR, &mut out, &mut tally),
-        5
+        5,
+        1,
     );
-    assert_eq!(rt; out[4], 6);
+    same(&rt, out[4], 6, 1);
     let mut out = [9; 2];
-    assert_eq!(rt;
+    same_count(
+        &rt,
         nothing_costs::<v5::StreamedKomihash>(&mut out, &mut tally),
-        0
+        0,
+        2,
     );
-    assert_eq!(rt;
+    same_count(
+        &rt,
         piece_costs::<v5::StreamedKomihash>(&BLOCK_FIVE, &mut out, &mut tally),
-        1
+        1,
+        3,
     );
-    assert_eq!(rt; out, [6, 9]);
+    same_words(&rt, &out, &[6, 9], 3);
     let mut out = [9; 96];
-    assert_eq!(rt;
+    same_count(
+        &rt,
         bytes_cost::<v5::StreamedKomihash>(&BLOCK_FIVE, &mut out, &mut tally),
-        1
+        1,
+        4,
     );
-    assert_eq!(rt; out[0], 6);
+    same(&rt, out[0], 6, 4);
     let mut ten = Tally::new();
     let mut filled = Tally::new();
     let mut block = Tally::new();
@@ -154,7 +165,7 @@ fn counted_runs_answer_as_others(rt: HostRuntime) {
 
 #[test]
 fn takes_no_bytes(rt: HostRuntime) {
-    assert_eq!(rt; size_of::<Tally>(), 0);
+    same_count(&rt, size_of::<Tally>(), 0, 0);
 }
 
 // The sums of the counted hashes and of the plain ones are the same.
@@ -173,7 +184,7 @@ fn agrees_counted<const V: u8>(rt: &impl Abort) {
         ^ komihash::<V>(&bytes[..64], 0)
         ^ komihash::<V>(&bytes[..95], 0)
         ^ komihash::<V>(&bytes, 0);
-    assert_eq!(rt; sum, wanted);
+    same(rt, sum, wanted, 0);
 }
 
 #[test]

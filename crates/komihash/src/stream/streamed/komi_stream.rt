@@ -1,15 +1,17 @@
-//! The stream of version 4 by the trait.
+//! The stream of each version by the trait.
 
 use super::{Engine, StreamedKomihash};
 use crate::stream::KomiStream;
 use crate::tally::Tally;
+use crate::version::{IsVersion, Versions};
 
-impl KomiStream for StreamedKomihash<4> {
-    ghost use Rattle.std.proofs.Common.{inl, refl};
+impl<const V: u8> KomiStream for StreamedKomihash<V>
+where
+    Versions: IsVersion<V>,
+{
+    const VERSION: u8 = V;
 
-    const VERSION: u8 = 4;
-
-    ghost VERSION = { 4 };
+    ghost VERSION = { V };
 
     ghost state = { λ s. s.state };
 
@@ -40,7 +42,7 @@ impl KomiStream for StreamedKomihash<4> {
         StreamedKomihash::resume(bytes)
     }
 
-    ghost versions = { inl refl };
+    ghost versions = { ⟦<Versions as IsVersion<V>>⟧.is_version };
 
     ghost is_state = { λ s. s.is_state };
 }

@@ -1,0 +1,200 @@
+//! What holds of every input, at many inputs that a generator draws. Its seed is fixed, so each run
+//! draws the same.
+
+ghost use Rattle.std.specs.Prelude.{◌*◌, ◌<◌, ◌≤◌, length};
+
+use super::same::{same, same_bytes, same_count, same_words};
+use crate::hash::komihash;
+use crate::padding::{pad, unpad};
+use crate::stream::streamed::StreamedKomihash;
+use crate::stream::{Call, KomiStream, run};
+use crate::tally::Tally;
+use crate::{Komirand, v4, v5};
+use std::process::Abort;
+
+// How often each property is tried in each version.
+const TIMES: usize = 3000;
+
+// The length of the messages that are cut.
+const WHOLE: usize = 600;
+
+// A number below a bound.
+fn below(random: &mut Komirand, bound: usize) -> usize
+    requires { 0 < bound }
+    ensures { result < bound }
+{
+    (random.next() % bound as u64) as usize
+}
+
+// A message whose bytes are often at the ends of their range.
+fn message_of<const N: usize>(random: &mut Komirand) -> [u8; N] {
+    let mut message = [0; N];
+    random.fill_bytes(&mut message);
+    if below(random, 2) == 0 {
+        for i in 0..N {
+            message[i] = [0, 1, 2, 0x7f, 0x80, 0xff][(message[i] % 6) as usize];
+        }
+    }
+    message
+}
+
+// A seed, which is often at an end of the range.
+fn seed_of(random: &mut Komirand) -> u64 {
+    match below(random, 4) {
+        0 => 0,
+        1 => u64::MAX,
+        _ => random.next(),
+    }
+}
+
+// The end of the next piece of a message.
+fn end_behind(random: &mut Komirand, from: usize) -> usize
+    requires { from ≤ 600 }
+    ensures behind { from ≤ result }
+    ensures within { result ≤ 600 }
+{
+    (from + below(random, 130)).min(WHOLE)
+}
+
+// Pieces by the plain calls, with answers and rests between them: at a rest the stream is saved, and
+// another one is resumed from its text.
+fn agrees_by_plain_calls<const V: u8>(rt: &impl Abort, random: &mut Komirand) {
+    let message = message_of::<600>(random);
+    let seed = seed_of(random);
+    let mut stream = StreamedKomihash::<V>::new_with_seed(seed);
+    let mut taken = 0;
+    for _ in 0..12usize {
+        assert!(rt; taken <= WHOLE);
+        let end = end_behind(random, taken);
+        stream.write(&message[taken..end]);
+        taken = end;
+        if below(random, 2) == 0 {
+            same(
+                rt,
+                stream.finish(),
+                komihash::<V>(&message[..taken], seed),
+                taken,
+            );
+        }
+        if below(random, 3) == 0 {
+            let mut text = [0; 131];
+            let length = stream.save(&mut text);
+            let Some(resumed) = StreamedKomihash::<V>::resume(&text[..length]) else {
+                panic!(rt; "no stream behind {taken} bytes");
+            };
+            stream = resumed;
+        }
+    }
+}
+
+// Calls that absorb pieces of a message, with answers between them; and the hashes of the bytes before
+// each answer, and how many answers there are.
+fn calls_of<'a, const V: u8>(
+    rt: &impl Abort,
+    random: &mut Komirand,
+    message: &'a [u8; 600],
+    seed: u64,
+) -> ([Call<'a>; 24], [u64; 24], usize) {
+    let mut calls = [Call::Answer; 24];
+    let mut hashes = [9; 24];
+    let mut count = 0;
+    let mut taken = 0;
+    for i in 0..24usize {
+        assert!(rt; taken <= WHOLE && count < 24);
+        if below(random, 2) == 0 {
+            let end = end_behind(random, taken);
+            calls[i] = Call::Absorb(&message[taken..end]);
+            taken = end;
+        } else {
+            hashes[count] = komihash::<V>(&message[..taken], seed);
+            count += 1;
+        }
+    }
+    (calls, hashes, count)
+}
+
+// Pieces and answers in one run.
+fn agrees_in_a_run<const V: u8, S: KomiStream>(rt: &impl Abort, random: &mut Komirand) {
+    let message = message_of::<600>(random);
+    let seed = seed_of(random);
+    let (calls, hashes, count) = calls_of::<V>(rt, random, &message, seed);
+    let mut out = [9; 24];
+    let answers = run::<S>(seed, &calls, &mut out, &mut Tally::new());
+    same_count(rt, answers, count, 0);
+    same_words(rt, &out, &hashes, count);
+}
+
+// The byte of words at a place.
+fn byte_at(words: &[u64], at: usize) -> u64
+    requires { at < 8 * length words.now }
+{
+    words[at / 8] >> (8 * (at % 8)) & 0xff
+}
+
+// The length of the message that words were padded from, by the last byte that is not 0: it stands in
+// the last word, and is the padding byte that the byte before it asks for.
+fn padded_length<const V: u8>(words: &[u64]) -> Option<usize>
+    requires { length words.now ≤ 13 }
+{
+    for at in (0..8 * words.len()).rev() {
+        let byte = byte_at(words, at);
+        if byte > 0 {
+            if at / 8 + 1 < words.len() || at == 0 {
+                return None;
+            }
+            let high = V == 4 && byte_at(words, at - 1) >= 128;
+            return if byte == (if high { 2 } else { 1 }) {
+                Some(at)
+            } else {
+                None
+            };
+        }
+    }
+    if words.len() == 1 { Some(0) } else { None }
+}
+
+// What is read back from words is what was padded, or nothing where nothing was; behind it `out`
+// stays.
+fn agrees_read_back<const V: u8>(rt: &impl Abort, words: &[u64])
+    requires { length words.now ≤ 13 }
+{
+    let mut out = [0xee; 105];
+    let given = unpad::<V>(words, &mut out);
+    assert!(rt; given == padded_length::<V>(words));
+    let n = given.unwrap_or(0);
+    assert!(rt; n <= 104);
+    same_bytes(rt, &out[n..], &[0xee; 105][n..], n);
+    if given.is_some() {
+        let mut again = [7; 14];
+        let count = pad::<V>(&out[..n], &mut again);
+        same_words(rt, &again[..count], words, n);
+    }
+}
+
+// A message padded and read back, and what is read back where one byte of a word is another.
+fn agrees_padded<const V: u8>(rt: &impl Abort, random: &mut Komirand) {
+    let message = message_of::<100>(random);
+    let n = below(random, 101);
+    let mut words = [7; 13];
+    let count = pad::<V>(&message[..n], &mut words);
+    let mut out = [0xee; 104];
+    let length = unpad::<V>(&words[..count], &mut out);
+    same_count(rt, length.unwrap_or(usize::MAX), n, n);
+    same_bytes(rt, &out[..n], &message[..n], n);
+    let change = 1 + random.next() % 255;
+    words[below(random, count)] ^= change << (8 * below(random, 8));
+    agrees_read_back::<V>(rt, &words[..count]);
+}
+
+#[test]
+fn random_inputs(rt: HostRuntime) {
+    let mut random = Komirand::init(20_261_122);
+    for _ in 0..TIMES {
+        agrees_by_plain_calls::<4>(&rt, &mut random);
+        agrees_by_plain_calls::<5>(&rt, &mut random);
+        agrees_in_a_run::<4, v4::StreamedKomihash>(&rt, &mut random);
+        agrees_in_a_run::<5, v5::StreamedKomihash>(&rt, &mut random);
+        agrees_padded::<4>(&rt, &mut random);
+        agrees_padded::<5>(&rt, &mut random);
+    }
+}

@@ -1,0 +1,23 @@
+//! Which numbers are versions.
+
+/// The number of a version.
+pub(crate) trait IsVersion<const V: u8> {
+    ghost use Rattle.std.specs.Prelude.{◌≡◌, ◌⊎◌};
+
+    ghost is_version: { (V ≡ 4) ⊎ (V ≡ 5) };
+}
+
+/// What has an impl for each version.
+pub(crate) struct Versions;
+
+impl IsVersion<4> for Versions {
+    ghost use Rattle.std.proofs.Common.{inl, refl};
+
+    ghost is_version = { inl refl };
+}
+
+impl IsVersion<5> for Versions {
+    ghost use Rattle.std.proofs.Common.{inr, refl};
+
+    ghost is_version = { inr refl };
+}
