@@ -110,4 +110,14 @@ else
     echo 'left out: requests for memory that valgrind counts'
 fi
 
+# The tests of `komihash` make every call of it. Their program names no function that gives memory, so none can ask
+# for any; `komisum`, which has a buffer, does name one.
+gives_memory() { grep -aoE '\b(malloc|calloc|realloc|aligned_alloc|posix_memalign|mmap|s?brk)\b' "$1" | sort -u; }
+if [ -x ../komihash/out/komihash_tests ]; then
+    note 'memory that komihash asks for' '' "$(gives_memory ../komihash/out/komihash_tests)"
+    note 'memory that komisum asks for' yes "$(gives_memory "$program" | grep -q malloc && echo yes)"
+else
+    echo 'left out: what the tests of komihash name, since they are not built'
+fi
+
 counted

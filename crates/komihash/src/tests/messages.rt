@@ -72,6 +72,19 @@ pub(crate) fn at_cuts(message: &[u8; 95]) -> [Call<'_>; 9]
     ]
 }
 
+/// The answers of these calls on `BLOCK_FIVE` in version 5, and 9 in each place behind them.
+pub(crate) const CUT_ANSWERS: [u64; 9] = [
+    0xb768_3ea7_4301_32b4,
+    0xfd45_482d_180d_0441,
+    0x2a2f_07ac_9381_0128,
+    0x2a2f_07ac_9381_0128,
+    6,
+    9,
+    9,
+    9,
+    9,
+];
+
 /// A message, each byte in an Absorb of its own, and one Answer at the end.
 pub(crate) fn byte_by_byte(message: &[u8; 95]) -> [Call<'_>; 96]
     ensures products { run_products result ≡ 8 }

@@ -7,6 +7,11 @@ use super::same::{same_bytes, same_count, same_length, same_words};
 use crate::{v4, v5};
 use std::process::Abort;
 
+// Seven bytes of which the last is at least 128, and eight of which it is not.
+const HIGH: [u8; 7] = [0, 0, 0, 0, 0, 0, 0x80];
+
+const LOW_END: [u8; 8] = [0xff, 0xff, 0xff, 0xff, 0xff, 0xff, 0xff, 0x7f];
+
 // `pad` of a version.
 fn pad(version: u8, bytes: &[u8], out: &mut [u64]) -> usize
     requires { length bytes.now / 8 + 1 ≤ length out.old }
@@ -73,41 +78,46 @@ fn reads(rt: &impl Abort, version: u8, words: &[u64], message: Option<&[u8]>)
     same_bytes(rt, &out, &wanted, words.len());
 }
 
+// The same in version 4 and in version 5.
+fn in_each(rt: &impl Abort, words: &[u64], four: Option<&[u8]>, five: Option<&[u8]>)
+    requires { length words.now ≤ 3 }
+{
+    reads(rt, 4, words, four);
+    reads(rt, 5, words, five);
+}
+
 #[test]
 fn reads_known_words_back(rt: HostRuntime) {
-    let high = [0, 0, 0, 0, 0, 0, 0x80];
-    let low_end = [0xff, 0xff, 0xff, 0xff, 0xff, 0xff, 0xff, 0x7f];
-    let cases: [(&[u64], Option<&[u8]>, Option<&[u8]>); 20] = [
-        (&[0], Some(&[]), Some(&[])),
-        (&[0x0180], None, Some(&[0x80])),
-        (&[0x0280], Some(&[0x80]), None),
-        (&[0x0201], None, None),
-        (&[1], None, None),
-        (&[2], None, None),
-        (&[], None, None),
-        (&[0, 0], None, None),
-        (&[u64::MAX, 2], Some(&[0xff; 8]), None),
-        (&[u64::MAX, 1], None, Some(&[0xff; 8])),
-        (&[0x7fff_ffff_ffff_ffff, 1], Some(&low_end), Some(&low_end)),
-        (&[0x7fff_ffff_ffff_ffff, 2], None, None),
-        (&[0x0100], Some(&[0]), Some(&[0])),
-        (&[0x0200], None, None),
-        (&[0x0100_0000_0000_0000], Some(&[0; 7]), Some(&[0; 7])),
-        (&[0x0280_0000_0000_0000], Some(&high), None),
-        (&[0x0180_0000_0000_0000], None, Some(&high)),
-        (
-            &[2, 1],
-            Some(&[2, 0, 0, 0, 0, 0, 0, 0]),
-            Some(&[2, 0, 0, 0, 0, 0, 0, 0]),
-        ),
-        (&[u64::MAX, 2, 0], None, None),
-        (&[u64::MAX], None, None),
-    ];
-    for (words, four, five) in cases {
-        assert!(rt; words.len() <= 3);
-        reads(&rt, 4, words, four);
-        reads(&rt, 5, words, five);
-    }
+    in_each(&rt, &[0], Some(&[]), Some(&[]));
+    in_each(&rt, &[0x0180], None, Some(&[0x80]));
+    in_each(&rt, &[0x0280], Some(&[0x80]), None);
+    in_each(&rt, &[0x0201], None, None);
+    in_each(&rt, &[1], None, None);
+    in_each(&rt, &[2], None, None);
+    in_each(&rt, &[], None, None);
+    in_each(&rt, &[0, 0], None, None);
+    in_each(&rt, &[u64::MAX, 2], Some(&[0xff; 8]), None);
+    in_each(&rt, &[u64::MAX, 1], None, Some(&[0xff; 8]));
+    in_each(
+        &rt,
+        &[0x7fff_ffff_ffff_ffff, 1],
+        Some(&LOW_END),
+        Some(&LOW_END),
+    );
+    in_each(&rt, &[0x7fff_ffff_ffff_ffff, 2], None, None);
+    in_each(&rt, &[0x0100], Some(&[0]), Some(&[0]));
+    in_each(&rt, &[0x0200], None, None);
+    in_each(&rt, &[0x0100_0000_0000_0000], Some(&[0; 7]), Some(&[0; 7]));
+    in_each(&rt, &[0x0280_0000_0000_0000], Some(&HIGH), None);
+    in_each(&rt, &[0x0180_0000_0000_0000], None, Some(&HIGH));
+    in_each(
+        &rt,
+        &[2, 1],
+        Some(&[2, 0, 0, 0, 0, 0, 0, 0]),
+        Some(&[2, 0, 0, 0, 0, 0, 0, 0]),
+    );
+    in_each(&rt, &[u64::MAX, 2, 0], None, None);
+    in_each(&rt, &[u64::MAX], None, None);
 }
 
 #[test]

@@ -4,7 +4,7 @@
 ghost use Rattle.std.specs.Prelude.{◌≡◌, ◌+◌, ◌≤◌, IsTrue, IfSome, length};
 ghost use Rattle.komihash.specs.Calls.{onward_products, onward_kept};
 
-use super::messages::{BLOCK_FIVE, at_cuts, byte_by_byte};
+use super::messages::{BLOCK_FIVE, CUT_ANSWERS, at_cuts, byte_by_byte};
 use super::same::{same, same_bytes, same_count, same_length, same_words};
 use super::texts::{BLOCK_SAVED, NEW_FIVE};
 use crate::stream::{Call, KomiStream, run_on};
@@ -107,18 +107,7 @@ fn rests_change_nothing(rt: HostRuntime) {
     let message = BLOCK_FIVE;
     let (count, end) = cuts_cost::<v5::StreamedKomihash>(&message, &mut out, &mut text, &mut tally);
     same_count(&rt, count, 5, 0);
-    let answers = [
-        0xb768_3ea7_4301_32b4,
-        0xfd45_482d_180d_0441,
-        0x2a2f_07ac_9381_0128,
-        0x2a2f_07ac_9381_0128,
-        6,
-        9,
-        9,
-        9,
-        9,
-    ];
-    same_words(&rt, &out, &answers, 0);
+    same_words(&rt, &out, &CUT_ANSWERS, 0);
     same_count(&rt, end, 99, 1);
     same_bytes(&rt, &text[..4], &[5, 1, 0, 31], 0);
     same_bytes(&rt, &text[4..68], &BLOCK_SAVED[4..], 4);

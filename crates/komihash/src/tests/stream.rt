@@ -2,7 +2,9 @@
 
 ghost use Rattle.std.specs.Prelude.{◌≢◌};
 
-use super::messages::{BLOCK_FIVE, BLOCK_FOUR, LONGEST, ZERO, at_cuts, byte_by_byte, pattern};
+use super::messages::{
+    BLOCK_FIVE, BLOCK_FOUR, CUT_ANSWERS, LONGEST, ZERO, at_cuts, byte_by_byte, pattern,
+};
 use super::same::{same, same_count, same_words};
 use crate::hash::komihash;
 use crate::stream::streamed::StreamedKomihash;
@@ -148,40 +150,37 @@ fn keeps_the_top_bit_of_a_block_in_version_four(rt: HostRuntime) {
     }
 }
 
-#[test]
-fn answers_what_one_call_does(rt: HostRuntime) {
+// Every beginning of the pattern in one write.
+fn agrees_in_one_write<const V: u8>(rt: &impl Abort) {
     let message = pattern();
     for n in 0..=LONGEST {
         for seed in SEEDS {
-            let mut four = v4::StreamedKomihash::new_with_seed(seed);
-            four.write(&message[..n]);
-            same(&rt, four.finish(), v4::komihash(&message[..n], seed), n);
-            let mut five = v5::StreamedKomihash::new_with_seed(seed);
-            five.write(&message[..n]);
-            same(&rt, five.finish(), v5::komihash(&message[..n], seed), n);
+            let mut stream = StreamedKomihash::<V>::new_with_seed(seed);
+            stream.write(&message[..n]);
+            same(rt, stream.finish(), komihash::<V>(&message[..n], seed), n);
         }
     }
 }
 
 #[test]
-fn begins_with_seed_zero(rt: HostRuntime) {
+fn answers_what_one_call_does(rt: HostRuntime) {
+    agrees_in_one_write::<4>(&rt);
+    agrees_in_one_write::<5>(&rt);
+}
+
+// A new stream, by each call that makes one.
+fn begins_empty<const V: u8>(rt: &impl Abort) {
     let empty = 0xb768_3ea7_4301_32b4;
-    same(&rt, v4::StreamedKomihash::new().finish(), empty, 0);
-    same(
-        &rt,
-        v4::StreamedKomihash::new_with_seed(0).finish(),
-        empty,
-        1,
-    );
-    same(&rt, v4::StreamedKomihash::default().finish(), empty, 2);
-    same(&rt, v5::StreamedKomihash::new().finish(), empty, 3);
-    same(
-        &rt,
-        v5::StreamedKomihash::new_with_seed(0).finish(),
-        empty,
-        4,
-    );
-    same(&rt, v5::StreamedKomihash::default().finish(), empty, 5);
+    same(rt, StreamedKomihash::<V>::new().finish(), empty, 0);
+    let seeded = StreamedKomihash::<V>::new_with_seed(0);
+    same(rt, seeded.finish(), empty, 1);
+    same(rt, StreamedKomihash::<V>::default().finish(), empty, 2);
+}
+
+#[test]
+fn begins_with_seed_zero(rt: HostRuntime) {
+    begins_empty::<4>(&rt);
+    begins_empty::<5>(&rt);
 }
 
 #[test]
@@ -196,18 +195,7 @@ fn runs_calls_in_order(rt: HostRuntime) {
         5,
         0,
     );
-    let answers = [
-        0xb768_3ea7_4301_32b4,
-        0xfd45_482d_180d_0441,
-        0x2a2f_07ac_9381_0128,
-        0x2a2f_07ac_9381_0128,
-        6,
-        9,
-        9,
-        9,
-        9,
-    ];
-    same_words(&rt, &out, &answers, 0);
+    same_words(&rt, &out, &CUT_ANSWERS, 0);
 
     let message = BLOCK_FOUR;
     let calls = [
