@@ -19,8 +19,11 @@ if [ -e /dev/full ]; then
     note 'full output' "$(fault 1 'write failed')" "$("$program" < stdin > /dev/full 2> "$room/errors"; told $?)"
     note 'full errors' 'status 1' "$("$program" < / 2> /dev/full; printf 'status %s' $?)"
 fi
-note 'a pipe that closes early' "$(fault 1 'write failed')" \
-    "$({ sleep 0.2; printf a; } | { "$program" 2> "$room/errors"; printf %s $? > "$room/status"; } | true; told "$(cat "$room/status")")"
+into_closed_pipe() {
+    { sleep 0.2; printf a; } | { "$program" 2> "$room/errors"; printf %s $? > "$room/status"; } | true
+    told "$(cat "$room/status")"
+}
+note 'a pipe that closes early' "$(fault 1 'write failed')" "$(into_closed_pipe)"
 
 # Files that have room for the first bytes of the line alone: these are taken, and the next write fails.
 for bytes in {0..17}; do
@@ -39,7 +42,8 @@ injected() {
     printf 'calls %s\n' "$(grep -c "^$call(" "$room/trace")"
 }
 
-# Each read of an input that takes five, each write, and the report, with each error. Nothing is asked for behind a fault.
+# Each read of an input that takes five, the write, and the report, with each error: nothing is asked for behind a
+# fault.
 errors_at_each_call() {
     local error k
     for error in EIO EINTR EAGAIN ENOSPC EPIPE; do
@@ -60,9 +64,10 @@ errors_at_each_call() {
 
 # Calls that move nothing, or one byte.
 calls_that_move_little() {
-    local k
+    local k read_before
     for k in {1..5}; do
-        note "read $k is the end" "$(line "$(head -c $((65536 * (k - 1))) "$room/long" | "$program")"; echo "calls $k")" \
+        read_before=$(head -c $((65536 * (k - 1))) "$room/long" | "$program")
+        note "read $k is the end" "$(line "$read_before"; echo "calls $k")" \
             "$(injected "$room/long" read "retval=0:when=$k" < "$room/long")"
     done
     note 'the write takes nothing' "$(fault 1 'write failed'; echo 'calls 1')" \
@@ -99,7 +104,10 @@ memory_falls 'no words' "$(line "$whole")"
 memory_falls 'two words' "$(line 4bde5bdc63771675)" 4 1f
 
 # The requests for memory that the program makes: as many, and for as much, whatever the input's length.
-requests() { valgrind --log-file="$room/requests" "$program" "$@" > "$room/output" && grep -o 'total heap usage.*' "$room/requests"; }
+requests() {
+    valgrind --log-file="$room/requests" "$program" > "$room/output"
+    grep -o 'total heap usage.*' "$room/requests"
+}
 if valgrind --version > /dev/null 2>&1; then
     few=$(requests < /dev/null)
     echo "$few"

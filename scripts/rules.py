@@ -5,8 +5,8 @@ A contract counts products and kept bytes on the tally that a call is lent. What
 tally it can't see: a product on a tally of its own, or bytes copied without the writer. So it is read
 off the sources:
 
-  products  `multiply128` alone multiplies words, and only the calls of STANDARD are made of the
-            standard library
+  products  `multiply128` alone multiplies words; only the calls of STANDARD are made of the standard
+            library; functions are called, and by their own names
   tallies   a function that is lent a tally makes none: it hands this one on in each counted call
   costs     a function that is lent none makes just the counted calls that PLAIN tells
   copies    the functions of WRITERS alone put bytes and words into slices, and those of CALLERS
@@ -84,6 +84,7 @@ CALLERS = {
 }
 
 RULES = ("products", "tallies", "costs", "copies")
+CALL = re.compile(r"(?:(\w+)\s*(?:::\s*<[^()]*?>\s*)?::\s*|(\.)\s*)?(\w+)!?(?:::<[^()]*?>)?\(")
 KEYWORDS = {"return", "match", "in", "if", "else", "while", "mut", "let"}
 TOKEN = re.compile(r"\w+|::|\.\.=?|->|=>|[=!<>]=|&&|\|\||(?:<<|>>|[-+*/%^|&])=|\S")
 ASSIGNS = re.compile(r"(?:<<|>>|[-+*/%^|&])?=")
@@ -140,13 +141,13 @@ class Function:
         self.tokens = TOKEN.findall(body)
 
     def calls(self):
-        """Each call: the type or `.` or `` that it is called by, its name, and its last argument."""
-        for found in re.finditer(r"(?:(\w+)\s*(?:::\s*<[^()]*?>\s*)?::\s*|(\.)\s*)?(\w+)!?(?:::<[^()]*?>)?\(", self.body):
+        """Each call: what it is called by (a type, `.`, or nothing), its name, and its last argument."""
+        for found in CALL.finditer(self.body):
             by, name = found[1] or found[2] or "", found[3]
-            if name in KEYWORDS or name[0].isupper():
-                continue
-            given = self.body[found.end() : behind(self.body, found.end() - 1) - 1]
-            yield by if by[:1].isupper() or by == "." else "", name, given.rstrip(" \n,").split(",")[-1].strip()
+            if name not in KEYWORDS and not name[0].isupper():
+                given = self.body[found.end() : behind(self.body, found.end() - 1) - 1]
+                last = given.rstrip(" \n,").split(",")[-1].strip()
+                yield by if by[:1].isupper() or by == "." else "", name, last
 
     def statements(self):
         """The tokens of each statement."""
@@ -162,10 +163,10 @@ class Function:
 
 def functions_of(file, code):
     """The functions of a source that have a body."""
-    impls = [
-        (found.start(), behind(code, found.end() - 1), re.findall(r"\w+", re.sub(r"<.*?>", "", found[1]))[-1])
-        for found in re.finditer(r"\bimpl\b([^{;]*)\{", code)
-    ]
+    impls = []
+    for found in re.finditer(r"\bimpl\b([^{;]*)\{", code):
+        head = re.sub(r"<[^<>]*>|\bwhere\b.*", "", found[1], flags=re.DOTALL)
+        impls.append((found.start(), behind(code, found.end() - 1), re.findall(r"\w+", head)[-1]))
     for found in re.finditer(r"\bfn\s+(\w+)", code):
         start = code.index("(", found.end())
         end = place = behind(code, start)
@@ -216,6 +217,9 @@ class Crate:
             for _, name, _ in function.calls():
                 if name not in STANDARD | self.names:
                     yield f"{function.place}: {name} is no function of this crate, and not among STANDARD"
+            for token, after in zip(function.tokens, function.tokens[1:]):
+                if token in self.lent and after not in ("(", "::"):
+                    yield f"{function.place}: {token} is named, and not called"
 
     def tallies(self):
         for function in self.functions:
