@@ -22,7 +22,12 @@ abbrev pub absorb_byte : ℕ → State → ℕ → State
 absorb_byte v s b =
     let bytes = s.pending ++ b ∷ [] in
     if length bytes == 64
-    then record { lanes = block_round v s.lanes (words_of bytes); pending = []; absorbed = true; top_bit = has_top_bit v b }
+    then record {
+      lanes = block_round v s.lanes (words_of bytes);
+      pending = [];
+      absorbed = true;
+      top_bit = has_top_bit v b;
+    }
     else record s { pending = bytes }
 
 -- the state after bytes, one after the other
@@ -34,11 +39,16 @@ absorb v s (b ∷ bytes) = absorb v (absorb_byte v s b) bytes
 unfoldable pub HasAbsorbed : ℕ → ℕ → State → List ℕ → Type 0
 HasAbsorbed v seed s m = s ≡ absorb v (start seed) m
 
--- the words that an answer has left: the padded words of the pending bytes; where there are none,
--- the padding byte of the last block alone, or 0 where no block was absorbed
+-- the byte that ends a stream where none is pending: the padding byte of the last block, or 0 where
+-- no block was absorbed
+abbrev pub end_behind_blocks : Bool → Bool → ℕ
+end_behind_blocks absorbed top_bit = if absorbed then padding_behind top_bit else 0
+
+-- the words that an answer has left: the padded words of the pending bytes, or where there are none
+-- the byte behind the blocks alone
 abbrev pub tail_of : ℕ → List ℕ → Bool → Bool → List ℕ
 tail_of v (b ∷ m) absorbed top_bit = padded_words v (b ∷ m)
-tail_of v [] absorbed top_bit = (if absorbed then padding_behind top_bit else 0) ∷ []
+tail_of v [] absorbed top_bit = end_behind_blocks absorbed top_bit ∷ []
 
 -- what a stream answers
 unfoldable pub answer : ℕ → State → ℕ

@@ -1,8 +1,9 @@
 -- The padded words of a message in the form that the code reads them: its whole words, and the one
 -- word that ends them. `proofs/PaddingWords.antt` shows that this is the same list.
-use Rattle.std.specs.Prelude.{ℕ, Bool, if◌then◌else◌, ◌-◌, ◌%◌, length, drop, List, [], ◌∷◌, ◌++◌}
+use Rattle.std.specs.Prelude.{ℕ, Bool, ◌-◌, ◌%◌, length, drop, List, [], ◌∷◌, ◌++◌}
 use Rattle.komihash.specs.Rounds.{Lanes, block_round}
-use Rattle.komihash.specs.Padding.{padding_behind, padding_byte}
+use Rattle.komihash.specs.Padding.{padding_byte}
+use Rattle.komihash.specs.Stream.{end_behind_blocks}
 use Rattle.komihash.specs.Words.{word_of}
 
 -- the words of the bytes, as far as they make whole words
@@ -35,8 +36,8 @@ block_lanes v s ws = s
 abbrev pub after_blocks : List ℕ → List ℕ
 after_blocks m = drop (length m - length m % 64) m
 
--- the byte that ends a stream's tail: the pending bytes' padding byte; where none is pending, that
--- of the last block, or 0 where no block was absorbed
+-- the byte that ends a stream's tail: the pending bytes' padding byte, or where none is pending that
+-- behind the blocks
 abbrev pub tail_end : ℕ → List ℕ → Bool → Bool → ℕ
 tail_end v (b ∷ m) absorbed top_bit = padding_byte v (b ∷ m)
-tail_end v [] absorbed top_bit = if absorbed then padding_behind top_bit else 0
+tail_end v [] absorbed top_bit = end_behind_blocks absorbed top_bit

@@ -2,6 +2,7 @@ pub mod Ending
 pub mod Fault
 pub mod Hex
 pub mod Line
+pub mod Program
 pub mod Refusal
 pub mod Settings
 pub mod Taken

@@ -1,8 +1,9 @@
 //! The program, over any environment, reader and writer.
 
-ghost use Rattle.std.specs.Prelude.{◌≡◌, ◌↔◌, ◌⊎◌, ℕ, ◌^◌, ◌<◌, length, true, false, None, IfSome, map, string_bytes};
-ghost use Rattle.std.specs.Io.KnownBytes.{Keeps, Appends};
+ghost use Rattle.std.specs.Prelude.{◌≡◌, ◌⊎◌, ℕ, false, None, IfSome, map, string_bytes};
+ghost use Rattle.std.specs.Io.KnownBytes.{Appends};
 ghost use Rattle.komisum.specs.Line.{hash_line, AppendsPrefix};
+ghost use Rattle.komisum.specs.Program.{FaultsLeave};
 ghost use Rattle.komisum.specs.Settings.{settings_of};
 ghost use Rattle.komisum.specs.declared.refusal.Refusal.{Refusal as ARefusal};
 ghost use Rattle.komisum.specs.declared.version.Version.{Version as AVersion};
@@ -32,16 +33,11 @@ fn show_ahead<H: AllocGlobal, R: Read, W: Write>(
     ensures line { result ≡ Ending.Shown → IfSome (R.remaining input.old) (λ bytes.
         Appends (W.contents writer.old.inner) (W.contents writer.new.inner)
         (hash_line version seed bytes)) }
-    ensures write { (result ≡ Ending.Failed Fault.Write) ↔ (writer.new.failed ≡ true) }
     ensures begun { result ≡ Ending.Failed Fault.Write → IfSome (R.remaining input.old) (λ bytes.
         AppendsPrefix (W.contents writer.old.inner) (W.contents writer.new.inner)
         (hash_line version seed bytes)) }
-    ensures unwritten { result ≡ Ending.Failed Fault.Read
-        → Keeps (W.contents writer.old.inner) (W.contents writer.new.inner) }
-    ensures too_long { result ≡ Ending.Failed Fault.TooLong → IfSome (R.remaining input.old) (λ bytes.
-        2 ^ 40 < length bytes) }
-    ensures unwritten_long { result ≡ Ending.Failed Fault.TooLong
-        → Keeps (W.contents writer.old.inner) (W.contents writer.new.inner) }
+    ensures faults { FaultsLeave result (R.remaining input.old)
+        (W.contents writer.old.inner) (W.contents writer.new.inner) writer.new.failed }
     ensures memory { (refusal : ARefusal) → result ≡ Ending.Refused refusal
         → (refusal ≡ Refusal.NoMemory) × (writer.new ≡ writer.old) }
 {
@@ -65,17 +61,12 @@ fn show_for<H: AllocGlobal, R: Read, W: Write>(
         IfSome (R.remaining input.old) (λ bytes.
         Appends (W.contents writer.old.inner) (W.contents writer.new.inner)
         (hash_line settings.0 settings.1 bytes))) }
-    ensures write { (result ≡ Ending.Failed Fault.Write) ↔ (writer.new.failed ≡ true) }
     ensures begun { result ≡ Ending.Failed Fault.Write → IfSome (settings_of (map string_bytes words.now)) (λ settings.
         IfSome (R.remaining input.old) (λ bytes.
         AppendsPrefix (W.contents writer.old.inner) (W.contents writer.new.inner)
         (hash_line settings.0 settings.1 bytes))) }
-    ensures unwritten { result ≡ Ending.Failed Fault.Read
-        → Keeps (W.contents writer.old.inner) (W.contents writer.new.inner) }
-    ensures too_long { result ≡ Ending.Failed Fault.TooLong → IfSome (R.remaining input.old) (λ bytes.
-        2 ^ 40 < length bytes) }
-    ensures unwritten_long { result ≡ Ending.Failed Fault.TooLong
-        → Keeps (W.contents writer.old.inner) (W.contents writer.new.inner) }
+    ensures faults { FaultsLeave result (R.remaining input.old)
+        (W.contents writer.old.inner) (W.contents writer.new.inner) writer.new.failed }
 
     // Words that ask for nothing are refused, with nothing read and nothing written.
     ensures refused { settings_of (map string_bytes words.now) ≡ None
@@ -104,17 +95,12 @@ pub fn run<H: Env + AllocGlobal, R: Read, W: Write>(
         (version : AVersion) × (seed : ℕ) ×
         Appends (W.contents writer.old.inner) (W.contents writer.new.inner)
         (hash_line version seed bytes)) }
-    ensures write { (result ≡ Ending.Failed Fault.Write) ↔ (writer.new.failed ≡ true) }
     ensures begun { result ≡ Ending.Failed Fault.Write → IfSome (R.remaining input.old) (λ bytes.
         (version : AVersion) × (seed : ℕ) ×
         AppendsPrefix (W.contents writer.old.inner) (W.contents writer.new.inner)
         (hash_line version seed bytes)) }
-    ensures unwritten { result ≡ Ending.Failed Fault.Read
-        → Keeps (W.contents writer.old.inner) (W.contents writer.new.inner) }
-    ensures too_long { result ≡ Ending.Failed Fault.TooLong → IfSome (R.remaining input.old) (λ bytes.
-        2 ^ 40 < length bytes) }
-    ensures unwritten_long { result ≡ Ending.Failed Fault.TooLong
-        → Keeps (W.contents writer.old.inner) (W.contents writer.new.inner) }
+    ensures faults { FaultsLeave result (R.remaining input.old)
+        (W.contents writer.old.inner) (W.contents writer.new.inner) writer.new.failed }
 
     // Of words that are wrong usage nothing comes: nothing is read, and nothing is written.
     ensures usage { result ≡ Ending.Refused Refusal.Usage → input.new ≡ input.old }

@@ -5,7 +5,8 @@ use Rattle.komisum.specs.declared.version.Version.{Version}
 use Rattle.komisum.proofs.program.run.Goals as goal
 
 -- what holds for the settings that words ask for holds for some
-for_some : (settings : Option (Version × ℕ)) (known : Option (List ℕ)) (P : Version → ℕ → List ℕ → Type 0) → (settings ≡ None → ⊥) → IfSome settings (λ s. IfSome known (λ bytes. P s.0 s.1 bytes))
+for_some : (settings : Option (Version × ℕ)) (known : Option (List ℕ)) (P : Version → ℕ → List ℕ → Type 0)
+    → (settings ≡ None → ⊥) → IfSome settings (λ s. IfSome known (λ bytes. P s.0 s.1 bytes))
     → IfSome known (λ bytes. (version : Version) × (seed : ℕ) × P version seed bytes)
 for_some None known P some holds = absurd (some refl)
 for_some (Some s) None P some holds = tt

@@ -17,4 +17,5 @@ pub returns-clause-begun : goal.returns-clause-begun
 returns-clause-begun g c =
     let text : c.as_bytes.result.now ≡ c.args.text.now = c.as_bytes.ensures.value in
     AppendsPrefix-then _ _ _ (codes "komisum: ") (c.args.text.now ++ 10 ∷ []) c.in_ok-write_whole.ensures.whole
-    (AppendsPrefix-then _ _ _ c.args.text.now (10 ∷ []) (rw (sym text) c.in_ok-write_whole-2.ensures.whole) c.write_whole-3.ensures.begun)
+    (AppendsPrefix-then _ _ _ c.args.text.now (10 ∷ []) (rw (sym text) c.in_ok-write_whole-2.ensures.whole)
+    c.write_whole-3.ensures.begun)

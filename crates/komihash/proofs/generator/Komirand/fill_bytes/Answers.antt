@@ -13,7 +13,8 @@ pub words-preserved : goal.words-preserved
 words-preserved g c =
     let wrote = c.copy_from_slice.ensures.after ∙ c.to_le_bytes.ensures ∙ to_le_bytes-word c.next-word.result in
     Filled-more g.row.V c.words.i
-    (8 * c.words.i + 8 - 8 * c.words.i) c.args.self.now c.words.self c.next-word.new.self c.next-word.result c.words.buffer c.copy_from_slice.new.self c.words.invariant c.next-word.ensures.output c.next-word.ensures.pair wrote
+    (8 * c.words.i + 8 - 8 * c.words.i) c.args.self.now c.words.self c.next-word.new.self c.next-word.result
+    c.words.buffer c.copy_from_slice.new.self c.words.invariant c.next-word.ensures.output c.next-word.ensures.pair wrote
     (omega arith)
 
 pub returns-then-buffer-gt0-clause-bytes : goal.returns-then-buffer-gt0-clause-bytes
@@ -32,7 +33,8 @@ returns-then-buffer-gt0-clause-bytes g c =
 pub returns-then-buffer-gt0-clause-pair : goal.returns-then-buffer-gt0-clause-pair
 returns-then-buffer-gt0-clause-pair g c =
     let j = length c.words.buffer - 8 * c.words.i in
-    rest-pair g.row.V c.words.i j c.args.self.now c.words.self c.next-output.new.self c.words.buffer c.words.invariant c.next-output.ensures.pair
+    rest-pair g.row.V c.words.i j c.args.self.now c.words.self c.next-output.new.self c.words.buffer c.words.invariant
+    c.next-output.ensures.pair
     (omega arith) (omega arith) (omega arith)
     ∙ ap (after_fill g.row.V c.args.self.now) c.words.auto.buffer
 

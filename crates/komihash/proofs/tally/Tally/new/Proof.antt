@@ -56,7 +56,8 @@ meets {𝓤 = 𝓤} 𝓛 at_mem run 𝓣 =
     (((vstruct vnil ∷ [], tt), (refl, ((tt, (refl, tt)), tt))), tt) $
     use1 𝓛 (‵ ((T.the_row).own_val r (v ∷ []))) (made 𝓛 own 0 0) $
     suffices ! _
-    (ends_at 𝓛 it.ended tt (it.clauses 𝓛 at_mem run) ((κs, qs, bounds, a, tt), g) v r tt tt) $ nothing ! $ join ! $ nothing ! $ join ! $ frame ! $
+    (ends_at 𝓛 it.ended tt (it.clauses 𝓛 at_mem run) ((κs, qs, bounds, a, tt), g) v r tt tt) $
+    nothing ! $ join ! $ nothing ! $ join ! $ frame ! $
     by ! (both 𝓤 refl refl))))
 
 pub new_spec : {M : Type 1} → stated.statement M

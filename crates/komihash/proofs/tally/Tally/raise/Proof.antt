@@ -27,7 +27,10 @@ use Rattle.komihash.proofs.tally.Tally.raise.Statement.{statement}
 use Rattle.komihash.proofs.tally.Tally.raise.Code as code
 
 abbrev stayed : Stays f.ended.signature.params f.ended.kept
-stayed = (stay_ref (0 ∷ []) tt (plain (λ _. R)), (stay_dropped (plain (λ _. usize)) yes, (stay_dropped (plain (λ _. usize)) yes, tt)))
+stayed = (
+  stay_ref (0 ∷ []) tt (plain (λ _. R)),
+  (stay_dropped (plain (λ _. usize)) yes, (stay_dropped (plain (λ _. usize)) yes, tt)),
+)
 
 pub raise_spec : {M : Type 1} → statement M
 raise_spec 𝓤 𝓛 𝓜 𝓡 wired =
