@@ -464,6 +464,8 @@ fn hashes_as_the_rust_crate_does(rt: HostRuntime) {
             v5::komihash(part, 0),
             v5::komihash(part, u64::MAX),
         ];
-        assert_eq!(rt; given, answers, "{n} bytes");
+        for i in 0..4usize {
+            same(&rt, given[i], answers[i], n);
+        }
     }
 }

@@ -13,7 +13,7 @@ use crate::{Komirand, v4, v5};
 use std::process::Abort;
 
 // How often each property is tried in each version.
-const TIMES: usize = 3000;
+const TIMES: usize = 100_000;
 
 // The length of the messages that are cut.
 const WHOLE: usize = 600;

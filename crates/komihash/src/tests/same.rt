@@ -9,20 +9,20 @@ pub(crate) fn same(rt: &impl Abort, given: u64, wanted: u64, at: usize) {
 
 /// Two lengths, or numbers of answers, are the same.
 pub(crate) fn same_count(rt: &impl Abort, given: usize, wanted: usize, at: usize) {
-    assert_eq!(rt; given, wanted, "at {at}");
+    same(rt, given as u64, wanted as u64, at);
 }
 
 /// Bytes are the same.
 pub(crate) fn same_bytes(rt: &impl Abort, given: &[u8], wanted: &[u8], at: usize) {
-    assert_eq!(rt; given, wanted, "at {at}");
+    assert!(rt; given == wanted, "other bytes at {at}");
 }
 
 /// Words are the same.
 pub(crate) fn same_words(rt: &impl Abort, given: &[u64], wanted: &[u64], at: usize) {
-    assert_eq!(rt; given, wanted, "at {at}");
+    assert!(rt; given == wanted, "other words at {at}");
 }
 
 /// Two lengths are the same, or there is none.
 pub(crate) fn same_length(rt: &impl Abort, given: Option<usize>, wanted: Option<usize>, at: usize) {
-    assert_eq!(rt; given, wanted, "at {at}");
+    assert!(rt; given == wanted, "another length at {at}");
 }

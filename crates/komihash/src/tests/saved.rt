@@ -24,10 +24,8 @@ fn is_text<S: KomiStream>(rt: &impl Abort, text: &[u8]) -> bool {
         return false;
     };
     let end = stream.store(&mut out);
-    assert!(rt; &out[..end] == text);
-    for byte in &out[end..] {
-        assert_eq!(rt; *byte, 0xee);
-    }
+    same_bytes(rt, &out[..end], text, end);
+    same_bytes(rt, &out[end..], &[0xee; 140][end..], end);
     true
 }
 
@@ -211,10 +209,10 @@ fn agrees_at_each_byte<S: KomiStream>(rt: &impl Abort) {
                 let mut changed = text;
                 changed[at] = byte;
                 let head = [text[0], text[1], text[2], text[3]];
-                assert_eq!(rt;
-                    is_text::<S>(rt, &changed[..end]),
-                    stays_a_text::<S>(head, at, byte),
-                    "{count} bytes, byte {at} is {byte}"
+                let is_one = is_text::<S>(rt, &changed[..end]);
+                assert!(rt;
+                    is_one == stays_a_text::<S>(head, at, byte),
+                    "byte {at} is {byte}"
                 );
             }
         }
