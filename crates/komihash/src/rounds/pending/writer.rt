@@ -43,71 +43,31 @@ fn put_few(words: &mut [u64; 8], fill: usize, bytes: &[u8])
     }
 }
 
-// Moves four words from a place of the bytes on, where there are so many: the next places.
+// Moves N words from a place of the bytes on, where there are so many: the next places.
 #[inline(always)]
-fn move_four(words: &mut [u64; 8], at: usize, bytes: &[u8], from: usize) -> (usize, usize)
+fn move_words<const N: usize>(
+    words: &mut [u64; 8],
+    at: usize,
+    bytes: &[u8],
+    from: usize,
+) -> (usize, usize)
     requires within { from ≤ length bytes.now }
     requires room { 8 * at + (length bytes.now - from) ≤ 64 }
-    requires few { length bytes.now < from + 64 }
+    requires few { length bytes.now < from + 16 * N }
+    requires number { N ≤ 4 }
     ensures on { from ≤ result.1 }
     ensures within { result.1 ≤ length bytes.now }
-    ensures left { length bytes.now < result.1 + 32 }
+    ensures left { length bytes.now < result.1 + 8 * N }
     ensures place { 8 * result.0 ≡ 8 * at + (result.1 - from) }
     ensures words { Appends words.old (8 * at) (take (result.1 - from) (drop from bytes.now)) words.new }
 {
-    if bytes.len() - from < 32 {
+    if bytes.len() - from < 8 * N {
         return (at, from);
     }
-    let first = word_at(bytes, from);
-    let second = word_at(bytes, from + 8);
-    let third = word_at(bytes, from + 16);
-    let fourth = word_at(bytes, from + 24);
-    set_word(words, at, first);
-    set_word(words, at + 1, second);
-    set_word(words, at + 2, third);
-    set_word(words, at + 3, fourth);
-    (at + 4, from + 32)
-}
-
-// The same with two words.
-#[inline(always)]
-fn move_two(words: &mut [u64; 8], at: usize, bytes: &[u8], from: usize) -> (usize, usize)
-    requires within { from ≤ length bytes.now }
-    requires room { 8 * at + (length bytes.now - from) ≤ 64 }
-    requires few { length bytes.now < from + 32 }
-    ensures on { from ≤ result.1 }
-    ensures within { result.1 ≤ length bytes.now }
-    ensures left { length bytes.now < result.1 + 16 }
-    ensures place { 8 * result.0 ≡ 8 * at + (result.1 - from) }
-    ensures words { Appends words.old (8 * at) (take (result.1 - from) (drop from bytes.now)) words.new }
-{
-    if bytes.len() - from < 16 {
-        return (at, from);
+    'words: for i in 0..N {
+        set_word(words, at + i, word_at(bytes, from + 8 * i));
     }
-    let first = word_at(bytes, from);
-    let second = word_at(bytes, from + 8);
-    set_word(words, at, first);
-    set_word(words, at + 1, second);
-    (at + 2, from + 16)
-}
-
-// The same with one word.
-#[inline(always)]
-fn move_one(words: &mut [u64; 8], at: usize, bytes: &[u8], from: usize) -> (usize, usize)
-    requires within { from ≤ length bytes.now }
-    requires room { 8 * at + (length bytes.now - from) ≤ 64 }
-    requires few { length bytes.now < from + 16 }
-    ensures on { from ≤ result.1 }
-    ensures within { result.1 ≤ length bytes.now }
-    ensures left { length bytes.now < result.1 + 8 }
-    ensures place { 8 * result.0 ≡ 8 * at + (result.1 - from) }
-    ensures words { Appends words.old (8 * at) (take (result.1 - from) (drop from bytes.now)) words.new }
-{
-    if bytes.len() - from < 8 {
-        return (at, from);
-    }
-    set_word(words, at, word_at(bytes, from));
-    (at + 1, from + 8)
+    (at + N, from + 8 * N)
 }
 
 // Puts what is left behind the words that were moved: it is read with the last eight bytes.
@@ -134,9 +94,9 @@ fn put_many(words: &mut [u64; 8], fill: usize, bytes: &[u8])
     ensures { Appends words.old fill bytes.now words.new }
 {
     join_word(words, fill, read_word(bytes));
-    let (at, from) = move_four(words, fill / 8 + 1, bytes, 8 - fill % 8);
-    let (at, from) = move_two(words, at, bytes, from);
-    let (at, from) = move_one(words, at, bytes, from);
+    let (at, from) = move_words::<4>(words, fill / 8 + 1, bytes, 8 - fill % 8);
+    let (at, from) = move_words::<2>(words, at, bytes, from);
+    let (at, from) = move_words::<1>(words, at, bytes, from);
     put_last(words, at, bytes, from);
 }
 
