@@ -184,8 +184,7 @@ class Crate:
     def __init__(self, files):
         self.codes = {file: code_of(text) for file, text in files.items()}
         self.functions = [function for file, code in self.codes.items() for function in functions_of(file, code)]
-        self.names = {function.name for function in self.functions}
-        self.names |= {name for code in self.codes.values() for name in re.findall(r"\bfn\s+(\w+)", code)}
+        self.names = {name for code in self.codes.values() for name in re.findall(r"\bfn\s+(\w+)", code)}
         self.names |= {"count_product", "count_kept"}
         self.lent = {function.name for function in self.functions if function.tally}
         self.plain = [function for function in self.functions if function.place in PLAIN]
@@ -238,7 +237,7 @@ class Crate:
 
     def copies(self):
         for function in self.functions:
-            for by, name, _ in function.calls():
+            for _, name, _ in function.calls():
                 if name in CALLERS and function.place not in CALLERS[name]:
                     yield f"{function.place}: it calls {name}"
             if function.place in WRITERS:
@@ -275,8 +274,9 @@ def planted(files, edit):
 def main():
     files = read_sources()
     cases = []
+    crate = Crate(files)
     for rule in (*RULES, "unknown"):
-        found = list(getattr(Crate(files), rule)())
+        found = list(getattr(crate, rule)())
         cases.append((f"the sources, {rule}", not found, found))
     for edit in sorted((SCRIPTS / "planted").glob("*.edit")):
         crate = Crate(planted(files, edit))
