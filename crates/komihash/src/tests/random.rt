@@ -4,6 +4,7 @@
 ghost use Rattle.std.specs.Prelude.{◌*◌, ◌<◌, ◌≤◌, length};
 
 use super::same::{same, same_bytes, same_count, same_words};
+use super::stream::hash;
 use crate::hash::komihash;
 use crate::padding::{pad, unpad};
 use crate::stream::streamed::StreamedKomihash;
@@ -89,7 +90,7 @@ fn agrees_by_plain_calls<const V: u8>(rt: &impl Abort, random: &mut Komirand) {
 
 // Calls that absorb pieces of a message, with answers between them; and the hashes of the bytes before
 // each answer, and how many answers there are.
-fn calls_of<'a, const V: u8>(
+fn calls_of<'a, S: KomiStream>(
     rt: &impl Abort,
     random: &mut Komirand,
     message: &'a [u8; 600],
@@ -106,7 +107,7 @@ fn calls_of<'a, const V: u8>(
             calls[i] = Call::Absorb(&message[taken..end]);
             taken = end;
         } else {
-            hashes[count] = komihash::<V>(&message[..taken], seed);
+            hashes[count] = hash::<S>(&message[..taken], seed);
             count += 1;
         }
     }
@@ -114,10 +115,10 @@ fn calls_of<'a, const V: u8>(
 }
 
 // Pieces and answers in one run.
-fn agrees_in_a_run<const V: u8, S: KomiStream>(rt: &impl Abort, random: &mut Komirand) {
+fn agrees_in_a_run<S: KomiStream>(rt: &impl Abort, random: &mut Komirand) {
     let message = message_of::<600>(random);
     let seed = seed_of(random);
-    let (calls, hashes, count) = calls_of::<V>(rt, random, &message, seed);
+    let (calls, hashes, count) = calls_of::<S>(rt, random, &message, seed);
     let mut out = [9; 24];
     let answers = run::<S>(seed, &calls, &mut out, &mut Tally::new());
     same_count(rt, answers, count, 0);
@@ -192,8 +193,8 @@ fn random_inputs(rt: HostRuntime) {
     for _ in 0..TIMES {
         agrees_by_plain_calls::<4>(&rt, &mut random);
         agrees_by_plain_calls::<5>(&rt, &mut random);
-        agrees_in_a_run::<4, v4::StreamedKomihash>(&rt, &mut random);
-        agrees_in_a_run::<5, v5::StreamedKomihash>(&rt, &mut random);
+        agrees_in_a_run::<v4::StreamedKomihash>(&rt, &mut random);
+        agrees_in_a_run::<v5::StreamedKomihash>(&rt, &mut random);
         agrees_padded::<4>(&rt, &mut random);
         agrees_padded::<5>(&rt, &mut random);
     }
