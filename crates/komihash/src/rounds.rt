@@ -102,7 +102,6 @@ pub(crate) fn places<const V: u8>() -> [usize; 8]
 
 /// The block round, with a table of places.
 #[inline(always)]
-#[tactic(auto, using(crate::proofs::Xor::xor_late_behind), unfolding(crate::specs::Rounds::block_round_by))]
 pub(crate) fn block_round(
     lanes: &mut [u64; 8],
     words: &[u64; 8],
