@@ -60,107 +60,115 @@ fn pads_known_messages(rt: HostRuntime) {
 }
 
 // What `unpad` writes of words, and nothing behind it.
-fn reads(rt: &impl Abort, version: u8, words: &[u64], message: Option<&[u8]>)
-    requires { length words.now ≤ 3 }
+fn reads(rt: &impl Abort, version: u8, words: &[u64], message: &[u8])
+    requires words { length words.now ≤ 3 }
+    requires message { length message.now ≤ 25 }
 {
     let mut out = [0xee; 25];
     let mut wanted = [0xee; 25];
-    let length = match message {
-        Some(bytes) => {
-            assert!(rt; bytes.len() <= 25);
-            wanted[..bytes.len()].copy_from_slice(bytes);
-            Some(bytes.len())
-        }
-        None => None,
-    };
+    wanted[..message.len()].copy_from_slice(message);
     let given = unpad(version, words, &mut out);
-    same_length(rt, given, length, words.len());
+    same_length(rt, given, Some(message.len()), words.len());
     same_bytes(rt, &out, &wanted, words.len());
 }
 
-// The same in version 4 and in version 5.
-fn in_each(rt: &impl Abort, words: &[u64], four: Option<&[u8]>, five: Option<&[u8]>)
+// Words that no message has: nothing is written.
+fn reads_nothing(rt: &impl Abort, version: u8, words: &[u64])
     requires { length words.now ≤ 3 }
 {
-    reads(rt, 4, words, four);
-    reads(rt, 5, words, five);
+    let mut out = [0xee; 25];
+    same_length(rt, unpad(version, words, &mut out), None, words.len());
+    same_bytes(rt, &out, &[0xee; 25], words.len());
+}
+
+// Known words that are the same message's in both versions.
+fn reads_alike(rt: &impl Abort, version: u8) {
+    reads(rt, version, &[0], &[]);
+    reads(rt, version, &[0x7fff_ffff_ffff_ffff, 1], &LOW_END);
+    reads(rt, version, &[0x0100], &[0]);
+    reads(rt, version, &[0x0100_0000_0000_0000], &[0; 7]);
+    reads(rt, version, &[2, 1], &[2, 0, 0, 0, 0, 0, 0, 0]);
+}
+
+// Known words that are no message's in either version.
+fn reads_nothing_alike(rt: &impl Abort, version: u8) {
+    reads_nothing(rt, version, &[]);
+    reads_nothing(rt, version, &[0x0201]);
+    reads_nothing(rt, version, &[1]);
+    reads_nothing(rt, version, &[2]);
+    reads_nothing(rt, version, &[0, 0]);
+    reads_nothing(rt, version, &[0x7fff_ffff_ffff_ffff, 2]);
+    reads_nothing(rt, version, &[0x0200]);
+    reads_nothing(rt, version, &[u64::MAX, 2, 0]);
+    reads_nothing(rt, version, &[u64::MAX]);
+}
+
+// Known words of a last byte that is at least 128, with the padding byte of a version and with that
+// of the other one.
+fn reads_high_ends(rt: &impl Abort, version: u8, padding: u8, other: u8) {
+    let [padding, other] = [u64::from(padding), u64::from(other)];
+    reads(rt, version, &[padding << 8 | 0x80], &[0x80]);
+    reads_nothing(rt, version, &[other << 8 | 0x80]);
+    reads(rt, version, &[u64::MAX, padding], &[0xff; 8]);
+    reads_nothing(rt, version, &[u64::MAX, other]);
+    reads(rt, version, &[padding << 56 | 0x80 << 48], &HIGH);
+    reads_nothing(rt, version, &[other << 56 | 0x80 << 48]);
 }
 
 #[test]
 fn reads_known_words_back(rt: HostRuntime) {
-    in_each(&rt, &[0], Some(&[]), Some(&[]));
-    in_each(&rt, &[0x0180], None, Some(&[0x80]));
-    in_each(&rt, &[0x0280], Some(&[0x80]), None);
-    in_each(&rt, &[0x0201], None, None);
-    in_each(&rt, &[1], None, None);
-    in_each(&rt, &[2], None, None);
-    in_each(&rt, &[], None, None);
-    in_each(&rt, &[0, 0], None, None);
-    in_each(&rt, &[u64::MAX, 2], Some(&[0xff; 8]), None);
-    in_each(&rt, &[u64::MAX, 1], None, Some(&[0xff; 8]));
-    in_each(
-        &rt,
-        &[0x7fff_ffff_ffff_ffff, 1],
-        Some(&LOW_END),
-        Some(&LOW_END),
-    );
-    in_each(&rt, &[0x7fff_ffff_ffff_ffff, 2], None, None);
-    in_each(&rt, &[0x0100], Some(&[0]), Some(&[0]));
-    in_each(&rt, &[0x0200], None, None);
-    in_each(&rt, &[0x0100_0000_0000_0000], Some(&[0; 7]), Some(&[0; 7]));
-    in_each(&rt, &[0x0280_0000_0000_0000], Some(&HIGH), None);
-    in_each(&rt, &[0x0180_0000_0000_0000], None, Some(&HIGH));
-    in_each(
-        &rt,
-        &[2, 1],
-        Some(&[2, 0, 0, 0, 0, 0, 0, 0]),
-        Some(&[2, 0, 0, 0, 0, 0, 0, 0]),
-    );
-    in_each(&rt, &[u64::MAX, 2, 0], None, None);
-    in_each(&rt, &[u64::MAX], None, None);
+    for version in [4u8, 5u8] {
+        reads_alike(&rt, version);
+        reads_nothing_alike(&rt, version);
+    }
+    reads_high_ends(&rt, 4, 2, 1);
+    reads_high_ends(&rt, 5, 1, 2);
+}
+
+// What is padded is read back, and nothing is written behind it.
+fn reads_back(rt: &impl Abort, version: u8, message: &[u8])
+    requires { length message.now ≤ 80 }
+{
+    let n = message.len();
+    let mut words = [7; 11];
+    let count = pad(version, message, &mut words).min(11);
+    same_count(rt, count, n / 8 + 1, n);
+    let mut out = [0xee; 89];
+    let mut wanted = [0xee; 89];
+    wanted[..n].copy_from_slice(message);
+    let length = unpad(version, &words[..count], &mut out[..8 * count + 1]);
+    same_length(rt, length, Some(n), n);
+    same_bytes(rt, &out, &wanted, n);
 }
 
 #[test]
 fn reads_back_what_was_padded(rt: HostRuntime) {
     let pattern = pattern();
     for n in 0..81usize {
-        for version in [4u8, 5u8] {
-            let message = &pattern[..n];
-            let mut words = [7; 11];
-            let count = pad(version, message, &mut words);
-            assert!(rt; count == n / 8 + 1);
-            let mut out = [0xee; 89];
-            let mut wanted = [0xee; 89];
-            wanted[..n].copy_from_slice(message);
-            let length = unpad(version, &words[..count], &mut out[..8 * count + 1]);
-            same_length(&rt, length, Some(n), n);
-            same_bytes(&rt, &out, &wanted, n);
-        }
+        reads_back(&rt, 4, &pattern[..n]);
+        reads_back(&rt, 5, &pattern[..n]);
+    }
+}
+
+// What is read of one word of two bytes.
+fn reads_two_bytes(rt: &impl Abort, version: u8, x: u8, y: u8) {
+    let padding = if version == 4 && y >= 128 { 2 } else { 1 };
+    let word = [256 * u64::from(x) + u64::from(y)];
+    if x == 0 && y == 0 {
+        reads(rt, version, &word, &[]);
+    } else if x == padding {
+        reads(rt, version, &word, &[y]);
+    } else {
+        reads_nothing(rt, version, &word);
     }
 }
 
 #[test]
 fn reads_each_word_of_two_bytes(rt: HostRuntime) {
-    for x in 0..256u64 {
-        for y in 0..256u64 {
-            let none = x == 0 && y == 0;
-            let four = x == 1 && y < 128 || x == 2 && y >= 128;
-            let five = x == 1;
-            for (version, one) in [(4u8, four), (5u8, five)] {
-                let mut out = [0xee; 8];
-                let mut wanted = [0xee; 8];
-                let length = if none {
-                    Some(0)
-                } else if one {
-                    wanted[0] = (y % 256) as u8;
-                    Some(1)
-                } else {
-                    None
-                };
-                let given = unpad(version, &[256 * x + y], &mut out);
-                same_length(&rt, given, length, (256 * x + y) as usize);
-                same_bytes(&rt, &out, &wanted, (256 * x + y) as usize);
-            }
+    for x in 0..=255u8 {
+        for y in 0..=255u8 {
+            reads_two_bytes(&rt, 4, x, y);
+            reads_two_bytes(&rt, 5, x, y);
         }
     }
 }

@@ -1,24 +1,34 @@
 //! Pending bytes, put in pieces and written to the front of a slice.
 
+ghost use Rattle.std.specs.Prelude.{◌+◌, ◌<◌, length};
+
 use super::messages::pattern;
 use super::same::same_bytes;
 use crate::rounds::pending::Pending;
 use crate::tally::Tally;
+use std::process::Abort;
+
+// Two pieces, and nothing written behind them.
+fn writes(rt: &impl Abort, first: &[u8], second: &[u8], wanted: &[u8; 64])
+    requires { length first.now + length second.now < 64 }
+{
+    let mut tally = Tally::new();
+    let mut pending = Pending::new();
+    pending.put(first, &mut tally);
+    pending.put(second, &mut tally);
+    let mut out = [0xee; 64];
+    pending.write_to(&mut out);
+    same_bytes(rt, &out, wanted, first.len());
+}
 
 #[test]
 fn writes_what_was_put(rt: HostRuntime) {
     let message = pattern();
-    let mut tally = Tally::new();
     for n in 0..64usize {
+        let mut wanted = [0xee; 64];
+        wanted[..n].copy_from_slice(&message[..n]);
         for cut in 0..=n {
-            let mut pending = Pending::new();
-            pending.put(&message[..cut], &mut tally);
-            pending.put(&message[cut..n], &mut tally);
-            let mut out = [0xee; 64];
-            let mut wanted = out;
-            wanted[..n].copy_from_slice(&message[..n]);
-            pending.write_to(&mut out);
-            same_bytes(&rt, &out, &wanted, cut);
+            writes(&rt, &message[..cut], &message[cut..n], &wanted);
         }
     }
 }

@@ -3,9 +3,8 @@
 
 ghost use Rattle.std.specs.Prelude.{◌*◌, ◌<◌, ◌≤◌, length};
 
-use super::same::{same, same_bytes, same_count, same_words};
-use super::stream::hash;
-use crate::hash::komihash;
+use super::same::{same_bytes, same_count, same_length, same_words};
+use super::stream::{finishes, hash};
 use crate::padding::{pad, unpad};
 use crate::stream::streamed::StreamedKomihash;
 use crate::stream::{Call, KomiStream, run};
@@ -57,6 +56,16 @@ fn end_behind(random: &mut Komirand, from: usize) -> usize
     (from + below(random, 130)).min(WHOLE)
 }
 
+// The stream that is resumed from the text of another one.
+fn resumed<const V: u8>(rt: &impl Abort, stream: &StreamedKomihash<V>) -> StreamedKomihash<V> {
+    let mut text = [0; 131];
+    let length = stream.save(&mut text);
+    let Some(resumed) = StreamedKomihash::resume(&text[..length]) else {
+        panic!(rt; "no stream of a saved text");
+    };
+    resumed
+}
+
 // Pieces by the plain calls, with answers and rests between them: at a rest the stream is saved, and
 // another one is resumed from its text.
 fn agrees_by_plain_calls<const V: u8>(rt: &impl Abort, random: &mut Komirand) {
@@ -70,20 +79,10 @@ fn agrees_by_plain_calls<const V: u8>(rt: &impl Abort, random: &mut Komirand) {
         stream.write(&message[taken..end]);
         taken = end;
         if below(random, 2) == 0 {
-            same(
-                rt,
-                stream.finish(),
-                komihash::<V>(&message[..taken], seed),
-                taken,
-            );
+            finishes(rt, &stream, &message[..taken], seed);
         }
         if below(random, 3) == 0 {
-            let mut text = [0; 131];
-            let length = stream.save(&mut text);
-            let Some(resumed) = StreamedKomihash::<V>::resume(&text[..length]) else {
-                panic!(rt; "no stream behind {taken} bytes");
-            };
-            stream = resumed;
+            stream = resumed(rt, &stream);
         }
     }
 }
@@ -161,9 +160,8 @@ fn agrees_read_back<const V: u8>(rt: &impl Abort, words: &[u64])
 {
     let mut out = [0xee; 105];
     let given = unpad::<V>(words, &mut out);
-    assert!(rt; given == padded_length::<V>(words));
-    let n = given.unwrap_or(0);
-    assert!(rt; n <= 104);
+    same_length(rt, given, padded_length::<V>(words), words.len());
+    let n = given.unwrap_or(0).min(104);
     same_bytes(rt, &out[n..], &[0xee; 105][n..], n);
     if given.is_some() {
         let mut again = [7; 14];

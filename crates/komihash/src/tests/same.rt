@@ -4,7 +4,7 @@ use std::process::Abort;
 
 /// Two numbers are the same.
 pub(crate) fn same(rt: &impl Abort, given: u64, wanted: u64, at: usize) {
-    assert_eq!(rt; given, wanted, "at {at}");
+    assert!(rt; given == wanted, "{given:#x} and not {wanted:#x} at {at}");
 }
 
 /// Two lengths, or numbers of answers, are the same.

@@ -4,7 +4,7 @@ ghost use Rattle.std.specs.Prelude.{◌≤◌};
 
 use super::messages::{BLOCK_FIVE, pattern};
 use super::same::{same, same_bytes, same_count};
-use super::stream::hash;
+use super::stream::answers;
 use super::texts::{BLOCK_SAVED, LETTERS_FIVE, NEW_FIVE, NEW_FOUR};
 use crate::stream::KomiStream;
 use crate::stream::streamed::StreamedKomihash;
@@ -27,6 +27,14 @@ fn is_text<S: KomiStream>(rt: &impl Abort, text: &[u8]) -> bool {
     same_bytes(rt, &out[..end], text, end);
     same_bytes(rt, &out[end..], &[0xee; 140][end..], end);
     true
+}
+
+// The bytes are the text of a stream, or they are not.
+fn takes<S: KomiStream>(rt: &impl Abort, text: &[u8], is_one: bool) {
+    assert!(rt;
+        is_text::<S>(rt, text) == is_one,
+        "another verdict on {text:?}"
+    );
 }
 
 // The text of a new stream that absorbed the first bytes of the pattern, and its length.
@@ -111,72 +119,61 @@ fn resumes_any_state(rt: HostRuntime) {
         answer_of::<v4::StreamedKomihash>(&high),
         Some(0xc000_0000_0000_0003)
     );
-    assert!(rt; is_text::<v4::StreamedKomihash>(&rt, &high));
+    takes::<v4::StreamedKomihash>(&rt, &high, true);
     let low = zeros([4, 1, 0, 0], 0x80);
     assert_eq!(rt;
         answer_of::<v4::StreamedKomihash>(&low),
         Some(0x8000_0000_0000_0000)
     );
-    assert!(rt; is_text::<v4::StreamedKomihash>(&rt, &low));
+    takes::<v4::StreamedKomihash>(&rt, &low, true);
 }
 
 #[test]
 fn resumes_all_pending_bytes(rt: HostRuntime) {
     let full: &[u8; 132] = &full_zeros();
-    assert!(rt; is_text::<v5::StreamedKomihash>(&rt, &full[..131]));
-    assert!(rt; !is_text::<v5::StreamedKomihash>(&rt, &full[..130]));
-    assert!(rt; !is_text::<v5::StreamedKomihash>(&rt, full));
+    takes::<v5::StreamedKomihash>(&rt, &full[..131], true);
+    takes::<v5::StreamedKomihash>(&rt, &full[..130], false);
+    takes::<v5::StreamedKomihash>(&rt, full, false);
 }
 
 #[test]
 fn refuses_what_is_no_text(rt: HostRuntime) {
-    assert!(rt; !is_text::<v5::StreamedKomihash>(&rt, &[]));
-    assert!(rt; !is_text::<v5::StreamedKomihash>(&rt, &NEW_FIVE[..67]));
+    takes::<v5::StreamedKomihash>(&rt, &[], false);
+    takes::<v5::StreamedKomihash>(&rt, &NEW_FIVE[..67], false);
     let mut longer = [0; 69];
     longer[..68].copy_from_slice(&NEW_FIVE);
-    assert!(rt; !is_text::<v5::StreamedKomihash>(&rt, &longer));
-    assert!(rt; !is_text::<v5::StreamedKomihash>(&rt, &NEW_FOUR));
-    assert!(rt; !is_text::<v4::StreamedKomihash>(&rt, &NEW_FIVE));
+    takes::<v5::StreamedKomihash>(&rt, &longer, false);
+    takes::<v5::StreamedKomihash>(&rt, &NEW_FOUR, false);
+    takes::<v4::StreamedKomihash>(&rt, &NEW_FIVE, false);
     for (at, byte) in [(1usize, 2), (2, 1)] {
         assert!(rt; at < 68);
         let mut five = NEW_FIVE;
         let mut four = NEW_FOUR;
         five[at] = byte;
         four[at] = byte;
-        assert!(rt; !is_text::<v5::StreamedKomihash>(&rt, &five));
-        assert!(rt; !is_text::<v4::StreamedKomihash>(&rt, &four));
+        takes::<v5::StreamedKomihash>(&rt, &five, false);
+        takes::<v4::StreamedKomihash>(&rt, &four, false);
     }
     let mut full = [0; 132];
     full[..68].copy_from_slice(&NEW_FIVE);
     full[3] = 64;
-    assert!(rt; !is_text::<v5::StreamedKomihash>(&rt, &full));
-    assert!(rt; !is_text::<v5::StreamedKomihash>(&rt, &zeros([5, 1, 1, 0], 0)));
-    assert!(rt; !is_text::<v4::StreamedKomihash>(&rt, &zeros([4, 1, 2, 0], 0)));
+    takes::<v5::StreamedKomihash>(&rt, &full, false);
+    takes::<v5::StreamedKomihash>(&rt, &zeros([5, 1, 1, 0], 0), false);
+    takes::<v4::StreamedKomihash>(&rt, &zeros([4, 1, 2, 0], 0), false);
 }
 
 // A stream that absorbed each number of bytes up to 200, saved and resumed, goes on with 70 more.
 fn agrees_after_each_length<S: KomiStream>(rt: &impl Abort) {
     let message = pattern();
-    let mut tally = Tally::new();
     for count in 0..=200usize {
         let (text, end) = text_after::<S>(count);
         same_count(rt, end, 68 + count % 64, count);
         let Some(mut stream) = S::restore(&text[..end]) else {
             panic!(rt; "no stream after {count} bytes");
         };
-        same(
-            rt,
-            stream.answer(&mut tally),
-            hash::<S>(&message[..count], 1),
-            count,
-        );
-        stream.absorb(&message[count..count + 70], &mut tally);
-        same(
-            rt,
-            stream.answer(&mut tally),
-            hash::<S>(&message[..count + 70], 1),
-            count,
-        );
+        answers(rt, &stream, &message[..count], 1);
+        stream.absorb(&message[count..count + 70], &mut Tally::new());
+        answers(rt, &stream, &message[..count + 70], 1);
     }
 }
 
@@ -209,11 +206,8 @@ fn agrees_at_each_byte<S: KomiStream>(rt: &impl Abort) {
                 let mut changed = text;
                 changed[at] = byte;
                 let head = [text[0], text[1], text[2], text[3]];
-                let is_one = is_text::<S>(rt, &changed[..end]);
-                assert!(rt;
-                    is_one == stays_a_text::<S>(head, at, byte),
-                    "byte {at} is {byte}"
-                );
+                let is_one = stays_a_text::<S>(head, at, byte);
+                takes::<S>(rt, &changed[..end], is_one);
             }
         }
     }
@@ -230,11 +224,11 @@ fn agrees_at_each_end<S: KomiStream, O: KomiStream>(rt: &impl Abort) {
     for count in [0usize, 64, 100, 127] {
         assert!(rt; count <= 200);
         let (text, end) = text_after::<S>(count);
-        assert!(rt; !is_text::<O>(rt, &text[..end]));
+        takes::<O>(rt, &text[..end], false);
         let mut longer = [0; 140];
         longer[..131].copy_from_slice(&text);
         for length in 0..=140usize {
-            assert_eq!(rt; is_text::<S>(rt, &longer[..length]), length == end);
+            takes::<S>(rt, &longer[..length], length == end);
         }
     }
 }

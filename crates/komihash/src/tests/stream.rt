@@ -1,6 +1,6 @@
 //! Streams and runs of calls on them, at messages whose hash is known.
 
-ghost use Rattle.std.specs.Prelude.{◌≢◌};
+ghost use Rattle.std.specs.Prelude.{◌≢◌, ◌≤◌, length};
 
 use super::messages::{
     BLOCK_FIVE, BLOCK_FOUR, CUT_ANSWERS, LONGEST, ZERO, at_cuts, byte_by_byte, pattern,
@@ -25,8 +25,25 @@ pub(crate) fn hash<S: KomiStream>(message: &[u8], seed: u64) -> u64 {
     }
 }
 
-// The answer of a new stream that absorbs a message in pieces.
-fn hash_in_pieces<S: KomiStream>(message: &[u8], size: usize, seed: u64) -> u64
+/// A stream answers the hash of a message.
+pub(crate) fn answers<S: KomiStream>(rt: &impl Abort, stream: &S, message: &[u8], seed: u64) {
+    let answer = stream.answer(&mut Tally::new());
+    same(rt, answer, hash::<S>(message, seed), message.len());
+}
+
+/// The same by the plain calls.
+pub(crate) fn finishes<const V: u8>(
+    rt: &impl Abort,
+    stream: &StreamedKomihash<V>,
+    message: &[u8],
+    seed: u64,
+) {
+    let hash = komihash::<V>(message, seed);
+    same(rt, stream.finish(), hash, message.len());
+}
+
+// A message in pieces of a size.
+fn agrees_in_pieces_of<S: KomiStream>(rt: &impl Abort, message: &[u8], size: usize, seed: u64)
     requires { size ≢ 0 }
 {
     let mut tally = Tally::new();
@@ -34,7 +51,7 @@ fn hash_in_pieces<S: KomiStream>(message: &[u8], size: usize, seed: u64) -> u64
     for piece in message.chunks(size) {
         stream.absorb(piece, &mut tally);
     }
-    stream.answer(&mut tally)
+    answers(rt, &stream, message, seed);
 }
 
 // Every beginning of the pattern of up to 200 bytes, in pieces of every size up to a greatest.
@@ -42,14 +59,8 @@ fn agrees_in_pieces<S: KomiStream>(rt: &impl Abort, greatest: usize) {
     let message = pattern();
     for n in 0..=200usize {
         for seed in SEEDS {
-            let answer = hash::<S>(&message[..n], seed);
             for size in 1..=greatest {
-                same(
-                    rt,
-                    hash_in_pieces::<S>(&message[..n], size, seed),
-                    answer,
-                    n,
-                );
+                agrees_in_pieces_of::<S>(rt, &message[..n], size, seed);
             }
         }
     }
@@ -61,24 +72,23 @@ fn answers_alike_however_a_message_is_cut(rt: HostRuntime) {
     agrees_in_pieces::<v5::StreamedKomihash>(&rt, 62);
 }
 
+// A message in two writes.
+fn agrees_in_two<S: KomiStream>(rt: &impl Abort, first: &[u8], second: &[u8], whole: &[u8]) {
+    let mut tally = Tally::new();
+    let mut stream = S::start(0, &mut tally);
+    stream.absorb(first, &mut tally);
+    stream.absorb(second, &mut tally);
+    answers(rt, &stream, whole, 0);
+}
+
 // Zeros in one write behind every number of pending bytes.
 fn agrees_behind_pending_bytes<S: KomiStream>(rt: &impl Abort) {
-    let mut tally = Tally::new();
     let pending = pattern();
-    let zeros = [0; 130];
     for fill in 0..64usize {
         let mut message = [0; 193];
         message[..fill].copy_from_slice(&pending[..fill]);
-        for more in 0..=130usize {
-            let mut stream = S::start(0, &mut tally);
-            stream.absorb(&pending[..fill], &mut tally);
-            stream.absorb(&zeros[..more], &mut tally);
-            same(
-                rt,
-                stream.answer(&mut tally),
-                hash::<S>(&message[..fill + more], 0),
-                more,
-            );
+        for end in fill..=fill + 130 {
+            agrees_in_two::<S>(rt, &message[..fill], &message[fill..end], &message[..end]);
         }
     }
 }
@@ -89,44 +99,45 @@ fn fills_up_a_begun_block(rt: HostRuntime) {
     agrees_behind_pending_bytes::<v5::StreamedKomihash>(&rt);
 }
 
-// By the plain calls: answers in between change nothing, after a whole block, and one byte before
-// it, at it and behind; and pieces of 13 bytes with an answer after each.
-fn agrees_by_plain_calls<const V: u8>(rt: &impl Abort) {
+/// By the plain calls: writes that end at these places, with two answers behind each.
+pub(crate) fn agrees_between<const V: u8>(
+    rt: &impl Abort,
+    message: &[u8],
+    ends: &[usize],
+    seed: u64,
+) {
+    let mut stream = StreamedKomihash::<V>::new_with_seed(seed);
+    let mut from = 0;
+    for end in ends {
+        assert!(rt; from <= *end && *end <= message.len());
+        stream.write(&message[from..*end]);
+        from = *end;
+        finishes(rt, &stream, &message[..from], seed);
+        finishes(rt, &stream, &message[..from], seed);
+    }
+}
+
+// A whole block, and one byte before it, at it and behind; and pieces of 13 bytes.
+fn goes_on<const V: u8>(rt: &impl Abort) {
     let mut message = [0xff; 65];
     message[64] = 0;
-    let mut stream = StreamedKomihash::<V>::new();
-    stream.write(&message[..64]);
-    let block = komihash::<V>(&message[..64], 0);
-    same(rt, stream.finish(), block, 64);
-    same(rt, stream.finish(), block, 64);
-    stream.write(&message[64..]);
-    same(rt, stream.finish(), komihash::<V>(&message, 0), 65);
-
+    agrees_between::<V>(rt, &message, &[64, 65], 0);
     let mut message = [0xaa; 65];
     message[63] = 0xbb;
     message[64] = 0xcc;
-    let mut stream = StreamedKomihash::<V>::default();
-    for (from, to) in [(0usize, 63usize), (63, 64), (64, 65)] {
-        assert!(rt; from <= to && to <= 65);
-        stream.write(&message[from..to]);
-        same(rt, stream.finish(), komihash::<V>(&message[..to], 0), to);
+    agrees_between::<V>(rt, &message, &[63, 64, 65], 0);
+    let mut ends = [0; 15];
+    for i in 0..15usize {
+        ends[i] = 13 * i + 13;
     }
-
-    let message = pattern();
-    for seed in SEEDS {
-        let mut stream = StreamedKomihash::<V>::new_with_seed(seed);
-        for i in 0..15usize {
-            stream.write(&message[13 * i..13 * i + 13]);
-            let answer = komihash::<V>(&message[..13 * i + 13], seed);
-            same(rt, stream.finish(), answer, i);
-        }
-    }
+    agrees_between::<V>(rt, &pattern(), &ends, 0);
+    agrees_between::<V>(rt, &pattern(), &ends, u64::MAX);
 }
 
 #[test]
 fn goes_on_after_an_answer(rt: HostRuntime) {
-    agrees_by_plain_calls::<4>(&rt);
-    agrees_by_plain_calls::<5>(&rt);
+    goes_on::<4>(&rt);
+    goes_on::<5>(&rt);
 }
 
 #[test]
@@ -144,9 +155,7 @@ fn keeps_the_top_bit_of_a_block_in_version_four(rt: HostRuntime) {
     for last in [0x80, 0x7f] {
         let mut message = [0; 64];
         message[63] = last;
-        let mut stream = v4::StreamedKomihash::new();
-        stream.write(&message);
-        same(&rt, stream.finish(), v4::komihash(&message, 0), 64);
+        agrees_between::<4>(&rt, &message, &[64], 0);
     }
 }
 
@@ -155,9 +164,7 @@ fn agrees_in_one_write<const V: u8>(rt: &impl Abort) {
     let message = pattern();
     for n in 0..=LONGEST {
         for seed in SEEDS {
-            let mut stream = StreamedKomihash::<V>::new_with_seed(seed);
-            stream.write(&message[..n]);
-            same(rt, stream.finish(), komihash::<V>(&message[..n], seed), n);
+            agrees_between::<V>(rt, &message, &[n], seed);
         }
     }
 }
@@ -183,20 +190,23 @@ fn begins_with_seed_zero(rt: HostRuntime) {
     begins_empty::<5>(&rt);
 }
 
+// A run on a new stream of seed 0 gives these answers, and writes nothing behind them.
+fn runs<S: KomiStream>(rt: &impl Abort, calls: &[Call<'_>], answers: &[u64])
+    requires { length calls.now ≤ 200 }
+{
+    let mut out = [9; 200];
+    let count = run::<S>(0, calls, &mut out, &mut Tally::new());
+    same_count(rt, count, answers.len(), calls.len());
+    assert!(rt; out.starts_with(answers));
+    for word in &out[answers.len()..] {
+        same(rt, *word, 9, count);
+    }
+}
+
 #[test]
 fn runs_calls_in_order(rt: HostRuntime) {
-    let mut tally = Tally::new();
-    let message = BLOCK_FIVE;
-    let calls = at_cuts(&message);
-    let mut out = [9; 9];
-    same_count(
-        &rt,
-        run::<v5::StreamedKomihash>(0, &calls, &mut out, &mut tally),
-        5,
-        0,
-    );
-    same_words(&rt, &out, &CUT_ANSWERS, 0);
-
+    let calls = at_cuts(&BLOCK_FIVE);
+    runs::<v5::StreamedKomihash>(&rt, &calls, &CUT_ANSWERS[..5]);
     let message = BLOCK_FOUR;
     let calls = [
         Call::Answer,
@@ -205,48 +215,20 @@ fn runs_calls_in_order(rt: HostRuntime) {
         Call::Absorb(&message[64..]),
         Call::Answer,
     ];
-    let mut out = [9; 5];
-    same_count(
-        &rt,
-        run::<v4::StreamedKomihash>(0, &calls, &mut out, &mut tally),
-        3,
-        1,
-    );
-    same_words(
-        &rt,
-        &out,
-        &[0xb768_3ea7_4301_32b4, 0x2a2f_07ac_9381_0128, 6, 9, 9],
-        1,
-    );
+    let answers = [0xb768_3ea7_4301_32b4, 0x2a2f_07ac_9381_0128, 6];
+    runs::<v4::StreamedKomihash>(&rt, &calls, &answers);
 }
 
 #[test]
 fn runs_few_calls(rt: HostRuntime) {
-    let mut tally = Tally::new();
-    let mut out = [9; 2];
-    same_count(
-        &rt,
-        run::<v5::StreamedKomihash>(0, &[], &mut out, &mut tally),
-        0,
-        0,
-    );
-    same_words(&rt, &out, &[9, 9], 0);
-
-    let message = ZERO;
+    runs::<v5::StreamedKomihash>(&rt, &[], &[]);
     let calls = [
-        Call::Absorb(&message),
+        Call::Absorb(&ZERO),
         Call::Answer,
         Call::Absorb(&[]),
         Call::Answer,
     ];
-    let mut out = [9; 4];
-    same_count(
-        &rt,
-        run::<v5::StreamedKomihash>(0, &calls, &mut out, &mut tally),
-        2,
-        1,
-    );
-    same_words(&rt, &out, &[0, 0, 9, 9], 1);
+    runs::<v5::StreamedKomihash>(&rt, &calls, &[0, 0]);
 }
 
 #[test]
@@ -256,12 +238,8 @@ fn runs_on_in_mid_stream(rt: HostRuntime) {
     stream.write(&message[..1]);
     let calls = [Call::Absorb(&message[1..64]), Call::Answer];
     let mut out = [9; 3];
-    same_count(
-        &rt,
-        run_on(&mut stream, &calls, &mut out, &mut Tally::new()),
-        1,
-        0,
-    );
+    let count = run_on(&mut stream, &calls, &mut out, &mut Tally::new());
+    same_count(&rt, count, 1, 0);
     same_words(&rt, &out, &[0x2a2f_07ac_9381_0128, 9, 9], 0);
     stream.write(&message[64..]);
     same(&rt, stream.finish(), 6, 95);
@@ -272,20 +250,10 @@ fn answers_after_every_byte(rt: HostRuntime) {
     let message = BLOCK_FIVE;
     let absorbs = byte_by_byte(&message);
     let mut calls = [Call::Answer; 190];
+    let mut answers = [0; 95];
     for i in 0..95usize {
         calls[2 * i] = absorbs[i];
+        answers[i] = v5::komihash(&message[..i + 1], 0);
     }
-    let mut out = [9; 190];
-    same_count(
-        &rt,
-        run::<v5::StreamedKomihash>(0, &calls, &mut out, &mut Tally::new()),
-        95,
-        0,
-    );
-    same(&rt, out[63], 0x2a2f_07ac_9381_0128, 63);
-    for answer in &out[79..94] {
-        same(&rt, *answer, 0, 79);
-    }
-    same(&rt, out[94], 6, 94);
-    same(&rt, out[95], 9, 95);
+    runs::<v5::StreamedKomihash>(&rt, &calls, &answers);
 }

@@ -108,58 +108,51 @@ fn absorbs_cost<S: KomiStream>(
     stream.absorb(&bytes[..3], three);
 }
 
-// The same calls in both versions, and their answers at the end.
+fn cuts_answer<S: KomiStream>(rt: &impl Abort, message: &[u8; 95]) {
+    let mut out = [9; 9];
+    let count = cuts_cost::<S>(message, &mut out, &mut Tally::new());
+    same_count(rt, count, 5, 0);
+    same(rt, out[4], 6, 0);
+}
+
+fn pieces_answer<S: KomiStream>(rt: &impl Abort, message: &[u8; 95]) {
+    let mut out = [9; 2];
+    let count = nothing_costs::<S>(&mut out, &mut Tally::new());
+    same_count(rt, count, 0, 0);
+    let count = piece_costs::<S>(message, &mut out, &mut Tally::new());
+    same_count(rt, count, 1, 1);
+    same_words(rt, &out, &[6, 9], 1);
+}
+
+fn bytes_answer<S: KomiStream>(rt: &impl Abort, message: &[u8; 95]) {
+    let mut out = [9; 96];
+    let count = bytes_cost::<S>(message, &mut out, &mut Tally::new());
+    same_count(rt, count, 1, 0);
+    same(rt, out[0], 6, 0);
+}
+
+// The calls above, and their answers at the end.
+fn counted_runs_answer<S: KomiStream>(rt: &impl Abort, message: &[u8; 95]) {
+    cuts_answer::<S>(rt, message);
+    pieces_answer::<S>(rt, message);
+    bytes_answer::<S>(rt, message);
+}
+
 #[test]
 fn counted_runs_answer_as_others(rt: HostRuntime) {
-    let mut tally = Tally::new();
-    let mut out = [9; 9];
-    same_count(
-        &rt,
-        cuts_cost::<v5::StreamedKomihash>(&BLOCK_FIVE, &mut out, &mut tally),
-        5,
-        0,
-    );
-    same(&rt, out[4], 6, 0);
-    same_count(
-        &rt,
-        cuts_cost::<v4::StreamedKomihash>(&BLOCK_FOUR, &mut out, &mut tally),
-        5,
-        1,
-    );
-    same(&rt, out[4], 6, 1);
-    let mut out = [9; 2];
-    same_count(
-        &rt,
-        nothing_costs::<v5::StreamedKomihash>(&mut out, &mut tally),
-        0,
-        2,
-    );
-    same_count(
-        &rt,
-        piece_costs::<v5::StreamedKomihash>(&BLOCK_FIVE, &mut out, &mut tally),
-        1,
-        3,
-    );
-    same_words(&rt, &out, &[6, 9], 3);
-    let mut out = [9; 96];
-    same_count(
-        &rt,
-        bytes_cost::<v5::StreamedKomihash>(&BLOCK_FIVE, &mut out, &mut tally),
-        1,
-        4,
-    );
-    same(&rt, out[0], 6, 4);
-    let mut ten = Tally::new();
-    let mut filled = Tally::new();
-    let mut block = Tally::new();
-    let mut three = Tally::new();
+    counted_runs_answer::<v4::StreamedKomihash>(&rt, &BLOCK_FOUR);
+    counted_runs_answer::<v5::StreamedKomihash>(&rt, &BLOCK_FIVE);
+}
+
+#[test]
+fn absorbs_on_tallies_of_their_own() {
     absorbs_cost::<v5::StreamedKomihash>(
         &[0; 64],
-        &mut tally,
-        &mut ten,
-        &mut filled,
-        &mut block,
-        &mut three,
+        &mut Tally::new(),
+        &mut Tally::new(),
+        &mut Tally::new(),
+        &mut Tally::new(),
+        &mut Tally::new(),
     );
 }
 
@@ -171,13 +164,13 @@ fn takes_no_bytes(rt: HostRuntime) {
 // The sums of the counted hashes and of the plain ones are the same.
 fn agrees_counted<const V: u8>(rt: &impl Abort) {
     let bytes = [0; 100];
-    let mut none = Tally::new();
-    let mut pair = Tally::new();
-    let mut block = Tally::new();
-    let mut more = Tally::new();
-    let mut all = Tally::new();
     let sum = hash_costs::<V>(
-        &bytes, &mut none, &mut pair, &mut block, &mut more, &mut all,
+        &bytes,
+        &mut Tally::new(),
+        &mut Tally::new(),
+        &mut Tally::new(),
+        &mut Tally::new(),
+        &mut Tally::new(),
     );
     let wanted = komihash::<V>(&[], 0)
         ^ komihash::<V>(&bytes[..16], 0)
