@@ -9,6 +9,7 @@ use crate::watched::Watched;
 use komihash::stream::{Call, KomiStream, run_on};
 use komihash::tally::Tally;
 use komihash::{v4, v5};
+use std::process::Abort;
 
 // What the call answers into a chunk of `room` bytes, and how many reads it makes.
 fn digested<S: KomiStream>(
@@ -39,65 +40,79 @@ fn in_five(bytes: &[u8], at_once: usize, most: u64, room: usize) -> Result<u64, 
     digested::<v5::StreamedKomihash>(reader, most, room).0
 }
 
+// The hash, or the name of the fault, of bytes that come so many at once.
+fn digests(
+    rt: &impl Abort,
+    bytes: &[u8],
+    at_once: usize,
+    most: u64,
+    room: usize,
+    answer: Result<u64, &'static str>,
+)
+    requires room { 0 < room }
+    requires fits { room ≤ 96 }
+    requires most { most < 2 ^ 63 }
+{
+    let given = in_five(bytes, at_once, most, room);
+    assert!(rt;
+        given == answer,
+        "another answer for {most} bytes by {room}"
+    );
+}
+
 #[test]
 fn any_chunk(rt: HostRuntime) {
     for room in [1, 7, 64, 95, 96] {
-        assert_eq!(rt;
-            in_five(&TO_ZERO, 96, 16, room),
-            Ok(0),
-            "16 bytes by {room}"
-        );
-        assert_eq!(rt;
-            in_five(&TO_ZERO, 96, 15, room),
-            Err("too long"),
-            "16 bytes by {room}"
-        );
-        assert_eq!(rt; in_five(&TO_SIX, 96, 95, room), Ok(6), "95 bytes by {room}");
-        assert_eq!(rt;
-            in_five(&TO_SIX, 1, 95, room),
-            Ok(6),
-            "one by one, by {room}"
-        );
-        assert_eq!(rt;
-            in_five(&TO_SIX, 96, 94, room),
-            Err("too long"),
-            "95 bytes by {room}"
-        );
+        digests(&rt, &TO_ZERO, 96, 16, room, Ok(0));
+        digests(&rt, &TO_ZERO, 96, 15, room, Err("too long"));
+        digests(&rt, &TO_SIX, 96, 95, room, Ok(6));
+        digests(&rt, &TO_SIX, 1, 95, room, Ok(6));
+        digests(&rt, &TO_SIX, 96, 94, room, Err("too long"));
     }
-    assert_eq!(rt; in_five(b"", 96, 0, 96), Ok(0xb7683ea7430132b4));
-    assert_eq!(rt; in_five(b"a", 96, 0, 96), Err("too long"));
+    digests(&rt, b"", 96, 0, 96, Ok(0xb7683ea7430132b4));
+    digests(&rt, b"a", 96, 0, 96, Err("too long"));
 }
 
 #[test]
 fn version_four(rt: HostRuntime) {
     let reader = FakeReader::new(&TO_SEVEN, 7, Calls::endless());
     let (answer, _) = digested::<v4::StreamedKomihash>(reader, 31, 96);
-    assert_eq!(rt; answer, Ok(7));
+    assert!(rt; answer == Ok(7));
+}
+
+// The answer, and the reads that are made.
+fn digests_by(
+    rt: &impl Abort,
+    reader: FakeReader<'_>,
+    most: u64,
+    answer: Result<u64, &'static str>,
+    reads: usize,
+)
+    requires { most < 2 ^ 63 }
+{
+    let (given, made) = digested::<v5::StreamedKomihash>(reader, most, 96);
+    assert!(rt; given == answer, "another answer after {made} reads");
+    assert!(rt; made == reads, "{made} reads and not {reads}");
 }
 
 #[test]
 fn nothing_is_read_after_a_fault(rt: HostRuntime) {
     for call in 1..=15 {
         let reader = FakeReader::new(&TO_SIX, 7, Calls::stopping(Stop::Fails, call));
-        let answer = digested::<v5::StreamedKomihash>(reader, 95, 96);
-        assert_eq!(rt; answer, (Err("read failed"), call));
+        digests_by(&rt, reader, 95, Err("read failed"), call);
     }
     let reader = FakeReader::new(&TO_ZERO, 8, Calls::stopping(Stop::Fails, 2));
-    let answer = digested::<v5::StreamedKomihash>(reader, 16, 96);
-    assert_eq!(rt; answer, (Err("read failed"), 2));
+    digests_by(&rt, reader, 16, Err("read failed"), 2);
     let reader = FakeReader::new(&TO_SIX, 7, Calls::stopping(Stop::Fails, 16));
-    let answer = digested::<v5::StreamedKomihash>(reader, 95, 96);
-    assert_eq!(rt; answer, (Ok(6), 15));
+    digests_by(&rt, reader, 95, Ok(6), 15);
     let reader = FakeReader::new(&TO_SIX, 7, Calls::endless());
-    let answer = digested::<v5::StreamedKomihash>(reader, 20, 96);
-    assert_eq!(rt; answer, (Err("too long"), 3));
+    digests_by(&rt, reader, 20, Err("too long"), 3);
 }
 
 #[test]
 fn a_read_of_none_is_the_end(rt: HostRuntime) {
     let reader = FakeReader::new(&TO_SIX, 64, Calls::stopping(Stop::MovesNone, 2));
-    let answer = digested::<v5::StreamedKomihash>(reader, 95, 96);
-    assert_eq!(rt; answer, (Ok(0x2a2f07ac93810128), 2));
+    digests_by(&rt, reader, 95, Ok(0x2a2f07ac93810128), 2);
 }
 
 // The hash of bytes that come in pieces. Behind each piece the stream is saved, and another one is
@@ -122,7 +137,7 @@ fn digested_with_rests<S: KomiStream>(bytes: &[u8], size: usize) -> Option<u64>
 fn rests_change_nothing(rt: HostRuntime) {
     for size in [1, 7, 63, 64, 95] {
         let rested = digested_with_rests::<v5::StreamedKomihash>(&TO_SIX, size);
-        assert_eq!(rt; rested, Some(6), "pieces of {size}");
-        assert_eq!(rt; in_five(&TO_SIX, 96, 95, size), Ok(6), "chunks of {size}");
+        assert!(rt; rested == Some(6), "pieces of {size}");
+        digests(&rt, &TO_SIX, 96, 95, size, Ok(6));
     }
 }

@@ -2,10 +2,12 @@
 
 use super::fakes::{Calls, FakeReader, FakeWriter, Stop};
 use super::messages::TO_SEVEN;
+use crate::hex::hex_line;
 use crate::program::run;
 use crate::watched::Watched;
 use std::alloc::Global;
 use std::env::FillError;
+use std::process::Abort;
 use std::rt::Env;
 
 // An environment of these words, and no variables.
@@ -50,52 +52,56 @@ fn ran(
     )
 }
 
-// The same with nothing that stops.
-fn ran_well(alloc: Global, words: &[&[u8]]) -> (&'static str, usize, FakeWriter) {
+// What it says, and what it writes.
+fn says(rt: &impl Abort, given: (&'static str, usize, FakeWriter), text: &str, taken: &[u8]) {
+    let (said, _, writer) = given;
+    assert!(rt; said == text, "{said} and not {text}");
+    assert!(rt; writer.taken() == taken, "other bytes, and {text}");
+}
+
+// The words, with nothing that stops, and the line that they ask for.
+fn writes(rt: &impl Abort, alloc: Global, words: &[&[u8]], line: &[u8; 17]) {
     let writer = FakeWriter::new(usize::MAX, Calls::endless());
-    ran(alloc, words, Calls::endless(), writer)
+    says(rt, ran(alloc, words, Calls::endless(), writer), "ok", line);
 }
 
 #[test]
 fn lines_for_words(rt: HostRuntime) {
-    let lines: [(&[&[u8]], &[u8]); 4] = [
-        (&[b"komisum"], b"8000000000000000\n"),
-        (&[b"komisum", b"5", b"0"], b"8000000000000000\n"),
-        (&[b"komisum", b"4", b"0"], b"0000000000000007\n"),
-        (&[], b"8000000000000000\n"),
-    ];
-    for (words, line) in lines {
-        let (text, _, writer) = ran_well(rt.alloc(), words);
-        assert_eq!(rt; text, "ok");
-        assert_eq!(rt; writer.taken(), line);
-    }
+    let high = b"8000000000000000\n";
+    writes(&rt, rt.alloc(), &[b"komisum"], high);
+    writes(&rt, rt.alloc(), &[b"komisum", b"5", b"0"], high);
+    writes(
+        &rt,
+        rt.alloc(),
+        &[b"komisum", b"4", b"0"],
+        b"0000000000000007\n",
+    );
+    writes(&rt, rt.alloc(), &[], high);
 }
 
 #[test]
 fn seeds_of_words(rt: HostRuntime) {
-    let (_, _, writer) = ran_well(rt.alloc(), &[b"komisum", b"4", b"1f"]);
-    let line = crate::hex::hex_line(komihash::v4::komihash(&TO_SEVEN, 0x1f));
-    assert_eq!(rt; writer.taken(), line.as_slice());
-    let (_, _, writer) = ran_well(rt.alloc(), &[b"komisum", b"5", b"1f"]);
-    let line = crate::hex::hex_line(komihash::v5::komihash(&TO_SEVEN, 0x1f));
-    assert_eq!(rt; writer.taken(), line.as_slice());
+    let four = hex_line(komihash::v4::komihash(&TO_SEVEN, 0x1f));
+    writes(&rt, rt.alloc(), &[b"komisum", b"4", b"1f"], &four);
+    let five = hex_line(komihash::v5::komihash(&TO_SEVEN, 0x1f));
+    writes(&rt, rt.alloc(), &[b"komisum", b"5", b"1f"], &five);
+}
+
+// Words that ask for nothing: nothing is read, and nothing written.
+fn refuses(rt: &impl Abort, alloc: Global, words: &[&[u8]]) {
+    let writer = FakeWriter::new(usize::MAX, Calls::endless());
+    let (text, reads, writer) = ran(alloc, words, Calls::endless(), writer);
+    assert!(rt; text == "usage: komisum [4|5 SEED]");
+    assert!(rt; reads == 0 && writer.calls() == 0);
 }
 
 #[test]
 fn words_that_are_refused(rt: HostRuntime) {
-    let refused: [&[&[u8]]; 5] = [
-        &[b"komisum", b"4"],
-        &[b"komisum", b"5", b"\xff"],
-        &[b"komisum", b"5", b"0", b"0"],
-        &[b"komisum", b"5", b"FF"],
-        &[b"komisum", b"5", b"00000000000000000"],
-    ];
-    for words in refused {
-        let (text, reads, writer) = ran_well(rt.alloc(), words);
-        assert_eq!(rt; text, "usage: komisum [4|5 SEED]");
-        assert_eq!(rt; reads, 0);
-        assert_eq!(rt; writer.calls(), 0);
-    }
+    refuses(&rt, rt.alloc(), &[b"komisum", b"4"]);
+    refuses(&rt, rt.alloc(), &[b"komisum", b"5", b"\xff"]);
+    refuses(&rt, rt.alloc(), &[b"komisum", b"5", b"0", b"0"]);
+    refuses(&rt, rt.alloc(), &[b"komisum", b"5", b"FF"]);
+    refuses(&rt, rt.alloc(), &[b"komisum", b"5", b"00000000000000000"]);
 }
 
 #[test]
@@ -103,11 +109,9 @@ fn faults(rt: HostRuntime) {
     let writer = FakeWriter::new(usize::MAX, Calls::endless());
     let calls = Calls::stopping(Stop::Fails, 3);
     let (text, reads, writer) = ran(rt.alloc(), &[b"komisum"], calls, writer);
-    assert_eq!(rt; text, "read failed");
-    assert_eq!(rt; reads, 3);
-    assert_eq!(rt; writer.calls(), 0);
+    assert!(rt; text == "read failed");
+    assert!(rt; reads == 3 && writer.calls() == 0);
     let writer = FakeWriter::new(5, Calls::stopping(Stop::Fails, 2));
-    let (text, _, writer) = ran(rt.alloc(), &[b"komisum"], Calls::endless(), writer);
-    assert_eq!(rt; text, "write failed");
-    assert_eq!(rt; writer.taken(), b"80000".as_slice());
+    let given = ran(rt.alloc(), &[b"komisum"], Calls::endless(), writer);
+    says(&rt, given, "write failed", b"80000");
 }

@@ -1,5 +1,7 @@
 //! Lines of inputs, and what faults leave.
 
+ghost use Rattle.std.specs.Prelude.{◌≤◌};
+
 use super::fakes::{Calls, FakeReader, FakeWriter, Stop};
 use super::messages::{TO_SEVEN, TO_SIX, TO_ZERO};
 use crate::fault::Fault;
@@ -7,8 +9,12 @@ use crate::hex::hex_line;
 use crate::show::show;
 use crate::version::Version;
 use crate::watched::Watched;
+use std::process::Abort;
 
 static ZEROS: [u8; 5000] = [0; 5000];
+
+// The line of the hash 0.
+const LINE_OF_ZERO: &[u8; 17] = b"0000000000000000\n";
 
 // What a call's answer is called.
 fn name(answer: Result<(), Fault>) -> &'static str {
@@ -46,102 +52,100 @@ fn written_by(bytes: &[u8], at_once: usize, calls: Calls) -> (&'static str, Fake
     (answer, writer)
 }
 
+// What a call leaves: the name of its answer, and of its writer the bytes taken and the calls made.
+fn leaves(
+    rt: &impl Abort,
+    left: (&'static str, FakeWriter),
+    name: &str,
+    taken: &[u8],
+    calls: usize,
+) {
+    let (given, writer) = left;
+    assert!(rt; given == name, "{given} and not {name}");
+    assert!(rt; writer.taken() == taken, "other bytes, and {name}");
+    assert!(rt;
+        writer.calls() == calls,
+        "other calls than {calls}, and {name}"
+    );
+}
+
+// The line of some bytes is written whole and flushed.
+fn writes(rt: &impl Abort, bytes: &[u8], version: Version, seed: u64, line: &[u8; 17]) {
+    leaves(rt, line_of(bytes, version, seed), "ok", line, 2);
+}
+
 #[test]
 fn lines_of_version_five(rt: HostRuntime) {
-    let lines: [(&[u8], u64, &[u8; 17]); 6] = [
-        (b"a", 0, b"5117f5064cfd0faa\n"),
-        (b"", 0, b"b7683ea7430132b4\n"),
-        (b"", 0xffffffffffffffff, b"4bcc041f3f885859\n"),
-        (&TO_ZERO, 0, b"0000000000000000\n"),
-        (&TO_SIX, 0, b"0000000000000006\n"),
-        (&TO_SEVEN, 0, b"8000000000000000\n"),
-    ];
-    for (bytes, seed, line) in lines {
-        let (answer, writer) = line_of(bytes, Version::Five, seed);
-        assert_eq!(rt; answer, "ok");
-        assert_eq!(rt; writer.taken(), line.as_slice());
-        assert_eq!(rt; writer.calls(), 2, "a write and a flush");
-    }
+    writes(&rt, b"a", Version::Five, 0, b"5117f5064cfd0faa\n");
+    writes(&rt, b"", Version::Five, 0, b"b7683ea7430132b4\n");
+    writes(&rt, b"", Version::Five, u64::MAX, b"4bcc041f3f885859\n");
+    writes(&rt, &TO_ZERO, Version::Five, 0, LINE_OF_ZERO);
+    writes(&rt, &TO_SIX, Version::Five, 0, b"0000000000000006\n");
+    writes(&rt, &TO_SEVEN, Version::Five, 0, b"8000000000000000\n");
 }
 
 #[test]
 fn line_of_version_four(rt: HostRuntime) {
-    let (answer, writer) = line_of(&TO_SEVEN, Version::Four, 0);
-    assert_eq!(rt; answer, "ok");
-    assert_eq!(rt; writer.taken(), b"0000000000000007\n".as_slice());
+    writes(&rt, &TO_SEVEN, Version::Four, 0, b"0000000000000007\n");
 }
 
 #[test]
 fn lines_of_zeros(rt: HostRuntime) {
     for length in [63, 4096, 4097, 5000] {
         let zeros = &ZEROS[..length];
-        let (answer, writer) = line_of(zeros, Version::Five, 0);
-        assert_eq!(rt; answer, "ok");
-        assert_eq!(rt;
-            writer.taken(),
-            hex_line(komihash::v5::komihash(zeros, 0)).as_slice()
-        );
+        let line = hex_line(komihash::v5::komihash(zeros, 0));
+        writes(&rt, zeros, Version::Five, 0, &line);
     }
+}
+
+// Reads of seven bytes, of which one fails, and after which nothing more is read: the answer, the
+// reads that are made, and what is written.
+fn read_at(rt: &impl Abort, call: usize, name: &str, reads: usize, taken: &[u8], calls: usize) {
+    let reader = FakeReader::new(&TO_SIX, 7, Calls::stopping(Stop::Fails, call));
+    let writer = FakeWriter::new(usize::MAX, Calls::endless());
+    let (answer, reader, writer) = shown(reader, writer, Version::Five, 0);
+    leaves(rt, (answer, writer), name, taken, calls);
+    assert!(rt; reader.reads() == reads, "other reads than {reads}");
 }
 
 #[test]
 fn reads_that_fail(rt: HostRuntime) {
     for call in 1..=15 {
-        let reader = FakeReader::new(&TO_SIX, 7, Calls::stopping(Stop::Fails, call));
-        let writer = FakeWriter::new(usize::MAX, Calls::endless());
-        let (answer, reader, writer) = shown(reader, writer, Version::Five, 0);
-        assert_eq!(rt; answer, "read failed", "at call {call}");
-        assert_eq!(rt; reader.reads(), call);
-        assert_eq!(rt; writer.calls(), 0);
+        read_at(&rt, call, "read failed", call, b"", 0);
     }
-    let reader = FakeReader::new(&TO_SIX, 7, Calls::stopping(Stop::Fails, 16));
-    let writer = FakeWriter::new(usize::MAX, Calls::endless());
-    let (answer, reader, writer) = shown(reader, writer, Version::Five, 0);
-    assert_eq!(rt; answer, "ok");
-    assert_eq!(rt; reader.reads(), 15);
-    assert_eq!(rt; writer.taken(), b"0000000000000006\n".as_slice());
+    read_at(&rt, 16, "ok", 15, b"0000000000000006\n", 2);
+}
+
+// A line of zeros, of which so many bytes are taken at once, where a call stops: a write fails there.
+fn write_at(rt: &impl Abort, at_once: usize, stop: Stop, call: usize) {
+    let before = 17.min(at_once.saturating_mul(call.saturating_sub(1)));
+    let left = written_by(&TO_ZERO, at_once, Calls::stopping(stop, call));
+    leaves(rt, left, "write failed", &LINE_OF_ZERO[..before], call);
+}
+
+// Each write fails in turn, and then the flush; behind them none is left to fail.
+fn writes_at(rt: &impl Abort, at_once: usize, writes: usize)
+    requires { writes ≤ 17 }
+{
+    for call in 1..=writes + 1 {
+        write_at(rt, at_once, Stop::Fails, call);
+    }
+    let left = written_by(&TO_ZERO, at_once, Calls::stopping(Stop::Fails, writes + 2));
+    leaves(rt, left, "ok", LINE_OF_ZERO, writes + 1);
 }
 
 #[test]
 fn writes_that_fail(rt: HostRuntime) {
-    let line = b"0000000000000000\n";
-    for at_once in [1, 5, 17] {
-        let writes = 17usize.div_ceil(at_once);
-        for call in 1..=writes + 1 {
-            let (answer, writer) = written_by(
-                &TO_ZERO,
-                at_once,
-                Calls::stopping(Stop::Fails, call),
-            );
-            let before = 17.min(at_once.saturating_mul(call - 1));
-            assert_eq!(rt; answer, "write failed", "at call {call} of {at_once} bytes");
-            assert_eq!(rt;
-                writer.taken(),
-                &line[..before],
-                "at call {call} of {at_once} bytes"
-            );
-            assert_eq!(rt; writer.calls(), call);
-        }
-        let (answer, writer) = written_by(
-            &TO_ZERO,
-            at_once,
-            Calls::stopping(Stop::Fails, writes + 2),
-        );
-        assert_eq!(rt; answer, "ok");
-        assert_eq!(rt; writer.taken(), line.as_slice());
-        assert_eq!(rt; writer.calls(), writes + 1);
-    }
-    let (answer, writer) = written_by(b"", 5, Calls::stopping(Stop::Fails, 2));
-    assert_eq!(rt; answer, "write failed");
-    assert_eq!(rt; writer.taken(), b"b7683".as_slice());
+    writes_at(&rt, 1, 17);
+    writes_at(&rt, 5, 4);
+    writes_at(&rt, 17, 1);
+    let left = written_by(b"", 5, Calls::stopping(Stop::Fails, 2));
+    leaves(&rt, left, "write failed", b"b7683", 2);
 }
 
 #[test]
 fn writes_of_none(rt: HostRuntime) {
     for call in 1..=4usize {
-        let (answer, writer) = written_by(&TO_ZERO, 5, Calls::stopping(Stop::MovesNone, call));
-        assert_eq!(rt; answer, "write failed", "at call {call}");
-        assert_eq!(rt; writer.taken(), &b"0000000000000000\n"[..5 * (call - 1)]);
-        assert_eq!(rt; writer.calls(), call);
+        write_at(&rt, 5, Stop::MovesNone, call);
     }
 }

@@ -6,6 +6,7 @@ use crate::fault::Fault;
 use crate::refusal::Refusal;
 use crate::report::report;
 use crate::watched::Watched;
+use std::process::Abort;
 
 #[test]
 fn texts_of_faults(rt: HostRuntime) {
@@ -14,30 +15,46 @@ fn texts_of_faults(rt: HostRuntime) {
     assert_eq!(rt; Fault::Write.text(), "write failed");
 }
 
+// The line of an ending on standard error, and its status.
+fn reports(rt: &impl Abort, ending: Ending, line: &[u8], status: u8) {
+    let mut errors = Watched::new(FakeWriter::new(7, Calls::endless()));
+    report(&mut errors, &ending);
+    assert!(rt;
+        errors.into_inner().taken() == line,
+        "another line at status {status}"
+    );
+    assert!(rt; ending.status() == status, "another status than {status}");
+}
+
 #[test]
 fn lines_and_statuses(rt: HostRuntime) {
-    let endings: [(Ending, &[u8], u8); 6] = [
-        (Ending::Shown, b"", 0),
-        (Ending::Failed(Fault::Read), b"komisum: read failed\n", 1),
-        (Ending::Failed(Fault::TooLong), b"komisum: too long\n", 1),
-        (Ending::Failed(Fault::Write), b"komisum: write failed\n", 1),
-        (
-            Ending::Refused(Refusal::NoMemory),
-            b"komisum: no memory\n",
-            1,
-        ),
-        (
-            Ending::Refused(Refusal::Usage),
-            b"komisum: usage: komisum [4|5 SEED]\n",
-            2,
-        ),
-    ];
-    for (ending, line, status) in endings {
-        let mut errors = Watched::new(FakeWriter::new(7, Calls::endless()));
-        report(&mut errors, &ending);
-        assert_eq!(rt; errors.into_inner().taken(), line);
-        assert_eq!(rt; ending.status(), status);
-    }
+    reports(&rt, Ending::Shown, b"", 0);
+    reports(
+        &rt,
+        Ending::Failed(Fault::Read),
+        b"komisum: read failed\n",
+        1,
+    );
+    reports(
+        &rt,
+        Ending::Failed(Fault::TooLong),
+        b"komisum: too long\n",
+        1,
+    );
+    reports(
+        &rt,
+        Ending::Failed(Fault::Write),
+        b"komisum: write failed\n",
+        1,
+    );
+    reports(
+        &rt,
+        Ending::Refused(Refusal::NoMemory),
+        b"komisum: no memory\n",
+        1,
+    );
+    let usage = b"komisum: usage: komisum [4|5 SEED]\n";
+    reports(&rt, Ending::Refused(Refusal::Usage), usage, 2);
 }
 
 #[test]
