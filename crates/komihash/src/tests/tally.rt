@@ -122,20 +122,16 @@ fn pieces_answer<S: KomiStream>(rt: &impl Abort, message: &[u8; 95]) {
     let count = piece_costs::<S>(message, &mut out, &mut Tally::new());
     same_count(rt, count, 1, 1);
     same_words(rt, &out, &[6, 9], 1);
-}
-
-fn bytes_answer<S: KomiStream>(rt: &impl Abort, message: &[u8; 95]) {
     let mut out = [9; 96];
     let count = bytes_cost::<S>(message, &mut out, &mut Tally::new());
-    same_count(rt, count, 1, 0);
-    same(rt, out[0], 6, 0);
+    same_count(rt, count, 1, 2);
+    same(rt, out[0], 6, 2);
 }
 
 // The calls above, and their answers at the end.
 fn counted_runs_answer<S: KomiStream>(rt: &impl Abort, message: &[u8; 95]) {
     cuts_answer::<S>(rt, message);
     pieces_answer::<S>(rt, message);
-    bytes_answer::<S>(rt, message);
 }
 
 #[test]

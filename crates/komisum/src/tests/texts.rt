@@ -26,35 +26,25 @@ fn reports(rt: &impl Abort, ending: Ending, line: &[u8], status: u8) {
     assert!(rt; ending.status() == status, "another status than {status}");
 }
 
+// The line of a fault. All have the same status.
+fn fails(rt: &impl Abort, fault: Fault, line: &[u8]) {
+    reports(rt, Ending::Failed(fault), line, 1);
+}
+
+// The line of a refusal, and its status.
+fn refuses(rt: &impl Abort, refusal: Refusal, line: &[u8], status: u8) {
+    reports(rt, Ending::Refused(refusal), line, status);
+}
+
 #[test]
 fn lines_and_statuses(rt: HostRuntime) {
     reports(&rt, Ending::Shown, b"", 0);
-    reports(
-        &rt,
-        Ending::Failed(Fault::Read),
-        b"komisum: read failed\n",
-        1,
-    );
-    reports(
-        &rt,
-        Ending::Failed(Fault::TooLong),
-        b"komisum: too long\n",
-        1,
-    );
-    reports(
-        &rt,
-        Ending::Failed(Fault::Write),
-        b"komisum: write failed\n",
-        1,
-    );
-    reports(
-        &rt,
-        Ending::Refused(Refusal::NoMemory),
-        b"komisum: no memory\n",
-        1,
-    );
+    fails(&rt, Fault::Read, b"komisum: read failed\n");
+    fails(&rt, Fault::TooLong, b"komisum: too long\n");
+    fails(&rt, Fault::Write, b"komisum: write failed\n");
+    refuses(&rt, Refusal::NoMemory, b"komisum: no memory\n", 1);
     let usage = b"komisum: usage: komisum [4|5 SEED]\n";
-    reports(&rt, Ending::Refused(Refusal::Usage), usage, 2);
+    refuses(&rt, Refusal::Usage, usage, 2);
 }
 
 #[test]
