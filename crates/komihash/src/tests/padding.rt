@@ -131,8 +131,8 @@ fn reads_back(rt: &impl Abort, version: u8, message: &[u8])
 {
     let n = message.len();
     let mut words = [7; 11];
-    let count = pad(version, message, &mut words).min(11);
-    same_count(rt, count, n / 8 + 1, n);
+    let count = n / 8 + 1;
+    same_count(rt, pad(version, message, &mut words), count, n);
     let mut out = [0xee; 89];
     let mut wanted = [0xee; 89];
     wanted[..n].copy_from_slice(message);

@@ -255,5 +255,10 @@ fn answers_after_every_byte(rt: HostRuntime) {
         calls[2 * i] = absorbs[i];
         answers[i] = v5::komihash(&message[..i + 1], 0);
     }
+    same(&rt, answers[63], 0x2a2f_07ac_9381_0128, 63);
+    for answer in &answers[79..94] {
+        same(&rt, *answer, 0, 79);
+    }
+    same(&rt, answers[94], 6, 94);
     runs::<v5::StreamedKomihash>(&rt, &calls, &answers);
 }
