@@ -1,7 +1,7 @@
 -- The text that a stream is saved as.
 use Rattle.std.specs.Prelude.{ℕ, ◌≡◌, ◌+◌, ◌<◌, ◌≤◌, Bool, List, [], ◌∷◌, ◌++◌, length, slice_index, if◌then◌else◌}
 use Rattle.komihash.specs.Rounds.{Lanes}
-use Rattle.komihash.specs.Stream.{State, IsState}
+use Rattle.komihash.specs.Stream.{State, IsState, HasAbsorbed}
 use Rattle.komihash.specs.Words.{all_bytes}
 
 -- a flag as a byte
@@ -25,7 +25,11 @@ text v s = head v s ++ all_bytes (in_order s.lanes) ++ s.pending
 abbrev pub IsText : ℕ → List ℕ → Type 0
 IsText v bytes = (s : State) × IsState v s × (text v s ≡ bytes)
 
--- the same by the first four bytes and the length, as the code tests it
+-- the bytes are the text of a stream of version v that has absorbed the message m from the seed
+unfoldable pub IsTextAfter : ℕ → ℕ → List ℕ → List ℕ → Type 0
+IsTextAfter v seed m bytes = (s : State) × IsState v s × HasAbsorbed v seed s m × (text v s ≡ bytes)
+
+-- the same as IsText by the first four bytes and the length, as the code tests it
 pub record IsLaidOut (v : ℕ) (bytes : List ℕ) : Type 0 where
   pub version : slice_index bytes 0 ≡ v
   pub absorbed : slice_index bytes 1 < 2

@@ -2,7 +2,8 @@
 
 mod length;
 
-ghost use Rattle.std.specs.Prelude.{◌≡◌, ◌+◌, ◌*◌, ◌/◌, ◌≤◌, ◌↔◌, IfSome, IfNone, IsNone, length, take, drop};
+ghost use Rattle.std.specs.Prelude.{◌≡◌, ◌+◌, ◌*◌, ◌/◌, ◌≤◌, ◌↔◌, IfSome, IfNone, IsNone, IsSomeAnd, List, ℕ, length, take, drop};
+ghost use Rattle.komihash.specs.Words.{AreBytes};
 ghost use Rattle.komihash.specs.Padding.{ArePadded, has_top_bit, padded_words, padding_behind};
 
 use crate::tails::final_word;
@@ -46,6 +47,8 @@ pub(crate) fn unpad<const V: u8>(words: &[u64], out: &mut [u8]) -> Option<usize>
     ensures length { IfSome result (λ n. n / 8 + 1 ≡ length words.now) }
     ensures message { IfSome result (λ n. padded_words V (take n out.new) ≡ words.now) }
     ensures rest { IfSome result (λ n. drop n out.new ≡ drop n out.old) }
+    ensures same { (m : List ℕ) → AreBytes m → padded_words V m ≡ words.now
+        → IsSomeAnd result (λ n. take n out.new ≡ m) }
     ensures none { IsNone result ↔ ¬ ArePadded V words.now }
     ensures unchanged { IfNone result (out.new ≡ out.old) }
 {

@@ -1,10 +1,10 @@
 //! What the streams of both versions share, and runs of calls on one.
 
-ghost use Rattle.std.specs.Prelude.{◌≡◌, ℕ, ◌+◌, ◌<◌, ◌≤◌, ◌⊎◌, ◌↔◌, IfSome, IsSomeAnd, IsNone, List, ◌++◌, length, take, drop};
+ghost use Rattle.std.specs.Prelude.{◌≡◌, ℕ, ◌+◌, ◌<◌, ◌≤◌, ◌⊎◌, ◌↔◌, IfSome, IsSomeAnd, IsNone, List, [], ◌++◌, length, take, drop};
 ghost use Rattle.komihash.specs.Calls.{answers_after, answers, onward, bytes_of_calls, onward_products, onward_kept, run_products, run_kept};
 ghost use Rattle.komihash.specs.Counts.{write_products, answer_products, kept_bytes};
 ghost use Rattle.komihash.specs.Hash.{komi};
-ghost use Rattle.komihash.specs.Saved.{text, IsText};
+ghost use Rattle.komihash.specs.Saved.{text, IsText, IsTextAfter};
 ghost use Rattle.komihash.specs.Stream.{State, IsState, HasAbsorbed, start, absorb, answer};
 
 mod engine;
@@ -26,6 +26,7 @@ pub trait KomiStream: Sized + Drop {
     /// The new stream of a seed; the tally rises by one product.
     fn start(seed: u64, tally: &mut Tally) -> Self
         ensures state { state result ≡ start seed }
+        ensures message { HasAbsorbed VERSION seed (state result) [] }
         ensures products { tally.new.products ≡ tally.old.products + 1 }
         ensures kept { tally.new.kept ≡ tally.old.kept };
 
@@ -33,6 +34,8 @@ pub trait KomiStream: Sized + Drop {
     /// bytes that are kept.
     fn absorb(&mut self, bytes: &[u8], tally: &mut Tally)
         ensures state { state self.new ≡ absorb VERSION (state self.old) bytes.now }
+        ensures message { (seed : ℕ) (m : List ℕ) → HasAbsorbed VERSION seed (state self.old) m
+            → HasAbsorbed VERSION seed (state self.new) (m ++ bytes.now) }
         ensures products { tally.new.products
             ≡ tally.old.products + write_products (length (state self.old).pending) (length bytes.now) }
         ensures kept { tally.new.kept
@@ -42,6 +45,8 @@ pub trait KomiStream: Sized + Drop {
     /// it is, and may go on.
     fn answer(&self, tally: &mut Tally) -> u64
         ensures answer { result ≡ answer VERSION (state self.now) }
+        ensures hash { (seed : ℕ) (m : List ℕ) → HasAbsorbed VERSION seed (state self.now) m
+            → result ≡ komi VERSION seed m }
         ensures products { tally.new.products
             ≡ tally.old.products + answer_products (length (state self.now).pending) }
         ensures kept { tally.new.kept ≡ tally.old.kept };
@@ -53,6 +58,8 @@ pub trait KomiStream: Sized + Drop {
         ensures length { result ≡ length (text VERSION (state self.now)) }
         ensures most { result ≤ 131 }
         ensures text { take result out.new ≡ text VERSION (state self.now) }
+        ensures message { (seed : ℕ) (m : List ℕ) → HasAbsorbed VERSION seed (state self.now) m
+            → IsTextAfter VERSION seed m (take result out.new) }
         ensures rest { drop result out.new ≡ drop result out.old };
 
     /// The stream whose text the bytes are, and `None` where they are the text of no stream of this
@@ -61,6 +68,8 @@ pub trait KomiStream: Sized + Drop {
         ensures text { IfSome result (λ stream. text VERSION (state stream) ≡ bytes.now) }
         ensures same { (s : State) → IsState VERSION s → text VERSION s ≡ bytes.now
             → IsSomeAnd result (λ stream. state stream ≡ s) }
+        ensures message { (seed : ℕ) (m : List ℕ) → IsTextAfter VERSION seed m bytes.now
+            → IsSomeAnd result (λ stream. HasAbsorbed VERSION seed (state stream) m) }
         ensures none { IsNone result ↔ ¬ IsText VERSION bytes.now };
 
     ghost versions: { (VERSION ≡ 4) ⊎ (VERSION ≡ 5) };

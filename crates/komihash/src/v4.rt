@@ -1,8 +1,9 @@
 //! Komihash version 4.
 
-ghost use Rattle.std.specs.Prelude.{◌≡◌, ◌+◌, ◌*◌, ◌/◌, ◌≤◌, ◌↔◌, IfSome, IfNone, IsNone, length, take, drop};
+ghost use Rattle.std.specs.Prelude.{◌≡◌, ◌+◌, ◌*◌, ◌/◌, ◌≤◌, ◌↔◌, IfSome, IfNone, IsNone, IsSomeAnd, List, ℕ, length, take, drop};
 ghost use Rattle.komihash.specs.Counts.{hash_products};
 ghost use Rattle.komihash.specs.Hash.{komi};
+ghost use Rattle.komihash.specs.Words.{AreBytes};
 ghost use Rattle.komihash.specs.Padding.{ArePadded, padded_words};
 
 use crate::tally::Tally;
@@ -60,6 +61,8 @@ pub fn unpad(words: &[u64], out: &mut [u8]) -> Option<usize>
     ensures length { IfSome result (λ n. n / 8 + 1 ≡ length words.now) }
     ensures message { IfSome result (λ n. padded_words 4 (take n out.new) ≡ words.now) }
     ensures rest { IfSome result (λ n. drop n out.new ≡ drop n out.old) }
+    ensures same { (m : List ℕ) → AreBytes m → padded_words 4 m ≡ words.now
+        → IsSomeAnd result (λ n. take n out.new ≡ m) }
     ensures none { IsNone result ↔ ¬ ArePadded 4 words.now }
     ensures unchanged { IfNone result (out.new ≡ out.old) }
 {

@@ -4,7 +4,7 @@ mod komi_stream;
 
 ghost use Rattle.std.specs.Prelude.{◌≡◌, ◌≤◌, ◌↔◌, ℕ, IfSome, IsSomeAnd, IsNone, List, [], ◌++◌, length, take, drop};
 ghost use Rattle.komihash.specs.Hash.{komi};
-ghost use Rattle.komihash.specs.Saved.{text, IsText};
+ghost use Rattle.komihash.specs.Saved.{text, IsText, IsTextAfter};
 ghost use Rattle.komihash.specs.Stream.{State, IsState, HasAbsorbed, start, absorb, answer};
 
 use super::engine::Engine;
@@ -86,6 +86,8 @@ impl<const V: u8> StreamedKomihash<V> {
         ensures length { result ≡ length (text V self.now.state) }
         ensures most { result ≤ 131 }
         ensures text { take result out.new ≡ text V self.now.state }
+        ensures message { (seed : ℕ) (m : List ℕ) → HasAbsorbed V seed self.now.state m
+            → IsTextAfter V seed m (take result out.new) }
         ensures rest { drop result out.new ≡ drop result out.old }
     {
         self.engine.save(out)
@@ -98,6 +100,8 @@ impl<const V: u8> StreamedKomihash<V> {
         ensures text { IfSome result (λ stream. text V stream.state ≡ bytes.now) }
         ensures same { (s : State) → IsState V s → text V s ≡ bytes.now
             → IsSomeAnd result (λ stream. stream.state ≡ s) }
+        ensures message { (seed : ℕ) (m : List ℕ) → IsTextAfter V seed m bytes.now
+            → IsSomeAnd result (λ stream. HasAbsorbed V seed stream.state m) }
         ensures none { IsNone result ↔ ¬ IsText V bytes.now }
     {
         Some(StreamedKomihash {
@@ -107,10 +111,10 @@ impl<const V: u8> StreamedKomihash<V> {
 }
 
 impl<const V: u8> Default for StreamedKomihash<V> {
-    ghost use Rattle.std.specs.Prelude.{◌≡◌};
-    ghost use Rattle.komihash.specs.Stream.{start};
+    ghost use Rattle.std.specs.Prelude.{◌≡◌, []};
+    ghost use Rattle.komihash.specs.Stream.{start, HasAbsorbed};
 
-    ghost is_default = { λ s. s.state ≡ start 0 };
+    ghost is_default = { λ s. (s.state ≡ start 0) × HasAbsorbed V 0 s.state [] };
 
     /// The new stream of seed 0.
     #[inline]
