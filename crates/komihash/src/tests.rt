@@ -1,6 +1,5 @@
 //! Tests of what the contracts do not say: that the definitions mean what they should.
 
-mod callers;
 mod cuts;
 mod definitions;
 mod generator;

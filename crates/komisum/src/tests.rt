@@ -1,5 +1,6 @@
 //! Tests of the calls, on values from elsewhere.
 
+mod callers;
 mod digest;
 mod fakes;
 mod hex;

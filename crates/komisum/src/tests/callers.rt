@@ -1,0 +1,185 @@
+//! Callers of `komihash` as another crate may write them: what each promises follows from the
+//! contracts of the calls. CALLING.md shows them, and `scripts/documents.py` compares it with this
+//! file.
+
+ghost use Rattle.std.specs.Prelude.{◌≡◌, ◌≢◌, ◌+◌, ◌*◌, ◌/◌, ◌%◌, ◌<◌, ◌≤◌, ℕ, List, ◌++◌, IfSome, IsSomeAnd, false, length, take};
+ghost use Rattle.std.specs.List.{flat_map};
+ghost use Rattle.komihash.specs.Generator.{after_steps, fill};
+ghost use Rattle.komihash.specs.Hash.{komi};
+ghost use Rattle.komihash.specs.Saved.{IsTextAfter};
+
+use komihash::stream::KomiStream;
+use komihash::tally::Tally;
+use komihash::{KomiHasher, Komirand, StreamedKomihash, komihash, laws, v5};
+use std::hash::Hasher;
+
+/// The shard that a key belongs to, of so many.
+fn shard_of(key: &[u8], shards: u64) -> u64
+    requires { 0 < shards }
+    ensures shard { result ≡ komi 5 0 key.now % shards }
+    ensures within { result < shards }
+{
+    komihash(key, 0) % shards
+}
+
+/// The digest of a message that comes in three pieces.
+fn digest_of_pieces(head: &[u8], body: &[u8], end: &[u8]) -> u64
+    ensures { result ≡ komi 5 0 (head.now ++ body.now ++ end.now) }
+{
+    let mut stream = StreamedKomihash::new();
+    stream.write(head);
+    stream.write(body);
+    stream.write(end);
+    stream.finish()
+}
+
+/// The digest of a message that comes as a list of slices, in the version of `S`.
+fn digest_of_slices<S: KomiStream>(slices: &[&[u8]], seed: u64) -> u64
+    ensures { result ≡ komi S.VERSION seed (flat_map (λ slice. slice.now) slices.now) }
+{
+    let tally = &mut Tally::new();
+    let mut stream = S::start(seed, tally);
+    for slice in slices {
+        stream.absorb(slice, tally);
+    }
+    stream.answer(tally)
+}
+
+/// Whether two contents have the same hash. Where they have not, they differ.
+fn may_be_equal(left: &[u8], right: &[u8]) -> bool
+    ensures { result ≡ false → left.now ≢ right.now }
+{
+    komihash(left, 0) == komihash(right, 0)
+}
+
+/// The hash of a record's two fields, in which the cut between them counts.
+fn hash_of_record(name: &[u8], value: &[u8]) -> u64
+    ensures { result ≡ komi 5 (komi 5 0 name.now) value.now }
+{
+    let mut hasher = KomiHasher::default();
+    hasher.write(name);
+    hasher.write(value);
+    hasher.finish()
+}
+
+/// A sample that can be drawn again from its seed.
+fn sample(seed: u64, out: &mut [u8])
+    ensures { out.new ≡ fill 5 (after_steps 5 4 (seed, seed)) (length out.old) }
+{
+    Komirand::init(seed).fill_bytes(out);
+}
+
+/// The same sample, drawn in two steps: the first takes 32 bytes.
+fn sample_in_two(seed: u64, first: &mut [u8; 32], rest: &mut [u8])
+    ensures { first.new ++ rest.new
+        ≡ fill 5 (after_steps 5 4 (seed, seed)) (32 + length rest.old) }
+{
+    laws::fill_cut();
+    let mut generator = Komirand::init(seed);
+    generator.fill_bytes(first);
+    generator.fill_bytes(rest);
+}
+
+/// Stores a key as padded words, and reads it back: the first bytes of `out` are the key.
+fn key_read_back(key: &[u8], words: &mut [u64], out: &mut [u8]) -> Option<usize>
+    requires words { length key.now / 8 + 1 ≤ length words.old }
+    requires bytes { 8 * length words.old ≤ length out.old }
+    ensures { IsSomeAnd result (λ n. take n out.new ≡ key.now) }
+{
+    let count = v5::pad(key, words);
+    v5::unpad(&words[..count], out)
+}
+
+/// Begins a digest, and leaves a checkpoint of it: its first bytes are the saved text.
+fn begin(first: &[u8], seed: u64, checkpoint: &mut [u8; 131]) -> usize
+    ensures most { result ≤ 131 }
+    ensures saved { IsTextAfter 5 seed first.now (take result checkpoint.new) }
+{
+    let mut stream = StreamedKomihash::new_with_seed(seed);
+    stream.write(first);
+    stream.save(checkpoint)
+}
+
+/// Goes on from a checkpoint, and leaves another one in its place.
+fn go_on(checkpoint: &mut [u8; 131], count: usize, next: &[u8]) -> Option<usize>
+    requires { count ≤ 131 }
+    ensures most { IfSome result (λ n. n ≤ 131) }
+    ensures saved { (seed : ℕ) (m : List ℕ) → IsTextAfter 5 seed m (take count checkpoint.old)
+        → IsSomeAnd result (λ n. IsTextAfter 5 seed (m ++ next.now) (take n checkpoint.new)) }
+{
+    let mut stream = StreamedKomihash::resume(&checkpoint[..count])?;
+    stream.write(next);
+    Some(stream.save(checkpoint))
+}
+
+/// Ends the digest that a checkpoint holds.
+fn end(checkpoint: &[u8; 131], count: usize, last: &[u8]) -> Option<u64>
+    requires { count ≤ 131 }
+    ensures { (seed : ℕ) (m : List ℕ) → IsTextAfter 5 seed m (take count checkpoint.now)
+        → IsSomeAnd result (λ hash. hash ≡ komi 5 seed (m ++ last.now)) }
+{
+    let mut stream = StreamedKomihash::resume(&checkpoint[..count])?;
+    stream.write(last);
+    Some(stream.finish())
+}
+
+/// The hash of a key of 16 bytes, which takes four multiplications.
+fn hash_of_key(key: &[u8; 16], tally: &mut Tally) -> u64
+    ensures hash { result ≡ komi 5 0 key.now }
+    ensures products { tally.new.products ≡ tally.old.products + 4 }
+{
+    v5::komihash_counted(key, 0, tally)
+}
+
+use super::messages::{TO_SEVEN, TO_SIX, TO_ZERO};
+use komihash::v4;
+
+#[test]
+fn callers_answer(rt: HostRuntime) {
+    assert_eq!(rt; shard_of(&TO_SIX, 4), 2);
+    assert_eq!(rt; digest_of_pieces(&TO_SIX[..1], &[], &TO_SIX[1..]), 6);
+    let slices: [&[u8]; 3] = [&TO_SEVEN[..1], &[], &TO_SEVEN[1..]];
+    assert_eq!(rt; digest_of_slices::<v4::StreamedKomihash>(&slices, 0), 7);
+    assert_eq!(rt;
+        digest_of_slices::<v5::StreamedKomihash>(&slices, 0),
+        1 << 63
+    );
+    assert!(rt; may_be_equal(&TO_ZERO, &TO_ZERO));
+    assert!(rt; !may_be_equal(&TO_ZERO, &TO_SIX));
+    assert_eq!(rt; hash_of_record(&TO_ZERO, &TO_SIX), 6);
+    assert_eq!(rt; hash_of_key(&TO_ZERO, &mut Tally::new()), 0);
+}
+
+#[test]
+fn samples_are_drawn_again(rt: HostRuntime) {
+    let mut whole = [0; 45];
+    let mut first = [0; 32];
+    let mut rest = [0; 13];
+    sample(7, &mut whole);
+    sample_in_two(7, &mut first, &mut rest);
+    assert!(rt; whole.starts_with(&first));
+    assert!(rt; whole.ends_with(&rest));
+}
+
+#[test]
+fn keys_are_read_back(rt: HostRuntime) {
+    let mut words = [0; 4];
+    let mut out = [0; 32];
+    assert!(rt; key_read_back(&TO_SEVEN, &mut words, &mut out) == Some(31));
+    assert!(rt; out.starts_with(&TO_SEVEN));
+}
+
+#[test]
+fn goes_on_from_checkpoints(rt: HostRuntime) {
+    let mut checkpoint = [0; 131];
+    for cut in 0..=95usize {
+        let (first, next) = TO_SIX.split_at(cut);
+        let count = begin(first, 0, &mut checkpoint);
+        let hash = go_on(&mut checkpoint, count, next).and_then(|count| end(
+            &checkpoint,
+            count,
+            &[],
+        ));
+        assert!(rt; hash == Some(6), "another hash, cut at {cut}");
+    }
+}

@@ -1,0 +1,115 @@
+#!/usr/bin/env python3
+"""Compares the documents with the sources that they show and name.
+
+  callers      the Rust blocks of CALLING.md are the callers of crates/komisum/src/tests/callers.rt, whole and
+               in order, and README's block is one of them
+  definitions  docs/DEFINITIONS.md names every public definition of specs/
+  names        each name in docs/DEFINITIONS.md stands in specs/, proofs/ or src/
+  files        each file that a document names is there
+
+Then each edit of scripts/planted/documents/ has to be found. The last line is 'N passed, M failed'.
+"""
+
+import re
+import sys
+from pathlib import Path
+
+from edits import planted, report
+
+SCRIPTS = Path(__file__).resolve().parent
+TOP = SCRIPTS.parent
+CALLERS = "crates/komisum/src/tests/callers.rt"
+DEFINITIONS = "docs/DEFINITIONS.md"
+
+# Definitions of the tally's seal, which no rule of the hash needs: docs/DECISIONS.md has them.
+SEAL = {"crates/komihash/specs/Sealed.antt", "crates/komihash/specs/Tallies.antt"}
+
+# Files that a document names and that are not committed: what builds leave, and what a reader would write.
+NOT_COMMITTED = {"out/komisum", "Answers.antt", "Invariants.antt"}
+
+RULES = ("callers", "definitions", "names", "files")
+NAMED_FILE = re.compile(r"[\w./*{},-]+\.(?:rt|antt|md|sh|py|edit|h|c)")
+PUBLIC = re.compile(r"^(?:(?:abbrev|unfoldable) )?pub (?:record )?([\w-]+)", re.MULTILINE)
+
+
+def read_files():
+    """The text of each document and of each source of the crates."""
+    found = [*TOP.glob("*.md"), *TOP.glob("docs/*.md"), *TOP.glob("scripts/**/*")]
+    for part in ("src", "specs", "proofs", "must-fail"):
+        found += TOP.glob(f"crates/*/{part}/**/*")
+    return {str(path.relative_to(TOP)): path.read_text() for path in sorted(found) if path.is_file()}
+
+
+def rust_blocks(text):
+    """The Rust blocks of a document."""
+    return [block.strip() for block in re.findall(r"```rust\n(.*?)```", text, re.DOTALL)]
+
+
+def code_spans(text):
+    """What stands between single backticks, outside of blocks."""
+    return re.findall(r"`([^`\n]+)`", re.sub(r"```.*?```", "", text, flags=re.DOTALL))
+
+
+class Documents:
+    """The files, and what each rule finds in them."""
+
+    def __init__(self, files):
+        self.files = files
+
+    def texts(self, pattern):
+        return {name: text for name, text in self.files.items() if re.fullmatch(pattern, name)}
+
+    def callers(self):
+        callers = self.files[CALLERS].partition("\n\n")[2].partition("\nuse super::")[0].strip()
+        if "\n\n".join(rust_blocks(self.files["CALLING.md"])) != callers:
+            yield f"CALLING.md: its Rust blocks are not the callers of {CALLERS}"
+        blocks = rust_blocks(self.files["README.md"])
+        if not blocks or any(block not in callers for block in blocks):
+            yield f"README.md: its Rust block is no caller of {CALLERS}"
+
+    def definitions(self):
+        named = {name for span in code_spans(self.files[DEFINITIONS]) for name in re.findall(r"[\w-]+", span)}
+        for file, text in self.texts(r"crates/\w+/specs/\w+\.antt").items():
+            for name in PUBLIC.findall(text):
+                if file not in SEAL and name not in named | {"mod", "use"}:
+                    yield f"{DEFINITIONS}: {name} of {file} is not named"
+
+    def names(self):
+        sources = self.texts(r"crates/\w+/(?:specs|proofs|src)/.*\.(?:antt|rt)").values()
+        known = {name for text in sources for name in re.findall(r"[A-Za-z_][\w-]*", text)}
+        for span in code_spans(self.files[DEFINITIONS]):
+            if re.fullmatch(r"[A-Za-z]+(?:[_-]\w+)+", span) and span not in known:
+                yield f"{DEFINITIONS}: {span} stands in no source"
+
+    def files_named(self):
+        for document, text in self.texts(r"(?:docs/)?[A-Z]+\.md").items():
+            for span in code_spans(text):
+                if NAMED_FILE.fullmatch(span) and not self.is_there(span):
+                    yield f"{document}: there is no {span}"
+
+    def is_there(self, name):
+        """Whether a file has this name, which may leave out its first folders, and list several in braces."""
+        listed = re.search(r"\{([^}]*)\}", name)
+        if listed:
+            return all(self.is_there(name.replace(listed[0], one)) for one in listed[1].split(","))
+        pattern = "(?:.*/)?" + re.escape(name).replace(r"\*", "[^/]*")
+        return name in NOT_COMMITTED or bool(self.texts(pattern))
+
+    def found(self):
+        """What each rule finds."""
+        rules = {"callers": self.callers, "definitions": self.definitions, "names": self.names, "files": self.files_named}
+        return {rule: list(rules[rule]()) for rule in RULES}
+
+
+def main():
+    files = read_files()
+    found = Documents(files).found()
+    cases = [(f"the documents, {rule}", not found[rule], found[rule]) for rule in RULES]
+    for edit in sorted((SCRIPTS / "planted/documents").glob("*.edit")):
+        found = sum(Documents(planted(files, edit)).found().values(), [])
+        cases.append((f"found: {edit.stem}: {'; '.join(found)}", bool(found), ["nothing is found"]))
+    return report(cases)
+
+
+if __name__ == "__main__":
+    sys.exit(main())
