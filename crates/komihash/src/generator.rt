@@ -26,7 +26,10 @@ impl<const V: u8> Model for Komirand<V> {
 }
 
 impl<const V: u8> Komirand<V> {
-    /// The generator of this pair, which takes no step. Any numbers will do, even 0.
+    /// Returns the generator of this pair, which takes no step.
+    ///
+    /// Any numbers are allowed. Of small numbers the first outputs are simple patterns: in version 5
+    /// `new(0, 0)` gives 0x5555555555555555 first. `init` takes four steps to leave these behind.
     #[inline]
     pub fn new(s1: u64, s2: u64) -> Self
         ensures { result ≡ (s1, s2) }

@@ -15,25 +15,23 @@ fn after_writes<H: Hasher>(hasher: &mut H, writes: &[&[u8]]) -> u64 {
     hasher.finish()
 }
 
-// What a hasher of version V and a number answers after writes.
-fn number_after<const V: u8>(number: u64, writes: &[&[u8]]) -> u64 {
-    after_writes(&mut KomiHasher::<V>::new(number), writes)
-}
-
-// The writes of known messages, the last of which has another hash in each version.
+// The writes of known messages to a default hasher, the last of which has another hash in each
+// version, and to hashers of a number.
 fn agrees<const V: u8>(rt: &impl Abort, high_end: u64) {
-    same(rt, KomiHasher::<V>::default().finish(), 0, 0);
-    let cases: [(u64, &[&[u8]], u64); 6] = [
-        (7, &[], 7),
-        (0, &[&[]], 0xb768_3ea7_4301_32b4),
-        (u64::MAX, &[&[]], 0x4bcc_041f_3f88_5859),
-        (0, &[&ZERO], 0),
-        (0, &[&ZERO, &ZERO], 0),
-        (0, &[&HIGH_END], high_end),
+    let cases: [(&[&[u8]], u64); 5] = [
+        (&[], 0),
+        (&[&[]], 0xb768_3ea7_4301_32b4),
+        (&[&ZERO], 0),
+        (&[&ZERO, &ZERO], 0),
+        (&[&HIGH_END], high_end),
     ];
-    for (number, writes, answer) in cases {
-        same(rt, number_after::<V>(number, writes), answer, writes.len());
+    for (writes, answer) in cases {
+        let number = after_writes(&mut KomiHasher::<V>::default(), writes);
+        same(rt, number, answer, writes.len());
     }
+    same(rt, KomiHasher::<V>::new(7).finish(), 7, 0);
+    let number = after_writes(&mut KomiHasher::<V>::new(u64::MAX), &[&[]]);
+    same(rt, number, 0x4bcc_041f_3f88_5859, 1);
 }
 
 #[test]

@@ -68,6 +68,11 @@ fn saves_known_texts(rt: HostRuntime) {
     let mut stream = v5::StreamedKomihash::new();
     stream.write(b"abc");
     saves(&rt, &stream, &LETTERS_FIVE);
+    let mut letters_four = LETTERS_FIVE;
+    letters_four[0] = 4;
+    let mut stream = v4::StreamedKomihash::new();
+    stream.write(b"abc");
+    saves(&rt, &stream, &letters_four);
     let mut stream = v5::StreamedKomihash::new();
     stream.write(&BLOCK_FIVE[..64]);
     saves(&rt, &stream, &BLOCK_SAVED);

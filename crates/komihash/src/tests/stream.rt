@@ -221,7 +221,10 @@ fn runs_calls_in_order(rt: HostRuntime) {
 
 #[test]
 fn runs_few_calls(rt: HostRuntime) {
-    runs::<v5::StreamedKomihash>(&rt, &[], &[]);
+    let mut out = [9; 2];
+    let count = run::<v5::StreamedKomihash>(0, &[], &mut out, &mut Tally::new());
+    same_count(&rt, count, 0, 0);
+    same_words(&rt, &out, &[9, 9], 0);
     let calls = [
         Call::Absorb(&ZERO),
         Call::Answer,
