@@ -6,6 +6,7 @@
   definitions  docs/DEFINITIONS.md names every public definition of specs/
   names        each name in docs/DEFINITIONS.md stands in specs/, proofs/ or src/
   files        each file that a document names is there
+  order        docs/ARCHITECTURE.md lists the base files of crates/komihash/proofs/, each after those it imports
 
 Then each edit of scripts/planted/documents/ has to be found. The last line is 'N passed, M failed'.
 """
@@ -20,6 +21,7 @@ SCRIPTS = Path(__file__).resolve().parent
 TOP = SCRIPTS.parent
 CALLERS = "crates/komisum/src/tests/callers.rt"
 DEFINITIONS = "docs/DEFINITIONS.md"
+ARCHITECTURE = "docs/ARCHITECTURE.md"
 
 # Definitions of the tally's seal, which no rule of the hash needs: docs/DECISIONS.md has them.
 SEAL = {"crates/komihash/specs/Sealed.antt", "crates/komihash/specs/Tallies.antt"}
@@ -27,7 +29,7 @@ SEAL = {"crates/komihash/specs/Sealed.antt", "crates/komihash/specs/Tallies.antt
 # Files that a document names and that are not committed: what builds leave, and what a reader would write.
 NOT_COMMITTED = {"out/komisum", "Answers.antt", "Invariants.antt"}
 
-RULES = ("callers", "definitions", "names", "files")
+RULES = ("callers", "definitions", "names", "files_named", "order")
 NAMED_FILE = re.compile(r"[\w./*{},-]+\.(?:rt|antt|md|sh|py|edit|h|c)")
 PUBLIC = re.compile(r"^(?:(?:abbrev|unfoldable) )?pub (?:record )?([\w-]+)", re.MULTILINE)
 
@@ -95,10 +97,22 @@ class Documents:
         pattern = "(?:.*/)?" + re.escape(name).replace(r"\*", "[^/]*")
         return name in NOT_COMMITTED or bool(self.texts(pattern))
 
+    def order(self):
+        listed = re.search(r"^The base files of `proofs/`.*", self.files[ARCHITECTURE], re.MULTILINE)
+        names = code_spans(listed[0])[1:] if listed else []
+        base_files = self.texts(r"crates/komihash/proofs/(?!Lib)\w+\.antt")
+        texts = {Path(file).stem: text for file, text in base_files.items()}
+        if sorted(names) != sorted(texts):
+            yield f"{ARCHITECTURE}: it does not list the base files of proofs/, each once"
+            return
+        for place, name in enumerate(names):
+            imported = re.findall(r"^use Rattle\.komihash\.proofs\.(\w+)\.", texts[name], re.MULTILINE)
+            for late in set(imported) - set(names[:place]):
+                yield f"{ARCHITECTURE}: {name} stands before {late}, which it imports"
+
     def found(self):
         """What each rule finds."""
-        rules = {"callers": self.callers, "definitions": self.definitions, "names": self.names, "files": self.files_named}
-        return {rule: list(rules[rule]()) for rule in RULES}
+        return {rule: list(getattr(self, rule)()) for rule in RULES}
 
 
 def main():
