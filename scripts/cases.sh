@@ -25,11 +25,12 @@ if ! is_built && ! rt run < stdin > "$room/built" 2>&1; then
 fi
 passed=0
 failed=0
+skipped=0
 
-# Notes a case: whether what came is what was wanted.
+# Notes a case: whether what came is what was wanted. Nothing is never wanted: a command that fails may print it.
 note() {
     local name=$1 wanted=$2 came=$3
-    if [ "$wanted" = "$came" ]; then
+    if [ -n "$wanted" ] && [ "$wanted" = "$came" ]; then
         passed=$((passed + 1))
         echo "ok: $name"
     else
@@ -39,9 +40,26 @@ note() {
     fi
 }
 
-# Prints the line that counts the cases. The status says whether all passed.
+# Runs a function that notes `count` cases and needs a tool, if a command shows that the tool works here. Else the
+# cases are skipped.
+cases_with() {
+    local tool=$1 works=$2 count=$3 cases=$4 before=$((passed + failed))
+    if "$works" > "$room/tried" 2>&1; then
+        "$cases"
+        [ $((passed + failed - before)) = "$count" ] ||
+            note "number of cases that need $tool" "$count" "$((passed + failed - before))"
+    else
+        skipped=$((skipped + count))
+        cat "$room/tried"
+        echo "skipped: $count cases that need $tool, which is missing or does not work here"
+    fi
+}
+
+# Prints the line that counts the cases. The status says whether none failed.
 counted() {
-    echo "$passed passed, $failed failed"
+    local skips=", $skipped skipped"
+    [ "$skipped" != 0 ] || skips=
+    echo "$passed passed, $failed failed$skips"
     [ "$failed" = 0 ]
 }
 
@@ -62,7 +80,7 @@ told() {
 }
 
 # The first bytes of a message: of what `seq` prints.
-message() { seq 1 100000 | head -c "$1"; }
+message() { seq 1 1000000 | head -c "$1"; }
 
 # What is told of a line, of a fault, and of a fault behind the beginning of a line.
 line() { printf 'status 0\noutput %s\n.|\nerrors .|\n' "$1"; }

@@ -1,7 +1,8 @@
 #!/usr/bin/env bash
 # The built program where reads, writes and memory fail. Each case prints a line; the last line is 'N passed,
-# M failed'. It needs what cases.sh names; and strace, which lets calls of the system fail, and valgrind, which
-# counts requests for memory: where one of them can't be had its cases are left out, and a line says so.
+# M failed', and ', K skipped' if some could not run. It needs what cases.sh names; and strace, which lets calls of
+# the system fail, a C compiler for refuse.c, which refuses memory, and valgrind, which counts requests for memory:
+# without one of them its cases are skipped, as cases.sh says.
 source "$(dirname "$0")/cases.sh"
 
 whole=$(cat stdout)
@@ -15,10 +16,13 @@ note 'closed input' "$(fault 1 'read failed')" "$(run <&-)"
 note 'closed output' "$(fault 1 'write failed')" "$("$program" < stdin >&- 2> "$room/errors"; told $?)"
 note 'closed errors' 'status 1' "$("$program" < / 2>&-; printf 'status %s' $?)"
 note 'closed errors at usage' 'status 2' "$("$program" 6 0 < /dev/null 2>&-; printf 'status %s' $?)"
-if [ -e /dev/full ]; then
+full_device() {
+    : > "$room/output"
     note 'full output' "$(fault 1 'write failed')" "$("$program" < stdin > /dev/full 2> "$room/errors"; told $?)"
     note 'full errors' 'status 1' "$("$program" < / 2> /dev/full; printf 'status %s' $?)"
-fi
+}
+has_full_device() { [ -c /dev/full ]; }
+cases_with /dev/full has_full_device 2 full_device
 into_closed_pipe() {
     { sleep 0.2; printf a; } | { "$program" 2> "$room/errors"; printf %s $? > "$room/status"; } | true
     told "$(cat "$room/status")"
@@ -76,12 +80,12 @@ calls_that_move_little() {
         "$(injected "$room/output" write retval=1 < stdin)"
 }
 
-if strace -o "$room/trace" true 2> /dev/null; then
+traces() { strace -o "$room/trace" true; }
+faults_by_strace() {
     errors_at_each_call
     calls_that_move_little
-else
-    echo 'left out: calls that strace lets fail'
-fi
+}
+cases_with strace traces 52 faults_by_strace
 
 # Under limits that fall: as long as there is enough the line is written, right below there is no memory, and
 # below that the program can't be loaded.
@@ -96,36 +100,78 @@ memory_falls() {
         half=$(((enough + few) / 2))
         if [ "$(limited $half "$@")" = "$wanted" ]; then enough=$half; else few=$half; fi
     done
-    note "$name: no memory" "$(fault 1 'no memory')" "$(limited "$few" "$@")"
+    note "$name, too little memory: no memory" "$(fault 1 'no memory')" "$(limited "$few" "$@")"
     while [ "$(limited "$few" "$@")" = "$(fault 1 'no memory')" ]; do few=$((few - 16)); done
-    note "$name: not loaded" 'status 127' "$(limited "$few" "$@" | head -n 1)"
+    note "$name, less memory: not loaded" 'status 127' "$(limited "$few" "$@" | head -n 1)"
 }
-memory_falls 'no words' "$(line "$whole")"
-memory_falls 'two words' "$(line 4bde5bdc63771675)" 4 1f
+memory_falls 'no arguments' "$(line "$whole")"
+memory_falls 'two arguments' "$(line 4bde5bdc63771675)" 4 1f
 
-# The requests for memory that the program makes: as many, and for as much, whatever the input's length.
-requests() {
-    valgrind --log-file="$room/requests" "$program" > "$room/output"
-    grep -o 'total heap usage.*' "$room/requests"
+# Runs the program with one of its requests for memory refused, and tells what is left of its input, and how many
+# requests there were.
+refused() {
+    local request=$1
+    shift
+    {
+        ran env "LD_PRELOAD=$room/refuse.so" "REFUSED_REQUEST=$request" "$program" "$@" 9> "$room/requests"
+        printf 'left %s\nrequests %s\n' "$(cat)" "$(cat "$room/requests")"
+    } < stdin
 }
-if valgrind --version > /dev/null 2>&1; then
-    few=$(requests < /dev/null)
-    echo "$few"
-    for size in 1 4097 65537 588895; do
-        note "memory for $size bytes" "$few" "$(message "$size" | requests)"
+
+# Refuses each of the requests in turn, and then one that is never made. At each there is no memory, and nothing is
+# read of the input; but one of them may be tolerated: it is made again.
+refuse_each() {
+    local name=$1 line=$2 requests=$3 tolerated=$4 k
+    shift 4
+    for ((k = 1; k <= requests; k++)); do
+        if [ "$k" = "$tolerated" ]; then
+            note "$name: request $k is made again" \
+                "$(line "$line"; printf 'left \nrequests %s\n' $((requests + 1)))" "$(refused "$k" "$@")"
+        else
+            note "$name: request $k is refused" \
+                "$(fault 1 'no memory'; printf 'left a\nrequests %s\n' "$k")" "$(refused "$k" "$@")"
+        fi
     done
-else
-    echo 'left out: requests for memory that valgrind counts'
-fi
+    note "$name: no request $k" \
+        "$(line "$line"; printf 'left \nrequests %s\n' "$requests")" "$(refused "$k" "$@")"
+}
+
+# With two arguments the 6th request is for the list of both, in advance: it is made again when the first is put in.
+refused_requests() {
+    refuse_each 'no arguments' "$whole" 4 none
+    refuse_each 'two arguments' 4bde5bdc63771675 8 6 4 1f
+}
+compiles() { "${CC:-cc}" -shared -fPIC -o "$room/refuse.so" ../../scripts/refuse.c; }
+cases_with 'a C compiler' compiles 14 refused_requests
+
+# As many requests, and for as much, whatever the input's length; and all of it is given back.
+heap_usage() {
+    valgrind --log-file="$room/usage" "$program" > "$room/output"
+    grep -o 'total heap usage.*' "$room/usage"
+}
+memory_by_length() {
+    local size
+    for size in 0 1 4097 65537 588895; do
+        note "memory for $size bytes" 'total heap usage: 4 allocs, 4 frees, 66,144 bytes allocated' \
+            "$(message "$size" | heap_usage)"
+    done
+}
+counts_memory() { valgrind true; }
+cases_with valgrind counts_memory 5 memory_by_length
 
 # The tests of `komihash` make every call of it. Their program names no function that gives memory, so none can ask
-# for any; `komisum`, which has a buffer, does name one.
-gives_memory() { grep -aoE '\b(malloc|calloc|realloc|aligned_alloc|posix_memalign|mmap|s?brk)\b' "$1" | sort -u; }
-if [ -x ../komihash/out/komihash_tests ]; then
-    note 'memory that komihash asks for' '' "$(gives_memory ../komihash/out/komihash_tests)"
-    note 'memory that komisum asks for' yes "$(gives_memory "$program" | grep -q malloc && echo yes)"
-else
-    echo 'left out: what the tests of komihash name, since they are not built'
-fi
+# for any; `komisum` names two, which refuse.c stands in for.
+givers_of_memory() {
+    local names
+    names=$(grep -aoE '\b(malloc|calloc|realloc|aligned_alloc|posix_memalign|mmap|s?brk)\b' "$1") ||
+        [ $? = 1 ] || names='not read'
+    sort -u <<< "${names:-none}"
+}
+names_that_give_memory() {
+    note 'memory that komihash asks for' none "$(givers_of_memory ../komihash/out/komihash_tests)"
+    note 'memory that komisum asks for' $'malloc\nrealloc' "$(givers_of_memory "$program")"
+}
+has_built_tests() { [ -x ../komihash/out/komihash_tests ]; }
+cases_with "the program of komihash's tests" has_built_tests 2 names_that_give_memory
 
 counted

@@ -1,6 +1,6 @@
 #!/usr/bin/env bash
 # Tests of the built program: what no contract says of its words and its streams. Each case prints a line; the
-# last line is 'N passed, M failed'. It needs what cases.sh names.
+# last line is 'N passed, M failed'. It needs what cases.sh names, and takes some ten seconds.
 source "$(dirname "$0")/cases.sh"
 
 usage='usage: komisum [4|5 SEED]'
@@ -31,7 +31,7 @@ refuse 'no digit' 5 g
 refuse 'a word that is not UTF-8' 5 $'\xff'
 refuse 'a third word that is not UTF-8' 5 0 $'\xff'
 
-# Sizes round the chunk and the buffer, by a file and by a slow pipe.
+# Sizes round the chunk and the buffer, and past 2^20, from a file and from a slow pipe.
 slow_message() {
     local half=$(($1 / 2))
     message "$1" > "$room/slow"
@@ -54,6 +54,17 @@ done << 'SIZES'
 65536 3af8ee05196faaef 8ed2b597002c4474
 65537 8a4bc5027a81c850 96048246b1a98f8e
 200000 f1226606918aa970 5fcaf5a4c1809abc
+1048577 388de716583121be d577466f23642771
+SIZES
+
+# Zero bytes: one more than 2^20, and than 2^32.
+zeros() { head -c "$1" /dev/zero; }
+while read -r size five four; do
+    note "$size zero bytes, version 5" "$(line "$five")" "$(zeros "$size" | run)"
+    note "$size zero bytes, version 4" "$(line "$four")" "$(zeros "$size" | run 4 1f)"
+done << 'SIZES'
+1048577 b57c253a24ed5567 3b14d4a71d405238
+4294967297 18b2c156967628ab df1023034e6f8a39
 SIZES
 
 counted

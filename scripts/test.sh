@@ -1,9 +1,79 @@
 #!/usr/bin/env bash
-# Every proof and every test: the merge gate of the toolchain, the rules that are read off the sources, and the tests
-# of the built program.
+# Every proof and every test: the rules that are read off the sources, which take seconds, then the merge gate of the
+# toolchain, and the tests of the built program. The first part that fails ends the run.
+#
+# The last line is 'N passed, M failed', the sum of all parts, with ', K skipped' if something is missing that some
+# cases need; lines above it name these cases. With REQUIRE_ALL=1 in the environment, skipped cases count as failed.
 set -euo pipefail
 cd "$(dirname "$0")/.."
-rt ci
-scripts/rules.py
-scripts/program.sh
-exec scripts/faults.sh
+
+passed=0
+failed=0
+skipped=0
+room=$(mktemp -d)
+trap 'rm -rf "$room"' EXIT
+: > "$room/skipped"
+
+# Prints what was skipped and the sum of all parts, and ends. The status says whether none failed.
+sum_up() {
+    local skips=", $skipped skipped"
+    [ "$skipped" != 0 ] || skips=
+    cat "$room/skipped"
+    echo "$passed passed, $failed failed$skips"
+    exit $((failed > 0))
+}
+
+# Ends the run, since a part failed.
+stop() {
+    echo "FAILED: $1. The run ends here, without the parts that come after."
+    sum_up
+}
+
+# Notes that something is missing that no part can do without.
+lack() {
+    failed=$((failed + 1))
+    echo "missing: $1"
+}
+
+# Looks for what each part needs, before the first.
+look_for_tools() {
+    local tool
+    for tool in rt grep head mktemp realpath seq sort tail tee; do
+        command -v "$tool" > /dev/null || lack "$tool"
+    done
+    ((BASH_VERSINFO[0] >= 4)) || lack 'bash, version 4 or newer'
+    python3 -c 'import sys; sys.exit(sys.version_info < (3, 9))' 2> /dev/null || lack 'python3, version 3.9 or newer'
+    [ "$failed" = 0 ] || stop 'something is missing'
+}
+
+# Adds the counts that a part's last line has.
+add_counts() {
+    local counts='^([0-9]+) passed, ([0-9]+) failed(, ([0-9]+) skipped)?$' skips
+    if [[ $(tail -n 1 "$1") =~ $counts ]]; then
+        passed=$((passed + BASH_REMATCH[1]))
+        failed=$((failed + BASH_REMATCH[2]))
+        skips=${BASH_REMATCH[4]:-0}
+        if [ "${REQUIRE_ALL:-}" = 1 ]; then failed=$((failed + skips)); else skipped=$((skipped + skips)); fi
+    else
+        failed=$((failed + 1))
+        echo 'The last line does not count its cases.'
+    fi
+}
+
+# Runs a part, and ends the run if it fails.
+part() {
+    local status=0
+    echo "== $*"
+    "$@" 2>&1 | tee "$room/output" || status=$?
+    grep '^skipped: ' "$room/output" >> "$room/skipped" || true
+    add_counts "$room/output"
+    if [ "$status" != 0 ] && [ "$failed" = 0 ]; then failed=1; fi
+    [ "$failed" = 0 ] || stop "$*"
+}
+
+look_for_tools
+for script in scripts/*.py; do part python3 "$script"; done
+part rt ci
+part bash scripts/program.sh
+part bash scripts/faults.sh
+sum_up
