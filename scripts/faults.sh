@@ -17,7 +17,6 @@ note 'closed output' "$(fault 1 'write failed')" "$("$program" < stdin >&- 2> "$
 note 'closed errors' 'status 1' "$("$program" < / 2>&-; printf 'status %s' $?)"
 note 'closed errors at usage' 'status 2' "$("$program" 6 0 < /dev/null 2>&-; printf 'status %s' $?)"
 full_device() {
-    : > "$room/output"
     note 'full output' "$(fault 1 'write failed')" "$("$program" < stdin > /dev/full 2> "$room/errors"; told $?)"
     note 'full errors' 'status 1' "$("$program" < / 2> /dev/full; printf 'status %s' $?)"
 }
@@ -144,8 +143,9 @@ refused_requests() {
 compiles() { "${CC:-cc}" -shared -fPIC -o "$room/refuse.so" ../../scripts/refuse.c; }
 cases_with 'a C compiler' compiles 14 refused_requests
 
-# As many requests, and for as much, whatever the input's length; and all of it is given back.
+# As many requests, and for as much, whatever the input's length; and each block is freed.
 heap_usage() {
+    rm -f "$room/usage"
     valgrind --log-file="$room/usage" "$program" > "$room/output"
     grep -o 'total heap usage.*' "$room/usage"
 }

@@ -53,7 +53,12 @@ add_counts() {
         passed=$((passed + BASH_REMATCH[1]))
         failed=$((failed + BASH_REMATCH[2]))
         skips=${BASH_REMATCH[4]:-0}
-        if [ "${REQUIRE_ALL:-}" = 1 ]; then failed=$((failed + skips)); else skipped=$((skipped + skips)); fi
+        if [ "${REQUIRE_ALL:-}" != 1 ] || [ "$skips" = 0 ]; then
+            skipped=$((skipped + skips))
+        else
+            failed=$((failed + skips))
+            echo 'REQUIRE_ALL=1: the skipped cases count as failed.'
+        fi
     else
         failed=$((failed + 1))
         echo 'The last line does not count its cases.'
