@@ -1,7 +1,7 @@
 -- Words of lists of bytes that are cut and joined.
 use Rattle.std.proofs.Common.{◌≡◌, ℕ, zero, suc, ◌+◌, ◌-◌, ◌*◌, ◌/◌, ◌%◌, ◌^◌, ◌<◌, ◌≤◌, List, [], ◌∷◌, ◌++◌, length, take, drop, get_or, refl, ap, arith, ◌∙◌, sym, subst, inl, inr, Fits, w8}
 use Rattle.std.proofs.lemmas.List.{append_assoc, length-append, length-drop, length-take-le, take-append-drop, take_all, get_or-drop, drop-drop, drop-append-le}
-use Rattle.std.proofs.lemmas.Nat.{pow-add, shl_whole, shl_below, mod_low, shr_high, shr-shr, shl-shr, or_shr, or_shifted, or_comm}
+use Rattle.std.proofs.lemmas.Nat.{pow-add, shl_whole, shl_below, mod_low, shr_high, shr-shr, or_shifted, or_comm}
 use Rattle.std.proofs.Math.Nat.{add-mul, mul_assoc}
 use Rattle.std.proofs.lemmas.Bool.{cases_lt}
 use Rattle.std.specs.Prelude.{bit_or}
@@ -132,29 +132,23 @@ word_of-two_ends k s xs b h le most few short small e =
     ∙ ap word_of (sym (append_assoc (take k xs) (drop k xs) (b ∷ []))
     ∙ ap (λ ys. ys ++ b ∷ []) (take-append-drop k xs))
 
--- the bytes from place n - r on, read with the last eight, with a byte b of two bits above them
+-- the bytes from place n - r on, read with the last eight, and a byte b of two bits above them
 pub word_of-last_eight : (r : ℕ) (xs : List ℕ) (b : ℕ) → AreBytes xs → 8 ≤ length xs → r < 8 → b < 4
-    → bit_or (word_of (take 8 (drop (length xs - 8) xs)) / 2 ^ 4) (b * 2 ^ 60 % 2 ^ 64) / 2 ^ (60 - 8 * r)
+    → bit_or (word_of (take 8 (drop (length xs - 8) xs)) / 2 ^ 1 / 2 ^ (63 - 8 * r)) (b * 2 ^ (8 * r) % 2 ^ 64)
     ≡ word_of (drop (length xs - r) xs ++ b ∷ [])
 word_of-last_eight r xs b h many few small =
     let last = word_of (take 8 (drop (length xs - 8) xs)) in
     let ys = drop (length xs - r) xs in
     let n : length ys ≡ r = omega (arith, length-drop (length xs - r) xs) in
-    let shift : 4 + (60 - 8 * r) ≡ 8 * (length xs - r + 8 - length xs) = omega arith in
-    let bytes : last / 2 ^ 4 / 2 ^ (60 - 8 * r) ≡ word_of ys =
-    shr-shr last 4 (60 - 8 * r) ∙ ap (λ s. last / 2 ^ s) shift
+    let shift : 1 + (63 - 8 * r) ≡ 8 * (length xs - r + 8 - length xs) = omega arith in
+    let bytes : last / 2 ^ 1 / 2 ^ (63 - 8 * r) ≡ word_of ys =
+    shr-shr last 1 (63 - 8 * r) ∙ ap (λ s. last / 2 ^ s) shift
     ∙ word_of-last (length xs - r) 8 xs h many (omega arith) (omega arith) in
-    let sixty : 60 ≡ 8 * r + (60 - 8 * r) = omega arith in
     let one : b ≡ word_of (b ∷ []) = omega arith in
-    let above : b * 2 ^ 60 % 2 ^ 64 / 2 ^ (60 - 8 * r) ≡ word_of (b ∷ []) * 2 ^ (8 * length ys) =
-    ap (λ w. w / 2 ^ (60 - 8 * r))
-    (shl_whole b 2 60 64 small (omega arith)
-    ∙ ap (λ p. b * p) (ap (λ k. 2 ^ k) sixty ∙ pow-add 2 (8 * r) (60 - 8 * r))
-    ∙ sym (mul_assoc b (2 ^ (8 * r)) (2 ^ (60 - 8 * r))))
-    ∙ shl-shr (b * 2 ^ (8 * r)) (60 - 8 * r) ∙ ap (λ w. w * 2 ^ (8 * r)) one
+    let above : b * 2 ^ (8 * r) % 2 ^ 64 ≡ word_of (b ∷ []) * 2 ^ (8 * length ys) =
+    shl_whole b 2 (8 * r) 64 small (omega arith) ∙ ap (λ w. w * 2 ^ (8 * r)) one
     ∙ ap (λ k. word_of (b ∷ []) * 2 ^ (8 * k)) (sym n) in
-    or_shr (last / 2 ^ 4) (b * 2 ^ 60 % 2 ^ 64) (60 - 8 * r)
-    ∙ ap (λ w. bit_or w (b * 2 ^ 60 % 2 ^ 64 / 2 ^ (60 - 8 * r))) bytes
+    ap (λ w. bit_or w (b * 2 ^ (8 * r) % 2 ^ 64)) bytes
     ∙ ap (bit_or (word_of ys)) above
     ∙ sym (word_of-or ys (b ∷ []) (AreBytes-drop (length xs - r) xs h))
 

@@ -35,8 +35,8 @@ pub(crate) fn final_of_few(bytes: &[u8], end: u64) -> u64
 
 /// The final word of at least eight bytes.
 ///
-/// The bytes behind the last whole word are read with the last eight. `end` is set above them, and
-/// one shift brings all down.
+/// The bytes after the last whole word are read with the last eight, whose other bytes are shifted
+/// out. The shift is in two steps, since it is by 64 where no byte is after the last whole word.
 #[inline(always)]
 pub(crate) fn final_of_many(bytes: &[u8], end: u64) -> u64
     requires many { 8 ≤ length bytes.now }
@@ -44,7 +44,8 @@ pub(crate) fn final_of_many(bytes: &[u8], end: u64) -> u64
     ensures { result ≡ final_word bytes.now end }
 {
     let eight = word_at(bytes, bytes.len() - 8);
-    (eight >> 4 | end << 60) >> (60 - 8 * (bytes.len() % 8))
+    let over = 8 * (bytes.len() % 8);
+    (eight >> 1) >> (63 - over) | end << over
 }
 
 /// The same for a long message, which often has whole words alone: then it is `end`, and nothing is
