@@ -1,6 +1,6 @@
 //! The end of a hash: less than a block of whole words, and the final word.
 
-ghost use Rattle.std.specs.Prelude.{◌≡◌, ℕ, ◌+◌, ◌-◌, ◌/◌, ◌<◌, ◌≤◌, List, [], ◌∷◌, ◌++◌, length, take, drop, slice_index};
+ghost use Rattle.std.specs.Prelude.{◌≡◌, ℕ, ◌+◌, ◌-◌, ◌/◌, ◌<◌, ◌≤◌, ◌↔◌, IsTrue, List, [], ◌∷◌, ◌++◌, length, take, drop, slice_index};
 ghost use Rattle.komihash.specs.Halves.{pair_in};
 ghost use Rattle.komihash.specs.Hash.{hash_from_pair};
 ghost use Rattle.komihash.specs.Tails.{end_byte, final_word, whole_words};
@@ -80,8 +80,10 @@ pub(crate) trait Words {
     /// The words.
     ghost words: { Self → List ℕ };
 
-    fn count(&self) -> usize
-        ensures { result ≡ length (words self.now) };
+    /// Whether there are at least `count` words.
+    fn holds(&self, count: usize) -> bool
+        requires few { count ≤ 8 }
+        ensures { IsTrue result ↔ (count ≤ length (words self.now)) };
 
     fn word(&self, at: usize) -> u64
         requires within { at < length (words self.now) }
@@ -94,8 +96,8 @@ impl Words for &[u8] {
     ghost words = { λ bytes. whole_words bytes.now };
 
     #[inline(always)]
-    fn count(&self) -> usize {
-        self.len() / 8
+    fn holds(&self, count: usize) -> bool {
+        8 * count <= self.len()
     }
 
     #[inline(always)]
@@ -114,10 +116,10 @@ fn answer_below_two<W: Words>(pair: Pair, left: &W, at: usize, last: u64, tally:
     ensures products { tally.new.products ≡ tally.old.products + 2 }
     ensures kept { tally.new.kept ≡ tally.old.kept }
 {
-    if left.count() == at {
-        close_one(pair, last, tally)
-    } else {
+    if left.holds(at + 1) {
         close_two(pair, left.word(at), last, tally)
+    } else {
+        close_one(pair, last, tally)
     }
 }
 
@@ -145,11 +147,11 @@ fn answer_below_four<W: Words>(pair: Pair, left: &W, at: usize, last: u64, tally
         ≡ tally.old.products + (2 + (length (W.words left.now) - at) / 2) }
     ensures kept { tally.new.kept ≡ tally.old.kept }
 {
-    if left.count() < at + 2 {
-        answer_below_two(pair, left, at, last, tally)
-    } else {
+    if left.holds(at + 2) {
         let pair = take_two(pair, left, at, tally);
         answer_below_two(pair, left, at + 2, last, tally)
+    } else {
+        answer_below_two(pair, left, at, last, tally)
     }
 }
 
@@ -166,11 +168,11 @@ pub(crate) fn answer_below_eight<W: Words>(
     ensures products { tally.new.products ≡ tally.old.products + (2 + length (W.words left.now) / 2) }
     ensures kept { tally.new.kept ≡ tally.old.kept }
 {
-    if left.count() < 4 {
-        answer_below_four(pair, left, 0, last, tally)
-    } else {
+    if left.holds(4) {
         let pair = take_two(pair, left, 0, tally);
         let pair = take_two(pair, left, 2, tally);
         answer_below_four(pair, left, 4, last, tally)
+    } else {
+        answer_below_four(pair, left, 0, last, tally)
     }
 }

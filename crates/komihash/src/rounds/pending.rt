@@ -124,8 +124,8 @@ impl Words for Pending {
     ghost words = { λ pending. whole_words pending };
 
     #[inline(always)]
-    fn count(&self) -> usize {
-        self.fill / 8
+    fn holds(&self, count: usize) -> bool {
+        8 * count <= self.fill
     }
 
     #[inline(always)]
