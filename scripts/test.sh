@@ -1,6 +1,6 @@
 #!/usr/bin/env bash
-# Every proof and every test: the rules that are read off the sources, which take seconds, then the merge gate of the
-# toolchain, and the tests of the built program. The first part that fails ends the run.
+# Every proof and every test: the rules that are read off the sources and the documents, which take seconds, then the
+# merge gate of the toolchain, and the tests of the built program. The first part that fails ends the run.
 #
 # The last line is 'N passed, M failed', the sum of all parts, with ', K skipped' if something is missing that some
 # cases need; lines above it name these cases. With REQUIRE_ALL=1 in the environment, skipped cases count as failed.
@@ -77,7 +77,8 @@ part() {
 }
 
 look_for_tools
-for script in scripts/*.py; do part python3 "$script"; done
+part python3 scripts/rules.py
+part python3 scripts/documents.py
 part rt ci
 part bash scripts/program.sh
 part bash scripts/faults.sh
