@@ -23,9 +23,9 @@ sum_up() {
     exit $((failed > 0))
 }
 
-# Ends the run, since a part failed.
+# Ends the run, and says why.
 stop() {
-    echo "FAILED: $1. The run ends here, without the parts that come after."
+    echo "FAILED: $1"
     sum_up
 }
 
@@ -43,7 +43,7 @@ look_for_tools() {
     done
     ((BASH_VERSINFO[0] >= 4)) || lack 'bash, version 4 or newer'
     python3 -c 'import sys; sys.exit(sys.version_info < (3, 9))' 2> /dev/null || lack 'python3, version 3.9 or newer'
-    [ "$failed" = 0 ] || stop 'something is missing'
+    [ "$failed" = 0 ] || stop 'something is missing, so no part was run'
 }
 
 # Adds the counts that a part's last line has.
@@ -73,7 +73,7 @@ part() {
     grep '^skipped: ' "$room/output" >> "$room/skipped" || true
     add_counts "$room/output"
     if [ "$status" != 0 ] && [ "$failed" = 0 ]; then failed=1; fi
-    [ "$failed" = 0 ] || stop "$*"
+    [ "$failed" = 0 ] || stop "$*; the parts after it, if any, were not run"
 }
 
 look_for_tools
