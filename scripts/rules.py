@@ -1,292 +1,284 @@
 #!/usr/bin/env python3
-"""Holds the sources of `komihash` to the rules of counting that no proof shows.
+"""Checks the rules of counting in `komihash` that no contract shows.
 
-A contract counts products and kept bytes on the tally that a call is lent. What is done beside that
-tally it can't see: a product on a tally of its own, or bytes copied without the writer. So it is read
-off the sources:
+A contract counts products and kept bytes in the tally that a call is passed. What is done outside that tally it can't
+see: a product of words, a hash whose result is dropped, a copy of the message. So what a function does is read off its
+source and compared with what is allowed:
 
-  products  `multiply128` alone multiplies words; only the calls of STANDARD are made of the standard
-            library; functions are called, and by their own names
-  tallies   a function that is lent a tally makes none: it hands this one on in each counted call
-  costs     a function that is lent none makes just the counted calls that PLAIN tells
-  copies    the functions of WRITERS alone put bytes and words into slices, and those of CALLERS
-            alone call what does
+  operations  operations.txt lists what each function does: its products, loops and assignments, and its calls of
+              functions that do something. All else is refused.
+  tallies     A function that is passed a tally makes none. As there is no other in reach, it passes this one on.
+  seal        seal.txt lists the lines that decide who can make or change a tally, in sources, specs and proofs.
+  names       A function is called by its own name: no `use .. as`, no types of functions, no macros.
 
-It reads names, not meanings. It can't see a product that is made of sums or shifts, a copy that is
-made by naming values anew, and what the standard library does inside.
+Tests are not read. They are not part of the library, which a line of seal.txt ensures.
 
-Then each edit of scripts/planted/, which breaks a rule, has to be found. The last line is
-'N passed, M failed'.
+The script reads names, not meanings. It can't see a product that is made of sums or shifts, a copy that is made value
+by value in new variables (`let first = words[0];`), or what the standard library does inside.
+
+Each edit of planted/ breaks a rule, and has to be found. The last line is 'N passed, M failed'.
 """
 
 import re
 import sys
+from collections import Counter
 from pathlib import Path
 
+from planted.checks import planted, report
+
 SCRIPTS = Path(__file__).resolve().parent
-SOURCES = SCRIPTS.parent / "crates/komihash/src"
+CRATE = SCRIPTS.parent / "crates/komihash"
 
-# Not read: the tally itself, the statements of names, which nothing calls, and the tests.
-APART = re.compile(r"tally\.rt|names\.rt|tests\b.*")
-
-# The calls of the standard library, of which none multiplies words. `copy_from_slice` writes.
+# Functions of the standard library that neither multiply words, nor copy bytes, nor loop.
 STANDARD = set(
-    "copy_from_slice from from_le_bytes ilog2 is_empty len split_at split_first_chunk to_le_bytes"
-    " unreachable wrapping_add".split()
+    "from from_le_bytes ilog2 is_empty len split_at split_first_chunk to_le_bytes unreachable wrapping_add".split()
 )
 
-# The functions that are lent no tally and yet cost something, and how many counted calls each makes.
-PLAIN = {
-    "hash.rt komihash": 1,
-    "v4.rt komihash": 1,
-    "v5.rt komihash": 1,
-    "hasher.rt write": 1,
-    "generator.rt next": 1,
-    "generator.rt init": 1,
-    "generator.rt init_with_extra_seed": 4,
-    "generator.rt fill_bytes": 2,
-    "stream/engine.rt resume": 1,
-    "stream/saved.rt read_pending": 1,
-    "stream/streamed.rt new": 1,
-    "stream/streamed.rt new_with_seed": 1,
-    "stream/streamed.rt default": 1,
-    "stream/streamed.rt write": 1,
-    "stream/streamed.rt finish": 1,
-    "stream/streamed.rt resume": 1,
-    "stream/streamed/komi_stream.rt restore": 1,
+# Operations that make no caller of the function costly: products by 8, values behind references, values of structs,
+# the words of the pending bytes. And the function that changes a tally, whose callers are costly though it has none.
+LOCAL = re.compile(r"8\*.*|\*\w+|\w+ \{|\.words")
+RAISE = "raise"
+
+# What is refused anywhere in a source.
+REFUSED = {
+    r"\buse\b[^;]*\bas\b": "a name is used under another",
+    r"\bfn\s*\(|\bFn(?:Mut|Once)?\b": "there is a type of functions",
+    r"\bmacro_rules\b": "there is a macro",
+    r"\"|'(?:\\.[^']*|[^'])'": "there is a string or a character, which could hide code",
+    r"/\*|#(?!\s*!?\s*\[)": "there is a comment by `/*`, or a `#` without `[`, which could hide code",
 }
 
-# The functions that put bytes or words into slices, or set whole arrays.
-WRITERS = {
-    "utils.rt write_partial_word",
-    "utils/copies.rt write_words",
-    "utils/copies.rt write_bytes",
-    "rounds.rt block_round",
-    "rounds/pending/writer.rt join_word",
-    "rounds/pending/writer.rt set_word",
-    "rounds/pending/blocks.rt absorb_begun",
-    "rounds/pending/blocks.rt absorb",
-    "padding.rt pad",
-    "generator.rt fill_bytes",
-    "stream.rt run_on",
-    "stream/saved.rt write_head",
-}
+# Sources but for the tests. The lines of seal.txt: in all files those that name what is sealed; in sources also other
+# uses of the type of a tally than the usual; in the tally's own files also all that decide who sees what.
+SOURCE = re.compile(r"src/(?!tests\b).*\.rt")
+SEALED = re.compile(r"\b(?:Sealed|Tallies|Raised|Facts|TallyKey|mod tests)\b")
+USUAL = re.compile(r"\buse crate::tally::Tally;|\btally: &mut Tally\b|&mut Tally::new\(\)")
+OF_TALLY = re.compile(r"src/tally\.rt|specs/(?:Sealed|Tallies)\.antt|proofs/Raised\.antt|proofs/tally/.*")
+VISIBLE = re.compile(r"\b(?:pub|abbrev|unfoldable|struct|impl|fn|ghost|derive)\b")
 
-# Who calls what counts, multiplies or writes.
-CALLERS = {
-    "count_product": {"utils.rt multiply128"},
-    "count_kept": {"rounds/pending/writer.rt put"},
-    "multiply128": {"rounds.rt mix", "generator.rt next"},
-    "write_partial_word": {"utils/copies.rt write_bytes", "generator.rt fill_bytes"},
-    "write_words": {"padding.rt pad", "stream/saved.rt read_lanes"},
-    "write_bytes": {"padding.rt unpad", "rounds/pending.rt write_to", "stream/saved.rt write_lanes"},
-    "write_to": {"stream/saved.rt write_pending"},
-}
-
-RULES = ("products", "tallies", "costs", "copies")
-CALL = re.compile(r"(?:(\w+)\s*(?:::\s*<[^()]*?>\s*)?::\s*|(\.)\s*)?(\w+)!?(?:::<[^()]*?>)?\(")
-KEYWORDS = {"return", "match", "in", "if", "else", "while", "mut", "let"}
-TOKEN = re.compile(r"\w+|::|\.\.=?|->|=>|[=!<>]=|&&|\|\||(?:<<|>>|[-+*/%^|&])=|\S")
-ASSIGNS = re.compile(r"(?:<<|>>|[-+*/%^|&])?=")
+TOKEN = re.compile(r"\w+|::|\.\.=?|->|=>|[=!<>]=|&&|\|\||<<=?|>>=|[-+*/%^|&]=|\S")
+SETS = re.compile(r"(?:<<|>>|[-+*/%^|&])?=")
+LOOPS = ("for", "while", "loop")
+CONTRACT = ("requires", "ensures", "ghost")
+KEYWORDS = {*LOOPS, *"as break const continue else if in let match mut return static".split()}
+# Where the target of an assignment, and the operands of a product, begin or end.
+BEFORE_TARGET = set("( , ; => { }".split())
+AROUND_PRODUCT = set(", ; = + - | & ^ < > << .. ..= => return {".split())
 
 
-def blank(text, start, end):
-    """The text with a part made blank; its lines stay."""
-    return text[:start] + re.sub(r"[^\n]", " ", text[start:end]) + text[end:]
+def without_comments(file, text):
+    return re.sub(r"//.*" if file.endswith(".rt") else r"--.*", "", text)
 
 
-def behind(text, start):
-    """The place behind the bracket that closes the first one from a place on."""
+def behind(tokens, place):
+    """The place behind a token, or behind all of a bracket that begins there."""
     depth = 0
-    for place in range(start, len(text)):
-        if text[place] in "([{":
-            depth += 1
-        elif text[place] in ")]}":
-            depth -= 1
-            if depth == 0:
-                return place + 1
-    raise ValueError(f"an open bracket: {text[start:start + 40]}")
+    while True:
+        depth += (tokens[place] in "([{") - (tokens[place] in ")]}")
+        place += 1
+        if depth <= 0 or place == len(tokens):
+            return place
 
 
-def code_of(text):
-    """The code of a source: comments, strings, attributes, and what contracts alone see, are blank."""
-    for pattern in (r"//[^\n]*", r'"(?:\\.|[^"\\])*"', r"'(?:\\.|[^'\\])'"):
-        text = re.sub(pattern, lambda found: re.sub(r"[^\n]", " ", found[0]), text)
-    while found := re.search(r"#!?\[", text):
-        text = blank(text, found.start(), behind(text, found.start()))
-    while found := re.search(r"\bghost\s+use\b[^;]*;", text):
-        text = blank(text, *found.span())
-    while found := re.search(r"\b(?:requires|ensures|ghost)\b[^{]*\{", text):
-        end = behind(text, found.end() - 1)
-        text = blank(text, found.start(), end + (text[end : end + 1] in (";", ",")))
-    return text
+def ahead(tokens, place, stops):
+    """The place where what stands before a token begins: behind the last stop that is in no bracket."""
+    depth = 0
+    while depth > 0 or tokens[place - 1] not in stops:
+        place -= 1
+        depth += (tokens[place] in ")]}") - (tokens[place] in "([{")
+    return place
 
 
-def read_sources():
-    """Each source's name and text."""
-    files = {str(path.relative_to(SOURCES)): path.read_text() for path in sorted(SOURCES.rglob("*.rt"))}
-    return {file: text for file, text in files.items() if not APART.fullmatch(file)}
+def spelled(tokens):
+    """Tokens as a text, with spaces between words alone."""
+    return re.sub(r" (?!\w)|(?<!\w) ", "", " ".join(tokens))
+
+
+def tokens_of(code):
+    """The tokens of a source without its attributes."""
+    tokens = TOKEN.findall(code)
+    while "#" in tokens:
+        start = tokens.index("#")
+        end = behind(tokens, tokens.index("[", start)) if tokens[start + 1] in ("[", "!") else start + 1
+        del tokens[start:end]
+    return tokens
 
 
 class Function:
     """A function with a body."""
 
-    def __init__(self, file, owner, name, parameters, body):
-        lent = re.search(r"(\w+)\s*:\s*&mut\s+Tally\b", parameters)
-        self.owner = owner
-        self.name = name
-        self.place = f"{file} {name}"
-        self.tally = lent and lent[1]
-        self.body = body
-        self.tokens = TOKEN.findall(body)
+    def __init__(self, file, head, body):
+        self.file = file
+        self.name = head[1]
+        self.is_passed_tally = "& mut Tally" in " ".join(head)
+        self.tokens = ["{", *body, "}", "}"]
 
-    def calls(self):
-        """Each call: what it is called by (a type, `.`, or nothing), its name, and its last argument."""
-        for found in CALL.finditer(self.body):
-            by, name = found[1] or found[2] or "", found[3]
-            if name not in KEYWORDS and not name[0].isupper():
-                given = self.body[found.end() : behind(self.body, found.end() - 1) - 1]
-                last = given.rstrip(" \n,").split(",")[-1].strip()
-                yield by if by[:1].isupper() or by == "." else "", name, last
+    def operations(self, declared, free):
+        """All that it does, in the order of its text."""
+        found = (self.operation(place, declared, free) for place in range(1, len(self.tokens) - 2))
+        return [operation for operation in found if operation]
 
-    def statements(self):
-        """The tokens of each statement."""
-        statement = []
-        for token in self.tokens:
-            if token in ";{}":
-                yield statement
-                statement = []
-            else:
-                statement.append(token)
-        yield statement
+    def operation(self, place, declared, free):
+        """What the token at a place does, or an empty text."""
+        before, token = self.tokens[place - 1 : place + 1]
+        has_left_operand = re.fullmatch(r"\w+|[)\]}>]", before) and before not in KEYWORDS
+        if token == "*":
+            return self.product(place) if has_left_operand else f"*{self.tokens[place + 1]}"
+        if SETS.fullmatch(token):
+            target = self.tokens[ahead(self.tokens, place, BEFORE_TARGET) : place]
+            return "" if {"let", "const", "static"} & set(target) else f"{spelled(target)} {token}"
+        if token in LOOPS:
+            return spelled(self.up_to(place, "{"))
+        if token in ("|", "||") and not has_left_operand:
+            return "closure"
+        if token in CONTRACT:
+            return token
+        if token in KEYWORDS or not re.match(r"[^\W\d]", token):
+            return ""
+        return self.type_used(place) if token[0].isupper() else self.name_used(place, declared, free)
+
+    def up_to(self, place, stops):
+        """The tokens from a place on, up to a stop that is in no bracket."""
+        end = place
+        while self.tokens[end] not in stops:
+            end = behind(self.tokens, end)
+        return self.tokens[place:end]
+
+    def product(self, place):
+        """A product with both its operands."""
+        start = ahead(self.tokens, place, {"(", "[", *AROUND_PRODUCT})
+        return spelled(self.tokens[start:place] + self.up_to(place, {")", "]", "}", *AROUND_PRODUCT}))
+
+    def is_called(self, place):
+        """Whether a bracket stands behind a name, or behind its parameters in `::<..>`."""
+        place += 1
+        if self.tokens[place : place + 2] == ["::", "<"]:
+            while self.tokens[place] not in (">", ";"):
+                place = behind(self.tokens, place)
+            place += 1
+        return self.tokens[place] in ("(", "!")
+
+    def type_used(self, place):
+        """A value of a struct or a variant, or a use of a tally's type that is no call."""
+        token, after = self.tokens[place : place + 2]
+        is_value = after == "{" and not token.isupper() or self.is_called(place) and token != "Some"
+        return f"{token} {after}" if is_value or token == "Tally" and after != "::" else ""
+
+    def name_used(self, place, declared, free):
+        """A function that does something, called or as a value, or the words of the pending bytes."""
+        before, token, after = self.tokens[place - 1 : place + 2]
+        owner = self.tokens[place - 2] if before == "::" else ""
+        name = f"{owner}::{token}" if owner[:1].isupper() else token
+        is_called = self.is_called(place)
+        if before == "." and not is_called:
+            return ".words" if token == "words" else ""
+        if token in declared:
+            is_free = token in free and owner != "Tally"
+            return "" if is_free else name + ("" if is_called else " (not called)")
+        is_standard = token in STANDARD and (before in (".", "::") or after == "!")
+        is_function = is_called or before == "::" and after != "::"
+        return name if is_function and not is_standard else ""
 
 
-def functions_of(file, code):
+def functions_of(file, tokens):
     """The functions of a source that have a body."""
-    impls = []
-    for found in re.finditer(r"\bimpl\b([^{;]*)\{", code):
-        head = re.sub(r"<[^<>]*>|\bwhere\b.*", "", found[1], flags=re.DOTALL)
-        impls.append((found.start(), behind(code, found.end() - 1), re.findall(r"\w+", head)[-1]))
-    for found in re.finditer(r"\bfn\s+(\w+)", code):
-        start = code.index("(", found.end())
-        end = place = behind(code, start)
-        while code[place] not in "{;":
-            place = behind(code, place) if code[place] in "([" else place + 1
-        if code[place] == "{":
-            owners = [owner for first, last, owner in impls if first < found.start() < last]
-            body = code[place + 1 : behind(code, place) - 1]
-            yield Function(file, (owners or [""])[0], found[1], code[start:end], body)
+    for place, token in enumerate(tokens):
+        if token == "fn":
+            end = place
+            while tokens[end] not in ("{", ";"):
+                end = behind(tokens, tokens.index("{", end) if tokens[end] in CONTRACT else end)
+            if tokens[end] == "{":
+                yield Function(file, tokens[place:end], tokens[end + 1 : behind(tokens, end) - 1])
+
+
+def lines_of(file, text):
+    """The lines of a file without comments. A word as `pub` stands in the line of what it is said of."""
+    text = without_comments(file, text)
+    text = re.sub(r"(\b(?:pub(?:\([^)]*\))?|abbrev|unfoldable)|#\[cfg\(test\)\])\s+", r"\1 ", text)
+    return [line.strip() for line in text.splitlines() if line.strip()]
+
+
+def is_sealed(file, line):
+    """Whether a line has to stand in seal.txt."""
+    if SEALED.search(line) or OF_TALLY.fullmatch(file) and VISIBLE.search(line):
+        return True
+    return bool(SOURCE.fullmatch(file)) and "Tally" in USUAL.sub("", line)
+
+
+def differences(table, lines):
+    """Where lines are not those of a table."""
+    listed = Counter(line for line in (SCRIPTS / table).read_text(encoding="utf-8").splitlines() if line[:1] != "#")
+    lines = Counter(lines)
+    yield from (f"not in {table}: {line}" for line in (lines - listed).elements())
+    yield from (f"only in {table}: {line}" for line in (listed - lines).elements() if line)
 
 
 class Crate:
-    """The functions of the sources, and what each rule finds in them."""
+    """The files of the crate, and what each rule finds in them."""
 
     def __init__(self, files):
-        self.codes = {file: code_of(text) for file, text in files.items()}
-        self.functions = [function for file, code in self.codes.items() for function in functions_of(file, code)]
-        self.names = {name for code in self.codes.values() for name in re.findall(r"\bfn\s+(\w+)", code)}
-        self.names |= {"count_product", "count_kept"}
-        self.lent = {function.name for function in self.functions if function.tally}
-        self.plain = [function for function in self.functions if function.place in PLAIN]
+        self.files = files
+        self.codes = {file: without_comments(file, text) for file, text in files.items() if SOURCE.fullmatch(file)}
+        self.functions = [
+            function for file, code in self.codes.items() for function in functions_of(file, tokens_of(code))
+        ]
 
-    def is_plain(self, by, name):
-        """Whether a call may be of one of PLAIN."""
-        known = by in (".", "Tally") or any(function.owner == by for function in self.functions)
-        return any(
-            function.name == name and (function.owner == by or bool(by) and not known or by == "." and function.owner)
-            for function in self.plain
-        )
+    def done(self):
+        """The operations of each function. A function is free to call if it has none but local ones."""
+        declared = {function.name for function in self.functions}
+        free, is_settled = set(), False
+        while not is_settled:
+            done = [(function, function.operations(declared, free)) for function in self.functions]
+            costly = {function.name for function, found in done if not all(map(LOCAL.fullmatch, found))}
+            is_settled = free == declared - costly - {RAISE}
+            free = declared - costly - {RAISE}
+        return done
 
-    def costly(self, function):
-        """The last argument of each call of a function that costs something."""
-        return [last for by, name, last in function.calls() if name in self.lent or self.is_plain(by, name)]
-
-    def products(self):
-        for file, code in self.codes.items():
-            if re.search(r"\buse\b[^;]*\bas\b", code):
-                yield f"{file}: a name is used under another"
-        for function in self.functions:
-            if function.name != "multiply128":
-                for before, token in zip(function.tokens, function.tokens[1:]):
-                    is_operand = re.fullmatch(r"\w+|[)\]]", before) and before not in KEYWORDS
-                    if token == "*=" or token == "*" and is_operand and before != "8":
-                        yield f"{function.place}: {before} is multiplied, and not by 8"
-                if "u128" in function.tokens:
-                    yield f"{function.place}: there is a number of 128 bits"
-            for _, name, _ in function.calls():
-                if name not in STANDARD | self.names:
-                    yield f"{function.place}: {name} is no function of this crate, and not among STANDARD"
-            for token, after in zip(function.tokens, function.tokens[1:]):
-                if token in self.lent and after not in ("(", "::"):
-                    yield f"{function.place}: {token} is named, and not called"
+    def operations(self):
+        done = [f"{function.file} {function.name}: {', '.join(found) or 'nothing'}" for function, found in self.done()]
+        return differences("operations.txt", done)
 
     def tallies(self):
         for function in self.functions:
-            if function.tally:
-                if "Tally" in function.tokens:
-                    yield f"{function.place}: it is lent a tally, and makes one"
-                for last in self.costly(function):
-                    if last != function.tally:
-                        yield f"{function.place}: a counted call is not lent the tally"
+            if function.is_passed_tally and "Tally" in function.tokens:
+                yield f"{function.file} {function.name}: it is passed a tally, and makes one"
 
-    def costs(self):
-        for function in self.functions:
-            wanted, made = PLAIN.get(function.place, 0), len(self.costly(function))
-            if not function.tally and made != wanted:
-                yield f"{function.place}: {made} counted calls, not {wanted}"
+    def seal(self):
+        lines = [(file, line) for file, text in self.files.items() for line in lines_of(file, text)]
+        return differences("seal.txt", [f"{file}: {line}" for file, line in lines if is_sealed(file, line)])
 
-    def copies(self):
-        for function in self.functions:
-            for _, name, _ in function.calls():
-                if name in CALLERS and function.place not in CALLERS[name]:
-                    yield f"{function.place}: it calls {name}"
-            if function.place in WRITERS:
-                continue
-            if any(name == "copy_from_slice" for _, name, _ in function.calls()):
-                yield f"{function.place}: it copies bytes"
-            for statement in function.statements():
-                at = next((i for i, token in enumerate(statement) if ASSIGNS.fullmatch(token)), 0)
-                target = statement[:at]
-                if target and "let" not in target and "const" not in target:
-                    if target[-1] == "]" or target[0] == "*" or "words" in target:
-                        yield f"{function.place}: it sets {' '.join(target)}"
-
-    def unknown(self):
-        """What the tables name that is not there."""
-        places = {function.place for function in self.functions}
-        for place in {*PLAIN, *WRITERS, *(place for callers in CALLERS.values() for place in callers)} - places:
-            yield f"{place}: there is no such function"
+    def names(self):
+        for file, code in self.codes.items():
+            yield from (f"{file}: {fault}" for pattern, fault in REFUSED.items() if re.search(pattern, code))
 
 
-def planted(files, edit):
-    """The sources with an edit in."""
-    lines = [line.partition(": ")[::2] for line in edit.read_text().splitlines() if line]
-    (_, name), *pairs = lines
-    file = name.removeprefix("src/")
-    text = files[file]
-    for (_, old), (_, new) in zip(pairs[::2], pairs[1::2]):
-        if text.count(old) != 1:
-            raise ValueError(f"{edit.name}: its text is not once in {name}: {old}")
-        text = text.replace(old, new)
-    return {**files, file: text}
+RULES = (Crate.operations, Crate.tallies, Crate.seal, Crate.names)
 
 
-def main():
-    files = read_sources()
-    cases = []
-    crate = Crate(files)
-    for rule in (*RULES, "unknown"):
-        found = list(getattr(crate, rule)())
-        cases.append((f"the sources, {rule}", not found, found))
-    for edit in sorted((SCRIPTS / "planted").glob("*.edit")):
-        crate = Crate(planted(files, edit))
-        found = [text for rule in RULES for text in getattr(crate, rule)()]
-        cases.append((f"found: {edit.stem}: {'; '.join(found)}", bool(found), ["nothing is found"]))
-    for name, holds, found in cases:
-        print(f"{'ok' if holds else 'FAILED'}: {name}", *([] if holds else found), sep="\n    ")
-    failed = sum(not holds for _, holds, _ in cases)
-    print(f"{len(cases) - failed} passed, {failed} failed")
-    return int(failed > 0)
+def read_files():
+    """The sources, specs and proofs of the crate: each text by its name."""
+    paths = [*CRATE.glob("src/**/*.rt"), *CRATE.glob("specs/**/*.antt"), *CRATE.glob("proofs/**/*.antt")]
+    return {path.relative_to(CRATE).as_posix(): path.read_text(encoding="utf-8") for path in sorted(paths)}
 
 
-sys.exit(main())
+def cases_of(files, edits):
+    """Each case: its name, and its faults."""
+    for rule in RULES:
+        yield f"the crate, {rule.__name__}", list(rule(Crate(files)))
+    finders = set()
+    for edit in edits:
+        try:
+            crate = Crate(planted(files, edit))
+        except ValueError as fault:
+            yield edit.name, [str(fault)]
+            continue
+        found = {rule.__name__: list(rule(crate)) for rule in RULES}
+        texts = [text for name in found for text in found[name]]
+        finders |= {name for name in found if found[name]}
+        yield ": ".join(["found", edit.stem, *texts[:1]]), [] if texts else ["no rule finds it"]
+    for rule in RULES:
+        yield f"a planted edit is found by {rule.__name__}", [] if rule.__name__ in finders else ["none is"]
+
+
+if __name__ == "__main__":
+    sys.exit(report(cases_of(read_files(), sorted((SCRIPTS / "planted").glob("*.edit")))))

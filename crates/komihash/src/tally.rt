@@ -18,7 +18,7 @@ pub struct Tally {
 }
 
 impl Model for Tally {
-    ghost use Rattle.komihash.specs.Tallies.{counted};
+    ghost use Rattle.komihash.specs.Sealed.{counted};
 
     ghost also_owns = { λ t. counted t.products t.kept };
 }
