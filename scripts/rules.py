@@ -13,8 +13,8 @@ source and compared with what is allowed:
 
 Tests are not read. They are not part of the library, which a line of seal.txt ensures.
 
-The script reads names, not meanings. It can't see a product that is made of sums or shifts, a copy that is made value
-by value in new variables (`let first = words[0];`), or what the standard library does inside.
+The script reads names, not meanings. It can't see a product that is made of sums or shifts, a copy that is made by
+naming values anew (`let first = words[0];`), or what the standard library does inside.
 
 Each edit of planted/ breaks a rule, and has to be found. The last line is 'N passed, M failed'.
 """
@@ -22,6 +22,7 @@ Each edit of planted/ breaks a rule, and has to be found. The last line is 'N pa
 import re
 import sys
 from collections import Counter
+from functools import lru_cache
 from pathlib import Path
 
 from planted.checks import planted, report
@@ -60,7 +61,7 @@ TOKEN = re.compile(r"\w+|::|\.\.=?|->|=>|[=!<>]=|&&|\|\||<<=?|>>=|[-+*/%^|&]=|\S
 SETS = re.compile(r"(?:<<|>>|[-+*/%^|&])?=")
 LOOPS = ("for", "while", "loop")
 CONTRACT = ("requires", "ensures", "ghost")
-KEYWORDS = {*LOOPS, *"as break const continue else if in let match mut return static".split()}
+KEYWORDS = {*LOOPS, *"as break const continue else if in let match move mut ref return static unsafe".split()}
 # Where the target of an assignment, and the operands of a product, begin or end.
 BEFORE_TARGET = set("( , ; => { }".split())
 AROUND_PRODUCT = set(", ; = + - | & ^ < > << .. ..= => return {".split())
@@ -113,6 +114,7 @@ class Function:
         self.is_passed_tally = "& mut Tally" in " ".join(head)
         self.tokens = ["{", *body, "}", "}"]
 
+    @lru_cache(maxsize=None)
     def operations(self, declared, free):
         """All that it does, in the order of its text."""
         found = (self.operation(place, declared, free) for place in range(1, len(self.tokens) - 2))
@@ -180,22 +182,18 @@ class Function:
         return name if is_function and not is_standard else ""
 
 
-def functions_of(file, tokens):
+@lru_cache(maxsize=None)
+def functions_of(file, code):
     """The functions of a source that have a body."""
+    tokens, functions = tokens_of(code), []
     for place, token in enumerate(tokens):
         if token == "fn":
             end = place
             while tokens[end] not in ("{", ";"):
                 end = behind(tokens, tokens.index("{", end) if tokens[end] in CONTRACT else end)
             if tokens[end] == "{":
-                yield Function(file, tokens[place:end], tokens[end + 1 : behind(tokens, end) - 1])
-
-
-def lines_of(file, text):
-    """The lines of a file without comments. A word as `pub` stands in the line of what it is said of."""
-    text = without_comments(file, text)
-    text = re.sub(r"(\b(?:pub(?:\([^)]*\))?|abbrev|unfoldable)|#\[cfg\(test\)\])\s+", r"\1 ", text)
-    return [line.strip() for line in text.splitlines() if line.strip()]
+                functions.append(Function(file, tokens[place:end], tokens[end + 1 : behind(tokens, end) - 1]))
+    return functions
 
 
 def is_sealed(file, line):
@@ -203,6 +201,14 @@ def is_sealed(file, line):
     if SEALED.search(line) or OF_TALLY.fullmatch(file) and VISIBLE.search(line):
         return True
     return bool(SOURCE.fullmatch(file)) and "Tally" in USUAL.sub("", line)
+
+
+@lru_cache(maxsize=None)
+def sealed_lines(file, text):
+    """The lines of a file that have to stand in seal.txt. A word as `pub` is in the line of what it is said of."""
+    text = without_comments(file, text)
+    text = re.sub(r"(\b(?:pub(?:\([^)]*\))?|abbrev|unfoldable)|#\[cfg\(test\)\])\s+", r"\1 ", text)
+    return [f"{file}: {line.strip()}" for line in text.splitlines() if is_sealed(file, line)]
 
 
 def differences(table, lines):
@@ -219,14 +225,12 @@ class Crate:
     def __init__(self, files):
         self.files = files
         self.codes = {file: without_comments(file, text) for file, text in files.items() if SOURCE.fullmatch(file)}
-        self.functions = [
-            function for file, code in self.codes.items() for function in functions_of(file, tokens_of(code))
-        ]
+        self.functions = [function for file, code in self.codes.items() for function in functions_of(file, code)]
 
     def done(self):
         """The operations of each function. A function is free to call if it has none but local ones."""
-        declared = {function.name for function in self.functions}
-        free, is_settled = set(), False
+        declared = frozenset(function.name for function in self.functions)
+        free, is_settled = frozenset(), False
         while not is_settled:
             done = [(function, function.operations(declared, free)) for function in self.functions]
             costly = {function.name for function, found in done if not all(map(LOCAL.fullmatch, found))}
@@ -244,8 +248,7 @@ class Crate:
                 yield f"{function.file} {function.name}: it is passed a tally, and makes one"
 
     def seal(self):
-        lines = [(file, line) for file, text in self.files.items() for line in lines_of(file, text)]
-        return differences("seal.txt", [f"{file}: {line}" for file, line in lines if is_sealed(file, line)])
+        return differences("seal.txt", [line for file in self.files for line in sealed_lines(file, self.files[file])])
 
     def names(self):
         for file, code in self.codes.items():
@@ -263,8 +266,9 @@ def read_files():
 
 def cases_of(files, edits):
     """Each case: its name, and its faults."""
+    crate = Crate(files)
     for rule in RULES:
-        yield f"the crate, {rule.__name__}", list(rule(Crate(files)))
+        yield f"the crate, {rule.__name__}", list(rule(crate))
     finders = set()
     for edit in edits:
         try:
