@@ -71,27 +71,27 @@ def without_comments(file, text):
     return re.sub(r"//.*" if file.endswith(".rt") else r"--.*", "", text)
 
 
-def behind(tokens, place):
-    """The place behind a token, or behind all of a bracket that begins there."""
+def end_of(tokens, index):
+    """The index after a token, or after the whole bracket that it opens."""
     depth = 0
     while True:
-        depth += (tokens[place] in "([{") - (tokens[place] in ")]}")
-        place += 1
-        if depth <= 0 or place == len(tokens):
-            return place
+        depth += (tokens[index] in "([{") - (tokens[index] in ")]}")
+        index += 1
+        if depth <= 0 or index == len(tokens):
+            return index
 
 
-def ahead(tokens, place, stops):
-    """The place where what stands before a token begins: behind the last stop that is in no bracket."""
+def start_of(tokens, index, stops):
+    """The index after the last stop before a token. Stops in brackets don't count."""
     depth = 0
-    while depth > 0 or tokens[place - 1] not in stops:
-        place -= 1
-        depth += (tokens[place] in ")]}") - (tokens[place] in "([{")
-    return place
+    while depth > 0 or tokens[index - 1] not in stops:
+        index -= 1
+        depth += (tokens[index] in ")]}") - (tokens[index] in "([{")
+    return index
 
 
 def spelled(tokens):
-    """Tokens as a text, with spaces between words alone."""
+    """Tokens as a text, with spaces only between words."""
     return re.sub(r" (?!\w)|(?<!\w) ", "", " ".join(tokens))
 
 
@@ -100,7 +100,7 @@ def tokens_of(code):
     tokens = TOKEN.findall(code)
     while "#" in tokens:
         start = tokens.index("#")
-        end = behind(tokens, tokens.index("[", start)) if tokens[start + 1] in ("[", "!") else start + 1
+        end = end_of(tokens, tokens.index("[", start)) if tokens[start + 1] in ("[", "!") else start + 1
         del tokens[start:end]
     return tokens
 
@@ -112,66 +112,67 @@ class Function:
         self.file = file
         self.name = head[1]
         self.is_passed_tally = "& mut Tally" in " ".join(head)
+        # With brackets around, so that each token of the body has neighbours.
         self.tokens = ["{", *body, "}", "}"]
 
     @lru_cache(maxsize=None)
     def operations(self, declared, free):
-        """All that it does, in the order of its text."""
-        found = (self.operation(place, declared, free) for place in range(1, len(self.tokens) - 2))
+        """All that it does, in source order."""
+        found = (self.operation(index, declared, free) for index in range(1, len(self.tokens) - 2))
         return [operation for operation in found if operation]
 
-    def operation(self, place, declared, free):
-        """What the token at a place does, or an empty text."""
-        before, token = self.tokens[place - 1 : place + 1]
+    def operation(self, index, declared, free):
+        """What the token at an index does, or an empty text."""
+        before, token = self.tokens[index - 1 : index + 1]
         has_left_operand = re.fullmatch(r"\w+|[)\]}>]", before) and before not in KEYWORDS
         if token == "*":
-            return self.product(place) if has_left_operand else f"*{self.tokens[place + 1]}"
+            return self.product(index) if has_left_operand else f"*{self.tokens[index + 1]}"
         if SETS.fullmatch(token):
-            target = self.tokens[ahead(self.tokens, place, BEFORE_TARGET) : place]
+            target = self.tokens[start_of(self.tokens, index, BEFORE_TARGET) : index]
             return "" if {"let", "const", "static"} & set(target) else f"{spelled(target)} {token}"
         if token in LOOPS:
-            return spelled(self.up_to(place, "{"))
+            return spelled(self.up_to(index, "{"))
         if token in ("|", "||") and not has_left_operand:
             return "closure"
         if token in CONTRACT:
             return token
         if token in KEYWORDS or not re.match(r"[^\W\d]", token):
             return ""
-        return self.type_used(place) if token[0].isupper() else self.name_used(place, declared, free)
+        return self.type_used(index) if token[0].isupper() else self.name_used(index, declared, free)
 
-    def up_to(self, place, stops):
-        """The tokens from a place on, up to a stop that is in no bracket."""
-        end = place
+    def up_to(self, index, stops):
+        """The tokens from an index to the next stop. Stops in brackets don't count."""
+        end = index
         while self.tokens[end] not in stops:
-            end = behind(self.tokens, end)
-        return self.tokens[place:end]
+            end = end_of(self.tokens, end)
+        return self.tokens[index:end]
 
-    def product(self, place):
+    def product(self, index):
         """A product with both its operands."""
-        start = ahead(self.tokens, place, {"(", "[", *AROUND_PRODUCT})
-        return spelled(self.tokens[start:place] + self.up_to(place, {")", "]", "}", *AROUND_PRODUCT}))
+        start = start_of(self.tokens, index, {"(", "[", *AROUND_PRODUCT})
+        return spelled(self.tokens[start:index] + self.up_to(index, {")", "]", "}", *AROUND_PRODUCT}))
 
-    def is_called(self, place):
-        """Whether a bracket stands behind a name, or behind its parameters in `::<..>`."""
-        place += 1
-        if self.tokens[place : place + 2] == ["::", "<"]:
-            while self.tokens[place] not in (">", ";"):
-                place = behind(self.tokens, place)
-            place += 1
-        return self.tokens[place] in ("(", "!")
+    def is_called(self, index):
+        """Whether a bracket follows a name, or its parameters in `::<..>`."""
+        index += 1
+        if self.tokens[index : index + 2] == ["::", "<"]:
+            while self.tokens[index] not in (">", ";"):
+                index = end_of(self.tokens, index)
+            index += 1
+        return self.tokens[index] in ("(", "!")
 
-    def type_used(self, place):
+    def type_used(self, index):
         """A value of a struct or a variant, or a use of a tally's type that is no call."""
-        token, after = self.tokens[place : place + 2]
-        is_value = after == "{" and not token.isupper() or self.is_called(place) and token != "Some"
+        token, after = self.tokens[index : index + 2]
+        is_value = after == "{" and not token.isupper() or self.is_called(index) and token != "Some"
         return f"{token} {after}" if is_value or token == "Tally" and after != "::" else ""
 
-    def name_used(self, place, declared, free):
+    def name_used(self, index, declared, free):
         """A function that does something, called or as a value, or the words of the pending bytes."""
-        before, token, after = self.tokens[place - 1 : place + 2]
-        owner = self.tokens[place - 2] if before == "::" else ""
+        before, token, after = self.tokens[index - 1 : index + 2]
+        owner = self.tokens[index - 2] if before == "::" else ""
         name = f"{owner}::{token}" if owner[:1].isupper() else token
-        is_called = self.is_called(place)
+        is_called = self.is_called(index)
         if before == "." and not is_called:
             return ".words" if token == "words" else ""
         if token in declared:
@@ -186,13 +187,13 @@ class Function:
 def functions_of(file, code):
     """The functions of a source that have a body."""
     tokens, functions = tokens_of(code), []
-    for place, token in enumerate(tokens):
+    for index, token in enumerate(tokens):
         if token == "fn":
-            end = place
+            end = index
             while tokens[end] not in ("{", ";"):
-                end = behind(tokens, tokens.index("{", end) if tokens[end] in CONTRACT else end)
+                end = end_of(tokens, tokens.index("{", end) if tokens[end] in CONTRACT else end)
             if tokens[end] == "{":
-                functions.append(Function(file, tokens[place:end], tokens[end + 1 : behind(tokens, end) - 1]))
+                functions.append(Function(file, tokens[index:end], tokens[end + 1 : end_of(tokens, end) - 1]))
     return functions
 
 
@@ -205,7 +206,7 @@ def is_sealed(file, line):
 
 @lru_cache(maxsize=None)
 def sealed_lines(file, text):
-    """The lines of a file that have to stand in seal.txt. A word as `pub` is in the line of what it is said of."""
+    """The lines of a file that have to stand in seal.txt. A word such as `pub` is moved to the line it belongs to."""
     text = without_comments(file, text)
     text = re.sub(r"(\b(?:pub(?:\([^)]*\))?|abbrev|unfoldable)|#\[cfg\(test\)\])\s+", r"\1 ", text)
     return [f"{file}: {line.strip()}" for line in text.splitlines() if is_sealed(file, line)]
@@ -227,7 +228,7 @@ class Crate:
         self.codes = {file: without_comments(file, text) for file, text in files.items() if SOURCE.fullmatch(file)}
         self.functions = [function for file, code in self.codes.items() for function in functions_of(file, code)]
 
-    def done(self):
+    def all_operations(self):
         """The operations of each function. A function is free to call if it has none but local ones."""
         declared = frozenset(function.name for function in self.functions)
         free, is_settled = frozenset(), False
@@ -239,8 +240,8 @@ class Crate:
         return done
 
     def operations(self):
-        done = [f"{function.file} {function.name}: {', '.join(found) or 'nothing'}" for function, found in self.done()]
-        return differences("operations.txt", done)
+        done = [(f"{function.file} {function.name}", found) for function, found in self.all_operations()]
+        return differences("operations.txt", [f"{name}: {', '.join(found) or 'nothing'}" for name, found in done])
 
     def tallies(self):
         for function in self.functions:
