@@ -64,7 +64,7 @@ CONTRACT = ("requires", "ensures", "ghost")
 KEYWORDS = {*LOOPS, *"as break const continue else if in let match move mut ref return static unsafe".split()}
 # Where the target of an assignment, and the operands of a product, begin or end.
 BEFORE_TARGET = set("( , ; => { }".split())
-AROUND_PRODUCT = set(", ; = + - | & ^ < > << .. ..= => return {".split())
+AROUND_PRODUCT = set(", ; = + - | & ^ < > << <= >= == != && || .. ..= => return {".split())
 
 
 def without_comments(file, text):
@@ -265,24 +265,27 @@ def read_files():
     return {path.relative_to(CRATE).as_posix(): path.read_text(encoding="utf-8") for path in sorted(paths)}
 
 
+def findings(files):
+    """What each rule finds, by the rule's name."""
+    crate = Crate(files)
+    return {rule.__name__: list(rule(crate)) for rule in RULES}
+
+
 def cases_of(files, edits):
     """Each case: its name, and its faults."""
-    crate = Crate(files)
-    for rule in RULES:
-        yield f"the crate, {rule.__name__}", list(rule(crate))
+    before = findings(files)
+    yield from ((f"the crate, {rule}", texts) for rule, texts in before.items())
     finders = set()
     for edit in edits:
         try:
-            crate = Crate(planted(files, edit))
+            found = findings(planted(files, edit))
         except ValueError as fault:
             yield edit.name, [str(fault)]
             continue
-        found = {rule.__name__: list(rule(crate)) for rule in RULES}
-        texts = [text for name in found for text in found[name]]
-        finders |= {name for name in found if found[name]}
-        yield ": ".join(["found", edit.stem, *texts[:1]]), [] if texts else ["no rule finds it"]
-    for rule in RULES:
-        yield f"a planted edit is found by {rule.__name__}", [] if rule.__name__ in finders else ["none is"]
+        new = [(rule, text) for rule, texts in found.items() for text in texts if text not in before[rule]]
+        finders |= {rule for rule, _ in new}
+        yield ": ".join(["found", edit.stem, *(text for _, text in new[:1])]), [] if new else ["no rule finds it"]
+    yield from ((f"a planted edit is found by {rule}", [] if rule in finders else ["none is"]) for rule in before)
 
 
 if __name__ == "__main__":
