@@ -15,7 +15,7 @@ import re
 import sys
 from pathlib import Path
 
-from edits import planted, report
+from checks import planted, report
 
 SCRIPTS = Path(__file__).resolve().parent
 TOP = SCRIPTS.parent
@@ -115,15 +115,19 @@ class Documents:
         return {rule: list(getattr(self, rule)()) for rule in RULES}
 
 
-def main():
-    files = read_files()
+def cases_of(files, edits):
+    """Each case: its name, and its faults."""
     found = Documents(files).found()
-    cases = [(f"the documents, {rule}", not found[rule], found[rule]) for rule in RULES]
-    for edit in sorted((SCRIPTS / "planted/documents").glob("*.edit")):
-        found = sum(Documents(planted(files, edit)).found().values(), [])
-        cases.append((f"found: {edit.stem}: {'; '.join(found)}", bool(found), ["nothing is found"]))
-    return report(cases)
+    for rule in RULES:
+        yield f"the documents, {rule}", found[rule]
+    for edit in edits:
+        try:
+            texts = sum(Documents(planted(files, edit)).found().values(), [])
+        except ValueError as fault:
+            yield edit.name, [str(fault)]
+            continue
+        yield ": ".join(["found", edit.stem, *texts[:1]]), [] if texts else ["no rule finds it"]
 
 
 if __name__ == "__main__":
-    sys.exit(main())
+    sys.exit(report(cases_of(read_files(), sorted((SCRIPTS / "planted/documents").glob("*.edit")))))

@@ -25,7 +25,7 @@ from collections import Counter
 from functools import lru_cache
 from pathlib import Path
 
-from planted.checks import planted, report
+from checks import planted, report
 
 SCRIPTS = Path(__file__).resolve().parent
 CRATE = SCRIPTS.parent / "crates/komihash"
