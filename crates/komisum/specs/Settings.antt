@@ -1,9 +1,13 @@
 -- The version and the seed that words ask for.
-use Rattle.std.specs.Prelude.{ℕ, Bool, List, [], ◌∷◌, length, nat_le, ◌==◌, ◌&&◌, ◌||◌, None, Some, if◌then◌else◌}
+use Rattle.std.specs.Prelude.{ℕ, Bool, List, [], ◌∷◌, length, map, nat_le, ◌==◌, ◌&&◌, ◌||◌, None, Some, Ok, Err, if◌then◌else◌, Vec, String, string_bytes}
 use Rattle.std.specs.Int.{is_in_range}
 use Rattle.std.specs.List.{list_all}
 use Rattle.std.specs.declared.option.Option.{Option}
+use Rattle.std.specs.declared.result.Result.{Result}
+use Rattle.std.specs.Option.{ok_or}
 use Rattle.komisum.specs.Hex.{number_written}
+use Rattle.komisum.specs.declared.refusal.Refusal.{Refusal}
+use Rattle.komisum.specs.declared.refusal.Refusal.TheVariants.{Usage}
 use Rattle.komisum.specs.declared.version.Version.{Version}
 use Rattle.komisum.specs.declared.version.Version.TheVariants.{Four, Five}
 
@@ -38,3 +42,8 @@ abbrev pub settings_of : List (List ℕ) → Option (Version × ℕ)
 settings_of [] = Some (Five, 0)
 settings_of (version ∷ seed ∷ []) = both_of (version_of version) (seed_of seed)
 settings_of _ = None
+
+-- what arguments ask for, or the refusal that came of them: those that ask for nothing are wrong usage
+abbrev pub asked : {A B : Type 0} → Result (Vec (String A) B) Refusal → Result (Version × ℕ) Refusal
+asked (Ok arguments) = ok_or (settings_of (map string_bytes arguments.items)) Usage
+asked (Err refusal) = Err refusal

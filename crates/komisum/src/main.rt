@@ -20,10 +20,23 @@ mod watched;
 mod words;
 mod writing;
 
+use ending::Ending;
+use refusal::Refusal;
+use std::io::BufReader;
 use std::process::ExitCode;
 use watched::Watched;
 
+// The bytes that are read ahead of the chunks of `show`: as many as a pipe holds.
+const AHEAD: usize = 1 << 16;
+
 fn main(rt: HostRuntime) -> ExitCode {
-    let ending = program::run(&rt, &mut rt.stdin(), &mut Watched::new(rt.stdout()));
+    let asked = words::settings_given(&rt);
+    let ending = match BufReader::with_capacity(rt.alloc(), AHEAD, rt.stdin()) {
+        Ok(input) => {
+            let mut output = Watched::new(rt.stdout());
+            program::run(asked, &mut Watched::new(input), &mut output)
+        }
+        Err(_) => Ending::Refused(asked.err().unwrap_or(Refusal::NoMemory)),
+    };
     report::report(&mut Watched::new(rt.stderr()), &ending)
 }

@@ -56,6 +56,8 @@ pub fn show<R: Read, W: Write>(
         → Keeps (W.contents writer.old.inner) (W.contents writer.new.inner) }
     ensures bound { Takes (R.remaining reader.old.inner) (R.remaining reader.new.inner) (λ taken.
         taken ≤ 2 ^ 40 + 4096) }
+    ensures read_bound { result ≡ Err Fault.Read
+        → Takes (R.remaining reader.old.inner) (R.remaining reader.new.inner) (λ taken. taken ≤ 2 ^ 40) }
 
     // A write that fails comes after all reads, and leaves a beginning of the line.
     ensures begun { result ≡ Err Fault.Write → IfSome (R.remaining reader.old.inner) (λ bytes.

@@ -4,11 +4,16 @@ ghost use Rattle.std.specs.Prelude.{◌≤◌};
 
 use std::io::{Error, ErrorKind, Read, Result, Write};
 
+/// The kind of the error of a call that fails oddly.
+pub const ODD: ErrorKind = ErrorKind::StaleNetworkFileHandle;
+
 /// What a call answers where it is told to stop.
 #[derive(Drop)]
 pub enum Stop {
-    /// An error.
+    /// An error of the kind "interrupted", after which a caller might try again.
     Fails,
+    /// An error of a kind that no other code here makes.
+    FailsOddly,
     /// No byte.
     MovesNone,
 }
@@ -44,6 +49,7 @@ impl Calls {
         }
         match self.stop {
             Stop::Fails => Err(Error::from(ErrorKind::Interrupted)),
+            Stop::FailsOddly => Err(Error::from(ODD)),
             Stop::MovesNone => Ok(false),
         }
     }
@@ -55,6 +61,7 @@ pub struct FakeReader<'a> {
     rest: &'a [u8],
     most: usize,
     calls: Calls,
+    sizes: [usize; 4],
 }
 
 impl<'a> FakeReader<'a> {
@@ -64,12 +71,18 @@ impl<'a> FakeReader<'a> {
             rest: bytes,
             most,
             calls,
+            sizes: [0; 4],
         }
     }
 
     /// The reads that it was asked for.
     pub fn reads(&self) -> usize {
         self.calls.made
+    }
+
+    /// The bytes that each of its first four reads returned.
+    pub fn sizes(&self) -> [usize; 4] {
+        self.sizes
     }
 }
 
@@ -81,6 +94,9 @@ impl Read for FakeReader<'_> {
         let count = self.most.min(self.rest.len()).min(buf.len());
         buf[..count].copy_from_slice(&self.rest[..count]);
         self.rest = &self.rest[count..];
+        if let Some(size) = self.sizes.get_mut(self.calls.made.saturating_sub(1)) {
+            *size = count;
+        }
         Ok(count)
     }
 }

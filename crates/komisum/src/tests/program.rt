@@ -5,6 +5,7 @@ use super::messages::TO_SEVEN;
 use crate::hex::hex_line;
 use crate::program::run;
 use crate::watched::Watched;
+use crate::words::settings_given;
 use std::alloc::Global;
 use std::env::FillError;
 use std::process::Abort;
@@ -44,7 +45,12 @@ fn ran(
 ) -> (&'static str, usize, FakeWriter) {
     let mut reader = FakeReader::new(&TO_SEVEN, 7, calls);
     let mut writer = Watched::new(writer);
-    let ending = run(&(FakeWords(words), alloc), &mut reader, &mut writer);
+    let host = (FakeWords(words), alloc);
+    let ending = run(
+        settings_given(&host),
+        &mut Watched::new(&mut reader),
+        &mut writer,
+    );
     (
         ending.text().unwrap_or("ok"),
         reader.reads(),
@@ -80,11 +86,21 @@ fn lines_for_words(rt: HostRuntime) {
 }
 
 #[test]
+fn a_name_that_is_not_utf8(rt: HostRuntime) {
+    let name = b"\xff".as_slice();
+    writes(&rt, rt.alloc(), &[name], b"8000000000000000\n");
+    writes(&rt, rt.alloc(), &[name, b"4", b"0"], b"0000000000000007\n");
+}
+
+#[test]
 fn seeds_of_words(rt: HostRuntime) {
     let four = hex_line(komihash::v4::komihash(&TO_SEVEN, 0x1f));
     writes(&rt, rt.alloc(), &[b"komisum", b"4", b"1f"], &four);
     let five = hex_line(komihash::v5::komihash(&TO_SEVEN, 0x1f));
     writes(&rt, rt.alloc(), &[b"komisum", b"5", b"1f"], &five);
+    let all = hex_line(komihash::v5::komihash(&TO_SEVEN, 0x123456789abcdef0));
+    let digits = b"123456789abcdef0";
+    writes(&rt, rt.alloc(), &[b"komisum", b"5", digits], &all);
 }
 
 // Words that ask for nothing: nothing is read, and nothing written.
@@ -100,6 +116,9 @@ fn words_that_are_refused(rt: HostRuntime) {
     refuses(&rt, rt.alloc(), &[b"komisum", b"4"]);
     refuses(&rt, rt.alloc(), &[b"komisum", b"5", b"\xff"]);
     refuses(&rt, rt.alloc(), &[b"komisum", b"5", b"0", b"0"]);
+    refuses(&rt, rt.alloc(), &[b"komisum", b"5", b"0", b"0", b"0"]);
+    refuses(&rt, rt.alloc(), &[b"komisum", b"5", b"0", b""]);
+    refuses(&rt, rt.alloc(), &[b"komisum", b"5", &[b'0'; 300]]);
     refuses(&rt, rt.alloc(), &[b"komisum", b"5", b"FF"]);
     refuses(&rt, rt.alloc(), &[b"komisum", b"5", b"00000000000000000"]);
 }

@@ -98,6 +98,16 @@ fn lines_of_zeros(rt: HostRuntime) {
     }
 }
 
+// The reads of 5,000 bytes, from a reader that gives all that it is asked for.
+#[test]
+fn reads_of_a_chunk(rt: HostRuntime) {
+    let reader = FakeReader::new(&ZEROS, usize::MAX, Calls::endless());
+    let writer = FakeWriter::new(usize::MAX, Calls::endless());
+    let (_, reader, _) = shown(reader, writer, Version::Five, 0);
+    assert!(rt; reader.reads() == 3);
+    assert!(rt; reader.sizes() == [4096, 904, 0, 0]);
+}
+
 // Reads of seven bytes, of which one fails, and after which nothing more is read: the answer, the
 // reads that are made, and what is written.
 fn read_at(rt: &impl Abort, call: usize, name: &str, reads: usize, taken: &[u8], calls: usize) {

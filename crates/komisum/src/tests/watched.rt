@@ -1,41 +1,70 @@
 //! Calls through a watched reader or writer.
 
-use super::fakes::{Calls, FakeReader, FakeWriter, Stop};
+use super::fakes::{Calls, FakeReader, FakeWriter, ODD, Stop};
 use super::messages::TO_ZERO;
 use crate::watched::Watched;
-use std::io::{Read, Write};
+use std::io::{ErrorKind, Read, Result, Write};
 use std::process::Abort;
+use std::result;
+
+// What a call answers, an error by its kind.
+fn by_kind(answer: Result<usize>) -> result::Result<usize, ErrorKind> {
+    match answer {
+        Ok(count) => Ok(count),
+        Err(error) => Err(error.kind()),
+    }
+}
+
+// A call answers this, and then one has failed or not.
+fn answers(
+    rt: &impl Abort,
+    given: (Result<usize>, bool),
+    wanted: result::Result<usize, ErrorKind>,
+    failed: bool,
+) {
+    assert!(rt; by_kind(given.0) == wanted, "another answer");
+    assert!(rt; given.1 == failed, "failed or not");
+}
 
 // A read gives these bytes, and then the reader has failed or not.
 fn reads(rt: &impl Abort, watched: &mut Watched<FakeReader<'_>>, wanted: &[u8], failed: bool) {
     let mut bytes = [0u8; 16];
-    let count = watched.read(&mut bytes).unwrap_or(usize::MAX);
-    assert!(rt; count == wanted.len(), "{count} bytes read");
+    let answer = watched.read(&mut bytes);
+    answers(rt, (answer, watched.failed()), Ok(wanted.len()), failed);
     assert!(rt; bytes.starts_with(wanted), "other bytes read");
-    assert!(rt; watched.failed() == failed);
 }
 
-// A write takes so many bytes, and then the writer has failed or not.
+// A write answers this, and then the writer has failed or not.
 fn writes(
     rt: &impl Abort,
     watched: &mut Watched<FakeWriter>,
     bytes: &[u8],
-    taken: usize,
+    wanted: result::Result<usize, ErrorKind>,
     failed: bool,
 ) {
-    let count = watched.write(bytes).unwrap_or(usize::MAX);
-    assert!(rt; count == taken, "{count} bytes taken");
-    assert!(rt; watched.failed() == failed);
+    let answer = watched.write(bytes);
+    answers(rt, (answer, watched.failed()), wanted, failed);
+}
+
+// A flush answers this, 0 where it does not fail, and then the writer has failed or not.
+fn flushes(
+    rt: &impl Abort,
+    watched: &mut Watched<FakeWriter>,
+    wanted: result::Result<usize, ErrorKind>,
+    failed: bool,
+) {
+    let answer = watched.flush().map(|_| 0);
+    answers(rt, (answer, watched.failed()), wanted, failed);
 }
 
 #[test]
 fn reads_through(rt: HostRuntime) {
-    let reader = FakeReader::new(&TO_ZERO, 8, Calls::stopping(Stop::Fails, 3));
+    let reader = FakeReader::new(&TO_ZERO, 8, Calls::stopping(Stop::FailsOddly, 3));
     let mut watched = Watched::new(reader);
     reads(&rt, &mut watched, &TO_ZERO[..8], false);
     reads(&rt, &mut watched, &TO_ZERO[8..], false);
-    assert!(rt; watched.read(&mut [0u8; 16]).is_err());
-    assert!(rt; watched.failed());
+    let answer = watched.read(&mut [0u8; 16]);
+    answers(&rt, (answer, watched.failed()), Err(ODD), true);
     reads(&rt, &mut watched, b"", true);
     assert!(rt; watched.into_inner().reads() == 4);
 }
@@ -48,18 +77,27 @@ fn an_end_is_no_failure(rt: HostRuntime) {
 
 #[test]
 fn writes_through(rt: HostRuntime) {
-    let mut watched = Watched::new(FakeWriter::new(3, Calls::stopping(Stop::Fails, 3)));
-    writes(&rt, &mut watched, b"12345", 3, false);
-    writes(&rt, &mut watched, b"45678", 3, false);
-    assert!(rt; watched.flush().is_err());
-    assert!(rt; watched.failed());
-    writes(&rt, &mut watched, b"7", 1, true);
+    let mut watched = Watched::new(FakeWriter::new(3, Calls::stopping(Stop::FailsOddly, 3)));
+    writes(&rt, &mut watched, b"12345", Ok(3), false);
+    writes(&rt, &mut watched, b"45678", Ok(3), false);
+    writes(&rt, &mut watched, b"7", Err(ODD), true);
+    writes(&rt, &mut watched, b"7", Ok(1), true);
     assert!(rt; watched.into_inner().taken() == b"1234567".as_slice());
+}
+
+#[test]
+fn flushes_through(rt: HostRuntime) {
+    let mut watched = Watched::new(FakeWriter::new(3, Calls::stopping(Stop::FailsOddly, 3)));
+    writes(&rt, &mut watched, b"12345", Ok(3), false);
+    flushes(&rt, &mut watched, Ok(0), false);
+    flushes(&rt, &mut watched, Err(ODD), true);
+    flushes(&rt, &mut watched, Ok(0), true);
+    assert!(rt; watched.into_inner().calls() == 4);
 }
 
 #[test]
 fn writes_of_none(rt: HostRuntime) {
     let mut watched = Watched::new(FakeWriter::new(3, Calls::stopping(Stop::MovesNone, 2)));
-    writes(&rt, &mut watched, b"", 0, false);
-    writes(&rt, &mut watched, b"1", 0, true);
+    writes(&rt, &mut watched, b"", Ok(0), false);
+    writes(&rt, &mut watched, b"1", Ok(0), true);
 }
