@@ -9,17 +9,18 @@ use Rattle.komihash.specs.Stream.{State}
 abbrev pub pair_in : ℕ × ℕ → ℕ × ℕ
 pair_in halves = (bit_xor halves.1 halves.0, halves.1)
 
--- the lanes that are stored as four low halves, each before the word that its product raised
+-- the lanes that are stored as four words, each before the low half that it meets: the last product
+-- raised the first word
 abbrev pub lanes_in : List ℕ → Lanes
 lanes_in halves = record {
-  s1 = bit_xor (slice_index halves 7) (slice_index halves 0);
-  s5 = slice_index halves 1;
-  s2 = bit_xor (slice_index halves 1) (slice_index halves 2);
-  s6 = slice_index halves 3;
-  s3 = bit_xor (slice_index halves 3) (slice_index halves 4);
-  s7 = slice_index halves 5;
-  s4 = bit_xor (slice_index halves 5) (slice_index halves 6);
-  s8 = slice_index halves 7;
+  s1 = bit_xor (slice_index halves 0) (slice_index halves 1);
+  s5 = slice_index halves 2;
+  s2 = bit_xor (slice_index halves 2) (slice_index halves 3);
+  s6 = slice_index halves 4;
+  s3 = bit_xor (slice_index halves 4) (slice_index halves 5);
+  s7 = slice_index halves 6;
+  s4 = bit_xor (slice_index halves 6) (slice_index halves 7);
+  s8 = slice_index halves 0;
 }
 
 -- the state whose lanes are stored in this way

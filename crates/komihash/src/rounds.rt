@@ -69,13 +69,14 @@ pub(crate) fn seed_pair(seed: u64, tally: &mut Tally) -> Pair
     mix(a, e, e, tally)
 }
 
-/// The lanes of a pair: four low halves, each before the word that its product will raise.
+/// The lanes of a pair: four words, each before the low half that it meets.
 #[inline(always)]
 pub(crate) fn lanes(pair: Pair) -> [u64; 8]
     ensures { lanes_in result ≡ lanes (pair_in pair) }
 {
     let (low, e) = pair;
     [
+        C8 ^ e,
         C8 ^ low,
         e,
         C2 ^ low,
@@ -83,7 +84,6 @@ pub(crate) fn lanes(pair: Pair) -> [u64; 8]
         (C3 ^ C6) ^ low,
         C7 ^ e,
         (C4 ^ C7) ^ low,
-        C8 ^ e,
     ]
 }
 
@@ -113,7 +113,7 @@ pub(crate) fn block_round(
     ensures products { tally.new.products ≡ tally.old.products + 4 }
     ensures kept { tally.new.kept ≡ tally.old.kept }
 {
-    let [low1, e1, low2, e2, low3, e3, low4, e4] = *lanes;
+    let [e4, low1, e1, low2, e2, low3, e3, low4] = *lanes;
     let [p0, p1, p2, p3, p4, p5, p6, p7] = places;
     // The first factors, all before the first product: then no word e is wanted behind its own sum.
     // Each low half meets its word first: it is there before the raised word that it belongs to.
@@ -126,7 +126,7 @@ pub(crate) fn block_round(
     let third = mix(words[p5] ^ e3, x3, e3, tally);
     let fourth = mix(words[p7] ^ e4, x4, e4, tally);
     *lanes = [
-        first.0, first.1, second.0, second.1, third.0, third.1, fourth.0, fourth.1,
+        fourth.1, first.0, first.1, second.0, second.1, third.0, third.1, fourth.0,
     ];
 }
 
@@ -136,7 +136,7 @@ pub(crate) fn block_round(
 pub(crate) fn join(lanes: &[u64; 8], absorbed: bool) -> Pair
     ensures { pair_in result ≡ join absorbed (lanes_in lanes.now) }
 {
-    let [low1, e1, low2, e2, low3, e3, low4, e4] = *lanes;
+    let [e4, low1, e1, low2, e2, low3, e3, low4] = *lanes;
     if absorbed {
         (low1 ^ low2 ^ low3 ^ low4, e1 ^ e2 ^ e3 ^ e4)
     } else {

@@ -35,7 +35,7 @@ pub(crate) fn write_head<const V: u8>(absorbed: bool, top_bit: bool, fill: usize
 fn in_order(lanes: &[u64; 8]) -> [u64; 8]
     ensures { result ≡ in_order (lanes_in lanes.now) }
 {
-    let [low1, s5, low2, s6, low3, s7, low4, s8] = *lanes;
+    let [s8, low1, s5, low2, s6, low3, s7, low4] = *lanes;
     [s8 ^ low1, s5 ^ low2, s6 ^ low3, s7 ^ low4, s5, s6, s7, s8]
 }
 
@@ -45,7 +45,7 @@ fn halves(lanes: &[u64; 8]) -> [u64; 8]
     ensures { in_order (lanes_in result) ≡ lanes.now }
 {
     let [s1, s2, s3, s4, s5, s6, s7, s8] = *lanes;
-    [s8 ^ s1, s5, s5 ^ s2, s6, s6 ^ s3, s7, s7 ^ s4, s8]
+    [s8, s8 ^ s1, s5, s5 ^ s2, s6, s6 ^ s3, s7, s7 ^ s4]
 }
 
 /// Writes the lanes behind the first four bytes.
