@@ -137,11 +137,11 @@ refuse_each() {
 
 # With two arguments the 6th request is for the list of both, in advance: it is made again when the first is put in.
 refused_requests() {
-    refuse_each 'no arguments' "$whole" 4 none
-    refuse_each 'two arguments' 4bde5bdc63771675 8 6 4 1f
+    refuse_each 'no arguments' "$whole" 2 none
+    refuse_each 'two arguments' 4bde5bdc63771675 7 6 4 1f
 }
 compiles() { "${CC:-cc}" -shared -fPIC -o "$room/refuse.so" ../../scripts/refuse.c; }
-cases_with 'a C compiler' compiles 14 refused_requests
+cases_with 'a C compiler' compiles 11 refused_requests
 
 # As many requests, and for as much, whatever the input's length; and each block is freed.
 heap_usage() {
@@ -152,7 +152,7 @@ heap_usage() {
 memory_by_length() {
     local size
     for size in 0 1 4097 65537 588895; do
-        note "memory for $size bytes" 'total heap usage: 4 allocs, 4 frees, 66,144 bytes allocated' \
+        note "memory for $size bytes" 'total heap usage: 2 allocs, 2 frees, 65,792 bytes allocated' \
             "$(message "$size" | heap_usage)"
     done
 }

@@ -30,13 +30,13 @@ use watched::Watched;
 const AHEAD: usize = 1 << 16;
 
 fn main(rt: HostRuntime) -> ExitCode {
-    let asked = words::settings_given(&rt);
     let ending = match BufReader::with_capacity(rt.alloc(), AHEAD, rt.stdin()) {
         Ok(input) => {
+            let asked = words::settings_given(&rt);
             let mut output = Watched::new(rt.stdout());
             program::run(asked, &mut Watched::new(input), &mut output)
         }
-        Err(_) => Ending::Refused(asked.err().unwrap_or(Refusal::NoMemory)),
+        Err(_) => Ending::Refused(Refusal::NoMemory),
     };
     report::report(&mut Watched::new(rt.stderr()), &ending)
 }
