@@ -1,0 +1,183 @@
+//! Times the Rust crate and the port in turn. Each row that is printed has a group, a name, and the least time of
+//! each side in nanoseconds, with tabs between; ../table.py makes the table.
+use crate::original::{OriginalFive, OriginalFour};
+use crate::port::{PortFive, PortFour};
+use crate::side::{Port, Side};
+use std::hint::black_box;
+use std::time::Instant;
+
+/// Nanoseconds of a batch: short, so that the two of a pair see the same clock.
+const BATCH: u128 = 60_000;
+
+struct Bench<'a> {
+    repeats: u64,
+    word: &'a str,
+    version: u8,
+    bytes: &'a [u8],
+}
+
+pub fn run(repeats: u64, word: &str) {
+    let room: Vec<u8> = (0..(1 << 20) + 64u64).map(|i| scattered(i) as u8).collect();
+    let start = room.as_ptr().align_offset(64);
+    let bytes = &room[start..start + (1 << 20)];
+    Bench { repeats, word, version: 5, bytes }.all::<PortFive, OriginalFive>();
+    Bench { repeats, word, version: 4, bytes }.all::<PortFour, OriginalFour>();
+}
+
+/// A number that no branch predictor knows.
+fn scattered(i: u64) -> usize {
+    ((i + 1).wrapping_mul(0x9e37_79b9_7f4a_7c15) >> 33) as usize
+}
+
+/// Lengths from 1 to a greatest, which make 65,536 bytes.
+fn mixed_pieces(greatest: usize) -> Vec<usize> {
+    let mut sum = 0;
+    (0..).map(|i| scattered(i) % greatest + 1).take_while(|piece| { sum += piece; sum <= 65536 }).collect()
+}
+
+/// Nanoseconds of `count` calls; each is passed its number.
+fn time<T>(count: u64, side: &mut impl FnMut(u64) -> T) -> u128 {
+    let start = Instant::now();
+    for i in 0..count {
+        black_box(side(i));
+    }
+    start.elapsed().as_nanos()
+}
+
+impl Bench<'_> {
+    fn all<P: Port, O: Side>(&self) {
+        self.hashes::<P, O>();
+        self.mixed_hashes::<P, O>();
+        self.streams::<P, O>();
+        self.generators::<P, O>();
+        self.words::<P>();
+    }
+
+    /// Times both sides, and prints their row.
+    fn row<T, U>(
+        &self,
+        group: &str,
+        name: &str,
+        mut original: impl FnMut(u64) -> T,
+        mut port: impl FnMut(u64) -> U,
+    ) {
+        let group = format!("v{} {group}", self.version);
+        if !format!("{group} {name}").contains(self.word) {
+            return;
+        }
+        let mut count = 1;
+        while time(count, &mut original) < BATCH / 2 {
+            count *= 2;
+        }
+        let mut least = [u128::MAX; 2];
+        for _ in 0..self.repeats {
+            least = [least[0].min(time(count, &mut original)), least[1].min(time(count, &mut port))];
+        }
+        let [original, port] = least.map(|it| it as f64 / count as f64);
+        println!("{group}\t{name}\t{original}\t{port}");
+    }
+
+    /// One length, with another seed at each call, and with the answer before as the seed.
+    fn hashes<P: Port, O: Side>(&self) {
+        for length in [0, 1, 3, 5, 8, 12, 16, 24, 31, 32, 40, 48, 63, 64, 96, 128, 256, 1024, 4096, 1 << 16, 1 << 20] {
+            let bytes = &self.bytes[..length];
+            let group = match length {
+                ..64 => "hash short",
+                64..4096 => "hash middle",
+                _ => "hash long",
+            };
+            self.row(
+                group,
+                &length.to_string(),
+                |i| O::hash(black_box(bytes), i),
+                |i| P::hash(black_box(bytes), i),
+            );
+            if length < 1024 {
+                let (mut original, mut port) = (1, 1);
+                self.row(
+                    "hash chained",
+                    &length.to_string(),
+                    |_| {
+                        original = O::hash(black_box(bytes), original);
+                        original
+                    },
+                    |_| {
+                        port = P::hash(black_box(bytes), port);
+                        port
+                    },
+                );
+            }
+        }
+    }
+
+    /// Lengths that no branch predictor knows.
+    fn mixed_hashes<P: Port, O: Side>(&self) {
+        for limit in [16, 64, 256] {
+            let lengths: Vec<usize> = (0..4096).map(|i| scattered(i) % limit).collect();
+            let bytes = |i: u64| black_box(&self.bytes[..lengths[i as usize % 4096]]);
+            self.row(
+                "hash mixed",
+                &format!("below {limit}"),
+                |i| O::hash(bytes(i), i),
+                |i| P::hash(bytes(i), i),
+            );
+        }
+    }
+
+    /// 65,536 bytes in pieces of one length and of mixed lengths, and short messages in one piece.
+    fn streams<P: Port, O: Side>(&self) {
+        for piece in [1, 3, 7, 8, 13, 16, 24, 32, 40, 64, 100, 250, 4096] {
+            self.stream::<P, O>("stream", &format!("by {piece}"), 65536, &vec![piece; 65536 / piece]);
+        }
+        for greatest in [8, 32, 64, 300] {
+            self.stream::<P, O>("stream mixed", &format!("to {greatest}"), 65536, &mixed_pieces(greatest));
+        }
+        for length in [0, 5, 13, 40, 64, 100, 200] {
+            self.stream::<P, O>("stream short", &length.to_string(), length, &[]);
+        }
+    }
+
+    fn stream<P: Port, O: Side>(&self, group: &str, name: &str, length: usize, pieces: &[usize]) {
+        let bytes = &self.bytes[..length];
+        self.row(
+            group,
+            name,
+            |i| O::stream(black_box(bytes), pieces, &mut [], i),
+            |i| P::stream(black_box(bytes), pieces, &mut [], i),
+        );
+    }
+
+    fn generators<P: Port, O: Side>(&self) {
+        let (mut x, mut y) = ([0; 1000], [0; 1000]);
+        self.row(
+            "generator",
+            "1000 outputs",
+            |i| O::outputs(black_box(&mut x), i, 7, 0),
+            |i| P::outputs(black_box(&mut y), i, 7, 0),
+        );
+        for piece in [7, 64, 4096] {
+            let pieces = vec![piece; 8192 / piece];
+            let (mut x, mut y) = ([0; 8192], [0; 8192]);
+            self.row(
+                "generator",
+                &format!("fills of {piece}"),
+                |i| O::fills(black_box(&mut x), &pieces, i, 7, 0),
+                |i| P::fills(black_box(&mut y), &pieces, i, 7, 0),
+            );
+        }
+    }
+
+    /// Padded words beside a plain copy of as many bytes, since the Rust crate has none.
+    fn words<P: Port>(&self) {
+        for length in [64, 1024, 1 << 20] {
+            let bytes = &self.bytes[..length];
+            let (mut copy, mut words, mut back) = (vec![0; length], vec![0; length / 8 + 1], vec![0; length + 8]);
+            let mut copied = |_| black_box(&mut copy[..]).copy_from_slice(black_box(bytes));
+            let name = length.to_string();
+            let pad = |_| P::pad(black_box(bytes), black_box(&mut words));
+            self.row("pad, to a copy", &name, &mut copied, pad);
+            let unpad = |_| P::unpad(black_box(&words), black_box(&mut back));
+            self.row("unpad, to a copy", &name, &mut copied, unpad);
+        }
+    }
+}

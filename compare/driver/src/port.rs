@@ -1,0 +1,132 @@
+//! The port, by its static libraries. A slice is passed as a pointer and a length.
+use crate::side::{Once, Port, Side, Stream};
+
+macro_rules! port {
+    ($name:ident, $module:ident, $version:literal) => {
+        mod $module {
+            use super::{Once, Stream};
+
+            unsafe extern "C" {
+                #[link_name = concat!("komihash_v", $version)]
+                pub fn hash(bytes: *const u8, length: usize, seed: u64) -> u64;
+                #[link_name = concat!("komihash_v", $version, "_chain")]
+                pub fn next_in_chain(number: u64, bytes: *const u8, length: usize) -> u64;
+                #[link_name = concat!("komihash_v", $version, "_start")]
+                pub fn start(stream: *mut Stream, seed: u64);
+                #[link_name = concat!("komihash_v", $version, "_write")]
+                pub fn write(stream: *mut Stream, bytes: *const u8, length: usize) -> bool;
+                #[link_name = concat!("komihash_v", $version, "_finish")]
+                pub fn finish(stream: *const Stream, hash: *mut u64) -> bool;
+                #[link_name = concat!("komihash_v", $version, "_fill")]
+                pub fn fill(out: *mut u8, length: usize, s1: u64, s2: u64);
+                #[link_name = concat!("komihash_v", $version, "_fill_seeded")]
+                pub fn fill_seeded(out: *mut u8, length: usize, seed: u64, extra_seed: u64);
+                #[link_name = concat!("komihash_v", $version, "_pad")]
+                pub fn pad(bytes: *const u8, length: usize, out: *mut u64, room: usize) -> usize;
+                #[link_name = concat!("komihash_v", $version, "_unpad")]
+                pub fn unpad(words: *const u64, length: usize, out: *mut u8, room: usize) -> usize;
+                #[link_name = concat!("loop_v", $version, "_stream")]
+                pub fn stream(
+                    bytes: *const u8, length: usize, pieces: *const usize, count: usize,
+                    answers: *mut u64, room: usize, seed: u64,
+                ) -> u64;
+                #[link_name = concat!("loop_v", $version, "_calls")]
+                pub fn calls(
+                    bytes: *const u8, length: usize, pieces: *const usize, count: usize,
+                    answers: *mut u64, room: usize, seed: u64,
+                ) -> u64;
+                #[link_name = concat!("loop_v", $version, "_chain")]
+                pub fn chain(
+                    bytes: *const u8, length: usize, pieces: *const usize, count: usize, seed: u64,
+                ) -> u64;
+                #[link_name = concat!("loop_v", $version, "_outputs")]
+                pub fn outputs(out: *mut u64, length: usize, s1: u64, s2: u64, start: u32);
+                #[link_name = concat!("loop_v", $version, "_fills")]
+                pub fn fills(
+                    out: *mut u8, length: usize, pieces: *const usize, count: usize,
+                    s1: u64, s2: u64, start: u32,
+                ) -> u64;
+                #[link_name = concat!("loop_v", $version, "_once")]
+                pub fn once(bytes: *const u8, length: usize, seed: u64, once: *mut Once);
+            }
+        }
+
+        /// The port's version.
+        pub struct $name;
+
+        // SAFETY, for every call: the declarations above fit the library's, and each pointer and length are those of
+        // a slice, each other pointer that of a value, which is borrowed for the call.
+        impl Side for $name {
+            #[inline(always)]
+            fn hash(bytes: &[u8], seed: u64) -> u64 {
+                unsafe { $module::hash(bytes.as_ptr(), bytes.len(), seed) }
+            }
+            fn stream(bytes: &[u8], pieces: &[usize], answers: &mut [u64], seed: u64) -> u64 {
+                unsafe {
+                    $module::stream(
+                        bytes.as_ptr(), bytes.len(), pieces.as_ptr(), pieces.len(),
+                        answers.as_mut_ptr(), answers.len(), seed,
+                    )
+                }
+            }
+            fn chain(bytes: &[u8], pieces: &[usize], seed: u64) -> u64 {
+                unsafe { $module::chain(bytes.as_ptr(), bytes.len(), pieces.as_ptr(), pieces.len(), seed) }
+            }
+            fn outputs(out: &mut [u64], s1: u64, s2: u64, start: u32) {
+                unsafe { $module::outputs(out.as_mut_ptr(), out.len(), s1, s2, start) }
+            }
+            fn fills(out: &mut [u8], pieces: &[usize], s1: u64, s2: u64, start: u32) -> u64 {
+                unsafe { $module::fills(out.as_mut_ptr(), out.len(), pieces.as_ptr(), pieces.len(), s1, s2, start) }
+            }
+        }
+
+        impl Port for $name {
+            const VERSION: u8 = $version;
+
+            fn calls(bytes: &[u8], pieces: &[usize], answers: &mut [u64], seed: u64) -> u64 {
+                unsafe {
+                    $module::calls(
+                        bytes.as_ptr(), bytes.len(), pieces.as_ptr(), pieces.len(),
+                        answers.as_mut_ptr(), answers.len(), seed,
+                    )
+                }
+            }
+            fn once(bytes: &[u8], seed: u64) -> Once {
+                let mut once = Once::default();
+                unsafe { $module::once(bytes.as_ptr(), bytes.len(), seed, &mut once) }
+                once
+            }
+            fn start(seed: u64) -> Stream {
+                let mut stream = Stream { text: [0; 131], length: 0 };
+                unsafe { $module::start(&mut stream, seed) }
+                stream
+            }
+            fn write(stream: &mut Stream, bytes: &[u8]) -> bool {
+                unsafe { $module::write(stream, bytes.as_ptr(), bytes.len()) }
+            }
+            fn finish(stream: &Stream) -> Option<u64> {
+                let mut hash = 0;
+                unsafe { $module::finish(stream, &mut hash) }.then_some(hash)
+            }
+            fn next_in_chain(number: u64, bytes: &[u8]) -> u64 {
+                unsafe { $module::next_in_chain(number, bytes.as_ptr(), bytes.len()) }
+            }
+            fn fill(out: &mut [u8], s1: u64, s2: u64) {
+                unsafe { $module::fill(out.as_mut_ptr(), out.len(), s1, s2) }
+            }
+            fn fill_seeded(out: &mut [u8], seed: u64, extra_seed: u64) {
+                unsafe { $module::fill_seeded(out.as_mut_ptr(), out.len(), seed, extra_seed) }
+            }
+            fn pad(bytes: &[u8], out: &mut [u64]) -> usize {
+                unsafe { $module::pad(bytes.as_ptr(), bytes.len(), out.as_mut_ptr(), out.len()) }
+            }
+            fn unpad(words: &[u64], out: &mut [u8]) -> Option<usize> {
+                let length = unsafe { $module::unpad(words.as_ptr(), words.len(), out.as_mut_ptr(), out.len()) };
+                (length != usize::MAX).then_some(length)
+            }
+        }
+    };
+}
+
+port!(PortFour, v4, 4);
+port!(PortFive, v5, 5);

@@ -1,0 +1,57 @@
+//! What is compared: the calls that the port and the Rust crate share, and those of the port alone.
+
+/// The calls of one version that both sides have. `pieces` are lengths of pieces: a piece ends where the bytes
+/// end. `start` says how a generator starts: 0 from the pair, 1 from `s1` as a seed, 2 from both as seeds.
+pub trait Side {
+    fn hash(bytes: &[u8], seed: u64) -> u64;
+    /// The hash by a stream that takes the pieces, and then what is left. `answers` takes the answers after as many
+    /// pieces as it has room for.
+    fn stream(bytes: &[u8], pieces: &[usize], answers: &mut [u64], seed: u64) -> u64;
+    /// The number of a hasher that takes the pieces.
+    fn chain(bytes: &[u8], pieces: &[usize], seed: u64) -> u64;
+    /// Writes a generator's outputs.
+    fn outputs(out: &mut [u64], s1: u64, s2: u64, start: u32);
+    /// Fills the pieces by one generator, and returns the output after them.
+    fn fills(out: &mut [u8], pieces: &[usize], s1: u64, s2: u64, start: u32) -> u64;
+}
+
+/// The calls of one version that the port alone has.
+pub trait Port: Side {
+    const VERSION: u8;
+    /// `Side::stream` by lists of calls.
+    fn calls(bytes: &[u8], pieces: &[usize], answers: &mut [u64], seed: u64) -> u64;
+    fn once(bytes: &[u8], seed: u64) -> Once;
+    fn start(seed: u64) -> Stream;
+    fn write(stream: &mut Stream, bytes: &[u8]) -> bool;
+    fn finish(stream: &Stream) -> Option<u64>;
+    fn next_in_chain(number: u64, bytes: &[u8]) -> u64;
+    fn fill(out: &mut [u8], s1: u64, s2: u64);
+    fn fill_seeded(out: &mut [u8], seed: u64, extra_seed: u64);
+    fn pad(bytes: &[u8], out: &mut [u64]) -> usize;
+    fn unpad(words: &[u64], out: &mut [u8]) -> Option<usize>;
+}
+
+/// The hashes of one message by calls that should agree with the plain ones.
+#[repr(C)]
+#[derive(Default)]
+pub struct Once {
+    pub counted: u64,
+    pub run: u64,
+    pub new_stream: u64,
+    pub default_stream: u64,
+    pub default_hasher: u64,
+}
+
+/// A saved stream, as `komihash.h` has it.
+#[repr(C)]
+#[derive(Clone, Debug, PartialEq)]
+pub struct Stream {
+    pub text: [u8; 131],
+    pub length: u8,
+}
+
+impl Stream {
+    pub fn text(&self) -> &[u8] {
+        &self.text[..self.length.into()]
+    }
+}

@@ -1,0 +1,125 @@
+#!/usr/bin/env bash
+# The port beside the Rust crate `komihash` 0.5.0, and the port as a static library. README.md says more.
+#
+#   run.sh library                  builds the library: out/libkomihash.a and out/komihash.h
+#   run.sh examples                 compiles and runs the README's programs on it, and compares their output
+#   run.sh answers                  prints the table of reference answers by the Rust crate
+#   run.sh fuzz SEED N              compares every call on N random inputs
+#   run.sh bench [REPEATS [WORD]]   times the calls, of all rows or of those whose group and name hold WORD
+#
+# LAYOUTS says in how many layouts of the machine code `bench` runs, 8 if unset. KOMIHASH_CRATE names a folder with
+# the Rust crate, where cargo has no registry to get it from.
+set -euo pipefail
+cd "$(dirname "${BASH_SOURCE[0]}")"
+out=$PWD/out
+mkdir -p "$out"
+
+stop() {
+    echo "run.sh: $1" >&2
+    exit 2
+}
+
+need() { command -v "$1" > /dev/null || stop "there is no $1, which $2"; }
+
+# Whether both libraries are there, and no source is newer.
+are_built() {
+    [ -f "$out/libkomihash.a" ] && [ -f "$out/libloops.a" ] || return 1
+    [ -z "$(find ../crates/komihash/{src,specs,proofs} library loops run.sh -newer "$out/libkomihash.a" -print -quit)" ]
+}
+
+# Makes a workspace of the crate and both libraries. It lies outside of the repository: the merge gate refuses sources
+# that are in no crate, so those of the libraries end in `.in` here. What is proved in the repository is kept.
+make_workspace() {
+    local room=$1 name version
+    printf '%s\n' 'komihash:' 'library staticlib: komihash' 'loops staticlib: komihash' > "$room/crates.txt"
+    cp ../HANDLES "$room/"
+    mkdir -p "$room"/crates/{library,loops}/src
+    cp -a ../crates/komihash "$room/crates/"
+    for name in library loops; do
+        cp "$name/lib.rt.in" "$room/crates/$name/src/lib.rt"
+        for version in 4 5; do
+            sed "s/VERSION/$version/g" "$name/version.rt.in" > "$room/crates/$name/src/v$version.rt"
+        done
+    done
+}
+
+build_libraries() {
+    are_built && return
+    need rt 'proves and builds the library'
+    local room name
+    room=$(mktemp -d)
+    # shellcheck disable=SC2064
+    trap "rm -rf '$room'" EXIT
+    make_workspace "$room"
+    for name in loops library; do
+        echo "Proving and building $name. With nothing proved yet, this takes minutes." >&2
+        if ! (cd "$room/crates/$name" && rt lib) > "$out/$name.log" 2>&1; then
+            tail -n 40 "$out/$name.log" >&2
+            stop "$name is not proved or not built; compare/out/$name.log has it all"
+        fi
+    done
+    cp library/komihash.h "$room/crates/loops/out/libloops.a" "$out/"
+    cp "$room/crates/library/out/liblibrary.a" "$out/libkomihash.a"
+}
+
+# Builds the driver as the file that is named, with flags for rustc.
+build_driver() {
+    local file=$1 crate=()
+    shift
+    need cargo 'builds the Rust crate and the driver (https://rustup.rs)'
+    if [ -n "${KOMIHASH_CRATE:-}" ]; then
+        [ -f "$KOMIHASH_CRATE/Cargo.toml" ] || stop "KOMIHASH_CRATE names no folder of a Rust crate: $KOMIHASH_CRATE"
+        crate=(--offline --config "patch.crates-io.komihash.path=\"$(realpath "$KOMIHASH_CRATE")\"")
+    fi
+    export CARGO_TARGET_DIR=$out/cargo LIBRARIES=$out
+    cd driver
+    cargo fetch --quiet "${crate[@]}" ||
+        stop 'cargo has no crate komihash 0.5.0; where there is no registry, set KOMIHASH_CRATE to a folder with it'
+    cargo rustc --quiet --release "${crate[@]}" -- "$@" || stop 'the driver does not compile'
+    cd ..
+    cp "$out/cargo/release/driver" "$file"
+}
+
+bench() {
+    local repeats=$1 word=$2 layout files=()
+    need ld.lld 'lays the functions out in random order'
+    need python3 'makes the table'
+    for layout in $(seq "${LAYOUTS:-8}"); do
+        echo "Layout $layout of ${LAYOUTS:-8}" >&2
+        build_driver "$out/layout-$layout" \
+            -C link-arg=-fuse-ld=lld -C "link-arg=-Wl,--shuffle-sections=.text*=$layout"
+        "$out/layout-$layout" bench "$repeats" "$word" > "$out/layout-$layout.times"
+        files+=("$out/layout-$layout.times")
+    done
+    ./table.py "$repeats" "${files[@]}"
+}
+
+# Prints the block of a language in README.md.
+block() { sed -n "/^\`\`\`$1\$/,/^\`\`\`\$/{/^\`\`\`/!p}" README.md; }
+
+examples() {
+    need "${CC:-cc}" 'compiles the C program'
+    need rustc 'compiles the Rust program (https://rustup.rs)'
+    need nm "lists the library's functions"
+    block c > "$out/example.c"
+    block rust > "$out/example.rs"
+    "${CC:-cc}" -Wall -Wextra -Werror -I "$out" "$out/example.c" "$out/libkomihash.a" -o "$out/example-c"
+    rustc --edition 2024 -L "native=$out" -l static=komihash "$out/example.rs" -o "$out/example-rust"
+    diff <(block text) <("$out/example-c") || stop 'the C program prints something else than README.md says'
+    diff <(block text) <("$out/example-rust") || stop 'the Rust program prints something else than README.md says'
+    diff <(grep -o 'komihash_v[a-z0-9_]*(' "$out/komihash.h" | tr -d '(' | sort) \
+        <(nm --defined-only --extern-only "$out/libkomihash.a" | awk 'NF == 3 { print $3 }' | sort) ||
+        stop 'komihash.h and the library name different functions'
+    echo 'Both programs print what README.md says, and komihash.h names each function of the library.'
+}
+
+case "$*" in
+    library | examples | answers | bench | 'bench '* | 'fuzz '*' '*) build_libraries ;;
+    *) sed -n '3,12s/^# \?//p' run.sh >&2 && exit 2 ;;
+esac
+case $1 in
+    library) echo "$out/libkomihash.a and $out/komihash.h are built." ;;
+    examples) examples ;;
+    bench) bench "${2:-61}" "${3:-}" ;;
+    *) build_driver "$out/driver" && exec "$out/driver" "$@" ;;
+esac
