@@ -24,7 +24,7 @@ need() { command -v "$1" > /dev/null || stop "there is no $1, which $2"; }
 # Whether both libraries are there, and no source is newer.
 are_built() {
     [ -f "$out/libkomihash.a" ] && [ -f "$out/libloops.a" ] || return 1
-    [ -z "$(find ../crates/komihash/{src,specs,proofs} library loops run.sh -newer "$out/libkomihash.a" -print -quit)" ]
+    [ -z "$(find ../crates/komihash/{src,specs,proofs} {library,loops}/*.in -newer "$out/libkomihash.a" -print -quit)" ]
 }
 
 # Makes a workspace of the crate and both libraries. It lies outside of the repository: the merge gate refuses sources
@@ -44,6 +44,7 @@ make_workspace() {
 }
 
 build_libraries() {
+    cp library/komihash.h "$out/"
     are_built && return
     need rt 'proves and builds the library'
     local room name
@@ -58,7 +59,7 @@ build_libraries() {
             stop "$name is not proved or not built; compare/out/$name.log has it all"
         fi
     done
-    cp library/komihash.h "$room/crates/loops/out/libloops.a" "$out/"
+    cp "$room/crates/loops/out/libloops.a" "$out/"
     cp "$room/crates/library/out/liblibrary.a" "$out/libkomihash.a"
 }
 
@@ -97,20 +98,41 @@ bench() {
 # Prints the block of a language in README.md.
 block() { sed -n "/^\`\`\`$1\$/,/^\`\`\`\$/{/^\`\`\`/!p}" README.md; }
 
+# Prints the library's sources as declarations in C.
+declarations() {
+    printf '%s\n' '#include "komihash.h"' 'typedef uint8_t u8;' 'typedef uint64_t u64;' 'typedef size_t usize;' \
+        'typedef komihash_stream SavedStream;' '_Static_assert(sizeof(SavedStream) == 132, "size");'
+    grep '^pub extern "C" fn ' library/version.rt.in | sed -E '
+        s/^pub extern "C" fn (.*) -> (\w+)$/\2 \1;/
+        s/^pub extern "C" fn (.*)$/void \1;/
+        s/\w+: &mut \[(\w+)\]/\1 *, usize/g
+        s/\w+: &\[(\w+)\]/const \1 *, usize/g
+        s/\w+: &mut (\w+)/\1 */g
+        s/\w+: &(\w+)/const \1 */g
+        s/\w+: (\w+)/\1/g
+        h; s/VERSION/4/p; g; s/VERSION/5/'
+}
+
+# Whether komihash.h declares what the library has.
+fits_header() {
+    diff <(grep -o 'komihash_v[a-z0-9_]*(' "$out/komihash.h" | tr -d '(' | sort) \
+        <(nm --defined-only --extern-only "$out/libkomihash.a" | awk 'NF == 3 { print $3 }' | sort) || return 1
+    declarations > "$out/declarations.c"
+    "${CC:-cc}" -Wall -Wextra -Werror -fsyntax-only -I "$out" "$out/declarations.c"
+}
+
 examples() {
     need "${CC:-cc}" 'compiles the C program'
     need rustc 'compiles the Rust program (https://rustup.rs)'
     need nm "lists the library's functions"
+    fits_header || stop 'komihash.h and the library have different functions'
     block c > "$out/example.c"
     block rust > "$out/example.rs"
     "${CC:-cc}" -Wall -Wextra -Werror -I "$out" "$out/example.c" "$out/libkomihash.a" -o "$out/example-c"
     rustc --edition 2024 -L "native=$out" -l static=komihash "$out/example.rs" -o "$out/example-rust"
     diff <(block text) <("$out/example-c") || stop 'the C program prints something else than README.md says'
     diff <(block text) <("$out/example-rust") || stop 'the Rust program prints something else than README.md says'
-    diff <(grep -o 'komihash_v[a-z0-9_]*(' "$out/komihash.h" | tr -d '(' | sort) \
-        <(nm --defined-only --extern-only "$out/libkomihash.a" | awk 'NF == 3 { print $3 }' | sort) ||
-        stop 'komihash.h and the library name different functions'
-    echo 'Both programs print what README.md says, and komihash.h names each function of the library.'
+    echo 'Both programs print what README.md says, and komihash.h declares what the library has.'
 }
 
 case "$*" in

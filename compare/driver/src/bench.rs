@@ -9,6 +9,9 @@ use std::time::Instant;
 /// Nanoseconds of a batch: short, so that the two of a pair see the same clock.
 const BATCH: u128 = 60_000;
 
+const LENGTHS: [usize; 21] =
+    [0, 1, 3, 5, 8, 12, 16, 24, 31, 32, 40, 48, 63, 64, 96, 128, 256, 1024, 4096, 1 << 16, 1 << 20];
+
 struct Bench<'a> {
     repeats: u64,
     word: &'a str,
@@ -31,8 +34,13 @@ fn scattered(i: u64) -> usize {
 
 /// Lengths from 1 to a greatest, which make 65,536 bytes.
 fn mixed_pieces(greatest: usize) -> Vec<usize> {
-    let mut sum = 0;
-    (0..).map(|i| scattered(i) % greatest + 1).take_while(|piece| { sum += piece; sum <= 65536 }).collect()
+    let (mut pieces, mut left) = (Vec::new(), 65536);
+    while left > 0 {
+        let piece = left.min(scattered(pieces.len() as u64) % greatest + 1);
+        pieces.push(piece);
+        left -= piece;
+    }
+    pieces
 }
 
 /// Nanoseconds of `count` calls; each is passed its number.
@@ -47,6 +55,7 @@ fn time<T>(count: u64, side: &mut impl FnMut(u64) -> T) -> u128 {
 impl Bench<'_> {
     fn all<P: Port, O: Side>(&self) {
         self.hashes::<P, O>();
+        self.chained_hashes::<P, O>();
         self.mixed_hashes::<P, O>();
         self.streams::<P, O>();
         self.generators::<P, O>();
@@ -54,13 +63,7 @@ impl Bench<'_> {
     }
 
     /// Times both sides, and prints their row.
-    fn row<T, U>(
-        &self,
-        group: &str,
-        name: &str,
-        mut original: impl FnMut(u64) -> T,
-        mut port: impl FnMut(u64) -> U,
-    ) {
+    fn row<T, U>(&self, group: &str, name: &str, mut original: impl FnMut(u64) -> T, mut port: impl FnMut(u64) -> U) {
         let group = format!("v{} {group}", self.version);
         if !format!("{group} {name}").contains(self.word) {
             return;
@@ -77,36 +80,35 @@ impl Bench<'_> {
         println!("{group}\t{name}\t{original}\t{port}");
     }
 
-    /// One length, with another seed at each call, and with the answer before as the seed.
+    /// One length, with another seed at each call.
     fn hashes<P: Port, O: Side>(&self) {
-        for length in [0, 1, 3, 5, 8, 12, 16, 24, 31, 32, 40, 48, 63, 64, 96, 128, 256, 1024, 4096, 1 << 16, 1 << 20] {
+        for length in LENGTHS {
             let bytes = &self.bytes[..length];
             let group = match length {
                 ..64 => "hash short",
                 64..4096 => "hash middle",
                 _ => "hash long",
             };
-            self.row(
-                group,
-                &length.to_string(),
-                |i| O::hash(black_box(bytes), i),
-                |i| P::hash(black_box(bytes), i),
-            );
-            if length < 1024 {
-                let (mut original, mut port) = (1, 1);
-                self.row(
-                    "hash chained",
-                    &length.to_string(),
-                    |_| {
-                        original = O::hash(black_box(bytes), original);
-                        original
-                    },
-                    |_| {
-                        port = P::hash(black_box(bytes), port);
-                        port
-                    },
-                );
-            }
+            let original = |i| O::hash(black_box(bytes), i);
+            let port = |i| P::hash(black_box(bytes), i);
+            self.row(group, &length.to_string(), original, port);
+        }
+    }
+
+    /// One length, with the hash of the call before as the seed.
+    fn chained_hashes<P: Port, O: Side>(&self) {
+        for length in LENGTHS.into_iter().filter(|length| *length < 1024) {
+            let bytes = &self.bytes[..length];
+            let (mut x, mut y) = (1, 1);
+            let original = |_| {
+                x = O::hash(black_box(bytes), x);
+                x
+            };
+            let port = |_| {
+                y = P::hash(black_box(bytes), y);
+                y
+            };
+            self.row("hash chained", &length.to_string(), original, port);
         }
     }
 
@@ -115,12 +117,8 @@ impl Bench<'_> {
         for limit in [16, 64, 256] {
             let lengths: Vec<usize> = (0..4096).map(|i| scattered(i) % limit).collect();
             let bytes = |i: u64| black_box(&self.bytes[..lengths[i as usize % 4096]]);
-            self.row(
-                "hash mixed",
-                &format!("below {limit}"),
-                |i| O::hash(bytes(i), i),
-                |i| P::hash(bytes(i), i),
-            );
+            let (original, port) = (|i| O::hash(bytes(i), i), |i| P::hash(bytes(i), i));
+            self.row("hash mixed", &format!("below {limit}"), original, port);
         }
     }
 
@@ -139,31 +137,22 @@ impl Bench<'_> {
 
     fn stream<P: Port, O: Side>(&self, group: &str, name: &str, length: usize, pieces: &[usize]) {
         let bytes = &self.bytes[..length];
-        self.row(
-            group,
-            name,
-            |i| O::stream(black_box(bytes), pieces, &mut [], i),
-            |i| P::stream(black_box(bytes), pieces, &mut [], i),
-        );
+        let original = |i| O::stream(black_box(bytes), pieces, &mut [], i);
+        let port = |i| P::stream(black_box(bytes), pieces, &mut [], i);
+        self.row(group, name, original, port);
     }
 
     fn generators<P: Port, O: Side>(&self) {
         let (mut x, mut y) = ([0; 1000], [0; 1000]);
-        self.row(
-            "generator",
-            "1000 outputs",
-            |i| O::outputs(black_box(&mut x), i, 7, 0),
-            |i| P::outputs(black_box(&mut y), i, 7, 0),
-        );
+        let original = |i| O::outputs(black_box(&mut x), i, 7, 0);
+        let port = |i| P::outputs(black_box(&mut y), i, 7, 0);
+        self.row("generator", "1000 outputs", original, port);
         for piece in [7, 64, 4096] {
             let pieces = vec![piece; 8192 / piece];
             let (mut x, mut y) = ([0; 8192], [0; 8192]);
-            self.row(
-                "generator",
-                &format!("fills of {piece}"),
-                |i| O::fills(black_box(&mut x), &pieces, i, 7, 0),
-                |i| P::fills(black_box(&mut y), &pieces, i, 7, 0),
-            );
+            let original = |i| O::fills(black_box(&mut x), &pieces, i, 7, 0);
+            let port = |i| P::fills(black_box(&mut y), &pieces, i, 7, 0);
+            self.row("generator", &format!("fills of {piece}"), original, port);
         }
     }
 

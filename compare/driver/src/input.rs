@@ -54,8 +54,8 @@ impl Random {
                 _ => self.word() as u8,
             })
             .collect();
-        if self.below(3) == 0 && let Some(last) = bytes.last_mut() {
-            *last = self.one_of(&ENDS);
+        if length > 0 && self.below(3) == 0 {
+            bytes[length - 1] = self.one_of(&ENDS);
         }
         bytes
     }

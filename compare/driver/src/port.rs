@@ -27,24 +27,37 @@ macro_rules! port {
                 pub fn unpad(words: *const u64, length: usize, out: *mut u8, room: usize) -> usize;
                 #[link_name = concat!("loop_v", $version, "_stream")]
                 pub fn stream(
-                    bytes: *const u8, length: usize, pieces: *const usize, count: usize,
-                    answers: *mut u64, room: usize, seed: u64,
+                    bytes: *const u8,
+                    length: usize,
+                    pieces: *const usize,
+                    count: usize,
+                    answers: *mut u64,
+                    room: usize,
+                    seed: u64,
                 ) -> u64;
                 #[link_name = concat!("loop_v", $version, "_calls")]
                 pub fn calls(
-                    bytes: *const u8, length: usize, pieces: *const usize, count: usize,
-                    answers: *mut u64, room: usize, seed: u64,
+                    bytes: *const u8,
+                    length: usize,
+                    pieces: *const usize,
+                    count: usize,
+                    answers: *mut u64,
+                    room: usize,
+                    seed: u64,
                 ) -> u64;
                 #[link_name = concat!("loop_v", $version, "_chain")]
-                pub fn chain(
-                    bytes: *const u8, length: usize, pieces: *const usize, count: usize, seed: u64,
-                ) -> u64;
+                pub fn chain(bytes: *const u8, length: usize, pieces: *const usize, count: usize, seed: u64) -> u64;
                 #[link_name = concat!("loop_v", $version, "_outputs")]
                 pub fn outputs(out: *mut u64, length: usize, s1: u64, s2: u64, start: u32);
                 #[link_name = concat!("loop_v", $version, "_fills")]
                 pub fn fills(
-                    out: *mut u8, length: usize, pieces: *const usize, count: usize,
-                    s1: u64, s2: u64, start: u32,
+                    out: *mut u8,
+                    length: usize,
+                    pieces: *const usize,
+                    count: usize,
+                    s1: u64,
+                    s2: u64,
+                    start: u32,
                 ) -> u64;
                 #[link_name = concat!("loop_v", $version, "_once")]
                 pub fn once(bytes: *const u8, length: usize, seed: u64, once: *mut Once);
@@ -64,8 +77,13 @@ macro_rules! port {
             fn stream(bytes: &[u8], pieces: &[usize], answers: &mut [u64], seed: u64) -> u64 {
                 unsafe {
                     $module::stream(
-                        bytes.as_ptr(), bytes.len(), pieces.as_ptr(), pieces.len(),
-                        answers.as_mut_ptr(), answers.len(), seed,
+                        bytes.as_ptr(),
+                        bytes.len(),
+                        pieces.as_ptr(),
+                        pieces.len(),
+                        answers.as_mut_ptr(),
+                        answers.len(),
+                        seed,
                     )
                 }
             }
@@ -86,8 +104,13 @@ macro_rules! port {
             fn calls(bytes: &[u8], pieces: &[usize], answers: &mut [u64], seed: u64) -> u64 {
                 unsafe {
                     $module::calls(
-                        bytes.as_ptr(), bytes.len(), pieces.as_ptr(), pieces.len(),
-                        answers.as_mut_ptr(), answers.len(), seed,
+                        bytes.as_ptr(),
+                        bytes.len(),
+                        pieces.as_ptr(),
+                        pieces.len(),
+                        answers.as_mut_ptr(),
+                        answers.len(),
+                        seed,
                     )
                 }
             }
