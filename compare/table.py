@@ -32,9 +32,12 @@ def rows_of(files):
 
 def main():
     repeats, *files = sys.argv[1:]
+    rows = rows_of(files)
+    if not rows:
+        sys.exit("table.py: no row has this word in its group and name")
     print(f"{processor()}; {len(files)} layouts, {repeats} repeats; ratio = the Rust crate's time / the port's time")
     groups = {}
-    for (group, name), runs in rows_of(files).items():
+    for (group, name), runs in rows.items():
         original, port = (min(times) for times in zip(*runs))
         ratios = [one / other for one, other in runs]
         best, median = original / port, statistics.median(ratios)

@@ -1,4 +1,4 @@
-//! The port beside the Rust crate: `driver answers | fuzz SEED N | bench REPEATS [WORD]`. See ../README.md.
+//! The port beside the Rust crate: see ../README.md.
 mod answers;
 mod bench;
 mod fuzz;
@@ -13,17 +13,23 @@ use std::process::ExitCode;
 fn main() -> ExitCode {
     let arguments: Vec<String> = std::env::args().skip(1).collect();
     let arguments: Vec<&str> = arguments.iter().map(String::as_str).collect();
-    match arguments[..] {
-        ["answers"] => answers::print(),
-        ["bench", repeats] => bench::run(number(repeats), ""),
-        ["bench", repeats, word] => bench::run(number(repeats), word),
-        ["fuzz", seed, count] if !fuzz::run(number(seed), number(count)) => return ExitCode::FAILURE,
-        ["fuzz", _, _] => {}
-        _ => panic!("run this by ../run.sh"),
+    match run(&arguments) {
+        Some(true) => ExitCode::SUCCESS,
+        Some(false) => ExitCode::FAILURE,
+        None => {
+            eprintln!("usage: answers | fuzz SEED N | bench REPEATS WORD");
+            ExitCode::from(2)
+        }
     }
-    ExitCode::SUCCESS
 }
 
-fn number(argument: &str) -> u64 {
-    argument.parse().unwrap_or_else(|_| panic!("not a number: {argument}"))
+/// Returns whether nothing failed, or `None` if the arguments ask for nothing.
+fn run(arguments: &[&str]) -> Option<bool> {
+    match *arguments {
+        ["answers"] => answers::print(),
+        ["bench", repeats, word] => bench::run(repeats.parse().ok().filter(|it| *it > 0)?, word),
+        ["fuzz", seed, count] => return Some(fuzz::run(seed.parse().ok()?, count.parse().ok()?)),
+        _ => return None,
+    }
+    Some(true)
 }
