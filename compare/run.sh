@@ -10,6 +10,7 @@
 # LAYOUTS says in how many layouts of the machine code `bench` runs, 8 if unset. KOMIHASH_CRATE names a folder with
 # the Rust crate, where cargo has no registry to get it from.
 set -euo pipefail
+original=${KOMIHASH_CRATE:+$(realpath -m "$KOMIHASH_CRATE")}
 cd "$(dirname "${BASH_SOURCE[0]}")"
 out=$PWD/out
 mkdir -p "$out"
@@ -43,14 +44,12 @@ make_workspace() {
     done
 }
 
-build_libraries() {
+build_libraries() (
     cp library/komihash.h "$out/"
     are_built && return
     need rt 'proves and builds the library'
-    local room name
     room=$(mktemp -d)
-    # shellcheck disable=SC2064
-    trap "rm -rf '$room'" EXIT
+    trap 'rm -rf "$room"' EXIT
     make_workspace "$room"
     for name in loops library; do
         echo "Proving and building $name. With nothing proved yet, this takes minutes." >&2
@@ -61,16 +60,16 @@ build_libraries() {
     done
     cp "$room/crates/loops/out/libloops.a" "$out/"
     cp "$room/crates/library/out/liblibrary.a" "$out/libkomihash.a"
-}
+)
 
 # Builds the driver as the file that is named, with flags for rustc.
 build_driver() {
     local file=$1 crate=()
     shift
     need cargo 'builds the Rust crate and the driver (https://rustup.rs)'
-    if [ -n "${KOMIHASH_CRATE:-}" ]; then
-        [ -f "$KOMIHASH_CRATE/Cargo.toml" ] || stop "KOMIHASH_CRATE names no folder of a Rust crate: $KOMIHASH_CRATE"
-        crate=(--offline --config "patch.crates-io.komihash.path=\"$(realpath "$KOMIHASH_CRATE")\"")
+    if [ -n "$original" ]; then
+        [ -f "$original/Cargo.toml" ] || stop "KOMIHASH_CRATE names no folder of a Rust crate: $original"
+        crate=(--offline --config "patch.crates-io.komihash.path=\"$original\"")
     fi
     export CARGO_TARGET_DIR=$out/cargo LIBRARIES=$out
     cd driver
