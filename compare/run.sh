@@ -84,6 +84,7 @@ bench() {
     local repeats=$1 word=$2 layout files=()
     need ld.lld 'lays the functions out in random order'
     need python3 'makes the table'
+    need lscpu 'names the processor'
     for layout in $(seq "${LAYOUTS:-8}"); do
         echo "Layout $layout of ${LAYOUTS:-8}" >&2
         build_driver "$out/layout-$layout" \

@@ -14,9 +14,10 @@ import sys
 
 
 def processor():
-    said = subprocess.run(["lscpu"], capture_output=True, text=True, check=True, env={**os.environ, "LC_ALL": "C"}).stdout
-    fields = dict(line.split(":", 1) for line in said.splitlines() if ":" in line)
-    return " ".join(f"{name.strip()} {fields[name].strip()}" for name in ("Model name", "CPU family", "Model", "CPU(s)"))
+    asked = subprocess.run(["lscpu"], capture_output=True, text=True, check=True, env={**os.environ, "LC_ALL": "C"})
+    pairs = (line.split(":", 1) for line in asked.stdout.splitlines() if ":" in line)
+    fields = {name.strip(): value.strip() for name, value in pairs}
+    return " ".join(f"{name} {fields[name]}" for name in ("Model name", "CPU family", "Model", "CPU(s)"))
 
 
 def rows_of(files):

@@ -6,7 +6,8 @@
  * - A pointer may be null only where its length is 0. The pointers `stream` and `hash` have no
  *   length and may never be null. A pointer to words is aligned to eight bytes.
  * - What a call writes must not overlap anything else that the call is passed.
- * - No call allocates, fails or keeps anything. Calls on different data may run at the same time.
+ * - No call allocates, or keeps anything for the next. Calls on different data may run at the same
+ *   time.
  */
 #ifndef KOMIHASH_H
 #define KOMIHASH_H
@@ -23,8 +24,8 @@ extern "C" {
 #define KOMIHASH_NONE SIZE_MAX
 
 /* A stream between two calls: the text that it is saved as, the first `length` bytes of `text`.
- * It has 68 to 131 bytes, and can be stored and sent. It has no check sum. To resume a stream,
- * put its text and length back. */
+ * It has 68 to 131 bytes, and can be stored and sent; a greater length counts as 131. It has no
+ * check sum. To resume a stream, put its text and length back. */
 typedef struct {
     uint8_t text[131];
     uint8_t length;
