@@ -1,12 +1,13 @@
 -- One round takes the next words of a list that still has others behind them.
 use Rattle.std.proofs.Common.{◌≡◌, ℕ, ◌+◌, ◌/◌, ◌<◌, ◌≤◌, Bool, true, false, List, [], ◌∷◌, ◌++◌, length, take, drop, refl, ap, arith, ◌∙◌, sym}
-use Rattle.std.proofs.lemmas.List.{length-take-le, take-append-drop, append_assoc, length-append, drop_more}
+use Rattle.std.proofs.lemmas.List.{length-take-le, length-drop, take-append-drop, append_assoc, length-append, drop_more}
 use Rattle.std.specs.Prelude.{slice_index}
 use Rattle.komihash.specs.Rounds.{Lanes, lanes, seed_pair, block_round, pair_round, join, closing}
 use Rattle.komihash.specs.Hash.{hash_from_pair, hash_from_lanes, komi}
 use Rattle.komihash.specs.Tails.{whole_words, final_word, end_byte}
+use Rattle.komihash.specs.Words.{word_of}
 use Rattle.komihash.proofs.PaddingWords.{padded_words-by_tail}
-use Rattle.komihash.proofs.WholeWords.{whole_words-few, whole_words-append, length-whole_words}
+use Rattle.komihash.proofs.WholeWords.{whole_words-few, whole_words-more, whole_words-append, length-whole_words}
 
 -- ---- rounds
 
@@ -66,6 +67,12 @@ module _ (v seed : ℕ) (m : List ℕ) (s : ℕ × ℕ) (from_seed : s ≡ seed_
 
   pub komi-by_pair : length m < 64 → hash_from_pair s (whole_words m ++ last ∷ []) ≡ komi v seed m
   komi-by_pair lt = sym (hash_from_lanes-end v (lanes s) false m last lt) ∙ komi-by_lanes
+
+  pub komi-by_two : 8 ≤ length m → length m < 16 → closing s (word_of (take 8 m) ∷ last ∷ []) ≡ komi v seed m
+  komi-by_two le lt =
+      let one : whole_words m ≡ word_of (take 8 m) ∷ [] = whole_words-more m le
+      ∙ ap (λ ws. word_of (take 8 m) ∷ ws) (whole_words-few (drop 8 m) (omega (arith, length-drop 8 m))) in
+      sym (ap (λ ws. hash_from_pair s (ws ++ last ∷ [])) one) ∙ komi-by_pair (omega arith)
 
   pub komi-by_closing : length m < 8 → closing s (last ∷ []) ≡ komi v seed m
   komi-by_closing lt =

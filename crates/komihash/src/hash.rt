@@ -5,9 +5,10 @@ ghost use Rattle.komihash.specs.Counts.{hash_products};
 ghost use Rattle.komihash.specs.Hash.{komi};
 
 use crate::rounds::blocks::absorb_blocks;
-use crate::rounds::{close_one, join, lanes, seed_pair};
+use crate::rounds::{close_one, close_two, join, lanes, seed_pair};
 use crate::tails::{answer_below_eight, end_byte, final_of_few, final_of_long, final_of_many};
 use crate::tally::Tally;
+use crate::utils::read_word;
 
 // The hash of a message with at least one block: a function of its own, since only its loop needs
 // the registers that it saves.
@@ -26,7 +27,9 @@ fn hash_of_blocks<const V: u8>(bytes: &[u8], seed: u64, tally: &mut Tally) -> u6
 }
 
 /// The hash of a message with a seed in version V; the tally rises by what it costs.
-#[inline(always)]
+///
+/// Messages of 8 to 15 bytes have a path of their own, with one test less.
+#[inline(never)]
 pub(crate) fn komihash_counted<const V: u8>(bytes: &[u8], seed: u64, tally: &mut Tally) -> u64
     ensures hash { result ≡ komi V seed bytes.now }
     ensures products { tally.new.products ≡ tally.old.products + hash_products (length bytes.now) }
@@ -38,7 +41,11 @@ pub(crate) fn komihash_counted<const V: u8>(bytes: &[u8], seed: u64, tally: &mut
     let pair = seed_pair(seed, tally);
     if bytes.len() >= 8 {
         let last = final_of_many(bytes, end_byte::<V>(bytes));
-        answer_below_eight(pair, &bytes, last, tally)
+        if bytes.len() < 16 {
+            close_two(pair, read_word(bytes), last, tally)
+        } else {
+            answer_below_eight(pair, &bytes, last, tally)
+        }
     } else if bytes.is_empty() {
         close_one(pair, 0, tally)
     } else {
