@@ -16,7 +16,7 @@ fn makes_the_lanes_of_a_seed(rt: HostRuntime) {
     let pair = seed_pair(0, &mut Tally::new());
     same(&rt, pair.1 ^ pair.0, 0x01d2_ee0a_e40a_48dc, 0);
     same(&rt, pair.1, 0x4ef2_e852_6fea_8bc9, 1);
-    let [low1, s5, low2, s6, low3, s7, low4, s8] = lanes(pair);
+    let [s8, low1, s5, low2, s6, low3, s7, low4] = lanes(pair);
     let given = [s8 ^ low1, s5 ^ low2, s6 ^ low3, s7 ^ low4, s5, s6, s7, s8];
     let wanted = [
         0x01d2_ee0a_e40a_48dc,
