@@ -29,10 +29,10 @@ fn absorb_begun<'a, const V: u8>(
         ≡ block_lanes V (lanes_in lanes.now) (whole_words (pending_bytes words.old fill ++ bytes.now)) }
     ensures left { after_blocks result.1.now ≡ after_blocks (pending_bytes words.old fill ++ bytes.now) }
     ensures none { ArePending words.new 0 }
+    ensures kept { tally.new.kept ≡ tally.old.kept + (if fill == 0 then 0 else 64 - fill) }
     ensures taken { length result.1.now + (if fill == 0 then 0 else 64 - fill) ≡ length bytes.now }
     ensures products { tally.new.products + 4 * (length result.1.now / 64)
         ≡ tally.old.products + 4 * ((fill + length bytes.now) / 64) }
-    ensures kept { tally.new.kept ≡ tally.old.kept + (if fill == 0 then 0 else 64 - fill) }
 {
     if fill == 0 {
         return (*lanes, bytes);
