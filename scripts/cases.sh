@@ -63,7 +63,7 @@ counted() {
     [ "$failed" = 0 ]
 }
 
-# Runs a command, and prints its status, its output and its errors, each behind its name.
+# Runs a command, and prints its status, its output and its errors, each after its name.
 ran() {
     "$@" > "$room/output" 2> "$room/errors"
     told $?
@@ -82,7 +82,7 @@ told() {
 # The first bytes of a message: of what `seq` prints.
 message() { seq 1 1000000 | head -c "$1"; }
 
-# What is told of a line, of a fault, and of a fault behind the beginning of a line.
+# What is told of a line, of a fault, and of a fault after the beginning of a line.
 line() { printf 'status 0\noutput %s\n.|\nerrors .|\n' "$1"; }
 fault() { printf 'status %s\noutput .|\nerrors komisum: %s\n.|\n' "$1" "$2"; }
 begun() { printf 'status 1\noutput %s.|\nerrors komisum: write failed\n.|\n' "$1"; }

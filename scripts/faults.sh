@@ -45,7 +45,7 @@ injected() {
     printf 'calls %s\n' "$(grep -c "^$call(" "$room/trace")"
 }
 
-# Each read of an input that takes five, the write, and the report, with each error: nothing is asked for behind a
+# Each read of an input that takes five, the write, and the report, with each error: nothing is asked for after a
 # fault.
 errors_at_each_call() {
     local error k

@@ -7,7 +7,7 @@ use Rattle.komihash.specs.Tails.{whole_words, block_lanes, after_blocks}
 use Rattle.komihash.proofs.WholeWords.{whole_words-append, length-whole_words}
 use Rattle.komihash.proofs.HashSteps.{hash_from_lanes-end, hash_from_lanes-bytes}
 
--- a block of words, and others behind it
+-- a block of words, and others after it
 block_lanes-round : (v : ℕ) (l : Lanes) (ws us : List ℕ) → length ws ≡ 8
     → block_lanes v l (ws ++ us) ≡ block_lanes v (block_round v l ws) us
 block_lanes-round v l (w0 ∷ w1 ∷ w2 ∷ w3 ∷ w4 ∷ w5 ∷ w6 ∷ w7 ∷ []) us e = refl
@@ -17,7 +17,7 @@ block_lanes-few : (v : ℕ) (l : Lanes) (ws : List ℕ) → length ws < 8 → bl
 block_lanes-few v l (w0 ∷ w1 ∷ w2 ∷ w3 ∷ w4 ∷ w5 ∷ w6 ∷ w7 ∷ ws) lt = absurd (omega arith)
 block_lanes-few v l ws lt = refl
 
--- a block of bytes, and others behind it
+-- a block of bytes, and others after it
 pub block_lanes-bytes : (v : ℕ) (l : Lanes) (xs ys : List ℕ) → length xs ≡ 64
     → block_lanes v l (whole_words (xs ++ ys)) ≡ block_lanes v (block_round v l (whole_words xs)) (whole_words ys)
 block_lanes-bytes v l xs ys e =
@@ -45,7 +45,7 @@ block_lanes-more v l xs le =
     ap (λ ys. block_lanes v l (whole_words ys)) (sym (take-append-drop 64 xs))
     ∙ block_lanes-bytes v l (take 64 xs) (drop 64 xs) (length-take-le 64 xs le)
 
--- the lanes after one block, and the bytes behind it, lead where the lanes and the bytes before it led
+-- the lanes after one block, and the bytes after it, lead where the lanes and the bytes before it led
 module _ (v : ℕ) (before after : Lanes) (xs ys : List ℕ) (le : 64 ≤ length xs) (left : ys ≡ drop 64 xs)
     (round : after ≡ block_round v before (whole_words (take 64 xs))) where
   pub block_lanes-next : block_lanes v after (whole_words ys) ≡ block_lanes v before (whole_words xs)

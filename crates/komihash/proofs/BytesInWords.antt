@@ -56,7 +56,7 @@ word_of-shr k xs h le =
     ∙ ap (λ n. word_of (drop k xs) * 2 ^ (8 * n) + word_of (take k xs)) front in
     ap (λ w. w / 2 ^ (8 * k)) cut ∙ shr_high (word_of (drop k xs)) (8 * k) (word_of (take k xs)) below
 
--- a piece set behind another by a shift and `|`
+-- a piece set after another by a shift and `|`
 word_of-set : (xs ys : List ℕ) (n : ℕ) → AreBytes xs → AreBytes ys → length xs ≡ n → n + length ys ≤ 8
     → bit_or (word_of xs) (word_of ys * 2 ^ (8 * n) % 2 ^ 64) ≡ word_of (xs ++ ys)
 word_of-set xs ys n h g e short =
@@ -68,7 +68,7 @@ AreBytes-one : (b : ℕ) → b < 256 → AreBytes (b ∷ [])
 AreBytes-one b h zero = h
 AreBytes-one b h (suc k) = omega arith
 
--- one byte behind a piece
+-- one byte after a piece
 pub word_of-push : (xs : List ℕ) (n b : ℕ) → AreBytes xs → length xs ≡ n → n < 8 → b < 256
     → bit_or (word_of xs) (b * 2 ^ (8 * n) % 2 ^ 64) ≡ word_of (xs ++ b ∷ [])
 word_of-push xs n b h e few small =
@@ -99,7 +99,7 @@ module _ (j k : ℕ) (xs : List ℕ) (h : AreBytes xs) (le : k ≤ length xs) (m
       (omega (arith, length-drop (length xs - k) xs))
       ∙ ap word_of last_from
 
-  -- with a byte b behind them
+  -- with a byte b after them
   word_of-last_push : (b : ℕ) → k < 8 → b < 256
       → bit_or (word_of (take k (drop (length xs - k) xs))) (b * 2 ^ (8 * k) % 2 ^ 64) / 2 ^
       (8 * (j + k - length xs)) ≡ word_of (drop j xs ++ b ∷ [])
@@ -114,7 +114,7 @@ module _ (j k : ℕ) (xs : List ℕ) (h : AreBytes xs) (le : k ≤ length xs) (m
       ∙ ap word_of (drop-append-le d ys (b ∷ []) (omega arith))
       ∙ ap (λ zs. word_of (zs ++ b ∷ [])) last_from
 
--- bytes read from both ends in two pieces of k, and a byte b behind them
+-- bytes read from both ends in two pieces of k, and a byte b after them
 pub word_of-two_ends : (k s : ℕ) (xs : List ℕ) (b : ℕ) → AreBytes xs → k ≤ length xs → length xs ≤ k + k
     → length xs < 8 → k < 8 → b < 256 → s ≡ 8 * (k + k - length xs)
     → bit_or (word_of (take k xs))
@@ -152,7 +152,7 @@ word_of-last_eight r xs b h many few small =
     ∙ ap (bit_or (word_of ys)) above
     ∙ sym (word_of-or ys (b ∷ []) (AreBytes-drop (length xs - r) xs h))
 
--- a zero behind adds nothing
+-- a zero after them adds nothing
 pub word_of-zero : (xs : List ℕ) → word_of (xs ++ 0 ∷ []) ≡ word_of xs
 word_of-zero [] = refl
 word_of-zero (x ∷ xs) = ap (λ w. x + 256 * w) (word_of-zero xs)

@@ -30,7 +30,7 @@ pub HasAbsorbed-start : (v seed : ℕ) (s : State) → s ≡ start seed → HasA
 unfolding HasAbsorbed absorb
 HasAbsorbed-start v seed s is = is
 
--- more bytes behind a message
+-- more bytes after a message
 pub HasAbsorbed-more : (v seed : ℕ) (s after : State) (m bytes : List ℕ) → HasAbsorbed v seed s m
     → after ≡ absorb v s bytes → HasAbsorbed v seed after (m ++ bytes)
 unfolding HasAbsorbed

@@ -121,7 +121,7 @@ module _ (v k : ℕ) (s now : ℕ × ℕ) (xs : List ℕ) (filled : Filled v k s
   pub whole-pair : now ≡ after_fill v s (length xs)
   whole-pair = filled.pair ∙ ap (λ j. after_steps v j s) (sym same)
 
--- a rest behind the whole words is filled with the lowest bytes of one more output
+-- the remainder after the whole words is filled with the lowest bytes of one more output
 module _ (v k j : ℕ) (s now after : ℕ × ℕ) (xs : List ℕ) (filled : Filled v k s xs now) (is : after ≡ next v now)
     (few : 8 * k + j ≡ length xs) (some : 0 < j) (short : j < 8) where
   one_over : (length xs + 7) / 8 ≡ k + 1

@@ -37,7 +37,7 @@ pub pair_in-first : (l1 e1 e4 : ℕ) → bit_xor e1 (bit_xor (bit_xor e4 l1) e1)
 pair_in-first l1 e1 e4 = sym (xor_assoc e1 (bit_xor e4 l1) e1) ∙ xor_back e1 (bit_xor e4 l1)
 
 -- a product of a block round as the code makes it: the first factor is put together in another order,
--- and stands behind the second
+-- and stands after the second
 abbrev pub product_late : List ℕ → List ℕ → List ℕ → ℕ → ℕ → ℕ → ℕ
 product_late table ws halves k j next =
     bit_xor (word_at_place table ws j) (slice_index halves next) * bit_xor

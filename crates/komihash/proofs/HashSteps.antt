@@ -1,4 +1,4 @@
--- One round takes the next words of a list that still has others behind them.
+-- One round takes the next words of a list that still has others after them.
 use Rattle.std.proofs.Common.{◌≡◌, ℕ, ◌+◌, ◌/◌, ◌<◌, ◌≤◌, Bool, true, false, List, [], ◌∷◌, ◌++◌, length, take, drop, refl, ap, arith, ◌∙◌, sym}
 use Rattle.std.proofs.lemmas.List.{length-take-le, length-drop, take-append-drop, append_assoc, length-append, drop_more}
 use Rattle.std.specs.Prelude.{slice_index}

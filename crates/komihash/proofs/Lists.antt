@@ -21,7 +21,7 @@ take-next m n from xs =
 pub take-to : (a b : ℕ) (xs : List ℕ) → a ≤ b → take a xs ++ take (b - a) (drop a xs) ≡ take b xs
 take-to a b xs le = let n : a + (b - a) ≡ b = omega arith in take-more a (b - a) xs ∙ ap (λ k. take k xs) n
 
--- an item written behind those before
+-- an item written after those before
 pub take-set_next : (xs ws : List ℕ) (i w : ℕ) → i < length xs → i < length ws → take i xs ≡ take i ws
     → w ≡ get_or ws i 0 → take (i + 1) (set xs i w) ≡ take (i + 1) ws
 take-set_next xs ws i w within some before is =
@@ -36,7 +36,7 @@ drop-set_next xs old i w e =
 
 module _ (xs ys all old : List ℕ) (a k n : ℕ) (within : a + k ≤ length xs) (size : length ys ≡ k)
     (sum : a + k ≡ n) where
-  -- a range written behind those before
+  -- a range written after those before
   pub take-put_mid_next : take a xs ≡ take a all → ys ≡ take k (drop a all) → take n (put_mid a k xs ys) ≡ take n all
   take-put_mid_next before is =
       take-put_mid a k xs ys n (omega arith) (omega arith)
@@ -69,7 +69,7 @@ two_pieces k n bs out zs ys len le most fits first second =
     ∙ ap (λ bytes. take (n - k) bs ++ bytes) second
     ∙ take-to (n - k) n bs (omega arith))
 
--- a range written over, and what was there before it and behind it
+-- a range written over, and what was there before it and after it
 pub put_mid-between : (a k n : ℕ) (xs ys zs : List ℕ) → a + k ≡ n → ys ≡ zs
     → put_mid a k xs ys ≡ take a xs ++ zs ++ drop n xs
 put_mid-between a k n xs ys zs sum is =

@@ -48,7 +48,7 @@ take-bytes_of zero n w le = refl
 take-bytes_of (suc r) zero w le = absurd (omega arith)
 take-bytes_of (suc r) (suc n) w le = ap (λ bs. w % 256 ∷ bs) (take-bytes_of r n (w / 256) (omega arith))
 
--- ---- whole words, and less than eight bytes behind them
+-- ---- whole words, and fewer than eight bytes after them
 
 pub whole_words-all_bytes : (ws xs : List ℕ) → ((k : ℕ) → get_or ws k 0 < 2 ^ 64) → length xs < 8
     → whole_words (all_bytes ws ++ xs) ≡ ws

@@ -23,7 +23,7 @@ pub padded_words-by_tail : (v : ℕ) (m : List ℕ) → padded_words v m ≡ who
 padded_words-by_tail v [] = refl
 padded_words-by_tail v (b ∷ m) = words_of-padded (b ∷ m) (padding_byte v (b ∷ m))
 
--- the final word of less than eight bytes
+-- the final word of fewer than eight bytes
 pub final_word-few : (xs : List ℕ) (end : ℕ) → length xs < 8 → word_of (xs ++ end ∷ []) ≡ final_word xs end
 final_word-few xs end few = ap (λ ys. word_of (ys ++ end ∷ [])) (sym (after_words-few xs few))
 
@@ -32,7 +32,7 @@ pub final_word-many : (xs : List ℕ) (end : ℕ)
     → word_of (drop (length xs - length xs % 8) xs ++ end ∷ []) ≡ final_word xs end
 final_word-many xs end = ap (λ ys. word_of (ys ++ end ∷ [])) (sym (after_words-drop xs))
 
--- the same where no byte stands behind the last whole word
+-- the same where no byte stands after the last whole word
 pub final_word-whole : (xs : List ℕ) (end : ℕ) → length xs % 8 ≡ 0 → end ≡ final_word xs end
 final_word-whole xs end whole =
     let one : end ≡ word_of (end ∷ []) = omega arith in

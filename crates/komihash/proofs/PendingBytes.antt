@@ -30,7 +30,7 @@ module _ (ws : List ℕ) (fill : ℕ) (are : ArePending ws fill) (xs : List ℕ)
   words-pending : ws ≡ pending_words 8 xs
   words-pending = are.words ∙ ap (pending_words 8) shows
 
-  -- bytes put behind them
+  -- bytes put after them
   module _ (new bytes : List ℕ) (are_bytes : AreBytes bytes) (appended : Appends ws fill bytes new) where
     words-put : new ≡ pending_words 8 (xs ++ bytes)
     words-put = appended xs AreBytes-pending length-pending words-pending
@@ -66,7 +66,7 @@ module _ (ws : List ℕ) (fill : ℕ) (are : ArePending ws fill) (xs : List ℕ)
       sym (get_or-take (fill / 8) ws at 0 (omega (arith, count-pending)))
       ∙ ap (λ us. get_or us at 0) whole_words-pending
 
-  -- the begun word, with a byte behind it
+  -- the begun word, with a byte after it
   pub final_word-pending : (end : ℕ) → end < 256
       → bit_or (get_or ws (fill / 8) 0) (end * 2 ^ (8 * (fill % 8)) % 2 ^ 64) ≡ final_word xs end
   final_word-pending end small =

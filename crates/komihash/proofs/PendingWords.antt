@@ -1,4 +1,4 @@
--- The eight words in which pending bytes stand: what they hold, and what a word set behind adds.
+-- The eight words in which pending bytes stand: what they hold, and what a word that is set after them adds.
 use Rattle.std.proofs.Common.{◌≡◌, ℕ, zero, suc, ◌+◌, ◌-◌, ◌*◌, ◌/◌, ◌%◌, ◌^◌, ◌<◌, ◌≤◌, List, [], ◌∷◌, ◌++◌, length, take, drop, get_or, set, replicate, refl, ap, arith, ◌∙◌, sym, subst, inl, inr}
 use Rattle.std.proofs.lemmas.List.{append_assoc, length-append, length-drop, length-take, length-take-le, take_at, take_all, drop_all, nil_from_length, drop_more, get_or-drop}
 use Rattle.std.proofs.lemmas.Bool.{cases_lt}
@@ -113,7 +113,7 @@ take-pending_words (suc n) (a ∷ b ∷ c ∷ d ∷ e ∷ f ∷ g ∷ h ∷ xs) 
     rw k (ap (λ ws. word_of (a ∷ b ∷ c ∷ d ∷ e ∷ f ∷ g ∷ h ∷ []) ∷ ws) (take-pending_words n xs (omega arith)))
 take-pending_words (suc n) xs le = refl
 
--- the begun word, with a byte behind it
+-- the begun word, with a byte after it
 pub final_word-pending_words : (xs : List ℕ) (fill end : ℕ) → AreBytes xs → length xs ≡ fill → fill < 64
     → end < 256 → bit_or (get_or (pending_words 8 xs) (fill / 8) 0) (end * 2 ^ (8 * (fill % 8)) % 2 ^ 64)
     ≡ final_word xs end

@@ -9,7 +9,7 @@ use Rattle.komihash.proofs.SavedTexts.{lanes_of, state_of}
 
 -- ---- written
 
--- what stands behind a new front
+-- what stands after a new front
 drop-behind : (front old : List ℕ) (k n : ℕ) → length front ≡ k → k ≤ n → drop n (front ++ drop k old) ≡ drop n old
 drop-behind front old k n size le =
     let sum : k + (n - k) ≡ n = omega arith in
@@ -18,7 +18,7 @@ drop-behind front old k n size le =
     ∙ ap (drop (n - k)) (drop_at front (drop k old) k size)
     ∙ drop-drop (n - k) k old ∙ ap (λ n. drop n old) sum
 
--- three parts, one behind the other
+-- three parts, one after the other
 pub parts_written : (head lanes pending old first second third : List ℕ) (n : ℕ) → length head ≡ 4 → length lanes ≡ 64
     → 68 ≤ n → first ≡ head ++ drop 4 old → second ≡ take 4 first ++ lanes ++ drop 68 first
     → third ≡ take 68 second ++ pending ++ drop n second → third ≡ head ++ lanes ++ pending ++ drop n old

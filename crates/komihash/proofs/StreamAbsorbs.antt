@@ -103,7 +103,7 @@ one_block v l xs ys e lt =
     ap (λ k. slice_index (xs ++ ys) (k - 1)) n ∙ get_or_append_left xs ys 0 63 (omega arith) in
     cc
 
--- a first block, and whole blocks behind it
+-- a first block, and whole blocks after it
 more_blocks : (v : ℕ) (l : Lanes) (xs ys : List ℕ) → length xs ≡ 64 → 64 ≤ length ys
     → blocks_state v l (xs ++ ys) ≡ blocks_state v (block_round v l (whole_words xs)) ys
 more_blocks v l xs ys e le =
@@ -146,7 +146,7 @@ absorb-block v s (b ∷ xs) full some =
     })
     (sym (ap (slice_index (s.pending ++ b ∷ xs)) n ∙ get_or-append-add s.pending (b ∷ xs) (length xs) 0))
 
--- what is behind the first block, by how many blocks it fills
+-- what is after the first block, by how many blocks it fills
 absorb-rest : (k v : ℕ) (l : Lanes) (xs ys : List ℕ) → length xs ≡ 64 → length ys / 64 ≡ k
     → absorb v (block_state v l xs) ys ≡ blocks_state v l (xs ++ ys)
 absorb-rest zero v l xs ys first e =

@@ -30,7 +30,7 @@ unfolding answer
 answer-by_pair v s =
     ap (hash_from_pair (join s.absorbed s.lanes)) (tail_of-words v s.pending s.absorbed s.top_bit)
 
--- ---- the final word, from what is behind the whole blocks
+-- ---- the final word, from what is after the whole blocks
 
 after_words-after_blocks : (m : List ℕ) → after_words m ≡ after_words (after_blocks m)
 after_words-after_blocks m =
@@ -38,7 +38,7 @@ after_words-after_blocks m =
     ap after_words (sym (take-append-drop n m))
     ∙ after_words-append (take n m) (drop n m) (n / 8) (length-take-le n m (omega arith) ∙ omega arith)
 
--- the last byte is the last of what is behind the blocks, or of the last block
+-- the last byte is the last of what is after the blocks, or of the last block
 tail_end-blocks : (v : ℕ) (m p : List ℕ) → p ≡ after_blocks m → 64 ≤ length m
     → tail_end v p true (has_top_bit v (slice_index m (length m - length m % 64 - 1))) ≡ end_byte v m
 tail_end-blocks v [] p e le = absurd (omega arith)

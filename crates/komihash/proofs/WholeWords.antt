@@ -1,4 +1,4 @@
--- The whole words of bytes, and the bytes behind them.
+-- The whole words of bytes, and the bytes after them.
 use Rattle.std.proofs.Common.{◌≤◌, take, drop, ◌≡◌, ℕ, suc, ◌-◌, ◌%◌, ◌<◌, List, [], ◌∷◌, ◌++◌, length, refl, ap, arith, ◌∙◌, sym, zero, ◌+◌, ◌*◌, ◌/◌}
 use Rattle.komihash.specs.Words.{word_of, words_of}
 use Rattle.komihash.specs.Tails.{whole_words, after_words}
@@ -18,7 +18,7 @@ pub after_words-few : (xs : List ℕ) → length xs < 8 → after_words xs ≡ x
 after_words-few (a ∷ b ∷ c ∷ d ∷ e ∷ f ∷ g ∷ h ∷ bs) le = absurd (omega arith)
 after_words-few xs le = refl
 
--- the bytes behind the last whole word, by place
+-- the bytes after the last whole word, by place
 pub after_words-drop : (xs : List ℕ) → after_words xs ≡ drop (length xs - length xs % 8) xs
 after_words-drop (a ∷ b ∷ c ∷ d ∷ e ∷ f ∷ g ∷ h ∷ bs) =
     let n : suc (suc (suc (suc (suc (suc (suc (suc (length bs)))))))) - suc

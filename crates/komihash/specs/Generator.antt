@@ -28,7 +28,7 @@ unfoldable pub outputs : ℕ → ℕ → ℕ × ℕ → List ℕ
 outputs v zero s = []
 outputs v (suc n) s = (next v s).0 ∷ outputs v n (next v s)
 
--- how many outputs a fill of n bytes takes: one for each eight bytes, and one more for a rest
+-- how many outputs a fill of n bytes takes: one for each eight bytes, and one more for a remainder
 abbrev pub fill_steps : ℕ → ℕ
 fill_steps n = (n + 7) / 8
 

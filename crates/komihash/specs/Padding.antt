@@ -6,7 +6,7 @@ use Rattle.komihash.specs.Words.{AreBytes, words_of}
 abbrev pub has_top_bit : ℕ → ℕ → Bool
 has_top_bit v b = v == 4 && nat_le 128 b
 
--- the padding byte: 2 behind a last byte whose top bit counts, else 1
+-- the padding byte: 2 after a last byte whose top bit counts, else 1
 abbrev pub padding_behind : Bool → ℕ
 padding_behind top_bit = if top_bit then 2 else 1
 

@@ -45,7 +45,7 @@ abbrev pub end_behind_blocks : Bool → Bool → ℕ
 end_behind_blocks absorbed top_bit = if absorbed then padding_behind top_bit else 0
 
 -- the words that an answer has left: the padded words of the pending bytes, or where there are none
--- the byte behind the blocks alone
+-- the byte after the blocks alone
 abbrev pub tail_of : ℕ → List ℕ → Bool → Bool → List ℕ
 tail_of v (b ∷ m) absorbed top_bit = padded_words v (b ∷ m)
 tail_of v [] absorbed top_bit = end_behind_blocks absorbed top_bit ∷ []

@@ -12,7 +12,7 @@ whole_words (a ∷ b ∷ c ∷ d ∷ e ∷ f ∷ g ∷ h ∷ bs) =
     word_of (a ∷ b ∷ c ∷ d ∷ e ∷ f ∷ g ∷ h ∷ []) ∷ whole_words bs
 whole_words bs = []
 
--- the bytes behind the last whole word
+-- the bytes after the last whole word
 abbrev pub after_words : List ℕ → List ℕ
 after_words (a ∷ b ∷ c ∷ d ∷ e ∷ f ∷ g ∷ h ∷ bs) = after_words bs
 after_words bs = bs
@@ -22,7 +22,7 @@ abbrev pub end_byte : ℕ → List ℕ → ℕ
 end_byte v [] = 0
 end_byte v (b ∷ m) = padding_byte v (b ∷ m)
 
--- the word of the bytes behind the last whole word, and the byte that ends them
+-- the word of the bytes after the last whole word, and the byte that ends them
 abbrev pub final_word : List ℕ → ℕ → ℕ
 final_word m end = word_of (after_words m ++ end ∷ [])
 
@@ -32,12 +32,12 @@ block_lanes v s (w0 ∷ w1 ∷ w2 ∷ w3 ∷ w4 ∷ w5 ∷ w6 ∷ w7 ∷ ws) =
     block_lanes v (block_round v s (w0 ∷ w1 ∷ w2 ∷ w3 ∷ w4 ∷ w5 ∷ w6 ∷ w7 ∷ [])) ws
 block_lanes v s ws = s
 
--- the bytes behind the last whole block
+-- the bytes after the last whole block
 abbrev pub after_blocks : List ℕ → List ℕ
 after_blocks m = drop (length m - length m % 64) m
 
 -- the byte that ends a stream's tail: the pending bytes' padding byte, or where none is pending that
--- behind the blocks
+-- after the blocks
 abbrev pub tail_end : ℕ → List ℕ → Bool → Bool → ℕ
 tail_end v (b ∷ m) absorbed top_bit = padding_byte v (b ∷ m)
 tail_end v [] absorbed top_bit = end_behind_blocks absorbed top_bit

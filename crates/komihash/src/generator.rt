@@ -81,7 +81,7 @@ impl<const V: u8> Komirand<V> {
 
     /// Fills the buffer with the bytes of the next outputs, of each the lowest byte first.
     ///
-    /// Each eight bytes take one output, and a rest of fewer takes one more, whose other bytes are
+    /// Each eight bytes take one output, and a remainder takes one more, whose other bytes are
     /// dropped. A fill of no bytes takes none.
     #[inline]
     pub fn fill_bytes(&mut self, buffer: &mut [u8])

@@ -40,7 +40,7 @@ pub fn empty_write()
 {}
 
 /// However n bytes are cut, a run that absorbs them and answers once at the end takes 3 products, 4
-/// for each whole block, and 1 for each 16 bytes behind the blocks.
+/// for each whole block, and 1 for each 16 bytes after the blocks.
 pub fn cost_of_pieces()
     ensures { (pieces : List Call) → AreAbsorbs pieces →
         run_products (pieces ++ Answer ∷ []) ≡ hash_products (length (bytes_of_calls pieces)) }

@@ -1,6 +1,6 @@
 //! The steps of the hash: seeding, lanes, block round, joining, pair round, closing.
 //!
-//! What the two versions do alike stands here once. Each step hands on the tally that it is lent.
+//! What the two versions do alike stands here once. Each step hands on the tally that it is passed.
 
 ghost use Rattle.std.specs.Prelude.{◌≡◌, ℕ, ◌+◌, ◌*◌, ◌<◌, List, [], ◌∷◌, true, All};
 ghost use Rattle.komihash.specs.Halves.{pair_in, lanes_in};
@@ -115,7 +115,7 @@ pub(crate) fn block_round(
 {
     let [e4, low1, e1, low2, e2, low3, e3, low4] = *lanes;
     let [p0, p1, p2, p3, p4, p5, p6, p7] = places;
-    // The first factors, all before the first product: then no word e is wanted behind its own sum.
+    // The first factors, all before the first product: then no word e is wanted after its own sum.
     // Each low half meets its word first: it is there before the raised word that it belongs to.
     let x1 = (words[p0] ^ low1) ^ e4;
     let x2 = (words[p2] ^ low2) ^ e1;

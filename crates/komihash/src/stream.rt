@@ -52,7 +52,7 @@ pub trait KomiStream: Sized + Drop {
         ensures kept { tally.new.kept ≡ tally.old.kept };
 
     /// Writes the text that the stream is saved as, and answers its length, which is at most 131. The
-    /// text stands first in `out`; behind it `out` stays as it is.
+    /// text stands first in `out`; after it `out` stays as it is.
     fn store(&self, out: &mut [u8]) -> usize
         requires { 131 ≤ length out.old }
         ensures length { result ≡ length (text VERSION (state self.now)) }
@@ -87,7 +87,7 @@ pub enum Call<'a> {
 
 /// Makes calls on a stream, in order, and answers how many answers there are.
 ///
-/// They stand first in `out`, in order; behind them `out` stays as it is. There has to be a place
+/// They stand first in `out`, in order; after them `out` stays as it is. There has to be a place
 /// for each call. The stream stays with all bytes absorbed, and may go on. Where it has absorbed a
 /// message from a seed on, each answer is the hash of that message and the bytes since, joined.
 pub fn run_on<S: KomiStream>(
@@ -124,7 +124,7 @@ pub fn run_on<S: KomiStream>(
 
 /// Makes calls on a new stream of a seed, in order, and answers how many answers there are.
 ///
-/// They stand first in `out`, in order; behind them `out` stays as it is. There has to be a place
+/// They stand first in `out`, in order; after them `out` stays as it is. There has to be a place
 /// for each call. Each answer is the hash of all bytes that the calls before it absorb, joined. The
 /// tally rises by what the stream, its blocks and its answers cost, and by the bytes that it keeps.
 pub fn run<S: KomiStream>(

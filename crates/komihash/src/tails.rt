@@ -23,7 +23,7 @@ pub(crate) fn end_byte<const V: u8>(message: &[u8]) -> u64
     }
 }
 
-/// The final word of less than eight bytes.
+/// The final word of fewer than eight bytes.
 #[inline(always)]
 pub(crate) fn final_of_few(bytes: &[u8], end: u64) -> u64
     requires few { length bytes.now < 8 }
@@ -155,7 +155,7 @@ fn answer_below_four<W: Words>(pair: Pair, left: &W, at: usize, last: u64, tally
     }
 }
 
-/// The answer from a pair, less than eight words, and the final word.
+/// The answer from a pair, fewer than eight words, and the final word.
 #[inline(always)]
 pub(crate) fn answer_below_eight<W: Words>(
     pair: Pair,

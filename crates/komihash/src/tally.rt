@@ -8,8 +8,8 @@ use std::marker::{Model, PhantomData};
 /// bytes that were kept among a stream's pending bytes.
 ///
 /// A tally takes no bytes at run time, and no program can read it. A contract says by how much a
-/// call raises a tally that it is lent. No other crate can change its numbers but by handing it to
-/// this crate's calls. Like any value that is lent, it can be replaced by another one as a whole.
+/// call raises a tally that it is passed. No other crate can change its numbers but by handing it to
+/// this crate's calls. Like any value that is passed, it can be replaced by another one as a whole.
 #[derive(Drop)]
 pub struct Tally {
     marker: PhantomData<()>,

@@ -48,9 +48,9 @@ fn two_at(bytes: &[u8], at: usize) -> u64
     u64::from(u16::from_le_bytes([piece[0], piece[1]]))
 }
 
-/// The word of at most seven bytes and the byte `end` behind them.
+/// The word of at most seven bytes and the byte `end` after them.
 ///
-/// The bytes are read in two overlapping pieces: of the second, which has `end` behind it, a shift
+/// The bytes are read in two overlapping pieces: of the second, which has `end` after it, a shift
 /// drops what the first has.
 #[inline(always)]
 pub(crate) fn read_partial_word(bytes: &[u8], end: u64) -> u64

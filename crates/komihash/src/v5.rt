@@ -39,7 +39,7 @@ pub fn komihash_counted(bytes: &[u8], seed: u64, tally: &mut Tally) -> u64
 /// Writes the padded words of a message, and answers how many they are: one for each eight bytes
 /// of the message, and one more.
 ///
-/// They stand first in `out`, which must have room for them. What is behind them is not touched.
+/// They stand first in `out`, which must have room for them. What is after them is not touched.
 #[inline]
 pub fn pad(bytes: &[u8], out: &mut [u64]) -> usize
     requires { length bytes.now / 8 + 1 ≤ length out.old }
@@ -52,7 +52,7 @@ pub fn pad(bytes: &[u8], out: &mut [u64]) -> usize
 
 /// Reads padded words back: writes the message that has them, and answers its length in bytes.
 ///
-/// The message stands first in `out`, which must have eight bytes for each word. What is behind it
+/// The message stands first in `out`, which must have eight bytes for each word. What is after it
 /// is not touched. The answer is `None`, and `out` as it was, where no message has these words in
 /// this version.
 #[inline]

@@ -16,7 +16,7 @@ use std::io::Read;
 ///
 /// It reads into `chunk`, until a read answers 0. It is `Read` where a read answers an error, of any
 /// kind, and `TooLong` where more than `most` bytes came. Then it asks the reader for nothing more,
-/// which stands behind the bytes taken. It makes at most `most + 1` reads.
+/// which stands after the bytes taken. It makes at most `most + 1` reads.
 ///
 /// The chunk must not be empty, and the reader must not have failed before.
 pub fn digest<R: Read, S: KomiStream>(

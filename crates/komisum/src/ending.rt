@@ -18,7 +18,7 @@ impl Ending {
     ghost use Rattle.std.specs.Prelude.{◌≡◌, None, Some, MatchOption, MatchResult};
     ghost use Rattle.komisum.specs.Ending.{text_of, status_of};
 
-    /// The ending behind what `show` answered.
+    /// The ending that follows from what `show` returned.
     pub fn of(shown: Result<(), Fault>) -> Self
         ensures { MatchResult shown (λ _. result ≡ Ending.Shown) (λ fault. result ≡ Ending.Failed fault) }
     {

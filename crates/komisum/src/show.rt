@@ -49,7 +49,7 @@ pub fn show<R: Read, W: Write>(
         (result ≡ Err Fault.TooLong) ↔ ((reader.new.failed ≡ false) × (2 ^ 40 < taken))) }
     ensures write { (result ≡ Err Fault.Write) ↔ (writer.new.failed ≡ true) }
 
-    // Of an input that cannot be had, or is too long, nothing is written.
+    // Of an input that cannot be read, or is too long, nothing is written.
     ensures unwritten { result ≡ Err Fault.Read
         → Keeps (W.contents writer.old.inner) (W.contents writer.new.inner) }
     ensures unwritten_long { result ≡ Err Fault.TooLong

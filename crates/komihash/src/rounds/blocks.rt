@@ -26,7 +26,7 @@ fn block_words(block: &[u8; 64]) -> [u64; 8]
     ]
 }
 
-// A block round on the first 64 bytes; those behind them.
+// A block round on the first 64 bytes; those after them.
 #[inline(always)]
 fn absorb_block<'a, const V: u8>(
     lanes: &mut [u64; 8],

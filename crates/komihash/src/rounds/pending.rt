@@ -63,7 +63,7 @@ impl Pending {
         (self.words[at / 8] >> (8 * (at % 8))) as u8
     }
 
-    /// Puts bytes behind them, and counts these as kept.
+    /// Puts bytes after them, and counts these as kept.
     #[inline(always)]
     pub(crate) fn put(&mut self, bytes: &[u8], tally: &mut Tally)
         requires { length self.old + length bytes.now < 64 }
@@ -76,7 +76,7 @@ impl Pending {
         self.fill = fill + bytes.len();
     }
 
-    /// Puts bytes behind them of which some fill a block, and absorbs all whole blocks: whether the
+    /// Puts bytes after them of which some fill a block, and absorbs all whole blocks: whether the
     /// last byte of the last block is high.
     #[inline(always)]
     pub(crate) fn absorb<const V: u8>(

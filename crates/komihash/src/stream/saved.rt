@@ -11,7 +11,7 @@ use crate::rounds::pending::Pending;
 use crate::tally::Tally;
 use crate::utils::copies::{write_bytes, write_words};
 
-// Where the lanes begin, behind the version, the flag, the bit and the number of the pending bytes.
+// Where the lanes begin, after the version, the flag, the bit and the number of the pending bytes.
 const LANES: usize = 4;
 
 // Where the pending bytes begin.
@@ -48,7 +48,7 @@ fn halves(lanes: &[u64; 8]) -> [u64; 8]
     [s8, s8 ^ s1, s5, s5 ^ s2, s6, s6 ^ s3, s7, s7 ^ s4]
 }
 
-/// Writes the lanes behind the first four bytes.
+/// Writes the lanes after the first four bytes.
 #[inline(always)]
 pub(crate) fn write_lanes(lanes: &[u64; 8], out: &mut [u8])
     requires { 68 ≤ length out.old }
@@ -57,7 +57,7 @@ pub(crate) fn write_lanes(lanes: &[u64; 8], out: &mut [u8])
     write_bytes(&in_order(lanes), 64, &mut out[LANES..PENDING]);
 }
 
-/// Writes the pending bytes behind the lanes, and answers where they end.
+/// Writes the pending bytes after the lanes, and answers where they end.
 #[inline(always)]
 pub(crate) fn write_pending(pending: &Pending, out: &mut [u8]) -> usize
     requires few { length pending.now < 64 }

@@ -78,7 +78,7 @@ impl<const V: u8> StreamedKomihash<V> {
     /// each pending byte.
     ///
     /// The text stands first in `out`, which must have room for 131 bytes, the longest text. What is
-    /// behind it is not touched. `resume` makes the same stream of it, also in another process and
+    /// after it is not touched. `resume` makes the same stream of it, also in another process and
     /// on another day.
     #[inline]
     pub fn save(&self, out: &mut [u8]) -> usize

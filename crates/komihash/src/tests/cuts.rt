@@ -44,7 +44,7 @@ fn cut_at_every_place(rt: HostRuntime) {
     agrees_however_cut::<5>(&rt, &BLOCK_FIVE, 80, 6);
 }
 
-// A thousand writes of no bytes behind a message.
+// A thousand writes of no bytes after a message.
 fn stays_after_empty_writes<const V: u8>(rt: &impl Abort, message: &[u8], hash: u64) {
     let mut stream = StreamedKomihash::<V>::new();
     stream.write(message);

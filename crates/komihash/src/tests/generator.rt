@@ -66,7 +66,7 @@ fn takes_four_steps_first(rt: HostRuntime) {
     gives(&rt, extra, &[0x0d2f_8edd_6aff_b42b]);
 }
 
-// The next fills of a generator; the generator behind them.
+// The next fills of a generator; the generator after them.
 fn fills<const V: u8>(rt: &impl Abort, mut generator: Komirand<V>, fills: &[&[u8]]) -> Komirand<V> {
     for fill in fills {
         let mut bytes = [0xee; 16];
@@ -119,7 +119,7 @@ fn kind<const V: u8>(number: usize) -> Komirand<V> {
     }
 }
 
-// Fills of every length up to 95 bytes are the bytes of the outputs, and the output behind a fill is
+// Fills of every length up to 95 bytes are the bytes of the outputs, and the output after a fill is
 // the first that it did not take.
 fn fills_with_the_outputs<const V: u8>(rt: &impl Abort) {
     for number in 0..4usize {

@@ -72,7 +72,7 @@ pub(crate) fn at_cuts(message: &[u8; 95]) -> [Call<'_>; 9]
     ]
 }
 
-/// The answers of these calls on `BLOCK_FIVE` in version 5, and 9 in each place behind them.
+/// The answers of these calls on `BLOCK_FIVE` in version 5, and 9 in each place after them.
 pub(crate) const CUT_ANSWERS: [u64; 9] = [
     0xb768_3ea7_4301_32b4,
     0xfd45_482d_180d_0441,

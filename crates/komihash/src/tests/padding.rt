@@ -34,7 +34,7 @@ fn unpad(version: u8, words: &[u64], out: &mut [u8]) -> Option<usize>
     }
 }
 
-// What `pad` writes of a message, and nothing behind it.
+// What `pad` writes of a message, and nothing after it.
 fn pads(rt: &impl Abort, version: u8, message: &[u8], words: &[u64])
     requires message { length message.now < 16 }
     requires words { length words.now ≤ 3 }
@@ -59,7 +59,7 @@ fn pads_known_messages(rt: HostRuntime) {
     pads(&rt, 5, &[0xff; 8], &[u64::MAX, 1]);
 }
 
-// What `unpad` writes of words, and nothing behind it.
+// What `unpad` writes of words, and nothing after it.
 fn reads(rt: &impl Abort, version: u8, words: &[u64], message: &[u8])
     requires words { length words.now ≤ 3 }
     requires message { length message.now ≤ 25 }
@@ -125,7 +125,7 @@ fn reads_known_words_back(rt: HostRuntime) {
     reads_high_ends(&rt, 5, 1, 2);
 }
 
-// What is padded is read back, and nothing is written behind it.
+// What is padded is read back, and nothing is written after it.
 fn reads_back(rt: &impl Abort, version: u8, message: &[u8])
     requires { length message.now ≤ 80 }
 {

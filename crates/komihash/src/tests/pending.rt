@@ -8,7 +8,7 @@ use crate::rounds::pending::Pending;
 use crate::tally::Tally;
 use std::process::Abort;
 
-// Two pieces, and nothing written behind them.
+// Two pieces, and nothing written after them.
 fn writes(rt: &impl Abort, first: &[u8], second: &[u8], wanted: &[u8; 64])
     requires { length first.now + length second.now < 64 }
 {

@@ -66,8 +66,8 @@ fn resumed<const V: u8>(rt: &impl Abort, stream: &StreamedKomihash<V>) -> Stream
     resumed
 }
 
-// Pieces by the plain calls, with answers and rests between them: at a rest the stream is saved, and
-// another one is resumed from its text.
+// Pieces by the plain calls, with answers between them; now and then the stream is saved, and another
+// one is resumed from its text.
 fn agrees_by_plain_calls<const V: u8>(rt: &impl Abort, random: &mut Komirand) {
     let message = message_of::<600>(random);
     let seed = seed_of(random);
@@ -153,7 +153,7 @@ fn padded_length<const V: u8>(words: &[u64]) -> Option<usize>
     if words.len() == 1 { Some(0) } else { None }
 }
 
-// What is read back from words is what was padded, or nothing where nothing was; behind it `out`
+// What is read back from words is what was padded, or nothing where nothing was; after it `out`
 // stays.
 fn agrees_read_back<const V: u8>(rt: &impl Abort, words: &[u64])
     requires { length words.now ≤ 13 }

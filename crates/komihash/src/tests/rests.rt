@@ -1,5 +1,5 @@
-//! Runs with a rest behind each call: the stream is saved, and a new one that is resumed from its
-//! text takes its place. What the calls cost stands in contracts, which are proved.
+//! Runs that are saved and resumed after each call: a new stream that is resumed from the saved text
+//! takes the old one's place. What the calls cost stands in contracts, which are proved.
 
 ghost use Rattle.std.specs.Prelude.{◌≡◌, ◌+◌, ◌≤◌, IsTrue, IfSome, length};
 ghost use Rattle.komihash.specs.Calls.{onward_products, onward_kept};
@@ -11,7 +11,7 @@ use crate::stream::{Call, KomiStream, run_on};
 use crate::tally::Tally;
 use crate::{v4, v5};
 
-// A rest: it is one from every state, and changes nothing.
+// Saves and resumes a stream: this is possible in every state, and changes nothing.
 fn rest<S: KomiStream>(stream: &mut S) -> bool
     ensures resumed { IsTrue result }
     ensures state { S.state stream.new ≡ S.state stream.old }
@@ -27,7 +27,7 @@ fn rest<S: KomiStream>(stream: &mut S) -> bool
     }
 }
 
-// Makes each call in a run of its own, with a rest behind it. They cost what one run of them does.
+// Makes each call in a run of its own, saved and resumed after it. They cost what one run does.
 fn run_with_rests<S: KomiStream>(
     stream: &mut S,
     calls: &[Call<'_>],

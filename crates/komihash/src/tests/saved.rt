@@ -51,7 +51,7 @@ fn text_after<S: KomiStream>(count: usize) -> ([u8; 131], usize)
     (out, end)
 }
 
-// A stream has this text, and what is behind it in `out` stays.
+// A stream has this text, and what is after it in `out` stays.
 fn saves<const V: u8>(rt: &impl Abort, stream: &StreamedKomihash<V>, text: &[u8]) {
     assert!(rt; text.len() <= 131);
     let mut out = [0xee; 140];
@@ -224,7 +224,7 @@ fn takes_exactly_the_texts(rt: HostRuntime) {
     agrees_at_each_byte::<v5::StreamedKomihash>(&rt);
 }
 
-// A text cut, or with zeros behind it, and the text of a stream of the other version.
+// A text cut, or with zeros after it, and the text of a stream of the other version.
 fn agrees_at_each_end<S: KomiStream, O: KomiStream>(rt: &impl Abort) {
     for count in [0usize, 64, 100, 127] {
         assert!(rt; count <= 200);

@@ -81,7 +81,7 @@ fn agrees_in_two<S: KomiStream>(rt: &impl Abort, first: &[u8], second: &[u8], wh
     answers(rt, &stream, whole, 0);
 }
 
-// Zeros in one write behind every number of pending bytes.
+// Zeros in one write after every number of pending bytes.
 fn agrees_behind_pending_bytes<S: KomiStream>(rt: &impl Abort) {
     let pending = pattern();
     for fill in 0..64usize {
@@ -99,7 +99,7 @@ fn fills_up_a_begun_block(rt: HostRuntime) {
     agrees_behind_pending_bytes::<v5::StreamedKomihash>(&rt);
 }
 
-/// By the plain calls: writes that end at these places, with two answers behind each.
+/// By the plain calls: writes that end at these places, with two answers after each.
 pub(crate) fn agrees_between<const V: u8>(
     rt: &impl Abort,
     message: &[u8],
@@ -117,7 +117,7 @@ pub(crate) fn agrees_between<const V: u8>(
     }
 }
 
-// A whole block, and one byte before it, at it and behind; and pieces of 13 bytes.
+// A whole block, and one byte before it, at it and after; and pieces of 13 bytes.
 fn goes_on<const V: u8>(rt: &impl Abort) {
     let mut message = [0xff; 65];
     message[64] = 0;
@@ -190,7 +190,7 @@ fn begins_with_seed_zero(rt: HostRuntime) {
     begins_empty::<5>(&rt);
 }
 
-// A run on a new stream of seed 0 gives these answers, and writes nothing behind them.
+// A run on a new stream of seed 0 gives these answers, and writes nothing after them.
 fn runs<S: KomiStream>(rt: &impl Abort, calls: &[Call<'_>], answers: &[u64])
     requires { length calls.now ≤ 200 }
 {

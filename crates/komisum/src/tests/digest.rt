@@ -115,7 +115,7 @@ fn a_read_of_none_is_the_end(rt: HostRuntime) {
     digests_by(&rt, reader, 95, Ok(0x2a2f07ac93810128), 2);
 }
 
-// The hash of bytes that come in pieces. Behind each piece the stream is saved, and another one is
+// The hash of bytes that come in pieces. After each piece the stream is saved, and another one is
 // resumed from its text. It is `None` where a text is not taken.
 fn digested_with_rests<S: KomiStream>(bytes: &[u8], size: usize) -> Option<u64>
     requires { 0 < size }

@@ -133,7 +133,7 @@ fn write_at(rt: &impl Abort, at_once: usize, stop: Stop, call: usize) {
     leaves(rt, left, "write failed", &LINE_OF_ZERO[..before], call);
 }
 
-// Each write fails in turn, and then the flush; behind them none is left to fail.
+// Each write fails in turn, and then the flush; after them none is left to fail.
 fn writes_at(rt: &impl Abort, at_once: usize, writes: usize)
     requires { writes ≤ 17 }
 {

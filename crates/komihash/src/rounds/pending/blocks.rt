@@ -1,4 +1,4 @@
-//! The begun block filled up, and the whole blocks behind it.
+//! The begun block filled up, and the whole blocks after it.
 
 ghost use Rattle.std.specs.Prelude.{◌≡◌, ◌+◌, ◌-◌, ◌*◌, ◌/◌, ◌<◌, ◌≤◌, ◌==◌, if◌then◌else◌, ◌++◌, length, slice_index};
 ghost use Rattle.komihash.specs.Counts.{write_products, kept_bytes};
@@ -14,7 +14,7 @@ use crate::rounds::{block_round, places};
 use crate::tally::Tally;
 
 // Fills up the begun block, if there is one, and absorbs it: the lanes after it, and what is left of
-// the bytes. The lanes are taken up only behind the writer, which needs the registers itself.
+// the bytes. The lanes are taken up only after the writer, which needs the registers itself.
 #[inline(always)]
 fn absorb_begun<'a, const V: u8>(
     lanes: &[u64; 8],
@@ -45,7 +45,7 @@ fn absorb_begun<'a, const V: u8>(
     (after, rest)
 }
 
-// Puts what is left behind the blocks, if anything is.
+// Puts what is left after the blocks, if anything is.
 #[inline(always)]
 fn put_left(words: &mut [u64; 8], left: &[u8], tally: &mut Tally)
     requires none { ArePending words.old 0 }

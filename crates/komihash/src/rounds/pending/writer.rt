@@ -27,7 +27,7 @@ fn set_word(words: &mut [u64; 8], at: usize, word: u64)
     words[at] = word;
 }
 
-// Puts less than eight bytes.
+// Puts fewer than eight bytes.
 #[inline(always)]
 fn put_few(words: &mut [u64; 8], fill: usize, bytes: &[u8])
     requires few { length bytes.now < 8 }
@@ -70,7 +70,7 @@ fn move_words<const N: usize>(
     (at + N, from + 8 * N)
 }
 
-// Puts what is left behind the words that were moved: it is read with the last eight bytes.
+// Puts what is left after the words that were moved: it is read with the last eight bytes.
 #[inline(always)]
 fn put_last(words: &mut [u64; 8], at: usize, bytes: &[u8], from: usize)
     requires many { 8 ≤ length bytes.now }
@@ -100,7 +100,7 @@ fn put_many(words: &mut [u64; 8], fill: usize, bytes: &[u8])
     put_last(words, at, bytes, from);
 }
 
-/// Puts bytes behind those that the words hold up to the fill, and counts them as kept.
+/// Puts bytes after those that the words hold up to the fill, and counts them as kept.
 #[inline(always)]
 pub(crate) fn put(words: &mut [u64; 8], fill: usize, bytes: &[u8], tally: &mut Tally)
     requires begun { fill < 64 }

@@ -27,7 +27,7 @@ length-read : (bytes xs : List ℕ) (n : ℕ) → n ≤ length xs → length (by
 length-read bytes xs n within =
     length-append bytes (take n xs) ∙ ap (λ k. length bytes + k) (length-take-le n xs within)
 
--- what the call answers behind too many bytes
+-- what the call answers after too many bytes
 abbrev too_long : Result ℕ Fault
 too_long = Err TooLong
 

@@ -37,7 +37,7 @@ loop-i-preserved c =
           (λ n. onward_kept 0 (take i calls) + (n + 0)) kept ∙ omega (arith, so_far.kept);
     }
 
--- the Absorbs, and the Answer behind them
+-- the Absorbs, and the Answer after them
 ended : (calls : List Call) (i : ℕ) → i ≡ 95 → drop 95 calls ≡ Answer ∷ [] → calls ≡ take i calls ++ Answer ∷ []
 ended calls i all answer =
     sym (take-append-drop i calls) ∙ ap (λ n. take i calls ++ drop n calls) all ∙ ap (λ xs. take i calls ++ xs) answer

@@ -1,4 +1,4 @@
--- The bytes of the words so far, and behind them what was there.
+-- The bytes of the words so far, and after them what was there.
 use Rattle.std.proofs.Common.{◌≡◌, ◌*◌, take, drop}
 use Rattle.komihash.specs.Words.{all_bytes}
 use Rattle.komihash.proofs.utils.copies.write_bytes.Given as goal

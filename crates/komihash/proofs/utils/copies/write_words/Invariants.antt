@@ -1,4 +1,4 @@
--- The words so far, and behind them what was there.
+-- The words so far, and after them what was there.
 use Rattle.std.proofs.Common.{◌≡◌, take, drop}
 use Rattle.komihash.specs.Tails.{whole_words}
 use Rattle.komihash.proofs.utils.copies.write_words.Given as goal
