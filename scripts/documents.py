@@ -29,6 +29,9 @@ SEAL = {"crates/komihash/specs/Sealed.antt", "crates/komihash/specs/Tallies.antt
 # Files that a document names and that are not committed: what builds leave, and what a reader would write.
 NOT_COMMITTED = {"out/komisum", "Answers.antt", "Invariants.antt"}
 
+# What is read: not what Python leaves beside the scripts.
+TEXTS = {".rt", ".antt", ".md", ".sh", ".py", ".edit", ".txt", ".c"}
+
 RULES = ("callers", "definitions", "names", "files_named", "order")
 NAMED_FILE = re.compile(r"[\w./*{},-]+\.(?:rt|antt|md|sh|py|edit|h|c)")
 PUBLIC = re.compile(r"^(?:(?:abbrev|unfoldable) )?pub (?:record )?([\w-]+)", re.MULTILINE)
@@ -39,7 +42,8 @@ def read_files():
     found = [*TOP.glob("*.md"), *TOP.glob("docs/*.md"), *TOP.glob("scripts/**/*")]
     for part in ("src", "specs", "proofs", "must-fail"):
         found += TOP.glob(f"crates/*/{part}/**/*")
-    return {str(path.relative_to(TOP)): path.read_text() for path in sorted(found) if path.is_file()}
+    texts = (path for path in sorted(found) if path.suffix in TEXTS)
+    return {path.relative_to(TOP).as_posix(): path.read_text(encoding="utf-8") for path in texts}
 
 
 def rust_blocks(text):
