@@ -20,6 +20,26 @@ def planted(files, edit):
     return {**files, file: text}
 
 
+def cases_of(subject, findings, files, edits):
+    """Each case: its name, and its faults. `findings` tells of files what each rule finds, by the rule's name.
+
+    In the files themselves nothing may be found. Each edit has to add a finding, and each rule to find an edit.
+    """
+    before = findings(files)
+    yield from ((f"{subject}, {rule}", texts) for rule, texts in before.items())
+    finders = set()
+    for edit in edits:
+        try:
+            found = findings(planted(files, edit))
+        except ValueError as fault:
+            yield edit.name, [str(fault)]
+            continue
+        new = [(rule, text) for rule, texts in found.items() for text in texts if text not in before[rule]]
+        finders |= {rule for rule, _ in new}
+        yield ": ".join(["found", edit.stem, *(text for _, text in new[:1])]), [] if new else ["no rule finds it"]
+    yield from ((f"a planted edit is found by {rule}", [] if rule in finders else ["none is"]) for rule in before)
+
+
 def report(cases):
     """Prints a line for each case, a name and its faults, and the counts; the status to end with."""
     passed = failed = 0

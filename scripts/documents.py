@@ -5,17 +5,17 @@
                in order, and README's block is one of them
   definitions  docs/DEFINITIONS.md names every public definition of specs/
   names        each name in docs/DEFINITIONS.md stands in specs/, proofs/ or src/
-  files        each file that a document names is there
+  files_named  each file that a document names is there
   order        docs/ARCHITECTURE.md lists the base files of crates/komihash/proofs/, each after those it imports
 
-Then each edit of scripts/planted/documents/ has to be found. The last line is 'N passed, M failed'.
+Then each edit of scripts/planted/documents/ has to be found, and each rule to find one. The last line is 'N passed, M failed'.
 """
 
 import re
 import sys
 from pathlib import Path
 
-from checks import planted, report
+from checks import cases_of, report
 
 SCRIPTS = Path(__file__).resolve().parent
 TOP = SCRIPTS.parent
@@ -32,7 +32,6 @@ NOT_COMMITTED = {"out/komisum", "Answers.antt", "Invariants.antt"}
 # What is read: not what Python leaves beside the scripts.
 TEXTS = {".rt", ".antt", ".md", ".sh", ".py", ".edit", ".txt", ".c"}
 
-RULES = ("callers", "definitions", "names", "files_named", "order")
 NAMED_FILE = re.compile(r"[\w./*{},-]+\.(?:rt|antt|md|sh|py|edit|h|c)")
 PUBLIC = re.compile(r"^(?:(?:abbrev|unfoldable) )?pub (?:record )?([\w-]+)", re.MULTILINE)
 
@@ -114,24 +113,16 @@ class Documents:
             for late in set(imported) - set(names[:place]):
                 yield f"{ARCHITECTURE}: {name} stands before {late}, which it imports"
 
-    def found(self):
-        """What each rule finds."""
-        return {rule: list(getattr(self, rule)()) for rule in RULES}
+
+RULES = (Documents.callers, Documents.definitions, Documents.names, Documents.files_named, Documents.order)
 
 
-def cases_of(files, edits):
-    """Each case: its name, and its faults."""
-    found = Documents(files).found()
-    for rule in RULES:
-        yield f"the documents, {rule}", found[rule]
-    for edit in edits:
-        try:
-            texts = sum(Documents(planted(files, edit)).found().values(), [])
-        except ValueError as fault:
-            yield edit.name, [str(fault)]
-            continue
-        yield ": ".join(["found", edit.stem, *texts[:1]]), [] if texts else ["no rule finds it"]
+def findings(files):
+    """What each rule finds, by the rule's name."""
+    documents = Documents(files)
+    return {rule.__name__: list(rule(documents)) for rule in RULES}
 
 
 if __name__ == "__main__":
-    sys.exit(report(cases_of(read_files(), sorted((SCRIPTS / "planted/documents").glob("*.edit")))))
+    EDITS = sorted((SCRIPTS / "planted/documents").glob("*.edit"))
+    sys.exit(report(cases_of("the documents", findings, read_files(), EDITS)))

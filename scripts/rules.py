@@ -25,7 +25,7 @@ from collections import Counter
 from functools import lru_cache
 from pathlib import Path
 
-from checks import planted, report
+from checks import cases_of, report
 
 SCRIPTS = Path(__file__).resolve().parent
 CRATE = SCRIPTS.parent / "crates/komihash"
@@ -271,22 +271,6 @@ def findings(files):
     return {rule.__name__: list(rule(crate)) for rule in RULES}
 
 
-def cases_of(files, edits):
-    """Each case: its name, and its faults."""
-    before = findings(files)
-    yield from ((f"the crate, {rule}", texts) for rule, texts in before.items())
-    finders = set()
-    for edit in edits:
-        try:
-            found = findings(planted(files, edit))
-        except ValueError as fault:
-            yield edit.name, [str(fault)]
-            continue
-        new = [(rule, text) for rule, texts in found.items() for text in texts if text not in before[rule]]
-        finders |= {rule for rule, _ in new}
-        yield ": ".join(["found", edit.stem, *(text for _, text in new[:1])]), [] if new else ["no rule finds it"]
-    yield from ((f"a planted edit is found by {rule}", [] if rule in finders else ["none is"]) for rule in before)
-
-
 if __name__ == "__main__":
-    sys.exit(report(cases_of(read_files(), sorted((SCRIPTS / "planted").glob("*.edit")))))
+    EDITS = sorted((SCRIPTS / "planted").glob("*.edit"))
+    sys.exit(report(cases_of("the crate", findings, read_files(), EDITS)))
