@@ -45,7 +45,7 @@ hash_from_lanes-bytes v s b xs last le =
     ∙ hash_from_lanes-round v s b (whole_words (take 64 xs)) (whole_words (drop 64 xs)) last
     (length-whole_words (take 64 xs) ∙ ap (λ n. n / 8) front))
 
--- less than 64 bytes and the final word make no block
+-- fewer than 64 bytes and the final word make no block
 at_most_eight : (v : ℕ) (s : Lanes) (b : Bool) (ws : List ℕ) → length ws ≤ 8
     → hash_from_lanes v s b ws ≡ hash_from_pair (join b s) ws
 at_most_eight v s b (w0 ∷ w1 ∷ w2 ∷ w3 ∷ w4 ∷ w5 ∷ w6 ∷ w7 ∷ w ∷ ws) le = absurd (omega arith)

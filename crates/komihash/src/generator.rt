@@ -28,8 +28,8 @@ impl<const V: u8> Model for Komirand<V> {
 impl<const V: u8> Komirand<V> {
     /// Returns the generator of this pair, which takes no step.
     ///
-    /// Any numbers are allowed. Of small numbers the first outputs are simple patterns: in version 5
-    /// `new(0, 0)` gives 0x5555555555555555 first. `init` takes four steps to leave these behind.
+    /// Any numbers are allowed. The first outputs of small ones are simple patterns: in version 5
+    /// `new(0, 0)` gives 0x5555555555555555 first. `init` takes four steps to get past them.
     #[inline]
     pub fn new(s1: u64, s2: u64) -> Self
         ensures { result ≡ (s1, s2) }

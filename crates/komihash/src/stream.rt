@@ -51,8 +51,9 @@ pub trait KomiStream: Sized + Drop {
             ≡ tally.old.products + answer_products (length (state self.now).pending) }
         ensures kept { tally.new.kept ≡ tally.old.kept };
 
-    /// Writes the text that the stream is saved as, and answers its length, which is at most 131. The
-    /// text stands first in `out`; after it `out` stays as it is.
+    /// Writes the text that the stream is saved as, and returns its length, at most 131.
+    ///
+    /// The text stands first in `out`; after it `out` stays as it is.
     fn store(&self, out: &mut [u8]) -> usize
         requires { 131 ≤ length out.old }
         ensures length { result ≡ length (text VERSION (state self.now)) }

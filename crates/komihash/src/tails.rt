@@ -106,7 +106,7 @@ impl Words for &[u8] {
     }
 }
 
-// The answer from a pair, less than two words from a place on, and the final word.
+// The answer from a pair, fewer than two words from a place on, and the final word.
 #[inline(always)]
 fn answer_below_two<W: Words>(pair: Pair, left: &W, at: usize, last: u64, tally: &mut Tally) -> u64
     requires within { at ≤ length (W.words left.now) }
@@ -136,7 +136,7 @@ fn take_two<W: Words>(pair: Pair, left: &W, at: usize, tally: &mut Tally) -> Pai
     pair_round(pair, left.word(at), left.word(at + 1), tally)
 }
 
-// The answer from a pair, less than four words from a place on, and the final word.
+// The answer from a pair, fewer than four words from a place on, and the final word.
 #[inline(always)]
 fn answer_below_four<W: Words>(pair: Pair, left: &W, at: usize, last: u64, tally: &mut Tally) -> u64
     requires within { at ≤ length (W.words left.now) }

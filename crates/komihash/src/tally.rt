@@ -8,8 +8,8 @@ use std::marker::{Model, PhantomData};
 /// bytes that were kept among a stream's pending bytes.
 ///
 /// A tally takes no bytes at run time, and no program can read it. A contract says by how much a
-/// call raises a tally that it is passed. No other crate can change its numbers but by handing it to
-/// this crate's calls. Like any value that is passed, it can be replaced by another one as a whole.
+/// call raises the tally that it is passed. No other crate can change its numbers but by passing it
+/// to this crate's calls. As with any value that is passed, another one can be put in its place.
 #[derive(Drop)]
 pub struct Tally {
     marker: PhantomData<()>,

@@ -14,9 +14,9 @@ use std::io::Read;
 
 /// The hash of all bytes that a reader has left, in the version of `S`.
 ///
-/// It reads into `chunk`, until a read answers 0. It is `Read` where a read answers an error, of any
-/// kind, and `TooLong` where more than `most` bytes came. Then it asks the reader for nothing more,
-/// which stands after the bytes taken. It makes at most `most + 1` reads.
+/// Reads into `chunk` until a read returns 0, at most `most + 1` times. Returns `Read` if a read
+/// returns an error, of any kind, and `TooLong` if more than `most` bytes come. After either it reads
+/// nothing more, and the reader stands after the bytes taken.
 ///
 /// The chunk must not be empty, and the reader must not have failed before.
 pub fn digest<R: Read, S: KomiStream>(

@@ -43,11 +43,11 @@ fn seed_in(word: &str) -> Option<u64>
     Some(seed)
 }
 
-/// The version and the seed that words ask for.
+/// Returns the version and the seed that arguments ask for.
 ///
-/// No words ask for version 5 and seed 0. Two words ask for a version, `4` or `5`, and a seed, 1 to
-/// 16 of the characters 0 to 9 and a to f, which are its digits to base 16. It is `None` at all
-/// other words.
+/// Without arguments these are version 5 and seed 0. Takes two arguments, VERSION, which is `4` or
+/// `5`, and SEED, 1 to 16 of the characters 0 to 9 and a to f, its digits to base 16. Returns `None`
+/// for all others.
 pub fn settings(words: &[&str]) -> Option<(Version, u64)>
     ensures { result ≡ settings_of (map (λ word. word.now) words.now) }
 {

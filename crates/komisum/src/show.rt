@@ -59,7 +59,7 @@ pub fn show<R: Read, W: Write>(
     ensures read_bound { result ≡ Err Fault.Read
         → Takes (R.remaining reader.old.inner) (R.remaining reader.new.inner) (λ taken. taken ≤ 2 ^ 40) }
 
-    // A write that fails comes after all reads, and leaves a beginning of the line.
+    // A write that fails comes after all reads, and part of the line may have been written.
     ensures begun { result ≡ Err Fault.Write → IfSome (R.remaining reader.old.inner) (λ bytes.
         AppendsPrefix (W.contents writer.old.inner) (W.contents writer.new.inner)
         (hash_line version seed bytes)) }

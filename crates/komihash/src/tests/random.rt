@@ -66,8 +66,8 @@ fn resumed<const V: u8>(rt: &impl Abort, stream: &StreamedKomihash<V>) -> Stream
     resumed
 }
 
-// Pieces by the plain calls, with answers between them; now and then the stream is saved, and another
-// one is resumed from its text.
+// Pieces by the plain calls, with answers between them; now and then the stream is saved, and
+// another one is resumed from its text.
 fn agrees_by_plain_calls<const V: u8>(rt: &impl Abort, random: &mut Komirand) {
     let message = message_of::<600>(random);
     let seed = seed_of(random);

@@ -1,4 +1,4 @@
-//! Runs that are saved and resumed after each call: a new stream that is resumed from the saved text
+//! Runs that are saved and resumed after each call: a stream that is resumed from the saved text
 //! takes the old one's place. What the calls cost stands in contracts, which are proved.
 
 ghost use Rattle.std.specs.Prelude.{◌≡◌, ◌+◌, ◌≤◌, IsTrue, IfSome, length};

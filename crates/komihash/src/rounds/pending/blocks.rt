@@ -13,8 +13,8 @@ use crate::rounds::blocks::absorb_blocks;
 use crate::rounds::{block_round, places};
 use crate::tally::Tally;
 
-// Fills up the begun block, if there is one, and absorbs it: the lanes after it, and what is left of
-// the bytes. The lanes are taken up only after the writer, which needs the registers itself.
+// Fills up the begun block, if there is one, and absorbs it. Returns the lanes after it, and what is
+// left of the bytes. The lanes are read only after the writer, which needs the registers itself.
 #[inline(always)]
 fn absorb_begun<'a, const V: u8>(
     lanes: &[u64; 8],
