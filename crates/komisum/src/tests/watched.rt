@@ -7,22 +7,15 @@ use std::io::{ErrorKind, Read, Result, Write};
 use std::process::Abort;
 use std::result;
 
-// What a call answers, an error by its kind.
-fn by_kind(answer: Result<usize>) -> result::Result<usize, ErrorKind> {
-    match answer {
-        Ok(count) => Ok(count),
-        Err(error) => Err(error.kind()),
-    }
-}
-
-// A call answers this, and then one has failed or not.
+// A call returns this, an error of this kind, and then one has failed or not.
 fn answers(
     rt: &impl Abort,
     given: (Result<usize>, bool),
     wanted: result::Result<usize, ErrorKind>,
     failed: bool,
 ) {
-    assert!(rt; by_kind(given.0) == wanted, "another answer");
+    let answer = given.0.map_err(|error| error.kind());
+    assert!(rt; answer == wanted, "another answer");
     assert!(rt; given.1 == failed, "failed or not");
 }
 
