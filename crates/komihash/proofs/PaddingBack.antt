@@ -7,7 +7,7 @@ use Rattle.std.proofs.lemmas.List.{length-append, length-take-le, take_all, get_
 use Rattle.std.proofs.lemmas.Nat.{pow-add, pow_pos, shr-shr, shr_high}
 use Rattle.std.specs.Prelude.{slice_index}
 use Rattle.komihash.specs.Tails.{whole_words, after_words, final_word, end_byte}
-use Rattle.komihash.specs.Padding.{has_top_bit, padding_behind, padded_words, padding_byte}
+use Rattle.komihash.specs.Padding.{has_top_bit, padding_after, padded_words, padding_byte}
 use Rattle.komihash.specs.Words.{AreBytes, word_of, bytes_of, all_bytes}
 use Rattle.komihash.proofs.Lists.{take-more}
 use Rattle.komihash.proofs.BytesOfWords.{take-all_bytes, drop-all_bytes, length-bytes_of, length-all_bytes}
@@ -75,7 +75,7 @@ take-all_words (w ∷ ws) (suc i) =
 
 pub padding_byte_at : (v : ℕ) (ws : List ℕ) (n last : ℕ) → 0 < n → n ≤ 8 * length ws
     → last ≡ slice_index (all_bytes ws) (n - 1)
-    → padding_behind (has_top_bit v last) ≡ padding_byte v (take n (all_bytes ws))
+    → padding_after (has_top_bit v last) ≡ padding_byte v (take n (all_bytes ws))
 padding_byte_at v ws n last some le is =
     let size : length (take n (all_bytes ws)) ≡ n =
     length-take-le n (all_bytes ws) (omega (arith, length-all_bytes ws)) in
@@ -169,7 +169,7 @@ take-words_back v m bytes =
 
 padding_byte-cases : (v : ℕ) (m : List ℕ) → (padding_byte v m ≡ 1) ⊎ (padding_byte v m ≡ 2)
 padding_byte-cases v m =
-    elim (has_top_bit v (slice_index m (length m - 1))) as (λ b. (padding_behind b ≡ 1) ⊎ (padding_behind b ≡ 2)) [
+    elim (has_top_bit v (slice_index m (length m - 1))) as (λ b. (padding_after b ≡ 1) ⊎ (padding_after b ≡ 2)) [
       | true ↦ inr refl
       | false ↦ inl refl
     ]

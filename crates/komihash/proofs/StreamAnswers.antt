@@ -7,7 +7,7 @@ use Rattle.komihash.specs.Hash.{komi, hash_from_pair}
 use Rattle.komihash.specs.Rounds.{lanes, seed_pair, join, closing}
 use Rattle.komihash.specs.Stream.{State, start, absorb, answer, tail_of}
 use Rattle.komihash.specs.Tails.{tail_end, whole_words, after_words, final_word, end_byte, block_lanes, after_blocks}
-use Rattle.komihash.specs.Padding.{has_top_bit, padding_behind, padding_byte}
+use Rattle.komihash.specs.Padding.{has_top_bit, padding_after, padding_byte}
 use Rattle.komihash.specs.Words.{word_of}
 use Rattle.komihash.proofs.StreamAbsorbs.{blocks_state, absorb-few, absorb-blocks}
 use Rattle.komihash.proofs.Blocks.{hash_from_lanes-k_blocks}
@@ -46,7 +46,7 @@ tail_end-blocks v (c ∷ m) [] e le =
     let n : length (after_blocks (c ∷ m)) ≡ 0 = ap length (sym e) in
     let k : length (c ∷ m) - length (c ∷ m) % 64 - 1 ≡ length (c ∷ m) - 1 =
     omega (arith, n, length-drop (length (c ∷ m) - length (c ∷ m) % 64) (c ∷ m)) in
-    ap (λ i. padding_behind (has_top_bit v (slice_index (c ∷ m) i))) k
+    ap (λ i. padding_after (has_top_bit v (slice_index (c ∷ m) i))) k
 tail_end-blocks v (c ∷ m) (b ∷ p) e le =
     let n = length (c ∷ m) - length (c ∷ m) % 64 in
     let some : 0 < length (drop n (c ∷ m)) = subst (λ q. 0 < length q) e (omega arith) in
@@ -54,7 +54,7 @@ tail_end-blocks v (c ∷ m) (b ∷ p) e le =
     let last : slice_index (b ∷ p) (length (b ∷ p) - 1) ≡ slice_index (c ∷ m) (length (c ∷ m) - 1) =
     ap (λ q. slice_index q (length q - 1)) e ∙ get_or-drop n (c ∷ m) (length (drop n (c ∷ m)) - 1) 0
     ∙ ap (slice_index (c ∷ m)) place in
-    ap (λ x. padding_behind (has_top_bit v x)) last
+    ap (λ x. padding_after (has_top_bit v x)) last
 
 tail_end-start : (v : ℕ) (m : List ℕ) → tail_end v m false false ≡ end_byte v m
 tail_end-start v [] = refl

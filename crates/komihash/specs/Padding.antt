@@ -7,13 +7,13 @@ abbrev pub has_top_bit : ℕ → ℕ → Bool
 has_top_bit v b = v == 4 && nat_le 128 b
 
 -- the padding byte: 2 after a last byte whose top bit counts, else 1
-abbrev pub padding_behind : Bool → ℕ
-padding_behind top_bit = if top_bit then 2 else 1
+abbrev pub padding_after : Bool → ℕ
+padding_after top_bit = if top_bit then 2 else 1
 
 -- the byte that ends a nonempty message in version v: 1, but 2 in version 4 where the message's
 -- last byte is at least 128
 abbrev pub padding_byte : ℕ → List ℕ → ℕ
-padding_byte v m = padding_behind (has_top_bit v (slice_index m (length m - 1)))
+padding_byte v m = padding_after (has_top_bit v (slice_index m (length m - 1)))
 
 -- a nonempty message, its padding byte, and zeros up to a multiple of eight bytes
 abbrev pub padded_bytes : ℕ → List ℕ → List ℕ

@@ -2,7 +2,7 @@
 use Rattle.std.specs.Prelude.{ℕ, ◌<◌, ◌^◌, ◌≡◌, Bool, true, false, List, [], ◌∷◌, ◌++◌, length, ◌==◌, if◌then◌else◌}
 use Rattle.komihash.specs.Hash.{hash_from_pair}
 use Rattle.komihash.specs.Rounds.{Lanes, seed_pair, lanes, block_round, join}
-use Rattle.komihash.specs.Padding.{has_top_bit, padding_behind, padded_words}
+use Rattle.komihash.specs.Padding.{has_top_bit, padding_after, padded_words}
 use Rattle.komihash.specs.Words.{AreBytes, words_of}
 
 -- eight lanes, the bytes that no block has taken yet, whether a block was absorbed, and in version
@@ -42,7 +42,7 @@ HasAbsorbed v seed s m = s ≡ absorb v (start seed) m
 -- the byte that ends a stream where none is pending: the padding byte of the last block, or 0 where
 -- no block was absorbed
 abbrev pub end_behind_blocks : Bool → Bool → ℕ
-end_behind_blocks absorbed top_bit = if absorbed then padding_behind top_bit else 0
+end_behind_blocks absorbed top_bit = if absorbed then padding_after top_bit else 0
 
 -- the words that an answer has left: the padded words of the pending bytes, or where there are none
 -- the byte after the blocks alone

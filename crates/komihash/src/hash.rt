@@ -4,11 +4,12 @@ ghost use Rattle.std.specs.Prelude.{◌≡◌, ◌+◌, ◌≤◌, length};
 ghost use Rattle.komihash.specs.Counts.{hash_products};
 ghost use Rattle.komihash.specs.Hash.{komi};
 
+use crate::padding::end::{end_byte, final_of_long, final_of_many};
 use crate::rounds::blocks::absorb_blocks;
 use crate::rounds::{close_one, close_two, join, lanes, seed_pair};
-use crate::tails::{answer_below_eight, end_byte, final_of_few, final_of_long, final_of_many};
+use crate::tails::answer_below_eight;
 use crate::tally::Tally;
-use crate::utils::read_word;
+use crate::utils::{read_partial_word, read_word};
 
 // The hash of a message with at least one block: a function of its own, since only its loop needs
 // the registers that it saves.
@@ -49,7 +50,7 @@ pub(crate) fn komihash_counted<const V: u8>(bytes: &[u8], seed: u64, tally: &mut
     } else if bytes.is_empty() {
         close_one(pair, 0, tally)
     } else {
-        let last = final_of_few(bytes, end_byte::<V>(bytes));
+        let last = read_partial_word(bytes, end_byte::<V>(bytes));
         close_one(pair, last, tally)
     }
 }

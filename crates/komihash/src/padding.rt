@@ -1,30 +1,15 @@
-//! The padding of a message: its padding byte, and its padded words, written and read back.
+//! The padded words of a message, written and read back.
 
+pub(crate) mod end;
 mod length;
 
 ghost use Rattle.std.specs.Prelude.{◌≡◌, ◌+◌, ◌*◌, ◌/◌, ◌≤◌, ◌↔◌, IfSome, IfNone, IsNone, IsSomeAnd, List, ℕ, length, take, drop};
 ghost use Rattle.komihash.specs.Words.{AreBytes};
-ghost use Rattle.komihash.specs.Padding.{ArePadded, has_top_bit, padded_words, padding_behind};
+ghost use Rattle.komihash.specs.Padding.{ArePadded, padded_words};
 
-use crate::tails::final_word;
 use crate::utils::copies::{write_bytes, write_words};
+use end::final_word;
 use length::message_length;
-
-/// Whether version V looks at the top bit of a last byte, and it is set.
-#[inline(always)]
-pub(crate) fn has_top_bit<const V: u8>(byte: u8) -> bool
-    ensures { result ≡ has_top_bit V byte }
-{
-    V == 4 && byte >= 128
-}
-
-/// The padding byte, by the last byte's top bit, where the version looks at it.
-#[inline(always)]
-pub(crate) fn padding_behind(top_bit: bool) -> u64
-    ensures { result ≡ padding_behind top_bit }
-{
-    1 + u64::from(top_bit)
-}
 
 /// Writes the padded words of a message in version V, and answers how many they are.
 #[inline(always)]

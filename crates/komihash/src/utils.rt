@@ -2,8 +2,10 @@
 
 pub(crate) mod copies;
 
-ghost use Rattle.std.specs.Prelude.{◌≡◌, ◌+◌, ◌*◌, ◌^◌, ◌<◌, ◌≤◌, [], ◌∷◌, ◌++◌, length, take, drop};
+ghost use Rattle.std.specs.Prelude.{◌≡◌, ℕ, ◌+◌, ◌*◌, ◌^◌, ◌<◌, ◌≤◌, ◌↔◌, IsTrue};
+ghost use Rattle.std.specs.Prelude.{List, [], ◌∷◌, ◌++◌, length, take, drop, slice_index};
 ghost use Rattle.komihash.specs.Rounds.{low, high};
+ghost use Rattle.komihash.specs.Tails.{whole_words};
 ghost use Rattle.komihash.specs.Words.{word_of, bytes_of};
 
 use crate::tally::Tally;
@@ -88,6 +90,37 @@ pub(crate) fn write_partial_word(word: u64, out: &mut [u8])
         out[n - 2..].copy_from_slice(&bytes[n - 2..n]);
     } else if n == 1 {
         out[0] = bytes[0];
+    }
+}
+
+/// Whole words that are left, wherever they lie.
+pub(crate) trait Words {
+    /// The words.
+    ghost words: { Self → List ℕ };
+
+    /// Whether there are at least `count` words.
+    fn holds(&self, count: usize) -> bool
+        requires few { count ≤ 8 }
+        ensures { IsTrue result ↔ (count ≤ length (words self.now)) };
+
+    fn word(&self, at: usize) -> u64
+        requires within { at < length (words self.now) }
+        requires few { at < 8 }
+        ensures { result ≡ slice_index (words self.now) at };
+}
+
+/// The whole words of a message's bytes.
+impl Words for &[u8] {
+    ghost words = { λ bytes. whole_words bytes.now };
+
+    #[inline(always)]
+    fn holds(&self, count: usize) -> bool {
+        8 * count <= self.len()
+    }
+
+    #[inline(always)]
+    fn word(&self, at: usize) -> u64 {
+        word_at(self, 8 * at)
     }
 }
 

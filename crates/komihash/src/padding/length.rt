@@ -4,7 +4,7 @@ ghost use Rattle.std.specs.Prelude.{◌≡◌, ◌+◌, ◌*◌, ◌/◌, ◌^�
 ghost use Rattle.komihash.specs.Padding.{ArePadded, padded_words, padding_byte};
 ghost use Rattle.komihash.specs.Words.{all_bytes};
 
-use crate::padding::{has_top_bit, padding_behind};
+use crate::padding::end::{has_top_bit, padding_after};
 
 // The place of a word's highest byte that is not 0.
 #[inline(always)]
@@ -34,7 +34,7 @@ fn is_padding_byte<const V: u8>(byte: u64, words: &[u64], count: usize) -> bool
     requires within { count ≤ 8 * length words.now }
     ensures { IsTrue result ↔ (byte ≡ padding_byte V (take count (all_bytes words.now))) }
 {
-    byte == padding_behind(has_top_bit::<V>(byte_at(words, count - 1)))
+    byte == padding_after(has_top_bit::<V>(byte_at(words, count - 1)))
 }
 
 /// The length of the message whose padded words in version V these are, where there is one.

@@ -9,8 +9,8 @@ ghost use Rattle.komihash.specs.Padding.{has_top_bit};
 mod blocks;
 mod writer;
 
-use crate::tails::Words;
 use crate::tally::Tally;
+use crate::utils::Words;
 use crate::utils::copies::write_bytes;
 use std::marker::Model;
 

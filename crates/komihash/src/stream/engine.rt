@@ -6,7 +6,7 @@ ghost use Rattle.komihash.specs.Saved.{text, IsText};
 ghost use Rattle.komihash.specs.Stream.{IsState, start, absorb, answer};
 ghost use Rattle.komihash.specs.Tails.{tail_end};
 
-use crate::padding::{has_top_bit, padding_behind};
+use crate::padding::end::{has_top_bit, padding_after};
 use crate::rounds::pending::Pending;
 use crate::rounds::{close_one, join, lanes, seed_pair};
 use crate::stream::saved::{
@@ -23,9 +23,9 @@ fn tail_end<const V: u8>(pending: &Pending, absorbed: bool, top_bit: bool) -> u6
     ensures small { result < 4 }
 {
     if pending.len() > 0 {
-        padding_behind(has_top_bit::<V>(pending.last_byte()))
+        padding_after(has_top_bit::<V>(pending.last_byte()))
     } else if absorbed {
-        padding_behind(top_bit)
+        padding_after(top_bit)
     } else {
         0
     }

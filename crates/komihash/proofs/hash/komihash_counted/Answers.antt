@@ -1,6 +1,7 @@
 use Rattle.std.proofs.Common.{◌≡◌, length, ◌∙◌, ap, arith}
 use Rattle.std.proofs.lemmas.Bool.Decides.{nat_tests}
 use Rattle.komihash.specs.Tails.{final_word}
+use Rattle.komihash.proofs.PaddingWords.{final_word-few}
 use Rattle.komihash.proofs.WholeWords.{length-whole_words}
 use Rattle.komihash.proofs.HashSteps.{komi-by_pair, komi-by_two, komi-by_closing, komi-empty}
 use Rattle.komihash.proofs.hash.komihash_counted.Goals as goal
@@ -32,4 +33,5 @@ pub returns-else-is_empty-clause-hash : goal.returns-else-is_empty-clause-hash
 returns-else-is_empty-clause-hash g c =
     c.close_one-else-is_empty.ensures.answer
     ∙ komi-by_closing g.row.V c.args.seed c.args.bytes.now _ c.seed_pair-pair.ensures.pair _
-    (c.final_of_few-last.ensures ∙ ap (final_word c.args.bytes.now) c.end_byte-else-is_empty.ensures.byte) c.if-bytes-ge8.false
+    (c.read_partial_word-last.ensures ∙ final_word-few c.args.bytes.now _ c.if-bytes-ge8.false
+    ∙ ap (final_word c.args.bytes.now) c.end_byte-else-is_empty.ensures.byte) c.if-bytes-ge8.false

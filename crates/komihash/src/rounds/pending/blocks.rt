@@ -8,7 +8,7 @@ ghost use Rattle.komihash.specs.Tails.{whole_words, block_lanes, after_blocks};
 ghost use Rattle.komihash.specs.Padding.{has_top_bit};
 
 use super::writer::put;
-use crate::padding::has_top_bit;
+use crate::padding::end::has_top_bit;
 use crate::rounds::blocks::absorb_blocks;
 use crate::rounds::{block_round, places};
 use crate::tally::Tally;

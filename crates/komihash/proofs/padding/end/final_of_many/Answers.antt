@@ -1,7 +1,7 @@
 use Rattle.std.proofs.Common.{length, ◌%◌, ◌∙◌, arith}
 use Rattle.komihash.proofs.PaddingWords.{final_word-many}
 use Rattle.komihash.proofs.BytesInWords.{AreBytes-typed, word_of-last_eight}
-use Rattle.komihash.proofs.tails.final_of_many.Goals as goal
+use Rattle.komihash.proofs.padding.end.final_of_many.Goals as goal
 
 pub returns : goal.returns
 returns c =

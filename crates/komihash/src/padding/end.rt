@@ -1,0 +1,78 @@
+//! How a message ends: its padding byte, and its final word.
+
+ghost use Rattle.std.specs.Prelude.{◌≡◌, ◌<◌, ◌≤◌, length};
+ghost use Rattle.komihash.specs.Padding.{has_top_bit, padding_after};
+ghost use Rattle.komihash.specs.Tails.{end_byte, final_word};
+
+use crate::utils::{read_partial_word, word_at};
+
+/// Returns whether version V looks at the top bit of a message's last byte, and it is set.
+#[inline(always)]
+pub(crate) fn has_top_bit<const V: u8>(byte: u8) -> bool
+    ensures { result ≡ has_top_bit V byte }
+{
+    V == 4 && byte >= 128
+}
+
+/// Returns the padding byte: 2 after a last byte for which `has_top_bit` holds, otherwise 1.
+#[inline(always)]
+pub(crate) fn padding_after(top_bit: bool) -> u64
+    ensures { result ≡ padding_after top_bit }
+{
+    1 + u64::from(top_bit)
+}
+
+/// Returns the byte that ends a message: its padding byte, or 0 if the message is empty.
+#[inline(always)]
+pub(crate) fn end_byte<const V: u8>(message: &[u8]) -> u64
+    ensures byte { result ≡ end_byte V message.now }
+    ensures small { result < 4 }
+{
+    if message.is_empty() {
+        0
+    } else {
+        padding_after(has_top_bit::<V>(message[message.len() - 1]))
+    }
+}
+
+/// Returns the final word of at least eight bytes: those after the last whole word, and `end`.
+///
+/// They are read with the last eight bytes, and the others of these are shifted out. That takes two
+/// shifts, since no byte after the last whole word means a shift by 64.
+#[inline(always)]
+pub(crate) fn final_of_many(bytes: &[u8], end: u64) -> u64
+    requires many { 8 ≤ length bytes.now }
+    requires end { end < 4 }
+    ensures { result ≡ final_word bytes.now end }
+{
+    let eight = word_at(bytes, bytes.len() - 8);
+    let over = 8 * (bytes.len() % 8);
+    (eight >> 1) >> (63 - over) | end << over
+}
+
+/// Returns the same for a long message, which often is whole words alone: then it is `end`, and
+/// nothing is read.
+#[inline(always)]
+pub(crate) fn final_of_long(bytes: &[u8], end: u64) -> u64
+    requires many { 8 ≤ length bytes.now }
+    requires end { end < 4 }
+    ensures { result ≡ final_word bytes.now end }
+{
+    if bytes.len() % 8 == 0 {
+        return end;
+    }
+    final_of_many(bytes, end)
+}
+
+/// Returns the final word of a message.
+#[inline(always)]
+pub(crate) fn final_word<const V: u8>(bytes: &[u8]) -> u64
+    ensures { result ≡ final_word bytes.now (end_byte V bytes.now) }
+{
+    let end = end_byte::<V>(bytes);
+    if bytes.len() < 8 {
+        read_partial_word(bytes, end)
+    } else {
+        final_of_many(bytes, end)
+    }
+}
