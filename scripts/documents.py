@@ -7,6 +7,7 @@
   names        each name in docs/DEFINITIONS.md stands in specs/, proofs/ or src/
   files_named  each file that a document names is there
   order        docs/ARCHITECTURE.md lists the base files of crates/komihash/proofs/, each after those it imports
+  modules      docs/ARCHITECTURE.md shows what each module of crates/komihash/src/ imports, each after those it imports
 
 Then each edit of scripts/planted/documents/ has to be found, and each rule to find one. The last line is 'N passed, M failed'.
 """
@@ -16,6 +17,7 @@ import sys
 from pathlib import Path
 
 from checks import cases_of, report
+from rules import SOURCE, imports_of, without_comments
 
 SCRIPTS = Path(__file__).resolve().parent
 TOP = SCRIPTS.parent
@@ -113,8 +115,29 @@ class Documents:
             for late in set(imported) - set(names[:place]):
                 yield f"{ARCHITECTURE}: {name} stands before {late}, which it imports"
 
+    def modules(self):
+        shown = re.search(r"^## Modules\n.*?```\n(.*?)```", self.files[ARCHITECTURE], re.DOTALL | re.MULTILINE)
+        lines = shown[1].splitlines() if shown else []
+        texts = {name.removeprefix("crates/komihash/"): text for name, text in self.files.items()}
+        codes = {file: without_comments(file, text) for file, text in texts.items() if SOURCE.fullmatch(file)}
+        graph = imports_of(codes)
+        wanted = [f"{module}: {', '.join(sorted(imported)) or 'nothing'}" for module, imported in graph.items()]
+        yield from (f"{ARCHITECTURE}: not under Modules: {line}" for line in wanted if line not in lines)
+        yield from (f"{ARCHITECTURE}: wrong under Modules: {line}" for line in lines if line not in wanted)
+        names = [line.partition(":")[0] for line in lines]
+        for place, name in enumerate(names):
+            for late in graph.get(name, set()) - set(names[:place]):
+                yield f"{ARCHITECTURE}: under Modules {name} stands before {late}, which it imports"
 
-RULES = (Documents.callers, Documents.definitions, Documents.names, Documents.files_named, Documents.order)
+
+RULES = (
+    Documents.callers,
+    Documents.definitions,
+    Documents.names,
+    Documents.files_named,
+    Documents.order,
+    Documents.modules,
+)
 
 
 def findings(files):

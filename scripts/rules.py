@@ -1,5 +1,5 @@
 #!/usr/bin/env python3
-"""Checks the rules of counting in `komihash` that no contract shows.
+"""Checks the rules of `komihash` that no contract shows: of counting, and of imports.
 
 A contract counts products and kept bytes in the tally that a call is passed. What is done outside that tally it can't
 see: a product of words, a hash whose result is dropped, a copy of the message. So what a function does is read off its
@@ -10,6 +10,7 @@ source and compared with what is allowed:
   tallies     A function that is passed a tally makes none. As there is no other in reach, it passes this one on.
   seal        seal.txt lists the lines that decide who can make or change a tally, in sources, specs and proofs.
   names       A function is called by its own name: no `use .. as`, no types of functions, no macros.
+  imports     Modules import in one direction: none imports a module that imports it, or leads back to it.
 
 Tests are not read. They are not part of the library, which a line of seal.txt ensures.
 
@@ -58,6 +59,8 @@ OF_TALLY = re.compile(r"src/tally\.rt|specs/(?:Sealed|Tallies)\.antt|proofs/Rais
 VISIBLE = re.compile(r"\b(?:pub|abbrev|unfoldable|struct|impl|fn|ghost|derive)\b")
 
 TOKEN = re.compile(r"\w+|::|\.\.=?|->|=>|[=!<>]=|&&|\|\||<<=?|>>=|[-+*/%^|&]=|\S")
+PATH = re.compile(r"\w+(?:::\w+)+")
+GROUP = re.compile(r"((?:\w+::)+)\{([^{}]*)\}")
 SETS = re.compile(r"(?:<<|>>|[-+*/%^|&])?=")
 LOOPS = ("for", "while", "loop")
 CONTRACT = ("requires", "ensures", "ghost")
@@ -197,6 +200,30 @@ def functions_of(file, code):
     return functions
 
 
+def imports_of(codes):
+    """Which other modules each module names in its code. `mod NAME;` alone names none."""
+    graph = {file.removeprefix("src/").removesuffix(".rt"): set() for file in codes}
+    for (module, imported), code in zip(graph.items(), codes.values()):
+        home = [] if module == "lib" else module.split("/")
+        scope = {"crate": [], "self": home, "super": home[:-1]}
+        scope.update({name: [*home, name] for name in re.findall(r"\bmod (\w+);", code)})
+        text = spelled(tokens_of(code))
+        while GROUP.search(text):
+            text = GROUP.sub(lambda group: " ".join(group[1] + name for name in group[2].split(",")), text)
+        for first, *names in (path.split("::") for path in PATH.findall(text)):
+            if first in scope:
+                place = scope[first]
+                for name in names:
+                    place = place[:-1] if name == "super" else [*place, name]
+                if "/".join(place) in graph:
+                    scope[names[-1]] = place
+                while place and "/".join(place) not in graph:
+                    place = place[:-1]
+                imported.add("/".join(place) or "lib")
+        imported.discard(module)
+    return graph
+
+
 def is_sealed(file, line):
     """Whether a line has to stand in seal.txt."""
     if SEALED.search(line) or OF_TALLY.fullmatch(file) and VISIBLE.search(line):
@@ -255,8 +282,19 @@ class Crate:
         for file, code in self.codes.items():
             yield from (f"{file}: {fault}" for pattern, fault in REFUSED.items() if re.search(pattern, code))
 
+    def imports(self):
+        graph = imports_of(self.codes)
+        reached = {module: set(imported) for module, imported in graph.items()}
+        for _ in graph:
+            for found in reached.values():
+                found.update(*(reached[module] for module in found))
+        for module, imported in graph.items():
+            back = ", ".join(sorted(name for name in imported if module in reached[name]))
+            if back:
+                yield f"{module} imports {back}: from there imports lead back to {module}"
 
-RULES = (Crate.operations, Crate.tallies, Crate.seal, Crate.names)
+
+RULES = (Crate.operations, Crate.tallies, Crate.seal, Crate.names, Crate.imports)
 
 
 def read_files():
