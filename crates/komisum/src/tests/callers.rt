@@ -13,7 +13,7 @@ use komihash::tally::Tally;
 use komihash::{KomiHasher, Komirand, StreamedKomihash, komihash, laws, v5};
 use std::hash::Hasher;
 
-/// The shard that a key belongs to, of so many.
+/// Returns the shard that a key belongs to.
 fn shard_of(key: &[u8], shards: u64) -> u64
     requires { 0 < shards }
     ensures shard { result ≡ komi 5 0 key.now % shards }
@@ -22,7 +22,7 @@ fn shard_of(key: &[u8], shards: u64) -> u64
     komihash(key, 0) % shards
 }
 
-/// The digest of a message that comes in three pieces.
+/// Returns the digest of a message in three pieces.
 fn digest_of_pieces(head: &[u8], body: &[u8], end: &[u8]) -> u64
     ensures { result ≡ komi 5 0 (head.now ++ body.now ++ end.now) }
 {
@@ -33,7 +33,7 @@ fn digest_of_pieces(head: &[u8], body: &[u8], end: &[u8]) -> u64
     stream.finish()
 }
 
-/// The digest of a message that comes as a list of slices, in the version of `S`.
+/// Returns the digest of a list of slices, in the version of `S`.
 fn digest_of_slices<S: KomiStream>(slices: &[&[u8]], seed: u64) -> u64
     ensures { result ≡ komi S.VERSION seed (flat_map (λ slice. slice.now) slices.now) }
 {
@@ -45,14 +45,14 @@ fn digest_of_slices<S: KomiStream>(slices: &[&[u8]], seed: u64) -> u64
     stream.answer(tally)
 }
 
-/// Whether two contents have the same hash. Where they have not, they differ.
+/// Returns `false` only if two contents differ.
 fn may_be_equal(left: &[u8], right: &[u8]) -> bool
     ensures { result ≡ false → left.now ≢ right.now }
 {
     komihash(left, 0) == komihash(right, 0)
 }
 
-/// The hash of a record's two fields, in which the cut between them counts.
+/// Hashes a record's two fields, so that the cut between them counts.
 fn hash_of_record(name: &[u8], value: &[u8]) -> u64
     ensures { result ≡ komi 5 (komi 5 0 name.now) value.now }
 {
@@ -62,25 +62,25 @@ fn hash_of_record(name: &[u8], value: &[u8]) -> u64
     hasher.finish()
 }
 
-/// A sample that can be drawn again from its seed.
+/// Writes a sample that can be drawn again from its seed.
 fn sample(seed: u64, out: &mut [u8])
     ensures { out.new ≡ fill 5 (after_steps 5 4 (seed, seed)) (length out.old) }
 {
     Komirand::init(seed).fill_bytes(out);
 }
 
-/// The same sample, drawn in two steps: the first takes 32 bytes.
-fn sample_in_two(seed: u64, first: &mut [u8; 32], rest: &mut [u8])
-    ensures { first.new ++ rest.new
-        ≡ fill 5 (after_steps 5 4 (seed, seed)) (32 + length rest.old) }
+/// Writes the same sample in two steps, of which the first takes 32 bytes.
+fn sample_in_two(seed: u64, first: &mut [u8; 32], second: &mut [u8])
+    ensures { first.new ++ second.new
+        ≡ fill 5 (after_steps 5 4 (seed, seed)) (32 + length second.old) }
 {
     laws::fill_cut();
     let mut generator = Komirand::init(seed);
     generator.fill_bytes(first);
-    generator.fill_bytes(rest);
+    generator.fill_bytes(second);
 }
 
-/// Stores a key as padded words, and reads it back: the first bytes of `out` are the key.
+/// Stores a key as padded words, and reads it back into `out`.
 fn key_read_back(key: &[u8], words: &mut [u64], out: &mut [u8]) -> Option<usize>
     requires words { length key.now / 8 + 1 ≤ length words.old }
     requires bytes { 8 * length words.old ≤ length out.old }
@@ -90,7 +90,7 @@ fn key_read_back(key: &[u8], words: &mut [u64], out: &mut [u8]) -> Option<usize>
     v5::unpad(&words[..count], out)
 }
 
-/// Begins a digest, and leaves a checkpoint of it: its first bytes are the saved text.
+/// Begins a digest, and saves it as the first bytes of `checkpoint`.
 fn begin(first: &[u8], seed: u64, checkpoint: &mut [u8; 131]) -> usize
     ensures most { result ≤ 131 }
     ensures saved { IsTextAfter 5 seed first.now (take result checkpoint.new) }
@@ -100,7 +100,7 @@ fn begin(first: &[u8], seed: u64, checkpoint: &mut [u8; 131]) -> usize
     stream.save(checkpoint)
 }
 
-/// Goes on from a checkpoint, and leaves another one in its place.
+/// Continues from a checkpoint, and replaces it.
 fn go_on(checkpoint: &mut [u8; 131], count: usize, next: &[u8]) -> Option<usize>
     requires { count ≤ 131 }
     ensures most { IfSome result (λ n. n ≤ 131) }
@@ -112,7 +112,7 @@ fn go_on(checkpoint: &mut [u8; 131], count: usize, next: &[u8]) -> Option<usize>
     Some(stream.save(checkpoint))
 }
 
-/// Ends the digest that a checkpoint holds.
+/// Finishes the digest of a checkpoint.
 fn end(checkpoint: &[u8; 131], count: usize, last: &[u8]) -> Option<u64>
     requires { count ≤ 131 }
     ensures { (seed : ℕ) (m : List ℕ) → IsTextAfter 5 seed m (take count checkpoint.now)
@@ -123,7 +123,7 @@ fn end(checkpoint: &[u8; 131], count: usize, last: &[u8]) -> Option<u64>
     Some(stream.finish())
 }
 
-/// The hash of a key of 16 bytes, which takes four multiplications.
+/// Hashes a key of 16 bytes by four multiplications.
 fn hash_of_key(key: &[u8; 16], tally: &mut Tally) -> u64
     ensures hash { result ≡ komi 5 0 key.now }
     ensures products { tally.new.products ≡ tally.old.products + 4 }
