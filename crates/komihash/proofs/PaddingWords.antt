@@ -1,10 +1,13 @@
 -- The padded words of a message are its whole words, and the word that ends them.
-use Rattle.std.proofs.Common.{drop, ◌≡◌, ℕ, suc, ◌-◌, ◌%◌, ◌<◌, List, [], ◌∷◌, ◌++◌, length, replicate, refl, ap, arith, ◌∙◌, sym}
+use Rattle.std.proofs.Common.{◌≡◌, ℕ, suc, ◌-◌, ◌*◌, ◌/◌, ◌%◌, ◌^◌, ◌<◌, ◌≤◌, Fits, w8}
+use Rattle.std.proofs.Common.{List, [], ◌∷◌, ◌++◌, length, take, drop, get_or, replicate, refl, ap, arith, ◌∙◌, sym}
 use Rattle.std.proofs.lemmas.List.{drop_all}
+use Rattle.std.specs.Prelude.{bit_or}
 use Rattle.komihash.specs.Padding.{padded_words, padding_byte}
 use Rattle.komihash.specs.Words.{word_of, words_of}
 use Rattle.komihash.specs.Tails.{whole_words, after_words, end_byte, final_word}
-use Rattle.komihash.proofs.WholeWords.{after_words-few, after_words-drop}
+use Rattle.komihash.proofs.BytesInWords.{AreBytes-typed, word_of-last_eight}
+use Rattle.komihash.proofs.WholeWords.{after_words-drop}
 
 -- eight bytes more need as many zeros
 zeros_more : (n : ℕ) → 7 - suc (suc (suc (suc (suc (suc (suc (suc n))))))) % 8 ≡ 7 - n % 8
@@ -23,18 +26,15 @@ pub padded_words-by_tail : (v : ℕ) (m : List ℕ) → padded_words v m ≡ who
 padded_words-by_tail v [] = refl
 padded_words-by_tail v (b ∷ m) = words_of-padded (b ∷ m) (padding_byte v (b ∷ m))
 
--- the final word of fewer than eight bytes
-pub final_word-few : (xs : List ℕ) (end : ℕ) → length xs < 8 → word_of (xs ++ end ∷ []) ≡ final_word xs end
-final_word-few xs end few = ap (λ ys. word_of (ys ++ end ∷ [])) (sym (after_words-few xs few))
-
--- the final word of more
-pub final_word-many : (xs : List ℕ) (end : ℕ)
-    → word_of (drop (length xs - length xs % 8) xs ++ end ∷ []) ≡ final_word xs end
-final_word-many xs end = ap (λ ys. word_of (ys ++ end ∷ [])) (sym (after_words-drop xs))
+-- the final word of at least eight bytes, which the code reads with the last eight
+pub final_word_many : (xs : List ℕ) (end : ℕ) → ((k : ℕ) → Fits w8 (get_or xs k 0)) → 8 ≤ length xs → end < 4
+    → final_word xs end ≡ bit_or (word_of (take 8 (drop (length xs - 8) xs)) / 2 ^ 1 / 2 ^ (63 - 8 * (length xs % 8)))
+    (end * 2 ^ (8 * (length xs % 8)) % 2 ^ 64)
+final_word_many xs end typed many small =
+    ap (λ ys. word_of (ys ++ end ∷ [])) (after_words-drop xs)
+    ∙ sym (word_of-last_eight (length xs % 8) xs end (AreBytes-typed xs typed) many (omega arith) small)
 
 -- the same where no byte stands after the last whole word
-pub final_word-whole : (xs : List ℕ) (end : ℕ) → length xs % 8 ≡ 0 → end ≡ final_word xs end
-final_word-whole xs end whole =
-    let one : end ≡ word_of (end ∷ []) = omega arith in
-    one ∙ ap (λ ys. word_of (ys ++ end ∷ [])) (sym (drop_all (length xs - length xs % 8) xs (omega arith)))
-    ∙ final_word-many xs end
+pub final_word_whole : (xs : List ℕ) (end : ℕ) → length xs % 8 ≡ 0 → final_word xs end ≡ end
+final_word_whole xs end whole =
+    rw (after_words-drop xs, drop_all (length xs - length xs % 8) xs (omega arith)) (omega arith)

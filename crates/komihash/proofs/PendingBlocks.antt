@@ -3,7 +3,7 @@ use Rattle.std.proofs.Common.{◌≡◌, ℕ, ◌+◌, ◌-◌, ◌<◌, ◌≤�
 use Rattle.std.proofs.lemmas.List.{append_assoc, length-append, length-take-le, take-append-drop, drop_at}
 use Rattle.komihash.specs.Rounds.{Lanes, block_round}
 use Rattle.komihash.specs.Tails.{whole_words, block_lanes, after_blocks}
-use Rattle.komihash.proofs.Blocks.{block_lanes-bytes, after_blocks-more}
+use Rattle.komihash.proofs.Blocks.{block_lanes-bytes, after_blocks_more}
 
 module _ (xs bytes : List ℕ) (fill : ℕ) (size : length xs ≡ fill) (few : fill < 64)
     (many : 64 ≤ fill + length bytes) where
@@ -26,6 +26,6 @@ module _ (xs bytes : List ℕ) (fill : ℕ) (size : length xs ≡ fill) (few : f
   pub begun_left : after_blocks (drop (64 - fill) bytes) ≡ after_blocks (xs ++ bytes)
   begun_left =
       sym (ap after_blocks (sym all_bytes)
-      ∙ after_blocks-more ((xs ++ take (64 - fill) bytes) ++ drop (64 - fill) bytes)
+      ∙ after_blocks_more ((xs ++ take (64 - fill) bytes) ++ drop (64 - fill) bytes)
       (omega (arith, length-append (xs ++ take (64 - fill) bytes) (drop (64 - fill) bytes), first_block))
       ∙ ap after_blocks (drop_at (xs ++ take (64 - fill) bytes) (drop (64 - fill) bytes) 64 first_block))

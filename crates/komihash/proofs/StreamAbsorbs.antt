@@ -7,7 +7,7 @@ use Rattle.komihash.specs.Rounds.{Lanes, block_round}
 use Rattle.komihash.specs.Stream.{State, absorb, absorb_byte}
 use Rattle.komihash.specs.Tails.{whole_words, block_lanes}
 use Rattle.komihash.specs.Padding.{has_top_bit}
-use Rattle.komihash.proofs.Blocks.{block_lanes-bytes, block_lanes-few_bytes}
+use Rattle.komihash.proofs.Blocks.{block_lanes-bytes, block_lanes_few}
 use Rattle.komihash.proofs.WholeWords.{words_of-whole}
 
 -- a cut anywhere
@@ -96,7 +96,7 @@ one_block : (v : ℕ) (l : Lanes) (xs ys : List ℕ) → length xs ≡ 64 → le
     }
 one_block v l xs ys e lt =
     let n : length (xs ++ ys) - length (xs ++ ys) % 64 ≡ 64 = omega (arith, length-append xs ys) in
-    let lanes = block_lanes-bytes v l xs ys e ∙ block_lanes-few_bytes v (block_round v l (whole_words xs)) ys lt in
+    let lanes = block_lanes-bytes v l xs ys e ∙ block_lanes_few v (block_round v l (whole_words xs)) ys lt in
     let pending : drop (length (xs ++ ys) - length (xs ++ ys) % 64) (xs ++ ys) ≡ ys =
     ap (λ k. drop k (xs ++ ys)) n ∙ drop_at xs ys 64 e in
     let last : slice_index (xs ++ ys) (length (xs ++ ys) - length (xs ++ ys) % 64 - 1) ≡ slice_index xs 63 =

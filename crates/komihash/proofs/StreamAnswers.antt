@@ -10,8 +10,7 @@ use Rattle.komihash.specs.Tails.{tail_end, whole_words, after_words, final_word,
 use Rattle.komihash.specs.Padding.{has_top_bit, padding_after, padding_byte}
 use Rattle.komihash.specs.Words.{word_of}
 use Rattle.komihash.proofs.StreamAbsorbs.{blocks_state, absorb-few, absorb-blocks}
-use Rattle.komihash.proofs.Blocks.{hash_from_lanes-k_blocks}
-use Rattle.komihash.proofs.HashSteps.{komi-by_lanes, komi-by_pair}
+use Rattle.komihash.proofs.HashSteps.{komi_long, komi_short}
 use Rattle.komihash.proofs.PaddingWords.{padded_words-by_tail}
 use Rattle.komihash.proofs.WholeWords.{after_words-append}
 
@@ -67,8 +66,8 @@ answer-joined v seed m =
       | inl lt ↦
           ap (answer v) (absorb-few v (start seed) m (omega arith))
           ∙ answer-by_pair v (record (start seed) { pending = m })
-          ∙ komi-by_pair v seed m (seed_pair seed) refl (final_word m (tail_end v m false false))
-          (ap (final_word m) (tail_end-start v m)) lt
+          ∙ ap (λ e. hash_from_pair (seed_pair seed) (whole_words m ++ final_word m e ∷ [])) (tail_end-start v m)
+          ∙ sym (komi_short v seed m lt)
       | inr le ↦
           let last = final_word m (end_byte v m) in
           let ends : final_word (after_blocks m)
@@ -79,8 +78,7 @@ answer-joined v seed m =
           ∙ answer-by_pair v (blocks_state v (lanes (seed_pair seed)) m)
           ∙ ap (λ w. hash_from_pair (join true (block_lanes v (lanes (seed_pair seed)) (whole_words m)))
           (whole_words (after_blocks m) ++ w ∷ [])) ends
-          ∙ sym (hash_from_lanes-k_blocks (length m / 64 - 1) v (lanes (seed_pair seed)) false m last (omega arith))
-          ∙ komi-by_lanes v seed m (seed_pair seed) refl last refl
+          ∙ sym (komi_long v seed m le)
     ]
 
 pub tail_end-pending : (v : ℕ) (m : List ℕ) (absorbed top_bit : Bool) → 0 < length m

@@ -13,9 +13,9 @@ pub xor_late_left : (w low e : ℕ) → bit_xor (bit_xor low w) e ≡ bit_xor (b
 xor_late_left w low e = xor_comm (bit_xor low w) e ∙ sym (xor_assoc e low w)
 
 -- the same for a factor that stands after the other
-pub xor_late_behind : (v f w low e : ℕ)
+pub xor_late_product : (v f w low e : ℕ)
     → bit_xor v f * bit_xor (bit_xor w low) e ≡ bit_xor w (bit_xor e low) * bit_xor v f
-xor_late_behind v f w low e =
+xor_late_product v f w low e =
     mul_comm (bit_xor v f) (bit_xor (bit_xor w low) e) ∙ ap (λ x. x * bit_xor v f) (xor_late w low e)
 
 -- the middle ones change places
@@ -24,6 +24,10 @@ xor_middle a b c d =
     xor_assoc a b (bit_xor c d)
     ∙ ap (bit_xor a) (sym (xor_assoc b c d) ∙ ap (λ x. bit_xor x d) (xor_comm b c) ∙ xor_assoc c b d)
     ∙ sym (xor_assoc a c (bit_xor b d))
+
+-- the first two change places
+pub xor_swap : (a b c : ℕ) → bit_xor a (bit_xor b c) ≡ bit_xor b (bit_xor a c)
+xor_swap a b c = sym (xor_assoc a b c) ∙ ap (λ x. bit_xor x c) (xor_comm a b) ∙ xor_assoc b a c
 
 -- the first of four goes to the end
 pub xor_turn : (a b c d : ℕ) → bit_xor (bit_xor (bit_xor a b) c) d ≡ bit_xor (bit_xor (bit_xor b c) d) a
@@ -36,6 +40,9 @@ xor_again c x = sym (xor_assoc c c x) ∙ ap (λ n. bit_xor n x) (xor_self c) �
 
 pub xor_back : (c x : ℕ) → bit_xor (bit_xor c x) c ≡ x
 xor_back c x = xor_comm (bit_xor c x) c ∙ xor_again c x
+
+pub xor_around : (c x : ℕ) → bit_xor c (bit_xor x c) ≡ x
+xor_around c x = ap (bit_xor c) (xor_comm x c) ∙ xor_again c x
 
 -- the bits of a word at even and at odd places make the word
 pub xor_masks : (n : ℕ) → n < 2 ^ 64 → bit_xor (bit_and n 0x5555555555555555) (bit_and n 0xaaaaaaaaaaaaaaaa) ≡ n

@@ -71,6 +71,7 @@ pub(crate) fn seed_pair(seed: u64, tally: &mut Tally) -> Pair
 
 /// The lanes of a pair: four words, each before the low half that it meets.
 #[inline(always)]
+#[tactic(auto, using(crate::proofs::Halves::lanes_in_lanes))]
 pub(crate) fn lanes(pair: Pair) -> [u64; 8]
     ensures { lanes_in result ≡ lanes (pair_in pair) }
 {
@@ -102,6 +103,7 @@ pub(crate) fn places<const V: u8>() -> [usize; 8]
 
 /// The block round, with a table of places.
 #[inline(always)]
+#[tactic(auto, using(crate::proofs::Xor::xor_late_product), unfolding(crate::specs::Rounds::block_round_by))]
 pub(crate) fn block_round(
     lanes: &mut [u64; 8],
     words: &[u64; 8],
@@ -133,6 +135,7 @@ pub(crate) fn block_round(
 /// The pair of the lanes: all of them joined where a block was absorbed, else the pair that they
 /// were made of.
 #[inline(always)]
+#[tactic(auto, using(crate::proofs::Halves::joined))]
 pub(crate) fn join(lanes: &[u64; 8], absorbed: bool) -> Pair
     ensures { pair_in result ≡ join absorbed (lanes_in lanes.now) }
 {

@@ -27,6 +27,7 @@ fn answer_below_two<W: Words>(pair: Pair, left: &W, at: usize, last: u64, tally:
 
 // The pair after a round on the two words from a place on: what is left gives the same answer.
 #[inline(always)]
+#[tactic(auto, using(crate::proofs::HashSteps::hash_from_pair_two))]
 fn take_two<W: Words>(pair: Pair, left: &W, at: usize, tally: &mut Tally) -> Pair
     requires within { at + 2 ≤ length (W.words left.now) }
     requires place { at < 5 }

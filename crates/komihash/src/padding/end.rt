@@ -40,6 +40,7 @@ pub(crate) fn end_byte<const V: u8>(message: &[u8]) -> u64
 /// They are read with the last eight bytes, and the others of these are shifted out. That takes two
 /// shifts, since no byte after the last whole word means a shift by 64.
 #[inline(always)]
+#[tactic(auto, using(crate::proofs::PaddingWords::final_word_many))]
 pub(crate) fn final_of_many(bytes: &[u8], end: u64) -> u64
     requires many { 8 ≤ length bytes.now }
     requires end { end < 4 }
@@ -53,6 +54,7 @@ pub(crate) fn final_of_many(bytes: &[u8], end: u64) -> u64
 /// Returns the same for a long message, which often is whole words alone: then it is `end`, and
 /// nothing is read.
 #[inline(always)]
+#[tactic(auto, using(crate::proofs::PaddingWords::final_word_whole))]
 pub(crate) fn final_of_long(bytes: &[u8], end: u64) -> u64
     requires many { 8 ≤ length bytes.now }
     requires end { end < 4 }

@@ -11,6 +11,7 @@ use crate::utils::word_at;
 
 // The eight words of a block.
 #[inline(always)]
+#[tactic(auto, using(crate::proofs::Blocks::words_of_block))]
 fn block_words(block: &[u8; 64]) -> [u64; 8]
     ensures { result ≡ whole_words block.now }
 {
@@ -26,16 +27,20 @@ fn block_words(block: &[u8; 64]) -> [u64; 8]
     ]
 }
 
-// A block round on the first 64 bytes; those after them.
+// Absorbs the first block, and returns the bytes after it. What is said of the lanes and of what is
+// left is what absorbing all blocks leads to, which stays the same.
 #[inline(always)]
+#[tactic(auto, using(crate::proofs::Blocks::block_lanes_more, crate::proofs::Blocks::after_blocks_more))]
 fn absorb_block<'a, const V: u8>(
     lanes: &mut [u64; 8],
     bytes: &'a [u8],
     tally: &mut Tally,
 ) -> &'a [u8]
     requires { 64 ≤ length bytes.now }
-    ensures left { result.now ≡ drop 64 bytes.now }
-    ensures lanes { lanes_in lanes.new ≡ block_round V (lanes_in lanes.old) (whole_words (take 64 bytes.now)) }
+    ensures length { length result.now + 64 ≡ length bytes.now }
+    ensures left { after_blocks result.now ≡ after_blocks bytes.now }
+    ensures lanes { block_lanes V (lanes_in lanes.new) (whole_words result.now)
+        ≡ block_lanes V (lanes_in lanes.old) (whole_words bytes.now) }
     ensures products { tally.new.products ≡ tally.old.products + 4 }
     ensures kept { tally.new.kept ≡ tally.old.kept }
 {
@@ -51,6 +56,7 @@ fn absorb_block<'a, const V: u8>(
 ///
 /// Two blocks are taken a turn, and one ahead of them where their number is odd.
 #[inline(always)]
+#[tactic(auto, using(crate::proofs::Blocks::after_blocks_few))]
 pub(crate) fn absorb_blocks<'a, const V: u8>(
     lanes: &mut [u64; 8],
     bytes: &'a [u8],

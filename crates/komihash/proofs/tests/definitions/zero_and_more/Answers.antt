@@ -4,7 +4,7 @@ use Rattle.std.specs.Prelude.{bit_xor}
 use Rattle.komihash.specs.Hash.{hash_from_pair}
 use Rattle.komihash.specs.Rounds.{closing, mix, mix_again, pair_round, seed_pair}
 use Rattle.komihash.specs.Tails.{end_byte, final_word}
-use Rattle.komihash.proofs.HashSteps.{komi-by_pair}
+use Rattle.komihash.proofs.HashSteps.{komi_short}
 use Rattle.komihash.proofs.WholeWords.{whole_words-few}
 use Rattle.komihash.proofs.tests.definitions.zero_and_more.Goals as goal
 
@@ -25,7 +25,7 @@ returns c v bytes few =
     let message : List ℕ =
     0x23 ∷ 0xb7 ∷ 0xf5 ∷ 0x1b ∷ 0xf5 ∷ 0x11 ∷ 0x2d ∷ 0xfe ∷ 0xf1 ∷ 0xff ∷ 0xff ∷ 0xff ∷ 0xff ∷ 0xff ∷ 0xff ∷ 0xff ∷ bytes in
     let last = final_word message (end_byte v message) in
-    sym (komi-by_pair v 0 message (seed_pair 0) refl last refl (omega arith))
+    komi_short v 0 message (omega arith)
     ∙ ap (λ ws. hash_from_pair (seed_pair 0) (0xfe2d11f51bf5b723 ∷ 0xfffffffffffffff1 ∷ (ws ++ last ∷ [])))
     (whole_words-few bytes (omega arith))
     ∙ ap (λ s. closing s (last ∷ [])) round_of_zero
