@@ -19,7 +19,8 @@ block_lanes-round v l ws us e = absurd (omega arith)
 
 -- a block of bytes, and others after it
 pub block_lanes-bytes : (v : ℕ) (l : Lanes) (xs ys : List ℕ) → length xs ≡ 64
-    → block_lanes v l (whole_words (xs ++ ys)) ≡ block_lanes v (block_round v l (whole_words xs)) (whole_words ys)
+    → block_lanes v l (whole_words (xs ++ ys))
+    ≡ block_lanes v (block_round v l (whole_words xs)) (whole_words ys)
 block_lanes-bytes v l xs ys e =
     rw (whole_words-append xs ys 8 e)
     (block_lanes-round v l (whole_words xs) (whole_words ys) (omega (arith, length-whole_words xs)))
@@ -35,19 +36,21 @@ few_words : (v : ℕ) (l : Lanes) (ws : List ℕ) → length ws < 8 → block_la
 few_words v l (w0 ∷ w1 ∷ w2 ∷ w3 ∷ w4 ∷ w5 ∷ w6 ∷ w7 ∷ ws) lt = absurd (omega arith)
 few_words v l ws lt = refl
 
-pub block_lanes_few : (v : ℕ) (l : Lanes) (xs : List ℕ) → length xs < 64 → block_lanes v l (whole_words xs) ≡ l
+pub block_lanes_few : (v : ℕ) (l : Lanes) (xs : List ℕ) → length xs < 64
+    → block_lanes v l (whole_words xs) ≡ l
 block_lanes_few v l xs lt = few_words v l (whole_words xs) (omega (arith, length-whole_words xs))
 
 -- ---- the bytes
 
 pub after_blocks_few : (xs : List ℕ) → length xs < 64 → after_blocks xs ≡ xs
-after_blocks_few xs lt = let n : length xs - length xs % 64 ≡ 0 = omega arith in ap (λ k. drop k xs) n
+after_blocks_few xs lt =
+    let n : length xs - length xs % 64 ≡ 0 = omega arith in ap (λ k. drop k xs) n
 
 pub after_blocks_more : (xs : List ℕ) → 64 ≤ length xs → after_blocks xs ≡ after_blocks (drop 64 xs)
 after_blocks_more xs le =
-    let n : length xs - length xs % 64 ≡ 64 + (length (drop 64 xs) - length (drop 64 xs) % 64) =
-    omega (arith, length-drop 64 xs) in
-    ap (λ k. drop k xs) n ∙ sym (drop-drop (length (drop 64 xs) - length (drop 64 xs) % 64) 64 xs)
+    let whole = length (drop 64 xs) - length (drop 64 xs) % 64 in
+    let n : length xs - length xs % 64 ≡ 64 + whole = omega (arith, length-drop 64 xs) in
+    ap (λ k. drop k xs) n ∙ sym (drop-drop whole 64 xs)
 
 pub length-after_blocks : (m : List ℕ) → length (after_blocks m) ≡ length m % 64
 length-after_blocks m = omega (arith, length-drop (length m - length m % 64) m)

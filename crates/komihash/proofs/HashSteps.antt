@@ -1,24 +1,26 @@
--- The hash of a message in the forms in which the code makes it, by the message's length.
-use Rattle.std.proofs.Common.{◌≡◌, ℕ, zero, suc, ◌+◌, ◌/◌, ◌<◌, ◌≤◌, Bool, true, false}
-use Rattle.std.proofs.Common.{List, [], ◌∷◌, ◌++◌, length, take, drop, refl, ap, arith, ◌∙◌, sym}
+-- The hash of a message, in a form for each path of the code.
+use Rattle.std.proofs.Common.{◌≡◌, ℕ, zero, suc, ◌+◌, ◌/◌, ◌<◌, ◌≤◌, Bool, true, false, List, []}
+use Rattle.std.proofs.Common.{◌∷◌, ◌++◌, length, take, drop, refl, ap, arith, ◌∙◌, sym}
+use Rattle.std.proofs.Common.{append_assoc, length-append, length-drop}
 use native.Mathlib.Numerals.{unary_clauses}
 use Rattle.std.proofs.lemmas.Bool.Decides.{nat_tests}
-use Rattle.std.proofs.lemmas.List.{length-take-le, length-drop, take-append-drop, append_assoc, length-append}
+use Rattle.std.proofs.lemmas.List.{length-take-le, take-append-drop}
 use Rattle.std.specs.Prelude.{slice_index}
 use Rattle.komihash.specs.Rounds.{Lanes, lanes, seed_pair, block_round, pair_round, join, closing}
 use Rattle.komihash.specs.Hash.{hash_from_pair, hash_from_lanes, komi}
 use Rattle.komihash.specs.Tails.{whole_words, final_word, end_byte, block_lanes, after_blocks}
 use Rattle.komihash.specs.Words.{word_of}
-use Rattle.komihash.proofs.Blocks.{block_lanes_more, block_lanes_few}
-use Rattle.komihash.proofs.Blocks.{after_blocks_more, after_blocks_few, words_after_blocks}
+use Rattle.komihash.proofs.Blocks.{block_lanes_more, block_lanes_few, words_after_blocks}
+use Rattle.komihash.proofs.Blocks.{after_blocks_more, after_blocks_few}
 use Rattle.komihash.proofs.PaddingWords.{padded_words-by_tail}
 use Rattle.komihash.proofs.WholeWords.{whole_words-few, after_words-few, whole_words-more}
 use Rattle.komihash.proofs.WholeWords.{whole_words-append, length-whole_words}
 
 -- a pair round takes two words that are followed by the final word
 pub hash_from_pair_two : (s : ℕ × ℕ) (ws : List ℕ) (at last : ℕ) → at + 2 ≤ length ws
-    → hash_from_pair s (drop at ws ++ last ∷ []) ≡ hash_from_pair
-    (pair_round s (slice_index ws at) (slice_index ws (at + 1))) (drop (at + 2) ws ++ last ∷ [])
+    → hash_from_pair s (drop at ws ++ last ∷ [])
+    ≡ hash_from_pair (pair_round s (slice_index ws at) (slice_index ws (at + 1)))
+    (drop (at + 2) ws ++ last ∷ [])
 hash_from_pair_two s (w0 ∷ w1 ∷ []) zero last le = refl
 hash_from_pair_two s (w0 ∷ w1 ∷ w ∷ ws) zero last le = refl
 hash_from_pair_two s (w ∷ ws) (suc at) last le =
@@ -34,13 +36,15 @@ few_words v s b ws le = refl
 
 -- fewer than 64 bytes and the final word make no block
 few_bytes : (v : ℕ) (s : Lanes) (b : Bool) (xs : List ℕ) (last : ℕ) → length xs < 64
-    → hash_from_lanes v s b (whole_words xs ++ last ∷ []) ≡ hash_from_pair (join b s) (whole_words xs ++ last ∷ [])
+    → hash_from_lanes v s b (whole_words xs ++ last ∷ [])
+    ≡ hash_from_pair (join b s) (whole_words xs ++ last ∷ [])
 few_bytes v s b xs last lt =
     few_words v s b (whole_words xs ++ last ∷ [])
     (omega (arith, length-append (whole_words xs) (last ∷ []), length-whole_words xs))
 
 block_words : (v : ℕ) (s : Lanes) (b : Bool) (ws us : List ℕ) (last : ℕ) → length ws ≡ 8
-    → hash_from_lanes v s b (ws ++ (us ++ last ∷ [])) ≡ hash_from_lanes v (block_round v s ws) true (us ++ last ∷ [])
+    → hash_from_lanes v s b (ws ++ (us ++ last ∷ []))
+    ≡ hash_from_lanes v (block_round v s ws) true (us ++ last ∷ [])
 block_words v s b (w0 ∷ w1 ∷ w2 ∷ w3 ∷ w4 ∷ w5 ∷ w6 ∷ w7 ∷ []) [] last e = refl
 block_words v s b (w0 ∷ w1 ∷ w2 ∷ w3 ∷ w4 ∷ w5 ∷ w6 ∷ w7 ∷ []) (u ∷ us) last e = refl
 block_words v s b ws us last e = absurd (omega arith)
@@ -48,7 +52,8 @@ block_words v s b ws us last e = absurd (omega arith)
 -- of 64 bytes or more, the first make a block
 block_bytes : (v : ℕ) (s : Lanes) (b : Bool) (xs : List ℕ) (last : ℕ) → 64 ≤ length xs
     → hash_from_lanes v s b (whole_words xs ++ last ∷ [])
-    ≡ hash_from_lanes v (block_round v s (whole_words (take 64 xs))) true (whole_words (drop 64 xs) ++ last ∷ [])
+    ≡ hash_from_lanes v (block_round v s (whole_words (take 64 xs))) true
+    (whole_words (drop 64 xs) ++ last ∷ [])
 block_bytes v s b xs last le =
     let front = length-take-le 64 xs le in
     ap (λ ys. hash_from_lanes v s b (whole_words ys ++ last ∷ [])) (sym (take-append-drop 64 xs))
@@ -59,52 +64,56 @@ block_bytes v s b xs last le =
 -- after a block, those that follow it, and the end
 after_block : (k v : ℕ) (s : Lanes) (xs : List ℕ) (last : ℕ) → length xs / 64 ≡ k
     → hash_from_lanes v s true (whole_words xs ++ last ∷ [])
-    ≡ hash_from_pair (join true (block_lanes v s (whole_words xs))) (whole_words (after_blocks xs) ++ last ∷ [])
+    ≡ hash_from_pair (join true (block_lanes v s (whole_words xs)))
+    (whole_words (after_blocks xs) ++ last ∷ [])
 after_block zero v s xs last e =
-    rw (block_lanes_few v s xs (omega arith), after_blocks_few xs (omega arith))
-    (few_bytes v s true xs last (omega arith))
+    let few : length xs < 64 = omega arith in
+    rw (block_lanes_few v s xs few, after_blocks_few xs few) (few_bytes v s true xs last few)
 after_block (suc k) v s xs last e =
-    rw (
-      block_bytes v s true xs last (omega arith),
-      block_lanes_more v s xs (omega arith),
-      after_blocks_more xs (omega arith),
-    )
+    let le : 64 ≤ length xs = omega arith in
+    rw (block_bytes v s true xs last le, block_lanes_more v s xs le, after_blocks_more xs le)
     (after_block k v (block_round v s (whole_words (take 64 xs))) (drop 64 xs) last
     (omega (arith, length-drop 64 xs)))
 
--- ---- the hash of a message
+-- ---- the hash of a message, by its length
 
 module _ (v seed : ℕ) (m : List ℕ) where
-  pub komi_short : length m < 64
-      → komi v seed m ≡ hash_from_pair (seed_pair seed) (whole_words m ++ final_word m (end_byte v m) ∷ [])
+  abbrev pair : ℕ × ℕ
+  pair = seed_pair seed
+
+  abbrev last : ℕ
+  last = final_word m (end_byte v m)
+
+  pub komi_short : length m < 64 → komi v seed m ≡ hash_from_pair pair (whole_words m ++ last ∷ [])
   unfolding komi
-  komi_short lt =
-      rw (padded_words-by_tail v m) (few_bytes v (lanes (seed_pair seed)) false m (final_word m (end_byte v m)) lt)
+  komi_short lt = rw (padded_words-by_tail v m) (few_bytes v (lanes pair) false m last lt)
 
   pub komi_long : 64 ≤ length m
-      → komi v seed m ≡ hash_from_pair (join true (block_lanes v (lanes (seed_pair seed)) (whole_words m)))
-      (whole_words (after_blocks m) ++ final_word m (end_byte v m) ∷ [])
+      → komi v seed m ≡ hash_from_pair (join true (block_lanes v (lanes pair) (whole_words m)))
+      (whole_words (after_blocks m) ++ last ∷ [])
   unfolding komi
   komi_long le =
-      let s = lanes (seed_pair seed) in
-      let last = final_word m (end_byte v m) in
-      rw (padded_words-by_tail v m, block_bytes v s false m last le, block_lanes_more v s m le, after_blocks_more m le)
-      (after_block (length (drop 64 m) / 64) v (block_round v s (whole_words (take 64 m))) (drop 64 m) last refl)
+      let s = lanes pair in
+      let after = block_round v s (whole_words (take 64 m)) in
+      rw (padded_words-by_tail v m, block_bytes v s false m last le)
+      (rw (block_lanes_more v s m le, after_blocks_more m le)
+      (after_block (length (drop 64 m) / 64) v after (drop 64 m) last refl))
 
   pub komi_two : 8 ≤ length m → length m < 16
-      → komi v seed m ≡ closing (seed_pair seed) (word_of (take 8 m) ∷ final_word m (end_byte v m) ∷ [])
+      → komi v seed m ≡ closing pair (word_of (take 8 m) ∷ last ∷ [])
   komi_two le lt =
-      rw (komi_short (omega arith), whole_words-more m le, whole_words-few (drop 8 m) (omega (arith, length-drop 8 m))) refl
+      let none = whole_words-few (drop 8 m) (omega (arith, length-drop 8 m)) in
+      rw (komi_short (omega arith), whole_words-more m le, none) refl
 
-  pub komi_few : length m < 8
-      → komi v seed m ≡ closing (seed_pair seed) (word_of (m ++ end_byte v m ∷ []) ∷ [])
+  pub komi_few : length m < 8 → komi v seed m ≡ closing pair (word_of (m ++ end_byte v m ∷ []) ∷ [])
   komi_few lt = rw (komi_short (omega arith), whole_words-few m lt, after_words-few m lt) refl
 
-pub komi_empty : (v seed : ℕ) (m : List ℕ) → length m ≡ 0 → komi v seed m ≡ closing (seed_pair seed) (0 ∷ [])
+pub komi_empty : (v seed : ℕ) (m : List ℕ) → length m ≡ 0
+    → komi v seed m ≡ closing (seed_pair seed) (0 ∷ [])
 komi_empty v seed [] e = komi_few v seed [] (omega arith)
 komi_empty v seed (b ∷ m) e = absurd (omega arith)
 
--- what the proofs of `hash.rt` need, for short and for long messages
-pub ruleset short_messages = (komi_short, komi_two, komi_few, komi_empty, length-whole_words, nat_tests)
+-- what `hash.rt` needs, for short messages and for long ones
+pub ruleset short_hash = (komi_short, komi_two, komi_few, komi_empty, length-whole_words, nat_tests)
 
-pub ruleset long_messages = (komi_long, words_after_blocks)
+pub ruleset long_hash = (komi_long, words_after_blocks)

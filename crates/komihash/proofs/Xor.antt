@@ -16,23 +16,24 @@ xor_late_left w low e = xor_comm (bit_xor low w) e ∙ sym (xor_assoc e low w)
 pub xor_late_product : (v f w low e : ℕ)
     → bit_xor v f * bit_xor (bit_xor w low) e ≡ bit_xor w (bit_xor e low) * bit_xor v f
 xor_late_product v f w low e =
-    mul_comm (bit_xor v f) (bit_xor (bit_xor w low) e) ∙ ap (λ x. x * bit_xor v f) (xor_late w low e)
-
--- the middle ones change places
-pub xor_middle : (a b c d : ℕ) → bit_xor (bit_xor a b) (bit_xor c d) ≡ bit_xor (bit_xor a c) (bit_xor b d)
-xor_middle a b c d =
-    xor_assoc a b (bit_xor c d)
-    ∙ ap (bit_xor a) (sym (xor_assoc b c d) ∙ ap (λ x. bit_xor x d) (xor_comm b c) ∙ xor_assoc c b d)
-    ∙ sym (xor_assoc a c (bit_xor b d))
+    rw (xor_late w low e) (mul_comm (bit_xor v f) (bit_xor w (bit_xor e low)))
 
 -- the first two change places
 pub xor_swap : (a b c : ℕ) → bit_xor a (bit_xor b c) ≡ bit_xor b (bit_xor a c)
 xor_swap a b c = sym (xor_assoc a b c) ∙ ap (λ x. bit_xor x c) (xor_comm a b) ∙ xor_assoc b a c
 
+-- the middle ones change places
+pub xor_middle : (a b c d : ℕ)
+    → bit_xor (bit_xor a b) (bit_xor c d) ≡ bit_xor (bit_xor a c) (bit_xor b d)
+xor_middle a b c d =
+    xor_assoc a b (bit_xor c d) ∙ ap (bit_xor a) (xor_swap b c d)
+    ∙ sym (xor_assoc a c (bit_xor b d))
+
 -- the first of four goes to the end
-pub xor_turn : (a b c d : ℕ) → bit_xor (bit_xor (bit_xor a b) c) d ≡ bit_xor (bit_xor (bit_xor b c) d) a
+pub xor_turn : (a b c d : ℕ)
+    → bit_xor (bit_xor (bit_xor a b) c) d ≡ bit_xor (bit_xor (bit_xor b c) d) a
 xor_turn a b c d =
-    ap (λ x. bit_xor x d) (xor_assoc a b c) ∙ xor_assoc a (bit_xor b c) d ∙ xor_comm a (bit_xor (bit_xor b c) d)
+    rw (xor_assoc a b c, xor_assoc a (bit_xor b c) d) (xor_comm a (bit_xor (bit_xor b c) d))
 
 -- what a word met twice is gone
 pub xor_again : (c x : ℕ) → bit_xor c (bit_xor c x) ≡ x
@@ -45,15 +46,15 @@ pub xor_around : (c x : ℕ) → bit_xor c (bit_xor x c) ≡ x
 xor_around c x = ap (bit_xor c) (xor_comm x c) ∙ xor_again c x
 
 -- the bits of a word at even and at odd places make the word
-pub xor_masks : (n : ℕ) → n < 2 ^ 64 → bit_xor (bit_and n 0x5555555555555555) (bit_and n 0xaaaaaaaaaaaaaaaa) ≡ n
+pub xor_masks : (n : ℕ) → n < 2 ^ 64
+    → bit_xor (bit_and n 0x5555555555555555) (bit_and n 0xaaaaaaaaaaaaaaaa) ≡ n
 xor_masks n h =
-    let even = bit_and n 0x5555555555555555 in
-    let odd = bit_and n 0xaaaaaaaaaaaaaaaa in
-    let apart : bit_and even odd ≡ 0 =
-    and_assoc odd n 0x5555555555555555
-    ∙ ap (bit_and n)
-    (ap (bit_and 0x5555555555555555) (and_comm n 0xaaaaaaaaaaaaaaaa) ∙ sym (and_assoc n 0x5555555555555555 0xaaaaaaaaaaaaaaaa))
-    ∙ and_comm n 0 in
-    let whole : bit_and 0xaaaaaaaaaaaaaaaa n + bit_and 0x5555555555555555 n ≡ n =
-    and-not 64 0x5555555555555555 n (lit< tt) h in
-    xor_disjoint even odd apart ∙ omega (arith, whole, and_comm n 0x5555555555555555, and_comm n 0xaaaaaaaaaaaaaaaa)
+    let m : ℕ = 0x5555555555555555 in
+    let k : ℕ = 0xaaaaaaaaaaaaaaaa in
+    let none : bit_and m (bit_and n k) ≡ 0 =
+    ap (bit_and m) (and_comm n k) ∙ sym (and_assoc n m k) in
+    let apart : bit_and (bit_and n m) (bit_and n k) ≡ 0 =
+    and_assoc (bit_and n k) n m ∙ ap (bit_and n) none ∙ and_comm n 0 in
+    let whole : bit_and k n + bit_and m n ≡ n = and-not 64 m n (lit< tt) h in
+    xor_disjoint (bit_and n m) (bit_and n k) apart
+    ∙ omega (arith, whole, and_comm n m, and_comm n k)

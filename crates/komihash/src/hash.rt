@@ -14,7 +14,7 @@ use crate::utils::{read_partial_word, read_word};
 // The hash of a message with at least one block: a function of its own, since only its loop needs
 // the registers that it saves.
 #[inline(never)]
-#[tactic(auto, using(crate::proofs::HashSteps::long_messages))]
+#[tactic(auto, using(crate::proofs::HashSteps::long_hash))]
 fn hash_of_blocks<const V: u8>(bytes: &[u8], seed: u64, tally: &mut Tally) -> u64
     requires { 64 ≤ length bytes.now }
     ensures hash { result ≡ komi V seed bytes.now }
@@ -32,7 +32,7 @@ fn hash_of_blocks<const V: u8>(bytes: &[u8], seed: u64, tally: &mut Tally) -> u6
 ///
 /// Messages of 8 to 15 bytes have a path of their own, with one test less.
 #[inline(never)]
-#[tactic(auto, using(crate::proofs::HashSteps::short_messages))]
+#[tactic(auto, using(crate::proofs::HashSteps::short_hash))]
 pub(crate) fn komihash_counted<const V: u8>(bytes: &[u8], seed: u64, tally: &mut Tally) -> u64
     ensures hash { result ≡ komi V seed bytes.now }
     ensures products { tally.new.products ≡ tally.old.products + hash_products (length bytes.now) }
