@@ -57,3 +57,6 @@ length-after_blocks m = omega (arith, length-drop (length m - length m % 64) m)
 
 pub words_after_blocks : (m : List ℕ) → length (whole_words (after_blocks m)) ≡ length m % 64 / 8
 words_after_blocks m = omega (arith, length-whole_words (after_blocks m), length-after_blocks m)
+
+-- what a block is taken off by
+pub ruleset next_block = (block_lanes_more, after_blocks_more)

@@ -3,6 +3,7 @@ use Rattle.std.proofs.Common.{◌≤◌, take, drop, ◌≡◌, ℕ, suc, ◌-�
 use Rattle.komihash.specs.Words.{word_of, words_of}
 use Rattle.komihash.specs.Tails.{whole_words, after_words}
 use Rattle.std.proofs.lemmas.List.{length-drop, drop-drop}
+use Rattle.std.proofs.lemmas.Bool.Decides.{nat_tests}
 use Rattle.std.specs.Prelude.{slice_index}
 
 -- the next whole word
@@ -72,6 +73,9 @@ slice_index-whole_words (a ∷ b ∷ c ∷ d ∷ e ∷ f ∷ g ∷ h ∷ xs) (su
     ∙ let n : 8 * suc at ≡ suc (suc (suc (suc (suc (suc (suc (suc (8 * at)))))))) =
     omega arith in ap (λ n. word_of (take 8 (drop n (a ∷ b ∷ c ∷ d ∷ e ∷ f ∷ g ∷ h ∷ xs)))) (sym n)
 slice_index-whole_words xs at lt = absurd (omega arith)
+
+-- whole words as they are read from bytes, each by itself
+pub ruleset read_words = (length-whole_words, slice_index-whole_words, nat_tests)
 
 -- whole words have no rest
 pub words_of-whole : (xs : List ℕ) (k : ℕ) → length xs ≡ 8 * k → words_of xs ≡ whole_words xs

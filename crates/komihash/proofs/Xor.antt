@@ -12,10 +12,10 @@ xor_late w low e = xor_assoc w low e ∙ ap (bit_xor w) (xor_comm low e)
 pub xor_late_left : (w low e : ℕ) → bit_xor (bit_xor low w) e ≡ bit_xor (bit_xor e low) w
 xor_late_left w low e = xor_comm (bit_xor low w) e ∙ sym (xor_assoc e low w)
 
--- the same for a factor that stands after the other
-pub xor_late_product : (v f w low e : ℕ)
+-- the same in a product, whose factors change places too
+pub product : (v f w low e : ℕ)
     → bit_xor v f * bit_xor (bit_xor w low) e ≡ bit_xor w (bit_xor e low) * bit_xor v f
-xor_late_product v f w low e =
+product v f w low e =
     rw (xor_late w low e) (mul_comm (bit_xor v f) (bit_xor w (bit_xor e low)))
 
 -- the first two change places

@@ -1,17 +1,18 @@
 -- The padding of a message: its padding byte, and its padded words.
-use Rattle.std.specs.Prelude.{◌≡◌, ℕ, Bool, ◌-◌, ◌%◌, List, [], ◌∷◌, ◌++◌, length, replicate, slice_index, ◌==◌, ◌&&◌, nat_le, if◌then◌else◌}
+use Rattle.std.specs.Prelude.{◌≡◌, ℕ, Bool, ◌-◌, ◌%◌, ◌==◌, ◌&&◌, nat_le, if◌then◌else◌}
+use Rattle.std.specs.Prelude.{List, [], ◌∷◌, ◌++◌, length, replicate, slice_index}
 use Rattle.komihash.specs.Words.{AreBytes, words_of}
 
--- whether a last byte is at least 128, where version v looks at that: only version 4 does
+-- whether a last byte is at least 128, and version v looks at that: only version 4 does
 abbrev pub has_top_bit : ℕ → ℕ → Bool
 has_top_bit v b = v == 4 && nat_le 128 b
 
--- the padding byte: 2 after a last byte whose top bit counts, else 1
+-- the padding byte: 2 after a last byte for which `has_top_bit` holds, else 1
 abbrev pub padding_after : Bool → ℕ
 padding_after top_bit = if top_bit then 2 else 1
 
--- the byte that ends a nonempty message in version v: 1, but 2 in version 4 where the message's
--- last byte is at least 128
+-- the padding byte of a nonempty message in version v: 1, but 2 in version 4 if the message's last
+-- byte is at least 128
 abbrev pub padding_byte : ℕ → List ℕ → ℕ
 padding_byte v m = padding_after (has_top_bit v (slice_index m (length m - 1)))
 

@@ -1,8 +1,9 @@
--- The steps that the hash is made of: mix, seeding, lanes, block round, joining, pair round, closing.
--- A pair is (a, e), two words.
-use Rattle.std.specs.Prelude.{ℕ, ◌+◌, ◌-◌, ◌*◌, ◌/◌, ◌%◌, ◌^◌, Bool, List, [], ◌∷◌, slice_index, bit_and, bit_xor, ◌==◌, if◌then◌else◌}
+-- The steps of the hash: mix, seeding, lanes, block round, joining, pair round, closing. A pair is
+-- (a, e), two words.
+use Rattle.std.specs.Prelude.{ℕ, ◌+◌, ◌-◌, ◌*◌, ◌/◌, ◌%◌, ◌^◌, bit_and, bit_xor}
+use Rattle.std.specs.Prelude.{Bool, List, [], ◌∷◌, slice_index, ◌==◌, if◌then◌else◌}
 
--- C1 to C8: the first 512 bits of the fraction of π
+-- C1 to C8: the first 512 bits of the fractional part of π
 abbrev pub fraction_of_pi : List ℕ
 fraction_of_pi =
     0x243f6a8885a308d3 ∷ 0x13198a2e03707344 ∷ 0xa4093822299f31d0 ∷ 0x082efa98ec4e6c89
@@ -29,8 +30,10 @@ mix x y e = (bit_xor (plus e (high (x * y))) (low (x * y)), plus e (high (x * y)
 
 -- the two words of a seed
 abbrev pub seed_words : ℕ → ℕ × ℕ
-seed_words seed =
-    (bit_xor (constant 1) (bit_and seed 0x5555555555555555), bit_xor (constant 5) (bit_and seed 0xaaaaaaaaaaaaaaaa))
+seed_words seed = (
+  bit_xor (constant 1) (bit_and seed 0x5555555555555555),
+  bit_xor (constant 5) (bit_and seed 0xaaaaaaaaaaaaaaaa),
+)
 
 -- the pair that a seed begins with
 abbrev pub seed_pair : ℕ → ℕ × ℕ
@@ -60,18 +63,18 @@ lanes s = record {
   s8 = bit_xor (constant 8) s.1;
 }
 
--- which words of a block meet in its four products, two places a product
+-- which words of a block are multiplied: two indices for each of its four products
 abbrev pub places : ℕ → List ℕ
 places v =
     if v == 4
     then 0 ∷ 1 ∷ 2 ∷ 3 ∷ 4 ∷ 5 ∷ 6 ∷ 7 ∷ []
     else 0 ∷ 4 ∷ 1 ∷ 5 ∷ 2 ∷ 6 ∷ 3 ∷ 7 ∷ []
 
--- the word whose place is number i of a table
+-- the word whose index is entry i of a table
 abbrev pub word_at_place : List ℕ → List ℕ → ℕ → ℕ
 word_at_place table ws i = slice_index ws (slice_index table i)
 
--- the lanes after a round on a block of eight words, with a table of places
+-- the lanes after a round on a block of eight words, with a table of indices
 unfoldable pub block_round_by : List ℕ → Lanes → List ℕ → Lanes
 block_round_by table s ws =
     let r1 = bit_xor (word_at_place table ws 0) s.s1 * bit_xor (word_at_place table ws 1) s.s5 in
@@ -97,22 +100,25 @@ block_round_by table s ws =
 abbrev pub block_round : ℕ → Lanes → List ℕ → Lanes
 block_round v s ws = block_round_by (places v) s ws
 
--- the pair of the lanes: all of them joined where a block was absorbed, else the pair they came from
+-- the pair of the lanes: all joined if a block was absorbed, else the pair they were made of
 abbrev pub join : Bool → Lanes → ℕ × ℕ
 join absorbed s =
     if absorbed
-    then (bit_xor (bit_xor (bit_xor s.s1 s.s2) s.s3) s.s4, bit_xor (bit_xor (bit_xor s.s5 s.s6) s.s7) s.s8)
+    then (
+      bit_xor (bit_xor (bit_xor s.s1 s.s2) s.s3) s.s4,
+      bit_xor (bit_xor (bit_xor s.s5 s.s6) s.s7) s.s8,
+    )
     else (s.s1, s.s5)
 
 -- the pair after a round on two words
 abbrev pub pair_round : ℕ × ℕ → ℕ → ℕ → ℕ × ℕ
 pair_round s w0 w1 = mix (bit_xor w0 s.0) (bit_xor w1 s.1) s.1
 
--- the answer from the pair of the closing's first mix: one more mix
+-- the hash from the pair of the closing's first mix: one more mix
 abbrev pub mix_again : ℕ × ℕ → ℕ
 mix_again s = (mix s.0 s.1 s.1).0
 
--- the answer from a pair and the one or two words that are left
+-- the hash from a pair and the one or two words that are left
 abbrev pub closing : ℕ × ℕ → List ℕ → ℕ
 closing s (p ∷ []) = mix_again (mix (bit_xor s.0 p) s.1 s.1)
 closing s (w ∷ p ∷ []) = mix_again (mix (bit_xor s.1 p) (bit_xor s.0 w) s.1)

@@ -1,10 +1,10 @@
--- What a tally owns beside its numbers, and the key to it. `specs/Lib.antt` keeps this file private:
--- no other crate can name the key, and none can unfold these definitions.
+-- What a tally owns besides its numbers, and the key to it. `specs/Lib.antt` keeps this file
+-- private: no other crate can name the key or unfold these definitions.
 use Rattle.std.specs.Prelude.{ℕ, ◌≡◌, refl}
 use Rattle.std.specs.Coded.{Unit-prop}
 use base.Fml.{Fml, ftrue}
 
--- what a tally of these numbers owns: nothing, but nobody outside can tell
+-- what a tally of these numbers owns: nothing, but no other crate can know that
 pub counted : ℕ → ℕ → Fml
 counted products kept = ftrue
 
@@ -19,7 +19,7 @@ pub Key-prop : IsProp Key
 unfolding Key
 Key-prop = Unit-prop
 
--- who has the key can make what a tally of any numbers owns
+-- with the key, a proof can make what a tally of any numbers owns
 pub opened : Key → (products kept : ℕ) → counted products kept ≡ ftrue
 unfolding counted
 opened _ products kept = refl

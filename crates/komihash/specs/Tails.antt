@@ -1,12 +1,12 @@
--- The padded words of a message in the form that the code reads them: its whole words, and the one
--- word that ends them. `proofs/PaddingWords.antt` shows that this is the same list.
+-- The padded words of a message in the form in which the code reads them: its whole words, and the
+-- final word. `proofs/PaddingWords.antt` proves that this is the same list.
 use Rattle.std.specs.Prelude.{ℕ, Bool, ◌-◌, ◌%◌, length, drop, List, [], ◌∷◌, ◌++◌}
 use Rattle.komihash.specs.Rounds.{Lanes, block_round}
 use Rattle.komihash.specs.Padding.{padding_byte}
 use Rattle.komihash.specs.Stream.{end_behind_blocks}
 use Rattle.komihash.specs.Words.{word_of}
 
--- the words of the bytes, as far as they make whole words
+-- the words of whole eights of bytes
 abbrev pub whole_words : List ℕ → List ℕ
 whole_words (a ∷ b ∷ c ∷ d ∷ e ∷ f ∷ g ∷ h ∷ bs) =
     word_of (a ∷ b ∷ c ∷ d ∷ e ∷ f ∷ g ∷ h ∷ []) ∷ whole_words bs
@@ -36,8 +36,8 @@ block_lanes v s ws = s
 abbrev pub after_blocks : List ℕ → List ℕ
 after_blocks m = drop (length m - length m % 64) m
 
--- the byte that ends a stream's tail: the pending bytes' padding byte, or where none is pending that
--- after the blocks
+-- the byte that ends a stream's tail: the padding byte of the pending bytes, or the byte after the
+-- blocks if none is pending
 abbrev pub tail_end : ℕ → List ℕ → Bool → Bool → ℕ
 tail_end v (b ∷ m) absorbed top_bit = padding_byte v (b ∷ m)
 tail_end v [] absorbed top_bit = end_behind_blocks absorbed top_bit

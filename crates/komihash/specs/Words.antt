@@ -1,8 +1,9 @@
--- Bytes and words. A byte is a number below 2 ^ 8, a word a number below 2 ^ 64, and a message a
+-- Bytes and words. A byte is a number below 2 ^ 8, a word a number below 2 ^ 64, and a message is a
 -- list of bytes.
-use Rattle.std.specs.Prelude.{ℕ, zero, suc, ◌+◌, ◌*◌, ◌/◌, ◌%◌, ◌<◌, List, [], ◌∷◌, ◌++◌, slice_index}
+use Rattle.std.specs.Prelude.{ℕ, zero, suc, ◌+◌, ◌*◌, ◌/◌, ◌%◌, ◌<◌}
+use Rattle.std.specs.Prelude.{List, [], ◌∷◌, ◌++◌, slice_index}
 
--- every number of a list is a byte
+-- each number of a list is a byte
 abbrev pub AreBytes : List ℕ → Type 0
 AreBytes xs = (k : ℕ) → slice_index xs k < 256
 
@@ -11,7 +12,7 @@ abbrev pub word_of : List ℕ → ℕ
 word_of [] = 0
 word_of (b ∷ bs) = b + 256 * word_of bs
 
--- the words of a list of bytes, eight bytes each, and one of what is left at the end
+-- the words of bytes: of each eight bytes, and of those that are left, if any
 abbrev pub words_of : List ℕ → List ℕ
 words_of (a ∷ b ∷ c ∷ d ∷ e ∷ f ∷ g ∷ h ∷ bs) =
     word_of (a ∷ b ∷ c ∷ d ∷ e ∷ f ∷ g ∷ h ∷ []) ∷ words_of bs

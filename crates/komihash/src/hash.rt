@@ -1,4 +1,4 @@
-//! The hash of a whole message, read where it lies.
+//! The hash of a whole message, which is read where it lies.
 
 ghost use Rattle.std.specs.Prelude.{◌≡◌, ◌+◌, ◌≤◌, length};
 ghost use Rattle.komihash.specs.Counts.{hash_products};
@@ -11,8 +11,8 @@ use crate::tails::answer_below_eight;
 use crate::tally::Tally;
 use crate::utils::{read_partial_word, read_word};
 
-// The hash of a message with at least one block: a function of its own, since only its loop needs
-// the registers that it saves.
+// Returns the hash of a message of at least 64 bytes. It is a function of its own, since only its
+// loop needs registers that have to be saved.
 #[inline(never)]
 #[tactic(auto, using(crate::proofs::HashSteps::long_hash))]
 fn hash_of_blocks<const V: u8>(bytes: &[u8], seed: u64, tally: &mut Tally) -> u64
@@ -28,9 +28,9 @@ fn hash_of_blocks<const V: u8>(bytes: &[u8], seed: u64, tally: &mut Tally) -> u6
     answer_below_eight(join(&lanes, true), &rest, last, tally)
 }
 
-/// The hash of a message with a seed in version V; the tally rises by what it costs.
+/// Returns the hash of a message with a seed in version V, and counts its products in the tally.
 ///
-/// Messages of 8 to 15 bytes have a path of their own, with one test less.
+/// Messages of 8 to 15 bytes have a path of their own, with one test fewer.
 #[inline(never)]
 #[tactic(auto, using(crate::proofs::HashSteps::short_hash))]
 pub(crate) fn komihash_counted<const V: u8>(bytes: &[u8], seed: u64, tally: &mut Tally) -> u64
@@ -57,7 +57,7 @@ pub(crate) fn komihash_counted<const V: u8>(bytes: &[u8], seed: u64, tally: &mut
     }
 }
 
-/// The hash of a message with a seed in version V.
+/// Returns the hash of a message with a seed in version V.
 #[inline(always)]
 pub(crate) fn komihash<const V: u8>(bytes: &[u8], seed: u64) -> u64
     ensures { result ≡ komi V seed bytes.now }

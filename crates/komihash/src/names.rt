@@ -1,5 +1,5 @@
-//! Which version each public name is of. A name that stands for a type, or for a function of another
-//! module, has no contract of its own that says so: it is stated here, and proved.
+//! The version of each public name. An alias of a type has no contract of its own that could say
+//! it, so a contract of each function here does.
 
 ghost use Rattle.std.specs.Prelude.{◌≡◌};
 ghost use Rattle.komihash.specs.Generator.{next};
@@ -9,7 +9,7 @@ ghost use Rattle.komihash.specs.Stream.{absorb};
 use crate::{v4, v5};
 use std::hash::Hasher;
 
-// The stream of each name absorbs bytes.
+// Writes bytes to the stream of each name.
 fn write_by_each_name(
     bytes: &[u8],
     four: &mut v4::StreamedKomihash,
@@ -25,7 +25,7 @@ fn write_by_each_name(
     root.write(bytes);
 }
 
-// The hasher of each name takes bytes.
+// Writes bytes to the hasher of each name, and returns the hash of the root's function.
 fn hash_by_each_name(
     bytes: &[u8],
     four: &mut v4::KomiHasher,
@@ -43,7 +43,7 @@ fn hash_by_each_name(
     crate::komihash(bytes, 0)
 }
 
-// The generator of each name takes a step.
+// Takes a step of the generator of each name.
 fn step_by_each_name(four: &mut v4::Komirand, five: &mut v5::Komirand, root: &mut crate::Komirand)
     ensures four { four.new ≡ next 4 four.old }
     ensures five { five.new ≡ next 5 five.old }

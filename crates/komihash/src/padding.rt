@@ -3,7 +3,8 @@
 pub(crate) mod end;
 mod length;
 
-ghost use Rattle.std.specs.Prelude.{◌≡◌, ◌+◌, ◌*◌, ◌/◌, ◌≤◌, ◌↔◌, IfSome, IfNone, IsNone, IsSomeAnd, List, ℕ, length, take, drop};
+ghost use Rattle.std.specs.Prelude.{◌≡◌, ◌+◌, ◌*◌, ◌/◌, ◌≤◌, ◌↔◌, List, ℕ, length, take, drop};
+ghost use Rattle.std.specs.Prelude.{IfSome, IfNone, IsNone, IsSomeAnd};
 ghost use Rattle.komihash.specs.Words.{AreBytes};
 ghost use Rattle.komihash.specs.Padding.{ArePadded, padded_words};
 
@@ -11,7 +12,8 @@ use crate::utils::copies::{write_bytes, write_words};
 use end::final_word;
 use length::message_length;
 
-/// Writes the padded words of a message in version V, and answers how many they are.
+/// Writes the padded words of a message in version V to the front of `out`, and returns how many
+/// they are.
 #[inline(always)]
 pub(crate) fn pad<const V: u8>(bytes: &[u8], out: &mut [u64]) -> usize
     requires { length bytes.now / 8 + 1 ≤ length out.old }
@@ -25,7 +27,8 @@ pub(crate) fn pad<const V: u8>(bytes: &[u8], out: &mut [u64]) -> usize
     whole + 1
 }
 
-/// Writes the message whose padded words in version V these are, and answers its length.
+/// Writes the message whose padded words in version V these are to the front of `out`, and returns
+/// its length in bytes. Returns `None`, and leaves `out` as it was, if no message has these words.
 #[inline(always)]
 pub(crate) fn unpad<const V: u8>(words: &[u64], out: &mut [u8]) -> Option<usize>
     requires { 8 * length words.now ≤ length out.old }

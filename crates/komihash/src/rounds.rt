@@ -1,10 +1,12 @@
 //! The steps of the hash: seeding, lanes, block round, joining, pair round, closing.
 //!
-//! What the two versions do alike stands here once. Each step hands on the tally that it is passed.
+//! Only `places` depends on the version. Each step counts its products in the tally that it is
+//! passed.
 
 ghost use Rattle.std.specs.Prelude.{◌≡◌, ℕ, ◌+◌, ◌*◌, ◌<◌, List, [], ◌∷◌, true, All};
 ghost use Rattle.komihash.specs.Halves.{pair_in, lanes_in};
-ghost use Rattle.komihash.specs.Rounds.{low, high, plus, seed_words, mix, seed_pair, lanes, places, block_round_by, join, pair_round, mix_again, closing};
+ghost use Rattle.komihash.specs.Rounds.{low, high, plus, seed_words, mix, seed_pair, lanes, places};
+ghost use Rattle.komihash.specs.Rounds.{block_round_by, join, pair_round, mix_again, closing};
 
 pub(crate) mod blocks;
 pub(crate) mod pending;
@@ -12,7 +14,7 @@ pub(crate) mod pending;
 use crate::tally::Tally;
 use crate::utils::multiply128;
 
-// The first 512 bits of the fraction of π, as the hash's eight constants.
+// The hash's eight constants: the first 512 bits of the fractional part of π.
 const C1: u64 = 0x243f_6a88_85a3_08d3;
 
 const C2: u64 = 0x1319_8a2e_0370_7344;
@@ -29,11 +31,11 @@ const C7: u64 = 0xc0ac_29b7_c97c_50dd;
 
 const C8: u64 = 0x3f84_d5b5_b547_0917;
 
-/// A pair (a, e) as the code keeps it: the low half of the last product, and the word e. The pair's
-/// a is their xor, which is taken only where a factor is made of it.
+/// A pair (a, e) as the code stores it: the low half of the last product, and the word e. The
+/// pair's a is their xor, which is computed only when a factor needs it.
 pub(crate) type Pair = (u64, u64);
 
-/// A mix of the factors `x` and `y` into the word `e`.
+/// Mixes the product of `x` and `y` into the word `e`, and returns the pair.
 #[inline(always)]
 #[tactic(auto, unfolding(crate::specs::Rounds::mix))]
 pub(crate) fn mix(x: u64, y: u64, e: u64, tally: &mut Tally) -> Pair
@@ -47,7 +49,7 @@ pub(crate) fn mix(x: u64, y: u64, e: u64, tally: &mut Tally) -> Pair
     (low, e.wrapping_add(high))
 }
 
-/// The two words of a seed.
+/// Returns the two words of a seed.
 #[inline(always)]
 pub(crate) fn seed_words(seed: u64) -> (u64, u64)
     ensures { result ≡ seed_words seed }
@@ -58,7 +60,7 @@ pub(crate) fn seed_words(seed: u64) -> (u64, u64)
     )
 }
 
-/// The pair that a seed begins with.
+/// Returns the pair that a seed begins with.
 #[inline(always)]
 pub(crate) fn seed_pair(seed: u64, tally: &mut Tally) -> Pair
     ensures pair { pair_in result ≡ seed_pair seed }
@@ -69,7 +71,7 @@ pub(crate) fn seed_pair(seed: u64, tally: &mut Tally) -> Pair
     mix(a, e, e, tally)
 }
 
-/// The lanes of a pair: four words, each before the low half that it meets.
+/// Returns the lanes of a pair: four words, each before the low half that is joined to it by xor.
 #[inline(always)]
 #[tactic(auto, using(crate::proofs::Halves::lanes_in_lanes))]
 pub(crate) fn lanes(pair: Pair) -> [u64; 8]
@@ -88,7 +90,7 @@ pub(crate) fn lanes(pair: Pair) -> [u64; 8]
     ]
 }
 
-/// Which words of a block meet in its four products, two places a product.
+/// Returns which words of a block are multiplied: two indices for each of its four products.
 #[inline(always)]
 pub(crate) fn places<const V: u8>() -> [usize; 8]
     ensures table { result ≡ places V }
@@ -101,9 +103,9 @@ pub(crate) fn places<const V: u8>() -> [usize; 8]
     }
 }
 
-/// The block round, with a table of places.
+/// Absorbs a block of eight words, multiplied as the table `places` says.
 #[inline(always)]
-#[tactic(auto, using(crate::proofs::Xor::xor_late_product), unfolding(crate::specs::Rounds::block_round_by))]
+#[tactic(auto, using(crate::proofs::Xor::product), unfolding(crate::specs::Rounds::block_round_by))]
 pub(crate) fn block_round(
     lanes: &mut [u64; 8],
     words: &[u64; 8],
@@ -117,8 +119,8 @@ pub(crate) fn block_round(
 {
     let [e4, low1, e1, low2, e2, low3, e3, low4] = *lanes;
     let [p0, p1, p2, p3, p4, p5, p6, p7] = places;
-    // The first factors, all before the first product: then no word e is wanted after its own sum.
-    // Each low half meets its word first: it is there before the raised word that it belongs to.
+    // These factors are made before the first product, so that no word e is needed after its own
+    // sum. Each takes the low half first, which is ready before the raised word that it belongs to.
     let x1 = (words[p0] ^ low1) ^ e4;
     let x2 = (words[p2] ^ low2) ^ e1;
     let x3 = (words[p4] ^ low3) ^ e2;
@@ -132,8 +134,8 @@ pub(crate) fn block_round(
     ];
 }
 
-/// The pair of the lanes: all of them joined where a block was absorbed, else the pair that they
-/// were made of.
+/// Returns the pair of the lanes: all of them joined if a block was absorbed, otherwise the pair
+/// that they were made of.
 #[inline(always)]
 #[tactic(auto, using(crate::proofs::Halves::joined))]
 pub(crate) fn join(lanes: &[u64; 8], absorbed: bool) -> Pair
@@ -147,7 +149,7 @@ pub(crate) fn join(lanes: &[u64; 8], absorbed: bool) -> Pair
     }
 }
 
-/// The pair after a round on two words.
+/// Returns the pair after a round on two words.
 #[inline(always)]
 #[tactic(auto, using(crate::proofs::Xor::xor_late))]
 pub(crate) fn pair_round(pair: Pair, w0: u64, w1: u64, tally: &mut Tally) -> Pair
@@ -159,7 +161,7 @@ pub(crate) fn pair_round(pair: Pair, w0: u64, w1: u64, tally: &mut Tally) -> Pai
     mix((w0 ^ low) ^ e, w1 ^ e, e, tally)
 }
 
-// The answer from the pair of the closing's first mix.
+// Returns the hash from the pair of the closing's first mix.
 #[inline(always)]
 fn mix_again(pair: Pair, tally: &mut Tally) -> u64
     ensures answer { result ≡ mix_again (pair_in pair) }
@@ -171,7 +173,7 @@ fn mix_again(pair: Pair, tally: &mut Tally) -> u64
     e ^ low
 }
 
-/// The answer from a pair and the one word that is left.
+/// Returns the hash from a pair and the one word that is left.
 #[inline(always)]
 #[tactic(auto, using(crate::proofs::Xor::xor_late_left))]
 pub(crate) fn close_one(pair: Pair, word: u64, tally: &mut Tally) -> u64
@@ -184,7 +186,7 @@ pub(crate) fn close_one(pair: Pair, word: u64, tally: &mut Tally) -> u64
     mix_again(mixed, tally)
 }
 
-/// The answer from a pair and the two words that are left.
+/// Returns the hash from a pair and the two words that are left.
 #[inline(always)]
 #[tactic(auto, using(crate::proofs::Xor::xor_late_left))]
 pub(crate) fn close_two(pair: Pair, word: u64, last: u64, tally: &mut Tally) -> u64

@@ -1,4 +1,4 @@
-//! The end of a hash: less than a block of whole words, and the final word.
+//! The end of a hash: fewer than eight whole words, and the final word.
 
 ghost use Rattle.std.specs.Prelude.{◌≡◌, ℕ, ◌+◌, ◌-◌, ◌/◌, ◌<◌, ◌≤◌, [], ◌∷◌, ◌++◌, length, drop};
 ghost use Rattle.komihash.specs.Halves.{pair_in};
@@ -8,13 +8,14 @@ use crate::rounds::{Pair, close_one, close_two, pair_round};
 use crate::tally::Tally;
 use crate::utils::Words;
 
-// The answer from a pair, fewer than two words from a place on, and the final word.
+// Returns the hash from a pair, fewer than two words from index `at`, and the final word.
 #[inline(always)]
 fn answer_below_two<W: Words>(pair: Pair, left: &W, at: usize, last: u64, tally: &mut Tally) -> u64
     requires within { at ≤ length (W.words left.now) }
     requires few { length (W.words left.now) < at + 2 }
     requires place { at < 7 }
-    ensures answer { result ≡ hash_from_pair (pair_in pair) (drop at (W.words left.now) ++ last ∷ []) }
+    ensures answer { result
+        ≡ hash_from_pair (pair_in pair) (drop at (W.words left.now) ++ last ∷ []) }
     ensures products { tally.new.products ≡ tally.old.products + 2 }
     ensures kept { tally.new.kept ≡ tally.old.kept }
 {
@@ -25,13 +26,15 @@ fn answer_below_two<W: Words>(pair: Pair, left: &W, at: usize, last: u64, tally:
     }
 }
 
-// The pair after a round on the two words from a place on: what is left gives the same answer.
+// Returns the pair after a round on the two words from index `at`. What is left gives the same
+// hash.
 #[inline(always)]
 #[tactic(auto, using(crate::proofs::HashSteps::hash_from_pair_two))]
 fn take_two<W: Words>(pair: Pair, left: &W, at: usize, tally: &mut Tally) -> Pair
     requires within { at + 2 ≤ length (W.words left.now) }
     requires place { at < 5 }
-    ensures answer { (last : ℕ) → hash_from_pair (pair_in result) (drop (at + 2) (W.words left.now) ++ last ∷ [])
+    ensures answer { (last : ℕ)
+        → hash_from_pair (pair_in result) (drop (at + 2) (W.words left.now) ++ last ∷ [])
         ≡ hash_from_pair (pair_in pair) (drop at (W.words left.now) ++ last ∷ []) }
     ensures products { tally.new.products ≡ tally.old.products + 1 }
     ensures kept { tally.new.kept ≡ tally.old.kept }
@@ -39,13 +42,14 @@ fn take_two<W: Words>(pair: Pair, left: &W, at: usize, tally: &mut Tally) -> Pai
     pair_round(pair, left.word(at), left.word(at + 1), tally)
 }
 
-// The answer from a pair, fewer than four words from a place on, and the final word.
+// Returns the hash from a pair, fewer than four words from index `at`, and the final word.
 #[inline(always)]
 fn answer_below_four<W: Words>(pair: Pair, left: &W, at: usize, last: u64, tally: &mut Tally) -> u64
     requires within { at ≤ length (W.words left.now) }
     requires few { length (W.words left.now) < at + 4 }
     requires place { at < 5 }
-    ensures answer { result ≡ hash_from_pair (pair_in pair) (drop at (W.words left.now) ++ last ∷ []) }
+    ensures answer { result
+        ≡ hash_from_pair (pair_in pair) (drop at (W.words left.now) ++ last ∷ []) }
     ensures products { tally.new.products
         ≡ tally.old.products + (2 + (length (W.words left.now) - at) / 2) }
     ensures kept { tally.new.kept ≡ tally.old.kept }
@@ -58,7 +62,7 @@ fn answer_below_four<W: Words>(pair: Pair, left: &W, at: usize, last: u64, tally
     }
 }
 
-/// The answer from a pair, fewer than eight words, and the final word.
+/// Returns the hash from a pair, fewer than eight words, and the final word.
 #[inline(always)]
 pub(crate) fn answer_below_eight<W: Words>(
     pair: Pair,
@@ -68,7 +72,8 @@ pub(crate) fn answer_below_eight<W: Words>(
 ) -> u64
     requires { length (W.words left.now) < 8 }
     ensures answer { result ≡ hash_from_pair (pair_in pair) (W.words left.now ++ last ∷ []) }
-    ensures products { tally.new.products ≡ tally.old.products + (2 + length (W.words left.now) / 2) }
+    ensures products { tally.new.products
+        ≡ tally.old.products + (2 + length (W.words left.now) / 2) }
     ensures kept { tally.new.kept ≡ tally.old.kept }
 {
     if left.holds(4) {

@@ -1,15 +1,15 @@
-//! What a call costs, for contracts alone.
+//! The cost of calls, which only contracts see.
 
 ghost use Rattle.std.specs.Prelude.{◌≡◌, ℕ, ◌+◌};
 
 use std::marker::{Model, PhantomData};
 
-/// Two whole numbers without limit that only contracts see: the products of two words, and the
-/// bytes that were kept among a stream's pending bytes.
+/// Counts two things that only contracts see, without limit: `products`, the products of two words,
+/// and `kept`, the bytes that were copied into streams as pending bytes.
 ///
-/// A tally takes no bytes at run time, and no program can read it. A contract says by how much a
-/// call raises the tally that it is passed. No other crate can change its numbers but by passing it
-/// to this crate's calls. As with any value that is passed, another one can be put in its place.
+/// A tally takes no memory at run time, and no program can read it. A contract says by how much a
+/// call raises the tally that it is passed. Another crate can change a tally only by passing it to
+/// calls of this crate, or by putting another one in its place, as with any value.
 #[derive(Drop)]
 pub struct Tally {
     marker: PhantomData<()>,
@@ -23,8 +23,8 @@ impl Model for Tally {
     ghost also_owns = { λ t. counted t.products t.kept };
 }
 
-// The key to what a tally owns, without which no proof can make or raise one. No other crate can
-// name it, since this struct is private. No value of it is ever made.
+// The key to what a tally owns. No proof can make or raise a tally without it, and no other crate
+// can name it, since this struct is private. No value of it is ever made.
 struct TallyKey;
 
 impl Model for TallyKey {
@@ -39,7 +39,7 @@ impl Model for TallyKey {
 }
 
 impl Tally {
-    /// A tally that shows no products and no kept bytes.
+    /// Returns a tally of no products and no kept bytes.
     #[inline(always)]
     pub fn new() -> Tally
         ensures products { result.products ≡ 0 }
@@ -50,7 +50,7 @@ impl Tally {
         }
     }
 
-    // The only code that changes a tally.
+    // Raises the two numbers. No other code changes a tally.
     #[inline(always)]
     fn raise(&mut self, _products: usize, _kept: usize)
         ensures products { self.new.products ≡ self.old.products + _products }
@@ -66,7 +66,7 @@ impl Tally {
         self.raise(1, 0);
     }
 
-    /// Counts bytes that a write puts into a stream's buffer.
+    /// Counts bytes that a write copies into a stream's pending bytes.
     #[inline(always)]
     pub(crate) fn count_kept(&mut self, bytes: usize)
         ensures products { self.new.products ≡ self.old.products }

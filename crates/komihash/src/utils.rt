@@ -1,4 +1,4 @@
-//! Words read from bytes and written to them, and the one product of two words.
+//! Words of eight bytes, the lowest byte first: read from bytes, written to bytes, multiplied.
 
 pub(crate) mod copies;
 
@@ -10,7 +10,7 @@ ghost use Rattle.komihash.specs.Words.{word_of, bytes_of};
 
 use crate::tally::Tally;
 
-/// The word of the first eight bytes.
+/// Returns the word of the first eight bytes.
 #[inline(always)]
 pub(crate) fn read_word(bytes: &[u8]) -> u64
     requires { 8 ≤ length bytes.now }
@@ -21,7 +21,7 @@ pub(crate) fn read_word(bytes: &[u8]) -> u64
     ])
 }
 
-/// The word of the eight bytes from a place on.
+/// Returns the word of the eight bytes from index `at`.
 #[inline(always)]
 pub(crate) fn word_at(bytes: &[u8], at: usize) -> u64
     requires { at + 8 ≤ length bytes.now }
@@ -30,7 +30,7 @@ pub(crate) fn word_at(bytes: &[u8], at: usize) -> u64
     read_word(&bytes[at..])
 }
 
-// The word of the four bytes from a place on.
+// Returns the word of the four bytes from index `at`.
 #[inline(always)]
 fn four_at(bytes: &[u8], at: usize) -> u64
     requires { at + 4 ≤ length bytes.now }
@@ -40,7 +40,7 @@ fn four_at(bytes: &[u8], at: usize) -> u64
     u64::from(u32::from_le_bytes([piece[0], piece[1], piece[2], piece[3]]))
 }
 
-// The word of the two bytes from a place on.
+// Returns the word of the two bytes from index `at`.
 #[inline(always)]
 fn two_at(bytes: &[u8], at: usize) -> u64
     requires { at + 2 ≤ length bytes.now }
@@ -50,10 +50,10 @@ fn two_at(bytes: &[u8], at: usize) -> u64
     u64::from(u16::from_le_bytes([piece[0], piece[1]]))
 }
 
-/// The word of at most seven bytes and the byte `end` after them.
+/// Returns the word of at most seven bytes and the byte `end` after them.
 ///
-/// The bytes are read in two overlapping pieces: of the second, which has `end` after it, a shift
-/// drops what the first has.
+/// Reads the bytes in two pieces that may overlap. A shift drops from the second piece, which `end`
+/// follows, what the first has.
 #[inline(always)]
 pub(crate) fn read_partial_word(bytes: &[u8], end: u64) -> u64
     requires few { length bytes.now ≤ 7 }
@@ -72,9 +72,9 @@ pub(crate) fn read_partial_word(bytes: &[u8], end: u64) -> u64
     }
 }
 
-/// Writes the lowest bytes of a word: as many as there is room for, which is at most seven.
+/// Fills `out`, of at most seven bytes, with the lowest bytes of a word.
 ///
-/// They are written in two pieces that may overlap.
+/// Writes them in two pieces that may overlap.
 #[inline(always)]
 pub(crate) fn write_partial_word(word: u64, out: &mut [u8])
     requires few { length out.old ≤ 7 }
@@ -93,16 +93,17 @@ pub(crate) fn write_partial_word(word: u64, out: &mut [u8])
     }
 }
 
-/// Whole words that are left, wherever they lie.
+/// Whole words, wherever they lie: in a message's bytes, or in the words of a stream.
 pub(crate) trait Words {
     /// The words.
     ghost words: { Self → List ℕ };
 
-    /// Whether there are at least `count` words.
+    /// Returns whether there are at least `count` words.
     fn holds(&self, count: usize) -> bool
         requires few { count ≤ 8 }
         ensures { IsTrue result ↔ (count ≤ length (words self.now)) };
 
+    /// Returns the word at index `at`.
     fn word(&self, at: usize) -> u64
         requires within { at < length (words self.now) }
         requires few { at < 8 }
@@ -114,18 +115,20 @@ impl Words for &[u8] {
     ghost words = { λ bytes. whole_words bytes.now };
 
     #[inline(always)]
+    #[tactic(auto, using(crate::proofs::WholeWords::read_words))]
     fn holds(&self, count: usize) -> bool {
         8 * count <= self.len()
     }
 
     #[inline(always)]
+    #[tactic(auto, using(crate::proofs::WholeWords::read_words))]
     fn word(&self, at: usize) -> u64 {
         word_at(self, 8 * at)
     }
 }
 
-/// The low and the high half of the product of two words. No other code of this crate multiplies
-/// two words.
+/// Returns the low and the high half of the product of two words, and counts the product. No other
+/// code of this crate multiplies two words.
 #[inline(always)]
 pub(crate) fn multiply128(x: u64, y: u64, tally: &mut Tally) -> (u64, u64)
     ensures low { result.0 ≡ low (x * y) }

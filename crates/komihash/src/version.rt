@@ -1,13 +1,13 @@
 //! Which numbers are versions.
 
-/// The number of a version.
+/// Says that V is the number of a version.
 pub(crate) trait IsVersion<const V: u8> {
     ghost use Rattle.std.specs.Prelude.{◌≡◌, ◌⊎◌};
 
     ghost is_version: { (V ≡ 4) ⊎ (V ≡ 5) };
 }
 
-/// What has an impl for each version.
+/// Has an impl of `IsVersion` for each version.
 pub(crate) struct Versions;
 
 impl IsVersion<4> for Versions {

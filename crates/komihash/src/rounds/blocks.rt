@@ -1,4 +1,4 @@
-//! Whole blocks, read where they lie.
+//! Whole blocks of a message, absorbed where they lie.
 
 ghost use Rattle.std.specs.Prelude.{◌≡◌, ◌+◌, ◌*◌, ◌/◌, ◌≤◌, length, take, drop};
 ghost use Rattle.komihash.specs.Halves.{lanes_in};
@@ -9,7 +9,7 @@ use super::{block_round, places};
 use crate::tally::Tally;
 use crate::utils::word_at;
 
-// The eight words of a block.
+// Returns the eight words of a block.
 #[inline(always)]
 #[tactic(auto, using(crate::proofs::Blocks::words_of_block))]
 fn block_words(block: &[u8; 64]) -> [u64; 8]
@@ -27,10 +27,10 @@ fn block_words(block: &[u8; 64]) -> [u64; 8]
     ]
 }
 
-// Absorbs the first block, and returns the bytes after it. What is said of the lanes and of what is
-// left is what absorbing all blocks leads to, which stays the same.
+// Absorbs the first block, and returns the bytes after it. To absorb all blocks of these leads to
+// the same lanes and the same remainder as before.
 #[inline(always)]
-#[tactic(auto, using(crate::proofs::Blocks::block_lanes_more, crate::proofs::Blocks::after_blocks_more))]
+#[tactic(auto, using(crate::proofs::Blocks::next_block))]
 fn absorb_block<'a, const V: u8>(
     lanes: &mut [u64; 8],
     bytes: &'a [u8],
@@ -52,9 +52,9 @@ fn absorb_block<'a, const V: u8>(
     rest
 }
 
-/// A block round on each whole block of the bytes; what is left of them.
+/// Absorbs each whole block of the bytes, and returns the bytes after them, fewer than 64.
 ///
-/// Two blocks are taken a turn, and one ahead of them where their number is odd.
+/// The loop absorbs two blocks a turn. If their number is odd, one goes first.
 #[inline(always)]
 #[tactic(auto, using(crate::proofs::Blocks::after_blocks_few))]
 pub(crate) fn absorb_blocks<'a, const V: u8>(
@@ -63,7 +63,8 @@ pub(crate) fn absorb_blocks<'a, const V: u8>(
     tally: &mut Tally,
 ) -> &'a [u8]
     ensures left { result.now ≡ after_blocks bytes.now }
-    ensures lanes { lanes_in lanes.new ≡ block_lanes V (lanes_in lanes.old) (whole_words bytes.now) }
+    ensures lanes { lanes_in lanes.new
+        ≡ block_lanes V (lanes_in lanes.old) (whole_words bytes.now) }
     ensures products { tally.new.products ≡ tally.old.products + 4 * (length bytes.now / 64) }
     ensures kept { tally.new.kept ≡ tally.old.kept }
 {
@@ -72,8 +73,8 @@ pub(crate) fn absorb_blocks<'a, const V: u8>(
         rest = absorb_block::<V>(lanes, rest, tally);
     }
     'whole: while rest.len() >= 128 {
-        let behind = absorb_block::<V>(lanes, rest, tally);
-        rest = absorb_block::<V>(lanes, behind, tally);
+        let after = absorb_block::<V>(lanes, rest, tally);
+        rest = absorb_block::<V>(lanes, after, tally);
     }
     rest
 }

@@ -1,4 +1,4 @@
-//! Bytes copied into words, and words into bytes.
+//! Many words at a time, read from bytes and written to bytes.
 
 ghost use Rattle.std.specs.Prelude.{◌≡◌, ◌*◌, ◌/◌, ◌≤◌, length, take, drop};
 ghost use Rattle.komihash.specs.Words.{all_bytes};
@@ -6,7 +6,7 @@ ghost use Rattle.komihash.specs.Tails.{whole_words};
 
 use super::{word_at, write_partial_word};
 
-/// Writes the whole words of the bytes.
+/// Writes the whole words of `bytes` to the front of `out`.
 #[inline(always)]
 pub(crate) fn write_words(bytes: &[u8], out: &mut [u64])
     requires { length bytes.now / 8 ≤ length out.old }
@@ -18,7 +18,7 @@ pub(crate) fn write_words(bytes: &[u8], out: &mut [u64])
     }
 }
 
-/// Writes the first bytes of the words.
+/// Writes the first `count` bytes of `words` to the front of `out`.
 #[inline(always)]
 pub(crate) fn write_bytes(words: &[u64], count: usize, out: &mut [u8])
     requires within { count ≤ 8 * length words.now }
