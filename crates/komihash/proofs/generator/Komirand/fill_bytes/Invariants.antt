@@ -1,5 +1,6 @@
+use Rattle.std.proofs.Common.{◌*◌}
 use Rattle.komihash.proofs.GeneratorFills.{Filled}
 use Rattle.komihash.proofs.generator.Komirand.fill_bytes.Given as goal
 
 abbrev pub invariant-words : goal.invariant-words
-invariant-words g l = Filled g.row.V l.i l.fn.self l.buffer l.self
+invariant-words g l = Filled g.row.V l.fn.self (8 * l.i) l.buffer l.self
