@@ -1,40 +1,21 @@
 -- Padded words read back: the one message that they can come from.
-use Rattle.std.proofs.Common.{◌≡◌, ℕ, zero, suc, ◌+◌, ◌-◌, ◌*◌, ◌/◌, ◌%◌, ◌^◌, ◌<◌, ◌≤◌, List, [], ◌∷◌, ◌++◌, length, take, drop, get_or, refl, ap, arith, ◌∙◌, sym, subst, ◌⊎◌, inl, inr, true, false}
+use Rattle.std.proofs.Common.{◌≡◌, ℕ, suc, ◌+◌, ◌-◌, ◌*◌, ◌/◌, ◌%◌, ◌^◌, ◌<◌, ◌≤◌, List, [], ◌∷◌, ◌++◌, length, take, drop, get_or, refl, ap, arith, ◌∙◌, sym, subst, ◌⊎◌, inl, inr, true, false}
 use Rattle.std.proofs.Math.Pow.{pow_mono}
-use Rattle.std.proofs.Math.Seq.{take-suc, get_or-append_seam}
 use Rattle.std.proofs.lemmas.Bool.{cases_lt}
-use Rattle.std.proofs.lemmas.List.{length-append, length-take-le, take_all, get_or-take, get_or-drop, get_or_append_left, get_or_past}
-use Rattle.std.proofs.lemmas.Nat.{pow-add, pow_pos, shr-shr, shr_high}
-use Rattle.std.specs.Prelude.{slice_index}
-use Rattle.komihash.specs.Tails.{whole_words, after_words, final_word, end_byte}
-use Rattle.komihash.specs.Padding.{has_top_bit, padding_after, padded_words, padding_byte}
+use Rattle.std.proofs.lemmas.List.{length-take-le, get_or-take, get_or-drop, get_or_append_left}
+use Rattle.std.proofs.lemmas.Nat.{pow-add, pow_pos, shr-shr, shr_below, shr_le, le-div}
+use Rattle.std.specs.Prelude.{slice_index, Bool}
+use Rattle.komihash.specs.Tails.{whole_words, final_word, end_byte}
+use Rattle.komihash.specs.Padding.{ArePadded, has_top_bit, padding_after, padded_words, padding_byte}
 use Rattle.komihash.specs.Words.{AreBytes, word_of, bytes_of, all_bytes}
-use Rattle.komihash.proofs.Lists.{take-more}
-use Rattle.komihash.proofs.BytesOfWords.{take-all_bytes, drop-all_bytes, length-bytes_of, length-all_bytes}
-use Rattle.komihash.proofs.WholeWords.{length-whole_words, length-after_words, whole_words-few, after_words-few, after_words-drop}
+use Rattle.komihash.proofs.BytesOfWords.{drop-all_bytes, length-all_bytes}
+use Rattle.komihash.proofs.WholeWords.{whole_words-few}
 use Rattle.komihash.proofs.PaddingWords.{padded_words-by_tail}
-use Rattle.komihash.proofs.BytesInWords.{AreBytes-take, pow_byte, word_of-append, word_of-lt, AreBytes-drop}
-
--- ---- a word and its bytes
-
-word_of-bytes_of : (n w : ℕ) → w < 2 ^ (8 * n) → word_of (bytes_of n w) ≡ w
-unfolding bytes_of
-word_of-bytes_of zero w lt = omega arith
-word_of-bytes_of (suc n) w lt =
-    let below : w / 256 < 2 ^ (8 * n) = omega (arith, pow_byte n) in
-    omega (arith, word_of-bytes_of n (w / 256) below)
-
--- the bytes below a place, and all that stands from there on
-word_of-bytes_push : (n w end : ℕ) → w / 2 ^ (8 * n) ≡ end → word_of (bytes_of n w ++ end ∷ []) ≡ w
-unfolding bytes_of
-word_of-bytes_push zero w end e = omega arith
-word_of-bytes_push (suc n) w end e =
-    let places : 8 + 8 * n ≡ 8 * suc n = omega arith in
-    let rest : w / 256 / 2 ^ (8 * n) ≡ end = shr-shr w 8 (8 * n) ∙ ap (λ k. w / 2 ^ k) places ∙ e in
-    omega (arith, word_of-bytes_push n (w / 256) end rest)
+use Rattle.komihash.proofs.BytesInWords.{AreBytes-take, AreBytes-drop}
 
 -- the first bytes of a word, where others stand above them
-pub bytes_of-word_of_append : (xs ys : List ℕ) → AreBytes xs → bytes_of (length xs) (word_of (xs ++ ys)) ≡ xs
+pub bytes_of-word_of_append : (xs ys : List ℕ) → AreBytes xs
+    → bytes_of (length xs) (word_of (xs ++ ys)) ≡ xs
 unfolding bytes_of
 bytes_of-word_of_append [] ys h = refl
 bytes_of-word_of_append (x ∷ xs) ys h =
@@ -42,267 +23,202 @@ bytes_of-word_of_append (x ∷ xs) ys h =
     let high : (x + 256 * word_of (xs ++ ys)) / 256 ≡ word_of (xs ++ ys) = omega (arith, h 0) in
     rw (low, high) (ap (λ bs. x ∷ bs) (bytes_of-word_of_append xs ys (λ k. h (suc k))))
 
-take-bytes_of : (r n w : ℕ) → r ≤ n → take r (bytes_of n w) ≡ bytes_of r w
+-- the word of the bytes of a word
+word_of-bytes_of : (w : ℕ) → w < 2 ^ 64 → word_of (bytes_of 8 w) ≡ w
 unfolding bytes_of
-take-bytes_of zero n w le = refl
-take-bytes_of (suc r) zero w le = absurd (omega arith)
-take-bytes_of (suc r) (suc n) w le = ap (λ bs. w % 256 ∷ bs) (take-bytes_of r n (w / 256) (omega arith))
-
--- ---- whole words, and fewer than eight bytes after them
+word_of-bytes_of w lt = omega arith
 
 pub whole_words-all_bytes : (ws xs : List ℕ) → ((k : ℕ) → get_or ws k 0 < 2 ^ 64) → length xs < 8
     → whole_words (all_bytes ws ++ xs) ≡ ws
 unfolding bytes_of
 whole_words-all_bytes [] xs h few = whole_words-few xs few
 whole_words-all_bytes (w ∷ ws) xs h few =
-    ap (λ x. x ∷ whole_words (all_bytes ws ++ xs)) (word_of-bytes_of 8 w (h 0))
-    ∙ ap (λ us. w ∷ us) (whole_words-all_bytes ws xs (λ k. h (suc k)) few)
+    rw (word_of-bytes_of w (h 0), whole_words-all_bytes ws xs (λ k. h (suc k)) few) refl
 
-after_words-all_bytes : (ws xs : List ℕ) → length xs < 8 → after_words (all_bytes ws ++ xs) ≡ xs
+-- ---- the message before the last byte that is not 0
+
+-- the words of a message, ended by a byte
+abbrev ended : List ℕ → ℕ → List ℕ
+ended m end = whole_words m ++ final_word m end ∷ []
+
+-- in the words, after n bytes, stands this byte, and after it only zeros
+record EndsAt (ws : List ℕ) (n end : ℕ) : Type 0 where
+  size : length ws ≡ n / 8 + 1
+  high : get_or ws (n / 8) 0 / 2 ^ (8 * (n % 8)) ≡ end
+
+-- such words are those of their first n bytes
+ended-words : (ws : List ℕ) (n end : ℕ) → ((k : ℕ) → get_or ws k 0 < 2 ^ 64) → EndsAt ws n end
+    → ended (take n (all_bytes ws)) end ≡ ws
 unfolding bytes_of
-after_words-all_bytes [] xs few = after_words-few xs few
-after_words-all_bytes (w ∷ ws) xs few = after_words-all_bytes ws xs few
+ended-words [] n end fit ends = absurd (omega (arith, ends.size))
+ended-words (w ∷ ws) (suc (suc (suc (suc (suc (suc (suc (suc n)))))))) end fit ends =
+    let i : suc (suc (suc (suc (suc (suc (suc (suc n))))))) / 8 ≡ suc (n / 8) = omega arith in
+    let r : suc (suc (suc (suc (suc (suc (suc (suc n))))))) % 8 ≡ n % 8 = omega arith in
+    rw (word_of-bytes_of w (fit 0))
+    (ap (λ us. w ∷ us) (ended-words ws n end (λ k. fit (suc k)) record { size = omega (arith, ends.size); high = rw (i, r) at ends.high }))
+ended-words (w ∷ []) n end fit ends = ap (λ x. x ∷ []) (omega (arith, ends.high))
+ended-words (w ∷ x ∷ ws) n end fit ends = absurd (omega (arith, ends.size))
 
-take-all_words : (ws : List ℕ) (i : ℕ) → take (8 * i) (all_bytes ws) ≡ all_bytes (take i ws)
+ended-ends : (m : List ℕ) (end : ℕ) → AreBytes m → EndsAt (ended m end) (length m) end
+ended-ends (a ∷ b ∷ c ∷ d ∷ e ∷ f ∷ g ∷ h ∷ bs) end bytes =
+    let i : suc (suc (suc (suc (suc (suc (suc (suc (length bs)))))))) / 8 ≡ suc (length bs / 8) = omega arith in
+    let r : suc (suc (suc (suc (suc (suc (suc (suc (length bs)))))))) % 8 ≡ length bs % 8 = omega arith in
+    let rest = ended-ends bs end (AreBytes-drop 8 (a ∷ b ∷ c ∷ d ∷ e ∷ f ∷ g ∷ h ∷ bs) bytes) in
+    record { size = omega (arith, rest.size); high = rw (i, r) rest.high }
+ended-ends m end bytes =
+    record {
+      size = refl;
+      high = omega (arith, bytes 0, bytes 1, bytes 2, bytes 3, bytes 4, bytes 5, bytes 6);
+    }
+
+take-ended : (m : List ℕ) (end : ℕ) → AreBytes m → take (length m) (all_bytes (ended m end)) ≡ m
 unfolding bytes_of
-take-all_words ws zero = refl
-take-all_words [] (suc i) = let n : 8 * suc i ≡ suc (7 + 8 * i) = omega arith in ap (λ n. take n []) n
-take-all_words (w ∷ ws) (suc i) =
-    let n : 8 * suc i ≡ suc (suc (suc (suc (suc (suc (suc (suc (8 * i)))))))) = omega arith in
-    ap (λ n. take n (all_bytes (w ∷ ws))) n ∙ ap (λ bs. bytes_of 8 w ++ bs) (take-all_words ws i)
+take-ended (a ∷ b ∷ c ∷ d ∷ e ∷ f ∷ g ∷ h ∷ bs) end bytes =
+    let eight = a ∷ b ∷ c ∷ d ∷ e ∷ f ∷ g ∷ h ∷ [] in
+    let rest = all_bytes (ended bs end) in
+    ap (λ xs. take (length (eight ++ bs)) (xs ++ rest))
+    (bytes_of-word_of_append eight [] (AreBytes-take 8 (eight ++ bs) bytes))
+    ∙ ap (λ xs. eight ++ xs) (take-ended bs end (AreBytes-drop 8 (eight ++ bs) bytes))
+take-ended m end bytes = bytes_of-word_of_append m (end ∷ []) bytes
 
--- ---- what the code reads back has these padded words
+-- no byte above place r is other than 0, and one from place s on is
+place-le : (w r s : ℕ) → w / 2 ^ (8 * r) < 256 → 0 < w / 2 ^ (8 * s) → s ≤ r
+place-le w r s below above =
+    elim (cases_lt r s) as (λ _. s ≤ r) [
+      | inl lt ↦
+          let places : 8 * r + (8 + 8 * (s - suc r)) ≡ 8 * s = omega arith in
+          let none : w / 2 ^ (8 * r) / 2 ^ (8 + 8 * (s - suc r)) ≡ w / 2 ^ (8 * s) =
+          shr-shr w (8 * r) (8 + 8 * (s - suc r)) ∙ ap (λ k. w / 2 ^ k) places in
+          absurd (omega (arith, none, shr-shr (w / 2 ^ (8 * r)) 8 (8 * (s - suc r)), shr_le (w / 2 ^ (8 * r) / 2 ^ 8) (8 * (s - suc r))))
+      | inr le ↦ le
+    ]
 
+-- ---- the one length of a message with these padded words
+
+-- r is the place of a word's highest byte that is not 0
+abbrev IsHighest : ℕ → ℕ → Type 0
+IsHighest w r = (0 < w / 2 ^ (8 * r)) × (w / 2 ^ (8 * r) < 256)
+
+one_highest : (w r s : ℕ) → IsHighest w r → IsHighest w s → r ≡ s
+one_highest w r s h g = omega (arith, place-le w r s h.1 g.0, place-le w s r g.1 h.0)
+
+padding_after-within : (top_bit : Bool) → (0 < padding_after top_bit) × (padding_after top_bit < 256)
+padding_after-within true = (omega arith, omega arith)
+padding_after-within false = (omega arith, omega arith)
+
+-- in the padded words of a message: 0 alone, or its padding byte as the highest
+last-cases : (v w : ℕ) (m : List ℕ) → w / 2 ^ (8 * (length m % 8)) ≡ end_byte v m
+    → ((length m ≡ 0) × (w ≡ 0)) ⊎ ((0 < length m) × IsHighest w (length m % 8))
+last-cases v w [] e = inl (refl, omega (arith, e))
+last-cases v w (b ∷ m) e =
+    let within = padding_after-within (has_top_bit v (slice_index (b ∷ m) (length (b ∷ m) - 1))) in
+    inr (omega arith, (omega (arith, e, within.0), omega (arith, e, within.1)))
+
+module _ (v : ℕ) (ws m : List ℕ) (bytes : AreBytes m) (padded : padded_words v m ≡ ws) where
+  abbrev last : ℕ
+  last = get_or ws (length ws - 1) 0
+
+  is_ended : ended m (end_byte v m) ≡ ws
+  is_ended = sym (padded_words-by_tail v m) ∙ padded
+
+  ends : EndsAt ws (length m) (end_byte v m)
+  ends = subst (λ us. EndsAt us (length m) (end_byte v m)) is_ended (ended-ends m (end_byte v m) bytes)
+
+  padded-take : take (length m) (all_bytes ws) ≡ m
+  padded-take = ap (λ us. take (length m) (all_bytes us)) (sym is_ended) ∙ take-ended m (end_byte v m) bytes
+
+  padded-high : last / 2 ^ (8 * (length m % 8)) ≡ end_byte v m
+  padded-high = let i : length m / 8 ≡ length ws - 1 = omega (arith, ends.size) in rw i at ends.high
+
+  padded-cases : ((length m ≡ 0) × (last ≡ 0)) ⊎ ((0 < length m) × IsHighest last (length m % 8))
+  padded-cases = last-cases v last m padded-high
+
+-- no two messages share their padded words
+pub same_message : (v : ℕ) (x y : List ℕ) → AreBytes x → AreBytes y → padded_words v x ≡ padded_words v y → x ≡ y
+same_message v x y xs ys same =
+    let ws = padded_words v y in
+    let w = get_or ws (length ws - 1) 0 in
+    let xe = ends v ws x xs same in
+    let ye = ends v ws y ys refl in
+    let sizes : length x ≡ length y =
+    grind (arith, xe.size, ye.size, padded-cases v ws x xs same, padded-cases v ws y ys refl, one_highest w (length x % 8) (length y % 8), shr_le w (8 * (length x % 8)), shr_le w (8 * (length y % 8))) in
+    sym (padded-take v ws x xs same) ∙ ap (λ n. take n (all_bytes ws)) sizes ∙ padded-take v ws y ys refl
+
+-- ---- what the code finds by the highest place of the last word
+
+-- the byte of words at a place
+pub byte_of-all_bytes : (ws : List ℕ) (at : ℕ) → at < 8 * length ws
+    → get_or (bytes_of 8 (get_or ws (at / 8) 0)) (at % 8) 0 ≡ slice_index (all_bytes ws) at
+unfolding bytes_of
+byte_of-all_bytes ws at lt =
+    let word = bytes_of 8 (get_or ws (at / 8) 0) in
+    let sum : 8 * (at / 8) + at % 8 ≡ at = omega arith in
+    sym (get_or_append_left word (drop (8 * suc (at / 8)) (all_bytes ws)) 0 (at % 8) (omega arith))
+    ∙ ap (λ bs. get_or bs (at % 8) 0) (sym (drop-all_bytes ws (at / 8) (omega arith)))
+    ∙ get_or-drop (8 * (at / 8)) (all_bytes ws) (at % 8) 0 ∙ ap (λ k. get_or (all_bytes ws) k 0) sum
+
+-- the byte that ends the first n bytes of words
 pub padding_byte_at : (v : ℕ) (ws : List ℕ) (n last : ℕ) → 0 < n → n ≤ 8 * length ws
     → last ≡ slice_index (all_bytes ws) (n - 1)
     → padding_after (has_top_bit v last) ≡ padding_byte v (take n (all_bytes ws))
 padding_byte_at v ws n last some le is =
     let size : length (take n (all_bytes ws)) ≡ n =
     length-take-le n (all_bytes ws) (omega (arith, length-all_bytes ws)) in
-    let same : get_or (take n (all_bytes ws)) (n - 1) 0 ≡ get_or (all_bytes ws) (n - 1) 0 =
-    get_or-take n (all_bytes ws) (n - 1) 0 (omega arith) in
-    rw (size, same, is) refl
+    rw (size, get_or-take n (all_bytes ws) (n - 1) 0 (omega arith), is) refl
 
-pub end_byte-some : (v : ℕ) (m : List ℕ) → 0 < length m → end_byte v m ≡ padding_byte v m
+end_byte-some : (v : ℕ) (m : List ℕ) → 0 < length m → end_byte v m ≡ padding_byte v m
 end_byte-some v [] some = absurd (omega arith)
 end_byte-some v (b ∷ m) some = refl
 
-module _ (v : ℕ) (ws : List ℕ) (h : (k : ℕ) → get_or ws k 0 < 2 ^ 64) (some : 0 < length ws) (r : ℕ) (few : r < 8) where
-  -- the last word, and the message that ends before place r of it
-  abbrev before : ℕ
-  before = length ws - 1
+pub padded_zero : (v : ℕ) (ws : List ℕ) → ArePadded v ws → get_or ws (length ws - 1) 0 ≡ 0 → length ws ≡ 1
+padded_zero v ws p zero_last =
+    let ends = ends v ws p.0 p.1 p.2 in
+    grind (arith, ends.size, padded-cases v ws p.0 p.1 p.2, shr_le (get_or ws (length ws - 1) 0) (8 * (length p.0 % 8)))
 
-  abbrev last_word : ℕ
-  last_word = get_or ws before 0
+module _ (v : ℕ) (ws : List ℕ) (r : ℕ) where
+  abbrev size : ℕ
+  size = 8 * (length ws - 1) + r
 
   abbrev message : List ℕ
-  message = take (8 * before + r) (all_bytes ws)
+  message = take size (all_bytes ws)
 
-  in_words : take before ws ++ last_word ∷ [] ≡ ws
-  in_words =
-      let n : suc before ≡ length ws = omega arith in
-      sym (take-suc ws before 0 (omega arith)) ∙ ap (λ n. take n ws) n ∙ take_all (length ws) ws (omega arith)
+  abbrev top : ℕ
+  top = get_or ws (length ws - 1) 0 / 2 ^ (8 * r)
 
-  in_bytes : message ≡ all_bytes (take before ws) ++ bytes_of r last_word
-  in_bytes =
-      sym (take-more (8 * before) r (all_bytes ws))
-      ∙ ap (λ bs. bs ++ take r (drop (8 * before) (all_bytes ws))) (take-all_words ws before)
-      ∙ ap (λ bs. all_bytes (take before ws) ++ bs)
-      (take-all_bytes ws before r (omega arith) (omega arith) ∙ take-bytes_of r 8 last_word (omega arith))
-
-  words_fit : (k : ℕ) → get_or (take before ws) k 0 < 2 ^ 64
-  words_fit k =
-      elim (cases_lt k before) as (λ _. get_or (take before ws) k 0 < 2 ^ 64) [
-        | inl lt ↦ rw (get_or-take before ws k 0 lt) (h k)
-        | inr le ↦
-            let past : get_or (take before ws) k 0 ≡ 0 =
-            get_or_past (take before ws) k 0 (omega (arith, length-take-le before ws (omega arith))) in
-            omega arith
-      ]
-
-  pub padded_words-message : last_word / 2 ^ (8 * r) ≡ end_byte v message → padded_words v message ≡ ws
-  padded_words-message ends =
-      let size : length (bytes_of r last_word) < 8 = omega (arith, length-bytes_of r last_word) in
+  pub unpadded : ((k : ℕ) → get_or ws k 0 < 2 ^ 64) → 0 < length ws → r < 8 → 0 < size
+      → top ≡ padding_byte v message → padded_words v message ≡ ws
+  unpadded fit some few long is =
+      let i : size / 8 ≡ length ws - 1 = omega arith in
+      let place : size % 8 ≡ r = omega arith in
+      let n : length message ≡ size = length-take-le size (all_bytes ws) (omega (arith, length-all_bytes ws)) in
       padded_words-by_tail v message
-      ∙ ap (λ m. whole_words m ++ word_of (after_words m ++ end_byte v message ∷ []) ∷ []) in_bytes
-      ∙ ap (λ us. us ++ word_of (after_words (all_bytes
-      (take before ws) ++ bytes_of r last_word) ++ end_byte v message ∷ []) ∷ [])
-      (whole_words-all_bytes (take before ws) (bytes_of r last_word) words_fit size)
-      ∙ ap (λ bs. take before ws ++ word_of (bs ++ end_byte v message ∷ []) ∷ [])
-      (after_words-all_bytes (take before ws) (bytes_of r last_word) size)
-      ∙ ap (λ w. take before ws ++ w ∷ []) (word_of-bytes_push r last_word (end_byte v message) ends)
-      ∙ in_words
+      ∙ ended-words ws size (end_byte v message) fit record {
+        size = omega arith;
+        high = rw (i, place) (is ∙ sym (end_byte-some v message (omega arith)));
+      }
 
--- ---- a message, from its padded words
-
-length-words : (v : ℕ) (m : List ℕ) → length (padded_words v m) ≡ length m / 8 + 1
-length-words v m =
-    ap length (padded_words-by_tail v m)
-    ∙ omega (arith, length-append (whole_words m) (final_word m (end_byte v m) ∷ []), length-whole_words m)
-
-last-words : (v : ℕ) (m : List ℕ)
-    → get_or (padded_words v m) (length (padded_words v m) - 1) 0 ≡ final_word m (end_byte v m)
-last-words v m =
-    let place : length (padded_words v m) - 1 ≡ length (whole_words m) =
-    omega (arith, length-words v m, length-whole_words m) in
-    ap (λ k. get_or (padded_words v m) k 0) place
-    ∙ ap (λ ws. get_or ws (length (whole_words m)) 0) (padded_words-by_tail v m)
-    ∙ get_or-append_seam (whole_words m) (final_word m (end_byte v m)) [] 0
-
-take-all_bytes_back : (m : List ℕ) (end : ℕ) → AreBytes m
-    → take (length m) (all_bytes (whole_words m ++ final_word m end ∷ [])) ≡ m
-unfolding bytes_of
-take-all_bytes_back (a ∷ b ∷ c ∷ d ∷ e ∷ f ∷ g ∷ h ∷ bs) end bytes =
-    let eight = a ∷ b ∷ c ∷ d ∷ e ∷ f ∷ g ∷ h ∷ [] in
-    let front : bytes_of 8 (word_of eight) ≡ eight =
-    bytes_of-word_of_append eight [] (AreBytes-take 8 (a ∷ b ∷ c ∷ d ∷ e ∷ f ∷ g ∷ h ∷ bs) bytes) in
-    let rest = all_bytes (whole_words bs ++ final_word bs end ∷ []) in
-    ap (λ xs. take (length (eight ++ bs)) (xs ++ rest)) front
-    ∙ ap (λ xs. eight ++ xs) (take-all_bytes_back bs end (AreBytes-drop 8 (a ∷ b ∷ c ∷ d ∷ e ∷ f ∷ g ∷ h ∷ bs) bytes))
-take-all_bytes_back m end bytes = bytes_of-word_of_append m (end ∷ []) bytes
-
-take-words_back : (v : ℕ) (m : List ℕ) → AreBytes m → take (length m) (all_bytes (padded_words v m)) ≡ m
-take-words_back v m bytes =
-    ap (λ ws. take (length m) (all_bytes ws)) (padded_words-by_tail v m) ∙ take-all_bytes_back m (end_byte v m) bytes
-
--- ---- the last word: the padding byte is its highest that is not 0
-
-padding_byte-cases : (v : ℕ) (m : List ℕ) → (padding_byte v m ≡ 1) ⊎ (padding_byte v m ≡ 2)
-padding_byte-cases v m =
-    elim (has_top_bit v (slice_index m (length m - 1))) as (λ b. (padding_after b ≡ 1) ⊎ (padding_after b ≡ 2)) [
-      | true ↦ inr refl
-      | false ↦ inl refl
-    ]
-
-one_place : (w r s : ℕ) → 2 ^ (8 * r) ≤ w → w < 2 ^ (8 * r + 8) → 2 ^ (8 * s) ≤ w → w < 2 ^ (8 * s + 8) → r ≡ s
-one_place w r s low high low' high' =
-    elim (cases_lt r s) as (λ _. r ≡ s) [
-      | inl lt ↦ let le : 2 ^ (8 * r + 8) ≤ 2 ^ (8 * s) = pow_mono (omega arith) in absurd (omega arith)
-      | inr ge ↦
-          elim (cases_lt s r) as (λ _. r ≡ s) [
-            | inl gt ↦ let le : 2 ^ (8 * s + 8) ≤ 2 ^ (8 * r) = pow_mono (omega arith) in absurd (omega arith)
-            | inr le ↦ omega arith
-          ]
-    ]
-
-module _ (v : ℕ) (m : List ℕ) (bytes : AreBytes m) (some : 0 < length m) where
-  last_cut : final_word m (end_byte v m) ≡ padding_byte v m * 2 ^ (8 * (length m % 8)) + word_of (after_words m)
-  last_cut =
-      let one : word_of (padding_byte v m ∷ []) ≡ padding_byte v m = omega arith in
-      ap (final_word m) (end_byte-some v m some)
-      ∙ word_of-append (after_words m) (padding_byte v m ∷ [])
-      ∙ ap (λ n. word_of (padding_byte v m ∷ []) * 2 ^ (8 * n) + word_of (after_words m)) (length-after_words m)
-      ∙ ap (λ e. e * 2 ^ (8 * (length m % 8)) + word_of (after_words m)) one
-
-  after_lt : word_of (after_words m) < 2 ^ (8 * (length m % 8))
-  after_lt =
-      subst (λ n. word_of (after_words m) < 2 ^ (8 * n)) (length-after_words m)
-      (word_of-lt (after_words m) (subst AreBytes (sym (after_words-drop m)) (AreBytes-drop (length m - length m % 8) m bytes)))
-
-  last_high : final_word m (end_byte v m) / 2 ^ (8 * (length m % 8)) ≡ padding_byte v m
-  last_high =
-      ap (λ w. w / 2 ^ (8 * (length m % 8))) last_cut
-      ∙ shr_high (padding_byte v m) (8 * (length m % 8)) (word_of (after_words m)) after_lt
-
-  last_above : 2 ^ (8 * (length m % 8)) ≤ final_word m (end_byte v m)
-  last_above =
-      elim (padding_byte-cases v m) as (λ _. 2 ^ (8 * (length m % 8)) ≤ final_word m (end_byte v m)) [
-        | inl one ↦ omega (arith, rw one at last_cut)
-        | inr two ↦ omega (arith, rw two at last_cut)
-      ]
-
-  last_below : final_word m (end_byte v m) < 2 ^ (8 * (length m % 8) + 8)
-  last_below =
-      let more : 2 ^ (8 * (length m % 8) + 8) ≡ 2 ^ (8 * (length m % 8)) * 256 = pow-add 2 (8 * (length m % 8)) 8 in
-      elim (padding_byte-cases v m) as (λ _. final_word m (end_byte v m) < 2 ^ (8 * (length m % 8) + 8)) [
-        | inl one ↦ omega (arith, rw one at last_cut, after_lt)
-        | inr two ↦ omega (arith, rw two at last_cut, after_lt)
-      ]
-
-last-empty : (v : ℕ) (m : List ℕ) → length m ≡ 0 → final_word m (end_byte v m) ≡ 0
-last-empty v [] e = refl
-last-empty v (b ∷ m) e = absurd (omega arith)
-
--- ---- what padded words say of their message
-
-module _ (v : ℕ) (ws m : List ℕ) (bytes : AreBytes m) (padded : padded_words v m ≡ ws) where
-  last_is : get_or ws (length ws - 1) 0 ≡ final_word m (end_byte v m)
-  last_is = ap (λ us. get_or us (length us - 1) 0) (sym padded) ∙ last-words v m
-
-  pub padded-length : length ws ≡ length m / 8 + 1
-  padded-length = ap length (sym padded) ∙ length-words v m
-
-  padded-take : m ≡ take (length m) (all_bytes ws)
-  padded-take = sym (ap (λ us. take (length m) (all_bytes us)) (sym padded) ∙ take-words_back v m bytes)
-
-  pub padded-zero : get_or ws (length ws - 1) 0 ≡ 0 → length m ≡ 0
-  padded-zero zero_last =
-      elim (cases_lt 0 (length m)) as (λ _. length m ≡ 0) [
-        | inl some ↦ absurd (omega (arith, last_is, last_above v m bytes some, pow_pos (8 * (length m % 8))))
-        | inr none ↦ omega arith
-      ]
-
-  pub padded-some : 0 < get_or ws (length ws - 1) 0 → 0 < length m
-  padded-some above =
-      elim (cases_lt 0 (length m)) as (λ _. 0 < length m) [
-        | inl some ↦ some
-        | inr none ↦ absurd (omega (arith, last_is, last-empty v m (omega arith)))
-      ]
-
-  module _ (above : 0 < get_or ws (length ws - 1) 0) (r : ℕ) (low : 2 ^ (8 * r) ≤ get_or ws (length ws - 1) 0)
-      (high : get_or ws (length ws - 1) 0 < 2 ^ (8 * r + 8)) where
-    place_is : r ≡ length m % 8
-    place_is =
-        let some = padded-some above in
-        one_place (final_word m (end_byte v m)) r (length m % 8) (rw last_is at low) (rw last_is at high)
-        (last_above v m bytes some) (last_below v m bytes some)
-
-    pub padded-by_place : length m ≡ 8 * (length ws - 1) + r
-    padded-by_place = omega (arith, padded-length, place_is)
-
-    pub padded-end : get_or ws (length ws - 1) 0 / 2 ^ (8 * r)
-        ≡ padding_byte v (take (8 * (length ws - 1) + r) (all_bytes ws))
-    padded-end =
-        ap (λ w. w / 2 ^ (8 * r)) last_is ∙ ap (λ k. final_word m (end_byte v m) / 2 ^ (8 * k)) place_is
-        ∙ last_high v m bytes (padded-some above) ∙ ap (padding_byte v) padded-take
-        ∙ ap (λ n. padding_byte v (take n (all_bytes ws))) padded-by_place
-
--- no two messages share their padded words
-pub same_message : (v : ℕ) (x y : List ℕ) → AreBytes x → AreBytes y → padded_words v x ≡ padded_words v y → x ≡ y
-same_message v x y xs ys same =
-    let ws = padded_words v y in
-    let sizes : length x ≡ length y =
-    elim (cases_lt 0 (get_or ws (length ws - 1) 0)) as (λ _. length x ≡ length y) [
-      | inl above ↦
-          let some = padded-some v ws y ys refl above in
-          let last : get_or ws (length ws - 1) 0 ≡ final_word y (end_byte v y) = last-words v y in
-          let low : 2 ^ (8 * (length y % 8)) ≤ get_or ws (length ws - 1) 0 = rw last (last_above v y ys some) in
-          let high : get_or ws (length ws - 1) 0 < 2 ^ (8 * (length y % 8) + 8) = rw last (last_below v y ys some) in
-          omega (arith, padded-by_place v ws x xs same above (length y % 8) low high, length-words v y)
-      | inr none ↦ omega (arith, padded-zero v ws x xs same (omega arith), padded-zero v ws y ys refl (omega arith))
-    ] in
-    padded-take v ws x xs same ∙ ap (λ n. take n (all_bytes ws)) sizes ∙ sym (padded-take v ws y ys refl)
-
--- ---- the highest byte that is not 0, from the highest bit
+  pub padded_place : ArePadded v ws → 0 < top → top < 256 → (0 < size) × (top ≡ padding_byte v message)
+  padded_place p above below =
+      let w = get_or ws (length ws - 1) 0 in
+      let ends = ends v ws p.0 p.1 p.2 in
+      let both : (r ≡ length p.0 % 8) × (0 < length p.0) =
+      grind (arith, padded-cases v ws p.0 p.1 p.2, one_highest w r (length p.0 % 8) (above, below), shr_le w (8 * r)) in
+      let n : size ≡ length p.0 = omega (arith, ends.size, both.0) in
+      let same : message ≡ p.0 = ap (λ n. take n (all_bytes ws)) n ∙ padded-take v ws p.0 p.1 p.2 in (
+        omega (arith, n, both.1),
+        ap (λ r. w / 2 ^ (8 * r)) both.0 ∙ padded-high v ws p.0 p.1 p.2 ∙ end_byte-some v p.0 both.1 ∙ ap (padding_byte v) (sym same),
+      )
 
 module _ (w bit : ℕ) (low : 2 ^ bit ≤ w) (high : w < 2 * 2 ^ bit) where
-  pub place-above : 2 ^ (8 * (bit / 8)) ≤ w
-  place-above = let le : 2 ^ (8 * (bit / 8)) ≤ 2 ^ bit = pow_mono (omega arith) in omega arith
+  abbrev at : ℕ
+  at = 8 * (bit / 8)
 
-  pub place-below : w < 2 ^ (8 * (bit / 8) + 8)
-  place-below =
-      let le : 2 ^ (1 + bit) ≤ 2 ^ (8 * (bit / 8) + 8) = pow_mono (omega arith) in
-      omega (arith, pow-add 2 1 bit)
+  pub highest_some : 0 < w / 2 ^ at
+  highest_some =
+      let le : 2 ^ at ≤ 2 ^ bit = pow_mono (omega arith) in
+      le-div 1 w (2 ^ at) (pow_pos at) (omega arith)
 
--- the byte of words at a place
-pub byte_of-all_bytes : (ws : List ℕ) (at : ℕ) → at < 8 * length ws
-    → get_or (bytes_of 8 (get_or ws (at / 8) 0)) (at % 8) 0 ≡ slice_index (all_bytes ws) at
-byte_of-all_bytes ws at lt =
-    let word = bytes_of 8 (get_or ws (at / 8) 0) in
-    let sum : 8 * (at / 8) + at % 8 ≡ at = omega arith in
-    sym (get_or_append_left word (drop (8 * suc (at / 8)) (all_bytes ws)) 0 (at % 8) (omega (
-      arith,
-      length-bytes_of 8 (get_or ws (at / 8) 0),
-    )))
-    ∙ ap (λ bs. get_or bs (at % 8) 0) (sym (drop-all_bytes ws (at / 8) (omega arith)))
-    ∙ get_or-drop (8 * (at / 8)) (all_bytes ws) (at % 8) 0 ∙ ap (λ k. get_or (all_bytes ws) k 0) sum
+  pub highest_last : w / 2 ^ at < 256
+  highest_last =
+      let le : 2 ^ (1 + bit) ≤ 2 ^ (8 + at) = pow_mono (omega arith) in
+      shr_below w 8 at (omega (arith, pow-add 2 1 bit))

@@ -8,11 +8,12 @@ use crate::padding::end::{has_top_bit, padding_after};
 
 // The place of a word's highest byte that is not 0.
 #[inline(always)]
+#[tactic(auto, using(crate::proofs::PaddingBack::highest_some, crate::proofs::PaddingBack::highest_last))]
 fn highest_place(word: u64) -> usize
     requires { 0 < word }
     ensures place { result < 8 }
-    ensures above { 2 ^ (8 * result) ≤ word }
-    ensures below { word < 2 ^ (8 * result + 8) }
+    ensures some { 0 < word / 2 ^ (8 * result) }
+    ensures last { word / 2 ^ (8 * result) < 256 }
 {
     (word.ilog2() / 8) as usize
 }
@@ -42,6 +43,7 @@ fn is_padding_byte<const V: u8>(byte: u64, words: &[u64], count: usize) -> bool
 /// The last word's highest nonzero byte can only be the padding byte, which the byte before it
 /// decides.
 #[inline(always)]
+#[tactic(auto, using(crate::proofs::PaddingBack::padded_place, crate::proofs::PaddingBack::unpadded))]
 pub(crate) fn message_length<const V: u8>(words: &[u64]) -> Option<usize>
     requires { 8 * length words.now < 2 ^ 64 }
     ensures length { IfSome result (λ n. n / 8 + 1 ≡ length words.now) }

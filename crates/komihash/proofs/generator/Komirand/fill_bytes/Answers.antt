@@ -1,5 +1,4 @@
 use Rattle.std.proofs.Common.{◌≡◌, ◌-◌, ◌*◌, ◌/◌, ◌∙◌, length, take, drop, arith, refl, rules}
-use Rattle.std.proofs.lemmas.List.{length-take}
 use Rattle.std.proofs.lemmas.Slice.{overwrites}
 use Rattle.komihash.specs.Generator.{after_steps}
 use Rattle.komihash.specs.Words.{bytes_of}
