@@ -20,6 +20,7 @@ fn highest_place(word: u64) -> usize
 
 // The byte of words at a place.
 #[inline(always)]
+#[tactic(auto, using(crate::proofs::PaddingBack::byte_of_words))]
 fn byte_at(words: &[u64], at: usize) -> u8
     requires { at < 8 * length words.now }
     ensures { result ≡ slice_index (all_bytes words.now) at }
