@@ -2,7 +2,7 @@
 use Rattle.std.proofs.Common.{◌≡◌, ℕ, zero, suc, ◌+◌, ◌*◌, ◌%◌, ◌≤◌, List, ◌++◌, length, take, refl, ap, arith, ◌∙◌, sym, subst, zero-add, suc-add}
 use Rattle.std.proofs.lemmas.List.{append_assoc, append-nil, length-take-le, take_all}
 use Rattle.std.proofs.lemmas.Slice.{take-put_mid}
-use Rattle.std.proofs.Math.Seq.{take-append-add}
+use Rattle.std.proofs.Math.Seq.{take-append-add, take-length}
 use borrow.Rule.Slice.PartMut.{put_mid}
 use Rattle.komihash.specs.Generator.{next, after_steps, outputs, fill_steps, fill, after_fill}
 use Rattle.komihash.specs.Words.{bytes_of, all_bytes}
@@ -50,11 +50,9 @@ fill-add v x y s whole =
     let front = output_bytes v (fill_steps x) s in
     let back = output_bytes v (fill_steps y) (after_fill v s x) in
     let size : length front ≡ x = omega (arith, length-output_bytes v (fill_steps x) s) in
-    ap (λ k. take (x + y) (output_bytes v k s)) (fill_steps-add x y whole)
-    ∙ ap (take (x + y)) (output_bytes-add v (fill_steps x) (fill_steps y) s)
-    ∙ ap (λ n. take (n + y) (front ++ back)) (sym size)
-    ∙ take-append-add front back y
-    ∙ ap (λ bs. bs ++ take y back) (sym (take_all x front (omega arith)))
+    let cut : take (length front + y) (front ++ back) ≡ take (length front) front ++ take y back =
+    take-append-add front back y ∙ ap (λ bs. bs ++ take y back) (sym (take-length front)) in
+    rw (fill_steps-add x y whole, output_bytes-add v (fill_steps x) (fill_steps y) s) (rw size at cut)
 
 -- a fill of one to eight bytes takes one step
 fill-one : (v n : ℕ) (s : ℕ × ℕ) → fill_steps n ≡ 1 → fill v s n ≡ take n (bytes_of 8 (next v s).0)
@@ -80,17 +78,11 @@ pub Filled-more : {v n w : ℕ} {s now after : ℕ × ℕ} {xs ys : List ℕ} (j
 unfolding bytes_of
 Filled-more {v} {n} {w} {s} {now} {after} {xs} {ys} j k m filled output is wrote whole one short fits sum =
     let size : length ys ≡ k = ap length wrote ∙ length-take-le k (bytes_of 8 w) short in
-    let piece : ys ≡ fill v (after_fill v s n) k =
-    wrote ∙ ap (λ x. take k (bytes_of 8 x)) output ∙ sym (fill-one v k now one)
-    ∙ ap (λ p. fill v p k) filled.pair in
     subst (λ m. Filled v s m (put_mid n j xs ys) after) sum record {
       bytes =
           take-put_mid n j xs ys (n + k) (omega arith) fits
-          ∙ ap (λ bs. bs ++ ys) filled.bytes ∙ ap (λ bs. fill v s n ++ bs) piece
-          ∙ sym (fill-add v n k s whole);
-      pair =
-          is ∙ sym (after_fill-one v k now one) ∙ ap (λ p. after_fill v p k) filled.pair
-          ∙ sym (after_fill-add v n k s whole);
+          ∙ rw (filled.bytes, fill-add v n k s whole, sym filled.pair, fill-one v k now one, wrote, output) refl;
+      pair = rw (after_fill-add v n k s whole, sym filled.pair, after_fill-one v k now one) is;
     }
 
 pub Filled-all : {v n : ℕ} {s now : ℕ × ℕ} {xs : List ℕ} → Filled v s n xs now → length xs ≡ n

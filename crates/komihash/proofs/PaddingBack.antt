@@ -1,5 +1,6 @@
 -- Padded words read back: the one message that they can come from.
 use Rattle.std.proofs.Common.{◌≡◌, ℕ, suc, ◌+◌, ◌-◌, ◌*◌, ◌/◌, ◌%◌, ◌^◌, ◌<◌, ◌≤◌, List, [], ◌∷◌, ◌++◌, length, take, drop, get_or, refl, ap, arith, ◌∙◌, sym, subst, ◌⊎◌, inl, inr, true, false, w64}
+use Rattle.std.proofs.Math.Nat.{pos_of_div-pos}
 use Rattle.std.proofs.Math.Pow.{pow_mono}
 use Rattle.std.proofs.lemmas.Bool.{cases_lt}
 use Rattle.std.proofs.lemmas.List.{length-take-le, get_or-take, get_or-drop, get_or_append_left}
@@ -88,37 +89,13 @@ ended-back m end are =
       bytes = bytes_of-word_of_append m (end ∷ []) are;
     }
 
--- ---- what padded words say of their message
+-- ---- the highest byte of a word that is not 0
 
--- the last word is 0 alone, or has the padding byte after the message's last bytes
-record Reads (v : ℕ) (ws m : List ℕ) : Type 0 where
-  size : length ws ≡ length m / 8 + 1
-  bytes : take (length m) (all_bytes ws) ≡ m
-  last : ((length m ≡ 0) × (get_or ws (length ws - 1) 0 ≡ 0)) ⊎ ((0 < length m)
-      × (get_or ws (length ws - 1) 0 / 2 ^ (8 * (length m % 8)) ≡ padding_byte v m))
+-- r is its place
+abbrev IsHighest : ℕ → ℕ → Type 0
+IsHighest w r = (0 < w / 2 ^ (8 * r)) × (w / 2 ^ (8 * r) < 256)
 
-reads : (v : ℕ) (ws m : List ℕ) → AreBytes m → padded_words v m ≡ ws → Reads v ws m
-reads v ws [] are is =
-    subst (λ ws. Reads v ws []) is record { size = refl; bytes = refl; last = inl (refl, refl) }
-reads v ws (b ∷ m) are is =
-    let end = padding_byte v (b ∷ m) in
-    let back = ended-back (b ∷ m) end are in
-    let i : length (b ∷ m) / 8 ≡ length (ended (b ∷ m) end) - 1 = omega (arith, back.size) in
-    subst (λ ws. Reads v ws (b ∷ m)) (sym (padded_words-by_tail v (b ∷ m)) ∙ is) record {
-      size = back.size;
-      bytes = back.bytes;
-      last = inr (omega arith, rw i at back.high);
-    }
-
-padding_byte-within : (v : ℕ) (m : List ℕ) → (0 < padding_byte v m) × (padding_byte v m < 256)
-padding_byte-within v m =
-    elim (has_top_bit v (slice_index m (length m - 1))) as
-    (λ b. (0 < padding_after b) × (padding_after b < 256)) [
-      | true ↦ (omega arith, omega arith)
-      | false ↦ (omega arith, omega arith)
-    ]
-
--- a byte from place s on is not 0, and none after place r is
+-- no byte after place r is other than 0, and one from place s on is
 place-le : (w r s : ℕ) → w / 2 ^ (8 * r) < 256 → 0 < w / 2 ^ (8 * s) → s ≤ r
 place-le w r s below above =
     elim (cases_lt r s) as (λ _. s ≤ r) [
@@ -131,46 +108,81 @@ place-le w r s below above =
       | inr le ↦ le
     ]
 
+one_highest : (w r s : ℕ) → IsHighest w r → IsHighest w s → r ≡ s
+one_highest w r s h g = omega (arith, place-le w r s h.1 g.0, place-le w s r g.1 h.0)
+
+padding_byte-within : (v : ℕ) (m : List ℕ) → (0 < padding_byte v m) × (padding_byte v m < 256)
+padding_byte-within v m =
+    elim (has_top_bit v (slice_index m (length m - 1))) as
+    (λ b. (0 < padding_after b) × (padding_after b < 256)) [
+      | true ↦ (omega arith, omega arith)
+      | false ↦ (omega arith, omega arith)
+    ]
+
+-- ---- what padded words say of their message
+
+-- the last word is 0 where the message is empty, else its highest byte is the padding byte
+record Reads (v : ℕ) (ws m : List ℕ) (w : ℕ) : Type 0 where
+  size : length ws ≡ length m / 8 + 1
+  bytes : take (length m) (all_bytes ws) ≡ m
+  none : w ≡ 0 → length m ≡ 0
+  some : 0 < w → (0 < length m) × (w / 2 ^ (8 * (length m % 8)) ≡ padding_byte v m)
+
+reads : (v : ℕ) (ws m : List ℕ) → AreBytes m → padded_words v m ≡ ws
+    → Reads v ws m (get_or ws (length ws - 1) 0)
+reads v ws [] are is =
+    subst (λ ws. Reads v ws [] (get_or ws (length ws - 1) 0)) is record {
+      size = refl;
+      bytes = refl;
+      none = λ _. refl;
+      some = λ lt. absurd (omega (arith, lt));
+    }
+reads v ws (b ∷ m) are is =
+    let end = padding_byte v (b ∷ m) in
+    let back = ended-back (b ∷ m) end are in
+    let w = get_or (ended (b ∷ m) end) (length (ended (b ∷ m) end) - 1) 0 in
+    let i : length (b ∷ m) / 8 ≡ length (ended (b ∷ m) end) - 1 = omega (arith, back.size) in
+    let high : w / 2 ^ (8 * (length (b ∷ m) % 8)) ≡ end = rw i at back.high in
+    let le = shr_le w (8 * (length (b ∷ m) % 8)) in
+    subst (λ ws. Reads v ws (b ∷ m) (get_or ws (length ws - 1) 0)) (sym (padded_words-by_tail v (b ∷ m)) ∙ is) record {
+      size = back.size;
+      bytes = back.bytes;
+      none = λ zero. absurd (omega (arith, le, high, (padding_byte-within v (b ∷ m)).0));
+      some = λ _. (omega arith, high);
+    }
+
+-- the place of the padding byte
+reads-highest : {v w : ℕ} {ws m : List ℕ} → Reads v ws m w → 0 < w → IsHighest w (length m % 8)
+reads-highest {v} {w} {ws} {m} r lt = rw (r.some lt).1 (padding_byte-within v m)
+
 -- no two messages share their padded words
 pub same_message : (v : ℕ) (x y : List ℕ) → AreBytes x → AreBytes y
     → padded_words v x ≡ padded_words v y → x ≡ y
 same_message v x y are_x are_y same =
     let ws = padded_words v y in
     let w = get_or ws (length ws - 1) 0 in
-    let r = length x % 8 in
-    let s = length y % 8 in
     let of_x = reads v ws x are_x same in
     let of_y = reads v ws y are_y refl in
-    let sizes : length x ≡ length y = grind (
-      arith,
-      of_x.size,
-      of_y.size,
-      of_x.last,
-      of_y.last,
-      padding_byte-within v x,
-      padding_byte-within v y,
-      place-le w r s,
-      place-le w s r,
-      shr_le w (8 * r),
-      shr_le w (8 * s),
-    ) in
+    let sizes : length x ≡ length y =
+    elim (cases_lt 0 w) as (λ _. length x ≡ length y) [
+      | inl lt ↦
+          let place = one_highest w _ _ (reads-highest of_x lt) (reads-highest of_y lt) in
+          omega (arith, of_x.size, of_y.size, place)
+      | inr le ↦ omega (arith, of_x.none (omega arith), of_y.none (omega arith))
+    ] in
     sym of_x.bytes ∙ ap (λ n. take n (all_bytes ws)) sizes ∙ of_y.bytes
 
 -- ---- what the code finds: the highest place of the last word whose byte is not 0
 
-module _ (w bit : ℕ) (low : 2 ^ bit ≤ w) (high : w < 2 * 2 ^ bit) where
-  abbrev at : ℕ
-  at = 8 * (bit / 8)
-
-  pub highest_some : 0 < w / 2 ^ at
-  highest_some =
-      let le : 2 ^ at ≤ 2 ^ bit = pow_mono (omega arith) in
-      le-div 1 w (2 ^ at) (pow_pos at) (omega arith)
-
-  pub highest_last : w / 2 ^ at < 256
-  highest_last =
-      let le : 2 ^ (1 + bit) ≤ 2 ^ (8 + at) = pow_mono (omega arith) in
-      shr_below w 8 at (omega (arith, pow-add 2 1 bit))
+pub highest : (w bit : ℕ) → 2 ^ bit ≤ w → w < 2 * 2 ^ bit
+    → (0 < w / 2 ^ (8 * (bit / 8))) × (w / 2 ^ (8 * (bit / 8)) < 256)
+highest w bit low high =
+    let at = 8 * (bit / 8) in
+    let le : 2 ^ at ≤ 2 ^ bit = pow_mono (omega arith) in
+    let lt : 2 ^ (1 + bit) ≤ 2 ^ (8 + at) = pow_mono (omega arith) in (
+      le-div 1 w (2 ^ at) (pow_pos at) (omega arith),
+      shr_below w 8 at (omega (arith, pow-add 2 1 bit)),
+    )
 
 pub byte_of_words : (ws : List ℕ) (at : ℕ) → at < 8 * length ws
     → get_or (to_le_bytes w64 (get_or ws (at / 8) 0)) (at % 8) 0 ≡ get_or (all_bytes ws) at 0
@@ -199,8 +211,7 @@ pub padded_zero : (v : ℕ) (ws : List ℕ) → ArePadded v ws → get_or ws (le
     → length ws ≡ 1
 padded_zero v ws p zero =
     let of_m = reads v ws p.0 p.1 p.2 in
-    let le = shr_le (get_or ws (length ws - 1) 0) (8 * (length p.0 % 8)) in
-    grind (arith, of_m.size, of_m.last, padding_byte-within v p.0, le)
+    omega (arith, of_m.size, of_m.none zero)
 
 -- r is a place of the last word, before which a message may end
 module _ (v : ℕ) (ws : List ℕ) (r : ℕ) where
@@ -225,17 +236,9 @@ module _ (v : ℕ) (ws : List ℕ) (r : ℕ) where
   pub padded_place : ArePadded v ws → 0 < top → top < 256
       → (0 < size) × (top ≡ padding_byte v message)
   padded_place p above below =
-      let w = get_or ws (length ws - 1) 0 in
-      let s = length p.0 % 8 in
+      let lt = pos_of_div-pos (2 ^ (8 * r)) above in
       let of_m = reads v ws p.0 p.1 p.2 in
-      let ends : (r ≡ s) × (0 < length p.0) × (w / 2 ^ (8 * s) ≡ padding_byte v p.0) = grind (
-        arith,
-        of_m.last,
-        padding_byte-within v p.0,
-        place-le w r s,
-        place-le w s r,
-        shr_le w (8 * r),
-      ) in
-      let n : size ≡ length p.0 = omega (arith, of_m.size, ends.0) in
+      let place = one_highest _ r _ (above, below) (reads-highest of_m lt) in
+      let n : size ≡ length p.0 = omega (arith, of_m.size, place) in
       let same : message ≡ p.0 = ap (λ n. take n (all_bytes ws)) n ∙ of_m.bytes in
-      (omega (arith, n, ends.1), rw (same, ends.0) ends.2)
+      (omega (arith, n, (of_m.some lt).0), rw (same, place) (of_m.some lt).1)

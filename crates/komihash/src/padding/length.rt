@@ -8,7 +8,7 @@ use crate::padding::end::{has_top_bit, padding_after};
 
 // The place of a word's highest byte that is not 0.
 #[inline(always)]
-#[tactic(auto, using(crate::proofs::PaddingBack::highest_some, crate::proofs::PaddingBack::highest_last))]
+#[tactic(auto, using(crate::proofs::PaddingBack::highest))]
 fn highest_place(word: u64) -> usize
     requires { 0 < word }
     ensures place { result < 8 }
