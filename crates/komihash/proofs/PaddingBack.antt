@@ -1,16 +1,16 @@
 -- Padded words read back: the one message that they can come from.
-use Rattle.std.proofs.Common.{◌≡◌, ℕ, suc, ◌+◌, ◌-◌, ◌*◌, ◌/◌, ◌%◌, ◌^◌, ◌<◌, ◌≤◌, List, [], ◌∷◌, ◌++◌, length, take, drop, get_or, refl, ap, arith, ◌∙◌, sym, subst, ◌⊎◌, inl, inr, true, false, w64}
+use Rattle.std.proofs.Common.{◌≡◌, ℕ, suc, ◌+◌, ◌-◌, ◌*◌, ◌/◌, ◌%◌, ◌^◌, ◌<◌, ◌≤◌, List, [], ◌∷◌, ◌++◌, length, take, get_or, refl, ap, arith, ◌∙◌, sym, subst, inl, inr, w64}
 use Rattle.std.proofs.Math.Nat.{pos_of_div-pos}
 use Rattle.std.proofs.Math.Pow.{pow_mono}
 use Rattle.std.proofs.lemmas.Bool.{cases_lt}
-use Rattle.std.proofs.lemmas.List.{length-take-le, get_or-take, get_or-drop, get_or_append_left}
+use Rattle.std.proofs.lemmas.List.{length-take-le, get_or-take}
 use Rattle.std.proofs.lemmas.Nat.{pow-add, pow_pos, shr-shr, shr_below, shr_le, le-div}
 use Rattle.std.specs.Int.{to_le_bytes}
 use Rattle.std.specs.Prelude.{slice_index}
 use Rattle.komihash.specs.Tails.{whole_words, final_word}
 use Rattle.komihash.specs.Padding.{ArePadded, has_top_bit, padding_after, padded_words, padding_byte}
 use Rattle.komihash.specs.Words.{AreBytes, word_of, bytes_of, all_bytes}
-use Rattle.komihash.proofs.BytesOfWords.{drop-all_bytes, length-all_bytes, to_le_bytes-word}
+use Rattle.komihash.proofs.BytesOfWords.{length-all_bytes, to_le_bytes-word}
 use Rattle.komihash.proofs.WholeWords.{whole_words-few}
 use Rattle.komihash.proofs.PaddingWords.{padded_words-by_tail}
 use Rattle.komihash.proofs.BytesInWords.{AreBytes-take, AreBytes-drop}
@@ -43,6 +43,9 @@ more : (n : ℕ)
     → (suc (suc (suc (suc (suc (suc (suc (suc n))))))) / 8 ≡ suc (n / 8))
     × (suc (suc (suc (suc (suc (suc (suc (suc n))))))) % 8 ≡ n % 8)
 more n = (omega arith, omega arith)
+
+abbrev last : List ℕ → ℕ
+last ws = get_or ws (length ws - 1) 0
 
 -- ---- a message, the byte that ends it, and zeros
 
@@ -112,61 +115,53 @@ one_highest : (w r s : ℕ) → IsHighest w r → IsHighest w s → r ≡ s
 one_highest w r s h g = omega (arith, place-le w r s h.1 g.0, place-le w s r g.1 h.0)
 
 padding_byte-within : (v : ℕ) (m : List ℕ) → (0 < padding_byte v m) × (padding_byte v m < 256)
-padding_byte-within v m =
-    elim (has_top_bit v (slice_index m (length m - 1))) as
-    (λ b. (0 < padding_after b) × (padding_after b < 256)) [
-      | true ↦ (omega arith, omega arith)
-      | false ↦ (omega arith, omega arith)
-    ]
+padding_byte-within v m = (grind arith, grind arith)
 
 -- ---- what padded words say of their message
 
 -- the last word is 0 where the message is empty, else its highest byte is the padding byte
-record Reads (v : ℕ) (ws m : List ℕ) (w : ℕ) : Type 0 where
+record Reads (v : ℕ) (ws m : List ℕ) : Type 0 where
   size : length ws ≡ length m / 8 + 1
   bytes : take (length m) (all_bytes ws) ≡ m
-  none : w ≡ 0 → length m ≡ 0
-  some : 0 < w → (0 < length m) × (w / 2 ^ (8 * (length m % 8)) ≡ padding_byte v m)
+  none : last ws ≡ 0 → length m ≡ 0
+  some : 0 < last ws → (0 < length m) × (last ws / 2 ^ (8 * (length m % 8)) ≡ padding_byte v m)
 
-reads : (v : ℕ) (ws m : List ℕ) → AreBytes m → padded_words v m ≡ ws
-    → Reads v ws m (get_or ws (length ws - 1) 0)
-reads v ws [] are is =
-    subst (λ ws. Reads v ws [] (get_or ws (length ws - 1) 0)) is record {
-      size = refl;
-      bytes = refl;
-      none = λ _. refl;
-      some = λ lt. absurd (omega (arith, lt));
-    }
-reads v ws (b ∷ m) are is =
+reads-padded : (v : ℕ) (m : List ℕ) → AreBytes m → Reads v (padded_words v m) m
+reads-padded v [] are =
+    record { size = refl; bytes = refl; none = λ _. refl; some = λ lt. absurd (omega (arith, lt)) }
+reads-padded v (b ∷ m) are =
+    let r = 8 * (length (b ∷ m) % 8) in
     let end = padding_byte v (b ∷ m) in
     let back = ended-back (b ∷ m) end are in
-    let w = get_or (ended (b ∷ m) end) (length (ended (b ∷ m) end) - 1) 0 in
     let i : length (b ∷ m) / 8 ≡ length (ended (b ∷ m) end) - 1 = omega (arith, back.size) in
-    let high : w / 2 ^ (8 * (length (b ∷ m) % 8)) ≡ end = rw i at back.high in
-    let le = shr_le w (8 * (length (b ∷ m) % 8)) in
-    subst (λ ws. Reads v ws (b ∷ m) (get_or ws (length ws - 1) 0)) (sym (padded_words-by_tail v (b ∷ m)) ∙ is) record {
+    let high : last (ended (b ∷ m) end) / 2 ^ r ≡ end = rw i at back.high in
+    let le = shr_le (last (ended (b ∷ m) end)) r in
+    subst (λ ws. Reads v ws (b ∷ m)) (sym (padded_words-by_tail v (b ∷ m))) record {
       size = back.size;
       bytes = back.bytes;
       none = λ zero. absurd (omega (arith, le, high, (padding_byte-within v (b ∷ m)).0));
       some = λ _. (omega arith, high);
     }
 
+reads : {v : ℕ} {ws : List ℕ} → (p : ArePadded v ws) → Reads v ws p.0
+reads {v} p = subst (λ ws. Reads v ws p.0) p.2 (reads-padded v p.0 p.1)
+
 -- the place of the padding byte
-reads-highest : {v w : ℕ} {ws m : List ℕ} → Reads v ws m w → 0 < w → IsHighest w (length m % 8)
-reads-highest {v} {w} {ws} {m} r lt = rw (r.some lt).1 (padding_byte-within v m)
+reads-highest : {v : ℕ} {ws m : List ℕ} → Reads v ws m → 0 < last ws
+    → IsHighest (last ws) (length m % 8)
+reads-highest {v} {ws} {m} r lt = rw (r.some lt).1 (padding_byte-within v m)
 
 -- no two messages share their padded words
 pub same_message : (v : ℕ) (x y : List ℕ) → AreBytes x → AreBytes y
     → padded_words v x ≡ padded_words v y → x ≡ y
 same_message v x y are_x are_y same =
     let ws = padded_words v y in
-    let w = get_or ws (length ws - 1) 0 in
-    let of_x = reads v ws x are_x same in
-    let of_y = reads v ws y are_y refl in
+    let of_x = reads (x, are_x, same) in
+    let of_y = reads-padded v y are_y in
     let sizes : length x ≡ length y =
-    elim (cases_lt 0 w) as (λ _. length x ≡ length y) [
+    elim (cases_lt 0 (last ws)) as (λ _. length x ≡ length y) [
       | inl lt ↦
-          let place = one_highest w _ _ (reads-highest of_x lt) (reads-highest of_y lt) in
+          let place = one_highest (last ws) _ _ (reads-highest of_x lt) (reads-highest of_y lt) in
           omega (arith, of_x.size, of_y.size, place)
       | inr le ↦ omega (arith, of_x.none (omega arith), of_y.none (omega arith))
     ] in
@@ -187,13 +182,10 @@ highest w bit low high =
 pub byte_of_words : (ws : List ℕ) (at : ℕ) → at < 8 * length ws
     → get_or (to_le_bytes w64 (get_or ws (at / 8) 0)) (at % 8) 0 ≡ get_or (all_bytes ws) at 0
 unfolding bytes_of
-byte_of_words ws at lt =
-    let word = bytes_of 8 (get_or ws (at / 8) 0) in
-    let sum : 8 * (at / 8) + at % 8 ≡ at = omega arith in
-    rw to_le_bytes-word
-    (sym (get_or_append_left word (drop (8 * suc (at / 8)) (all_bytes ws)) 0 (at % 8) (omega arith))
-    ∙ ap (λ bs. get_or bs (at % 8) 0) (sym (drop-all_bytes ws (at / 8) (omega arith)))
-    ∙ get_or-drop (8 * (at / 8)) (all_bytes ws) (at % 8) 0 ∙ ap (λ k. get_or (all_bytes ws) k 0) sum)
+byte_of_words [] at lt = absurd (omega arith)
+byte_of_words (w ∷ ws) (suc (suc (suc (suc (suc (suc (suc (suc at)))))))) lt =
+    rw ((more at).0, (more at).1) (byte_of_words ws at (omega arith))
+byte_of_words (w ∷ ws) at lt = ap (λ bs. get_or bs (at % 8) 0) (to_le_bytes-word w)
 
 pub padding_byte_at : (v : ℕ) (ws : List ℕ) (n last : ℕ) → 0 < n → n ≤ 8 * length ws
     → last ≡ slice_index (all_bytes ws) (n - 1)
@@ -207,10 +199,9 @@ padded_words-some : (v : ℕ) (m : List ℕ) → 0 < length m
 padded_words-some v [] some = absurd (omega arith)
 padded_words-some v (b ∷ m) some = padded_words-by_tail v (b ∷ m)
 
-pub padded_zero : (v : ℕ) (ws : List ℕ) → ArePadded v ws → get_or ws (length ws - 1) 0 ≡ 0
-    → length ws ≡ 1
+pub padded_zero : (v : ℕ) (ws : List ℕ) → ArePadded v ws → last ws ≡ 0 → length ws ≡ 1
 padded_zero v ws p zero =
-    let of_m = reads v ws p.0 p.1 p.2 in
+    let of_m = reads p in
     omega (arith, of_m.size, of_m.none zero)
 
 -- r is a place of the last word, before which a message may end
@@ -222,7 +213,7 @@ module _ (v : ℕ) (ws : List ℕ) (r : ℕ) where
   message = take size (all_bytes ws)
 
   abbrev top : ℕ
-  top = get_or ws (length ws - 1) 0 / 2 ^ (8 * r)
+  top = last ws / 2 ^ (8 * r)
 
   pub unpadded : ((k : ℕ) → get_or ws k 0 < 2 ^ 64) → 0 < length ws → r < 8 → 0 < size
       → top ≡ padding_byte v message → padded_words v message ≡ ws
@@ -237,7 +228,7 @@ module _ (v : ℕ) (ws : List ℕ) (r : ℕ) where
       → (0 < size) × (top ≡ padding_byte v message)
   padded_place p above below =
       let lt = pos_of_div-pos (2 ^ (8 * r)) above in
-      let of_m = reads v ws p.0 p.1 p.2 in
+      let of_m = reads p in
       let place = one_highest _ r _ (above, below) (reads-highest of_m lt) in
       let n : size ≡ length p.0 = omega (arith, of_m.size, place) in
       let same : message ≡ p.0 = ap (λ n. take n (all_bytes ws)) n ∙ of_m.bytes in
