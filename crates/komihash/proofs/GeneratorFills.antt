@@ -1,6 +1,6 @@
 -- What the generator's outputs fill a buffer with: their bytes, one output after the other.
-use Rattle.std.proofs.Common.{◌≡◌, ℕ, zero, suc, ◌+◌, ◌*◌, ◌%◌, ◌≤◌, List, ◌++◌, length, take, refl, ap, arith, ◌∙◌, sym, subst, zero-add, suc-add}
-use Rattle.std.proofs.lemmas.List.{append_assoc, append-nil, length-take-le, take_all}
+use Rattle.std.proofs.Common.{◌≡◌, ℕ, zero, suc, ◌+◌, ◌*◌, ◌%◌, ◌≤◌, List, ◌++◌, length, take, refl, ap, arith, ◌∙◌, sym, zero-add, suc-add}
+use Rattle.std.proofs.lemmas.List.{append_assoc, append-nil, length-take-le}
 use Rattle.std.proofs.lemmas.Slice.{take-put_mid}
 use Rattle.std.proofs.Math.Seq.{take-append-add, take-length}
 use borrow.Rule.Slice.PartMut.{put_mid}
@@ -9,7 +9,8 @@ use Rattle.komihash.specs.Words.{bytes_of, all_bytes}
 
 -- ---- steps in two parts
 
-after_steps-add : (v m n : ℕ) (s : ℕ × ℕ) → after_steps v (m + n) s ≡ after_steps v n (after_steps v m s)
+after_steps-add : (v m n : ℕ) (s : ℕ × ℕ)
+    → after_steps v (m + n) s ≡ after_steps v n (after_steps v m s)
 unfolding after_steps
 after_steps-add v zero n s = rw zero-add refl
 after_steps-add v (suc m) n s = rw suc-add (after_steps-add v m n (next v s))
@@ -23,7 +24,8 @@ output_bytes-add : (v m n : ℕ) (s : ℕ × ℕ)
 unfolding after_steps outputs
 output_bytes-add v zero n s = rw zero-add refl
 output_bytes-add v (suc m) n s =
-    rw (suc-add, output_bytes-add v m n (next v s)) (sym (append_assoc (bytes_of 8 (next v s).0) _ _))
+    rw (suc-add, output_bytes-add v m n (next v s))
+    (sym (append_assoc (bytes_of 8 (next v s).0) _ _))
 
 length-output_bytes : (v n : ℕ) (s : ℕ × ℕ) → length (output_bytes v n s) ≡ 8 * n
 unfolding outputs bytes_of
@@ -52,7 +54,8 @@ fill-add v x y s whole =
     let size : length front ≡ x = omega (arith, length-output_bytes v (fill_steps x) s) in
     let cut : take (length front + y) (front ++ back) ≡ take (length front) front ++ take y back =
     take-append-add front back y ∙ ap (λ bs. bs ++ take y back) (sym (take-length front)) in
-    rw (fill_steps-add x y whole, output_bytes-add v (fill_steps x) (fill_steps y) s) (rw size at cut)
+    let bytes = output_bytes-add v (fill_steps x) (fill_steps y) s in
+    rw (fill_steps-add x y whole, bytes) (rw size at cut)
 
 -- a fill of one to eight bytes takes one step
 fill-one : (v n : ℕ) (s : ℕ × ℕ) → fill_steps n ≡ 1 → fill v s n ≡ take n (bytes_of 8 (next v s).0)
@@ -71,20 +74,18 @@ pub record Filled (v : ℕ) (s : ℕ × ℕ) (n : ℕ) (xs : List ℕ) (now : �
   pub pair : now ≡ after_fill v s n
 
 -- one more output is written: all its bytes, or the lowest of them
-pub Filled-more : {v n w : ℕ} {s now after : ℕ × ℕ} {xs ys : List ℕ} (j k m : ℕ) → Filled v s n xs now
-    → w ≡ (next v now).0 → after ≡ next v now → ys ≡ take k (bytes_of 8 w)
-    → n % 8 ≡ 0 → fill_steps k ≡ 1 → k ≤ 8 → n ≤ length xs → n + k ≡ m
+pub Filled-more : {v n w : ℕ} {s now after : ℕ × ℕ} {xs ys : List ℕ} (j k m : ℕ)
+    → Filled v s n xs now → w ≡ (next v now).0 → after ≡ next v now → ys ≡ take k (bytes_of 8 w)
+    → n % 8 ≡ 0 → fill_steps k ≡ 1 → n ≤ length xs → n + k ≡ m
     → Filled v s m (put_mid n j xs ys) after
 unfolding bytes_of
-Filled-more {v} {n} {w} {s} {now} {after} {xs} {ys} j k m filled output is wrote whole one short fits sum =
-    let size : length ys ≡ k = ap length wrote ∙ length-take-le k (bytes_of 8 w) short in
-    subst (λ m. Filled v s m (put_mid n j xs ys) after) sum record {
+Filled-more {v} {n} {w} {s} {now} j k m filled output is wrote whole one fits sum =
+    let size = ap length wrote ∙ length-take-le k (bytes_of 8 w) (omega arith) in
+    let pair = sym filled.pair in
+    rw (← sum) record {
       bytes =
-          take-put_mid n j xs ys (n + k) (omega arith) fits
-          ∙ rw (filled.bytes, fill-add v n k s whole, sym filled.pair, fill-one v k now one, wrote, output) refl;
-      pair = rw (after_fill-add v n k s whole, sym filled.pair, after_fill-one v k now one) is;
+          take-put_mid n j _ _ (n + k) (omega arith) fits
+          ∙ rw (filled.bytes, fill-add v n k s whole, pair, fill-one v k now one, wrote, output)
+          refl;
+      pair = rw (after_fill-add v n k s whole, pair, after_fill-one v k now one) is;
     }
-
-pub Filled-all : {v n : ℕ} {s now : ℕ × ℕ} {xs : List ℕ} → Filled v s n xs now → length xs ≡ n
-    → xs ≡ fill v s n
-Filled-all {v} {n} {s} {now} {xs} filled size = sym (take_all n xs (omega arith)) ∙ filled.bytes

@@ -212,11 +212,8 @@ module _ (v : ℕ) (ws : List ℕ) (r : ℕ) where
   abbrev message : List ℕ
   message = take size (all_bytes ws)
 
-  abbrev top : ℕ
-  top = last ws / 2 ^ (8 * r)
-
   pub unpadded : ((k : ℕ) → get_or ws k 0 < 2 ^ 64) → 0 < length ws → r < 8 → 0 < size
-      → top ≡ padding_byte v message → padded_words v message ≡ ws
+      → last ws / 2 ^ (8 * r) ≡ padding_byte v message → padded_words v message ≡ ws
   unpadded fit some few long is =
       let i : size / 8 ≡ length ws - 1 = omega arith in
       let place : size % 8 ≡ r = omega arith in
@@ -224,8 +221,8 @@ module _ (v : ℕ) (ws : List ℕ) (r : ℕ) where
       padded_words-some v message (omega arith)
       ∙ ended-words ws size (padding_byte v message) fit (omega arith) (rw (i, place) is)
 
-  pub padded_place : ArePadded v ws → 0 < top → top < 256
-      → (0 < size) × (top ≡ padding_byte v message)
+  pub padded_place : ArePadded v ws → 0 < last ws / 2 ^ (8 * r) → last ws / 2 ^ (8 * r) < 256
+      → (0 < size) × (last ws / 2 ^ (8 * r) ≡ padding_byte v message)
   padded_place p above below =
       let lt = pos_of_div-pos (2 ^ (8 * r)) above in
       let of_m = reads p in

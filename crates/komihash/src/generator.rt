@@ -84,6 +84,7 @@ impl<const V: u8> Komirand<V> {
     /// Each eight bytes take one output, and a remainder takes one more, whose other bytes are
     /// dropped. A fill of no bytes takes none.
     #[inline]
+    #[tactic(auto, unfolding(crate::specs::Generator::after_steps))]
     pub fn fill_bytes(&mut self, buffer: &mut [u8])
         ensures bytes { buffer.new ≡ fill V self.old (length buffer.old) }
         ensures pair { self.new ≡ after_fill V self.old (length buffer.old) }

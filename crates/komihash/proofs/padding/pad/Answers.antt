@@ -6,6 +6,6 @@ use Rattle.komihash.proofs.padding.pad.Goals as goal
 pub returns-clause-padded : goal.returns-clause-padded
 returns-clause-padded g c =
     let bytes = c.args.bytes.now in
-    let last = c.final_word.result in
-    take_more_set c.write_words.new.out (length bytes / 8) last (omega arith)
-    ∙ rw (c.write_words.ensures.words, c.final_word.ensures) (sym (padded_words-by_tail g.row.V bytes))
+    let same = sym (padded_words-by_tail g.row.V bytes) in
+    take_more_set c.write_words.new.out (length bytes / 8) c.final_word.result (omega arith)
+    ∙ rw (c.write_words.ensures.words, c.final_word.ensures) same

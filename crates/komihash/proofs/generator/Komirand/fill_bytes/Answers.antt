@@ -1,14 +1,10 @@
-use Rattle.std.proofs.Common.{◌≡◌, ◌-◌, ◌*◌, ◌/◌, ◌∙◌, length, take, drop, arith, refl, rules}
+use Rattle.std.proofs.Common.{◌≡◌, ◌-◌, ◌*◌, ◌/◌, ◌∙◌, length, take, drop, arith, refl, rules, sym}
+use Rattle.std.proofs.lemmas.List.{take_all}
 use Rattle.std.proofs.lemmas.Slice.{overwrites}
-use Rattle.komihash.specs.Generator.{after_steps}
 use Rattle.komihash.specs.Words.{bytes_of}
 use Rattle.komihash.proofs.BytesOfWords.{to_le_bytes-word}
-use Rattle.komihash.proofs.GeneratorFills.{Filled-more, Filled-all}
+use Rattle.komihash.proofs.GeneratorFills.{Filled-more}
 use Rattle.komihash.proofs.generator.Komirand.fill_bytes.Goals as goal
-
-pub words-init : goal.words-init
-unfolding after_steps
-words-init g c = record { bytes = refl; pair = refl }
 
 pub words-preserved : goal.words-preserved
 unfolding bytes_of
@@ -16,7 +12,7 @@ words-preserved g c =
     let bytes = c.to_le_bytes.ensures ∙ to_le_bytes-word c.next-word.result in
     Filled-more _ 8 _ c.words.invariant c.next-word.ensures.output c.next-word.ensures.pair
     (c.copy_from_slice.ensures.after ∙ bytes)
-    (omega arith) refl (omega arith) (omega arith) (omega arith)
+    (omega arith) refl (omega arith) (omega arith)
 
 pub returns-then-buffer-gt0 : goal.returns-then-buffer-gt0
 returns-then-buffer-gt0 g c =
@@ -25,7 +21,8 @@ returns-then-buffer-gt0 g c =
     let k = length (take (length c.words.buffer - 8 * whole) (drop (8 * whole) c.words.buffer)) in
     let size : k ≡ length c.words.buffer - 8 * whole = search (rules, arith) in
     let filled =
-    Filled-more _ k (length c.args.buffer.now) (rw done at c.words.invariant) c.next-output.ensures.output
-    c.next-output.ensures.pair c.write_partial_word.ensures
-    (omega arith) (omega arith) (omega arith) (omega arith) (omega arith) in
-    record { bytes = Filled-all filled (search (rules, overwrites)); pair = filled.pair }
+    Filled-more _ k (length c.args.buffer.now) (rw done at c.words.invariant)
+    c.next-output.ensures.output c.next-output.ensures.pair c.write_partial_word.ensures
+    (omega arith) (omega arith) (omega arith) (omega arith) in
+    let all = take_all (length c.args.buffer.now) _ (search (rules, overwrites)) in
+    record { bytes = sym all ∙ filled.bytes; pair = filled.pair }

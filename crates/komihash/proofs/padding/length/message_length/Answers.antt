@@ -3,7 +3,8 @@ use Rattle.komihash.proofs.PaddingBack.{padded_zero, padded_place}
 use Rattle.komihash.proofs.padding.length.message_length.Goals as goal
 
 pub returns-else-count-eq1-clause-none : goal.returns-else-count-eq1-clause-none
-returns-else-count-eq1-clause-none g c p = c.if-count-eq1.false (padded_zero _ _ p c.if-last-eq0.true)
+returns-else-count-eq1-clause-none g c p =
+    c.if-count-eq1.false (padded_zero _ _ p c.if-last-eq0.true)
 
 pub returns-then-length-eq0-clause-none : goal.returns-then-length-eq0-clause-none
 returns-then-length-eq0-clause-none g c p =
