@@ -221,9 +221,9 @@ module _ (v : ℕ) (ws : List ℕ) (r : ℕ) where
       padded_words-some v message (omega arith)
       ∙ ended-words ws size (padding_byte v message) fit (omega arith) (rw (i, place) is)
 
-  pub padded_place : ArePadded v ws → 0 < last ws / 2 ^ (8 * r) → last ws / 2 ^ (8 * r) < 256
+  pub one_place : ArePadded v ws → 0 < last ws / 2 ^ (8 * r) → last ws / 2 ^ (8 * r) < 256
       → (0 < size) × (last ws / 2 ^ (8 * r) ≡ padding_byte v message)
-  padded_place p above below =
+  one_place p above below =
       let lt = pos_of_div-pos (2 ^ (8 * r)) above in
       let of_m = reads p in
       let place = one_highest _ r _ (above, below) (reads-highest of_m lt) in

@@ -1,5 +1,6 @@
--- The generator: a pair of words, what a step makes of it, and the bytes that its outputs are.
-use Rattle.std.specs.Prelude.{ℕ, zero, suc, ◌+◌, ◌*◌, ◌/◌, List, [], ◌∷◌, take, bit_xor, ◌==◌, if◌then◌else◌}
+-- The generator: the step that replaces a pair of words, and the bytes of its outputs.
+use Rattle.std.specs.Prelude.{ℕ, zero, suc, ◌+◌, ◌*◌, ◌/◌, ◌==◌, bit_xor, if◌then◌else◌}
+use Rattle.std.specs.Prelude.{List, [], ◌∷◌, take}
 use Rattle.komihash.specs.Words.{all_bytes}
 use Rattle.komihash.specs.Rounds.{low, high, plus}
 
@@ -7,7 +8,7 @@ use Rattle.komihash.specs.Rounds.{low, high, plus}
 abbrev pub next_second : ℕ × ℕ → ℕ
 next_second s = plus (plus s.1 (high (s.0 * s.1))) 0xaaaaaaaaaaaaaaaa
 
--- the first word after a step of version v: it is the step's output
+-- the first word after a step of version v, which is the step's output
 abbrev pub next_first : ℕ → ℕ × ℕ → ℕ
 next_first v s =
     if v == 4
@@ -28,14 +29,14 @@ unfoldable pub outputs : ℕ → ℕ → ℕ × ℕ → List ℕ
 outputs v zero s = []
 outputs v (suc n) s = (next v s).0 ∷ outputs v n (next v s)
 
--- how many outputs a fill of n bytes takes: one for each eight bytes, and one more for a remainder
+-- how many steps a buffer of n bytes takes: one for each eight bytes, and one more for a remainder
 abbrev pub fill_steps : ℕ → ℕ
 fill_steps n = (n + 7) / 8
 
--- what a fill of n bytes writes: the first n bytes of the outputs that it takes
+-- what fills a buffer of n bytes: the first n bytes of the outputs of these steps
 abbrev pub fill : ℕ → ℕ × ℕ → ℕ → List ℕ
 fill v s n = take n (all_bytes (outputs v (fill_steps n) s))
 
--- the pair after a fill of n bytes
+-- the pair after these steps
 abbrev pub after_fill : ℕ → ℕ × ℕ → ℕ → ℕ × ℕ
 after_fill v s n = after_steps v (fill_steps n) s

@@ -1,4 +1,4 @@
-//! The generator of both versions.
+//! The pseudorandom generator of both versions.
 
 ghost use Rattle.std.specs.Prelude.{◌≡◌, length};
 ghost use Rattle.komihash.specs.Generator.{next, after_steps, fill, after_fill};
@@ -7,10 +7,13 @@ use crate::tally::Tally;
 use crate::utils::{multiply128, write_partial_word};
 use std::marker::Model;
 
-/// A generator of version V, of words and bytes that look random, from a pair of numbers. It is not
+/// A pseudorandom generator of version V, which contracts see as a pair of words. It is not
 /// cryptographic.
 ///
-/// The same pair gives the same outputs. Each version has a step of its own.
+/// A step multiplies the words, and replaces them by sums and exclusive ors of the second word, the
+/// halves of the product, and constants of alternating bits. Its output is the new first word.
+/// `next` of `specs/Generator.antt` has the rule of each version; rules and constants are those of
+/// komihash. In one version, the same pair always gives the same outputs.
 #[derive(Drop)]
 pub struct Komirand<const V: u8> {
     s1: u64,
@@ -26,10 +29,10 @@ impl<const V: u8> Model for Komirand<V> {
 }
 
 impl<const V: u8> Komirand<V> {
-    /// Returns the generator of this pair, which takes no step.
+    /// Returns the generator of a pair of words, without a step.
     ///
-    /// Any numbers are allowed. The first outputs of small ones are simple patterns: in version 5
-    /// `new(0, 0)` gives 0x5555555555555555 first. `init` takes four steps to get past them.
+    /// Any words are allowed. The first outputs of small ones are simple patterns: in version 5
+    /// `new(0, 0)` outputs 0x5555555555555555 first. `init` takes four steps to get past them.
     #[inline]
     pub fn new(s1: u64, s2: u64) -> Self
         ensures { result ≡ (s1, s2) }
@@ -37,7 +40,7 @@ impl<const V: u8> Komirand<V> {
         Komirand { s1, s2 }
     }
 
-    /// The generator of a seed, taken as both numbers, after four steps.
+    /// Returns the generator of a seed, used as both words, after four steps.
     #[inline]
     pub fn init(seed: u64) -> Self
         ensures { result ≡ after_steps V 4 (seed, seed) }
@@ -45,7 +48,7 @@ impl<const V: u8> Komirand<V> {
         Komirand::init_with_extra_seed(seed, seed)
     }
 
-    /// The generator of two seeds after four steps.
+    /// Returns the generator of two seeds after four steps.
     #[inline]
     #[tactic(auto, unfolding(crate::specs::Generator::after_steps))]
     pub fn init_with_extra_seed(s1: u64, s2: u64) -> Self
@@ -59,7 +62,7 @@ impl<const V: u8> Komirand<V> {
         generator
     }
 
-    /// Takes one step, and gives its output.
+    /// Takes one step, and returns its output.
     #[inline]
     #[tactic(auto, unfolding(crate::specs::Generator::next))]
     pub fn next(&mut self) -> u64
@@ -79,10 +82,10 @@ impl<const V: u8> Komirand<V> {
         self.s1
     }
 
-    /// Fills the buffer with the bytes of the next outputs, of each the lowest byte first.
+    /// Fills the buffer with the bytes of the next outputs, the lowest byte of each first.
     ///
-    /// Each eight bytes take one output, and a remainder takes one more, whose other bytes are
-    /// dropped. A fill of no bytes takes none.
+    /// Takes one step for each eight bytes, and one more for a remainder, which gets the lowest
+    /// bytes of that output; the others are dropped. Takes no step if the buffer is empty.
     #[inline]
     #[tactic(auto, unfolding(crate::specs::Generator::after_steps))]
     pub fn fill_bytes(&mut self, buffer: &mut [u8])

@@ -1,4 +1,4 @@
-//! The hasher of both versions.
+//! The hasher of both versions, which chains the hashes of its writes.
 
 ghost use Rattle.std.specs.Prelude.{◌≡◌, ℕ};
 ghost use Rattle.komihash.specs.Hash.{komi};
@@ -7,11 +7,11 @@ use crate::hash::komihash;
 use std::hash::Hasher;
 use std::marker::Model;
 
-/// A hasher of version V that shows one number: each write replaces it by the write's hash, with
-/// the number before as the seed.
+/// A hasher of version V, which contracts see as one number. Each write replaces it by the hash of
+/// the bytes written, with the number as the seed.
 ///
-/// So writes are not joined: the number after two writes is not the hash of all their bytes. A write
-/// of no bytes is a step too, and replaces the number.
+/// So writes are not joined: the number after two writes is not the hash of all their bytes. A
+/// write of no bytes replaces the number too.
 #[derive(Drop)]
 pub struct KomiHasher<const V: u8> {
     number: u64,
@@ -24,7 +24,7 @@ impl<const V: u8> Model for KomiHasher<V> {
 }
 
 impl<const V: u8> KomiHasher<V> {
-    /// The hasher of a number, which is the seed of its first write.
+    /// Returns the hasher of a number, which is the seed of its first write.
     #[inline]
     pub fn new(seed: u64) -> Self
         ensures { result ≡ seed }
@@ -36,7 +36,7 @@ impl<const V: u8> KomiHasher<V> {
 impl<const V: u8> Default for KomiHasher<V> {
     ghost is_default = { λ s. s ≡ 0 };
 
-    /// The hasher of the number 0.
+    /// Returns the hasher of the number 0.
     #[inline]
     fn default() -> Self {
         KomiHasher::new(0)
@@ -48,7 +48,7 @@ impl<const V: u8> Hasher for KomiHasher<V> {
 
     ghost finish = { λ s. s };
 
-    /// The number. The hasher stays as it is, and may go on.
+    /// Returns the number. The hasher stays as it is, and takes further writes.
     #[inline]
     fn finish(&self) -> u64 {
         self.number

@@ -1,6 +1,7 @@
 //! Komihash version 5.
 
-ghost use Rattle.std.specs.Prelude.{◌≡◌, ◌+◌, ◌*◌, ◌/◌, ◌≤◌, ◌↔◌, IfSome, IfNone, IsNone, IsSomeAnd, List, ℕ, length, take, drop};
+ghost use Rattle.std.specs.Prelude.{◌≡◌, ◌+◌, ◌*◌, ◌/◌, ◌≤◌, ◌↔◌, List, ℕ, length, take, drop};
+ghost use Rattle.std.specs.Prelude.{IfSome, IfNone, IsNone, IsSomeAnd};
 ghost use Rattle.komihash.specs.Counts.{hash_products};
 ghost use Rattle.komihash.specs.Hash.{komi};
 ghost use Rattle.komihash.specs.Words.{AreBytes};
@@ -9,16 +10,16 @@ ghost use Rattle.komihash.specs.Padding.{ArePadded, padded_words};
 use crate::tally::Tally;
 use crate::{generator, hash, hasher, padding, stream};
 
-/// The stream of version 5.
+/// The stream of version 5, which hashes bytes that come in pieces.
 pub type StreamedKomihash = stream::streamed::StreamedKomihash<5>;
 
-/// The hasher of version 5.
+/// The hasher of version 5, which chains the hashes of its writes.
 pub type KomiHasher = hasher::KomiHasher<5>;
 
-/// The generator of version 5.
+/// The pseudorandom generator of version 5.
 pub type Komirand = generator::Komirand<5>;
 
-/// The hash of a message with a seed.
+/// Returns the hash of a message with a seed.
 #[inline]
 pub fn komihash(bytes: &[u8], seed: u64) -> u64
     ensures { result ≡ komi 5 seed bytes.now }
@@ -26,7 +27,10 @@ pub fn komihash(bytes: &[u8], seed: u64) -> u64
     hash::komihash::<5>(bytes, seed)
 }
 
-/// The hash of a message with a seed; the tally rises by what it costs.
+/// Returns the hash of a message with a seed, and counts its cost in a tally.
+///
+/// A message of n bytes takes `3 + 4 * (n / 64) + (n % 64) / 16` multiplications of two words, by
+/// which `products` rises. No byte is copied, so `kept` stays.
 #[inline]
 pub fn komihash_counted(bytes: &[u8], seed: u64, tally: &mut Tally) -> u64
     ensures hash { result ≡ komi 5 seed bytes.now }
@@ -36,10 +40,11 @@ pub fn komihash_counted(bytes: &[u8], seed: u64, tally: &mut Tally) -> u64
     hash::komihash_counted::<5>(bytes, seed, tally)
 }
 
-/// Writes the padded words of a message, and answers how many they are: one for each eight bytes
-/// of the message, and one more.
+/// Writes the padded words of a message, and returns how many they are: `bytes.len() / 8 + 1`,
+/// which is the capacity that `out` needs.
 ///
-/// They stand first in `out`, which must have room for them. What is after them is not touched.
+/// They are the bytes of the message, its padding byte, and zeros, eight bytes a word, the lowest
+/// byte first; those of the empty message are one 0. The rest of `out` stays as it is.
 #[inline]
 pub fn pad(bytes: &[u8], out: &mut [u64]) -> usize
     requires { length bytes.now / 8 + 1 ≤ length out.old }
@@ -50,11 +55,11 @@ pub fn pad(bytes: &[u8], out: &mut [u64]) -> usize
     padding::pad::<5>(bytes, out)
 }
 
-/// Reads padded words back: writes the message that has them, and answers its length in bytes.
+/// Writes the message that has these padded words, and returns its length in bytes.
 ///
-/// The message stands first in `out`, which must have eight bytes for each word. What is after it
-/// is not touched. The answer is `None`, and `out` as it was, where no message has these words in
-/// this version.
+/// `out` needs a capacity of eight bytes for each word. What is after the message in `out` stays as
+/// it is. Returns `None` if no message has these padded words in this version, and then leaves all
+/// of `out` as it is.
 #[inline]
 pub fn unpad(words: &[u64], out: &mut [u8]) -> Option<usize>
     requires { 8 * length words.now ≤ length out.old }

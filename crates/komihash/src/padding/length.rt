@@ -1,12 +1,13 @@
-//! The length of the message that words were padded from.
+//! The length of the message that has given padded words.
 
-ghost use Rattle.std.specs.Prelude.{◌≡◌, ◌+◌, ◌*◌, ◌/◌, ◌^◌, ◌<◌, ◌≤◌, ◌↔◌, IfSome, IfNone, IsTrue, length, take, slice_index};
+ghost use Rattle.std.specs.Prelude.{◌≡◌, ◌+◌, ◌*◌, ◌/◌, ◌^◌, ◌<◌, ◌≤◌, ◌↔◌};
+ghost use Rattle.std.specs.Prelude.{IfSome, IfNone, IsTrue, length, take, slice_index};
 ghost use Rattle.komihash.specs.Padding.{ArePadded, padded_words, padding_byte};
 ghost use Rattle.komihash.specs.Words.{all_bytes};
 
 use crate::padding::end::{has_top_bit, padding_after};
 
-// The place of a word's highest byte that is not 0.
+// Returns the place of a word's highest byte that is not 0, counted from the lowest byte.
 #[inline(always)]
 #[tactic(auto, using(crate::proofs::PaddingBack::highest))]
 fn highest_place(word: u64) -> usize
@@ -18,7 +19,7 @@ fn highest_place(word: u64) -> usize
     (word.ilog2() / 8) as usize
 }
 
-// The byte of words at a place.
+// Returns one of the bytes of words, the lowest byte of each word first.
 #[inline(always)]
 #[tactic(auto, using(crate::proofs::PaddingBack::byte_of_words))]
 fn byte_at(words: &[u64], at: usize) -> u8
@@ -28,7 +29,7 @@ fn byte_at(words: &[u64], at: usize) -> u8
     words[at / 8].to_le_bytes()[at % 8]
 }
 
-// Whether a byte is the padding byte of the first bytes of words.
+// Returns whether `byte` is the padding byte of the first `count` bytes of words.
 #[inline(always)]
 #[tactic(auto, using(crate::proofs::PaddingBack::padding_byte_at))]
 fn is_padding_byte<const V: u8>(byte: u64, words: &[u64], count: usize) -> bool
@@ -39,16 +40,18 @@ fn is_padding_byte<const V: u8>(byte: u64, words: &[u64], count: usize) -> bool
     byte == padding_after(has_top_bit::<V>(byte_at(words, count - 1)))
 }
 
-/// The length of the message whose padded words in version V these are, where there is one.
+/// Returns the length in bytes of the message that has these padded words in version V, or `None`
+/// if no message has them.
 ///
-/// The last word's highest nonzero byte can only be the padding byte, which the byte before it
-/// decides.
+/// The padding byte can only be the last word's highest byte that is not 0. The byte before it
+/// decides whether it is.
 #[inline(always)]
-#[tactic(auto, using(crate::proofs::PaddingBack::padded_place, crate::proofs::PaddingBack::unpadded))]
+#[tactic(auto, using(crate::proofs::PaddingBack::one_place, crate::proofs::PaddingBack::unpadded))]
 pub(crate) fn message_length<const V: u8>(words: &[u64]) -> Option<usize>
     requires { 8 * length words.now < 2 ^ 64 }
     ensures length { IfSome result (λ n. n / 8 + 1 ≡ length words.now) }
-    ensures message { IfSome result (λ n. padded_words V (take n (all_bytes words.now)) ≡ words.now) }
+    ensures message { IfSome result
+        (λ n. padded_words V (take n (all_bytes words.now)) ≡ words.now) }
     ensures none { IfNone result (¬ ArePadded V words.now) }
 {
     let count = words.len();

@@ -1,5 +1,5 @@
 use Rattle.std.proofs.Common.{arith}
-use Rattle.komihash.proofs.PaddingBack.{padded_zero, padded_place}
+use Rattle.komihash.proofs.PaddingBack.{padded_zero, one_place}
 use Rattle.komihash.proofs.padding.length.message_length.Goals as goal
 
 pub returns-else-count-eq1-clause-none : goal.returns-else-count-eq1-clause-none
@@ -9,4 +9,4 @@ returns-else-count-eq1-clause-none g c p =
 pub returns-then-length-eq0-clause-none : goal.returns-then-length-eq0-clause-none
 returns-then-length-eq0-clause-none g c p =
     let place = c.highest_place-place in
-    omega (arith, (padded_place _ _ place.result p place.ensures.some place.ensures.last).0)
+    omega (arith, (one_place _ _ place.result p place.ensures.some place.ensures.last).0)
