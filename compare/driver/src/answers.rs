@@ -9,19 +9,20 @@ const LENGTHS: [usize; 43] = [
 ];
 
 pub fn print() {
-    table("SEED_ZERO", 0);
-    table("GREATEST_SEED", u64::MAX);
+    println!("const RUST_CRATE: [(u64, usize, u64, u64); {}] = [", 2 * LENGTHS.len());
+    rows("0", 0);
+    rows("u64::MAX", u64::MAX);
+    println!("];");
 }
 
-fn table(name: &str, seed: u64) {
+/// Prints the rows of a seed, which each row names.
+fn rows(name: &str, seed: u64) {
     let message: Vec<u8> = (0..300u32).map(|i| (7 * i + 3) as u8).collect();
-    println!("const {name}: [(usize, u64, u64); {}] = [", LENGTHS.len());
     for length in LENGTHS {
         let bytes = &message[..length];
         let (four, five) = (OriginalFour::hash(bytes, seed), OriginalFive::hash(bytes, seed));
-        println!("    ({length}, {}, {}),", grouped(four), grouped(five));
+        println!("    ({name}, {length}, {}, {}),", grouped(four), grouped(five));
     }
-    println!("];");
 }
 
 /// A word by four groups of four digits.

@@ -1,19 +1,21 @@
-//! Tests of what the contracts do not say: that the definitions mean what they should.
+//! Tests of what no contract says: above all, that the definitions are komihash.
 
-mod cuts;
+mod assertions;
 mod definitions;
 mod generator;
 mod hash;
 mod hasher;
-mod messages;
+mod known_calls;
+mod known_messages;
+mod known_texts;
 mod padding;
 mod pending;
+mod pieces;
 mod random;
-mod rests;
-mod root;
+mod reexports;
+mod resumed_runs;
 mod rounds;
-mod same;
+mod runs;
 mod saved;
 mod stream;
 mod tally;
-mod texts;

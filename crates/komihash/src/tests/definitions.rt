@@ -1,6 +1,6 @@
-//! What the definitions alone say of known messages: each clause is proved, and nothing is run.
+//! Known values of the definitions, as clauses: they are proved, and nothing is run.
 
-ghost use Rattle.std.specs.Prelude.{◌≡◌, ℕ, ◌+◌, ◌≤◌, List, [], ◌∷◌, ◌++◌, length, take};
+ghost use Rattle.std.specs.Prelude.{◌≡◌, ℕ, ◌+◌, ◌≤◌, List, [], ◌∷◌, ◌++◌, length, take, drop};
 ghost use Rattle.komihash.specs.Generator.{after_steps, fill, outputs};
 ghost use Rattle.komihash.specs.Hash.{komi};
 ghost use Rattle.komihash.specs.Hasher.{number_after};
@@ -8,11 +8,21 @@ ghost use Rattle.komihash.specs.Saved.{text};
 ghost use Rattle.komihash.specs.Stream.{start, absorb};
 ghost use Rattle.komihash.specs.Padding.{padded_words};
 ghost use Rattle.komihash.specs.Rounds.{pair_round, seed_pair};
+ghost use Rattle.komihash.specs.Words.{all_bytes};
 
-use super::messages::{BLOCK_FIVE, BLOCK_FOUR, HIGH_END, SIX, ZERO};
-use super::texts::{BLOCK_SAVED, LETTERS_FIVE, NEW_FIVE, NEW_FOUR};
+use super::known_messages::{BLOCK_END, HIGH_END, SIX, ZERO};
+use super::known_texts::LANES;
 
-#[tactic(auto, unfolding(crate::specs::Hash::komi, crate::specs::Rounds::mix, crate::specs::Rounds::block_round_by))]
+// The lanes s1 to s4 of seed 0. They are words of the block of `block_message`.
+const S1: u64 = 0x01d2_ee0a_e40a_48dc;
+
+const S2: u64 = 0x12cb_6424_e77a_3b98;
+
+const S3: u64 = 0xa5db_d628_cd95_790c;
+
+const S4: u64 = 0x09fc_1492_0844_2455;
+
+#[tactic(auto, unfolding(crate::specs::Hash::komi, crate::specs::Rounds::mix, crate::specs::Rounds::block_round_by, crate::specs::Words::bytes_of))]
 fn hashes()
     ensures none { komi 5 0 [] ≡ 0xb7683ea7430132b4 }
     ensures none_in_four { komi 4 0 [] ≡ 0xb7683ea7430132b4 }
@@ -24,8 +34,10 @@ fn hashes()
     ensures high_end { komi 5 0 HIGH_END ≡ 0x8000000000000000 }
     ensures high_end_in_four { komi 4 0 HIGH_END ≡ 7 }
     ensures six { komi 5 0 SIX ≡ 6 }
-    ensures block { komi 5 0 BLOCK_FIVE ≡ 6 }
-    ensures block_in_four { komi 4 0 BLOCK_FOUR ≡ 6 }
+    ensures block { komi 5 0
+        (all_bytes (S1 ∷ S2 ∷ S3 ∷ S4 ∷ 0 ∷ 0 ∷ 0 ∷ 0 ∷ []) ++ BLOCK_END) ≡ 6 }
+    ensures block_in_four { komi 4 0
+        (all_bytes (S1 ∷ 0 ∷ S2 ∷ 0 ∷ S3 ∷ 0 ∷ S4 ∷ 0 ∷ []) ++ BLOCK_END) ≡ 6 }
 {}
 
 #[tactic(auto, unfolding(crate::specs::Hash::komi, crate::specs::Rounds::mix, crate::specs::Rounds::block_round_by))]
@@ -50,10 +62,11 @@ fn generators()
     ensures none { fill 5 (0, 0) 0 ≡ [] }
 {}
 
-// The pair round on the two words of `ZERO`.
+// The pair round of the two words of `ZERO`.
 #[tactic(auto, unfolding(crate::specs::Rounds::mix))]
 fn round_of_zero()
-    ensures { pair_round (seed_pair 0) 0xfe2d11f51bf5b723 0xfffffffffffffff1 ≡ (0x4ef2e8526fea8bc8, 0) }
+    ensures { pair_round (seed_pair 0) 0xfe2d11f51bf5b723 0xfffffffffffffff1
+        ≡ (0x4ef2e8526fea8bc8, 0) }
 {}
 
 // Whatever up to seven bytes follow `ZERO`, the hash is 0.
@@ -74,14 +87,17 @@ fn padded_words()
 
 #[tactic(auto, unfolding(crate::specs::Saved::text, crate::specs::Stream::absorb, crate::specs::Rounds::mix, crate::specs::Rounds::block_round_by, crate::specs::Words::bytes_of))]
 fn texts()
-    ensures new { text 5 (start 0) ≡ NEW_FIVE }
-    ensures new_in_four { text 4 (start 0) ≡ NEW_FOUR }
-    ensures letters { text 5 (absorb 5 (start 0) (0x61 ∷ 0x62 ∷ 0x63 ∷ [])) ≡ LETTERS_FIVE }
-    ensures block { text 5 (absorb 5 (start 0) (take 64 BLOCK_FIVE)) ≡ BLOCK_SAVED }
+    ensures new { text 5 (start 0) ≡ 5 ∷ 0 ∷ 0 ∷ 0 ∷ LANES }
+    ensures new_in_four { text 4 (start 0) ≡ 4 ∷ 0 ∷ 0 ∷ 0 ∷ LANES }
+    ensures letters { text 5 (absorb 5 (start 0) (0x61 ∷ 0x62 ∷ 0x63 ∷ []))
+        ≡ 5 ∷ 0 ∷ 0 ∷ 3 ∷ (LANES ++ 0x61 ∷ 0x62 ∷ 0x63 ∷ []) }
+    ensures block { text 5
+        (absorb 5 (start 0) (all_bytes (S1 ∷ S2 ∷ S3 ∷ S4 ∷ 0 ∷ 0 ∷ 0 ∷ 0 ∷ [])))
+        ≡ 5 ∷ 1 ∷ 0 ∷ 0 ∷ (drop 56 LANES ++ take 24 (drop 32 LANES) ++ drop 32 LANES) }
 {}
 
 #[test]
-fn holds() {
+fn definitions_give_the_known_values() {
     hashes();
     numbers_after_writes();
     generators();

@@ -1,47 +1,35 @@
-//! The generators of both versions at pairs whose outputs are known.
+//! The generators of both versions: known outputs, and fill_bytes against `next`.
 
-use super::same::{same, same_bytes};
+use super::assertions::{same, same_bytes};
 use crate::generator::Komirand;
 use crate::{v4, v5};
 use std::process::Abort;
 
-// The next outputs of a generator.
+// Compares the next outputs of a generator.
 fn gives<const V: u8>(rt: &impl Abort, mut generator: Komirand<V>, outputs: &[u64]) {
     for output in outputs {
         same(rt, generator.next(), *output, 0);
     }
 }
 
-#[test]
-fn steps_from_a_pair(rt: HostRuntime) {
-    const LARGE: u64 = 0x1_0000_0000;
-    const MAX: u64 = u64::MAX;
-    gives(
-        &rt,
-        v4::Komirand::new(0, 0),
-        &[0xaaaa_aaaa_aaaa_aaaa, 0xffff_ffff_ffff_fffe],
-    );
-    gives(
-        &rt,
-        v4::Komirand::new(LARGE, LARGE),
-        &[0xaaaa_aaab_aaaa_aaab],
-    );
-    gives(&rt, v4::Komirand::new(MAX, MAX), &[0xaaaa_aaaa_aaaa_aaa6]);
-    gives(
-        &rt,
-        v5::Komirand::new(0, 0),
-        &[0x5555_5555_5555_5555, 0x79e7_9e79_e79e_79e6],
-    );
-    gives(
-        &rt,
-        v5::Komirand::new(LARGE, LARGE),
-        &[0x5555_5555_5555_5556],
-    );
-    gives(&rt, v5::Komirand::new(MAX, MAX), &[0x5555_5555_5555_5554]);
+// Compares the first outputs of a generator whose two words are the same.
+fn gives_from<const V: u8>(rt: &impl Abort, word: u64, outputs: &[u64]) {
+    gives(rt, Komirand::<V>::new(word, word), outputs);
 }
 
 #[test]
-fn takes_four_steps_first(rt: HostRuntime) {
+fn steps_from_known_pairs(rt: HostRuntime) {
+    const LARGE: u64 = 0x1_0000_0000;
+    gives_from::<4>(&rt, 0, &[0xaaaa_aaaa_aaaa_aaaa, 0xffff_ffff_ffff_fffe]);
+    gives_from::<4>(&rt, LARGE, &[0xaaaa_aaab_aaaa_aaab]);
+    gives_from::<4>(&rt, u64::MAX, &[0xaaaa_aaaa_aaaa_aaa6]);
+    gives_from::<5>(&rt, 0, &[0x5555_5555_5555_5555, 0x79e7_9e79_e79e_79e6]);
+    gives_from::<5>(&rt, LARGE, &[0x5555_5555_5555_5556]);
+    gives_from::<5>(&rt, u64::MAX, &[0x5555_5555_5555_5554]);
+}
+
+#[test]
+fn init_takes_four_steps(rt: HostRuntime) {
     const SEED: u64 = 0x1234_5678_90ab_cdef;
     gives(
         &rt,
@@ -66,7 +54,7 @@ fn takes_four_steps_first(rt: HostRuntime) {
     gives(&rt, extra, &[0x0d2f_8edd_6aff_b42b]);
 }
 
-// The next fills of a generator; the generator after them.
+// Compares the bytes that fill_bytes writes, call by call, and returns the generator after them.
 fn fills<const V: u8>(rt: &impl Abort, mut generator: Komirand<V>, fills: &[&[u8]]) -> Komirand<V> {
     for fill in fills {
         let mut bytes = [0xee; 16];
@@ -78,7 +66,7 @@ fn fills<const V: u8>(rt: &impl Abort, mut generator: Komirand<V>, fills: &[&[u8
 }
 
 #[test]
-fn drops_what_an_output_has_over(rt: HostRuntime) {
+fn fill_bytes_discards_unused_bytes(rt: HostRuntime) {
     let nine = [0xaa, 0xaa, 0xaa, 0xaa, 0xaa, 0xaa, 0xaa, 0xaa, 0xfe];
     fills(&rt, v4::Komirand::new(0, 0), &[&nine]);
     let threes: [&[u8]; 3] = [&[], &[0xaa, 0xaa, 0xaa], &[0xfe, 0xff, 0xff]];
@@ -89,27 +77,27 @@ fn drops_what_an_output_has_over(rt: HostRuntime) {
     fills(&rt, v5::Komirand::new(0, 0), &[&eleven]);
     let threes: [&[u8]; 3] = [&[], &[0x55, 0x55, 0x55], &[0xe6, 0x79, 0x9e]];
     fills(&rt, v5::Komirand::new(0, 0), &threes);
-    let behind = fills(&rt, v5::Komirand::new(0, 0), &[&[0x55, 0x55, 0x55]]);
-    gives(&rt, behind, &[0x79e7_9e79_e79e_79e6]);
+    let after = fills(&rt, v5::Komirand::new(0, 0), &[&[0x55, 0x55, 0x55]]);
+    gives(&rt, after, &[0x79e7_9e79_e79e_79e6]);
 }
 
-// A fill of 16 bytes is two of 8, and fills of no bytes take no step.
-fn goes_on<const V: u8>(rt: &impl Abort, seed: u64) {
+// Writes 16 bytes at once and as twice 8, and no bytes, which takes no step.
+fn continues<const V: u8>(rt: &impl Abort, seed: u64) {
     let mut whole = [0; 16];
     Komirand::<V>::new(seed, seed).fill_bytes(&mut whole);
     let parts: [&[u8]; 2] = [&whole[..8], &whole[8..]];
     fills(rt, Komirand::<V>::new(seed, seed), &parts);
-    let behind = fills(rt, Komirand::<V>::new(seed, seed), &[&[], &[]]);
-    gives(rt, behind, &[Komirand::<V>::new(seed, seed).next()]);
+    let after = fills(rt, Komirand::<V>::new(seed, seed), &[&[], &[]]);
+    gives(rt, after, &[Komirand::<V>::new(seed, seed).next()]);
 }
 
 #[test]
-fn goes_on_behind_a_fill(rt: HostRuntime) {
-    goes_on::<4>(&rt, 0);
-    goes_on::<5>(&rt, 42);
+fn continues_after_fill_bytes(rt: HostRuntime) {
+    continues::<4>(&rt, 0);
+    continues::<5>(&rt, 42);
 }
 
-// A generator of each kind.
+// Returns one of four generators.
 fn kind<const V: u8>(number: usize) -> Komirand<V> {
     match number {
         0 => Komirand::new(0, 0),
@@ -119,9 +107,9 @@ fn kind<const V: u8>(number: usize) -> Komirand<V> {
     }
 }
 
-// Fills of every length up to 95 bytes are the bytes of the outputs, and the output after a fill is
-// the first that it did not take.
-fn fills_with_the_outputs<const V: u8>(rt: &impl Abort) {
+// Compares fill_bytes of every length up to 95 with the bytes of the outputs, and the next output
+// with the first that the call did not use.
+fn fills_as_next<const V: u8>(rt: &impl Abort) {
     for number in 0..4usize {
         let mut outputs = kind::<V>(number);
         let mut words = [0; 13];
@@ -142,6 +130,6 @@ fn fills_with_the_outputs<const V: u8>(rt: &impl Abort) {
 
 #[test]
 fn fills_every_length(rt: HostRuntime) {
-    fills_with_the_outputs::<4>(&rt);
-    fills_with_the_outputs::<5>(&rt);
+    fills_as_next::<4>(&rt);
+    fills_as_next::<5>(&rt);
 }

@@ -1,13 +1,13 @@
-//! The hashers of both versions at writes whose numbers are known.
+//! The hashers of both versions: writes of known messages, and chains of writes.
 
-use super::messages::{HIGH_END, ZERO};
-use super::same::same;
+use super::assertions::same;
+use super::known_messages::{HIGH_END, ZERO};
 use crate::hash::komihash;
 use crate::hasher::KomiHasher;
 use std::hash::Hasher;
 use std::process::Abort;
 
-// What a hasher answers after these writes, by the trait alone.
+// Returns the hash after these writes, through the trait alone.
 fn after_writes<H: Hasher>(hasher: &mut H, writes: &[&[u8]]) -> u64 {
     for bytes in writes {
         hasher.write(bytes);
@@ -15,8 +15,8 @@ fn after_writes<H: Hasher>(hasher: &mut H, writes: &[&[u8]]) -> u64 {
     hasher.finish()
 }
 
-// The writes of known messages to a default hasher, the last of which has another hash in each
-// version, and to hashers of a number.
+// Writes known messages to a default hasher, and to hashers that start with another seed. The hash
+// of `HIGH_END` depends on the version.
 fn agrees<const V: u8>(rt: &impl Abort, high_end: u64) {
     let cases: [(&[&[u8]], u64); 5] = [
         (&[], 0),
@@ -25,22 +25,22 @@ fn agrees<const V: u8>(rt: &impl Abort, high_end: u64) {
         (&[&ZERO, &ZERO], 0),
         (&[&HIGH_END], high_end),
     ];
-    for (writes, answer) in cases {
-        let number = after_writes(&mut KomiHasher::<V>::default(), writes);
-        same(rt, number, answer, writes.len());
+    for (writes, wanted) in cases {
+        let hash = after_writes(&mut KomiHasher::<V>::default(), writes);
+        same(rt, hash, wanted, writes.len());
     }
     same(rt, KomiHasher::<V>::new(7).finish(), 7, 0);
-    let number = after_writes(&mut KomiHasher::<V>::new(u64::MAX), &[&[]]);
-    same(rt, number, 0x4bcc_041f_3f88_5859, 1);
+    let hash = after_writes(&mut KomiHasher::<V>::new(u64::MAX), &[&[]]);
+    same(rt, hash, 0x4bcc_041f_3f88_5859, 1);
 }
 
 #[test]
-fn numbers_of_known_writes(rt: HostRuntime) {
+fn hashes_known_writes(rt: HostRuntime) {
     agrees::<4>(&rt, 7);
     agrees::<5>(&rt, 0x8000_0000_0000_0000);
 }
 
-// Each hash is the seed of the next write, also where the same hasher goes on after an answer.
+// Writes twice, also after `finish`: each hash is the seed of the next write.
 fn takes_each_hash_as_the_next_seed<const V: u8>(rt: &impl Abort) {
     let hello = komihash::<V>(b"hello", 0);
     let mut hasher = KomiHasher::<V>::default();
@@ -55,7 +55,7 @@ fn takes_each_hash_as_the_next_seed<const V: u8>(rt: &impl Abort) {
 }
 
 #[test]
-fn chains_its_writes(rt: HostRuntime) {
+fn chains_writes(rt: HostRuntime) {
     takes_each_hash_as_the_next_seed::<4>(&rt);
     takes_each_hash_as_the_next_seed::<5>(&rt);
 }

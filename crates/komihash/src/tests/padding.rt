@@ -1,18 +1,18 @@
-//! Padded words of known messages, and what is read back from known words.
+//! `pad` of known messages, and `unpad` of known words and of what was padded.
 
 ghost use Rattle.std.specs.Prelude.{◌+◌, ◌*◌, ◌/◌, ◌<◌, ◌≤◌, length};
 
-use super::messages::pattern;
-use super::same::{same_bytes, same_count, same_length, same_words};
+use super::assertions::{same_bytes, same_count, same_length, same_words};
+use super::known_messages::pattern;
 use crate::{v4, v5};
 use std::process::Abort;
 
-// Seven bytes of which the last is at least 128, and eight of which it is not.
+// Seven bytes whose last is at least 128, and eight whose last is less.
 const HIGH: [u8; 7] = [0, 0, 0, 0, 0, 0, 0x80];
 
 const LOW_END: [u8; 8] = [0xff, 0xff, 0xff, 0xff, 0xff, 0xff, 0xff, 0x7f];
 
-// `pad` of a version.
+// Calls `pad` of a version.
 fn pad(version: u8, bytes: &[u8], out: &mut [u64]) -> usize
     requires { length bytes.now / 8 + 1 ≤ length out.old }
 {
@@ -23,7 +23,7 @@ fn pad(version: u8, bytes: &[u8], out: &mut [u64]) -> usize
     }
 }
 
-// `unpad` of a version.
+// Calls `unpad` of a version.
 fn unpad(version: u8, words: &[u64], out: &mut [u8]) -> Option<usize>
     requires { 8 * length words.now ≤ length out.old }
 {
@@ -34,7 +34,7 @@ fn unpad(version: u8, words: &[u64], out: &mut [u8]) -> Option<usize>
     }
 }
 
-// What `pad` writes of a message, and nothing after it.
+// Pads a message and compares the words. Nothing is written after them.
 fn pads(rt: &impl Abort, version: u8, message: &[u8], words: &[u64])
     requires message { length message.now < 16 }
     requires words { length words.now ≤ 3 }
@@ -59,8 +59,8 @@ fn pads_known_messages(rt: HostRuntime) {
     pads(&rt, 5, &[0xff; 8], &[u64::MAX, 1]);
 }
 
-// What `unpad` writes of words, and nothing after it.
-fn reads(rt: &impl Abort, version: u8, words: &[u64], message: &[u8])
+// Unpads words and compares the message. Nothing is written after it.
+fn unpads(rt: &impl Abort, version: u8, words: &[u64], message: &[u8])
     requires words { length words.now ≤ 3 }
     requires message { length message.now ≤ 25 }
 {
@@ -72,8 +72,8 @@ fn reads(rt: &impl Abort, version: u8, words: &[u64], message: &[u8])
     same_bytes(rt, &out, &wanted, words.len());
 }
 
-// Words that no message has: nothing is written.
-fn reads_nothing(rt: &impl Abort, version: u8, words: &[u64])
+// Unpads words that no message has: the result is None, and nothing is written.
+fn refuses(rt: &impl Abort, version: u8, words: &[u64])
     requires { length words.now ≤ 3 }
 {
     let mut out = [0xee; 25];
@@ -81,52 +81,52 @@ fn reads_nothing(rt: &impl Abort, version: u8, words: &[u64])
     same_bytes(rt, &out, &[0xee; 25], words.len());
 }
 
-// Known words that are the same message's in both versions.
-fn reads_alike(rt: &impl Abort, version: u8) {
-    reads(rt, version, &[0], &[]);
-    reads(rt, version, &[0x7fff_ffff_ffff_ffff, 1], &LOW_END);
-    reads(rt, version, &[0x0100], &[0]);
-    reads(rt, version, &[0x0100_0000_0000_0000], &[0; 7]);
-    reads(rt, version, &[2, 1], &[2, 0, 0, 0, 0, 0, 0, 0]);
+// Unpads known words that have the same message in both versions.
+fn unpads_alike(rt: &impl Abort, version: u8) {
+    unpads(rt, version, &[0], &[]);
+    unpads(rt, version, &[0x7fff_ffff_ffff_ffff, 1], &LOW_END);
+    unpads(rt, version, &[0x0100], &[0]);
+    unpads(rt, version, &[0x0100_0000_0000_0000], &[0; 7]);
+    unpads(rt, version, &[2, 1], &[2, 0, 0, 0, 0, 0, 0, 0]);
 }
 
-// Known words that are no message's in either version.
-fn reads_nothing_alike(rt: &impl Abort, version: u8) {
-    reads_nothing(rt, version, &[]);
-    reads_nothing(rt, version, &[0x0201]);
-    reads_nothing(rt, version, &[1]);
-    reads_nothing(rt, version, &[2]);
-    reads_nothing(rt, version, &[0, 0]);
-    reads_nothing(rt, version, &[0x7fff_ffff_ffff_ffff, 2]);
-    reads_nothing(rt, version, &[0x0200]);
-    reads_nothing(rt, version, &[u64::MAX, 2, 0]);
-    reads_nothing(rt, version, &[u64::MAX]);
+// Unpads known words that have no message in either version.
+fn refuses_alike(rt: &impl Abort, version: u8) {
+    refuses(rt, version, &[]);
+    refuses(rt, version, &[0x0201]);
+    refuses(rt, version, &[1]);
+    refuses(rt, version, &[2]);
+    refuses(rt, version, &[0, 0]);
+    refuses(rt, version, &[0x7fff_ffff_ffff_ffff, 2]);
+    refuses(rt, version, &[0x0200]);
+    refuses(rt, version, &[u64::MAX, 2, 0]);
+    refuses(rt, version, &[u64::MAX]);
 }
 
-// Known words of a last byte that is at least 128, with the padding byte of a version and with that
-// of the other one.
-fn reads_high_ends(rt: &impl Abort, version: u8, padding: u8, other: u8) {
+// Unpads known words whose last byte is at least 128, with the padding byte of a version, and with
+// that of the other one.
+fn unpads_high_ends(rt: &impl Abort, version: u8, padding: u8, other: u8) {
     let [padding, other] = [u64::from(padding), u64::from(other)];
-    reads(rt, version, &[padding << 8 | 0x80], &[0x80]);
-    reads_nothing(rt, version, &[other << 8 | 0x80]);
-    reads(rt, version, &[u64::MAX, padding], &[0xff; 8]);
-    reads_nothing(rt, version, &[u64::MAX, other]);
-    reads(rt, version, &[padding << 56 | 0x80 << 48], &HIGH);
-    reads_nothing(rt, version, &[other << 56 | 0x80 << 48]);
+    unpads(rt, version, &[padding << 8 | 0x80], &[0x80]);
+    refuses(rt, version, &[other << 8 | 0x80]);
+    unpads(rt, version, &[u64::MAX, padding], &[0xff; 8]);
+    refuses(rt, version, &[u64::MAX, other]);
+    unpads(rt, version, &[padding << 56 | 0x80 << 48], &HIGH);
+    refuses(rt, version, &[other << 56 | 0x80 << 48]);
 }
 
 #[test]
-fn reads_known_words_back(rt: HostRuntime) {
+fn unpads_known_words(rt: HostRuntime) {
     for version in [4u8, 5u8] {
-        reads_alike(&rt, version);
-        reads_nothing_alike(&rt, version);
+        unpads_alike(&rt, version);
+        refuses_alike(&rt, version);
     }
-    reads_high_ends(&rt, 4, 2, 1);
-    reads_high_ends(&rt, 5, 1, 2);
+    unpads_high_ends(&rt, 4, 2, 1);
+    unpads_high_ends(&rt, 5, 1, 2);
 }
 
-// What is padded is read back, and nothing is written after it.
-fn reads_back(rt: &impl Abort, version: u8, message: &[u8])
+// Unpads what was padded. Nothing is written after it.
+fn unpads_padded(rt: &impl Abort, version: u8, message: &[u8])
     requires { length message.now ≤ 80 }
 {
     let n = message.len();
@@ -142,39 +142,39 @@ fn reads_back(rt: &impl Abort, version: u8, message: &[u8])
 }
 
 #[test]
-fn reads_back_what_was_padded(rt: HostRuntime) {
+fn unpads_what_was_padded(rt: HostRuntime) {
     let pattern = pattern();
     for n in 0..81usize {
-        reads_back(&rt, 4, &pattern[..n]);
-        reads_back(&rt, 5, &pattern[..n]);
+        unpads_padded(&rt, 4, &pattern[..n]);
+        unpads_padded(&rt, 5, &pattern[..n]);
     }
 }
 
-// What is read of one word of two bytes.
-fn reads_two_bytes(rt: &impl Abort, version: u8, x: u8, y: u8) {
+// Unpads one word of two bytes.
+fn unpads_two_bytes(rt: &impl Abort, version: u8, x: u8, y: u8) {
     let padding = if version == 4 && y >= 128 { 2 } else { 1 };
     let word = [256 * u64::from(x) + u64::from(y)];
     if x == 0 && y == 0 {
-        reads(rt, version, &word, &[]);
+        unpads(rt, version, &word, &[]);
     } else if x == padding {
-        reads(rt, version, &word, &[y]);
+        unpads(rt, version, &word, &[y]);
     } else {
-        reads_nothing(rt, version, &word);
+        refuses(rt, version, &word);
     }
 }
 
 #[test]
-fn reads_each_word_of_two_bytes(rt: HostRuntime) {
+fn unpads_every_word_of_two_bytes(rt: HostRuntime) {
     for x in 0..=255u8 {
         for y in 0..=255u8 {
-            reads_two_bytes(&rt, 4, x, y);
-            reads_two_bytes(&rt, 5, x, y);
+            unpads_two_bytes(&rt, 4, x, y);
+            unpads_two_bytes(&rt, 5, x, y);
         }
     }
 }
 
 #[test]
-fn reads_with_the_least_room(rt: HostRuntime) {
+fn unpads_into_the_smallest_out(rt: HostRuntime) {
     for version in [4u8, 5u8] {
         let mut none: [u8; 0] = [];
         same_length(&rt, unpad(version, &[], &mut none), None, 0);

@@ -1,14 +1,14 @@
-//! Pending bytes, put in pieces and written to the front of a slice.
+//! Pending bytes: what two pieces put is read back.
 
 ghost use Rattle.std.specs.Prelude.{◌+◌, ◌<◌, length};
 
-use super::messages::pattern;
-use super::same::same_bytes;
+use super::assertions::same_bytes;
+use super::known_messages::pattern;
 use crate::rounds::pending::Pending;
 use crate::tally::Tally;
 use std::process::Abort;
 
-// Two pieces, and nothing written after them.
+// Puts two pieces and compares all pending bytes. Nothing is written after them.
 fn writes(rt: &impl Abort, first: &[u8], second: &[u8], wanted: &[u8; 64])
     requires { length first.now + length second.now < 64 }
 {

@@ -1,9 +1,9 @@
-//! What holds of every input, at many inputs that a generator draws. Its seed is fixed, so each run
-//! draws the same.
+//! Properties at 100,000 random inputs a version. The generator's seed is fixed, so each run has the
+//! same inputs.
 
 ghost use Rattle.std.specs.Prelude.{◌*◌, ◌<◌, ◌≤◌, length};
 
-use super::same::{same_bytes, same_count, same_length, same_words};
+use super::assertions::{same_bytes, same_count, same_length, same_words};
 use super::stream::{finishes, hash};
 use crate::padding::{pad, unpad};
 use crate::stream::streamed::StreamedKomihash;
@@ -12,13 +12,13 @@ use crate::tally::Tally;
 use crate::{Komirand, v4, v5};
 use std::process::Abort;
 
-// How often each property is tried in each version.
+// The number of inputs for each property and version.
 const TIMES: usize = 100_000;
 
-// The length of the messages that are cut.
+// The length of the messages that are cut into pieces.
 const WHOLE: usize = 600;
 
-// A number below a bound.
+// Draws a number below a bound.
 fn below(random: &mut Komirand, bound: usize) -> usize
     requires { 0 < bound }
     ensures { result < bound }
@@ -26,7 +26,7 @@ fn below(random: &mut Komirand, bound: usize) -> usize
     (random.next() % bound as u64) as usize
 }
 
-// A message whose bytes are often at the ends of their range.
+// Draws a message. Half of them have only bytes at the ends of the range, and 2, 0x7f and 0x80.
 fn message_of<const N: usize>(random: &mut Komirand) -> [u8; N] {
     let mut message = [0; N];
     random.fill_bytes(&mut message);
@@ -38,7 +38,7 @@ fn message_of<const N: usize>(random: &mut Komirand) -> [u8; N] {
     message
 }
 
-// A seed, which is often at an end of the range.
+// Draws a seed. Half of them are 0 or u64::MAX.
 fn seed_of(random: &mut Komirand) -> u64 {
     match below(random, 4) {
         0 => 0,
@@ -47,16 +47,16 @@ fn seed_of(random: &mut Komirand) -> u64 {
     }
 }
 
-// The end of the next piece of a message.
-fn end_behind(random: &mut Komirand, from: usize) -> usize
+// Draws the end of the next piece of a message.
+fn next_end(random: &mut Komirand, from: usize) -> usize
     requires { from ≤ 600 }
-    ensures behind { from ≤ result }
+    ensures after { from ≤ result }
     ensures within { result ≤ 600 }
 {
     (from + below(random, 130)).min(WHOLE)
 }
 
-// The stream that is resumed from the text of another one.
+// Saves a stream, and returns the one that is resumed from its text.
 fn resumed<const V: u8>(rt: &impl Abort, stream: &StreamedKomihash<V>) -> StreamedKomihash<V> {
     let mut text = [0; 131];
     let length = stream.save(&mut text);
@@ -66,16 +66,16 @@ fn resumed<const V: u8>(rt: &impl Abort, stream: &StreamedKomihash<V>) -> Stream
     resumed
 }
 
-// Pieces by the plain calls, with answers between them; now and then the stream is saved, and
-// another one is resumed from its text.
-fn agrees_by_plain_calls<const V: u8>(rt: &impl Abort, random: &mut Komirand) {
+// Writes pieces of a message, and calls `finish` after some of them; after others, goes on with the
+// stream that is resumed from a saved text.
+fn agrees_in_pieces<const V: u8>(rt: &impl Abort, random: &mut Komirand) {
     let message = message_of::<600>(random);
     let seed = seed_of(random);
     let mut stream = StreamedKomihash::<V>::new_with_seed(seed);
     let mut taken = 0;
     for _ in 0..12usize {
         assert!(rt; taken <= WHOLE);
-        let end = end_behind(random, taken);
+        let end = next_end(random, taken);
         stream.write(&message[taken..end]);
         taken = end;
         if below(random, 2) == 0 {
@@ -87,8 +87,8 @@ fn agrees_by_plain_calls<const V: u8>(rt: &impl Abort, random: &mut Komirand) {
     }
 }
 
-// Calls that absorb pieces of a message, with answers between them; and the hashes of the bytes before
-// each answer, and how many answers there are.
+// Draws calls that absorb pieces of a message, with answers between them. Returns the calls, the
+// hashes that they must answer, and the number of answers.
 fn calls_of<'a, S: KomiStream>(
     rt: &impl Abort,
     random: &mut Komirand,
@@ -102,7 +102,7 @@ fn calls_of<'a, S: KomiStream>(
     for i in 0..24usize {
         assert!(rt; taken <= WHOLE && count < 24);
         if below(random, 2) == 0 {
-            let end = end_behind(random, taken);
+            let end = next_end(random, taken);
             calls[i] = Call::Absorb(&message[taken..end]);
             taken = end;
         } else {
@@ -113,7 +113,7 @@ fn calls_of<'a, S: KomiStream>(
     (calls, hashes, count)
 }
 
-// Pieces and answers in one run.
+// Makes drawn calls in one run.
 fn agrees_in_a_run<S: KomiStream>(rt: &impl Abort, random: &mut Komirand) {
     let message = message_of::<600>(random);
     let seed = seed_of(random);
@@ -124,15 +124,15 @@ fn agrees_in_a_run<S: KomiStream>(rt: &impl Abort, random: &mut Komirand) {
     same_words(rt, &out, &hashes, count);
 }
 
-// The byte of words at a place.
+// Returns the byte at an index in words, counted from the lowest byte of the first.
 fn byte_at(words: &[u64], at: usize) -> u64
     requires { at < 8 * length words.now }
 {
     words[at / 8] >> (8 * (at % 8)) & 0xff
 }
 
-// The length of the message that words were padded from, by the last byte that is not 0: it stands in
-// the last word, and is the padding byte that the byte before it asks for.
+// Returns the length of the message that words were padded from, or None if there is none. The last
+// byte that is not 0 must be in the last word, and the padding byte that the byte before it needs.
 fn padded_length<const V: u8>(words: &[u64]) -> Option<usize>
     requires { length words.now ≤ 13 }
 {
@@ -153,9 +153,8 @@ fn padded_length<const V: u8>(words: &[u64]) -> Option<usize>
     if words.len() == 1 { Some(0) } else { None }
 }
 
-// What is read back from words is what was padded, or nothing where nothing was; after it `out`
-// stays.
-fn agrees_read_back<const V: u8>(rt: &impl Abort, words: &[u64])
+// Unpads words, and pads the message again. Nothing is written after the message.
+fn agrees_unpadded<const V: u8>(rt: &impl Abort, words: &[u64])
     requires { length words.now ≤ 13 }
 {
     let mut out = [0xee; 105];
@@ -170,7 +169,7 @@ fn agrees_read_back<const V: u8>(rt: &impl Abort, words: &[u64])
     }
 }
 
-// A message padded and read back, and what is read back where one byte of a word is another.
+// Pads a message and unpads it, and then again with one byte of the words changed.
 fn agrees_padded<const V: u8>(rt: &impl Abort, random: &mut Komirand) {
     let message = message_of::<100>(random);
     let n = below(random, 101);
@@ -182,15 +181,15 @@ fn agrees_padded<const V: u8>(rt: &impl Abort, random: &mut Komirand) {
     same_bytes(rt, &out[..n], &message[..n], n);
     let change = 1 + random.next() % 255;
     words[below(random, count)] ^= change << (8 * below(random, 8));
-    agrees_read_back::<V>(rt, &words[..count]);
+    agrees_unpadded::<V>(rt, &words[..count]);
 }
 
 #[test]
-fn random_inputs(rt: HostRuntime) {
+fn agrees_at_random_inputs(rt: HostRuntime) {
     let mut random = Komirand::init(20_261_122);
     for _ in 0..TIMES {
-        agrees_by_plain_calls::<4>(&rt, &mut random);
-        agrees_by_plain_calls::<5>(&rt, &mut random);
+        agrees_in_pieces::<4>(&rt, &mut random);
+        agrees_in_pieces::<5>(&rt, &mut random);
         agrees_in_a_run::<v4::StreamedKomihash>(&rt, &mut random);
         agrees_in_a_run::<v5::StreamedKomihash>(&rt, &mut random);
         agrees_padded::<4>(&rt, &mut random);

@@ -1,23 +1,23 @@
-//! Streams saved as texts and resumed from them, at texts that were worked out by hand.
+//! Saving and resuming: known texts, texts of all lengths, and texts with a byte changed.
 
 ghost use Rattle.std.specs.Prelude.{◌≤◌};
 
-use super::messages::{BLOCK_FIVE, pattern};
-use super::same::{same, same_bytes, same_count};
+use super::assertions::{same, same_bytes, same_count};
+use super::known_messages::{block_message, pattern};
+use super::known_texts::{LANES, lanes_after_block, new_text, text_of, text_of_zeros};
 use super::stream::answers;
-use super::texts::{BLOCK_SAVED, LETTERS_FIVE, NEW_FIVE, NEW_FOUR};
 use crate::stream::KomiStream;
 use crate::stream::streamed::StreamedKomihash;
 use crate::tally::Tally;
 use crate::{v4, v5};
 use std::process::Abort;
 
-// The answer of the stream whose text the bytes are.
+// Returns the answer of the stream with this text, or None if there is none.
 fn answer_of<S: KomiStream>(text: &[u8]) -> Option<u64> {
     Some(S::restore(text)?.answer(&mut Tally::new()))
 }
 
-// Whether the bytes are the text of a stream. That stream has to have exactly this text.
+// Returns whether a stream is resumed from the bytes. Saved again, it must give the same bytes.
 fn is_text<S: KomiStream>(rt: &impl Abort, text: &[u8]) -> bool {
     let mut out = [0xee; 140];
     let Some(stream) = S::restore(text) else {
@@ -29,15 +29,15 @@ fn is_text<S: KomiStream>(rt: &impl Abort, text: &[u8]) -> bool {
     true
 }
 
-// The bytes are the text of a stream, or they are not.
-fn takes<S: KomiStream>(rt: &impl Abort, text: &[u8], is_one: bool) {
+// Asserts that the bytes are a stream's text, or that they are none.
+fn accepts<S: KomiStream>(rt: &impl Abort, text: &[u8], is_one: bool) {
     assert!(rt;
         is_text::<S>(rt, text) == is_one,
-        "another verdict on {text:?}"
+        "expected {is_one} for {text:?}"
     );
 }
 
-// The text of a new stream that absorbed the first bytes of the pattern, and its length.
+// Returns the text of a stream of seed 1 after a prefix of the pattern, and the text's length.
 fn text_after<S: KomiStream>(count: usize) -> ([u8; 131], usize)
     requires { count ≤ 200 }
     ensures { result.1 ≤ 131 }
@@ -51,7 +51,7 @@ fn text_after<S: KomiStream>(count: usize) -> ([u8; 131], usize)
     (out, end)
 }
 
-// A stream has this text, and what is after it in `out` stays.
+// Saves a stream and compares its text. Nothing is written after it.
 fn saves<const V: u8>(rt: &impl Abort, stream: &StreamedKomihash<V>, text: &[u8]) {
     assert!(rt; text.len() <= 131);
     let mut out = [0xee; 140];
@@ -61,25 +61,34 @@ fn saves<const V: u8>(rt: &impl Abort, stream: &StreamedKomihash<V>, text: &[u8]
     same_bytes(rt, &out, &wanted, text.len());
 }
 
-#[test]
-fn saves_known_texts(rt: HostRuntime) {
-    saves(&rt, &v5::StreamedKomihash::new(), &NEW_FIVE);
-    saves(&rt, &v4::StreamedKomihash::new(), &NEW_FOUR);
-    let mut stream = v5::StreamedKomihash::new();
+// Returns the text of a stream of seed 0 after the bytes `abc`.
+fn letters_text(version: u8) -> [u8; 71] {
+    let mut text = [0; 71];
+    text[..68].copy_from_slice(&text_of([version, 0, 0, 3], &LANES));
+    text[68..].copy_from_slice(b"abc");
+    text
+}
+
+// Saves a new stream, and again after the bytes `abc`.
+fn saves_new_and_letters<const V: u8>(rt: &impl Abort) {
+    let mut stream = StreamedKomihash::<V>::new();
+    saves(rt, &stream, &new_text(V));
     stream.write(b"abc");
-    saves(&rt, &stream, &LETTERS_FIVE);
-    let mut letters_four = LETTERS_FIVE;
-    letters_four[0] = 4;
-    let mut stream = v4::StreamedKomihash::new();
-    stream.write(b"abc");
-    saves(&rt, &stream, &letters_four);
-    let mut stream = v5::StreamedKomihash::new();
-    stream.write(&BLOCK_FIVE[..64]);
-    saves(&rt, &stream, &BLOCK_SAVED);
+    saves(rt, &stream, &letters_text(V));
 }
 
 #[test]
-fn saves_the_bit_in_version_four(rt: HostRuntime) {
+fn saves_known_texts(rt: HostRuntime) {
+    saves_new_and_letters::<4>(&rt);
+    saves_new_and_letters::<5>(&rt);
+    let message: &[u8; 95] = &block_message(5);
+    let mut stream = v5::StreamedKomihash::new();
+    stream.write(&message[..64]);
+    saves(&rt, &stream, &text_of([5, 1, 0, 0], &lanes_after_block()));
+}
+
+#[test]
+fn saves_the_top_bit_in_version_four(rt: HostRuntime) {
     let mut out = [0; 131];
     let mut stream = v4::StreamedKomihash::new();
     stream.write(&[0xff; 64]);
@@ -91,83 +100,75 @@ fn saves_the_bit_in_version_four(rt: HostRuntime) {
     same_bytes(&rt, &out[..4], &[5, 1, 0, 0], 5);
 }
 
-// A text of lanes that are all 0, but for the last byte.
-fn zeros(head: [u8; 4], last: u8) -> [u8; 68] {
-    let mut text = [0; 68];
-    text[..4].copy_from_slice(&head);
-    text[67] = last;
-    text
-}
-
-// A text of lanes that are all 0 and of 63 pending bytes, and one byte more.
-fn full_zeros() -> [u8; 132] {
-    let mut text = [0xaa; 132];
-    text[..68].copy_from_slice(&zeros([5, 0, 0, 63], 0));
-    text
-}
-
 #[test]
-fn resumes_a_stream_that_goes_on(rt: HostRuntime) {
-    let Some(mut stream) = v5::StreamedKomihash::resume(&BLOCK_SAVED) else {
+fn resumes_in_mid_message(rt: HostRuntime) {
+    let text = text_of([5, 1, 0, 0], &lanes_after_block());
+    let Some(mut stream) = v5::StreamedKomihash::resume(&text) else {
         panic!(rt; "no stream");
     };
-    stream.write(&BLOCK_FIVE[64..]);
+    stream.write(&block_message(5)[64..]);
     same(&rt, stream.finish(), 6, 95);
 }
 
-// States that no message reaches: all joined lanes are 0, but for the top bit of the last. Where
-// the bit is set the padding byte is 2.
+// The lanes are 0, but for the top bit of s8. If the text's bit is set, the padding byte is 2.
 #[test]
-fn resumes_any_state(rt: HostRuntime) {
-    let high = zeros([4, 1, 1, 0], 0x80);
+fn resumes_states_that_no_message_reaches(rt: HostRuntime) {
+    let high = text_of_zeros([4, 1, 1, 0], 0x80);
     assert_eq!(rt;
         answer_of::<v4::StreamedKomihash>(&high),
         Some(0xc000_0000_0000_0003)
     );
-    takes::<v4::StreamedKomihash>(&rt, &high, true);
-    let low = zeros([4, 1, 0, 0], 0x80);
+    accepts::<v4::StreamedKomihash>(&rt, &high, true);
+    let low = text_of_zeros([4, 1, 0, 0], 0x80);
     assert_eq!(rt;
         answer_of::<v4::StreamedKomihash>(&low),
         Some(0x8000_0000_0000_0000)
     );
-    takes::<v4::StreamedKomihash>(&rt, &low, true);
+    accepts::<v4::StreamedKomihash>(&rt, &low, true);
+}
+
+// Returns a text whose lanes are 0, with 63 pending bytes, and one byte more.
+fn full_text() -> [u8; 132] {
+    let mut text = [0xaa; 132];
+    text[..68].copy_from_slice(&text_of_zeros([5, 0, 0, 63], 0));
+    text
 }
 
 #[test]
-fn resumes_all_pending_bytes(rt: HostRuntime) {
-    let full: &[u8; 132] = &full_zeros();
-    takes::<v5::StreamedKomihash>(&rt, &full[..131], true);
-    takes::<v5::StreamedKomihash>(&rt, &full[..130], false);
-    takes::<v5::StreamedKomihash>(&rt, full, false);
+fn resumes_63_pending_bytes(rt: HostRuntime) {
+    let full: &[u8; 132] = &full_text();
+    accepts::<v5::StreamedKomihash>(&rt, &full[..131], true);
+    accepts::<v5::StreamedKomihash>(&rt, &full[..130], false);
+    accepts::<v5::StreamedKomihash>(&rt, full, false);
+}
+
+// Asserts that a text with these first four bytes and the lanes of a new stream is refused.
+fn refuses<S: KomiStream>(rt: &impl Abort, head: [u8; 4]) {
+    accepts::<S>(rt, &text_of(head, &LANES), false);
 }
 
 #[test]
-fn refuses_what_is_no_text(rt: HostRuntime) {
-    takes::<v5::StreamedKomihash>(&rt, &[], false);
-    takes::<v5::StreamedKomihash>(&rt, &NEW_FIVE[..67], false);
+fn refuses_invalid_texts(rt: HostRuntime) {
+    accepts::<v5::StreamedKomihash>(&rt, &[], false);
+    let text: &[u8; 68] = &new_text(5);
+    accepts::<v5::StreamedKomihash>(&rt, &text[..67], false);
     let mut longer = [0; 69];
-    longer[..68].copy_from_slice(&NEW_FIVE);
-    takes::<v5::StreamedKomihash>(&rt, &longer, false);
-    takes::<v5::StreamedKomihash>(&rt, &NEW_FOUR, false);
-    takes::<v4::StreamedKomihash>(&rt, &NEW_FIVE, false);
-    for (at, byte) in [(1usize, 2), (2, 1)] {
-        assert!(rt; at < 68);
-        let mut five = NEW_FIVE;
-        let mut four = NEW_FOUR;
-        five[at] = byte;
-        four[at] = byte;
-        takes::<v5::StreamedKomihash>(&rt, &five, false);
-        takes::<v4::StreamedKomihash>(&rt, &four, false);
-    }
+    longer[..68].copy_from_slice(text);
+    accepts::<v5::StreamedKomihash>(&rt, &longer, false);
+    refuses::<v5::StreamedKomihash>(&rt, [4, 0, 0, 0]);
+    refuses::<v4::StreamedKomihash>(&rt, [5, 0, 0, 0]);
+    refuses::<v5::StreamedKomihash>(&rt, [5, 2, 0, 0]);
+    refuses::<v4::StreamedKomihash>(&rt, [4, 2, 0, 0]);
+    refuses::<v5::StreamedKomihash>(&rt, [5, 0, 1, 0]);
+    refuses::<v4::StreamedKomihash>(&rt, [4, 0, 1, 0]);
     let mut full = [0; 132];
-    full[..68].copy_from_slice(&NEW_FIVE);
-    full[3] = 64;
-    takes::<v5::StreamedKomihash>(&rt, &full, false);
-    takes::<v5::StreamedKomihash>(&rt, &zeros([5, 1, 1, 0], 0), false);
-    takes::<v4::StreamedKomihash>(&rt, &zeros([4, 1, 2, 0], 0), false);
+    full[..68].copy_from_slice(&text_of([5, 0, 0, 64], &LANES));
+    accepts::<v5::StreamedKomihash>(&rt, &full, false);
+    accepts::<v5::StreamedKomihash>(&rt, &text_of_zeros([5, 1, 1, 0], 0), false);
+    accepts::<v4::StreamedKomihash>(&rt, &text_of_zeros([4, 1, 2, 0], 0), false);
 }
 
-// A stream that absorbed each number of bytes up to 200, saved and resumed, goes on with 70 more.
+// Saves and resumes a stream after each number of bytes up to 200, and absorbs 70 more.
 fn agrees_after_each_length<S: KomiStream>(rt: &impl Abort) {
     let message = pattern();
     for count in 0..=200usize {
@@ -183,14 +184,14 @@ fn agrees_after_each_length<S: KomiStream>(rt: &impl Abort) {
 }
 
 #[test]
-fn goes_on_after_each_length(rt: HostRuntime) {
+fn continues_after_each_length(rt: HostRuntime) {
     agrees_after_each_length::<v4::StreamedKomihash>(&rt);
     agrees_after_each_length::<v5::StreamedKomihash>(&rt);
 }
 
-// Whether a text is one still where the byte at a place is another: the version and the number of
-// pending bytes are given by the rest; the flag may change where the bit is not set, and the bit in
-// version 4 where the flag is set; every other byte may be any.
+// Returns whether a text with these first four bytes is still one if the byte at an index changes.
+// The version and the number of pending bytes may not change; the flag only if the bit is not set;
+// the bit only in version 4 and if the flag is set. Every later byte may be any.
 fn stays_a_text<S: KomiStream>(head: [u8; 4], at: usize, byte: u8) -> bool {
     match at {
         0 => byte == S::VERSION,
@@ -201,7 +202,7 @@ fn stays_a_text<S: KomiStream>(head: [u8; 4], at: usize, byte: u8) -> bool {
     }
 }
 
-// Each byte of texts changed to each other value.
+// Changes each byte of five texts to every value.
 fn agrees_at_each_byte<S: KomiStream>(rt: &impl Abort) {
     for count in [0usize, 5, 64, 82, 191] {
         assert!(rt; count <= 200);
@@ -212,34 +213,34 @@ fn agrees_at_each_byte<S: KomiStream>(rt: &impl Abort) {
                 changed[at] = byte;
                 let head = [text[0], text[1], text[2], text[3]];
                 let is_one = stays_a_text::<S>(head, at, byte);
-                takes::<S>(rt, &changed[..end], is_one);
+                accepts::<S>(rt, &changed[..end], is_one);
             }
         }
     }
 }
 
 #[test]
-fn takes_exactly_the_texts(rt: HostRuntime) {
+fn accepts_exactly_the_valid_texts(rt: HostRuntime) {
     agrees_at_each_byte::<v4::StreamedKomihash>(&rt);
     agrees_at_each_byte::<v5::StreamedKomihash>(&rt);
 }
 
-// A text cut, or with zeros after it, and the text of a stream of the other version.
+// Cuts texts and appends zeros, and resumes a stream of the other version.
 fn agrees_at_each_end<S: KomiStream, O: KomiStream>(rt: &impl Abort) {
     for count in [0usize, 64, 100, 127] {
         assert!(rt; count <= 200);
         let (text, end) = text_after::<S>(count);
-        takes::<O>(rt, &text[..end], false);
+        accepts::<O>(rt, &text[..end], false);
         let mut longer = [0; 140];
         longer[..131].copy_from_slice(&text);
         for length in 0..=140usize {
-            takes::<S>(rt, &longer[..length], length == end);
+            accepts::<S>(rt, &longer[..length], length == end);
         }
     }
 }
 
 #[test]
-fn takes_no_shorter_and_no_longer_text(rt: HostRuntime) {
+fn refuses_shorter_and_longer_texts(rt: HostRuntime) {
     agrees_at_each_end::<v4::StreamedKomihash, v5::StreamedKomihash>(&rt);
     agrees_at_each_end::<v5::StreamedKomihash, v4::StreamedKomihash>(&rt);
 }

@@ -1,14 +1,12 @@
-//! Streams and runs of calls on them, at messages whose hash is known.
+//! Streams against the one-shot hash: writes of all sizes, and answers between them.
 
-ghost use Rattle.std.specs.Prelude.{◌≢◌, ◌≤◌, length};
+ghost use Rattle.std.specs.Prelude.{◌≢◌};
 
-use super::messages::{
-    BLOCK_FIVE, BLOCK_FOUR, CUT_ANSWERS, LONGEST, ZERO, at_cuts, byte_by_byte, pattern,
-};
-use super::same::{same, same_count, same_words};
+use super::assertions::same;
+use super::known_messages::{LONGEST, ZERO, pattern};
 use crate::hash::komihash;
 use crate::stream::streamed::StreamedKomihash;
-use crate::stream::{Call, KomiStream, run, run_on};
+use crate::stream::{Call, KomiStream};
 use crate::tally::Tally;
 use crate::{v4, v5};
 use std::alloc::AllocError;
@@ -16,7 +14,7 @@ use std::process::Abort;
 
 const SEEDS: [u64; 2] = [0, u64::MAX];
 
-/// The hash of a message in one call.
+/// Returns the one-shot hash of a message.
 pub(crate) fn hash<S: KomiStream>(message: &[u8], seed: u64) -> u64 {
     if S::VERSION == 4 {
         v4::komihash(message, seed)
@@ -25,13 +23,13 @@ pub(crate) fn hash<S: KomiStream>(message: &[u8], seed: u64) -> u64 {
     }
 }
 
-/// A stream answers the hash of a message.
+/// Compares a stream's answer with the hash of a message.
 pub(crate) fn answers<S: KomiStream>(rt: &impl Abort, stream: &S, message: &[u8], seed: u64) {
     let answer = stream.answer(&mut Tally::new());
     same(rt, answer, hash::<S>(message, seed), message.len());
 }
 
-/// The same by the plain calls.
+/// Does the same by `finish`.
 pub(crate) fn finishes<const V: u8>(
     rt: &impl Abort,
     stream: &StreamedKomihash<V>,
@@ -42,7 +40,7 @@ pub(crate) fn finishes<const V: u8>(
     same(rt, stream.finish(), hash, message.len());
 }
 
-// A message in pieces of a size.
+// Absorbs a message in pieces of one size.
 fn agrees_in_pieces_of<S: KomiStream>(rt: &impl Abort, message: &[u8], size: usize, seed: u64)
     requires { size ≢ 0 }
 {
@@ -54,7 +52,7 @@ fn agrees_in_pieces_of<S: KomiStream>(rt: &impl Abort, message: &[u8], size: usi
     answers(rt, &stream, message, seed);
 }
 
-// Every beginning of the pattern of up to 200 bytes, in pieces of every size up to a greatest.
+// Absorbs every prefix of the pattern of up to 200 bytes, in pieces of every size up to `greatest`.
 fn agrees_in_pieces<S: KomiStream>(rt: &impl Abort, greatest: usize) {
     let message = pattern();
     for n in 0..=200usize {
@@ -72,7 +70,7 @@ fn answers_alike_however_a_message_is_cut(rt: HostRuntime) {
     agrees_in_pieces::<v5::StreamedKomihash>(&rt, 62);
 }
 
-// A message in two writes.
+// Absorbs a message in two pieces.
 fn agrees_in_two<S: KomiStream>(rt: &impl Abort, first: &[u8], second: &[u8], whole: &[u8]) {
     let mut tally = Tally::new();
     let mut stream = S::start(0, &mut tally);
@@ -81,8 +79,8 @@ fn agrees_in_two<S: KomiStream>(rt: &impl Abort, first: &[u8], second: &[u8], wh
     answers(rt, &stream, whole, 0);
 }
 
-// Zeros in one write after every number of pending bytes.
-fn agrees_behind_pending_bytes<S: KomiStream>(rt: &impl Abort) {
+// Absorbs zeros at once after every number of pending bytes.
+fn agrees_after_pending_bytes<S: KomiStream>(rt: &impl Abort) {
     let pending = pattern();
     for fill in 0..64usize {
         let mut message = [0; 193];
@@ -94,12 +92,12 @@ fn agrees_behind_pending_bytes<S: KomiStream>(rt: &impl Abort) {
 }
 
 #[test]
-fn fills_up_a_begun_block(rt: HostRuntime) {
-    agrees_behind_pending_bytes::<v4::StreamedKomihash>(&rt);
-    agrees_behind_pending_bytes::<v5::StreamedKomihash>(&rt);
+fn completes_a_begun_block(rt: HostRuntime) {
+    agrees_after_pending_bytes::<v4::StreamedKomihash>(&rt);
+    agrees_after_pending_bytes::<v5::StreamedKomihash>(&rt);
 }
 
-/// By the plain calls: writes that end at these places, with two answers after each.
+/// Writes pieces that end at these indices, and calls `finish` twice after each.
 pub(crate) fn agrees_between<const V: u8>(
     rt: &impl Abort,
     message: &[u8],
@@ -117,8 +115,8 @@ pub(crate) fn agrees_between<const V: u8>(
     }
 }
 
-// A whole block, and one byte before it, at it and after; and pieces of 13 bytes.
-fn goes_on<const V: u8>(rt: &impl Abort) {
+// Writes to one byte before a block's end, to the end, and past it; and pieces of 13 bytes.
+fn continues<const V: u8>(rt: &impl Abort) {
     let mut message = [0xff; 65];
     message[64] = 0;
     agrees_between::<V>(rt, &message, &[64, 65], 0);
@@ -135,13 +133,13 @@ fn goes_on<const V: u8>(rt: &impl Abort) {
 }
 
 #[test]
-fn goes_on_after_an_answer(rt: HostRuntime) {
-    goes_on::<4>(&rt);
-    goes_on::<5>(&rt);
+fn continues_after_finish(rt: HostRuntime) {
+    continues::<4>(&rt);
+    continues::<5>(&rt);
 }
 
 #[test]
-fn copies_a_call_as_it_is(rt: HostRuntime) {
+fn clones_a_call(rt: HostRuntime) {
     let call = Call::Absorb(&ZERO);
     let again: Result<Call, AllocError> = call.clone();
     assert!(rt; matches!(again, Ok(Call::Absorb(bytes)) if bytes == ZERO.as_slice()));
@@ -159,7 +157,7 @@ fn keeps_the_top_bit_of_a_block_in_version_four(rt: HostRuntime) {
     }
 }
 
-// Every beginning of the pattern in one write.
+// Writes every prefix of the pattern at once.
 fn agrees_in_one_write<const V: u8>(rt: &impl Abort) {
     let message = pattern();
     for n in 0..=LONGEST {
@@ -170,13 +168,13 @@ fn agrees_in_one_write<const V: u8>(rt: &impl Abort) {
 }
 
 #[test]
-fn answers_what_one_call_does(rt: HostRuntime) {
+fn finishes_with_the_one_shot_hash(rt: HostRuntime) {
     agrees_in_one_write::<4>(&rt);
     agrees_in_one_write::<5>(&rt);
 }
 
-// A new stream, by each call that makes one.
-fn begins_empty<const V: u8>(rt: &impl Abort) {
+// Makes a new stream by each call that does.
+fn starts_empty<const V: u8>(rt: &impl Abort) {
     let empty = 0xb768_3ea7_4301_32b4;
     same(rt, StreamedKomihash::<V>::new().finish(), empty, 0);
     let seeded = StreamedKomihash::<V>::new_with_seed(0);
@@ -185,83 +183,7 @@ fn begins_empty<const V: u8>(rt: &impl Abort) {
 }
 
 #[test]
-fn begins_with_seed_zero(rt: HostRuntime) {
-    begins_empty::<4>(&rt);
-    begins_empty::<5>(&rt);
-}
-
-// A run on a new stream of seed 0 gives these answers, and writes nothing after them.
-fn runs<S: KomiStream>(rt: &impl Abort, calls: &[Call<'_>], answers: &[u64])
-    requires { length calls.now ≤ 200 }
-{
-    let mut out = [9; 200];
-    let count = run::<S>(0, calls, &mut out, &mut Tally::new());
-    same_count(rt, count, answers.len(), calls.len());
-    assert!(rt; out.starts_with(answers));
-    for word in &out[answers.len()..] {
-        same(rt, *word, 9, count);
-    }
-}
-
-#[test]
-fn runs_calls_in_order(rt: HostRuntime) {
-    let calls = at_cuts(&BLOCK_FIVE);
-    runs::<v5::StreamedKomihash>(&rt, &calls, &CUT_ANSWERS[..5]);
-    let message = BLOCK_FOUR;
-    let calls = [
-        Call::Answer,
-        Call::Absorb(&message[..64]),
-        Call::Answer,
-        Call::Absorb(&message[64..]),
-        Call::Answer,
-    ];
-    let answers = [0xb768_3ea7_4301_32b4, 0x2a2f_07ac_9381_0128, 6];
-    runs::<v4::StreamedKomihash>(&rt, &calls, &answers);
-}
-
-#[test]
-fn runs_few_calls(rt: HostRuntime) {
-    let mut out = [9; 2];
-    let count = run::<v5::StreamedKomihash>(0, &[], &mut out, &mut Tally::new());
-    same_count(&rt, count, 0, 0);
-    same_words(&rt, &out, &[9, 9], 0);
-    let calls = [
-        Call::Absorb(&ZERO),
-        Call::Answer,
-        Call::Absorb(&[]),
-        Call::Answer,
-    ];
-    runs::<v5::StreamedKomihash>(&rt, &calls, &[0, 0]);
-}
-
-#[test]
-fn runs_on_in_mid_stream(rt: HostRuntime) {
-    let message = BLOCK_FIVE;
-    let mut stream = v5::StreamedKomihash::new();
-    stream.write(&message[..1]);
-    let calls = [Call::Absorb(&message[1..64]), Call::Answer];
-    let mut out = [9; 3];
-    let count = run_on(&mut stream, &calls, &mut out, &mut Tally::new());
-    same_count(&rt, count, 1, 0);
-    same_words(&rt, &out, &[0x2a2f_07ac_9381_0128, 9, 9], 0);
-    stream.write(&message[64..]);
-    same(&rt, stream.finish(), 6, 95);
-}
-
-#[test]
-fn answers_after_every_byte(rt: HostRuntime) {
-    let message = BLOCK_FIVE;
-    let absorbs = byte_by_byte(&message);
-    let mut calls = [Call::Answer; 190];
-    let mut answers = [0; 95];
-    for i in 0..95usize {
-        calls[2 * i] = absorbs[i];
-        answers[i] = v5::komihash(&message[..i + 1], 0);
-    }
-    same(&rt, answers[63], 0x2a2f_07ac_9381_0128, 63);
-    for answer in &answers[79..94] {
-        same(&rt, *answer, 0, 79);
-    }
-    same(&rt, answers[94], 6, 94);
-    runs::<v5::StreamedKomihash>(&rt, &calls, &answers);
+fn starts_with_seed_zero(rt: HostRuntime) {
+    starts_empty::<4>(&rt);
+    starts_empty::<5>(&rt);
 }

@@ -1,18 +1,19 @@
-//! What calls cost, as statements: a tally cannot be read by a program, so the numbers stand in
-//! contracts, which are proved. The test makes the calls.
+//! What calls cost. No program can read a tally, so the counts are clauses of functions here, which
+//! are proved; the tests run these functions and compare the hashes.
 
-ghost use Rattle.std.specs.Prelude.{◌≡◌, ◌+◌, length};
-ghost use Rattle.komihash.specs.Counts.{hash_products};
+ghost use Rattle.std.specs.Prelude.{◌≡◌, ◌+◌, ◌%◌, length};
+ghost use Rattle.komihash.specs.Counts.{hash_products, kept_bytes};
 
-use super::messages::{BLOCK_FIVE, BLOCK_FOUR, at_cuts, byte_by_byte};
-use super::same::{same, same_count, same_words};
+use super::assertions::{same, same_count, same_words};
+use super::known_calls::{at_cuts, byte_by_byte};
+use super::known_messages::block_message;
 use crate::hash::komihash;
 use crate::stream::{Call, KomiStream, run};
 use crate::tally::Tally;
 use crate::{v4, v5};
 use std::process::Abort;
 
-// The hash of a message by the counted call of a version.
+// Hashes a message with seed 0 by the counted call of a version.
 fn hash_counted<const V: u8>(bytes: &[u8], tally: &mut Tally) -> u64
     ensures products { tally.new.products ≡ tally.old.products + hash_products (length bytes.now) }
     ensures kept { tally.new.kept ≡ tally.old.kept }
@@ -24,7 +25,7 @@ fn hash_counted<const V: u8>(bytes: &[u8], tally: &mut Tally) -> u64
     }
 }
 
-// The hash of 0, 16, 64, 95 and 100 bytes, each on a tally of its own.
+// Hashes 0, 16, 64, 95 and 100 bytes, each with its own tally, and returns the hashes' xor.
 fn hash_costs<const V: u8>(
     bytes: &[u8; 100],
     none: &mut Tally,
@@ -51,16 +52,15 @@ fn hash_costs<const V: u8>(
         ^ hash_counted::<V>(bytes, all)
 }
 
-// Answers between cuts at 0, 1 and 64 bytes, twice there, and at the end.
+// Runs the calls of `at_cuts`.
 fn cuts_cost<S: KomiStream>(message: &[u8; 95], out: &mut [u64; 9], tally: &mut Tally) -> usize
     ensures products { tally.new.products ≡ tally.old.products + 16 }
     ensures kept { tally.new.kept ≡ tally.old.kept + 95 }
 {
-    let calls = at_cuts(message);
-    run::<S>(0, &calls, out, tally)
+    run::<S>(0, &at_cuts(message), out, tally)
 }
 
-// One Absorb of 95 bytes, and an Answer.
+// Runs an Absorb of 95 bytes, and an Answer.
 fn piece_costs<S: KomiStream>(message: &[u8; 95], out: &mut [u64; 2], tally: &mut Tally) -> usize
     ensures products { tally.new.products ≡ tally.old.products + 8 }
     ensures kept { tally.new.kept ≡ tally.old.kept + 31 }
@@ -69,16 +69,15 @@ fn piece_costs<S: KomiStream>(message: &[u8; 95], out: &mut [u64; 2], tally: &mu
     run::<S>(0, &calls, out, tally)
 }
 
-// 95 bytes, each in an Absorb of its own, and an Answer.
+// Runs the calls of `byte_by_byte`.
 fn bytes_cost<S: KomiStream>(message: &[u8; 95], out: &mut [u64; 96], tally: &mut Tally) -> usize
     ensures products { tally.new.products ≡ tally.old.products + 8 }
     ensures kept { tally.new.kept ≡ tally.old.kept + 95 }
 {
-    let calls = byte_by_byte(message);
-    run::<S>(0, &calls, out, tally)
+    run::<S>(0, &byte_by_byte(message), out, tally)
 }
 
-// No calls.
+// Runs no calls.
 fn nothing_costs<S: KomiStream>(out: &mut [u64; 2], tally: &mut Tally) -> usize
     ensures products { tally.new.products ≡ tally.old.products + 1 }
     ensures kept { tally.new.kept ≡ tally.old.kept }
@@ -86,9 +85,21 @@ fn nothing_costs<S: KomiStream>(out: &mut [u64; 2], tally: &mut Tally) -> usize
     run::<S>(0, &[], out, tally)
 }
 
-// A start, and then Absorbs of 10, 54, 64 and 3 bytes in turn, each on a tally of its own.
+// Absorbs N bytes where BEFORE are pending.
+fn absorb_costs<S: KomiStream, const BEFORE: usize, const N: usize>(
+    stream: &mut S,
+    bytes: &[u8; N],
+    tally: &mut Tally,
+)
+    requires { length (S.state stream.old).pending ≡ BEFORE }
+    ensures pending { length (S.state stream.new).pending ≡ (BEFORE + N) % 64 }
+    ensures kept { tally.new.kept ≡ tally.old.kept + kept_bytes BEFORE N }
+{
+    stream.absorb(bytes, tally);
+}
+
+// Starts a stream, and absorbs 10, 54, 64 and 3 bytes in turn, each with its own tally.
 fn absorbs_cost<S: KomiStream>(
-    bytes: &[u8; 64],
     start: &mut Tally,
     ten: &mut Tally,
     filled: &mut Tally,
@@ -102,10 +113,10 @@ fn absorbs_cost<S: KomiStream>(
     ensures three { three.new.kept ≡ three.old.kept + 3 }
 {
     let mut stream = S::start(0, start);
-    stream.absorb(&bytes[..10], ten);
-    stream.absorb(&bytes[..54], filled);
-    stream.absorb(bytes, block);
-    stream.absorb(&bytes[..3], three);
+    absorb_costs::<S, 0, 10>(&mut stream, &[0; 10], ten);
+    absorb_costs::<S, 10, 54>(&mut stream, &[0; 54], filled);
+    absorb_costs::<S, 0, 64>(&mut stream, &[0; 64], block);
+    absorb_costs::<S, 0, 3>(&mut stream, &[0; 3], three);
 }
 
 fn cuts_answer<S: KomiStream>(rt: &impl Abort, message: &[u8; 95]) {
@@ -128,22 +139,21 @@ fn pieces_answer<S: KomiStream>(rt: &impl Abort, message: &[u8; 95]) {
     same(rt, out[0], 6, 2);
 }
 
-// The calls above, and their answers at the end.
+// Makes the counted runs above, whose last answer is 6.
 fn counted_runs_answer<S: KomiStream>(rt: &impl Abort, message: &[u8; 95]) {
     cuts_answer::<S>(rt, message);
     pieces_answer::<S>(rt, message);
 }
 
 #[test]
-fn counted_runs_answer_as_others(rt: HostRuntime) {
-    counted_runs_answer::<v4::StreamedKomihash>(&rt, &BLOCK_FOUR);
-    counted_runs_answer::<v5::StreamedKomihash>(&rt, &BLOCK_FIVE);
+fn counted_runs_answer_known_hashes(rt: HostRuntime) {
+    counted_runs_answer::<v4::StreamedKomihash>(&rt, &block_message(4));
+    counted_runs_answer::<v5::StreamedKomihash>(&rt, &block_message(5));
 }
 
 #[test]
-fn absorbs_on_tallies_of_their_own() {
+fn absorbs_with_separate_tallies() {
     absorbs_cost::<v5::StreamedKomihash>(
-        &[0; 64],
         &mut Tally::new(),
         &mut Tally::new(),
         &mut Tally::new(),
@@ -153,11 +163,11 @@ fn absorbs_on_tallies_of_their_own() {
 }
 
 #[test]
-fn takes_no_bytes(rt: HostRuntime) {
+fn a_tally_has_size_zero(rt: HostRuntime) {
     same_count(&rt, size_of::<Tally>(), 0, 0);
 }
 
-// The sums of the counted hashes and of the plain ones are the same.
+// Compares the xor of the counted hashes with that of the plain ones.
 fn agrees_counted<const V: u8>(rt: &impl Abort) {
     let bytes = [0; 100];
     let sum = hash_costs::<V>(
@@ -177,7 +187,7 @@ fn agrees_counted<const V: u8>(rt: &impl Abort) {
 }
 
 #[test]
-fn counted_calls_answer_as_others(rt: HostRuntime) {
+fn counted_hashes_are_the_plain_ones(rt: HostRuntime) {
     agrees_counted::<4>(&rt);
     agrees_counted::<5>(&rt);
 }

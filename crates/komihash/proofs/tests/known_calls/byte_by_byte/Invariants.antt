@@ -2,7 +2,7 @@
 use Rattle.std.proofs.Common.{◌≡◌, [], ◌∷◌, take, drop, length}
 use Rattle.komihash.specs.Calls.{AreAbsorbs, bytes_of_calls, onward_kept}
 use Rattle.komihash.specs.declared.stream.Call.TheVariants.{Answer}
-use Rattle.komihash.proofs.tests.messages.byte_by_byte.Given as goal
+use Rattle.komihash.proofs.tests.known_calls.byte_by_byte.Given as goal
 
 abbrev pub invariant-loop-i : goal.invariant-loop-i
 invariant-loop-i l = record {

@@ -1,18 +1,18 @@
-//! Runs that are saved and resumed after each call: a stream that is resumed from the saved text
-//! takes the old one's place. What the calls cost stands in contracts, which are proved.
+//! Runs of calls, saved and resumed after each call. What they cost is proved by clauses.
 
 ghost use Rattle.std.specs.Prelude.{◌≡◌, ◌+◌, ◌≤◌, IsTrue, IfSome, length};
-ghost use Rattle.komihash.specs.Calls.{onward_products, onward_kept};
+ghost use Rattle.komihash.specs.Calls.{run_products, run_kept};
 
-use super::messages::{BLOCK_FIVE, CUT_ANSWERS, at_cuts, byte_by_byte};
-use super::same::{same, same_bytes, same_count, same_length, same_words};
-use super::texts::{BLOCK_SAVED, NEW_FIVE};
+use super::assertions::{same, same_bytes, same_count, same_length, same_words};
+use super::known_calls::{CUT_ANSWERS, at_cuts, byte_by_byte};
+use super::known_messages::block_message;
+use super::known_texts::{lanes_after_block, new_text, text_of_zeros};
 use crate::stream::{Call, KomiStream, run_on};
 use crate::tally::Tally;
 use crate::{v4, v5};
 
-// Saves and resumes a stream: this is possible in every state, and changes nothing.
-fn rest<S: KomiStream>(stream: &mut S) -> bool
+// Saves a stream and resumes it. This succeeds in every state, and changes nothing.
+fn save_and_resume<S: KomiStream>(stream: &mut S) -> bool
     ensures resumed { IsTrue result }
     ensures state { S.state stream.new ≡ S.state stream.old }
 {
@@ -27,28 +27,23 @@ fn rest<S: KomiStream>(stream: &mut S) -> bool
     }
 }
 
-// Makes each call in a run of its own, saved and resumed after it. They cost what one run does.
-fn run_with_rests<S: KomiStream>(
-    stream: &mut S,
-    calls: &[Call<'_>],
-    out: &mut [u64],
-    tally: &mut Tally,
-) -> usize
+// Makes calls on a new stream of seed 0, each in its own run, and saves and resumes the stream after
+// each. They cost what one run does. Returns the stream and the number of answers.
+fn run_resumed<S: KomiStream>(calls: &[Call<'_>], out: &mut [u64], tally: &mut Tally) -> (S, usize)
     requires { length calls.now ≤ length out.old }
-    ensures products { tally.new.products
-        ≡ tally.old.products + onward_products (length (S.state stream.old).pending) calls.now }
-    ensures kept { tally.new.kept
-        ≡ tally.old.kept + onward_kept (length (S.state stream.old).pending) calls.now }
+    ensures products { tally.new.products ≡ tally.old.products + run_products calls.now }
+    ensures kept { tally.new.kept ≡ tally.old.kept + run_kept calls.now }
 {
+    let mut stream = S::start(0, tally);
     let mut count = 0;
     for i in 0..calls.len() {
-        count += run_on(stream, &calls[i..i + 1], &mut out[count..], tally);
-        rest(stream);
+        count += run_on(&mut stream, &calls[i..i + 1], &mut out[count..], tally);
+        save_and_resume(&mut stream);
     }
-    count
+    (stream, count)
 }
 
-// Answers between cuts at 0, 1 and 64 bytes, twice there, and at the end; then the text.
+// Makes the calls of `at_cuts`, and then saves the stream.
 fn cuts_cost<S: KomiStream>(
     message: &[u8; 95],
     out: &mut [u64; 9],
@@ -58,21 +53,19 @@ fn cuts_cost<S: KomiStream>(
     ensures products { tally.new.products ≡ tally.old.products + 16 }
     ensures kept { tally.new.kept ≡ tally.old.kept + 95 }
 {
-    let mut stream = S::start(0, tally);
-    let count = run_with_rests(&mut stream, &at_cuts(message), out, tally);
+    let (stream, count) = run_resumed::<S>(&at_cuts(message), out, tally);
     (count, stream.store(text))
 }
 
-// 95 bytes, each in an Absorb of its own, and an Answer.
+// Makes the calls of `byte_by_byte`.
 fn bytes_cost<S: KomiStream>(message: &[u8; 95], out: &mut [u64; 96], tally: &mut Tally) -> usize
     ensures products { tally.new.products ≡ tally.old.products + 8 }
     ensures kept { tally.new.kept ≡ tally.old.kept + 95 }
 {
-    let mut stream = S::start(0, tally);
-    run_with_rests(&mut stream, &byte_by_byte(message), out, tally)
+    run_resumed::<S>(&byte_by_byte(message), out, tally).1
 }
 
-// No calls on a new stream, and then its text.
+// Makes no calls on a new stream, and then saves it.
 fn nothing_costs<S: KomiStream>(
     out: &mut [u64; 2],
     text: &mut [u8; 131],
@@ -86,7 +79,7 @@ fn nothing_costs<S: KomiStream>(
     (count, stream.store(text))
 }
 
-// An Answer of a stream that is resumed with nothing pending.
+// Makes an Answer on a stream that is resumed with no pending bytes.
 fn answer_costs<S: KomiStream>(
     text: &[u8; 68],
     out: &mut [u64; 1],
@@ -100,17 +93,17 @@ fn answer_costs<S: KomiStream>(
 }
 
 #[test]
-fn rests_change_nothing(rt: HostRuntime) {
+fn saving_and_resuming_changes_nothing(rt: HostRuntime) {
     let mut tally = Tally::new();
     let mut out = [9; 9];
     let mut text = [0; 131];
-    let message = BLOCK_FIVE;
+    let message = block_message(5);
     let (count, end) = cuts_cost::<v5::StreamedKomihash>(&message, &mut out, &mut text, &mut tally);
     same_count(&rt, count, 5, 0);
     same_words(&rt, &out, &CUT_ANSWERS, 0);
     same_count(&rt, end, 99, 1);
     same_bytes(&rt, &text[..4], &[5, 1, 0, 31], 0);
-    same_bytes(&rt, &text[4..68], &BLOCK_SAVED[4..], 4);
+    same_bytes(&rt, &text[4..68], &lanes_after_block(), 4);
     same_bytes(&rt, &text[68..99], &message[64..], 68);
 
     let mut out = [9; 96];
@@ -120,11 +113,11 @@ fn rests_change_nothing(rt: HostRuntime) {
 }
 
 #[test]
-fn runs_on_with_no_calls(rt: HostRuntime) {
+fn runs_no_calls(rt: HostRuntime) {
     let mut out = [9; 2];
     let mut text = [0xee; 131];
     let mut wanted = text;
-    wanted[..68].copy_from_slice(&NEW_FIVE);
+    wanted[..68].copy_from_slice(&new_text(5));
     let (count, end) = nothing_costs::<v5::StreamedKomihash>(
         &mut out,
         &mut text,
@@ -137,10 +130,8 @@ fn runs_on_with_no_calls(rt: HostRuntime) {
 }
 
 #[test]
-fn answers_from_a_text(rt: HostRuntime) {
-    let mut high = [0; 68];
-    high[..3].copy_from_slice(&[4, 1, 1]);
-    high[67] = 0x80;
+fn answers_once_resumed(rt: HostRuntime) {
+    let high = text_of_zeros([4, 1, 1, 0], 0x80);
     let mut out = [9];
     let count = answer_costs::<v4::StreamedKomihash>(&high, &mut out, &mut Tally::new());
     same_length(&rt, count, Some(1), 0);

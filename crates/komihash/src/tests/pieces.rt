@@ -1,13 +1,13 @@
-//! The messages that were made by hand, cut at every place, and writes of no bytes.
+//! The known messages in pieces, cut at every index and byte by byte, and empty writes.
 
-use super::messages::{BLOCK_FIVE, BLOCK_FOUR, HIGH_END, SIX};
-use super::same::same;
+use super::assertions::same;
+use super::known_messages::{HIGH_END, SIX, block_message};
 use super::stream::{agrees_between, finishes};
 use crate::hash::komihash;
 use crate::stream::streamed::StreamedKomihash;
 use std::process::Abort;
 
-// A message cut in two at every place, with a write of no bytes between.
+// Writes a message cut in two at every index, with an empty write between.
 fn agrees_cut_in_two<const V: u8>(rt: &impl Abort, message: &[u8]) {
     let whole = message.len();
     for cut in 0..=whole {
@@ -15,7 +15,7 @@ fn agrees_cut_in_two<const V: u8>(rt: &impl Abort, message: &[u8]) {
     }
 }
 
-// A message byte by byte. From some length on the answers are 0, until the last byte.
+// Writes a message byte by byte. From the length `zero_from` on the hash is 0, until the last byte.
 fn agrees_byte_by_byte<const V: u8>(rt: &impl Abort, message: &[u8], zero_from: usize) {
     let mut stream = StreamedKomihash::<V>::new();
     for n in 0..message.len() {
@@ -35,16 +35,16 @@ fn agrees_however_cut<const V: u8>(rt: &impl Abort, message: &[u8], zero_from: u
 }
 
 #[test]
-fn cut_at_every_place(rt: HostRuntime) {
+fn hashes_alike_however_cut(rt: HostRuntime) {
     agrees_however_cut::<4>(&rt, &HIGH_END, 31, 7);
     agrees_however_cut::<5>(&rt, &HIGH_END, 31, 0x8000_0000_0000_0000);
     agrees_however_cut::<4>(&rt, &SIX, 16, 6);
     agrees_however_cut::<5>(&rt, &SIX, 16, 6);
-    agrees_however_cut::<4>(&rt, &BLOCK_FOUR, 80, 6);
-    agrees_however_cut::<5>(&rt, &BLOCK_FIVE, 80, 6);
+    agrees_however_cut::<4>(&rt, &block_message(4), 80, 6);
+    agrees_however_cut::<5>(&rt, &block_message(5), 80, 6);
 }
 
-// A thousand writes of no bytes after a message.
+// Writes a message, and then a thousand times no bytes.
 fn stays_after_empty_writes<const V: u8>(rt: &impl Abort, message: &[u8], hash: u64) {
     let mut stream = StreamedKomihash::<V>::new();
     stream.write(message);
@@ -58,6 +58,8 @@ fn stays_after_empty_writes<const V: u8>(rt: &impl Abort, message: &[u8], hash: 
 fn empty_writes_change_nothing(rt: HostRuntime) {
     stays_after_empty_writes::<4>(&rt, &[], 0xb768_3ea7_4301_32b4);
     stays_after_empty_writes::<5>(&rt, &[], 0xb768_3ea7_4301_32b4);
-    stays_after_empty_writes::<4>(&rt, &BLOCK_FOUR[..64], 0x2a2f_07ac_9381_0128);
-    stays_after_empty_writes::<5>(&rt, &BLOCK_FIVE[..64], 0x2a2f_07ac_9381_0128);
+    let four: &[u8; 95] = &block_message(4);
+    stays_after_empty_writes::<4>(&rt, &four[..64], 0x2a2f_07ac_9381_0128);
+    let five: &[u8; 95] = &block_message(5);
+    stays_after_empty_writes::<5>(&rt, &five[..64], 0x2a2f_07ac_9381_0128);
 }

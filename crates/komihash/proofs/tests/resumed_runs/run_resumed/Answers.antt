@@ -3,13 +3,13 @@ use Rattle.std.proofs.lemmas.List.{drop-drop, length-drop, length-take-le, take-
 use Rattle.komihash.specs.Calls.{bytes_of_calls, onward_products, onward_kept}
 use Rattle.komihash.specs.Stream.{absorb, answer}
 use Rattle.komihash.proofs.CallLists.{pending-absorb, onward_products-cut, onward_kept-cut, length-answers_after, counted}
-use Rattle.komihash.proofs.tests.rests.run_with_rests.Goals as goal
+use Rattle.komihash.proofs.tests.resumed_runs.run_resumed.Goals as goal
 
 pub loop-i-preserved : goal.loop-i-preserved
 loop-i-preserved g c =
     let v = g.S.KomiStream.VERSION in
     let before = g.S.KomiStream.state c.loop-i.stream in
-    let after = g.S.KomiStream.state c.rest.new.stream in
+    let after = g.S.KomiStream.state c.save_and_resume.new.stream in
     let i = c.loop-i.i in
     let calls = c.args.calls.now in
     let run = c.run_on-count in
@@ -24,7 +24,7 @@ loop-i-preserved g c =
     let left : drop i calls ≡ piece ++ rest = next ∙ ap (λ n. take n (drop i calls) ++ rest) (sym one) in
     let few = (g.met.S.KomiStream.is_state c.loop-i.stream).few in
     let pending : length after.pending ≡ (length before.pending + length (bytes_of_calls piece)) % 64 =
-    ap (λ s. length s.pending) (c.rest.ensures.state ∙ run.ensures.state)
+    ap (λ s. length s.pending) (c.save_and_resume.ensures.state ∙ run.ensures.state)
     ∙ pending-absorb v before (bytes_of_calls piece) few in
     let products =
     ap (onward_products (length before.pending)) left

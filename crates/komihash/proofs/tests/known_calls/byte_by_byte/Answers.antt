@@ -7,7 +7,7 @@ use Rattle.komihash.specs.Counts.{hash_products, kept_bytes}
 use Rattle.komihash.specs.declared.stream.Call.{Call}
 use Rattle.komihash.specs.declared.stream.Call.TheVariants.{Answer}
 use Rattle.komihash.proofs.CallLists.{AreAbsorbs-append, bytes_of_calls-append, onward_kept-append, kept_bytes-one, run_products-pieces}
-use Rattle.komihash.proofs.tests.messages.byte_by_byte.Goals as goal
+use Rattle.komihash.proofs.tests.known_calls.byte_by_byte.Goals as goal
 
 pub loop-i-preserved : goal.loop-i-preserved
 loop-i-preserved c =

@@ -1,12 +1,12 @@
-//! The root of the crate offers version 5.
+//! The names that the crate's root exports are those of version 5.
 
-use super::messages::HIGH_END;
-use super::same::same;
+use super::assertions::same;
+use super::known_messages::HIGH_END;
 use crate::v5;
 use std::hash::Hasher;
 
 #[test]
-fn offers_version_five(rt: HostRuntime) {
+fn root_exports_version_five(rt: HostRuntime) {
     let hash = 0x8000_0000_0000_0000;
     same(&rt, crate::komihash(&HIGH_END, 0), hash, 0);
     let mut stream: v5::StreamedKomihash = crate::StreamedKomihash::new();

@@ -1,0 +1,31 @@
+//! Comparisons. Each call passes a length or an index, which the message of a failure names.
+
+use std::process::Abort;
+
+/// Asserts that two words are the same.
+pub(crate) fn same(rt: &impl Abort, given: u64, wanted: u64, at: usize) {
+    assert!(rt;
+        given == wanted,
+        "{given:#x}, expected {wanted:#x}, at {at}"
+    );
+}
+
+/// Asserts that two lengths or counts are the same.
+pub(crate) fn same_count(rt: &impl Abort, given: usize, wanted: usize, at: usize) {
+    same(rt, given as u64, wanted as u64, at);
+}
+
+/// Asserts that bytes are the same.
+pub(crate) fn same_bytes(rt: &impl Abort, given: &[u8], wanted: &[u8], at: usize) {
+    assert!(rt; given == wanted, "different bytes at {at}");
+}
+
+/// Asserts that words are the same.
+pub(crate) fn same_words(rt: &impl Abort, given: &[u64], wanted: &[u64], at: usize) {
+    assert!(rt; given == wanted, "different words at {at}");
+}
+
+/// Asserts that two lengths are the same, or both `None`.
+pub(crate) fn same_length(rt: &impl Abort, given: Option<usize>, wanted: Option<usize>, at: usize) {
+    assert!(rt; given == wanted, "different lengths at {at}");
+}
