@@ -1,5 +1,6 @@
-# What the tests of the built program share; they source this file. It needs bash, the coreutils and the
-# program: `rt ci` leaves it, and else `rt run` builds it. Each case prints a line, and `counted` the last one.
+# Shared by the tests of the built program, which source this file. They need bash, the coreutils
+# and the program: `rt ci` leaves it, otherwise `rt run` builds it here. Each case prints a line,
+# and `counted` prints the last one.
 set -uo pipefail
 shopt -s globstar
 cd "$(dirname "${BASH_SOURCE[0]}")/../crates/komisum" || exit 1
@@ -8,7 +9,7 @@ room=$(realpath "$(mktemp -d)")
 trap 'rm -rf "$room"' EXIT
 program=$PWD/out/komisum
 
-# Whether the program is there, and no source is newer.
+# Succeeds if the program exists and no source is newer.
 is_built() {
     local source
     [ -x "$program" ] || return 1
@@ -19,7 +20,7 @@ is_built() {
 
 if ! is_built && ! rt run < stdin > "$room/built" 2>&1; then
     cat "$room/built"
-    echo 'FAILED: the program is built, and its stored run ends well'
+    echo 'FAILED: `rt run < stdin` in crates/komisum, which builds the program'
     echo '0 passed, 1 failed'
     exit 1
 fi
@@ -27,7 +28,8 @@ passed=0
 failed=0
 skipped=0
 
-# Notes a case: whether what came is what was wanted. Nothing is never wanted: a command that fails may print it.
+# Counts a case: it passes if what came is what was wanted. Nothing is never wanted, since a command
+# that fails may print nothing.
 note() {
     local name=$1 wanted=$2 came=$3
     if [ -n "$wanted" ] && [ "$wanted" = "$came" ]; then
@@ -36,18 +38,18 @@ note() {
     else
         failed=$((failed + 1))
         echo "FAILED: $name"
-        printf 'wanted:\n%s\ncame:\n%s\n' "$wanted" "$came"
+        printf 'expected:\n%s\ngot:\n%s\n' "$wanted" "$came"
     fi
 }
 
-# Runs a function that notes `count` cases and needs a tool, if a command shows that the tool works here. Else the
-# cases are skipped.
+# Runs a function of `count` cases that need a tool, if the command `works` shows that the tool
+# works here. Otherwise skips them.
 cases_with() {
     local tool=$1 works=$2 count=$3 cases=$4 before=$((passed + failed))
     if "$works" > "$room/tried" 2>&1; then
         "$cases"
         [ $((passed + failed - before)) = "$count" ] ||
-            note "number of cases that need $tool" "$count" "$((passed + failed - before))"
+            note "the number of cases that need $tool" "$count" "$((passed + failed - before))"
     else
         skipped=$((skipped + count))
         cat "$room/tried"
@@ -55,7 +57,7 @@ cases_with() {
     fi
 }
 
-# Prints the line that counts the cases. The status says whether none failed.
+# Prints the counts. Succeeds if no case failed.
 counted() {
     local skips=", $skipped skipped"
     [ "$skipped" != 0 ] || skips=
@@ -63,26 +65,26 @@ counted() {
     [ "$failed" = 0 ]
 }
 
-# Runs a command, and prints its status, its output and its errors, each after its name.
+# Runs a command, and prints its status, standard output and standard error, each after its name.
 ran() {
     "$@" > "$room/output" 2> "$room/errors"
     told $?
 }
 
-# The same with the program and words.
+# Does the same for the program with these arguments.
 run() { ran "$program" "$@"; }
 
-# Prints a status, and what stands in the files of the last output and errors.
+# Prints a status, and the files with the last standard output and error.
 told() {
     printf 'status %s\n' "$1"
     printf 'output %s|\n' "$(cat "$room/output"; printf .)"
     printf 'errors %s|\n' "$(cat "$room/errors"; printf .)"
 }
 
-# The first bytes of a message: of what `seq` prints.
+# Prints a message of this many bytes, from what `seq` prints.
 message() { seq 1 1000000 | head -c "$1"; }
 
-# What is told of a line, of a fault, and of a fault after the beginning of a line.
+# Print what is expected of a line, of a fault, and of a fault after part of the line.
 line() { printf 'status 0\noutput %s\n.|\nerrors .|\n' "$1"; }
 fault() { printf 'status %s\noutput .|\nerrors komisum: %s\n.|\n' "$1" "$2"; }
 begun() { printf 'status 1\noutput %s.|\nerrors komisum: write failed\n.|\n' "$1"; }

@@ -1,81 +1,87 @@
 #!/usr/bin/env bash
-# The built program where reads, writes and memory fail. Each case prints a line; the last line is 'N passed,
-# M failed', and ', K skipped' if some could not run. It needs what cases.sh names; and strace, which lets calls of
-# the system fail, a C compiler for refuse.c, which refuses memory, and valgrind, which counts requests for memory:
-# without one of them its cases are skipped, as cases.sh says.
+# Tests the built program when reads, writes and allocations fail. Each case prints a line; the last
+# line is 'N passed, M failed', with ', K skipped' if some could not run. Needs what cases.sh names.
+# It also uses strace, which makes system calls fail, a C compiler for refuse.c, which makes
+# allocations fail, and valgrind, which counts allocations. Cases whose tool is missing are skipped.
 source "$(dirname "$0")/cases.sh"
 
 whole=$(cat stdout)
 message 200000 > "$room/long"
 long=$("$program" < "$room/long")
 
-# What can't be read from or written to at all.
-note 'a folder' "$(fault 1 'read failed')" "$(run < /)"
+# Files that can't be read or written at all.
+note 'input is a folder' "$(fault 1 'read failed')" "$(run < /)"
 note 'closed input' "$(fault 1 'read failed')" "$(run <&-)"
 : > "$room/output"
-note 'closed output' "$(fault 1 'write failed')" "$("$program" < stdin >&- 2> "$room/errors"; told $?)"
-note 'closed errors' 'status 1' "$("$program" < / 2>&-; printf 'status %s' $?)"
-note 'closed errors at usage' 'status 2' "$("$program" 6 0 < /dev/null 2>&-; printf 'status %s' $?)"
+note 'closed output' "$(fault 1 'write failed')" \
+    "$("$program" < stdin >&- 2> "$room/errors"; told $?)"
+note 'closed standard error' 'status 1' "$("$program" < / 2>&-; printf 'status %s' $?)"
+note 'closed standard error, wrong usage' 'status 2' \
+    "$("$program" 6 0 < /dev/null 2>&-; printf 'status %s' $?)"
 full_device() {
-    note 'full output' "$(fault 1 'write failed')" "$("$program" < stdin > /dev/full 2> "$room/errors"; told $?)"
-    note 'full errors' 'status 1' "$("$program" < / 2> /dev/full; printf 'status %s' $?)"
+    note 'full output' "$(fault 1 'write failed')" \
+        "$("$program" < stdin > /dev/full 2> "$room/errors"; told $?)"
+    note 'full standard error' 'status 1' "$("$program" < / 2> /dev/full; printf 'status %s' $?)"
 }
 has_full_device() { [ -c /dev/full ]; }
 cases_with /dev/full has_full_device 2 full_device
 into_closed_pipe() {
-    { sleep 0.2; printf a; } | { "$program" 2> "$room/errors"; printf %s $? > "$room/status"; } | true
+    { sleep 0.2; printf a; } |
+        { "$program" 2> "$room/errors"; printf %s $? > "$room/status"; } | true
     told "$(cat "$room/status")"
 }
-note 'a pipe that closes early' "$(fault 1 'write failed')" "$(into_closed_pipe)"
+note 'output pipe closes early' "$(fault 1 'write failed')" "$(into_closed_pipe)"
 
-# Files that have room for the first bytes of the line alone: these are taken, and the next write fails.
+# Output files with room for only the first bytes of the line: these are written, and the next write
+# fails.
 for bytes in {0..17}; do
     head -c $((1024 - bytes)) /dev/zero > "$room/full"
     (trap '' XFSZ; ulimit -f 1; "$program" < stdin >> "$room/full" 2> "$room/errors")
     status=$?
     tail -c "+$((1025 - bytes))" "$room/full" > "$room/output"
     wanted=$(if [ "$bytes" = 17 ]; then line "$whole"; else begun "${whole::bytes}"; fi)
-    note "room for $bytes bytes" "$wanted" "$(told $status)"
+    note "output file with room for $bytes bytes" "$wanted" "$(told $status)"
 done
 
-# Runs the program where calls of the system on a file go wrong, and tells how many there were.
+# Runs the program with faulty system calls on a file, and prints how many there were.
 injected() {
     local file=$1 call=$2 what=$3
     ran strace -o "$room/trace" -P "$file" -e "trace=$call" -e "inject=$call:$what" "$program"
     printf 'calls %s\n' "$(grep -c "^$call(" "$room/trace")"
 }
 
-# Each read of an input that takes five, the write, and the report, with each error: nothing is asked for after a
-# fault.
+# Makes each of the five reads of an input fail, then the write, then the message on standard error,
+# with each error. After a fault the program makes no further call on the file.
 errors_at_each_call() {
     local error k
     for error in EIO EINTR EAGAIN ENOSPC EPIPE; do
         for k in {1..5}; do
-            note "read $k answers $error" "$(fault 1 'read failed'; echo "calls $k")" \
+            note "read $k fails with $error" "$(fault 1 'read failed'; echo "calls $k")" \
                 "$(injected "$room/long" read "error=$error:when=$k" < "$room/long")"
         done
-        note "no read answers $error" "$(line "$long"; echo 'calls 5')" \
+        note "no read fails with $error" "$(line "$long"; echo 'calls 5')" \
             "$(injected "$room/long" read "error=$error:when=6" < "$room/long")"
-        note "the write answers $error" "$(fault 1 'write failed'; echo 'calls 1')" \
+        note "the write fails with $error" "$(fault 1 'write failed'; echo 'calls 1')" \
             "$(injected "$room/output" write "error=$error:when=1" < stdin)"
-        note "no write answers $error" "$(line "$whole"; echo 'calls 1')" \
+        note "no write fails with $error" "$(line "$whole"; echo 'calls 1')" \
             "$(injected "$room/output" write "error=$error:when=2" < stdin)"
-        note "the report answers $error" "$(printf 'status 1\noutput .|\nerrors .|\ncalls 1\n')" \
+        note "the message fails with $error" \
+            "$(printf 'status 1\noutput .|\nerrors .|\ncalls 1\n')" \
             "$(injected "$room/errors" write "error=$error:when=1" < /)"
     done
 }
 
-# Calls that move nothing, or one byte.
+# Makes calls transfer nothing, or one byte.
 calls_that_move_little() {
     local k read_before
     for k in {1..5}; do
         read_before=$(head -c $((65536 * (k - 1))) "$room/long" | "$program")
-        note "read $k is the end" "$(line "$read_before"; echo "calls $k")" \
+        note "read $k is the end of input" "$(line "$read_before"; echo "calls $k")" \
             "$(injected "$room/long" read "retval=0:when=$k" < "$room/long")"
     done
-    note 'the write takes nothing' "$(fault 1 'write failed'; echo 'calls 1')" \
+    note 'the write accepts nothing' "$(fault 1 'write failed'; echo 'calls 1')" \
         "$(injected "$room/output" write retval=0 < stdin)"
-    note 'each write takes one byte' "$(printf 'status 0\noutput .|\nerrors .|\ncalls 17\n')" \
+    note 'each write accepts one byte' "$(printf 'status 0\noutput .|\nerrors .|\ncalls 17\n')" \
         "$(injected "$room/output" write retval=1 < stdin)"
 }
 
@@ -86,8 +92,8 @@ faults_by_strace() {
 }
 cases_with strace traces 52 faults_by_strace
 
-# Under limits that fall: as long as there is enough the line is written, right below there is no memory, and
-# below that the program can't be loaded.
+# Lowers the limit on memory. With enough, the program writes the line; just below, it reports no
+# memory; further below, it can't be loaded.
 limited() {
     (ulimit -v "$1"; "$program" "${@:2}" < stdin > "$room/output" 2> "$room/errors")
     told $?
@@ -101,41 +107,44 @@ memory_falls() {
     done
     note "$name, too little memory: no memory" "$(fault 1 'no memory')" "$(limited "$few" "$@")"
     while [ "$(limited "$few" "$@")" = "$(fault 1 'no memory')" ]; do few=$((few - 16)); done
-    note "$name, less memory: not loaded" 'status 127' "$(limited "$few" "$@" | head -n 1)"
+    note "$name, even less memory: not loaded" 'status 127' "$(limited "$few" "$@" | head -n 1)"
 }
 memory_falls 'no arguments' "$(line "$whole")"
 memory_falls 'two arguments' "$(line 4bde5bdc63771675)" 4 1f
 
-# Runs the program with one of its requests for memory refused, and tells what is left of its input, and how many
-# requests there were.
+# Runs the program with one allocation refused, and prints what is left of its input and how many
+# allocations it requested.
 refused() {
     local request=$1
     shift
     {
-        ran env "LD_PRELOAD=$room/refuse.so" "REFUSED_REQUEST=$request" "$program" "$@" 9> "$room/requests"
+        ran env "LD_PRELOAD=$room/refuse.so" "REFUSED_REQUEST=$request" "$program" "$@" \
+            9> "$room/requests"
         printf 'left %s\nrequests %s\n' "$(cat)" "$(cat "$room/requests")"
     } < stdin
 }
 
-# Refuses each of the requests in turn, and then one that is never made. At each there is no memory, and nothing is
-# read of the input; but one of them may be tolerated: it is made again.
+# Refuses each allocation in turn, and then one that is never requested. For each the program
+# reports no memory and reads nothing, except for the tolerated one, which it requests again.
 refuse_each() {
     local name=$1 line=$2 requests=$3 tolerated=$4 k
     shift 4
     for ((k = 1; k <= requests; k++)); do
         if [ "$k" = "$tolerated" ]; then
-            note "$name: request $k is made again" \
-                "$(line "$line"; printf 'left \nrequests %s\n' $((requests + 1)))" "$(refused "$k" "$@")"
+            note "$name: allocation $k is refused, and requested again" \
+                "$(line "$line"; printf 'left \nrequests %s\n' $((requests + 1)))" \
+                "$(refused "$k" "$@")"
         else
-            note "$name: request $k is refused" \
+            note "$name: allocation $k is refused" \
                 "$(fault 1 'no memory'; printf 'left a\nrequests %s\n' "$k")" "$(refused "$k" "$@")"
         fi
     done
-    note "$name: no request $k" \
+    note "$name: there is no allocation $k" \
         "$(line "$line"; printf 'left \nrequests %s\n' "$requests")" "$(refused "$k" "$@")"
 }
 
-# With two arguments the 6th request is for the list of both, in advance: it is made again when the first is put in.
+# With two arguments, allocation 6 reserves room for the list of both. It is requested again when
+# the first is pushed.
 refused_requests() {
     refuse_each 'no arguments' "$whole" 2 none
     refuse_each 'two arguments' 4bde5bdc63771675 7 6 4 1f
@@ -143,7 +152,7 @@ refused_requests() {
 compiles() { "${CC:-cc}" -shared -fPIC -o "$room/refuse.so" ../../scripts/refuse.c; }
 cases_with 'a C compiler' compiles 11 refused_requests
 
-# As many requests, and for as much, whatever the input's length; and each block is freed.
+# The number and size of allocations don't depend on the input's length, and all are freed.
 heap_usage() {
     rm -f "$room/usage"
     valgrind --log-file="$room/usage" "$program" > "$room/output"
@@ -152,26 +161,29 @@ heap_usage() {
 memory_by_length() {
     local size
     for size in 0 1 4097 65537 588895; do
-        note "memory for $size bytes" 'total heap usage: 2 allocs, 2 frees, 65,792 bytes allocated' \
+        note "allocations for $size bytes of input" \
+            'total heap usage: 2 allocs, 2 frees, 65,792 bytes allocated' \
             "$(message "$size" | heap_usage)"
     done
 }
 counts_memory() { valgrind true; }
 cases_with valgrind counts_memory 5 memory_by_length
 
-# The tests of `komihash` make every call of it. Their program names no function that gives memory, so none can ask
-# for any; `komisum` names two, which refuse.c stands in for.
-givers_of_memory() {
+# The tests of `komihash` make every call. Their program names no allocation function, so no call
+# can allocate; `komisum` names two, which refuse.c replaces.
+allocation_functions_in() {
     local names
     names=$(grep -aoE '\b(malloc|calloc|realloc|aligned_alloc|posix_memalign|mmap|s?brk)\b' "$1") ||
         [ $? = 1 ] || names='not read'
     sort -u <<< "${names:-none}"
 }
-names_that_give_memory() {
-    note 'memory that komihash asks for' none "$(givers_of_memory ../komihash/out/komihash_tests)"
-    note 'memory that komisum asks for' $'malloc\nrealloc' "$(givers_of_memory "$program")"
+allocation_functions() {
+    note 'allocation functions in komihash' none \
+        "$(allocation_functions_in ../komihash/out/komihash_tests)"
+    note 'allocation functions in komisum' $'malloc\nrealloc' \
+        "$(allocation_functions_in "$program")"
 }
 has_built_tests() { [ -x ../komihash/out/komihash_tests ]; }
-cases_with "the program of komihash's tests" has_built_tests 2 names_that_give_memory
+cases_with "the program of komihash's tests" has_built_tests 2 allocation_functions
 
 counted

@@ -1,9 +1,11 @@
 #!/usr/bin/env bash
-# Every proof and every test: the rules that are read off the sources and the documents, which take seconds, then the
-# merge gate of the toolchain, and the tests of the built program. The first part that fails ends the run.
+# Runs every proof and every test: first the rules for sources and documents, which take seconds,
+# then the toolchain's merge gate, then the tests of the built program. The first part that fails
+# ends the run.
 #
-# The last line is 'N passed, M failed', the sum of all parts, with ', K skipped' if something is missing that some
-# cases need; lines above it name these cases. With REQUIRE_ALL=1 in the environment, skipped cases count as failed.
+# The last line is 'N passed, M failed', the sum of all parts, with ', K skipped' if a tool is
+# missing that some cases need; lines above it name these cases. With REQUIRE_ALL=1 in the
+# environment, skipped cases count as failed.
 set -euo pipefail
 cd "$(dirname "$0")/.."
 
@@ -14,7 +16,7 @@ room=$(mktemp -d)
 trap 'rm -rf "$room"' EXIT
 : > "$room/skipped"
 
-# Prints what was skipped and the sum of all parts, and ends. The status says whether none failed.
+# Prints the skipped cases and the sum of all parts, and exits. The status is 0 if no case failed.
 sum_up() {
     local skips=", $skipped skipped"
     [ "$skipped" != 0 ] || skips=
@@ -23,30 +25,31 @@ sum_up() {
     exit $((failed > 0))
 }
 
-# Ends the run, and says why.
+# Ends the run with a reason.
 stop() {
     echo "FAILED: $1"
     sum_up
 }
 
-# Notes that something is missing that no part can do without.
+# Counts a missing tool that every run needs.
 lack() {
     failed=$((failed + 1))
     echo "missing: $1"
 }
 
-# Looks for what each part needs, before the first.
+# Looks for what the parts need, before the first one runs.
 look_for_tools() {
     local tool
     for tool in rt grep head mktemp realpath seq sort tail tee; do
         command -v "$tool" > /dev/null || lack "$tool"
     done
     ((BASH_VERSINFO[0] >= 4)) || lack 'bash, version 4 or newer'
-    python3 -c 'import sys; sys.exit(sys.version_info < (3, 9))' 2> /dev/null || lack 'python3, version 3.9 or newer'
-    [ "$failed" = 0 ] || stop 'something is missing, so no part was run'
+    python3 -c 'import sys; sys.exit(sys.version_info < (3, 9))' 2> /dev/null ||
+        lack 'python3, version 3.9 or newer'
+    [ "$failed" = 0 ] || stop 'a tool is missing, so no part was run'
 }
 
-# Adds the counts that a part's last line has.
+# Adds the counts in a part's last line.
 add_counts() {
     local counts='^([0-9]+) passed, ([0-9]+) failed(, ([0-9]+) skipped)?$' skips
     if [[ $(tail -n 1 "$1") =~ $counts ]]; then
@@ -61,7 +64,7 @@ add_counts() {
         fi
     else
         failed=$((failed + 1))
-        echo 'The last line does not count its cases.'
+        echo 'FAILED: the last line has no counts'
     fi
 }
 
@@ -73,7 +76,7 @@ part() {
     grep '^skipped: ' "$room/output" >> "$room/skipped" || true
     add_counts "$room/output"
     if [ "$status" != 0 ] && [ "$failed" = 0 ]; then failed=1; fi
-    [ "$failed" = 0 ] || stop "$*; the parts after it, if any, were not run"
+    [ "$failed" = 0 ] || stop "$*; later parts, if any, were not run"
 }
 
 look_for_tools
