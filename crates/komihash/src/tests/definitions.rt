@@ -22,6 +22,8 @@ const S3: u64 = 0xa5db_d628_cd95_790c;
 
 const S4: u64 = 0x09fc_1492_0844_2455;
 
+const FULL: [u8; 8] = [0xff; 8];
+
 #[tactic(auto, unfolding(crate::specs::Hash::komi, crate::specs::Rounds::mix, crate::specs::Rounds::block_round_by, crate::specs::Words::bytes_of))]
 fn hashes()
     ensures none { komi 5 0 [] ≡ 0xb7683ea7430132b4 }
@@ -79,10 +81,8 @@ fn padded_words()
     ensures three { padded_words 4 (0x61 ∷ 0x62 ∷ 0x63 ∷ []) ≡ 0x01636261 ∷ [] }
     ensures high { padded_words 5 (0x80 ∷ []) ≡ 0x0180 ∷ [] }
     ensures high_in_four { padded_words 4 (0x80 ∷ []) ≡ 0x0280 ∷ [] }
-    ensures full { padded_words 5 (0xff ∷ 0xff ∷ 0xff ∷ 0xff ∷ 0xff ∷ 0xff ∷ 0xff ∷ 0xff ∷ [])
-        ≡ 0xffffffffffffffff ∷ 1 ∷ [] }
-    ensures full_in_four { padded_words 4 (0xff ∷ 0xff ∷ 0xff ∷ 0xff ∷ 0xff ∷ 0xff ∷ 0xff ∷ 0xff ∷ [])
-        ≡ 0xffffffffffffffff ∷ 2 ∷ [] }
+    ensures full { padded_words 5 FULL ≡ 0xffffffffffffffff ∷ 1 ∷ [] }
+    ensures full_in_four { padded_words 4 FULL ≡ 0xffffffffffffffff ∷ 2 ∷ [] }
 {}
 
 #[tactic(auto, unfolding(crate::specs::Saved::text, crate::specs::Stream::absorb, crate::specs::Rounds::mix, crate::specs::Rounds::block_round_by, crate::specs::Words::bytes_of))]

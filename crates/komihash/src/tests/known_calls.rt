@@ -42,7 +42,7 @@ pub(crate) fn byte_by_byte(message: &[u8; 95]) -> [Call<'_>; 96]
     ensures kept { run_kept result ≡ 95 }
 {
     let mut calls = [Call::Answer; 96];
-    for i in 0..95usize {
+    for i in (0..95usize).rev() {
         calls[i] = Call::Absorb(&message[i..i + 1]);
     }
     calls

@@ -1,5 +1,5 @@
-//! Properties at 100,000 random inputs a version. The generator's seed is fixed, so each run has the
-//! same inputs.
+//! Properties at 100,000 random inputs a version. The generator's seed is fixed, so each run draws
+//! the same.
 
 ghost use Rattle.std.specs.Prelude.{◌*◌, ◌<◌, ◌≤◌, length};
 

@@ -27,8 +27,8 @@ fn save_and_resume<S: KomiStream>(stream: &mut S) -> bool
     }
 }
 
-// Makes calls on a new stream of seed 0, each in its own run, and saves and resumes the stream after
-// each. They cost what one run does. Returns the stream and the number of answers.
+// Makes calls on a new stream of seed 0, each in its own run, and saves and resumes the stream
+// after each. They cost what one run does. Returns the stream and the number of answers.
 fn run_resumed<S: KomiStream>(calls: &[Call<'_>], out: &mut [u64], tally: &mut Tally) -> (S, usize)
     requires { length calls.now ≤ length out.old }
     ensures products { tally.new.products ≡ tally.old.products + run_products calls.now }

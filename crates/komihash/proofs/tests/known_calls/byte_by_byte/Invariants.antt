@@ -1,14 +1,14 @@
--- the calls below the index absorb the bytes below it
-use Rattle.std.proofs.Common.{◌≡◌, [], ◌∷◌, take, drop, length}
-use Rattle.komihash.specs.Calls.{AreAbsorbs, bytes_of_calls, onward_kept}
-use Rattle.komihash.specs.declared.stream.Call.TheVariants.{Answer}
+-- the calls from the index on absorb the bytes from it on, and then answer
+use Rattle.std.proofs.Common.{◌≡◌, ◌+◌, drop, length}
+use Rattle.komihash.specs.Calls.{bytes_of_calls, products_of_answers, onward_kept}
 use Rattle.komihash.proofs.tests.known_calls.byte_by_byte.Given as goal
 
 abbrev pub invariant-loop-i : goal.invariant-loop-i
-invariant-loop-i l = record {
-  size : length l.calls ≡ 96;
-  pieces : AreAbsorbs (take l.i l.calls);
-  answer : drop 95 l.calls ≡ Answer ∷ [];
-  bytes : bytes_of_calls (take l.i l.calls) ≡ take l.i l.message;
-  kept : onward_kept 0 (take l.i l.calls) ≡ l.i;
-}
+invariant-loop-i l =
+    let done = drop l.i l.calls in
+    record {
+      size : length l.calls ≡ 96;
+      bytes : l.i + length (bytes_of_calls done) ≡ 95;
+      answer : products_of_answers l.i done ≡ 3;
+      kept : l.i + onward_kept l.i done ≡ 95;
+    }
