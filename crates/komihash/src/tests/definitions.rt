@@ -71,7 +71,7 @@ fn round_of_zero()
         ≡ (0x4ef2e8526fea8bc8, 0) }
 {}
 
-// Whatever up to seven bytes follow `ZERO`, the hash is 0.
+// With up to seven more bytes after `ZERO`, whatever they are, the hash is 0.
 fn zero_and_more()
     ensures { (v : ℕ) (bytes : List ℕ) → length bytes ≤ 7 → komi v 0 (ZERO ++ bytes) ≡ 0 }
 {}

@@ -127,7 +127,7 @@ fn hashes_alike_in_both_versions(rt: HostRuntime) {
     }
 }
 
-// Hashes each prefix of at least `from` bytes, but not the whole message: each hash is 0.
+// Hashes each proper prefix of at least `from` bytes. Each hash is 0.
 fn stays_at_zero<const V: u8>(rt: &impl Abort, message: &[u8], from: usize) {
     for n in from..message.len() {
         same(rt, komihash::<V>(&message[..n], 0), 0, n);

@@ -113,7 +113,7 @@ fn calls_of<'a, S: KomiStream>(
     (calls, hashes, count)
 }
 
-// Makes drawn calls in one run.
+// Runs drawn calls, and compares the answers.
 fn agrees_in_a_run<S: KomiStream>(rt: &impl Abort, random: &mut Komirand) {
     let message = message_of::<600>(random);
     let seed = seed_of(random);
@@ -153,7 +153,8 @@ fn padded_length<const V: u8>(words: &[u64]) -> Option<usize>
     if words.len() == 1 { Some(0) } else { None }
 }
 
-// Unpads words, and pads the message again. Nothing is written after the message.
+// Unpads words, compares the length with `padded_length`, and pads the message again. Nothing is
+// written after the message.
 fn agrees_unpadded<const V: u8>(rt: &impl Abort, words: &[u64])
     requires { length words.now ≤ 13 }
 {

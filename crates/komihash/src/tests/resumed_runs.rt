@@ -1,4 +1,4 @@
-//! Runs of calls, saved and resumed after each call. What they cost is proved by clauses.
+//! Runs of calls, saved and resumed after each call. Clauses state what they cost.
 
 ghost use Rattle.std.specs.Prelude.{◌≡◌, ◌+◌, ◌≤◌, IsTrue, IfSome, length};
 ghost use Rattle.komihash.specs.Calls.{run_products, run_kept};

@@ -29,7 +29,7 @@ pub(crate) fn answers<S: KomiStream>(rt: &impl Abort, stream: &S, message: &[u8]
     same(rt, answer, hash::<S>(message, seed), message.len());
 }
 
-/// Does the same by `finish`.
+/// Compares what `finish` returns with the hash of a message.
 pub(crate) fn finishes<const V: u8>(
     rt: &impl Abort,
     stream: &StreamedKomihash<V>,

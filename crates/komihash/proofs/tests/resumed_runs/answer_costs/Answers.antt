@@ -1,4 +1,4 @@
--- a text of 68 bytes has no pending ones
+-- a stream whose text has 68 bytes has no pending bytes
 use Rattle.std.proofs.Common.{◌≡◌, ◌+◌, ◌∙◌, ◌∷◌, [], length, ap, arith}
 use Rattle.komihash.specs.Calls.{onward_products}
 use Rattle.komihash.specs.declared.stream.Call.TheVariants.{Answer}
