@@ -19,22 +19,22 @@ loop-i-preserved g c =
     let one : i + 1 - i ≡ 1 = omega arith in
     let size : length piece ≡ 1 =
     length-take-le (i + 1 - i) (drop i calls) (omega (arith, length-drop i calls)) ∙ one in
-    let next : drop i calls ≡ take 1 (drop i calls) ++ drop (i + 1) calls =
-    sym (take-append-drop 1 (drop i calls)) ∙ ap (λ xs. take 1 (drop i calls) ++ xs) (drop-drop 1 i calls) in
-    let left : drop i calls ≡ piece ++ rest = next ∙ ap (λ n. take n (drop i calls) ++ rest) (sym one) in
+    let up : i + (i + 1 - i) ≡ i + 1 = omega arith in
+    let left : drop i calls ≡ piece ++ rest =
+    sym (take-append-drop (i + 1 - i) (drop i calls))
+    ∙ ap (λ xs. piece ++ xs) (drop-drop (i + 1 - i) i calls ∙ ap (λ n. drop n calls) up) in
+    let fill = length before.pending in
+    let next_fill = length after.pending in
     let few = (g.met.S.KomiStream.is_state c.loop-i.stream).few in
-    let pending : length after.pending ≡ (length before.pending + length (bytes_of_calls piece)) % 64 =
+    let pending : next_fill ≡ (fill + length (bytes_of_calls piece)) % 64 =
     ap (λ s. length s.pending) (c.save_and_resume.ensures.state ∙ run.ensures.state)
     ∙ pending-absorb v before (bytes_of_calls piece) few in
     let products =
-    ap (onward_products (length before.pending)) left
-    ∙ onward_products-cut (length before.pending) (length after.pending) piece rest pending in
-    let kept =
-    ap (onward_kept (length before.pending)) left
-    ∙ onward_kept-cut (length before.pending) (length after.pending) piece rest pending in
+    ap (onward_products fill) left ∙ onward_products-cut fill next_fill piece rest pending in
+    let kept = ap (onward_kept fill) left ∙ onward_kept-cut fill next_fill piece rest pending in
+    let answers = length-answers_after (λ m. answer v (absorb v before m)) [] piece in
     record {
-      count = omega
-          (arith, so_far.count, run.ensures.count, length-answers_after (λ m. answer v (absorb v before m)) [] piece);
+      count = omega (arith, so_far.count, run.ensures.count, answers);
       products = counted _ _ _ _ _ _ _ run.ensures.products products so_far.products;
       kept = counted _ _ _ _ _ _ _ run.ensures.kept kept so_far.kept;
     }
