@@ -21,7 +21,7 @@ pub(crate) fn new_text(version: u8) -> [u8; 68] {
     text_of([version, 0, 0, 0], &LANES)
 }
 
-/// Returns a text whose lanes are 0, but for the last byte. No message leads to such a state.
+/// Returns a text whose lanes are 0, but for the last byte.
 pub(crate) fn text_of_zeros(head: [u8; 4], last: u8) -> [u8; 68] {
     let mut lanes = [0; 64];
     lanes[63] = last;

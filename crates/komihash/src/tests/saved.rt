@@ -112,7 +112,7 @@ fn resumes_in_mid_message(rt: HostRuntime) {
 
 // The lanes are 0, but for the top bit of s8. If the text's bit is set, the padding byte is 2.
 #[test]
-fn resumes_states_that_no_message_reaches(rt: HostRuntime) {
+fn resumes_lanes_of_zeros(rt: HostRuntime) {
     let high = text_of_zeros([4, 1, 1, 0], 0x80);
     assert_eq!(rt;
         answer_of::<v4::StreamedKomihash>(&high),
