@@ -1,5 +1,5 @@
 -- The bytes of words: how many, by place, and as the standard library writes them.
-use Rattle.std.proofs.Common.{◌≡◌, ℕ, zero, suc, ◌+◌, ◌-◌, ◌*◌, ◌/◌, ◌%◌, ◌^◌, ◌<◌, ◌≤◌, List, [], ◌∷◌, ◌++◌, length, take, drop, get_or, set, replicate, refl, ap, arith, ◌∙◌, sym, w64}
+use Rattle.std.proofs.Common.{◌≡◌, ℕ, zero, suc, ◌+◌, ◌*◌, ◌/◌, ◌%◌, ◌^◌, ◌<◌, ◌≤◌, List, [], ◌∷◌, ◌++◌, length, take, drop, get_or, set, refl, ap, arith, ◌∙◌, sym, w64}
 use Rattle.std.proofs.lemmas.List.{length-append, take-append-le}
 use Rattle.std.proofs.lemmas.Nat.{pow-add}
 use Rattle.std.proofs.Math.Nat.{div-div-eq-div-mul}
@@ -7,20 +7,17 @@ use Rattle.komihash.specs.Words.{AreBytes, word_of, bytes_of, all_bytes}
 use Rattle.komihash.proofs.BytesInWords.{AreBytes-append}
 use Rattle.std.specs.Int.{bytes_low_first, to_le_bytes}
 
--- a word's bytes are those that it was made of, and zeros
-pub bytes_of-word_of : (n : ℕ) (xs : List ℕ) → AreBytes xs → length xs ≤ n
-    → bytes_of n (word_of xs) ≡ xs ++ replicate (n - length xs) 0
+-- a word's first bytes are those that it was made of
+pub take-bytes_of-word_of : (n : ℕ) (xs : List ℕ) → AreBytes xs
+    → take (length xs) (bytes_of n (word_of (take n xs))) ≡ take n xs
 unfolding bytes_of
-bytes_of-word_of zero [] h le = refl
-bytes_of-word_of zero (x ∷ xs) h le = absurd (omega arith)
-bytes_of-word_of (suc n) [] h le =
-    let rest : suc n - 0 ≡ suc (n - 0) = omega arith in
-    rw rest (ap (λ bs. 0 ∷ bs) (bytes_of-word_of n [] h (omega arith)))
-bytes_of-word_of (suc n) (x ∷ xs) h le =
-    let low : (x + 256 * word_of xs) % 256 ≡ x = omega (arith, h 0) in
-    let high : (x + 256 * word_of xs) / 256 ≡ word_of xs = omega (arith, h 0) in
-    let rest : suc n - suc (length xs) ≡ n - length xs = omega arith in
-    rw (low, high, rest) (ap (λ bs. x ∷ bs) (bytes_of-word_of n xs (λ k. h (suc k)) (omega arith)))
+take-bytes_of-word_of zero [] h = refl
+take-bytes_of-word_of zero (x ∷ xs) h = refl
+take-bytes_of-word_of (suc n) [] h = refl
+take-bytes_of-word_of (suc n) (x ∷ xs) h =
+    let low : (x + 256 * word_of (take n xs)) % 256 ≡ x = omega (arith, h 0) in
+    let high : (x + 256 * word_of (take n xs)) / 256 ≡ word_of (take n xs) = omega (arith, h 0) in
+    rw (low, high) (ap (λ bs. x ∷ bs) (take-bytes_of-word_of n xs (λ k. h (suc k))))
 
 pub length-bytes_of : (n w : ℕ) → length (bytes_of n w) ≡ n
 unfolding bytes_of

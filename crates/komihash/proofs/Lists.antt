@@ -1,5 +1,5 @@
 -- Lists that are cut, joined and written over piece by piece.
-use Rattle.std.proofs.Common.{◌≤◌, ◌-◌, ◌≡◌, ℕ, ◌+◌, List, [], ◌∷◌, ◌++◌, length, take, drop, ap, arith, ◌∙◌, sym, suc, ◌<◌, get_or, set, rules}
+use Rattle.std.proofs.Common.{zero, ◌≤◌, ◌-◌, ◌≡◌, ℕ, ◌+◌, List, [], ◌∷◌, ◌++◌, length, take, drop, ap, arith, ◌∙◌, sym, suc, ◌<◌, get_or, set, rules, refl}
 use Rattle.std.proofs.lemmas.List.{append_assoc, length-append, take-append-drop, take-take, drop-take, drop-drop, drop-set-lt, take-append-le, length-drop, length-take-le, take_all}
 use Rattle.std.proofs.Math.Seq.{take-suc, take-suc-set}
 use Rattle.std.proofs.lemmas.Slice.{take-put_mid, drop-put_mid, overwrites}
@@ -10,6 +10,14 @@ take-more m n xs =
     ap (λ ys. ys ++ take n (drop m xs)) (sym (take-take m (m + n) xs (omega arith)))
     ∙ ap (λ ys. take m (take (m + n) xs) ++ ys) (sym (drop-take m n xs))
     ∙ take-append-drop m (take (m + n) xs)
+
+-- the first of two pieces, and what is left of the second
+pub take-append : (n : ℕ) (xs ys : List ℕ) → take n (xs ++ ys) ≡ take n xs ++ take (n - length xs) ys
+take-append zero xs ys = let none : 0 - length xs ≡ 0 = omega arith in rw none refl
+take-append (suc n) [] ys = let all : suc n - 0 ≡ suc n = omega arith in rw all refl
+take-append (suc n) (x ∷ xs) ys =
+    let left : suc n - suc (length xs) ≡ n - length xs = omega arith in
+    rw left (ap (λ zs. x ∷ zs) (take-append n xs ys))
 
 -- the bytes from a place on, in two pieces
 pub take-next : (m n from : ℕ) (xs : List ℕ)

@@ -1,31 +1,36 @@
 -- The begun block, filled up with the first bytes of a write, is the first block of all bytes.
 use Rattle.std.proofs.Common.{◌≡◌, ℕ, ◌+◌, ◌-◌, ◌<◌, ◌≤◌, List, ◌++◌, length, take, drop, ap, arith, ◌∙◌, sym}
-use Rattle.std.proofs.lemmas.List.{append_assoc, length-append, length-take-le, take-append-drop, drop_at}
+use Rattle.std.proofs.lemmas.List.{append_assoc, length-append, length-take-le, take-append-drop, drop_at, nil_from_length}
 use Rattle.komihash.specs.Rounds.{Lanes, block_round}
 use Rattle.komihash.specs.Tails.{whole_words, block_lanes, after_blocks}
+use Rattle.komihash.proofs.PendingBytes.{pending_laws}
 use Rattle.komihash.proofs.Blocks.{block_lanes-bytes, after_blocks_more}
 
-module _ (xs bytes : List ℕ) (fill : ℕ) (size : length xs ≡ fill) (few : fill < 64)
-    (many : 64 ≤ fill + length bytes) where
-  all_bytes : (xs ++ take (64 - fill) bytes) ++ drop (64 - fill) bytes ≡ xs ++ bytes
-  all_bytes =
-      append_assoc xs (take (64 - fill) bytes) (drop (64 - fill) bytes)
-      ∙ ap (λ b. xs ++ b) (take-append-drop (64 - fill) bytes)
+module _ (xs bytes : List ℕ) (few : length xs < 64) (many : 64 ≤ length xs + length bytes) where
+  abbrev block : List ℕ
+  block = xs ++ take (64 - length xs) bytes
 
-  first_block : length (xs ++ take (64 - fill) bytes) ≡ 64
-  first_block =
-      omega (arith, length-append xs (take (64 - fill) bytes), length-take-le (64 - fill) bytes (omega arith))
+  abbrev rest : List ℕ
+  rest = drop (64 - length xs) bytes
+
+  length_block : length block ≡ 64
+  length_block =
+      omega (arith, length-append xs (take (64 - length xs) bytes), length-take-le (64 - length xs) bytes (omega arith))
+
+  all_bytes : xs ++ bytes ≡ block ++ rest
+  all_bytes =
+      sym (append_assoc xs (take (64 - length xs) bytes) rest
+      ∙ ap (λ b. xs ++ b) (take-append-drop (64 - length xs) bytes))
 
   pub begun_lanes : (v : ℕ) (l : Lanes)
-      → block_lanes v (block_round v l (whole_words (xs ++ take (64 - fill) bytes)))
-      (whole_words (drop (64 - fill) bytes)) ≡ block_lanes v l (whole_words (xs ++ bytes))
-  begun_lanes v l =
-      sym (block_lanes-bytes v l (xs ++ take (64 - fill) bytes) (drop (64 - fill) bytes) first_block)
-      ∙ ap (λ m. block_lanes v l (whole_words m)) all_bytes
+      → block_lanes v l (whole_words (xs ++ bytes))
+      ≡ block_lanes v (block_round v l (whole_words block)) (whole_words rest)
+  begun_lanes v l = rw all_bytes (block_lanes-bytes v l block rest length_block)
 
-  pub begun_left : after_blocks (drop (64 - fill) bytes) ≡ after_blocks (xs ++ bytes)
+  pub begun_left : after_blocks (xs ++ bytes) ≡ after_blocks rest
   begun_left =
-      sym (ap after_blocks (sym all_bytes)
-      ∙ after_blocks_more ((xs ++ take (64 - fill) bytes) ++ drop (64 - fill) bytes)
-      (omega (arith, length-append (xs ++ take (64 - fill) bytes) (drop (64 - fill) bytes), first_block))
-      ∙ ap after_blocks (drop_at (xs ++ take (64 - fill) bytes) (drop (64 - fill) bytes) 64 first_block))
+      rw all_bytes (after_blocks_more (block ++ rest) (omega (arith, length-append block rest, length_block))
+      ∙ ap after_blocks (drop_at block rest 64 length_block))
+
+-- what the functions on blocks and pending bytes are proved by
+pub ruleset block_laws = (pending_laws, begun_left, nil_from_length)

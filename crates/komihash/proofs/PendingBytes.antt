@@ -1,83 +1,148 @@
--- Pending bytes before and after a call: what their words and their fill show.
-use Rattle.std.proofs.Common.{◌≡◌, ℕ, ◌+◌, ◌-◌, ◌*◌, ◌/◌, ◌%◌, ◌^◌, ◌<◌, List, [], ◌∷◌, ◌++◌, length, take, get_or, refl, ap, arith, ◌∙◌, sym, subst}
-use Rattle.std.proofs.lemmas.List.{length-append, get_or-take}
+-- Pending bytes, as the words and the fill that store them show them.
+use Rattle.std.proofs.Common.{◌≡◌, ℕ, ◌+◌, ◌-◌, ◌*◌, ◌/◌, ◌%◌, ◌^◌, ◌<◌, ◌≤◌, List, [], ◌∷◌, ◌++◌, length, take, drop, get_or, set, refl, ap, arith, ◌∙◌, sym, Fits, w8}
+use Rattle.std.proofs.lemmas.List.{length-append, length-take, length-take-le, length-drop, take_all, drop_all, drop_more, drop-drop}
 use Rattle.std.specs.Prelude.{bit_or}
-use Rattle.komihash.specs.Pending.{pending_words, pending_bytes, ArePending, Appends}
+use Rattle.komihash.specs.Pending.{pending_words, pending_bytes, ArePending, Store}
 use Rattle.komihash.specs.Tails.{whole_words, final_word}
-use Rattle.komihash.specs.Words.{AreBytes}
-use Rattle.komihash.proofs.WholeWords.{length-whole_words}
-use Rattle.komihash.proofs.PendingWords.{pending_bytes-pending_words, length-pending_bytes, length-pending_words, pending_words-whole, AreBytes-pending_bytes, take-pending_words, final_word-pending_words, last-pending_words}
-use Rattle.komihash.proofs.BytesInWords.{AreBytes-append}
+use Rattle.komihash.specs.Words.{AreBytes, word_of, all_bytes}
+use Rattle.komihash.proofs.WholeWords.{length-whole_words, slice_index-whole_words, after_words-drop}
+use Rattle.komihash.proofs.PendingWords.{extend-set, bytes-pending_words, length-pending_words, pending_words-whole, get_or-pending_words, set-pending_words}
+use Rattle.komihash.proofs.BytesInWords.{AreBytes-append, AreBytes-take, AreBytes-drop, AreBytes-typed, word_of-join, word_of-push, word_of-drop}
+use Rattle.komihash.proofs.BytesOfWords.{length-all_bytes, AreBytes-all_bytes}
+
+pub AreBytes_pending : (ws : List ℕ) (fill : ℕ) → AreBytes (pending_bytes ws fill)
+unfolding pending_bytes
+AreBytes_pending ws fill = AreBytes-take fill (all_bytes ws) (AreBytes-all_bytes ws)
+
+pub take_all_bytes : (ws : List ℕ) (fill : ℕ) → take fill (all_bytes ws) ≡ pending_bytes ws fill
+unfolding pending_bytes
+take_all_bytes ws fill = refl
 
 -- no bytes
-pub pending_bytes-none : (ws : List ℕ) → pending_bytes ws 0 ≡ []
+pub pending_bytes_none : (ws : List ℕ) → pending_bytes ws 0 ≡ []
 unfolding pending_bytes
-pending_bytes-none ws = refl
+pending_bytes_none ws = refl
 
-pub ArePending-none : ArePending (0 ∷ 0 ∷ 0 ∷ 0 ∷ 0 ∷ 0 ∷ 0 ∷ 0 ∷ []) 0
+pub ArePending_none : ArePending (0 ∷ 0 ∷ 0 ∷ 0 ∷ 0 ∷ 0 ∷ 0 ∷ 0 ∷ []) 0
 unfolding pending_words pending_bytes
-ArePending-none = record { few = omega arith; words = refl }
+ArePending_none = record { few = omega arith; words = refl }
 
-module _ (ws : List ℕ) (fill : ℕ) (are : ArePending ws fill) (xs : List ℕ) (shows : pending_bytes ws fill ≡ xs) where
-  pub length-pending : length xs ≡ fill
-  length-pending =
-      sym (ap length shows) ∙ length-pending_bytes ws fill (ap length are.words ∙ length-pending_words 8
-      (pending_bytes ws fill)) (omega (arith, are.few))
+-- the bytes that words store
+bytes_stored : (ws bytes : List ℕ) (fill : ℕ) → AreBytes bytes → length bytes ≡ fill → fill ≤ 64 → Store ws bytes
+    → pending_bytes ws fill ≡ bytes
+unfolding pending_bytes
+bytes_stored ws bytes fill are size le is = rw (is, ← size) (bytes-pending_words 8 bytes are (omega arith))
 
-  pub AreBytes-pending : AreBytes xs
-  AreBytes-pending = subst AreBytes shows (AreBytes-pending_bytes ws fill)
-
-  words-pending : ws ≡ pending_words 8 xs
-  words-pending = are.words ∙ ap (pending_words 8) shows
+module _ (ws : List ℕ) (fill : ℕ) (are : ArePending ws fill) where
+  pub length_pending : length (pending_bytes ws fill) ≡ fill
+  unfolding pending_bytes
+  length_pending =
+      let words = ap length are.words ∙ length-pending_words 8 (pending_bytes ws fill) in
+      length-take-le fill (all_bytes ws) (omega (arith, length-all_bytes ws, are.few))
 
   -- bytes put after them
-  module _ (new bytes : List ℕ) (are_bytes : AreBytes bytes) (appended : Appends ws fill bytes new) where
-    words-put : new ≡ pending_words 8 (xs ++ bytes)
-    words-put = appended xs AreBytes-pending length-pending words-pending
+  module _ (new bytes : List ℕ) (typed : (k : ℕ) → Fits w8 (get_or bytes k 0))
+      (is : Store new (pending_bytes ws fill ++ bytes)) (room : fill + length bytes ≤ 64) where
+    length_put : length (pending_bytes ws fill ++ bytes) ≡ fill + length bytes
+    length_put = omega (arith, length-append (pending_bytes ws fill) bytes, length_pending)
 
-    length-put : length (xs ++ bytes) ≡ fill + length bytes
-    length-put = omega (arith, length-append xs bytes, length-pending)
+    pub bytes_put : pending_bytes new (fill + length bytes) ≡ pending_bytes ws fill ++ bytes
+    bytes_put =
+        bytes_stored new (pending_bytes ws fill ++ bytes) (fill + length bytes)
+        (AreBytes-append (pending_bytes ws fill) bytes (AreBytes_pending ws fill) (AreBytes-typed bytes typed))
+        length_put room is
 
-    pub pending_bytes-put : (n : ℕ) → n ≡ fill + length bytes → n < 64 → pending_bytes new n ≡ xs ++ bytes
-    pending_bytes-put n sum few =
-        ap (λ w. pending_bytes w n) words-put
-        ∙ pending_bytes-pending_words (xs ++ bytes) n (AreBytes-append xs bytes AreBytes-pending are_bytes)
-        (length-put ∙ sym sum) (omega arith)
-
-    pub ArePending-put : (n : ℕ) → n ≡ fill + length bytes → n < 64 → ArePending new n
-    ArePending-put n sum few =
-        record { few = few; words = words-put ∙ ap (pending_words 8) (sym (pending_bytes-put n sum few)) }
+    pub ArePending_put : fill + length bytes < 64 → ArePending new (fill + length bytes)
+    ArePending_put few = record { few = few; words = is ∙ ap (pending_words 8) (sym bytes_put) }
 
     -- as many as fill a block
-    pub block-put : fill + length bytes ≡ 64 → new ≡ whole_words (xs ++ bytes)
-    block-put full = words-put ∙ pending_words-whole 8 (xs ++ bytes) (length-put ∙ full)
+    pub words_put : fill + length bytes ≡ 64 → new ≡ whole_words (pending_bytes ws fill ++ bytes)
+    words_put full = is ∙ pending_words-whole 8 (pending_bytes ws fill ++ bytes) (length_put ∙ full)
 
-  -- their whole words
-  whole_words-pending : take (fill / 8) ws ≡ whole_words xs
-  whole_words-pending =
-      ap (take (fill / 8)) words-pending ∙ ap (λ n. take (n / 8) (pending_words 8 xs)) (sym length-pending)
-      ∙ take-pending_words 8 xs (omega (arith, length-pending, are.few))
+  -- the word at a place
+  get_or_pending : (i : ℕ) → i < 8 → get_or ws i 0 ≡ word_of (take 8 (drop (8 * i) (pending_bytes ws fill)))
+  get_or_pending i lt = ap (λ us. get_or us i 0) are.words ∙ get_or-pending_words 8 i (pending_bytes ws fill) lt
 
-  pub count-pending : fill / 8 ≡ length (whole_words xs)
-  count-pending = sym (length-whole_words xs ∙ ap (λ n. n / 8) length-pending)
+  pub count_pending : length (whole_words (pending_bytes ws fill)) ≡ fill / 8
+  count_pending = length-whole_words (pending_bytes ws fill) ∙ ap (λ n. n / 8) length_pending
 
-  pub word-pending : (at : ℕ) → at < length (whole_words xs) → get_or ws at 0 ≡ get_or (whole_words xs) at 0
-  word-pending at lt =
-      sym (get_or-take (fill / 8) ws at 0 (omega (arith, count-pending)))
-      ∙ ap (λ us. get_or us at 0) whole_words-pending
+  pub word_pending : (at : ℕ) → at < length (whole_words (pending_bytes ws fill))
+      → get_or ws at 0 ≡ get_or (whole_words (pending_bytes ws fill)) at 0
+  word_pending at lt =
+      get_or_pending at (omega (arith, are.few, count_pending))
+      ∙ sym (slice_index-whole_words (pending_bytes ws fill) at lt)
 
-  -- the begun word, with a byte after it
-  pub final_word-pending : (end : ℕ) → end < 256
-      → bit_or (get_or ws (fill / 8) 0) (end * 2 ^ (8 * (fill % 8)) % 2 ^ 64) ≡ final_word xs end
-  final_word-pending end small =
-      ap (λ w. bit_or (get_or w (fill / 8) 0) (end * 2 ^ (8 * (fill % 8)) % 2 ^ 64)) words-pending
-      ∙ final_word-pending_words xs fill end AreBytes-pending length-pending are.few small
+  -- the begun word
+  abbrev begun : List ℕ
+  begun = drop (8 * (fill / 8)) (pending_bytes ws fill)
 
-  -- the last of them, which nothing stands above
-  pub last-pending : 0 < fill → get_or ws ((fill - 1) / 8) 0 / 2 ^ (8 * ((fill - 1) % 8))
-      ≡ get_or xs (length xs - 1) 0
-  last-pending some =
-      let size = length-pending in
-      ap (λ w. get_or w ((fill - 1) / 8) 0 / 2 ^ (8 * ((fill - 1) % 8))) words-pending
-      ∙ last-pending_words 8 xs (fill - 1) AreBytes-pending (omega arith) (omega (arith, are.few))
-      ∙ ap (λ n. get_or xs (n - 1) 0) (sym size)
+  length_begun : length begun ≡ fill % 8
+  length_begun = omega (arith, length-drop (8 * (fill / 8)) (pending_bytes ws fill), length_pending)
+
+  AreBytes_begun : AreBytes begun
+  AreBytes_begun = AreBytes-drop (8 * (fill / 8)) (pending_bytes ws fill) (AreBytes_pending ws fill)
+
+  get_or_begun : get_or ws (fill / 8) 0 ≡ word_of begun
+  get_or_begun =
+      get_or_pending (fill / 8) (omega (arith, are.few))
+      ∙ ap word_of (take_all 8 begun (omega (arith, length_begun)))
+
+  -- a word joined to it, which then holds as many of the bytes as fit
+  pub join_pending : (w : ℕ) (bytes : List ℕ) → AreBytes bytes → w ≡ word_of bytes
+      → Store (set ws (fill / 8) (bit_or (get_or ws (fill / 8) 0) (w * 2 ^ (8 * (fill % 8)) % 2 ^ 64)))
+      (pending_bytes ws fill ++ take (8 - fill % 8) bytes)
+  join_pending w bytes h is =
+      let xs = pending_bytes ws fill in
+      let fit = length-take (8 - fill % 8) bytes in
+      let size = length_pending in
+      rw (get_or_begun, is, word_of-join begun bytes (fill % 8) AreBytes_begun h length_begun (omega arith))
+      (ap (λ us. set us (fill / 8) (word_of (begun ++ take (8 - fill % 8) bytes))) are.words
+      ∙ set-pending_words 8 (fill / 8) xs (take (8 - fill % 8) bytes) (omega (arith, are.few)) (omega arith) (omega arith))
+
+  -- a byte after it
+  pub final_word_pending : (end : ℕ) → end < 256
+      → bit_or (get_or ws (fill / 8) 0) (end * 2 ^ (8 * (fill % 8)) % 2 ^ 64) ≡ final_word (pending_bytes ws fill) end
+  final_word_pending end small =
+      let place : fill - fill % 8 ≡ 8 * (fill / 8) = omega arith in
+      rw (get_or_begun, after_words-drop (pending_bytes ws fill), length_pending, place)
+      (word_of-push begun (fill % 8) end AreBytes_begun length_begun (omega arith) small)
+
+  -- the last byte, which nothing stands above
+  pub last_pending : (i : ℕ) → i + 1 ≡ fill
+      → get_or ws (i / 8) 0 / 2 ^ (8 * (i % 8)) ≡ get_or (pending_bytes ws fill) i 0
+  last_pending i e =
+      let xs = pending_bytes ws fill in
+      let word = drop (8 * (i / 8)) xs in
+      let size = length_pending in
+      let place : 8 * (i / 8) + i % 8 ≡ i = omega arith in
+      rw (
+        get_or_pending (i / 8) (omega (arith, are.few)),
+        take_all 8 word (omega (arith, length-drop (8 * (i / 8)) xs)),
+        ← word_of-drop (i % 8) word (AreBytes-drop (8 * (i / 8)) xs (AreBytes_pending ws fill)),
+        drop-drop (i % 8) (8 * (i / 8)) xs,
+        place,
+        drop_more xs i 0 (omega arith),
+        drop_all (i + 1) xs (omega arith),
+      )
+      (omega arith)
+
+  pub last_fits : (i : ℕ) → i + 1 ≡ fill → Fits w8 (get_or ws (i / 8) 0 / 2 ^ (8 * (i % 8)))
+  last_fits i e = rw (last_pending i e) record { fits = AreBytes_pending ws fill i }
+
+-- what the functions on pending bytes are proved by
+pub ruleset pending_laws = (
+  take_all_bytes,
+  pending_bytes_none,
+  ArePending_none,
+  length_pending,
+  bytes_put,
+  ArePending_put,
+  words_put,
+  join_pending,
+  extend-set,
+  count_pending,
+  word_pending,
+  final_word_pending,
+  last_pending,
+  last_fits,
+)

@@ -1,5 +1,7 @@
 //! The pending bytes of a stream: those that no block has taken yet.
 
+#![tactic(auto, using(crate::proofs::PendingBytes::pending_laws))]
+
 ghost use Rattle.std.specs.Prelude.{◌≡◌, ◌+◌, ◌-◌, ◌<◌, ◌≤◌, [], ◌++◌, length, take, drop, slice_index};
 ghost use Rattle.komihash.specs.Counts.{write_products, kept_bytes};
 ghost use Rattle.komihash.specs.Halves.{lanes_in};

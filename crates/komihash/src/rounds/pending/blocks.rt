@@ -1,5 +1,7 @@
 //! The begun block filled up, and the whole blocks after it.
 
+#![tactic(auto, using(crate::proofs::PendingBlocks::block_laws))]
+
 ghost use Rattle.std.specs.Prelude.{◌≡◌, ◌+◌, ◌-◌, ◌*◌, ◌/◌, ◌<◌, ◌≤◌, ◌==◌, if◌then◌else◌, ◌++◌, length, slice_index};
 ghost use Rattle.komihash.specs.Counts.{write_products, kept_bytes};
 ghost use Rattle.komihash.specs.Halves.{lanes_in};

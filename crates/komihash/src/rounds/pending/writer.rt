@@ -1,7 +1,8 @@
 //! The one writer of pending bytes: it puts them into eight words, which are zero above them.
 
-ghost use Rattle.std.specs.Prelude.{◌≡◌, ℕ, ◌+◌, ◌-◌, ◌*◌, ◌%◌, ◌<◌, ◌≤◌, List, length, take, drop};
-ghost use Rattle.komihash.specs.Pending.{Appends};
+ghost use Rattle.std.specs.Prelude.{◌≡◌, ℕ, ◌+◌, ◌-◌, ◌*◌, ◌%◌, ◌<◌, ◌≤◌, List, ◌++◌, length, take, drop};
+ghost use Rattle.komihash.specs.Pending.{pending_bytes, ArePending, Store, Extend};
+ghost use Rattle.komihash.specs.Tails.{whole_words};
 ghost use Rattle.komihash.specs.Words.{AreBytes, word_of};
 
 use crate::tally::Tally;
@@ -10,9 +11,9 @@ use crate::utils::{read_partial_word, read_word, word_at};
 // Joins a word to the one that the fill has begun: of its bytes those that fit.
 #[inline(always)]
 fn join_word(words: &mut [u64; 8], fill: usize, word: u64)
-    requires { fill < 64 }
+    requires { ArePending words.old fill }
     ensures { (bytes : List ℕ) → AreBytes bytes → word ≡ word_of bytes
-        → Appends words.old fill (take (8 - fill % 8) bytes) words.new }
+        → Store words.new (pending_bytes words.old fill ++ take (8 - fill % 8) bytes) }
 {
     words[fill / 8] |= word << (8 * (fill % 8));
 }
@@ -21,8 +22,8 @@ fn join_word(words: &mut [u64; 8], fill: usize, word: u64)
 #[inline(always)]
 fn set_word(words: &mut [u64; 8], at: usize, word: u64)
     requires { at < 8 }
-    ensures { (bytes : List ℕ) → length bytes ≤ 8 → word ≡ word_of bytes
-        → Appends words.old (8 * at) bytes words.new }
+    ensures { (bytes : List ℕ) (from : ℕ) → from ≤ length bytes → word ≡ word_of (take 8 (drop from bytes))
+        → Extend words.old words.new at bytes from (from + 8) }
 {
     words[at] = word;
 }
@@ -30,10 +31,10 @@ fn set_word(words: &mut [u64; 8], at: usize, word: u64)
 // Puts fewer than eight bytes.
 #[inline(always)]
 fn put_few(words: &mut [u64; 8], fill: usize, bytes: &[u8])
+    requires pending { ArePending words.old fill }
     requires few { length bytes.now < 8 }
-    requires begun { fill < 64 }
     requires room { fill + length bytes.now ≤ 64 }
-    ensures { Appends words.old fill bytes.now words.new }
+    ensures { Store words.new (pending_bytes words.old fill ++ bytes.now) }
 {
     let word = read_partial_word(bytes, 0);
     let over = fill % 8;
@@ -59,7 +60,7 @@ fn move_words<const N: usize>(
     ensures within { result.1 ≤ length bytes.now }
     ensures left { length bytes.now < result.1 + 8 * N }
     ensures place { 8 * result.0 ≡ 8 * at + (result.1 - from) }
-    ensures words { Appends words.old (8 * at) (take (result.1 - from) (drop from bytes.now)) words.new }
+    ensures words { Extend words.old words.new at bytes.now from result.1 }
 {
     if bytes.len() - from < 8 * N {
         return (at, from);
@@ -77,7 +78,7 @@ fn put_last(words: &mut [u64; 8], at: usize, bytes: &[u8], from: usize)
     requires within { from ≤ length bytes.now }
     requires room { 8 * at + (length bytes.now - from) ≤ 64 }
     requires few { length bytes.now < from + 8 }
-    ensures { Appends words.old (8 * at) (drop from bytes.now) words.new }
+    ensures { Extend words.old words.new at bytes.now from (from + 8) }
 {
     let left = bytes.len() - from;
     if 0 < left {
@@ -89,9 +90,10 @@ fn put_last(words: &mut [u64; 8], at: usize, bytes: &[u8], from: usize)
 // Puts eight bytes or more: the first fill up the begun word, then whole words follow.
 #[inline(always)]
 fn put_many(words: &mut [u64; 8], fill: usize, bytes: &[u8])
+    requires pending { ArePending words.old fill }
     requires many { 8 ≤ length bytes.now }
     requires room { fill + length bytes.now ≤ 64 }
-    ensures { Appends words.old fill bytes.now words.new }
+    ensures { Store words.new (pending_bytes words.old fill ++ bytes.now) }
 {
     join_word(words, fill, read_word(bytes));
     let (at, from) = move_words::<4>(words, fill / 8 + 1, bytes, 8 - fill % 8);
@@ -103,9 +105,13 @@ fn put_many(words: &mut [u64; 8], fill: usize, bytes: &[u8])
 /// Puts bytes after those that the words hold up to the fill, and counts them as kept.
 #[inline(always)]
 pub(crate) fn put(words: &mut [u64; 8], fill: usize, bytes: &[u8], tally: &mut Tally)
-    requires begun { fill < 64 }
+    requires pending { ArePending words.old fill }
     requires room { fill + length bytes.now ≤ 64 }
-    ensures words { Appends words.old fill bytes.now words.new }
+    ensures full { fill + length bytes.now ≡ 64
+        → words.new ≡ whole_words (pending_bytes words.old fill ++ bytes.now) }
+    ensures bytes { pending_bytes words.new (fill + length bytes.now)
+        ≡ pending_bytes words.old fill ++ bytes.now }
+    ensures pending { fill + length bytes.now < 64 → ArePending words.new (fill + length bytes.now) }
     ensures products { tally.new.products ≡ tally.old.products }
     ensures kept { tally.new.kept ≡ tally.old.kept + length bytes.now }
 {

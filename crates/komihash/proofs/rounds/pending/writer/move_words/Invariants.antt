@@ -1,7 +1,7 @@
--- The words hold so many of the bytes more.
-use Rattle.std.proofs.Common.{◌*◌, take, drop}
-use Rattle.komihash.specs.Pending.{Appends}
+-- Eight bytes of each turn so far are in the words.
+use Rattle.std.proofs.Common.{◌+◌, ◌*◌}
+use Rattle.komihash.specs.Pending.{Extend}
 use Rattle.komihash.proofs.rounds.pending.writer.move_words.Given as goal
 
 abbrev pub invariant-words : goal.invariant-words
-invariant-words g l = Appends l.fn.words (8 * l.at) (take (8 * l.i) (drop l.from l.bytes)) l.words
+invariant-words g l = Extend l.fn.words l.words l.at l.bytes l.from (l.from + 8 * l.i)

@@ -1,8 +1,9 @@
-use Rattle.std.proofs.Common.{◌≡◌, ◌∙◌, ◌-◌, ◌+◌, ◌*◌, ◌%◌, ◌/◌, ◌^◌, take, drop, arith, ap}
-use Rattle.std.proofs.lemmas.List.{take-append-drop, take_all, length-drop, length-take-le}
+use Rattle.std.proofs.Common.{◌≡◌, ◌-◌, ◌+◌, ◌*◌, ◌%◌, ◌/◌, ◌^◌, [], ◌∷◌, take, drop, arith}
+use Rattle.std.proofs.lemmas.List.{take_all, length-drop}
+use Rattle.komihash.specs.Pending.{pending_bytes}
 use Rattle.komihash.specs.Words.{word_of}
-use Rattle.komihash.proofs.BytesInWords.{word_of-zero, AreBytes-typed, AreBytes-take, word_of-shr}
-use Rattle.komihash.proofs.PendingWords.{Appends-two}
+use Rattle.komihash.proofs.BytesInWords.{AreBytes-typed, word_of-append, word_of-drop}
+use Rattle.komihash.proofs.PendingBytes.{length_pending}
 use Rattle.komihash.proofs.rounds.pending.writer.put_few.Goals as goal
 
 pub returns-then-over-bytes-gt8 : goal.returns-then-over-bytes-gt8
@@ -10,21 +11,20 @@ returns-then-over-bytes-gt8 c =
     let bytes = c.args.bytes.now in
     let fit = 8 - c.args.fill % 8 in
     let are = AreBytes-typed bytes c.type_inv.bytes in
-    let word : c.read_partial_word-word.result ≡ word_of bytes = c.read_partial_word-word.ensures
-    ∙ word_of-zero bytes in
+    let size = length_pending c.args.words.now c.args.fill c.requires.pending in
+    let word : c.read_partial_word-word.result ≡ word_of bytes =
+    omega (arith, c.read_partial_word-word.ensures, word_of-append bytes (0 ∷ [])) in
     let shift : 64 - 8 * (c.args.fill % 8) ≡ 8 * fit = omega arith in
-    let rest = ap (λ w. w / 2 ^ (64 - 8 * (c.args.fill % 8))) word ∙ ap (λ k. word_of bytes / 2 ^ k) shift
-    ∙ word_of-shr fit bytes are (omega arith) in
-    Appends-two c.args.words.now c.join_word.new.words c.set_word.new.words c.args.fill (8 * (c.args.fill / 8 + 1))
-    (take fit bytes) (drop fit bytes) bytes
-    (AreBytes-take fit bytes are) (omega (arith, length-take-le fit bytes (omega arith))) (take-append-drop fit bytes)
-    (c.join_word.ensures bytes are word)
-    (c.set_word.ensures (drop fit bytes) (omega (arith, length-drop fit bytes)) rest)
+    let left : c.read_partial_word-word.result / 2 ^ (64 - 8 * (c.args.fill % 8)) ≡ word_of (take 8 (drop fit bytes)) =
+    rw (word, shift, ← word_of-drop fit bytes are, take_all 8 (drop fit bytes) (omega (arith, length-drop fit bytes))) in
+    rw (take_all (fit + 8) bytes (omega arith)) at
+    (c.set_word.ensures bytes fit (omega arith) left (pending_bytes c.args.words.now c.args.fill) (omega arith)
+    (c.join_word.ensures bytes are word))
 
 pub returns-else-over-bytes-gt8 : goal.returns-else-over-bytes-gt8
 returns-else-over-bytes-gt8 c =
     let bytes = c.args.bytes.now in
-    let are = AreBytes-typed bytes c.type_inv.bytes in
-    let word : c.read_partial_word-word.result ≡ word_of bytes = c.read_partial_word-word.ensures
-    ∙ word_of-zero bytes in
-    rw (take_all (8 - c.args.fill % 8) bytes (omega arith)) at (c.join_word.ensures bytes are word)
+    let word : c.read_partial_word-word.result ≡ word_of bytes =
+    omega (arith, c.read_partial_word-word.ensures, word_of-append bytes (0 ∷ [])) in
+    rw (take_all (8 - c.args.fill % 8) bytes (omega arith)) at
+    (c.join_word.ensures bytes (AreBytes-typed bytes c.type_inv.bytes) word)

@@ -1,5 +1,5 @@
-use Rattle.std.proofs.Common.{◌≡◌, ◌+◌, ◌-◌, ◌*◌, ◌/◌, ◌^◌, ◌∙◌, length, drop, take, arith, ap}
-use Rattle.std.proofs.lemmas.List.{length-drop}
+use Rattle.std.proofs.Common.{◌≡◌, ◌+◌, ◌-◌, ◌*◌, ◌/◌, ◌^◌, length, drop, take, arith}
+use Rattle.std.proofs.lemmas.List.{length-drop, take_all}
 use Rattle.komihash.specs.Words.{word_of}
 use Rattle.komihash.proofs.BytesInWords.{AreBytes-typed, word_of-last}
 use Rattle.komihash.proofs.rounds.pending.writer.put_last.Goals as goal
@@ -8,10 +8,14 @@ pub returns-then-left-gt0 : goal.returns-then-left-gt0
 returns-then-left-gt0 c =
     let bytes = c.args.bytes.now in
     let from = c.args.from in
-    let n = length bytes in
-    let shift : 64 - 8 * (n - from) ≡ 8 * (from + 8 - n) = omega arith in
-    let word = ap (λ w. w / 2 ^ (64 - 8 * (n - from))) c.word_at-eight.ensures
-    ∙ ap (λ k. word_of (take 8 (drop (n - 8) bytes)) / 2 ^ k) shift
-    ∙ word_of-last from 8 bytes (AreBytes-typed bytes c.type_inv.bytes) c.requires.many
-    (omega arith) c.requires.within in
-    c.set_word.ensures (drop from bytes) (omega (arith, length-drop from bytes)) word
+    let shift = 64 - 8 * (length bytes - from) in
+    let word : c.word_at-eight.result / 2 ^ shift ≡ word_of (take 8 (drop from bytes)) =
+    rw (c.word_at-eight.ensures, take_all 8 (drop from bytes) (omega (arith, length-drop from bytes)))
+    (word_of-last from shift bytes (AreBytes-typed bytes c.type_inv.bytes) c.requires.many c.requires.within
+    (omega arith) (omega arith)) in
+    c.set_word.ensures bytes from c.requires.within word
+
+pub returns-else-left-gt0 : goal.returns-else-left-gt0
+returns-else-left-gt0 c xs place old =
+    let from = c.args.from in
+    rw (take_all (from + 8) c.args.bytes.now (omega arith), ← take_all from c.args.bytes.now (omega arith)) old
