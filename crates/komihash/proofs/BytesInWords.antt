@@ -82,6 +82,9 @@ word_of-push xs n b h size few small =
     let all : take (8 - n) (b ∷ []) ≡ b ∷ [] = take_all (8 - n) (b ∷ []) (omega arith) in
     rw (one, all) at (word_of-join xs (b ∷ []) n h (AreBytes-one b small) size (omega arith))
 
+pub word_of-zero : (xs : List ℕ) → word_of (xs ++ 0 ∷ []) ≡ word_of xs
+word_of-zero xs = omega (arith, word_of-append xs (0 ∷ []))
+
 -- fewer than eight bytes, read from both ends in two pieces of k, and a byte b after them
 pub word_of-two_ends : (k s : ℕ) (xs : List ℕ) (b : ℕ) → AreBytes xs → k ≤ length xs → length xs ≤ k + k
     → length xs < 8 → b < 256 → s ≡ 8 * (k + k - length xs)

@@ -1,11 +1,10 @@
 -- The bytes of words: how many, by place, and as the standard library writes them.
-use Rattle.std.proofs.Common.{◌≡◌, ℕ, zero, suc, ◌+◌, ◌*◌, ◌/◌, ◌%◌, ◌^◌, ◌<◌, ◌≤◌, List, [], ◌∷◌, ◌++◌, length, take, drop, get_or, set, refl, ap, arith, ◌∙◌, sym, w64}
-use Rattle.std.proofs.lemmas.List.{length-append, take-append-le}
-use Rattle.std.proofs.lemmas.Nat.{pow-add}
+use Rattle.std.proofs.Common.{◌≡◌, ℕ, zero, suc, ◌+◌, ◌*◌, ◌/◌, ◌%◌, ◌<◌, ◌≤◌, List, [], ◌∷◌, ◌++◌, length, take, drop, get_or, set, refl, ap, arith, ◌∙◌, sym, w64}
+use Rattle.std.proofs.lemmas.List.{length-append, take-append-le, take_all}
 use Rattle.std.proofs.Math.Nat.{div-div-eq-div-mul}
 use Rattle.komihash.specs.Words.{AreBytes, word_of, bytes_of, all_bytes}
 use Rattle.komihash.proofs.BytesInWords.{AreBytes-append}
-use Rattle.std.specs.Int.{bytes_low_first, to_le_bytes}
+use Rattle.std.specs.Int.{to_le_bytes}
 
 -- a word's first bytes are those that it was made of
 pub take-bytes_of-word_of : (n : ℕ) (xs : List ℕ) → AreBytes xs
@@ -58,20 +57,16 @@ take-all_bytes ws i over lt le =
     ap (take over) (drop-all_bytes ws i lt)
     ∙ take-append-le over (bytes_of 8 (get_or ws i 0)) _ (omega (arith, length-bytes_of 8 (get_or ws i 0)))
 
-bytes_from : (i k w : ℕ) → bytes_low_first (suc i) k w ≡ bytes_of k (w / 256 ^ suc i)
-unfolding bytes_of
-bytes_from i zero w = refl
-bytes_from i (suc k) w =
-    let places : suc (suc i) ≡ suc i + 1 = omega arith in
-    let power : 256 ^ suc (suc i) ≡ 256 ^ suc i * 256 = ap (λ n. 256 ^ n) places ∙ pow-add 256 (suc i) 1 in
-    let shifted : w / 256 ^ suc (suc i) ≡ w / 256 ^ suc i / 256 = ap (λ p. w / p) power
-    ∙ sym (div-div-eq-div-mul w (256 ^ suc i) 256) in
-    ap (λ bs. w / 256 ^ suc i % 256 ∷ bs) (bytes_from (suc i) k w ∙ ap (bytes_of k) shifted)
+pub bytes-all_bytes : (ws : List ℕ) (i : ℕ) → i < length ws
+    → take 8 (drop (8 * i) (all_bytes ws)) ≡ bytes_of 8 (get_or ws i 0)
+bytes-all_bytes ws i lt =
+    take-all_bytes ws i 8 lt (omega arith)
+    ∙ take_all 8 (bytes_of 8 (get_or ws i 0)) (omega (arith, length-bytes_of 8 (get_or ws i 0)))
 
 -- a word's bytes, as the standard library writes them
 pub to_le_bytes-word : (w : ℕ) → to_le_bytes w64 w ≡ bytes_of 8 w
 unfolding bytes_of
-to_le_bytes-word w = ap (λ bs. w % 256 ∷ bs) (bytes_from 0 7 w)
+to_le_bytes-word w = sym (simp div-div-eq-div-mul)
 
 pub one_byte : (out : List ℕ) (w : ℕ) → length out ≡ 1 → set out 0 (w % 256) ≡ take (length out) (bytes_of 8 w)
 unfolding bytes_of

@@ -5,8 +5,8 @@ use Rattle.std.specs.Prelude.{bit_or}
 use Rattle.komihash.specs.Pending.{pending_words, pending_bytes, ArePending, Store}
 use Rattle.komihash.specs.Tails.{whole_words, final_word}
 use Rattle.komihash.specs.Words.{AreBytes, word_of, all_bytes}
-use Rattle.komihash.proofs.WholeWords.{length-whole_words, slice_index-whole_words, after_words-drop}
-use Rattle.komihash.proofs.PendingWords.{extend-set, bytes-pending_words, length-pending_words, pending_words-whole, get_or-pending_words, set-pending_words}
+use Rattle.komihash.proofs.WholeWords.{length-pending_words, pending_words-whole, get_or-pending_words, length-whole_words, slice_index-whole_words, after_words-drop}
+use Rattle.komihash.proofs.PendingWords.{extend-set, bytes-pending_words, set-pending_words}
 use Rattle.komihash.proofs.BytesInWords.{AreBytes-append, AreBytes-take, AreBytes-drop, AreBytes-typed, word_of-join, word_of-push, word_of-drop}
 use Rattle.komihash.proofs.BytesOfWords.{length-all_bytes, AreBytes-all_bytes}
 

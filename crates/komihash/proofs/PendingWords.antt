@@ -1,11 +1,9 @@
 -- The eight words that store pending bytes: what they hold, and what a word that is set adds.
-use Rattle.std.proofs.Common.{◌≡◌, ℕ, zero, suc, ◌+◌, ◌-◌, ◌*◌, ◌<◌, ◌≤◌, List, [], ◌∷◌, ◌++◌, length, take, drop, get_or, set, refl, ap, arith, ◌∙◌, sym}
+use Rattle.std.proofs.Common.{◌≡◌, ℕ, zero, suc, ◌+◌, ◌-◌, ◌*◌, ◌<◌, ◌≤◌, List, [], ◌∷◌, ◌++◌, length, take, drop, set, refl, ap, arith, ◌∙◌, sym}
 use Rattle.std.proofs.lemmas.List.{append_assoc, length-append, length-drop, length-take, length-take-le, take_all, drop_all, take-append-drop, take-append-le, drop-append-le, drop-drop}
 use Rattle.komihash.specs.Pending.{pending_words, Extend}
-use Rattle.komihash.specs.Tails.{whole_words}
 use Rattle.komihash.specs.Words.{AreBytes, word_of, bytes_of, all_bytes}
 use Rattle.komihash.proofs.Lists.{take-more, take-append}
-use Rattle.komihash.proofs.WholeWords.{whole_words-more, whole_words-few}
 use Rattle.komihash.proofs.BytesInWords.{AreBytes-drop}
 use Rattle.komihash.proofs.BytesOfWords.{take-bytes_of-word_of, length-bytes_of}
 
@@ -25,29 +23,6 @@ bytes-pending_words (suc n) xs are le =
       bytes-pending_words n (drop 8 xs) (AreBytes-drop 8 xs are) (omega (arith, length-drop 8 xs)),
     )
     (take-append-drop 8 xs)
-
-pub length-pending_words : (n : ℕ) (xs : List ℕ) → length (pending_words n xs) ≡ n
-unfolding pending_words
-length-pending_words zero xs = refl
-length-pending_words (suc n) xs = ap suc (length-pending_words n (drop 8 xs))
-
--- words that are all full are the whole words
-pub pending_words-whole : (n : ℕ) (xs : List ℕ) → length xs ≡ 8 * n → pending_words n xs ≡ whole_words xs
-unfolding pending_words
-pending_words-whole zero xs e = sym (whole_words-few xs (omega arith))
-pending_words-whole (suc n) xs e =
-    ap (λ ws. word_of (take 8 xs) ∷ ws) (pending_words-whole n (drop 8 xs) (omega (arith, length-drop 8 xs)))
-    ∙ sym (whole_words-more xs (omega arith))
-
--- the word at a place
-pub get_or-pending_words : (n i : ℕ) (xs : List ℕ) → i < n
-    → get_or (pending_words n xs) i 0 ≡ word_of (take 8 (drop (8 * i) xs))
-unfolding pending_words
-get_or-pending_words zero i xs lt = absurd (omega arith)
-get_or-pending_words (suc n) zero xs lt = refl
-get_or-pending_words (suc n) (suc i) xs lt =
-    let next : 8 + 8 * i ≡ 8 * suc i = omega arith in
-    rw (get_or-pending_words n i (drop 8 xs) (omega arith), drop-drop (8 * i) 8 xs, next) refl
 
 -- a word set to hold more: that of the bytes that it holds and those after them
 pub set-pending_words : (n i : ℕ) (xs ys : List ℕ) → i < n → 8 * i ≤ length xs → length xs + length ys ≤ 8 * i + 8

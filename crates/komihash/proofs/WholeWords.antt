@@ -1,10 +1,46 @@
--- The whole words of bytes, and the bytes after them.
-use Rattle.std.proofs.Common.{◌≤◌, take, drop, ◌≡◌, ℕ, suc, ◌-◌, ◌%◌, ◌<◌, List, [], ◌∷◌, ◌++◌, length, refl, ap, arith, ◌∙◌, sym, zero, ◌+◌, ◌*◌, ◌/◌}
+-- The whole words of bytes, by place, and the bytes after them.
+use Rattle.std.proofs.Common.{◌≤◌, take, drop, ◌≡◌, ℕ, suc, ◌-◌, ◌%◌, ◌<◌, List, [], ◌∷◌, ◌++◌, length, get_or, refl, ap, arith, ◌∙◌, sym, zero, ◌+◌, ◌*◌, ◌/◌}
+use Rattle.komihash.specs.Pending.{pending_words}
 use Rattle.komihash.specs.Words.{word_of, words_of}
 use Rattle.komihash.specs.Tails.{whole_words, after_words}
 use Rattle.std.proofs.lemmas.List.{length-drop, drop-drop}
 use Rattle.std.proofs.lemmas.Bool.Decides.{nat_tests}
 use Rattle.std.specs.Prelude.{slice_index}
+
+-- the word at a place of those that store bytes
+pub get_or-pending_words : (n i : ℕ) (xs : List ℕ) → i < n
+    → get_or (pending_words n xs) i 0 ≡ word_of (take 8 (drop (8 * i) xs))
+unfolding pending_words
+get_or-pending_words zero i xs lt = absurd (omega arith)
+get_or-pending_words (suc n) zero xs lt = refl
+get_or-pending_words (suc n) (suc i) xs lt =
+    let next : 8 + 8 * i ≡ 8 * suc i = omega arith in
+    rw (get_or-pending_words n i (drop 8 xs) (omega arith), drop-drop (8 * i) 8 xs, next) refl
+
+pub length-pending_words : (n : ℕ) (xs : List ℕ) → length (pending_words n xs) ≡ n
+unfolding pending_words
+length-pending_words zero xs = refl
+length-pending_words (suc n) xs = ap suc (length-pending_words n (drop 8 xs))
+
+-- whole words are the words that store bytes, as far as these are full
+whole_words-pending : (xs : List ℕ) → whole_words xs ≡ pending_words (length xs / 8) xs
+unfolding pending_words
+whole_words-pending (a ∷ b ∷ c ∷ d ∷ e ∷ f ∷ g ∷ h ∷ bs) =
+    let n : suc (suc (suc (suc (suc (suc (suc (suc (length bs)))))))) / 8 ≡ suc (length bs / 8) = omega arith in
+    rw n (ap (λ ws. word_of (a ∷ b ∷ c ∷ d ∷ e ∷ f ∷ g ∷ h ∷ []) ∷ ws) (whole_words-pending bs))
+whole_words-pending xs = refl
+
+pub pending_words-whole : (n : ℕ) (xs : List ℕ) → length xs ≡ 8 * n → pending_words n xs ≡ whole_words xs
+pending_words-whole n xs e = let k : length xs / 8 ≡ n = omega arith in rw (← k) (sym (whole_words-pending xs))
+
+pub length-whole_words : (xs : List ℕ) → length (whole_words xs) ≡ length xs / 8
+length-whole_words xs = ap length (whole_words-pending xs) ∙ length-pending_words (length xs / 8) xs
+
+pub slice_index-whole_words : (xs : List ℕ) (at : ℕ) → at < length (whole_words xs)
+    → slice_index (whole_words xs) at ≡ word_of (take 8 (drop (8 * at) xs))
+slice_index-whole_words xs at lt =
+    ap (λ ws. get_or ws at 0) (whole_words-pending xs)
+    ∙ get_or-pending_words (length xs / 8) at xs (omega (arith, length-whole_words xs))
 
 -- the next whole word
 pub whole_words-more : (xs : List ℕ) → 8 ≤ length xs → whole_words xs ≡ word_of (take 8 xs) ∷ whole_words (drop 8 xs)
@@ -44,10 +80,6 @@ whole_words-append (a ∷ b ∷ c ∷ d ∷ e ∷ f ∷ g ∷ h ∷ xs) ys k is 
     ap (λ ws. word_of (a ∷ b ∷ c ∷ d ∷ e ∷ f ∷ g ∷ h ∷ []) ∷ ws) (whole_words-append xs ys (k - 1) (omega arith))
 whole_words-append xs ys k is = absurd (omega arith)
 
-pub length-whole_words : (xs : List ℕ) → length (whole_words xs) ≡ length xs / 8
-length-whole_words (a ∷ b ∷ c ∷ d ∷ e ∷ f ∷ g ∷ h ∷ xs) = omega (arith, length-whole_words xs)
-length-whole_words xs = refl
-
 -- n words from a place on
 abbrev words_from : ℕ → ℕ → List ℕ → List ℕ
 words_from zero at xs = []
@@ -64,20 +96,10 @@ whole_words-from (suc n) at xs e =
 pub whole_words-block : (xs : List ℕ) → length xs ≡ 64 → whole_words xs ≡ words_from 8 0 xs
 whole_words-block xs e = whole_words-from 8 0 xs e
 
--- the word at a place
-pub slice_index-whole_words : (xs : List ℕ) (at : ℕ) → at < length (whole_words xs)
-    → slice_index (whole_words xs) at ≡ word_of (take 8 (drop (8 * at) xs))
-slice_index-whole_words (a ∷ b ∷ c ∷ d ∷ e ∷ f ∷ g ∷ h ∷ xs) zero lt = refl
-slice_index-whole_words (a ∷ b ∷ c ∷ d ∷ e ∷ f ∷ g ∷ h ∷ xs) (suc at) lt =
-    slice_index-whole_words xs at (omega arith)
-    ∙ let n : 8 * suc at ≡ suc (suc (suc (suc (suc (suc (suc (suc (8 * at)))))))) =
-    omega arith in ap (λ n. word_of (take 8 (drop n (a ∷ b ∷ c ∷ d ∷ e ∷ f ∷ g ∷ h ∷ xs)))) (sym n)
-slice_index-whole_words xs at lt = absurd (omega arith)
-
 -- whole words as they are read from bytes, each by itself
 pub ruleset read_words = (length-whole_words, slice_index-whole_words, nat_tests)
 
--- whole words have no rest
+-- bytes that are all in whole words
 pub words_of-whole : (xs : List ℕ) (k : ℕ) → length xs ≡ 8 * k → words_of xs ≡ whole_words xs
 words_of-whole [] k e = refl
 words_of-whole (a ∷ b ∷ c ∷ d ∷ e ∷ f ∷ g ∷ h ∷ xs) k is =

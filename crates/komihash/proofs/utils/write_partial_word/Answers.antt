@@ -1,5 +1,4 @@
-use Rattle.std.proofs.Common.{◌-◌, ◌∙◌, refl, length, take, drop, set, get_or, arith, ap}
-use Rattle.komihash.specs.Words.{bytes_of}
+use Rattle.std.proofs.Common.{◌≡◌, ◌∙◌, refl, length, take, set, get_or, arith, ap}
 use Rattle.komihash.proofs.BytesOfWords.{to_le_bytes-word, one_byte, length-bytes_of}
 use Rattle.komihash.proofs.Lists.{two_pieces}
 use Rattle.komihash.proofs.utils.write_partial_word.Goals as goal
@@ -8,23 +7,19 @@ pub returns-then-n-ge4 : goal.returns-then-n-ge4
 returns-then-n-ge4 c =
     let n = length c.args.out.now in
     let bytes = c.to_le_bytes-bytes.ensures ∙ to_le_bytes-word c.args.word in
-    let size = length-bytes_of 8 c.args.word in
-    two_pieces 4 n
-    (bytes_of 8 c.args.word) c.args.out.now c.copy_from_slice.new.self c.copy_from_slice-then-n-ge4.new.self refl
-    (omega arith) (omega arith) (omega arith)
-    (c.copy_from_slice.ensures.after ∙ ap (take 4) bytes)
-    (c.copy_from_slice-then-n-ge4.ensures.after ∙ ap (λ bs. take (n - (n - 4)) (drop (n - 4) bs)) bytes)
+    let size : length c.to_le_bytes-bytes.result ≡ 8 = ap length bytes ∙ length-bytes_of 8 c.args.word in
+    two_pieces 4 n c.to_le_bytes-bytes.result c.args.out.now _ _ refl (omega arith) (omega arith) (omega arith)
+    c.copy_from_slice.ensures.after c.copy_from_slice-then-n-ge4.ensures.after
+    ∙ ap (take n) bytes
 
 pub returns-then-n-ge2 : goal.returns-then-n-ge2
 returns-then-n-ge2 c =
     let n = length c.args.out.now in
     let bytes = c.to_le_bytes-bytes.ensures ∙ to_le_bytes-word c.args.word in
-    let size = length-bytes_of 8 c.args.word in
-    two_pieces 2 n
-    (bytes_of 8 c.args.word) c.args.out.now c.copy_from_slice-then-n-ge2.new.self c.copy_from_slice-then-n-ge2-2.new.self refl
-    (omega arith) (omega arith) (omega arith)
-    (c.copy_from_slice-then-n-ge2.ensures.after ∙ ap (take 2) bytes)
-    (c.copy_from_slice-then-n-ge2-2.ensures.after ∙ ap (λ bs. take (n - (n - 2)) (drop (n - 2) bs)) bytes)
+    let size : length c.to_le_bytes-bytes.result ≡ 8 = ap length bytes ∙ length-bytes_of 8 c.args.word in
+    two_pieces 2 n c.to_le_bytes-bytes.result c.args.out.now _ _ refl (omega arith) (omega arith) (omega arith)
+    c.copy_from_slice-then-n-ge2.ensures.after c.copy_from_slice-then-n-ge2-2.ensures.after
+    ∙ ap (take n) bytes
 
 pub returns-then-n-eq1 : goal.returns-then-n-eq1
 returns-then-n-eq1 c =

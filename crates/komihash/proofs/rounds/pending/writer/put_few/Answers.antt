@@ -1,8 +1,8 @@
-use Rattle.std.proofs.Common.{◌≡◌, ◌-◌, ◌+◌, ◌*◌, ◌%◌, ◌/◌, ◌^◌, [], ◌∷◌, take, drop, arith}
+use Rattle.std.proofs.Common.{◌≡◌, ◌∙◌, ◌-◌, ◌+◌, ◌*◌, ◌%◌, ◌/◌, ◌^◌, take, drop, arith}
 use Rattle.std.proofs.lemmas.List.{take_all, length-drop}
 use Rattle.komihash.specs.Pending.{pending_bytes}
 use Rattle.komihash.specs.Words.{word_of}
-use Rattle.komihash.proofs.BytesInWords.{AreBytes-typed, word_of-append, word_of-drop}
+use Rattle.komihash.proofs.BytesInWords.{AreBytes-typed, word_of-zero, word_of-drop}
 use Rattle.komihash.proofs.PendingBytes.{length_pending}
 use Rattle.komihash.proofs.rounds.pending.writer.put_few.Goals as goal
 
@@ -12,8 +12,7 @@ returns-then-over-bytes-gt8 c =
     let fit = 8 - c.args.fill % 8 in
     let are = AreBytes-typed bytes c.type_inv.bytes in
     let size = length_pending c.args.words.now c.args.fill c.requires.pending in
-    let word : c.read_partial_word-word.result ≡ word_of bytes =
-    omega (arith, c.read_partial_word-word.ensures, word_of-append bytes (0 ∷ [])) in
+    let word = c.read_partial_word-word.ensures ∙ word_of-zero bytes in
     let shift : 64 - 8 * (c.args.fill % 8) ≡ 8 * fit = omega arith in
     let left : c.read_partial_word-word.result / 2 ^ (64 - 8 * (c.args.fill % 8)) ≡ word_of (take 8 (drop fit bytes)) =
     rw (word, shift, ← word_of-drop fit bytes are, take_all 8 (drop fit bytes) (omega (arith, length-drop fit bytes))) in
@@ -24,7 +23,6 @@ returns-then-over-bytes-gt8 c =
 pub returns-else-over-bytes-gt8 : goal.returns-else-over-bytes-gt8
 returns-else-over-bytes-gt8 c =
     let bytes = c.args.bytes.now in
-    let word : c.read_partial_word-word.result ≡ word_of bytes =
-    omega (arith, c.read_partial_word-word.ensures, word_of-append bytes (0 ∷ [])) in
+    let word = c.read_partial_word-word.ensures ∙ word_of-zero bytes in
     rw (take_all (8 - c.args.fill % 8) bytes (omega arith)) at
     (c.join_word.ensures bytes (AreBytes-typed bytes c.type_inv.bytes) word)
