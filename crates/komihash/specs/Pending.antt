@@ -1,5 +1,6 @@
 -- How the code stores a stream's pending bytes: in eight words, with zeros after the last byte.
-use Rattle.std.specs.Prelude.{ℕ, List, [], ◌∷◌, ◌++◌, take, drop, zero, suc, ◌≡◌, ◌+◌, ◌*◌, ◌<◌, length}
+use Rattle.std.specs.Prelude.{ℕ, zero, suc, ◌+◌, ◌*◌, ◌<◌, ◌≡◌}
+use Rattle.std.specs.Prelude.{List, [], ◌∷◌, ◌++◌, length, take, drop}
 use Rattle.komihash.specs.Words.{word_of, all_bytes}
 
 -- the n words that store these bytes, with zeros after them
@@ -20,8 +21,9 @@ pub record ArePending (ws : List ℕ) (fill : ℕ) : Type 0 where
   pub few : fill < 64
   pub words : Store ws (pending_bytes ws fill)
 
--- The new words store the first `to` of the bytes where the old ones store the first `from`, after
--- the same bytes xs. The word `at` is the first that differs.
+-- After any bytes xs, the old words store the first `from` of these bytes and the new ones the first
+-- `to`. Word `at` is the first that differs.
 abbrev pub Extend : List ℕ → List ℕ → ℕ → List ℕ → ℕ → ℕ → Type 0
 Extend old new at bytes from to =
-    (xs : List ℕ) → length xs + from ≡ 8 * at → Store old (xs ++ take from bytes) → Store new (xs ++ take to bytes)
+    (xs : List ℕ) → length xs + from ≡ 8 * at → Store old (xs ++ take from bytes)
+    → Store new (xs ++ take to bytes)

@@ -1,8 +1,9 @@
-//! The pending bytes of a stream: those that no block has taken yet.
+//! The pending bytes of a stream: those after its last whole block.
 
 #![tactic(auto, using(crate::proofs::PendingBytes::pending_laws))]
 
-ghost use Rattle.std.specs.Prelude.{◌≡◌, ◌+◌, ◌-◌, ◌<◌, ◌≤◌, [], ◌++◌, length, take, drop, slice_index};
+ghost use Rattle.std.specs.Prelude.{◌≡◌, ◌+◌, ◌-◌, ◌<◌, ◌≤◌, [], ◌++◌};
+ghost use Rattle.std.specs.Prelude.{length, take, drop, slice_index};
 ghost use Rattle.komihash.specs.Counts.{write_products, kept_bytes};
 ghost use Rattle.komihash.specs.Halves.{lanes_in};
 ghost use Rattle.komihash.specs.Tails.{whole_words, final_word, block_lanes, after_blocks};
@@ -16,7 +17,7 @@ use crate::utils::Words;
 use crate::utils::copies::write_bytes;
 use std::marker::Model;
 
-/// Fewer than 64 bytes. They stand in eight words, which are zero above them.
+/// Fewer than 64 bytes, stored in eight words, with zeros after the last byte.
 #[derive(Drop)]
 pub(crate) struct Pending {
     words: [u64; 8],
@@ -35,7 +36,7 @@ impl Model for Pending {
 }
 
 impl Pending {
-    /// No bytes.
+    /// Returns a value that stores no bytes.
     #[inline(always)]
     pub(crate) fn new() -> Self
         ensures { result ≡ [] }
@@ -46,7 +47,7 @@ impl Pending {
         }
     }
 
-    /// How many they are.
+    /// Returns the number of bytes.
     #[inline(always)]
     pub(crate) fn len(&self) -> usize
         ensures length { result ≡ length self.now }
@@ -55,7 +56,7 @@ impl Pending {
         self.fill
     }
 
-    /// The last of them. Nothing stands above it in its word.
+    /// Returns the last byte. Its word has zeros above it.
     #[inline(always)]
     pub(crate) fn last_byte(&self) -> u8
         requires { 0 < length self.now }
@@ -65,7 +66,7 @@ impl Pending {
         (self.words[at / 8] >> (8 * (at % 8))) as u8
     }
 
-    /// Puts bytes after them, and counts these as kept.
+    /// Appends bytes that do not fill a block, and counts them as kept.
     #[inline(always)]
     pub(crate) fn put(&mut self, bytes: &[u8], tally: &mut Tally)
         requires { length self.old + length bytes.now < 64 }
@@ -78,8 +79,8 @@ impl Pending {
         self.fill = fill + bytes.len();
     }
 
-    /// Puts bytes after them of which some fill a block, and absorbs all whole blocks: whether the
-    /// last byte of the last block is high.
+    /// Appends bytes that fill a block or more, and absorbs each whole block. Returns whether the
+    /// last byte of the last block has a top bit that version V looks at.
     #[inline(always)]
     pub(crate) fn absorb<const V: u8>(
         &mut self,
@@ -91,17 +92,19 @@ impl Pending {
         ensures lanes { lanes_in lanes.new
             ≡ block_lanes V (lanes_in lanes.old) (whole_words (self.old ++ bytes.now)) }
         ensures bytes { self.new ≡ after_blocks (self.old ++ bytes.now) }
-        ensures top_bit { result ≡ has_top_bit V (slice_index bytes.now (length bytes.now - length self.new - 1)) }
+        ensures top_bit { result
+            ≡ has_top_bit V (slice_index bytes.now (length bytes.now - length self.new - 1)) }
         ensures products { tally.new.products
             ≡ tally.old.products + write_products (length self.old) (length bytes.now) }
-        ensures kept { tally.new.kept ≡ tally.old.kept + kept_bytes (length self.old) (length bytes.now) }
+        ensures kept { tally.new.kept
+            ≡ tally.old.kept + kept_bytes (length self.old) (length bytes.now) }
     {
         let (fill, top_bit) = blocks::absorb::<V>(lanes, &mut self.words, self.fill, bytes, tally);
         self.fill = fill;
         top_bit
     }
 
-    /// The final word of these bytes and the byte that ends them.
+    /// Returns the final word: the bytes after the last whole word, and the byte `end` after them.
     #[inline(always)]
     pub(crate) fn final_word(&self, end: u64) -> u64
         requires { end < 4 }
@@ -110,7 +113,7 @@ impl Pending {
         self.words[self.fill / 8] | end << (8 * (self.fill % 8))
     }
 
-    /// Writes them to the front of `out`, and leaves the rest.
+    /// Writes the bytes to the front of `out`, and leaves the bytes after them as they are.
     #[inline(always)]
     pub(crate) fn write_to(&self, out: &mut [u8])
         requires { length self.now ≤ length out.old }
@@ -121,7 +124,7 @@ impl Pending {
     }
 }
 
-/// Their whole words.
+/// The whole words of the pending bytes.
 impl Words for Pending {
     ghost words = { λ pending. whole_words pending };
 

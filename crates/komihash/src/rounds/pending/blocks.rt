@@ -1,8 +1,9 @@
-//! The begun block filled up, and the whole blocks after it.
+//! Absorbs the begun block, once it is filled up, and the whole blocks after it.
 
 #![tactic(auto, using(crate::proofs::PendingBlocks::block_laws))]
 
-ghost use Rattle.std.specs.Prelude.{◌≡◌, ◌+◌, ◌-◌, ◌*◌, ◌/◌, ◌<◌, ◌≤◌, ◌==◌, if◌then◌else◌, ◌++◌, length, slice_index};
+ghost use Rattle.std.specs.Prelude.{◌≡◌, ◌+◌, ◌-◌, ◌*◌, ◌/◌, ◌<◌, ◌≤◌, ◌==◌, ◌++◌};
+ghost use Rattle.std.specs.Prelude.{if◌then◌else◌, length, slice_index};
 ghost use Rattle.komihash.specs.Counts.{write_products, kept_bytes};
 ghost use Rattle.komihash.specs.Halves.{lanes_in};
 ghost use Rattle.komihash.specs.Pending.{pending_bytes, ArePending};
@@ -15,8 +16,8 @@ use crate::rounds::blocks::absorb_blocks;
 use crate::rounds::{block_round, places};
 use crate::tally::Tally;
 
-// Fills up the begun block, if there is one, and absorbs it. Returns the lanes after it, and what is
-// left of the bytes. The lanes are read only after the writer, which needs the registers itself.
+// Fills up the begun block, if there is one, and absorbs it. Returns the lanes after it, and the
+// bytes that are left. Reads the lanes only after the writer, which needs the registers itself.
 #[inline(always)]
 fn absorb_begun<'a, const V: u8>(
     lanes: &[u64; 8],
@@ -28,8 +29,10 @@ fn absorb_begun<'a, const V: u8>(
     requires pending { ArePending words.old fill }
     requires many { 64 ≤ fill + length bytes.now }
     ensures lanes { block_lanes V (lanes_in result.0) (whole_words result.1.now)
-        ≡ block_lanes V (lanes_in lanes.now) (whole_words (pending_bytes words.old fill ++ bytes.now)) }
-    ensures left { after_blocks result.1.now ≡ after_blocks (pending_bytes words.old fill ++ bytes.now) }
+        ≡ block_lanes V (lanes_in lanes.now)
+        (whole_words (pending_bytes words.old fill ++ bytes.now)) }
+    ensures left { after_blocks result.1.now
+        ≡ after_blocks (pending_bytes words.old fill ++ bytes.now) }
     ensures none { ArePending words.new 0 }
     ensures kept { tally.new.kept ≡ tally.old.kept + (if fill == 0 then 0 else 64 - fill) }
     ensures taken { length result.1.now + (if fill == 0 then 0 else 64 - fill) ≡ length bytes.now }
@@ -47,7 +50,7 @@ fn absorb_begun<'a, const V: u8>(
     (after, rest)
 }
 
-// Puts what is left after the blocks, if anything is.
+// Stores the bytes after the last block, if there are any, and counts them as kept.
 #[inline(always)]
 fn put_left(words: &mut [u64; 8], left: &[u8], tally: &mut Tally)
     requires none { ArePending words.old 0 }
@@ -63,10 +66,11 @@ fn put_left(words: &mut [u64; 8], left: &[u8], tally: &mut Tally)
     put(words, 0, left, tally);
 }
 
-/// Absorbs bytes of which some fill a block: how many are pending then, and whether the last byte
-/// that a block took is high.
+/// Absorbs bytes that fill a block or more, and stores those after the last block. Returns their
+/// number, and whether the last byte of the last block has a top bit that version V looks at.
 ///
-/// The fill goes in and out by value, so that a caller's loop over pieces keeps it in a register.
+/// The fill is passed and returned by value, so that a caller's loop over pieces keeps it in a
+/// register.
 #[inline(never)]
 pub(crate) fn absorb<const V: u8>(
     lanes: &mut [u64; 8],
@@ -78,11 +82,15 @@ pub(crate) fn absorb<const V: u8>(
     requires pending { ArePending words.old fill }
     requires many { 64 ≤ fill + length bytes.now }
     ensures lanes { lanes_in lanes.new
-        ≡ block_lanes V (lanes_in lanes.old) (whole_words (pending_bytes words.old fill ++ bytes.now)) }
+        ≡ block_lanes V (lanes_in lanes.old)
+        (whole_words (pending_bytes words.old fill ++ bytes.now)) }
     ensures pending { ArePending words.new result.0 }
-    ensures bytes { pending_bytes words.new result.0 ≡ after_blocks (pending_bytes words.old fill ++ bytes.now) }
-    ensures top_bit { result.1 ≡ has_top_bit V (slice_index bytes.now (length bytes.now - result.0 - 1)) }
-    ensures products { tally.new.products ≡ tally.old.products + write_products fill (length bytes.now) }
+    ensures bytes { pending_bytes words.new result.0
+        ≡ after_blocks (pending_bytes words.old fill ++ bytes.now) }
+    ensures top_bit { result.1
+        ≡ has_top_bit V (slice_index bytes.now (length bytes.now - result.0 - 1)) }
+    ensures products { tally.new.products
+        ≡ tally.old.products + write_products fill (length bytes.now) }
     ensures kept { tally.new.kept ≡ tally.old.kept + kept_bytes fill (length bytes.now) }
 {
     let (mut local, rest) = absorb_begun::<V>(lanes, words, fill, bytes, tally);

@@ -1,6 +1,7 @@
-//! The one writer of pending bytes: it puts them into eight words, which are zero above them.
+//! Appends pending bytes to the eight words that store them. No other code does.
 
-ghost use Rattle.std.specs.Prelude.{◌≡◌, ℕ, ◌+◌, ◌-◌, ◌*◌, ◌%◌, ◌<◌, ◌≤◌, List, ◌++◌, length, take, drop};
+ghost use Rattle.std.specs.Prelude.{◌≡◌, ℕ, ◌+◌, ◌-◌, ◌*◌, ◌%◌, ◌<◌, ◌≤◌};
+ghost use Rattle.std.specs.Prelude.{List, ◌++◌, length, take, drop};
 ghost use Rattle.komihash.specs.Pending.{pending_bytes, ArePending, Store, Extend};
 ghost use Rattle.komihash.specs.Tails.{whole_words};
 ghost use Rattle.komihash.specs.Words.{AreBytes, word_of};
@@ -8,7 +9,7 @@ ghost use Rattle.komihash.specs.Words.{AreBytes, word_of};
 use crate::tally::Tally;
 use crate::utils::{read_partial_word, read_word, word_at};
 
-// Joins a word to the one that the fill has begun: of its bytes those that fit.
+// Appends the bytes of a word that fit in the word that the fill has begun.
 #[inline(always)]
 fn join_word(words: &mut [u64; 8], fill: usize, word: u64)
     requires { ArePending words.old fill }
@@ -18,17 +19,18 @@ fn join_word(words: &mut [u64; 8], fill: usize, word: u64)
     words[fill / 8] |= word << (8 * (fill % 8));
 }
 
-// Sets a word that holds nothing yet.
+// Sets the first word that stores no bytes yet, to the next eight bytes or to all that are left.
 #[inline(always)]
 fn set_word(words: &mut [u64; 8], at: usize, word: u64)
     requires { at < 8 }
-    ensures { (bytes : List ℕ) (from : ℕ) → from ≤ length bytes → word ≡ word_of (take 8 (drop from bytes))
+    ensures { (bytes : List ℕ) (from : ℕ) → from ≤ length bytes
+        → word ≡ word_of (take 8 (drop from bytes))
         → Extend words.old words.new at bytes from (from + 8) }
 {
     words[at] = word;
 }
 
-// Puts fewer than eight bytes.
+// Appends fewer than eight bytes.
 #[inline(always)]
 fn put_few(words: &mut [u64; 8], fill: usize, bytes: &[u8])
     requires pending { ArePending words.old fill }
@@ -44,7 +46,8 @@ fn put_few(words: &mut [u64; 8], fill: usize, bytes: &[u8])
     }
 }
 
-// Moves N words from a place of the bytes on, where there are so many: the next places.
+// Stores the next N words of `bytes`, starting at `from`, if so many are left. Returns the next index
+// in `words` and the next offset in `bytes`.
 #[inline(always)]
 fn move_words<const N: usize>(
     words: &mut [u64; 8],
@@ -71,7 +74,7 @@ fn move_words<const N: usize>(
     (at + N, from + 8 * N)
 }
 
-// Puts what is left after the words that were moved: it is read with the last eight bytes.
+// Stores the bytes from `from` on, fewer than eight, which it reads with the last eight.
 #[inline(always)]
 fn put_last(words: &mut [u64; 8], at: usize, bytes: &[u8], from: usize)
     requires many { 8 ≤ length bytes.now }
@@ -87,7 +90,8 @@ fn put_last(words: &mut [u64; 8], at: usize, bytes: &[u8], from: usize)
     }
 }
 
-// Puts eight bytes or more: the first fill up the begun word, then whole words follow.
+// Appends eight bytes or more: the first fill up the begun word, then whole words follow, and then
+// fewer than eight bytes.
 #[inline(always)]
 fn put_many(words: &mut [u64; 8], fill: usize, bytes: &[u8])
     requires pending { ArePending words.old fill }
@@ -102,7 +106,7 @@ fn put_many(words: &mut [u64; 8], fill: usize, bytes: &[u8])
     put_last(words, at, bytes, from);
 }
 
-/// Puts bytes after those that the words hold up to the fill, and counts them as kept.
+/// Appends bytes to those that the words store up to the fill, and counts them as kept.
 #[inline(always)]
 pub(crate) fn put(words: &mut [u64; 8], fill: usize, bytes: &[u8], tally: &mut Tally)
     requires pending { ArePending words.old fill }
@@ -111,7 +115,8 @@ pub(crate) fn put(words: &mut [u64; 8], fill: usize, bytes: &[u8], tally: &mut T
         → words.new ≡ whole_words (pending_bytes words.old fill ++ bytes.now) }
     ensures bytes { pending_bytes words.new (fill + length bytes.now)
         ≡ pending_bytes words.old fill ++ bytes.now }
-    ensures pending { fill + length bytes.now < 64 → ArePending words.new (fill + length bytes.now) }
+    ensures pending { fill + length bytes.now < 64
+        → ArePending words.new (fill + length bytes.now) }
     ensures products { tally.new.products ≡ tally.old.products }
     ensures kept { tally.new.kept ≡ tally.old.kept + length bytes.now }
 {
