@@ -49,11 +49,11 @@ last ws = get_or ws (length ws - 1) 0
 
 -- ---- a message, the byte that ends it, and zeros
 
--- the words of such bytes
+-- the words of these bytes
 abbrev ended : List ℕ → ℕ → List ℕ
 ended m end = whole_words m ++ final_word m end ∷ []
 
--- the words of which n bytes, a byte and zeros are the bytes
+-- words whose bytes are n bytes, the byte `end` and zeros
 ended-words : (ws : List ℕ) (n end : ℕ) → ((k : ℕ) → get_or ws k 0 < 2 ^ 64)
     → length ws ≡ n / 8 + 1 → get_or ws (n / 8) 0 / 2 ^ (8 * (n % 8)) ≡ end
     → ended (take n (all_bytes ws)) end ≡ ws
@@ -66,7 +66,7 @@ ended-words (w ∷ ws) (suc (suc (suc (suc (suc (suc (suc (suc n)))))))) end fit
 ended-words (w ∷ []) n end fit size high = ap (λ x. x ∷ []) (omega arith)
 ended-words (w ∷ x ∷ ws) n end fit size high = absurd (omega arith)
 
--- what these words say of the message and its end
+-- what such words say of the message and the byte that ends it
 record Back (ws m : List ℕ) (end : ℕ) : Type 0 where
   size : length ws ≡ length m / 8 + 1
   high : get_or ws (length m / 8) 0 / 2 ^ (8 * (length m % 8)) ≡ end
@@ -98,7 +98,7 @@ ended-back m end are =
 abbrev IsHighest : ℕ → ℕ → Type 0
 IsHighest w r = (0 < w / 2 ^ (8 * r)) × (w / 2 ^ (8 * r) < 256)
 
--- no byte after place r is other than 0, and one from place s on is
+-- only zeros stand above place r, and another byte at place s or above
 place-le : (w r s : ℕ) → w / 2 ^ (8 * r) < 256 → 0 < w / 2 ^ (8 * s) → s ≤ r
 place-le w r s below above =
     elim (cases_lt r s) as (λ _. s ≤ r) [
@@ -167,7 +167,7 @@ same_message v x y are_x are_y same =
     ] in
     sym of_x.bytes ∙ ap (λ n. take n (all_bytes ws)) sizes ∙ of_y.bytes
 
--- ---- what the code finds: the highest place of the last word whose byte is not 0
+-- ---- what the code finds: the highest byte of the last word that is not 0
 
 pub highest : (w bit : ℕ) → 2 ^ bit ≤ w → w < 2 * 2 ^ bit
     → (0 < w / 2 ^ (8 * (bit / 8))) × (w / 2 ^ (8 * (bit / 8)) < 256)
@@ -204,7 +204,7 @@ padded_zero v ws p zero =
     let of_m = reads p in
     omega (arith, of_m.size, of_m.none zero)
 
--- r is a place of the last word, before which a message may end
+-- a message that ends below place r of the last word
 module _ (v : ℕ) (ws : List ℕ) (r : ℕ) where
   abbrev size : ℕ
   size = 8 * (length ws - 1) + r
