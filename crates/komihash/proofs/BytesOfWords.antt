@@ -1,6 +1,6 @@
 -- The bytes of words: how many, by place, and as the standard library writes them.
 use Rattle.std.proofs.Common.{◌≡◌, ℕ, zero, suc, ◌+◌, ◌*◌, ◌/◌, ◌%◌, ◌<◌, ◌≤◌, List, [], ◌∷◌, ◌++◌, length, take, drop, get_or, set, refl, ap, arith, ◌∙◌, sym, w64}
-use Rattle.std.proofs.lemmas.List.{length-append, take-append-le, take_all}
+use Rattle.std.proofs.lemmas.List.{drop-drop, length-append, take-append-le, take_all}
 use Rattle.std.proofs.Math.Nat.{div-div-eq-div-mul}
 use Rattle.komihash.specs.Words.{AreBytes, word_of, bytes_of, all_bytes}
 use Rattle.komihash.proofs.BytesInWords.{AreBytes-append}
@@ -45,10 +45,10 @@ unfolding bytes_of
 drop-all_bytes [] i lt = absurd (omega arith)
 drop-all_bytes (w ∷ ws) zero lt = refl
 drop-all_bytes (w ∷ ws) (suc i) lt =
-    let n : 8 * suc i ≡ suc (suc (suc (suc (suc (suc (suc (suc (8 * i)))))))) = omega arith in
-    let m : 8 * suc (suc i) ≡ suc (suc (suc (suc (suc (suc (suc (suc (8 * suc i)))))))) = omega arith in
-    ap (λ n. drop n (all_bytes (w ∷ ws))) n ∙ drop-all_bytes ws i (omega arith)
-    ∙ ap (λ m. bytes_of 8 (get_or ws i 0) ++ drop m (all_bytes (w ∷ ws))) (sym m)
+    let here : 8 * suc i ≡ 8 + 8 * i = omega arith in
+    let next : 8 * suc (suc i) ≡ 8 + 8 * suc i = omega arith in
+    rw (here, next, ← drop-drop (8 * i) 8 (all_bytes (w ∷ ws)), ← drop-drop (8 * suc i) 8 (all_bytes (w ∷ ws)))
+    (drop-all_bytes ws i (omega arith))
 
 -- the first bytes of the word at a place
 pub take-all_bytes : (ws : List ℕ) (i over : ℕ) → i < length ws → over ≤ 8

@@ -13,7 +13,6 @@ pub mod PaddingBack
 pub mod PaddingWords
 pub mod PendingBlocks
 pub mod PendingBytes
-pub mod PendingWords
 mod Raised
 pub mod SavedStreams
 pub mod SavedTexts

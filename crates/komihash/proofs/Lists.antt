@@ -18,10 +18,6 @@ take-append (suc n) (x ∷ xs) ys =
     let left : suc n - suc (length xs) ≡ n - length xs = omega arith in
     rw left (ap (λ zs. x ∷ zs) (take-append n xs ys))
 
--- the bytes up to a place and from there to the next
-pub take-to : (a b : ℕ) (xs : List ℕ) → a ≤ b → take a xs ++ take (b - a) (drop a xs) ≡ take b xs
-take-to a b xs le = let n : a + (b - a) ≡ b = omega arith in take-more a (b - a) xs ∙ ap (λ k. take k xs) n
-
 -- the first n bytes of out are those of all, and the others those of old
 pub record Covers (n : ℕ) (out all old : List ℕ) : Type 0 where
   pub front : take n out ≡ take n all
@@ -40,23 +36,22 @@ covers-put_mid a k n xs ys all old sum within fits is so =
           ∙ rw (← sum, ← drop-drop k a xs, so.others) (drop-drop k a old);
     }
 
--- two pieces of k bytes that may overlap
-pub two_pieces : (k n : ℕ) (bs out zs ys : List ℕ) → length out ≡ n → k ≤ n → n ≤ k + k → n ≤ length bs
-    → zs ≡ take k bs → ys ≡ take (n - (n - k)) (drop (n - k) bs)
-    → put_mid (n - k) (length (zs ++ drop k out) - (n - k)) (zs ++ drop k out) ys ≡ take n bs
-two_pieces k n bs out zs ys len le most fits first second =
-    let xs = take k bs ++ drop k out in
-    let j = length xs - (n - k) in
-    let front = length-take-le k bs (omega arith) in
-    let all : length xs ≡ n = omega (arith, length-append (take k bs) (drop k out), front, length-drop k out) in
-    let piece : length ys ≡ k = ap length second
-    ∙ length-take-le (n - (n - k)) (drop (n - k) bs) (omega (arith, length-drop (n - k) bs)) ∙ omega arith in
-    let long : length (put_mid (n - k) j xs ys) ≤ n - k + length ys = search (rules, overwrites) in
-    rw first (
-    sym (take_all n (put_mid (n - k) j xs ys) (omega arith))
-    ∙ take-put_mid (n - k) j xs ys n (omega arith) (omega arith)
-    ∙ rw (take-append-le (n - k) (take k bs) (drop k out) (omega arith), take-take (n - k) k bs (omega arith), second)
-    (take-to (n - k) n bs (omega arith)))
+-- n bytes written in two pieces of k that may overlap
+pub two_pieces : (k n : ℕ) (all out zs ys : List ℕ) → length out ≡ n → k ≤ n → n ≤ k + k → n ≤ length all
+    → zs ≡ take k all → ys ≡ take (n - (n - k)) (drop (n - k) all)
+    → put_mid (n - k) (length (zs ++ drop k out) - (n - k)) (zs ++ drop k out) ys ≡ take n all
+two_pieces k n all out zs ys len le most fits first second =
+    let xs = take k all ++ drop k out in
+    let front = length-take-le k all (omega arith) in
+    let size : length xs ≡ n = omega (arith, length-append (take k all) (drop k out), front, length-drop k out) in
+    let last : n - (n - k) ≡ k = omega arith in
+    let begun : Covers (n - k) xs all xs = record {
+      front = take-append-le (n - k) (take k all) (drop k out) (omega arith) ∙ take-take (n - k) k all (omega arith);
+      others = refl;
+    } in
+    let both = covers-put_mid (n - k) k n xs ys all xs (omega arith) (omega arith) fits (rw last at second) begun in
+    let long : length (put_mid (n - k) k xs ys) ≤ n = search (rules, overwrites) in
+    rw (first, size, last) (sym (take_all n (put_mid (n - k) k xs ys) long) ∙ both.front)
 
 -- a range written over, and what was there before it and after it
 pub put_mid-between : (a k n : ℕ) (xs ys zs : List ℕ) → a + k ≡ n → ys ≡ zs
