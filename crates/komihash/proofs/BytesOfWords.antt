@@ -1,6 +1,6 @@
 -- The bytes of words: how many, by place, and as the standard library writes them.
 use Rattle.std.proofs.Common.{◌≡◌, ℕ, zero, suc, ◌+◌, ◌*◌, ◌/◌, ◌%◌, ◌<◌, ◌≤◌, List, [], ◌∷◌, ◌++◌, length, take, drop, get_or, set, refl, ap, arith, ◌∙◌, sym, w64}
-use Rattle.std.proofs.lemmas.List.{drop-drop, length-append, take-append-le, take_all}
+use Rattle.std.proofs.lemmas.List.{drop-drop, length-append, take-append-le}
 use Rattle.std.proofs.Math.Nat.{div-div-eq-div-mul}
 use Rattle.komihash.specs.Words.{AreBytes, word_of, bytes_of, all_bytes}
 use Rattle.komihash.proofs.BytesInWords.{AreBytes-append}
@@ -56,12 +56,6 @@ pub take-all_bytes : (ws : List ℕ) (i over : ℕ) → i < length ws → over �
 take-all_bytes ws i over lt le =
     ap (take over) (drop-all_bytes ws i lt)
     ∙ take-append-le over (bytes_of 8 (get_or ws i 0)) _ (omega (arith, length-bytes_of 8 (get_or ws i 0)))
-
-pub bytes-all_bytes : (ws : List ℕ) (i : ℕ) → i < length ws
-    → take 8 (drop (8 * i) (all_bytes ws)) ≡ bytes_of 8 (get_or ws i 0)
-bytes-all_bytes ws i lt =
-    take-all_bytes ws i 8 lt (omega arith)
-    ∙ take_all 8 (bytes_of 8 (get_or ws i 0)) (omega (arith, length-bytes_of 8 (get_or ws i 0)))
 
 -- a word's bytes, as the standard library writes them
 pub to_le_bytes-word : (w : ℕ) → to_le_bytes w64 w ≡ bytes_of 8 w

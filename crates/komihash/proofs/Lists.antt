@@ -18,7 +18,7 @@ take-append (suc n) (x ∷ xs) ys =
     let left : suc n - suc (length xs) ≡ n - length xs = omega arith in
     rw left (ap (λ zs. x ∷ zs) (take-append n xs ys))
 
--- the first n bytes of out are those of all, and the others those of old
+-- the first n items of out are those of all, and the others those of old
 pub record Covers (n : ℕ) (out all old : List ℕ) : Type 0 where
   pub front : take n out ≡ take n all
   pub others : drop n out ≡ drop n old

@@ -67,18 +67,11 @@ take_all_bytes ws fill = refl
 
 -- no bytes
 pub pending_bytes_none : (ws : List ℕ) → pending_bytes ws 0 ≡ []
-unfolding pending_bytes
-pending_bytes_none ws = refl
+pending_bytes_none ws = sym (take_all_bytes ws 0)
 
 pub ArePending_none : ArePending (0 ∷ 0 ∷ 0 ∷ 0 ∷ 0 ∷ 0 ∷ 0 ∷ 0 ∷ []) 0
 unfolding pending_words pending_bytes
 ArePending_none = record { few = omega arith; words = refl }
-
--- the bytes that words store
-bytes_stored : (ws bytes : List ℕ) (fill : ℕ) → AreBytes bytes → length bytes ≡ fill → fill ≤ 64 → Store ws bytes
-    → pending_bytes ws fill ≡ bytes
-unfolding pending_bytes
-bytes_stored ws bytes fill are size le is = rw (is, ← size) (bytes-pending_words 8 bytes are (omega arith))
 
 module _ (ws : List ℕ) (fill : ℕ) (are : ArePending ws fill) where
   pub length_pending : length (pending_bytes ws fill) ≡ fill
@@ -94,10 +87,12 @@ module _ (ws : List ℕ) (fill : ℕ) (are : ArePending ws fill) where
     length_put = omega (arith, length-append (pending_bytes ws fill) bytes, length_pending)
 
     pub bytes_put : pending_bytes new (fill + length bytes) ≡ pending_bytes ws fill ++ bytes
+    unfolding pending_bytes
     bytes_put =
-        bytes_stored new (pending_bytes ws fill ++ bytes) (fill + length bytes)
-        (AreBytes-append (pending_bytes ws fill) bytes (AreBytes_pending ws fill) (AreBytes-typed bytes typed))
-        length_put room is
+        let typed_bytes =
+        AreBytes-append (pending_bytes ws fill) bytes (AreBytes_pending ws fill) (AreBytes-typed bytes typed) in
+        rw (is, ← length_put)
+        (bytes-pending_words 8 (pending_bytes ws fill ++ bytes) typed_bytes (omega (arith, length_put)))
 
     pub ArePending_put : fill + length bytes < 64 → ArePending new (fill + length bytes)
     ArePending_put few = record { few = few; words = is ∙ ap (pending_words 8) (sym bytes_put) }

@@ -1,20 +1,22 @@
 use Rattle.std.proofs.Common.{◌≡◌, ◌+◌, ◌-◌, ◌*◌, ◌/◌, ◌%◌, length, take, drop, get_or, ap, arith, sym, ◌∙◌}
-use Rattle.std.proofs.lemmas.List.{length-take-le, length-drop}
+use Rattle.std.proofs.lemmas.List.{length-take-le, length-drop, take_all}
 use Rattle.komihash.specs.Words.{bytes_of, all_bytes}
 use Rattle.komihash.proofs.Lists.{covers-put_mid}
-use Rattle.komihash.proofs.BytesOfWords.{bytes-all_bytes, take-all_bytes, to_le_bytes-word, length-all_bytes}
+use Rattle.komihash.proofs.BytesOfWords.{length-bytes_of, take-all_bytes, to_le_bytes-word, length-all_bytes}
 use Rattle.komihash.proofs.utils.copies.write_bytes.Goals as goal
 
 pub whole-preserved : goal.whole-preserved
 whole-preserved c =
     let words = c.args.words.now in
     let i = c.whole.i in
+    let word = get_or words i 0 in
     let size = length-all_bytes words in
     let eight : 8 * i + 8 - 8 * i ≡ 8 = omega arith in
     rw eight (covers-put_mid (8 * i) 8 (8 * (i + 1)) c.whole.out c.copy_from_slice.new.self (all_bytes words) c.args.out.now
     (omega arith) (omega arith) (omega arith)
-    (c.copy_from_slice.ensures.after ∙ c.to_le_bytes.ensures ∙ to_le_bytes-word (get_or words i 0)
-    ∙ sym (bytes-all_bytes words i (omega arith))) c.whole.invariant)
+    (c.copy_from_slice.ensures.after ∙ c.to_le_bytes.ensures ∙ to_le_bytes-word word
+    ∙ sym (take_all 8 (bytes_of 8 word) (omega (arith, length-bytes_of 8 word)))
+    ∙ sym (take-all_bytes words i 8 (omega arith) (omega arith))) c.whole.invariant)
 
 pub returns-then-count-gt0 : goal.returns-then-count-gt0
 returns-then-count-gt0 c =

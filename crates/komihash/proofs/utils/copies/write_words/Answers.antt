@@ -9,11 +9,11 @@ pub whole-preserved : goal.whole-preserved
 whole-preserved c =
     let some = length-whole_words c.args.bytes.now in
     let word = slice_index-whole_words c.args.bytes.now c.whole.i (omega arith) in
-    record { words = grind (arith, common_steps); rest = grind (arith, common_steps) }
+    record { front = grind (arith, common_steps); others = grind (arith, common_steps) }
 
 pub returns-clause-words : goal.returns-clause-words
 returns-clause-words c =
     let words = whole_words c.args.bytes.now in
     let all : length words ≡ c.whole.i = omega (arith, length-whole_words c.args.bytes.now) in
     rw (← length-whole_words c.args.bytes.now, all)
-    (c.whole.invariant.words ∙ take_all c.whole.i words (omega arith))
+    (c.whole.invariant.front ∙ take_all c.whole.i words (omega arith))
