@@ -2,7 +2,6 @@ pub mod Blocks
 pub mod BytesInWords
 pub mod BytesOfWords
 pub mod CallLists
-pub mod EngineSteps
 mod Facts
 pub mod GeneratorFills
 pub mod Halves
@@ -14,9 +13,9 @@ pub mod PaddingWords
 pub mod PendingBlocks
 pub mod PendingBytes
 mod Raised
-pub mod SavedStreams
 pub mod SavedTexts
 pub mod StreamAbsorbs
 pub mod StreamAnswers
+pub mod StreamSteps
 pub mod WholeWords
 pub mod Xor

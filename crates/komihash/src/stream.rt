@@ -7,11 +7,13 @@ ghost use Rattle.komihash.specs.Hash.{komi};
 ghost use Rattle.komihash.specs.Saved.{text, IsText, IsTextAfter};
 ghost use Rattle.komihash.specs.Stream.{State, IsState, HasAbsorbed, start, absorb, answer};
 
-mod engine;
 mod saved;
 pub(crate) mod streamed;
 
 use crate::tally::Tally;
+
+/// The length of the longest saved text: 68 bytes, and 63 pending ones.
+pub const LONGEST_TEXT: usize = 131;
 
 /// A stream of one of the versions.
 pub trait KomiStream: Sized + Drop {
@@ -55,9 +57,9 @@ pub trait KomiStream: Sized + Drop {
     ///
     /// The text stands first in `out`; after it `out` stays as it is.
     fn store(&self, out: &mut [u8]) -> usize
-        requires { 131 ≤ length out.old }
+        requires { LONGEST_TEXT ≤ length out.old }
         ensures length { result ≡ length (text VERSION (state self.now)) }
-        ensures most { result ≤ 131 }
+        ensures most { result ≤ LONGEST_TEXT }
         ensures text { take result out.new ≡ text VERSION (state self.now) }
         ensures message { (seed : ℕ) (m : List ℕ) → HasAbsorbed VERSION seed (state self.now) m
             → IsTextAfter VERSION seed m (take result out.new) }

@@ -1,28 +1,32 @@
 //! The text that a stream is saved as, part by part: four bytes that say what is saved, the eight
 //! lanes in their order, and the pending bytes.
 
-ghost use Rattle.std.specs.Prelude.{◌≡◌, ◌+◌, ◌<◌, ◌≤◌, ◌↔◌, [], ◌∷◌, ◌++◌, length, take, drop, IsTrue};
+ghost use Rattle.std.specs.Prelude.{◌≡◌, ◌+◌, ◌<◌, ◌≤◌, ◌↔◌, ℕ, IsTrue};
+ghost use Rattle.std.specs.Prelude.{[], ◌∷◌, ◌++◌, length, take, drop};
 ghost use Rattle.komihash.specs.Halves.{lanes_in};
 ghost use Rattle.komihash.specs.Saved.{flag_byte, in_order, IsLaidOut};
 ghost use Rattle.komihash.specs.Tails.{whole_words};
 ghost use Rattle.komihash.specs.Words.{all_bytes};
 
+use super::LONGEST_TEXT;
 use crate::rounds::pending::Pending;
 use crate::tally::Tally;
 use crate::utils::copies::{write_bytes, write_words};
 
-// Where the lanes begin, after the version, the flag, the bit and the number of the pending bytes.
-const LANES: usize = 4;
+// Where the lanes begin: after the version, the flag, the bit and the number of pending bytes.
+const LANES_AT: usize = 4;
 
 // Where the pending bytes begin.
-const PENDING: usize = 68;
+const PENDING_AT: usize = 68;
 
 /// Writes the first four bytes.
 #[inline(always)]
 pub(crate) fn write_head<const V: u8>(absorbed: bool, top_bit: bool, fill: usize, out: &mut [u8])
     requires few { fill < 64 }
-    requires room { 4 ≤ length out.old }
-    ensures { out.new ≡ (V ∷ flag_byte absorbed ∷ flag_byte top_bit ∷ fill ∷ []) ++ drop 4 out.old }
+    requires room { LANES_AT ≤ length out.old }
+    ensures head { out.new
+        ≡ (V ∷ flag_byte absorbed ∷ flag_byte top_bit ∷ fill ∷ []) ++ drop LANES_AT out.old }
+    ensures after { (n : ℕ) → LANES_AT ≤ n → drop n out.new ≡ drop n out.old }
 {
     out[0] = V;
     out[1] = u8::from(absorbed);
@@ -51,22 +55,25 @@ fn halves(lanes: &[u64; 8]) -> [u64; 8]
 /// Writes the lanes after the first four bytes.
 #[inline(always)]
 pub(crate) fn write_lanes(lanes: &[u64; 8], out: &mut [u8])
-    requires { 68 ≤ length out.old }
-    ensures { out.new ≡ take 4 out.old ++ all_bytes (in_order (lanes_in lanes.now)) ++ drop 68 out.old }
+    requires { PENDING_AT ≤ length out.old }
+    ensures lanes { take PENDING_AT out.new
+        ≡ take LANES_AT out.old ++ all_bytes (in_order (lanes_in lanes.now)) }
+    ensures after { (n : ℕ) → PENDING_AT ≤ n → drop n out.new ≡ drop n out.old }
 {
-    write_bytes(&in_order(lanes), 64, &mut out[LANES..PENDING]);
+    write_bytes(&in_order(lanes), 64, &mut out[LANES_AT..PENDING_AT]);
 }
 
 /// Writes the pending bytes after the lanes, and answers where they end.
 #[inline(always)]
 pub(crate) fn write_pending(pending: &Pending, out: &mut [u8]) -> usize
     requires few { length pending.now < 64 }
-    requires room { 131 ≤ length out.old }
-    ensures bytes { out.new ≡ take 68 out.old ++ pending.now ++ drop result out.old }
-    ensures end { result ≡ 68 + length pending.now }
+    requires room { LONGEST_TEXT ≤ length out.old }
+    ensures end { result ≡ PENDING_AT + length pending.now }
+    ensures bytes { take result out.new ≡ take PENDING_AT out.old ++ pending.now }
+    ensures after { drop result out.new ≡ drop result out.old }
 {
-    let end = PENDING + pending.len();
-    pending.write_to(&mut out[PENDING..end]);
+    let end = PENDING_AT + pending.len();
+    pending.write_to(&mut out[PENDING_AT..end]);
     end
 }
 
@@ -75,33 +82,34 @@ pub(crate) fn write_pending(pending: &Pending, out: &mut [u8]) -> usize
 pub(crate) fn is_laid_out<const V: u8>(bytes: &[u8]) -> bool
     ensures { IsTrue result ↔ IsLaidOut V bytes.now }
 {
-    bytes.len() >= PENDING
+    bytes.len() >= PENDING_AT
         && bytes[0] == V
         && bytes[1] < 2
         && bytes[2] <= (if V == 4 { bytes[1] } else { 0 })
         && bytes[3] < 64
-        && bytes.len() == PENDING + usize::from(bytes[3])
+        && bytes.len() == PENDING_AT + usize::from(bytes[3])
 }
 
 /// The lanes of a text, as halves to keep.
 #[inline(always)]
+#[tactic(auto, using(crate::proofs::SavedTexts::cuts))]
 pub(crate) fn read_lanes(bytes: &[u8]) -> [u64; 8]
-    requires { 68 ≤ length bytes.now }
-    ensures { in_order (lanes_in result) ≡ whole_words (take 64 (drop 4 bytes.now)) }
+    requires { PENDING_AT ≤ length bytes.now }
+    ensures { in_order (lanes_in result) ≡ whole_words (take 64 (drop LANES_AT bytes.now)) }
 {
     let mut lanes = [0; 8];
-    write_words(&bytes[LANES..PENDING], &mut lanes);
+    write_words(&bytes[LANES_AT..PENDING_AT], &mut lanes);
     halves(&lanes)
 }
 
 /// The pending bytes of a text.
 #[inline(always)]
 pub(crate) fn read_pending(bytes: &[u8]) -> Pending
-    requires behind { 68 ≤ length bytes.now }
-    requires few { length bytes.now < 132 }
-    ensures { result ≡ drop 68 bytes.now }
+    requires room { PENDING_AT ≤ length bytes.now }
+    requires few { length bytes.now ≤ LONGEST_TEXT }
+    ensures { result ≡ drop PENDING_AT bytes.now }
 {
     let mut pending = Pending::new();
-    pending.put(&bytes[PENDING..], &mut Tally::new());
+    pending.put(&bytes[PENDING_AT..], &mut Tally::new());
     pending
 }

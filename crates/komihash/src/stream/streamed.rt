@@ -1,14 +1,22 @@
-//! The stream of both versions, as callers have it.
+//! The stream of both versions.
 
-mod komi_stream;
-
-ghost use Rattle.std.specs.Prelude.{◌≡◌, ◌≤◌, ◌↔◌, ℕ, IfSome, IsSomeAnd, IsNone, List, [], ◌++◌, length, take, drop};
+ghost use Rattle.std.specs.Prelude.{◌≡◌, ◌+◌, ◌<◌, ◌≤◌, ◌↔◌, ℕ, IfSome, IsSomeAnd, IsNone};
+ghost use Rattle.std.specs.Prelude.{List, [], ◌++◌, length, take, drop};
+ghost use Rattle.komihash.specs.Counts.{write_products, answer_products, kept_bytes};
+ghost use Rattle.komihash.specs.Halves.{state_in};
 ghost use Rattle.komihash.specs.Hash.{komi};
 ghost use Rattle.komihash.specs.Saved.{text, IsText, IsTextAfter};
 ghost use Rattle.komihash.specs.Stream.{State, IsState, HasAbsorbed, start, absorb, answer};
+ghost use Rattle.komihash.specs.Tails.{tail_end};
 
-use super::engine::Engine;
+use super::saved::{is_laid_out, read_lanes, read_pending, write_head, write_lanes, write_pending};
+use super::{KomiStream, LONGEST_TEXT};
+use crate::padding::end::{has_top_bit, padding_after};
+use crate::rounds::pending::Pending;
+use crate::rounds::{close_one, join, lanes, seed_pair};
+use crate::tails::answer_below_eight;
 use crate::tally::Tally;
+use crate::version::{IsVersion, Versions};
 use std::marker::Model;
 
 /// A stream of version V: it takes a message in pieces, and answers the hash of all bytes so far at
@@ -20,16 +28,38 @@ use std::marker::Model;
 /// time, and are copied.
 #[derive(Drop)]
 pub struct StreamedKomihash<const V: u8> {
-    engine: Engine<V>,
-    ghost is_state: { IsState V engine },
+    lanes: [u64; 8],
+    pending: Pending,
+    absorbed: bool,
+    top_bit: bool,
+    ghost is_state: { IsState V (state_in lanes pending absorbed top_bit) },
 }
 
 impl<const V: u8> Model for StreamedKomihash<V> {
+    ghost use Rattle.komihash.specs.Halves.{state_in};
     ghost use Rattle.komihash.specs.Stream.{StateOf};
 
     ghost Value = { StateOf V };
 
-    ghost view = { λ s. record { state = s.engine; is_state = s.is_state } };
+    ghost view = { λ s. record {
+      state = state_in s.lanes s.pending s.absorbed s.top_bit;
+      is_state = s.is_state;
+    } };
+}
+
+// The byte that ends a stream's tail.
+#[inline(always)]
+fn tail_end<const V: u8>(pending: &Pending, absorbed: bool, top_bit: bool) -> u64
+    ensures byte { result ≡ tail_end V pending.now absorbed top_bit }
+    ensures small { result < 4 }
+{
+    if pending.len() > 0 {
+        padding_after(has_top_bit::<V>(pending.last_byte()))
+    } else if absorbed {
+        padding_after(top_bit)
+    } else {
+        0
+    }
 }
 
 impl<const V: u8> StreamedKomihash<V> {
@@ -44,13 +74,27 @@ impl<const V: u8> StreamedKomihash<V> {
 
     /// The new stream of a seed.
     #[inline]
-    #[tactic(auto, unfolding(crate::specs::Stream::absorb, crate::specs::Stream::HasAbsorbed))]
     pub fn new_with_seed(seed: u64) -> StreamedKomihash<V>
         ensures state { result.state ≡ start seed }
         ensures message { HasAbsorbed V seed result.state [] }
     {
+        StreamedKomihash::start_counted(seed, &mut Tally::new())
+    }
+
+    // `new_with_seed`, counted in a tally.
+    #[inline(always)]
+    #[tactic(auto, unfolding(crate::specs::Stream::absorb, crate::specs::Stream::HasAbsorbed))]
+    fn start_counted(seed: u64, tally: &mut Tally) -> Self
+        ensures state { result.state ≡ start seed }
+        ensures message { HasAbsorbed V seed result.state [] }
+        ensures products { tally.new.products ≡ tally.old.products + 1 }
+        ensures kept { tally.new.kept ≡ tally.old.kept }
+    {
         StreamedKomihash {
-            engine: Engine::start(seed, &mut Tally::new()),
+            lanes: lanes(seed_pair(seed, tally)),
+            pending: Pending::new(),
+            absorbed: false,
+            top_bit: false,
         }
     }
 
@@ -61,7 +105,27 @@ impl<const V: u8> StreamedKomihash<V> {
         ensures message { (seed : ℕ) (m : List ℕ) → HasAbsorbed V seed self.old.state m
             → HasAbsorbed V seed self.new.state (m ++ bytes.now) }
     {
-        self.engine.absorb(bytes, &mut Tally::new());
+        self.absorb_counted(bytes, &mut Tally::new());
+    }
+
+    // `write`, counted in a tally.
+    #[inline(always)]
+    #[tactic(auto, using(crate::proofs::StreamSteps::absorbs), unfolding(crate::specs::Stream::HasAbsorbed))]
+    fn absorb_counted(&mut self, bytes: &[u8], tally: &mut Tally)
+        ensures state { self.new.state ≡ absorb V self.old.state bytes.now }
+        ensures message { (seed : ℕ) (m : List ℕ) → HasAbsorbed V seed self.old.state m
+            → HasAbsorbed V seed self.new.state (m ++ bytes.now) }
+        ensures products { tally.new.products
+            ≡ tally.old.products + write_products (length self.old.state.pending) (length bytes.now) }
+        ensures kept { tally.new.kept
+            ≡ tally.old.kept + kept_bytes (length self.old.state.pending) (length bytes.now) }
+    {
+        if bytes.len() < 64 - self.pending.len() {
+            self.pending.put(bytes, tally);
+        } else {
+            self.top_bit = self.pending.absorb::<V>(&mut self.lanes, bytes, tally);
+            self.absorbed = true;
+        }
     }
 
     /// The hash of all bytes so far. The stream stays as it is, and may go on.
@@ -71,7 +135,27 @@ impl<const V: u8> StreamedKomihash<V> {
         ensures hash { (seed : ℕ) (m : List ℕ) → HasAbsorbed V seed self.now.state m
             → result ≡ komi V seed m }
     {
-        self.engine.answer(&mut Tally::new())
+        self.answer_counted(&mut Tally::new())
+    }
+
+    // `finish`, counted in a tally.
+    #[inline(always)]
+    #[tactic(auto, using(crate::proofs::StreamSteps::answers), unfolding(crate::specs::Stream::HasAbsorbed))]
+    fn answer_counted(&self, tally: &mut Tally) -> u64
+        ensures answer { result ≡ answer V self.now.state }
+        ensures hash { (seed : ℕ) (m : List ℕ) → HasAbsorbed V seed self.now.state m
+            → result ≡ komi V seed m }
+        ensures products { tally.new.products
+            ≡ tally.old.products + answer_products (length self.now.state.pending) }
+        ensures kept { tally.new.kept ≡ tally.old.kept }
+    {
+        let pair = join(&self.lanes, self.absorbed);
+        let end = tail_end::<V>(&self.pending, self.absorbed, self.top_bit);
+        if self.pending.len() == 0 {
+            return close_one(pair, end, tally);
+        }
+        let word = self.pending.final_word(end);
+        answer_below_eight(pair, &self.pending, word, tally)
     }
 
     /// Writes the text that the stream is saved as, and answers its length: 68 bytes, and one for
@@ -82,15 +166,17 @@ impl<const V: u8> StreamedKomihash<V> {
     /// on another day.
     #[inline]
     pub fn save(&self, out: &mut [u8]) -> usize
-        requires { 131 ≤ length out.old }
+        requires { LONGEST_TEXT ≤ length out.old }
         ensures length { result ≡ length (text V self.now.state) }
-        ensures most { result ≤ 131 }
+        ensures most { result ≤ LONGEST_TEXT }
         ensures text { take result out.new ≡ text V self.now.state }
         ensures message { (seed : ℕ) (m : List ℕ) → HasAbsorbed V seed self.now.state m
             → IsTextAfter V seed m (take result out.new) }
         ensures rest { drop result out.new ≡ drop result out.old }
     {
-        self.engine.save(out)
+        write_head::<V>(self.absorbed, self.top_bit, self.pending.len(), out);
+        write_lanes(&self.lanes, out);
+        write_pending(&self.pending, out)
     }
 
     /// The stream whose text the bytes are. The answer is `None` where they are the text of no
@@ -104,8 +190,14 @@ impl<const V: u8> StreamedKomihash<V> {
             → IsSomeAnd result (λ stream. HasAbsorbed V seed stream.state m) }
         ensures none { IsNone result ↔ ¬ IsText V bytes.now }
     {
+        if !is_laid_out::<V>(bytes) {
+            return None;
+        }
         Some(StreamedKomihash {
-            engine: Engine::resume(bytes)?,
+            lanes: read_lanes(bytes),
+            pending: read_pending(bytes),
+            absorbed: bytes[1] == 1,
+            top_bit: bytes[2] == 1,
         })
     }
 }
@@ -121,4 +213,44 @@ impl<const V: u8> Default for StreamedKomihash<V> {
     fn default() -> Self {
         StreamedKomihash::new()
     }
+}
+
+impl<const V: u8> KomiStream for StreamedKomihash<V>
+where
+    Versions: IsVersion<V>,
+{
+    const VERSION: u8 = V;
+
+    ghost VERSION = { V };
+
+    ghost state = { λ s. s.state };
+
+    #[inline(always)]
+    fn start(seed: u64, tally: &mut Tally) -> Self {
+        StreamedKomihash::start_counted(seed, tally)
+    }
+
+    #[inline(always)]
+    fn absorb(&mut self, bytes: &[u8], tally: &mut Tally) {
+        self.absorb_counted(bytes, tally);
+    }
+
+    #[inline(always)]
+    fn answer(&self, tally: &mut Tally) -> u64 {
+        self.answer_counted(tally)
+    }
+
+    #[inline(always)]
+    fn store(&self, out: &mut [u8]) -> usize {
+        self.save(out)
+    }
+
+    #[inline(always)]
+    fn restore(bytes: &[u8]) -> Option<Self> {
+        StreamedKomihash::resume(bytes)
+    }
+
+    ghost versions = { ⟦<Versions as IsVersion<V>>⟧.is_version };
+
+    ghost is_state = { λ s. s.is_state };
 }
