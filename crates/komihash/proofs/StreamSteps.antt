@@ -6,11 +6,12 @@ use Rattle.std.proofs.lemmas.List.{length-append, get_or-append-add, nil_from_le
 use Rattle.std.specs.Prelude.{slice_index}
 use Rattle.komihash.specs.Hash.{komi}
 use Rattle.komihash.specs.Padding.{has_top_bit}
-use Rattle.komihash.specs.Stream.{State, IsState, start, absorb, answer}
+use Rattle.komihash.specs.Stream.{State, IsState, HasAbsorbed, start, absorb, answer}
 use Rattle.komihash.specs.Tails.{whole_words, after_blocks}
 use Rattle.komihash.specs.Words.{AreBytes}
 use Rattle.komihash.proofs.Blocks.{length-after_blocks}
 use Rattle.komihash.proofs.BytesInWords.{AreBytes-append, AreBytes-drop}
+use Rattle.komihash.proofs.CallLists.{HasAbsorbed-more}
 use Rattle.komihash.proofs.LaneWords.{AreWords-block_lanes, AreWords-seed_pair}
 use Rattle.komihash.proofs.StreamAbsorbs.{blocks_state, absorb-append, absorb-few, absorb-blocks}
 use Rattle.komihash.proofs.StreamAnswers.{answer-by_pair, answer-joined, answer-none}
@@ -56,10 +57,11 @@ last_of_block xs ys left few many is =
     omega (arith, length-append xs ys, length-after_blocks (xs ++ ys)) in
     sym (get_or-append-add xs ys (length ys - left - 1) 0) ∙ ap (slice_index (xs ++ ys)) k
 
-pub komi-answer : (v seed : ℕ) (m : List ℕ) → komi v seed m ≡ answer v (absorb v (start seed) m)
-komi-answer v seed m = sym (answer-joined v seed m)
+pub komi-answer : (v seed : ℕ) (m : List ℕ) (s : State) → HasAbsorbed v seed s m → komi v seed m ≡ answer v s
+unfolding HasAbsorbed
+komi-answer v seed m s is = sym (answer-joined v seed m) ∙ ap (answer v) (sym is)
 
 -- what the searches of `absorb_counted` and of `answer_counted` need
-pub ruleset absorbs = (absorb-append, absorb-few, absorb-blocks, last_of_block)
+pub ruleset absorbs = (HasAbsorbed-more, absorb-few, absorb-blocks, last_of_block)
 
 pub ruleset answers = (answer-by_pair, answer-none, nil_from_length, komi-answer, length-whole_words)

@@ -1,5 +1,5 @@
-//! The text that a stream is saved as, part by part: four bytes that say what is saved, the eight
-//! lanes in their order, and the pending bytes.
+//! The saved text of a stream, part by part: four bytes that describe it, the eight lanes in their
+//! order, and the pending bytes.
 
 ghost use Rattle.std.specs.Prelude.{◌≡◌, ◌+◌, ◌<◌, ◌≤◌, ◌↔◌, ℕ, IsTrue};
 ghost use Rattle.std.specs.Prelude.{[], ◌∷◌, ◌++◌, length, take, drop};
@@ -13,13 +13,14 @@ use crate::rounds::pending::Pending;
 use crate::tally::Tally;
 use crate::utils::copies::{write_bytes, write_words};
 
-// Where the lanes begin: after the version, the flag, the bit and the number of pending bytes.
+// Where the lanes begin.
 const LANES_AT: usize = 4;
 
 // Where the pending bytes begin.
 const PENDING_AT: usize = 68;
 
-/// Writes the first four bytes.
+/// Writes the first four bytes: the version, whether a block was absorbed, the bit of version 4, and
+/// the number of pending bytes.
 #[inline(always)]
 pub(crate) fn write_head<const V: u8>(absorbed: bool, top_bit: bool, fill: usize, out: &mut [u8])
     requires few { fill < 64 }
@@ -34,7 +35,7 @@ pub(crate) fn write_head<const V: u8>(absorbed: bool, top_bit: bool, fill: usize
     out[3] = fill as u8;
 }
 
-// The lanes in their order, from the halves that are kept.
+// Returns the lanes in their order, from the halves that a stream keeps.
 #[inline(always)]
 fn in_order(lanes: &[u64; 8]) -> [u64; 8]
     ensures { result ≡ in_order (lanes_in lanes.now) }
@@ -43,7 +44,7 @@ fn in_order(lanes: &[u64; 8]) -> [u64; 8]
     [s8 ^ low1, s5 ^ low2, s6 ^ low3, s7 ^ low4, s5, s6, s7, s8]
 }
 
-// The halves to keep, from the lanes in their order.
+// Returns the halves that a stream keeps, from the lanes in their order.
 #[inline(always)]
 fn halves(lanes: &[u64; 8]) -> [u64; 8]
     ensures { in_order (lanes_in result) ≡ lanes.now }
@@ -63,7 +64,7 @@ pub(crate) fn write_lanes(lanes: &[u64; 8], out: &mut [u8])
     write_bytes(&in_order(lanes), 64, &mut out[LANES_AT..PENDING_AT]);
 }
 
-/// Writes the pending bytes after the lanes, and answers where they end.
+/// Writes the pending bytes after the lanes, and returns where they end.
 #[inline(always)]
 pub(crate) fn write_pending(pending: &Pending, out: &mut [u8]) -> usize
     requires few { length pending.now < 64 }
@@ -77,7 +78,7 @@ pub(crate) fn write_pending(pending: &Pending, out: &mut [u8]) -> usize
     end
 }
 
-/// Whether bytes are the text of a state of version V.
+/// Returns whether bytes are laid out as a text of version V.
 #[inline(always)]
 pub(crate) fn is_laid_out<const V: u8>(bytes: &[u8]) -> bool
     ensures { IsTrue result ↔ IsLaidOut V bytes.now }
@@ -90,7 +91,7 @@ pub(crate) fn is_laid_out<const V: u8>(bytes: &[u8]) -> bool
         && bytes.len() == PENDING_AT + usize::from(bytes[3])
 }
 
-/// The lanes of a text, as halves to keep.
+/// Returns the lanes of a text, as the halves that a stream keeps.
 #[inline(always)]
 #[tactic(auto, using(crate::proofs::SavedTexts::cuts))]
 pub(crate) fn read_lanes(bytes: &[u8]) -> [u64; 8]
@@ -102,7 +103,7 @@ pub(crate) fn read_lanes(bytes: &[u8]) -> [u64; 8]
     halves(&lanes)
 }
 
-/// The pending bytes of a text.
+/// Returns the pending bytes of a text.
 #[inline(always)]
 pub(crate) fn read_pending(bytes: &[u8]) -> Pending
     requires room { PENDING_AT ≤ length bytes.now }

@@ -19,18 +19,19 @@ use crate::tally::Tally;
 use crate::version::{IsVersion, Versions};
 use std::marker::Model;
 
-/// A stream of version V: it takes a message in pieces, and answers the hash of all bytes so far at
+/// A stream of version V: it takes a message in pieces, and returns the hash of all bytes so far at
 /// any time.
 ///
-/// However the bytes are cut, the answers are those of `komihash`. There is no limit to their
-/// number. Pieces of a multiple of 64 bytes are best: as long as all are, each is read where it
-/// lies, and nothing is copied into the stream. Of other pieces up to 63 bytes are pending at a
-/// time, and are copied.
+/// The hash is that of `komihash`, however the bytes are cut. There is no limit to their number.
+/// Pieces of a multiple of 64 bytes are best: as long as all are, each is read where it lies. Of
+/// other pieces up to 63 bytes are pending at a time, and are copied into the stream.
 #[derive(Drop)]
 pub struct StreamedKomihash<const V: u8> {
     lanes: [u64; 8],
     pending: Pending,
+    // Whether a block was absorbed.
     absorbed: bool,
+    // In version 4, whether the last byte of the last block is at least 128.
     top_bit: bool,
     ghost is_state: { IsState V (state_in lanes pending absorbed top_bit) },
 }
@@ -47,7 +48,7 @@ impl<const V: u8> Model for StreamedKomihash<V> {
     } };
 }
 
-// The byte that ends a stream's tail.
+// Returns the byte that ends a stream's tail.
 #[inline(always)]
 fn tail_end<const V: u8>(pending: &Pending, absorbed: bool, top_bit: bool) -> u64
     ensures byte { result ≡ tail_end V pending.now absorbed top_bit }
@@ -63,7 +64,7 @@ fn tail_end<const V: u8>(pending: &Pending, absorbed: bool, top_bit: bool) -> u6
 }
 
 impl<const V: u8> StreamedKomihash<V> {
-    /// The new stream of seed 0.
+    /// Returns the new stream of seed 0.
     #[inline]
     pub fn new() -> Self
         ensures state { result.state ≡ start 0 }
@@ -72,7 +73,7 @@ impl<const V: u8> StreamedKomihash<V> {
         StreamedKomihash::new_with_seed(0)
     }
 
-    /// The new stream of a seed.
+    /// Returns the new stream of a seed.
     #[inline]
     pub fn new_with_seed(seed: u64) -> StreamedKomihash<V>
         ensures state { result.state ≡ start seed }
@@ -81,7 +82,7 @@ impl<const V: u8> StreamedKomihash<V> {
         StreamedKomihash::start_counted(seed, &mut Tally::new())
     }
 
-    // `new_with_seed`, counted in a tally.
+    // Does what `new_with_seed` does, and counts what it costs.
     #[inline(always)]
     #[tactic(auto, unfolding(crate::specs::Stream::absorb, crate::specs::Stream::HasAbsorbed))]
     fn start_counted(seed: u64, tally: &mut Tally) -> Self
@@ -108,17 +109,17 @@ impl<const V: u8> StreamedKomihash<V> {
         self.absorb_counted(bytes, &mut Tally::new());
     }
 
-    // `write`, counted in a tally.
+    // Does what `write` does, and counts what it costs.
     #[inline(always)]
-    #[tactic(auto, using(crate::proofs::StreamSteps::absorbs), unfolding(crate::specs::Stream::HasAbsorbed))]
+    #[tactic(auto, using(crate::proofs::StreamSteps::absorbs))]
     fn absorb_counted(&mut self, bytes: &[u8], tally: &mut Tally)
         ensures state { self.new.state ≡ absorb V self.old.state bytes.now }
         ensures message { (seed : ℕ) (m : List ℕ) → HasAbsorbed V seed self.old.state m
             → HasAbsorbed V seed self.new.state (m ++ bytes.now) }
-        ensures products { tally.new.products
-            ≡ tally.old.products + write_products (length self.old.state.pending) (length bytes.now) }
-        ensures kept { tally.new.kept
-            ≡ tally.old.kept + kept_bytes (length self.old.state.pending) (length bytes.now) }
+        ensures products { tally.new.products ≡ tally.old.products
+            + write_products (length self.old.state.pending) (length bytes.now) }
+        ensures kept { tally.new.kept ≡ tally.old.kept
+            + kept_bytes (length self.old.state.pending) (length bytes.now) }
     {
         if bytes.len() < 64 - self.pending.len() {
             self.pending.put(bytes, tally);
@@ -128,7 +129,7 @@ impl<const V: u8> StreamedKomihash<V> {
         }
     }
 
-    /// The hash of all bytes so far. The stream stays as it is, and may go on.
+    /// Returns the hash of all bytes so far. The stream stays as it is, and may go on.
     #[inline]
     pub fn finish(&self) -> u64
         ensures answer { result ≡ answer V self.now.state }
@@ -138,9 +139,9 @@ impl<const V: u8> StreamedKomihash<V> {
         self.answer_counted(&mut Tally::new())
     }
 
-    // `finish`, counted in a tally.
+    // Does what `finish` does, and counts what it costs.
     #[inline(always)]
-    #[tactic(auto, using(crate::proofs::StreamSteps::answers), unfolding(crate::specs::Stream::HasAbsorbed))]
+    #[tactic(auto, using(crate::proofs::StreamSteps::answers))]
     fn answer_counted(&self, tally: &mut Tally) -> u64
         ensures answer { result ≡ answer V self.now.state }
         ensures hash { (seed : ℕ) (m : List ℕ) → HasAbsorbed V seed self.now.state m
@@ -158,12 +159,11 @@ impl<const V: u8> StreamedKomihash<V> {
         answer_below_eight(pair, &self.pending, word, tally)
     }
 
-    /// Writes the text that the stream is saved as, and answers its length: 68 bytes, and one for
-    /// each pending byte.
+    /// Writes the saved text of the stream to the front of `out`, and returns its length in bytes:
+    /// 68, and one for each pending byte.
     ///
-    /// The text stands first in `out`, which must have room for 131 bytes, the longest text. What is
-    /// after it is not touched. `resume` makes the same stream of it, also in another process and
-    /// on another day.
+    /// `out` needs room for `LONGEST_TEXT` bytes, whatever is pending. Its bytes after the text stay
+    /// as they are. `resume` makes the same stream of the text, also in another process.
     #[inline]
     pub fn save(&self, out: &mut [u8]) -> usize
         requires { LONGEST_TEXT ≤ length out.old }
@@ -179,8 +179,8 @@ impl<const V: u8> StreamedKomihash<V> {
         write_pending(&self.pending, out)
     }
 
-    /// The stream whose text the bytes are. The answer is `None` where they are the text of no
-    /// stream of this version.
+    /// Returns the stream that has these bytes as its saved text, or `None` if no stream of this
+    /// version has.
     #[inline]
     pub fn resume(bytes: &[u8]) -> Option<Self>
         ensures text { IfSome result (λ stream. text V stream.state ≡ bytes.now) }
@@ -208,7 +208,7 @@ impl<const V: u8> Default for StreamedKomihash<V> {
 
     ghost is_default = { λ s. (s.state ≡ start 0) × HasAbsorbed V 0 s.state [] };
 
-    /// The new stream of seed 0.
+    /// Returns the new stream of seed 0.
     #[inline]
     fn default() -> Self {
         StreamedKomihash::new()
