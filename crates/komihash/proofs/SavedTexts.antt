@@ -19,19 +19,15 @@ use Rattle.komihash.proofs.BytesInWords.{AreBytes-take, AreBytes-drop, word_of-l
 -- ---- the parts of a text
 
 -- bytes put from `a` to `n`: what is before `n`, and after it
-module _ (a n : ℕ) (out part : List ℕ) (in_out : n ≤ length out) (le : a ≤ n)
-    (room : length part ≡ length (take (n - a) (drop a out))) where
-  size : length part ≡ n - a
-  size = room ∙ length-take-le (n - a) (drop a out) (omega (arith, length-drop a out))
-
-  pub part-written : (bytes : List ℕ) → take (n - a) part ≡ bytes
-      → take n (put_mid a (n - a) out part) ≡ take a out ++ bytes
-  part-written bytes is =
-      take-put_mid a (n - a) out part n (omega (arith, size)) (omega arith)
-      ∙ ap (λ xs. take a out ++ xs) (sym (take_all (n - a) part (omega (arith, size))) ∙ is)
-
-  pub part-after : (m : ℕ) → n ≤ m → drop m (put_mid a (n - a) out part) ≡ drop m out
-  part-after m after = drop-put_mid a (n - a) out part m (omega arith) (omega arith) size
+pub part-put : (a n : ℕ) (out part bytes : List ℕ) → a ≤ n → n ≤ length out
+    → length part ≡ length (take (n - a) (drop a out)) → take (n - a) part ≡ bytes
+    → (take n (put_mid a (n - a) out part) ≡ take a out ++ bytes)
+    × ((m : ℕ) → n ≤ m → drop m (put_mid a (n - a) out part) ≡ drop m out)
+part-put a n out part bytes le within room is =
+    let size = room ∙ length-take-le (n - a) (drop a out) (omega (arith, length-drop a out)) in
+    let whole = sym (take_all (n - a) part (omega (arith, size))) ∙ is in
+    (take-put_mid a (n - a) out part n (omega (arith, size)) (omega arith) ∙ ap (λ xs. take a out ++ xs) whole,
+     λ m after. drop-put_mid a (n - a) out part m (omega arith) (omega arith) size)
 
 -- what the search of `read_lanes` needs
 pub ruleset cuts = (length-take-le, length-drop, take_all)

@@ -4,16 +4,15 @@ use Rattle.komihash.specs.Halves.{lanes_in}
 use Rattle.komihash.specs.Saved.{in_order}
 use Rattle.komihash.specs.Words.{all_bytes}
 use Rattle.komihash.proofs.BytesOfWords.{length-all_bytes}
-use Rattle.komihash.proofs.SavedTexts.{part-written, part-after}
+use Rattle.komihash.proofs.SavedTexts.{part-put}
 use Rattle.komihash.proofs.stream.saved.write_lanes.Goals as goal
 
-pub returns-clause-lanes : goal.returns-clause-lanes
-returns-clause-lanes c =
+pub returns : goal.returns
+returns c =
     let ws = in_order (lanes_in c.args.lanes.now) in
-    part-written 4 68 c.args.out.now c.write_bytes.new.out (omega arith) (omega arith) c.write_bytes.auto.out (all_bytes ws)
+    let (lanes, after) =
+    part-put 4 68 c.args.out.now c.write_bytes.new.out (all_bytes ws) (omega arith) (omega arith)
+    c.write_bytes.auto.out
     (c.write_bytes.ensures.bytes ∙ ap (λ ws. take 64 (all_bytes ws)) c.in_order.ensures
-    ∙ take_all 64 (all_bytes ws) (omega (arith, length-all_bytes ws)))
-
-pub returns-clause-after : goal.returns-clause-after
-returns-clause-after c =
-    part-after 4 68 c.args.out.now c.write_bytes.new.out (omega arith) (omega arith) c.write_bytes.auto.out
+    ∙ take_all 64 (all_bytes ws) (omega (arith, length-all_bytes ws))) in
+    record { lanes = lanes; after = after }
