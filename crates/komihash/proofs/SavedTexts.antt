@@ -7,7 +7,7 @@ use borrow.Rule.Slice.PartMut.{put_mid}
 use Rattle.std.specs.Prelude.{slice_index, ◌==◌}
 use Rattle.komihash.specs.Halves.{lanes_in, state_in}
 use Rattle.komihash.specs.Rounds.{Lanes}
-use Rattle.komihash.specs.Saved.{flag_byte, in_order, text, IsText, IsLaidOut}
+use Rattle.komihash.specs.Saved.{flag_byte, in_order, text, IsText}
 use Rattle.komihash.specs.Stream.{AreWords, State, IsState}
 use Rattle.komihash.specs.Tails.{whole_words}
 use Rattle.komihash.specs.Words.{AreBytes, all_bytes}
@@ -25,9 +25,10 @@ pub part-put : (a n : ℕ) (out part bytes : List ℕ) → a ≤ n → n ≤ len
     × ((m : ℕ) → n ≤ m → drop m (put_mid a (n - a) out part) ≡ drop m out)
 part-put a n out part bytes le within room is =
     let size = room ∙ length-take-le (n - a) (drop a out) (omega (arith, length-drop a out)) in
-    let whole = sym (take_all (n - a) part (omega (arith, size))) ∙ is in
-    (take-put_mid a (n - a) out part n (omega (arith, size)) (omega arith) ∙ ap (λ xs. take a out ++ xs) whole,
-     λ m after. drop-put_mid a (n - a) out part m (omega arith) (omega arith) size)
+    let whole = sym (take_all (n - a) part (omega (arith, size))) ∙ is in (
+      take-put_mid a (n - a) out part n (omega (arith, size)) (omega arith) ∙ ap (λ xs. take a out ++ xs) whole,
+      λ m after. drop-put_mid a (n - a) out part m (omega arith) (omega arith) size,
+    )
 
 -- what the search of `read_lanes` needs
 pub ruleset cuts = (length-take-le, length-drop, take_all)
@@ -121,8 +122,16 @@ whole_words-lt (a ∷ b ∷ c ∷ d ∷ e ∷ f ∷ g ∷ h ∷ xs) are (suc i) 
     whole_words-lt xs (AreBytes-drop 8 (a ∷ b ∷ c ∷ d ∷ e ∷ f ∷ g ∷ h ∷ xs) are) i
 whole_words-lt xs are i = omega arith
 
--- what is laid out as a text is one
-pub laid_out-text : (v : ℕ) (bytes : List ℕ) → AreBytes bytes → IsLaidOut v bytes → text v (state_of bytes) ≡ bytes
+-- the same as IsText by the first four bytes and the length, as the code tests it
+pub record IsLaidOut (v : ℕ) (bytes : List ℕ) : Type 0 where
+  pub version : slice_index bytes 0 ≡ v
+  pub absorbed : slice_index bytes 1 < 2
+  pub top_bit : slice_index bytes 2 ≤ slice_index bytes 1
+  pub top_bit_version : 0 < slice_index bytes 2 → v ≡ 4
+  pub few : slice_index bytes 3 < 64
+  pub size : length bytes ≡ 68 + slice_index bytes 3
+
+laid_out-text : (v : ℕ) (bytes : List ℕ) → AreBytes bytes → IsLaidOut v bytes → text v (state_of bytes) ≡ bytes
 unfolding text
 laid_out-text v (b0 ∷ b1 ∷ b2 ∷ b3 ∷ rest) are laid =
     let size : length (take 64 rest) ≡ 64 = length-take-le 64 rest (omega (arith, laid.size)) in

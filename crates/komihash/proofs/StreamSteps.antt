@@ -6,7 +6,7 @@ use Rattle.std.proofs.lemmas.List.{length-append, get_or-append-add, nil_from_le
 use Rattle.std.specs.Prelude.{slice_index}
 use Rattle.komihash.specs.Hash.{komi}
 use Rattle.komihash.specs.Padding.{has_top_bit}
-use Rattle.komihash.specs.Stream.{State, IsState, HasAbsorbed, start, absorb, answer}
+use Rattle.komihash.specs.Stream.{State, IsState, HasAbsorbed, start, answer}
 use Rattle.komihash.specs.Tails.{whole_words, after_blocks}
 use Rattle.komihash.specs.Words.{AreBytes}
 use Rattle.komihash.proofs.Blocks.{length-after_blocks}

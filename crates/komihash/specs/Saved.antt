@@ -1,5 +1,5 @@
 -- The text that a stream is saved as.
-use Rattle.std.specs.Prelude.{ℕ, ◌≡◌, ◌+◌, ◌<◌, ◌≤◌, Bool, List, [], ◌∷◌, ◌++◌, length, slice_index, if◌then◌else◌}
+use Rattle.std.specs.Prelude.{ℕ, ◌≡◌, Bool, List, [], ◌∷◌, ◌++◌, length, if◌then◌else◌}
 use Rattle.komihash.specs.Rounds.{Lanes}
 use Rattle.komihash.specs.Stream.{State, IsState, HasAbsorbed}
 use Rattle.komihash.specs.Words.{all_bytes}
@@ -12,8 +12,8 @@ flag_byte flag = if flag then 1 else 0
 abbrev pub in_order : Lanes → List ℕ
 in_order s = s.s1 ∷ s.s2 ∷ s.s3 ∷ s.s4 ∷ s.s5 ∷ s.s6 ∷ s.s7 ∷ s.s8 ∷ []
 
--- the first four bytes: the version, whether a block was absorbed, the bit of version 4, and how many
--- bytes are pending
+-- the first four bytes: the version, whether a block was absorbed, the bit of version 4, and how
+-- many bytes are pending
 abbrev pub head : ℕ → State → List ℕ
 head v s = v ∷ flag_byte s.absorbed ∷ flag_byte s.top_bit ∷ length s.pending ∷ []
 
@@ -28,12 +28,3 @@ IsText v bytes = (s : State) × IsState v s × (text v s ≡ bytes)
 -- the bytes are the text of a stream of version v that has absorbed the message m from the seed
 unfoldable pub IsTextAfter : ℕ → ℕ → List ℕ → List ℕ → Type 0
 IsTextAfter v seed m bytes = (s : State) × IsState v s × HasAbsorbed v seed s m × (text v s ≡ bytes)
-
--- the same as IsText by the first four bytes and the length, as the code tests it
-pub record IsLaidOut (v : ℕ) (bytes : List ℕ) : Type 0 where
-  pub version : slice_index bytes 0 ≡ v
-  pub absorbed : slice_index bytes 1 < 2
-  pub top_bit : slice_index bytes 2 ≤ slice_index bytes 1
-  pub top_bit_version : 0 < slice_index bytes 2 → v ≡ 4
-  pub few : slice_index bytes 3 < 64
-  pub size : length bytes ≡ 68 + slice_index bytes 3

@@ -4,7 +4,7 @@
 ghost use Rattle.std.specs.Prelude.{◌≡◌, ◌+◌, ◌<◌, ◌≤◌, ◌↔◌, ℕ, IsTrue};
 ghost use Rattle.std.specs.Prelude.{[], ◌∷◌, ◌++◌, length, take, drop};
 ghost use Rattle.komihash.specs.Halves.{lanes_in};
-ghost use Rattle.komihash.specs.Saved.{flag_byte, in_order, IsLaidOut};
+ghost use Rattle.komihash.specs.Saved.{flag_byte, in_order, IsText};
 ghost use Rattle.komihash.specs.Tails.{whole_words};
 ghost use Rattle.komihash.specs.Words.{all_bytes};
 
@@ -78,10 +78,12 @@ pub(crate) fn write_pending(pending: &Pending, out: &mut [u8]) -> usize
     end
 }
 
-/// Returns whether bytes are laid out as a text of version V.
+/// Returns whether bytes are the text of a state of version V.
 #[inline(always)]
-pub(crate) fn is_laid_out<const V: u8>(bytes: &[u8]) -> bool
-    ensures { IsTrue result ↔ IsLaidOut V bytes.now }
+pub(crate) fn is_text<const V: u8>(bytes: &[u8]) -> bool
+    ensures text { IsTrue result ↔ IsText V bytes.now }
+    ensures least { IsTrue result → PENDING_AT ≤ length bytes.now }
+    ensures most { IsTrue result → length bytes.now ≤ LONGEST_TEXT }
 {
     bytes.len() >= PENDING_AT
         && bytes[0] == V

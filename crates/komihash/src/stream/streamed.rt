@@ -9,7 +9,7 @@ ghost use Rattle.komihash.specs.Saved.{text, IsText, IsTextAfter};
 ghost use Rattle.komihash.specs.Stream.{State, IsState, HasAbsorbed, start, absorb, answer};
 ghost use Rattle.komihash.specs.Tails.{tail_end};
 
-use super::saved::{is_laid_out, read_lanes, read_pending, write_head, write_lanes, write_pending};
+use super::saved::{is_text, read_lanes, read_pending, write_head, write_lanes, write_pending};
 use super::{KomiStream, LONGEST_TEXT};
 use crate::padding::end::{has_top_bit, padding_after};
 use crate::rounds::pending::Pending;
@@ -182,6 +182,7 @@ impl<const V: u8> StreamedKomihash<V> {
     /// Returns the stream that has these bytes as its saved text, or `None` if no stream of this
     /// version has.
     #[inline]
+    #[tactic(auto, unfolding(crate::specs::Saved::IsTextAfter))]
     pub fn resume(bytes: &[u8]) -> Option<Self>
         ensures text { IfSome result (λ stream. text V stream.state ≡ bytes.now) }
         ensures same { (s : State) → IsState V s → text V s ≡ bytes.now
@@ -190,7 +191,7 @@ impl<const V: u8> StreamedKomihash<V> {
             → IsSomeAnd result (λ stream. HasAbsorbed V seed stream.state m) }
         ensures none { IsNone result ↔ ¬ IsText V bytes.now }
     {
-        if !is_laid_out::<V>(bytes) {
+        if !is_text::<V>(bytes) {
             return None;
         }
         Some(StreamedKomihash {
