@@ -1,4 +1,4 @@
--- The text that a stream is saved as.
+-- The saved text of a stream, which is a list of bytes.
 use Rattle.std.specs.Prelude.{ℕ, ◌≡◌, Bool, List, [], ◌∷◌, ◌++◌, length, if◌then◌else◌}
 use Rattle.komihash.specs.Rounds.{Lanes}
 use Rattle.komihash.specs.Stream.{State, IsState, HasAbsorbed}
@@ -17,7 +17,7 @@ in_order s = s.s1 ∷ s.s2 ∷ s.s3 ∷ s.s4 ∷ s.s5 ∷ s.s6 ∷ s.s7 ∷ s.s8
 abbrev pub head : ℕ → State → List ℕ
 head v s = v ∷ flag_byte s.absorbed ∷ flag_byte s.top_bit ∷ length s.pending ∷ []
 
--- the text of a state of version v: the first four bytes, the eight lanes, the pending bytes
+-- the text of a state in version v: the first four bytes, the eight lanes, the pending bytes
 unfoldable pub text : ℕ → State → List ℕ
 text v s = head v s ++ all_bytes (in_order s.lanes) ++ s.pending
 

@@ -1,12 +1,13 @@
--- A stream: what it holds, how it absorbs bytes one after the other, and what it answers.
-use Rattle.std.specs.Prelude.{ℕ, ◌<◌, ◌^◌, ◌≡◌, Bool, true, false, List, [], ◌∷◌, ◌++◌, length, ◌==◌, if◌then◌else◌}
+-- A stream: its state, how it absorbs bytes one after the other, and what it answers.
+use Rattle.std.specs.Prelude.{ℕ, ◌<◌, ◌^◌, ◌≡◌, ◌==◌, Bool, true, false, if◌then◌else◌}
+use Rattle.std.specs.Prelude.{List, [], ◌∷◌, ◌++◌, length}
 use Rattle.komihash.specs.Hash.{hash_from_pair}
 use Rattle.komihash.specs.Rounds.{Lanes, seed_pair, lanes, block_round, join}
 use Rattle.komihash.specs.Padding.{has_top_bit, padding_after, padded_words}
 use Rattle.komihash.specs.Words.{AreBytes, words_of}
 
--- eight lanes, the bytes that no block has taken yet, whether a block was absorbed, and in version
--- 4 whether the last byte of the last block is at least 128
+-- eight lanes; the pending bytes, which no block has taken yet; whether a block was absorbed; and
+-- in version 4 whether the last byte of the last block is at least 128
 pub record State : Type 0 where
   pub lanes : Lanes
   pub pending : List ℕ
@@ -15,9 +16,14 @@ pub record State : Type 0 where
 
 -- the new stream of a seed
 abbrev pub start : ℕ → State
-start seed = record { lanes = lanes (seed_pair seed); pending = []; absorbed = false; top_bit = false }
+start seed = record {
+  lanes = lanes (seed_pair seed);
+  pending = [];
+  absorbed = false;
+  top_bit = false;
+}
 
--- the state after one byte: it is pending, and where 64 are, they go through one block round
+-- the state after one byte: it is pending, and once 64 are, they go through one block round
 abbrev pub absorb_byte : ℕ → State → ℕ → State
 absorb_byte v s b =
     let bytes = s.pending ++ b ∷ [] in
@@ -39,16 +45,16 @@ absorb v s (b ∷ bytes) = absorb v (absorb_byte v s b) bytes
 unfoldable pub HasAbsorbed : ℕ → ℕ → State → List ℕ → Type 0
 HasAbsorbed v seed s m = s ≡ absorb v (start seed) m
 
--- the byte that ends a stream where none is pending: the padding byte of the last block, or 0 where
--- no block was absorbed
-abbrev pub end_behind_blocks : Bool → Bool → ℕ
-end_behind_blocks absorbed top_bit = if absorbed then padding_after top_bit else 0
+-- the byte that ends a stream with none pending: the padding byte of the last block, or 0 if no
+-- block was absorbed
+abbrev pub end_after_blocks : Bool → Bool → ℕ
+end_after_blocks absorbed top_bit = if absorbed then padding_after top_bit else 0
 
--- the words that an answer has left: the padded words of the pending bytes, or where there are none
--- the byte after the blocks alone
+-- the words that an answer has left: the padded words of the pending bytes, or if there are none
+-- the byte that ends the stream
 abbrev pub tail_of : ℕ → List ℕ → Bool → Bool → List ℕ
 tail_of v (b ∷ m) absorbed top_bit = padded_words v (b ∷ m)
-tail_of v [] absorbed top_bit = end_behind_blocks absorbed top_bit ∷ []
+tail_of v [] absorbed top_bit = end_after_blocks absorbed top_bit ∷ []
 
 -- what a stream answers
 unfoldable pub answer : ℕ → State → ℕ
@@ -66,7 +72,7 @@ pub record AreWords (s : Lanes) : Type 0 where
   pub s8 : s.s8 < 2 ^ 64
 
 -- a state of version v: the lanes are words, at most 63 bytes are pending, and the bit is set only
--- where a block was absorbed, and only in version 4
+-- if a block was absorbed, and only in version 4
 pub record IsState (v : ℕ) (s : State) : Type 0 where
   pub words : AreWords s.lanes
   pub bytes : AreBytes s.pending
@@ -74,7 +80,7 @@ pub record IsState (v : ℕ) (s : State) : Type 0 where
   pub top_bit_absorbed : s.top_bit ≡ true → s.absorbed ≡ true
   pub top_bit_version : s.top_bit ≡ true → v ≡ 4
 
--- what a stream of version v shows: a state, and that it is one of this version
+-- what contracts see of a stream of version v: a state, and that it is one of this version
 pub record StateOf (v : ℕ) : Type 0 where
   pub state : State
   pub is_state : IsState v state

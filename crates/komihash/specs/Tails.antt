@@ -3,7 +3,7 @@
 use Rattle.std.specs.Prelude.{ℕ, Bool, ◌-◌, ◌%◌, length, drop, List, [], ◌∷◌, ◌++◌}
 use Rattle.komihash.specs.Rounds.{Lanes, block_round}
 use Rattle.komihash.specs.Padding.{padding_byte}
-use Rattle.komihash.specs.Stream.{end_behind_blocks}
+use Rattle.komihash.specs.Stream.{end_after_blocks}
 use Rattle.komihash.specs.Words.{word_of}
 
 -- the words of whole eights of bytes
@@ -40,4 +40,4 @@ after_blocks m = drop (length m - length m % 64) m
 -- blocks if none is pending
 abbrev pub tail_end : ℕ → List ℕ → Bool → Bool → ℕ
 tail_end v (b ∷ m) absorbed top_bit = padding_byte v (b ∷ m)
-tail_end v [] absorbed top_bit = end_behind_blocks absorbed top_bit
+tail_end v [] absorbed top_bit = end_after_blocks absorbed top_bit

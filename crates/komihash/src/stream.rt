@@ -58,10 +58,10 @@ pub trait KomiStream: Sized + Drop {
             ≡ tally.old.products + answer_products (length (state self.now).pending) }
         ensures kept { tally.new.kept ≡ tally.old.kept };
 
-    /// Writes the saved text of the stream to the front of `out`, and returns its length in bytes.
+    /// Writes the saved text of the stream to the front of `out`. Returns its length in bytes.
     ///
-    /// `out` needs room for `LONGEST_TEXT` bytes, whatever is pending. Its bytes after the text stay
-    /// as they are.
+    /// `out` needs room for `LONGEST_TEXT` bytes, whatever is pending. What is after the text stays
+    /// as it is.
     fn store(&self, out: &mut [u8]) -> usize
         requires { LONGEST_TEXT ≤ length out.old }
         ensures length { result ≡ length (text VERSION (state self.now)) }

@@ -162,8 +162,8 @@ impl<const V: u8> StreamedKomihash<V> {
     /// Writes the saved text of the stream to the front of `out`, and returns its length in bytes:
     /// 68, and one for each pending byte.
     ///
-    /// `out` needs room for `LONGEST_TEXT` bytes, whatever is pending. Its bytes after the text stay
-    /// as they are. `resume` makes the same stream of the text, also in another process.
+    /// `out` needs room for `LONGEST_TEXT` bytes, whatever is pending. What is after the text stays
+    /// as it is. `resume` makes the same stream of the text, also in another process.
     #[inline]
     pub fn save(&self, out: &mut [u8]) -> usize
         requires { LONGEST_TEXT ≤ length out.old }
