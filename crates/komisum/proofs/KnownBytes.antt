@@ -1,18 +1,26 @@
 -- What readers gave and writers took, in one call after another.
-use Rattle.std.proofs.Common.{◌≡◌, ℕ, ◌+◌, List, ◌++◌, take, drop, length, None, Some, sym, ap, ◌∙◌, subst, append_assoc, take-append-drop}
+use Rattle.std.proofs.Common.{◌≡◌, ℕ, ◌+◌, ◌≤◌, List, ◌++◌, take, drop, length, None, Some, IfSome, arith, sym, ap, ◌∙◌, subst, append_assoc, length-append, length-take-le, take-append-drop}
 use Rattle.std.specs.declared.option.Option.{Option}
 use Rattle.std.proofs.Math.Seq.{take-append-add}
-use Rattle.std.proofs.KnownBytes.{Appends-trans}
+use Rattle.std.proofs.KnownBytes.{Appends-trans, Consumes-trans}
 use Rattle.std.specs.Io.KnownBytes.{Appends, Consumes}
-use Rattle.komisum.specs.Line.{AppendsPrefix}
-use Rattle.komisum.specs.Taken.{Takes}
+use Rattle.komisum.specs.Watched.{AppendsPrefix}
 use lib.Seq.{take-append_seam}
 
 -- a reader that gave some bytes
-pub takes : (old new : Option (List ℕ)) (bytes : List ℕ) (P : ℕ → Type 0)
-    → Consumes old new bytes → P (length bytes) → Takes old new P
+takes : (old new : Option (List ℕ)) (bytes : List ℕ) (P : ℕ → Type 0) → Consumes old new bytes → P (length bytes)
+    → IfSome old (λ _. (bytes : List ℕ) × Consumes old new bytes × P (length bytes))
 takes None new bytes P consumed many = tt
 takes (Some xs) new bytes P consumed many = (bytes, consumed, many)
+
+-- a reader that gave some bytes, and then the first n of others
+pub takes_more : (old mid new : Option (List ℕ)) (xs ys : List ℕ) (n : ℕ) (P : ℕ → Type 0)
+    → Consumes old mid xs → Consumes mid new (take n ys) → n ≤ length ys → P (length xs + n)
+    → IfSome old (λ _. (bytes : List ℕ) × Consumes old new bytes × P (length bytes))
+takes_more old mid new xs ys n P before here within many =
+    let total : length xs + n ≡ length (xs ++ take n ys) =
+    omega (arith, length-append xs (take n ys), length-take-le n ys within) in
+    takes old new (xs ++ take n ys) P (Consumes-trans old mid new xs (take n ys) before here) (subst P total many)
 
 -- a beginning of the first bytes is one of all
 pub AppendsPrefix-front : (old new : Option (List ℕ)) (xs ys : List ℕ)

@@ -1,23 +1,41 @@
--- What the program says at its end, and the status that it ends with.
+-- The program's message at its end, and its status.
 use Rattle.std.specs.Prelude.{ℕ, List, [], ◌∷◌, ◌++◌, codes, None, Some}
 use Rattle.std.specs.declared.option.Option.{Option}
-use Rattle.komisum.specs.Fault.{text_of as fault_text}
-use Rattle.komisum.specs.Refusal.{text_of as refusal_text, status_of as refusal_status}
+use Rattle.komisum.specs.declared.ending.Fault.{Fault}
+use Rattle.komisum.specs.declared.ending.Fault.TheVariants.{Read, TooLong, Write}
+use Rattle.komisum.specs.declared.ending.Refusal.{Refusal}
+use Rattle.komisum.specs.declared.ending.Refusal.TheVariants.{NoMemory, Usage}
 use Rattle.komisum.specs.declared.ending.Ending.{Ending}
 use Rattle.komisum.specs.declared.ending.Ending.TheVariants.{Shown, Failed, Refused}
 
--- the bytes of what went wrong, if anything did
+-- the message of a fault
+abbrev pub fault_text : Fault → List ℕ
+fault_text Read = codes "read failed"
+fault_text TooLong = codes "too long"
+fault_text Write = codes "write failed"
+
+-- the message of a refusal
+abbrev pub refusal_text : Refusal → List ℕ
+refusal_text NoMemory = codes "no memory"
+refusal_text Usage = codes "usage: komisum [4|5 SEED]"
+
+-- the status after a refusal
+abbrev pub refusal_status : Refusal → ℕ
+refusal_status NoMemory = 1
+refusal_status Usage = 2
+
+-- the message, if there is one
 abbrev pub text_of : Ending → Option (List ℕ)
 text_of Shown = None
 text_of (Failed fault) = Some (fault_text fault)
 text_of (Refused refusal) = Some (refusal_text refusal)
 
--- the line that says so: the program's name, the text and a newline
+-- its line on standard error: the program's name, the message and a newline
 abbrev pub said : Option (List ℕ) → List ℕ
 said None = []
 said (Some text) = codes "komisum: " ++ text ++ 10 ∷ []
 
--- the status that the program ends with
+-- the program's status
 abbrev pub status_of : Ending → ℕ
 status_of Shown = 0
 status_of (Failed fault) = 1

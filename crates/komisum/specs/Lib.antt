@@ -1,10 +1,5 @@
 pub mod Ending
-pub mod Fault
 pub mod Hex
-pub mod Line
 pub mod Program
-pub mod Refusal
 pub mod Settings
-pub mod Taken
-pub mod Version
 pub mod Watched

@@ -1,27 +1,64 @@
--- How the end of the program follows from what its input and its output did.
-use Rattle.std.specs.Prelude.{ℕ, ◌+◌, ◌≡◌, ◌<◌, ◌≤◌, ◌^◌, ◌↔◌, Bool, true, false, List}
+-- What the program writes and reads, and which fault it ends with.
+use Rattle.std.specs.Prelude.{◌≡◌, ◌↔◌, ℕ, ◌+◌, ◌^◌, ◌<◌, ◌≤◌, true, false, List}
+use Rattle.std.specs.Prelude.{Ok, Err, IfSome}
 use Rattle.std.specs.declared.option.Option.{Option}
-use Rattle.std.specs.Io.KnownBytes.{Keeps, IsAtEnd}
-use Rattle.komisum.specs.Taken.{Takes}
+use Rattle.std.specs.declared.result.Result.{Result}
+use Rattle.std.specs.Io.KnownBytes.{Appends, IsAtEnd, Keeps}
+use Rattle.komihash.specs.Hash.{komi}
+use Rattle.komisum.specs.Hex.{line}
+use Rattle.komisum.specs.Settings.{number_of}
+use Rattle.komisum.specs.Watched.{AppendsPrefix, Takes}
 use Rattle.komisum.specs.declared.ending.Ending.{Ending}
 use Rattle.komisum.specs.declared.ending.Ending.TheVariants.{Shown, Failed}
-use Rattle.komisum.specs.declared.fault.Fault.TheVariants.{Read, TooLong, Write}
+use Rattle.komisum.specs.declared.ending.Fault.{Fault}
+use Rattle.komisum.specs.declared.ending.Fault.TheVariants.{Read, TooLong, Write}
+use Rattle.komisum.specs.declared.settings.Version.{Version}
+use Rattle.komisum.specs.declared.watched.Watched.{Watched}
 
--- each fault comes exactly where it is due: of an ending, what the reader had left and has left, and
--- whether it has failed; and whether the writer has
-pub record FaultsCome (ending : Ending) (old new : Option (List ℕ)) (reader_failed writer_failed : Bool) : Type 0 where
-  pub read : (ending ≡ Failed Read) ↔ (reader_failed ≡ true)
-  pub too_long : Takes old new (λ taken. (ending ≡ Failed TooLong) ↔ ((reader_failed ≡ false) × (2 ^ 40 < taken)))
-  pub write : (ending ≡ Failed Write) ↔ (writer_failed ≡ true)
+-- the bytes of an input, at most
+abbrev pub longest_input : ℕ
+longest_input = 2 ^ 40
 
--- how much was read: all of it if anything is written, and never much more than the program takes
-pub record ReadsEnough (ending : Ending) (old new : Option (List ℕ)) : Type 0 where
-  pub all : ending ≡ Shown → IsAtEnd new
-  pub all_before : ending ≡ Failed Write → IsAtEnd new
-  pub bound : Takes old new (λ taken. taken ≤ 2 ^ 40 + 4096)
-  pub read_bound : ending ≡ Failed Read → Takes old new (λ taken. taken ≤ 2 ^ 40)
+-- the bytes of one read, at most
+abbrev pub chunk_length : ℕ
+chunk_length = 4096
 
--- nothing is written of an input that can't be read or is too long
+-- the line of the hash of a message with a seed in a version
+abbrev pub hash_line : Version → ℕ → List ℕ → List ℕ
+hash_line version seed message = line (komi (number_of version) seed message)
+
+-- a writer's bytes grow by the line of a message, if both are known
+abbrev pub AppendsLine : Version → ℕ → (message old new : Option (List ℕ)) → Type 0
+AppendsLine version seed message old new =
+    IfSome message (λ bytes. Appends old new (hash_line version seed bytes))
+
+-- a writer's bytes grow by a prefix of the line of a message, if both are known
+abbrev pub AppendsLinePrefix : Version → ℕ → (message old new : Option (List ℕ)) → Type 0
+AppendsLinePrefix version seed message old new =
+    IfSome message (λ bytes. AppendsPrefix old new (hash_line version seed bytes))
+
+-- the program's ending after `show`
+abbrev pub ending_of : {T : Type 0} → Result T Fault → Ending
+ending_of (Ok _) = Shown
+ending_of (Err fault) = Failed fault
+
+-- each fault comes exactly where it is due
+pub record FaultsCome {R W : Type 0} (ending : Ending) (remaining : R → Option (List ℕ))
+    (old new : Watched R) (writer : Watched W) : Type 0 where
+  pub read : (ending ≡ Failed Read) ↔ (new.failed ≡ true)
+  pub too_long : Takes remaining old new (λ taken.
+      (ending ≡ Failed TooLong) ↔ ((new.failed ≡ false) × (longest_input < taken)))
+  pub write : (ending ≡ Failed Write) ↔ (writer.failed ≡ true)
+
+-- all of the input is read before anything is written, and never much more than the program accepts
+pub record ReadsEnough {R : Type 0} (ending : Ending) (remaining : R → Option (List ℕ))
+    (old new : Watched R) : Type 0 where
+  pub all : ending ≡ Shown → IsAtEnd (remaining new.inner)
+  pub all_before : ending ≡ Failed Write → IsAtEnd (remaining new.inner)
+  pub bound : Takes remaining old new (λ taken. taken ≤ longest_input + chunk_length)
+  pub read_bound : ending ≡ Failed Read → Takes remaining old new (λ taken. taken ≤ longest_input)
+
+-- nothing is written if a read fails or the input is too long
 pub record WritesNothing (ending : Ending) (old new : Option (List ℕ)) : Type 0 where
   pub read : ending ≡ Failed Read → Keeps old new
   pub too_long : ending ≡ Failed TooLong → Keeps old new

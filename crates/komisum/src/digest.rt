@@ -1,24 +1,26 @@
-//! The hash of all that a reader gives.
+//! The hash of all bytes that a reader gives.
 
-ghost use Rattle.std.specs.Prelude.{◌≡◌, ◌≢◌, ◌↔◌, ℕ, ◌+◌, ◌^◌, ◌<◌, ◌≤◌, length, true, false, OnOk, IfOk, IfSome};
+ghost use Rattle.std.specs.Prelude.{◌≡◌, ◌≢◌, ◌↔◌, ℕ, ◌+◌, ◌^◌, ◌<◌, ◌≤◌};
+ghost use Rattle.std.specs.Prelude.{length, true, false, OnOk, IfOk, IfSome};
 ghost use Rattle.std.specs.Io.KnownBytes.{IsAtEnd};
 ghost use Rattle.komihash.specs.Hash.{komi};
-ghost use Rattle.komisum.specs.Taken.{Takes};
+ghost use Rattle.komisum.specs.Watched.{Takes};
 
-use crate::fault::Fault;
+use crate::ending::Fault;
 use crate::watched::Watched;
 use komihash::laws;
 use komihash::stream::KomiStream;
 use komihash::tally::Tally;
 use std::io::Read;
 
-/// The hash of all bytes that a reader has left, in the version of `S`.
+/// Returns the hash of all bytes that a reader has left, in the version of `S`.
 ///
-/// Reads into `chunk` until a read returns 0, at most `most + 1` times. Returns `Read` if a read
-/// returns an error, of any kind, and `TooLong` if more than `most` bytes come. After either it reads
-/// nothing more, and the reader stands after the bytes taken.
+/// Reads into `chunk` until a read returns 0, at most `most + 1` times. Returns `Fault::Read` if a
+/// read returns an error, of any kind, and `Fault::TooLong` if more than `most` bytes come. After
+/// either it reads nothing more, and the reader stands after the bytes taken.
 ///
 /// The chunk must not be empty, and the reader must not have failed before.
+#[tactic(auto, unfolding(komihash::specs::Stream::absorb))]
 pub fn digest<R: Read, S: KomiStream>(
     reader: &mut Watched<R>,
     seed: u64,
@@ -36,15 +38,15 @@ pub fn digest<R: Read, S: KomiStream>(
 
     // Each fault comes exactly where it is due.
     ensures read { (result ≡ Err Fault.Read) ↔ (reader.new.failed ≡ true) }
-    ensures too_long { Takes (R.remaining reader.old.inner) (R.remaining reader.new.inner) (λ taken.
+    ensures too_long { Takes R.remaining reader.old reader.new (λ taken.
         (result ≡ Err Fault.TooLong) ↔ ((reader.new.failed ≡ false) × (most < taken))) }
     ensures no_write { result ≢ Err Fault.Write }
 
-    // No more is taken than shows that there is too much, and nothing is asked for after a fault.
-    ensures bound { Takes (R.remaining reader.old.inner) (R.remaining reader.new.inner) (λ taken.
+    // No more is taken than shows that the input is too long.
+    ensures bound { Takes R.remaining reader.old reader.new (λ taken.
         taken ≤ most + length chunk.old) }
     ensures read_bound { result ≡ Err Fault.Read
-        → Takes (R.remaining reader.old.inner) (R.remaining reader.new.inner) (λ taken. taken ≤ most) }
+        → Takes R.remaining reader.old reader.new (λ taken. taken ≤ most) }
 {
     laws::cut();
     laws::joined();

@@ -1,24 +1,76 @@
-//! How the program ends.
+//! How the program ends: its message on standard error, and its status.
 
-use crate::fault::Fault;
-use crate::refusal::Refusal;
+ghost use Rattle.std.specs.Prelude.{◌≡◌, None, Some, MatchOption, MatchResult};
+ghost use Rattle.komisum.specs.Ending.{fault_text, refusal_text, refusal_status, text_of, status_of};
+
+/// Why no line was written, or only part of one.
+#[derive(Drop)]
+pub enum Fault {
+    /// A read returned an error.
+    Read,
+    /// The input is longer than the call accepts.
+    TooLong,
+    /// A write or a flush returned an error, or a write accepted no byte.
+    Write,
+}
+
+impl Fault {
+    /// Returns the message.
+    pub fn text(&self) -> &'static str
+        ensures { result.now ≡ fault_text self.now }
+    {
+        match self {
+            Fault::Read => "read failed",
+            Fault::TooLong => "too long",
+            Fault::Write => "write failed",
+        }
+    }
+}
+
+/// Why the program did not begin to read.
+#[derive(Drop)]
+pub enum Refusal {
+    /// The arguments or the input's buffer could not be allocated.
+    NoMemory,
+    /// The arguments ask for no version and seed.
+    Usage,
+}
+
+impl Refusal {
+    /// Returns the message.
+    pub fn text(&self) -> &'static str
+        ensures { result.now ≡ refusal_text self.now }
+    {
+        match self {
+            Refusal::NoMemory => "no memory",
+            Refusal::Usage => "usage: komisum [4|5 SEED]",
+        }
+    }
+
+    /// Returns the program's status: 1 if out of memory, 2 for wrong usage.
+    pub fn status(&self) -> u8
+        ensures { result ≡ refusal_status self.now }
+    {
+        match self {
+            Refusal::NoMemory => 1,
+            Refusal::Usage => 2,
+        }
+    }
+}
 
 /// How the program ends.
 #[derive(Drop)]
 pub enum Ending {
-    /// The line is written.
+    /// The line was written.
     Shown,
-    /// The reading or the writing went wrong.
+    /// Reading or writing failed.
     Failed(Fault),
-    /// The reading did not begin.
+    /// Nothing was read.
     Refused(Refusal),
 }
 
 impl Ending {
-    ghost use Rattle.std.specs.Prelude.{◌≡◌, None, Some, MatchOption, MatchResult};
-    ghost use Rattle.komisum.specs.Ending.{text_of, status_of};
-
-    /// The ending that follows from what `show` returned.
+    /// Converts the result of `show`.
     pub fn of(shown: Result<(), Fault>) -> Self
         ensures { MatchResult shown (λ _. result ≡ Ending.Shown) (λ fault. result ≡ Ending.Failed fault) }
     {
@@ -28,9 +80,10 @@ impl Ending {
         }
     }
 
-    /// What went wrong, if anything.
+    /// Returns the message, or `None` if the line was written.
     pub fn text(&self) -> Option<&'static str>
-        ensures { MatchOption result (text_of self.now ≡ None) (λ text. text_of self.now ≡ Some text.now) }
+        ensures { MatchOption result (text_of self.now ≡ None)
+            (λ text. text_of self.now ≡ Some text.now) }
     {
         match self {
             Ending::Shown => None,
@@ -39,7 +92,7 @@ impl Ending {
         }
     }
 
-    /// The status that the program ends with.
+    /// Returns the program's status: 0 if the line was written, 1 after a fault, or the refusal's.
     pub fn status(&self) -> u8
         ensures { result ≡ status_of self.now }
     {

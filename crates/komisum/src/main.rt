@@ -6,22 +6,15 @@
 
 mod digest;
 mod ending;
-mod fault;
 mod hex;
 mod program;
-mod refusal;
 mod report;
 mod settings;
-mod show;
 #[cfg(test)]
 mod tests;
-mod version;
 mod watched;
-mod words;
-mod writing;
 
-use ending::Ending;
-use refusal::Refusal;
+use ending::{Ending, Refusal};
 use std::io::BufReader;
 use std::process::ExitCode;
 use watched::Watched;
@@ -32,7 +25,7 @@ const AHEAD: usize = 1 << 16;
 fn main(rt: HostRuntime) -> ExitCode {
     let ending = match BufReader::with_capacity(rt.alloc(), AHEAD, rt.stdin()) {
         Ok(input) => {
-            let asked = words::settings_given(&rt);
+            let asked = settings::settings_given(&rt);
             let mut output = Watched::new(rt.stdout());
             program::run(asked, &mut Watched::new(input), &mut output)
         }

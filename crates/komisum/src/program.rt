@@ -1,18 +1,58 @@
 //! The program, over any reader and writer.
 
-ghost use Rattle.std.specs.Prelude.{◌≡◌, false, IfErr, IfSome, IsOkAnd};
-ghost use Rattle.std.specs.Io.KnownBytes.{Appends};
-ghost use Rattle.komisum.specs.Line.{hash_line, AppendsPrefix};
+ghost use Rattle.std.specs.Prelude.{◌≡◌, false, OnOk, IfErr, IsOkAnd};
+ghost use Rattle.komisum.specs.Program.{AppendsLine, AppendsLinePrefix, ending_of};
 ghost use Rattle.komisum.specs.Program.{FaultsCome, ReadsEnough, WritesNothing};
-ghost use Rattle.komisum.specs.declared.refusal.Refusal.{Refusal as ARefusal};
+ghost use Rattle.komisum.specs.declared.ending.Refusal.{Refusal as ARefusal};
 
-use crate::ending::Ending;
-use crate::fault::Fault;
-use crate::refusal::Refusal;
-use crate::show::show;
-use crate::version::Version;
-use crate::watched::Watched;
+use crate::digest::digest;
+use crate::ending::{Ending, Fault, Refusal};
+use crate::hex::hex_line;
+use crate::settings::Version;
+use crate::watched::{Watched, flush, write_whole};
+use komihash::{v4, v5};
 use std::io::{Read, Write};
+
+// The bytes of an input, at most.
+const LONGEST_INPUT: u64 = 1 << 40;
+
+// The bytes of one read, at most.
+const CHUNK_LENGTH: usize = 4096;
+
+/// Writes the line of the hash of all bytes that a reader has left: 16 hexadecimal digits and a
+/// newline. Then flushes.
+///
+/// Accepts up to 2^40 bytes, reads up to 4,096 at once, and allocates nothing. Returns `Fault::Read`
+/// if a read returns an error, of any kind, `Fault::TooLong` if more bytes come, and `Fault::Write`
+/// if a write or the flush returns an error, or a write accepts no byte.
+///
+/// Neither side must have failed before.
+pub fn show<R: Read, W: Write>(
+    reader: &mut Watched<R>,
+    writer: &mut Watched<W>,
+    version: Version,
+    seed: u64,
+) -> Result<(), Fault>
+    requires reader { reader.old.failed ≡ false }
+    requires writer { writer.old.failed ≡ false }
+    ensures line { OnOk result (AppendsLine version seed (R.remaining reader.old.inner)
+        (W.contents writer.old.inner) (W.contents writer.new.inner)) }
+    ensures begun { result ≡ Err Fault.Write
+        → AppendsLinePrefix version seed (R.remaining reader.old.inner)
+        (W.contents writer.old.inner) (W.contents writer.new.inner) }
+    ensures faults { FaultsCome (ending_of result) R.remaining reader.old reader.new writer.new }
+    ensures reads { ReadsEnough (ending_of result) R.remaining reader.old reader.new }
+    ensures unwritten { WritesNothing (ending_of result)
+        (W.contents writer.old.inner) (W.contents writer.new.inner) }
+{
+    let mut chunk = [0u8; CHUNK_LENGTH];
+    let hash = match version {
+        Version::Four => digest::<R, v4::StreamedKomihash>(reader, seed, &mut chunk, LONGEST_INPUT),
+        Version::Five => digest::<R, v5::StreamedKomihash>(reader, seed, &mut chunk, LONGEST_INPUT),
+    }?;
+    write_whole(writer, &hex_line(hash))?;
+    flush(writer)
+}
 
 /// Shows the line of the version and the seed that the arguments ask for, or ends with the refusal
 /// that came of them.
@@ -26,21 +66,17 @@ pub fn run<R: Read, W: Write>(
     requires input { input.old.failed ≡ false }
     requires writer { writer.old.failed ≡ false }
 
-    // The line is that of all bytes, with the version and the seed that were asked for.
-    ensures line { result ≡ Ending.Shown → IfSome (R.remaining input.old.inner) (λ bytes.
-        IsOkAnd asked (λ settings.
-        Appends (W.contents writer.old.inner) (W.contents writer.new.inner)
-        (hash_line settings.0 settings.1 bytes))) }
-    ensures begun { result ≡ Ending.Failed Fault.Write
-        → IfSome (R.remaining input.old.inner) (λ bytes. IsOkAnd asked (λ settings.
-        AppendsPrefix (W.contents writer.old.inner) (W.contents writer.new.inner)
-        (hash_line settings.0 settings.1 bytes))) }
-
-    // Each fault comes exactly where it is due.
-    ensures faults { FaultsCome result (R.remaining input.old.inner) (R.remaining input.new.inner)
-        input.new.failed writer.new.failed }
-    ensures reads { ReadsEnough result (R.remaining input.old.inner) (R.remaining input.new.inner) }
-    ensures unwritten { WritesNothing result (W.contents writer.old.inner) (W.contents writer.new.inner) }
+    // As `show`, with the version and the seed that were asked for.
+    ensures line { result ≡ Ending.Shown → IsOkAnd asked (λ settings.
+        AppendsLine settings.0 settings.1 (R.remaining input.old.inner)
+        (W.contents writer.old.inner) (W.contents writer.new.inner)) }
+    ensures begun { result ≡ Ending.Failed Fault.Write → IsOkAnd asked (λ settings.
+        AppendsLinePrefix settings.0 settings.1 (R.remaining input.old.inner)
+        (W.contents writer.old.inner) (W.contents writer.new.inner)) }
+    ensures faults { FaultsCome result R.remaining input.old input.new writer.new }
+    ensures reads { ReadsEnough result R.remaining input.old input.new }
+    ensures unwritten { WritesNothing result
+        (W.contents writer.old.inner) (W.contents writer.new.inner) }
 
     // A refusal is passed on, with nothing read and nothing written.
     ensures refused { IfErr asked (λ refusal. result ≡ Ending.Refused refusal) }

@@ -4,12 +4,10 @@ ghost use Rattle.std.specs.Prelude.{◌≡◌, ◌↔◌, true, false, Some, OnO
 ghost use Rattle.std.specs.Io.KnownBytes.{Appends};
 ghost use Rattle.std.specs.Process.{exit_status};
 ghost use Rattle.komisum.specs.Ending.{said, text_of, status_of};
-ghost use Rattle.komisum.specs.Line.{AppendsPrefix};
+ghost use Rattle.komisum.specs.Watched.{AppendsPrefix};
 
-use crate::ending::Ending;
-use crate::fault::Fault;
-use crate::watched::Watched;
-use crate::writing::write_whole;
+use crate::ending::{Ending, Fault};
+use crate::watched::{Watched, write_whole};
 use std::io::Write;
 use std::process::ExitCode;
 

@@ -1,12 +1,29 @@
-//! The version and the seed that the program's words ask for.
+//! The version and the seed that the program's arguments ask for.
 
-ghost use Rattle.std.specs.Prelude.{◌≡◌, SomeIff, IsTrue, map};
+ghost use Rattle.std.specs.Prelude.{◌≡◌, ◌↔◌, ◌⊎◌, IsTrue, SomeIff, map, string_bytes};
+ghost use Rattle.std.specs.Prelude.{IfOk, IfErr, IsOkAnd, IsErrAnd};
 ghost use Rattle.std.specs.Char.{digit_value};
-ghost use Rattle.komisum.specs.Settings.{is_hex_digit, version_of, seed_of, settings_of};
+ghost use Rattle.std.specs.IoError.{error_kind};
+ghost use Rattle.std.specs.Vec.Iter.{into_iter_items};
+ghost use Rattle.komisum.specs.Settings.{asked, is_hex_digit, seed_of, settings_of, version_of};
 
-use crate::version::Version;
+use crate::ending::Refusal;
+use std::alloc::AllocError;
+use std::env::{Args, FillError};
+use std::io::ErrorKind;
+use std::rt::Env;
+use std::{env, io};
 
-// The value of a digit.
+/// A version of the hash.
+#[derive(Drop)]
+pub enum Version {
+    /// Version 4.
+    Four,
+    /// Version 5.
+    Five,
+}
+
+// Returns the value of a digit.
 fn digit_of(character: u8) -> Option<u8>
     ensures { SomeIff result (IsTrue (is_hex_digit character)) (digit_value character) }
 {
@@ -17,22 +34,22 @@ fn digit_of(character: u8) -> Option<u8>
     }
 }
 
-// The version that a word asks for.
-fn version_in(word: &str) -> Option<Version>
-    ensures { result ≡ version_of word.now }
+// Returns the version that an argument asks for.
+fn version_in(argument: &str) -> Option<Version>
+    ensures { result ≡ version_of argument.now }
 {
-    match word.as_bytes() {
+    match argument.as_bytes() {
         b"4" => Some(Version::Four),
         b"5" => Some(Version::Five),
         _ => None,
     }
 }
 
-// The seed that a word asks for.
-fn seed_in(word: &str) -> Option<u64>
-    ensures { result ≡ seed_of word.now }
+// Returns the seed that an argument asks for.
+fn seed_in(argument: &str) -> Option<u64>
+    ensures { result ≡ seed_of argument.now }
 {
-    let digits = word.as_bytes();
+    let digits = argument.as_bytes();
     if digits.is_empty() || digits.len() > 16 {
         return None;
     }
@@ -45,15 +62,121 @@ fn seed_in(word: &str) -> Option<u64>
 
 /// Returns the version and the seed that arguments ask for.
 ///
-/// Without arguments these are version 5 and seed 0. Takes two arguments, VERSION, which is `4` or
-/// `5`, and SEED, 1 to 16 of the characters 0 to 9 and a to f, its digits to base 16. Returns `None`
-/// for all others.
-pub fn settings(words: &[&str]) -> Option<(Version, u64)>
-    ensures { result ≡ settings_of (map (λ word. word.now) words.now) }
+/// Without arguments these are version 5 and seed 0. Takes two arguments: VERSION, which is `4` or
+/// `5`, and SEED, its digits to base 16, 1 to 16 of the characters `0-9a-f`. Returns `None` for all
+/// others.
+pub fn settings(arguments: &[&str]) -> Option<(Version, u64)>
+    ensures { result ≡ settings_of (map (λ argument. argument.now) arguments.now) }
 {
-    match words {
+    match arguments {
         [] => Some((Version::Five, 0)),
         [version, seed] => Some((version_in(version)?, seed_in(seed)?)),
         _ => None,
     }
+}
+
+// An environment whose arguments begin after the program's name, which need not be UTF-8.
+#[derive(Drop)]
+struct AfterName<'a, H>(&'a H);
+
+impl<H: Env> Env for AfterName<'_, H> {
+    fn arg(&self, i: usize, buf: &mut [u8]) -> Result<usize, FillError> {
+        match i.checked_add(1) {
+            Some(next) => self.0.arg(next, buf),
+            None => Err(FillError::NotPresent),
+        }
+    }
+
+    fn var(&self, name: &str, buf: &mut [u8]) -> Result<usize, FillError> {
+        self.0.var(name, buf)
+    }
+
+    fn var_at(&self, i: usize, buf: &mut [u8]) -> Result<usize, FillError> {
+        self.0.var_at(i, buf)
+    }
+}
+
+// Returns the refusal for an error of `env::args`: an argument is not UTF-8, or could not be
+// allocated.
+fn refusal_for(error: &io::Error) -> Refusal
+    ensures { (result ≡ Refusal.Usage) ↔ (error_kind error.now ≡ ErrorKind.InvalidData) }
+{
+    if error.kind() == ErrorKind::InvalidData {
+        Refusal::Usage
+    } else {
+        Refusal::NoMemory
+    }
+}
+
+// Collects arguments into a vector.
+fn collected<H: AllocGlobal>(host: &H, arguments: Args) -> Result<Vec<String>, Refusal>
+    ensures all { IfOk result (λ all. all.items ≡ into_iter_items arguments) }
+    ensures memory { IfErr result (λ refusal. refusal ≡ Refusal.NoMemory) }
+{
+    arguments
+        .collect(host.alloc())
+        .map_err(|_| Refusal::NoMemory)
+}
+
+/// Returns the arguments that `env::args` returned, all of them, in order and unchanged.
+///
+/// Returns `Usage` if `env::args` found one that is not UTF-8, and `NoMemory` if they could not be
+/// allocated.
+pub fn arguments_of<H: AllocGlobal>(
+    host: &H,
+    given: io::Result<Args>,
+) -> Result<Vec<String>, Refusal>
+    ensures all { IfOk result (λ all. IsOkAnd given (λ arguments.
+        all.items ≡ into_iter_items arguments)) }
+    ensures usage { (result ≡ Err Refusal.Usage)
+        ↔ IsErrAnd given (λ error. error_kind error ≡ ErrorKind.InvalidData) }
+{
+    match given {
+        Ok(arguments) => collected(host, arguments),
+        Err(error) => Err(refusal_for(&error)),
+    }
+}
+
+/// Returns the arguments of an environment, after the program's name, as `arguments_of` does.
+pub fn arguments_given<H: Env + AllocGlobal>(host: &H) -> Result<Vec<String>, Refusal> {
+    arguments_of(host, env::args(&(AfterName(host), host.alloc())))
+}
+
+// Returns a list of the arguments as `&str`.
+fn strs_of<'a, H: AllocGlobal>(
+    host: &H,
+    arguments: &'a [String],
+) -> Result<Vec<&'a str>, AllocError>
+    ensures { IfOk result (λ strs.
+        map (λ str. str.now) strs.items ≡ map string_bytes arguments.now) }
+{
+    let mut strs = Vec::new(host.alloc());
+    for argument in arguments {
+        strs.push(argument.as_str())?;
+    }
+    Ok(strs)
+}
+
+/// Returns the version and the seed that arguments ask for, or the refusal in place of arguments.
+///
+/// Returns `Usage` if they ask for no version and seed, and `NoMemory` if a list of them could not
+/// be allocated.
+pub fn settings_in<H: AllocGlobal>(
+    host: &H,
+    arguments: Result<Vec<String>, Refusal>,
+) -> Result<(Version, u64), Refusal>
+    ensures asked { (result ≡ asked arguments) ⊎ (result ≡ Err Refusal.NoMemory) }
+    ensures refused { IfErr arguments (λ refusal. result ≡ Err refusal) }
+{
+    let arguments = arguments?;
+    match strs_of(host, arguments.as_slice()) {
+        Ok(strs) => settings(strs.as_slice()).ok_or(Refusal::Usage),
+        Err(_) => Err(Refusal::NoMemory),
+    }
+}
+
+/// Returns the version and the seed that the arguments of an environment ask for, or a refusal, as
+/// `arguments_of` and `settings_in` do.
+pub fn settings_given<H: Env + AllocGlobal>(host: &H) -> Result<(Version, u64), Refusal> {
+    settings_in(host, arguments_given(host))
 }

@@ -1,16 +1,18 @@
-//! Readers and writers that remember whether a call through them has failed.
+//! Readers and writers that remember whether a call through them has failed, and writing to them.
 
-ghost use Rattle.std.specs.Prelude.{◌≡◌, ◌||◌, length, false, is_err};
+ghost use Rattle.std.specs.Prelude.{◌≡◌, ◌↔◌, ◌||◌, true, false, is_err, length};
+ghost use Rattle.std.specs.Prelude.{OnOk, IfErr, IsErr};
 ghost use Rattle.std.specs.Io.{ReadsAtMost, WritesAtMost};
-ghost use Rattle.std.specs.Io.KnownBytes.{ReadConsumes, WriteAppends, Keeps};
-ghost use Rattle.komisum.specs.Watched.{write_failed};
+ghost use Rattle.std.specs.Io.KnownBytes.{ReadConsumes, WriteAppends, Appends, Keeps};
+ghost use Rattle.komisum.specs.Watched.{AppendsPrefix, write_failed};
 
-use std::io::{Read, Result, Write};
+use crate::ending::Fault;
+use std::io::{self, Read, Write};
 
 /// A reader or a writer, and whether a call through it has failed.
 ///
-/// A read, a write or a flush has failed where it answers an error, and a write also where it takes
-/// none of at least one byte. Each call answers what the inner one answers.
+/// A read, a write or a flush has failed if it returned an error, and a write also if it accepted
+/// none of at least one byte. Each call returns what the inner one returns.
 #[derive(Drop)]
 pub struct Watched<T> {
     inner: T,
@@ -18,7 +20,7 @@ pub struct Watched<T> {
 }
 
 impl<T> Watched<T> {
-    /// Watches a reader or a writer, of which no call has failed yet.
+    /// Wraps a reader or a writer. No call through it has failed yet.
     pub fn new(inner: T) -> Self
         ensures inner { result.inner ≡ inner }
         ensures failed { result.failed ≡ false }
@@ -29,14 +31,14 @@ impl<T> Watched<T> {
         }
     }
 
-    /// Whether a call has failed. Once one has, it stays so.
+    /// Returns whether a call has failed.
     pub fn failed(&self) -> bool
         ensures { result ≡ self.now.failed }
     {
         self.failed
     }
 
-    /// The reader or the writer.
+    /// Returns the reader or the writer.
     pub fn into_inner(self) -> T
         ensures { result ≡ self.inner }
     {
@@ -47,7 +49,7 @@ impl<T> Watched<T> {
 impl<R: Read> Read for Watched<R> {
     ghost remaining = { λ watched. R.remaining watched.inner };
 
-    fn read(&mut self, buf: &mut [u8]) -> Result<usize>
+    fn read(&mut self, buf: &mut [u8]) -> io::Result<usize>
         ensures bound { ReadsAtMost result buf.new }
         ensures bytes { ReadConsumes (R.remaining self.old.inner) (R.remaining self.new.inner)
             result buf.new }
@@ -62,11 +64,12 @@ impl<R: Read> Read for Watched<R> {
 impl<W: Write> Write for Watched<W> {
     ghost contents = { λ watched. W.contents watched.inner };
 
-    fn write(&mut self, buf: &[u8]) -> Result<usize>
+    fn write(&mut self, buf: &[u8]) -> io::Result<usize>
         ensures bound { WritesAtMost result buf.now }
         ensures bytes { WriteAppends (W.contents self.old.inner) (W.contents self.new.inner)
             result buf.now }
-        ensures failed { self.new.failed ≡ (self.old.failed || write_failed result (length buf.now)) }
+        ensures failed { self.new.failed
+            ≡ (self.old.failed || write_failed result (length buf.now)) }
     {
         let result = self.inner.write(buf);
         self.failed |= match &result {
@@ -76,12 +79,50 @@ impl<W: Write> Write for Watched<W> {
         result
     }
 
-    fn flush(&mut self) -> Result<()>
+    fn flush(&mut self) -> io::Result<()>
         ensures bytes { Keeps (W.contents self.old.inner) (W.contents self.new.inner) }
         ensures failed { self.new.failed ≡ (self.old.failed || is_err result) }
     {
         let result = self.inner.flush();
         self.failed |= result.is_err();
         result
+    }
+}
+
+/// Writes all bytes, however few of them a write accepts.
+///
+/// Returns `Fault::Write` if a write fails, an interruption too; part of the bytes may have been
+/// written then. The writer must not have failed before.
+pub fn write_whole<W: Write>(writer: &mut Watched<W>, bytes: &[u8]) -> Result<(), Fault>
+    requires { writer.old.failed ≡ false }
+    ensures whole { OnOk result
+        (Appends (W.contents writer.old.inner) (W.contents writer.new.inner) bytes.now) }
+    ensures begun { AppendsPrefix (W.contents writer.old.inner) (W.contents writer.new.inner)
+        bytes.now }
+    ensures failed { IsErr result ↔ (writer.new.failed ≡ true) }
+    ensures fault { IfErr result (λ fault. fault ≡ Fault.Write) }
+{
+    let mut written = 0;
+    while written < bytes.len() {
+        match writer.write(&bytes[written..]) {
+            Ok(0) | Err(_) => return Err(Fault::Write),
+            Ok(count) => written += count,
+        }
+    }
+    Ok(())
+}
+
+/// Flushes a writer. Returns `Fault::Write` if the flush fails.
+///
+/// The writer must not have failed before.
+pub fn flush<W: Write>(writer: &mut Watched<W>) -> Result<(), Fault>
+    requires { writer.old.failed ≡ false }
+    ensures kept { Keeps (W.contents writer.old.inner) (W.contents writer.new.inner) }
+    ensures failed { IsErr result ↔ (writer.new.failed ≡ true) }
+    ensures fault { IfErr result (λ fault. fault ≡ Fault.Write) }
+{
+    match writer.flush() {
+        Ok(()) => Ok(()),
+        Err(_) => Err(Fault::Write),
     }
 }

@@ -2,8 +2,7 @@
 
 ghost use Rattle.std.specs.Prelude.{◌≤◌};
 
-use crate::settings::settings;
-use crate::version::Version;
+use crate::settings::{Version, settings};
 use komihash::Komirand;
 use std::process::Abort;
 use std::str;

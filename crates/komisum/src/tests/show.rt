@@ -4,10 +4,10 @@ ghost use Rattle.std.specs.Prelude.{◌≤◌};
 
 use super::fakes::{Calls, FakeReader, FakeWriter, Stop};
 use super::messages::{TO_SEVEN, TO_SIX, TO_ZERO};
-use crate::fault::Fault;
+use crate::ending::Fault;
 use crate::hex::hex_line;
-use crate::show::show;
-use crate::version::Version;
+use crate::program::show;
+use crate::settings::Version;
 use crate::watched::Watched;
 use std::process::Abort;
 

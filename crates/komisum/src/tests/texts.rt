@@ -1,9 +1,7 @@
 //! What the program says where something went wrong.
 
 use super::fakes::{Calls, FakeWriter, Stop};
-use crate::ending::Ending;
-use crate::fault::Fault;
-use crate::refusal::Refusal;
+use crate::ending::{Ending, Fault, Refusal};
 use crate::report::report;
 use crate::watched::Watched;
 use std::process::Abort;

@@ -3,7 +3,7 @@ use Rattle.std.proofs.Common.{◌≡◌, refl, rules, length}
 use Rattle.std.proofs.lemmas.Iterator.Adapters.{fact_from_collect, YieldsList-from_vec}
 use Rattle.std.specs.Vec.{vec_len}
 use Rattle.std.specs.Vec.Iter.{into_iter_items}
-use Rattle.komisum.proofs.words.collected.Goals as goal
+use Rattle.komisum.proofs.settings.collected.Goals as goal
 
 pub returns-clause-all : goal.returns-clause-all
 returns-clause-all g c =

@@ -1,7 +1,7 @@
 -- What is written is the beginning of the bytes.
 use Rattle.std.proofs.Common.{◌≡◌, length, ◌-◌, ◌≤◌, take, false}
 use Rattle.std.specs.Io.KnownBytes.{Appends}
-use Rattle.komisum.proofs.writing.write_whole.Given as goal
+use Rattle.komisum.proofs.watched.write_whole.Given as goal
 
 abbrev pub invariant-loop-written : goal.invariant-loop-written
 invariant-loop-written g l = record {
