@@ -2,11 +2,11 @@
 
 mod callers;
 mod digest;
+mod ending;
 mod fakes;
 mod hex;
 mod messages;
 mod program;
 mod settings;
 mod show;
-mod texts;
 mod watched;

@@ -131,23 +131,29 @@ fn hash_of_key(key: &[u8; 16], tally: &mut Tally) -> u64
     v5::komihash_counted(key, 0, tally)
 }
 
-use super::messages::{TO_SEVEN, TO_SIX, TO_ZERO};
+use super::messages::{HASH_OF_16, HASH_OF_31, HASH_OF_31_IN_FOUR, HASH_OF_95, message};
 use komihash::v4;
 
 #[test]
 fn callers_answer(rt: HostRuntime) {
-    assert_eq!(rt; shard_of(&TO_SIX, 4), 2);
-    assert_eq!(rt; digest_of_pieces(&TO_SIX[..1], &[], &TO_SIX[1..]), 6);
-    let slices: [&[u8]; 3] = [&TO_SEVEN[..1], &[], &TO_SEVEN[1..]];
-    assert_eq!(rt; digest_of_slices::<v4::StreamedKomihash>(&slices, 0), 7);
+    let key = message::<16>();
+    let short = message::<31>();
+    let long = message::<95>();
+    assert_eq!(rt; shard_of(&long, 4), HASH_OF_95 % 4);
+    assert_eq!(rt; digest_of_pieces(&long[..1], &[], &long[1..]), HASH_OF_95);
+    let slices: [&[u8]; 3] = [&short[..1], &[], &short[1..]];
+    assert_eq!(rt;
+        digest_of_slices::<v4::StreamedKomihash>(&slices, 0),
+        HASH_OF_31_IN_FOUR
+    );
     assert_eq!(rt;
         digest_of_slices::<v5::StreamedKomihash>(&slices, 0),
-        1 << 63
+        HASH_OF_31
     );
-    assert!(rt; may_be_equal(&TO_ZERO, &TO_ZERO));
-    assert!(rt; !may_be_equal(&TO_ZERO, &TO_SIX));
-    assert_eq!(rt; hash_of_record(&TO_ZERO, &TO_SIX), 6);
-    assert_eq!(rt; hash_of_key(&TO_ZERO, &mut Tally::new()), 0);
+    assert!(rt; may_be_equal(&key, &key));
+    assert!(rt; !may_be_equal(&key, &long));
+    assert_eq!(rt; hash_of_record(&key, &long), komihash(&long, HASH_OF_16));
+    assert_eq!(rt; hash_of_key(&key, &mut Tally::new()), HASH_OF_16);
 }
 
 #[test]
@@ -165,21 +171,23 @@ fn samples_are_drawn_again(rt: HostRuntime) {
 fn keys_are_read_back(rt: HostRuntime) {
     let mut words = [0; 4];
     let mut out = [0; 32];
-    assert!(rt; key_read_back(&TO_SEVEN, &mut words, &mut out) == Some(31));
-    assert!(rt; out.starts_with(&TO_SEVEN));
+    let key = message::<31>();
+    assert!(rt; key_read_back(&key, &mut words, &mut out) == Some(31));
+    assert!(rt; out.starts_with(&key));
 }
 
 #[test]
 fn goes_on_from_checkpoints(rt: HostRuntime) {
+    let message = message::<95>();
     let mut checkpoint = [0; 131];
     for cut in 0..=95usize {
-        let (first, next) = TO_SIX.split_at(cut);
+        let (first, next) = message.split_at(cut);
         let count = begin(first, 0, &mut checkpoint);
         let hash = go_on(&mut checkpoint, count, next).and_then(|count| end(
             &checkpoint,
             count,
             &[],
         ));
-        assert!(rt; hash == Some(6), "another hash, cut at {cut}");
+        assert!(rt; hash == Some(HASH_OF_95), "another hash, cut at {cut}");
     }
 }

@@ -1,9 +1,9 @@
-//! Hashes of what readers give, and what faults leave.
+//! Hashes of what readers give, and what a fault leaves.
 
 ghost use Rattle.std.specs.Prelude.{◌<◌, ◌≤◌, ◌^◌};
 
 use super::fakes::{Calls, FakeReader, Stop};
-use super::messages::{TO_SEVEN, TO_SIX, TO_ZERO};
+use super::messages::{HASH_OF_16, HASH_OF_31_IN_FOUR, HASH_OF_64, HASH_OF_95, message};
 use crate::digest::digest;
 use crate::watched::Watched;
 use komihash::stream::{Call, KomiStream, run_on};
@@ -11,7 +11,7 @@ use komihash::tally::Tally;
 use komihash::{v4, v5};
 use std::process::Abort;
 
-// What the call answers into a chunk of `room` bytes, and how many reads it makes.
+// Calls `digest` with a chunk of `room` bytes. Returns its hash or fault, and how often it read.
 fn digested<S: KomiStream>(
     reader: FakeReader<'_>,
     most: u64,
@@ -30,7 +30,7 @@ fn digested<S: KomiStream>(
     )
 }
 
-// The same in version 5, where the reader gives at most `at_once` bytes a read.
+// Digests bytes in version 5, from a reader that gives at most `at_once` of them a read.
 fn in_five(bytes: &[u8], at_once: usize, most: u64, room: usize) -> Result<u64, &'static str>
     requires room { 0 < room }
     requires fits { room ≤ 96 }
@@ -40,14 +40,14 @@ fn in_five(bytes: &[u8], at_once: usize, most: u64, room: usize) -> Result<u64, 
     digested::<v5::StreamedKomihash>(reader, most, room).0
 }
 
-// The hash, or the name of the fault, of bytes that come so many at once.
+// Compares the hash or fault of bytes that come `at_once` a read.
 fn digests(
     rt: &impl Abort,
     bytes: &[u8],
     at_once: usize,
     most: u64,
     room: usize,
-    answer: Result<u64, &'static str>,
+    wanted: Result<u64, &'static str>,
 )
     requires room { 0 < room }
     requires fits { room ≤ 96 }
@@ -55,19 +55,21 @@ fn digests(
 {
     let given = in_five(bytes, at_once, most, room);
     assert!(rt;
-        given == answer,
-        "another answer for {most} bytes by {room}"
+        given == wanted,
+        "another result for {most} bytes by {room}"
     );
 }
 
 #[test]
 fn any_chunk(rt: HostRuntime) {
+    let short = message::<16>();
+    let long = message::<95>();
     for room in [1, 7, 64, 95, 96] {
-        digests(&rt, &TO_ZERO, 96, 16, room, Ok(0));
-        digests(&rt, &TO_ZERO, 96, 15, room, Err("too long"));
-        digests(&rt, &TO_SIX, 96, 95, room, Ok(6));
-        digests(&rt, &TO_SIX, 1, 95, room, Ok(6));
-        digests(&rt, &TO_SIX, 96, 94, room, Err("too long"));
+        digests(&rt, &short, 96, 16, room, Ok(HASH_OF_16));
+        digests(&rt, &short, 96, 15, room, Err("too long"));
+        digests(&rt, &long, 96, 95, room, Ok(HASH_OF_95));
+        digests(&rt, &long, 1, 95, room, Ok(HASH_OF_95));
+        digests(&rt, &long, 96, 94, room, Err("too long"));
     }
     digests(&rt, b"", 96, 0, 96, Ok(0xb7683ea7430132b4));
     digests(&rt, b"a", 96, 0, 96, Err("too long"));
@@ -75,49 +77,53 @@ fn any_chunk(rt: HostRuntime) {
 
 #[test]
 fn version_four(rt: HostRuntime) {
-    let reader = FakeReader::new(&TO_SEVEN, 7, Calls::endless());
-    let (answer, _) = digested::<v4::StreamedKomihash>(reader, 31, 96);
-    assert!(rt; answer == Ok(7));
+    let message = message::<31>();
+    let reader = FakeReader::new(&message, 7, Calls::endless());
+    let (hash, _) = digested::<v4::StreamedKomihash>(reader, 31, 96);
+    assert!(rt; hash == Ok(HASH_OF_31_IN_FOUR));
 }
 
-// The answer, and the reads that are made.
+// Compares the hash or fault, and how often `digest` reads.
 fn digests_by(
     rt: &impl Abort,
     reader: FakeReader<'_>,
     most: u64,
-    answer: Result<u64, &'static str>,
+    wanted: Result<u64, &'static str>,
     reads: usize,
 )
     requires { most < 2 ^ 63 }
 {
     let (given, made) = digested::<v5::StreamedKomihash>(reader, most, 96);
-    assert!(rt; given == answer, "another answer after {made} reads");
+    assert!(rt; given == wanted, "another result after {made} reads");
     assert!(rt; made == reads, "{made} reads and not {reads}");
 }
 
 #[test]
 fn nothing_is_read_after_a_fault(rt: HostRuntime) {
+    let short = message::<16>();
+    let long = message::<95>();
     for call in 1..=15 {
-        let reader = FakeReader::new(&TO_SIX, 7, Calls::stopping(Stop::Fails, call));
+        let reader = FakeReader::new(&long, 7, Calls::stopping(Stop::Fails, call));
         digests_by(&rt, reader, 95, Err("read failed"), call);
     }
-    let reader = FakeReader::new(&TO_ZERO, 8, Calls::stopping(Stop::Fails, 2));
+    let reader = FakeReader::new(&short, 8, Calls::stopping(Stop::Fails, 2));
     digests_by(&rt, reader, 16, Err("read failed"), 2);
-    let reader = FakeReader::new(&TO_SIX, 7, Calls::stopping(Stop::Fails, 16));
-    digests_by(&rt, reader, 95, Ok(6), 15);
-    let reader = FakeReader::new(&TO_SIX, 7, Calls::endless());
+    let reader = FakeReader::new(&long, 7, Calls::stopping(Stop::Fails, 16));
+    digests_by(&rt, reader, 95, Ok(HASH_OF_95), 15);
+    let reader = FakeReader::new(&long, 7, Calls::endless());
     digests_by(&rt, reader, 20, Err("too long"), 3);
 }
 
 #[test]
-fn a_read_of_none_is_the_end(rt: HostRuntime) {
-    let reader = FakeReader::new(&TO_SIX, 64, Calls::stopping(Stop::MovesNone, 2));
-    digests_by(&rt, reader, 95, Ok(0x2a2f07ac93810128), 2);
+fn a_read_of_no_bytes_is_the_end(rt: HostRuntime) {
+    let message = message::<95>();
+    let reader = FakeReader::new(&message, 64, Calls::stopping(Stop::MovesNone, 2));
+    digests_by(&rt, reader, 95, Ok(HASH_OF_64), 2);
 }
 
-// The hash of bytes that come in pieces. After each piece the stream is saved, and another one is
-// resumed from its text. It is `None` where a text is not taken.
-fn digested_with_rests<S: KomiStream>(bytes: &[u8], size: usize) -> Option<u64>
+// Returns the hash of bytes that come in pieces. After each piece the stream is saved, and another
+// one is resumed from the saved text. Returns `None` if a saved text is refused.
+fn digested_with_saves<S: KomiStream>(bytes: &[u8], size: usize) -> Option<u64>
     requires { 0 < size }
 {
     let mut tally = Tally::new();
@@ -134,10 +140,11 @@ fn digested_with_rests<S: KomiStream>(bytes: &[u8], size: usize) -> Option<u64>
 }
 
 #[test]
-fn rests_change_nothing(rt: HostRuntime) {
+fn saving_changes_nothing(rt: HostRuntime) {
+    let message = message::<95>();
     for size in [1, 7, 63, 64, 95] {
-        let rested = digested_with_rests::<v5::StreamedKomihash>(&TO_SIX, size);
-        assert!(rt; rested == Some(6), "pieces of {size}");
-        digests(&rt, &TO_SIX, 96, 95, size, Ok(6));
+        let hash = digested_with_saves::<v5::StreamedKomihash>(&message, size);
+        assert!(rt; hash == Some(HASH_OF_95), "pieces of {size}");
+        digests(&rt, &message, 96, 95, size, Ok(HASH_OF_95));
     }
 }

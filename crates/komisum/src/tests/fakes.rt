@@ -1,16 +1,16 @@
-//! A reader and a writer that stop at a call that they are told.
+//! A reader and a writer that stop at a given call.
 
 ghost use Rattle.std.specs.Prelude.{◌≤◌};
 
 use std::io::{Error, ErrorKind, Read, Result, Write};
 
-/// The kind of the error of a call that fails oddly.
+/// The kind of the error that `Stop::FailsOddly` returns.
 pub const ODD: ErrorKind = ErrorKind::StaleNetworkFileHandle;
 
-/// What a call answers where it is told to stop.
+/// What the call returns at which a fake stops.
 #[derive(Drop)]
 pub enum Stop {
-    /// An error of the kind "interrupted", after which a caller might try again.
+    /// An error of the kind "interrupted", after which a caller might retry.
     Fails,
     /// An error of a kind that no other code here makes.
     FailsOddly,
@@ -18,7 +18,7 @@ pub enum Stop {
     MovesNone,
 }
 
-/// The call, from 1, at which a fake stops, and what it answers there.
+/// The call, from 1, at which a fake stops, and what it returns there.
 #[derive(Drop)]
 pub struct Calls {
     stop: Stop,
@@ -27,7 +27,7 @@ pub struct Calls {
 }
 
 impl Calls {
-    /// Stops at a call, from 1.
+    /// Stops at a call, counted from 1.
     pub fn stopping(stop: Stop, stops_at: usize) -> Self {
         Calls {
             stop,
@@ -41,7 +41,7 @@ impl Calls {
         Calls::stopping(Stop::Fails, 0)
     }
 
-    // One call more: whether it moves bytes.
+    // Counts a call. Returns whether it moves bytes.
     fn next(&mut self) -> Result<bool> {
         self.made = self.made.saturating_add(1);
         if self.made != self.stops_at {
@@ -55,7 +55,7 @@ impl Calls {
     }
 }
 
-/// A reader over bytes, a few a call.
+/// A reader that gives a few bytes a call.
 #[derive(Drop)]
 pub struct FakeReader<'a> {
     rest: &'a [u8],
@@ -65,7 +65,7 @@ pub struct FakeReader<'a> {
 }
 
 impl<'a> FakeReader<'a> {
-    /// A reader that gives at most `most` bytes a call.
+    /// Gives `bytes`, at most `most` a call.
     pub fn new(bytes: &'a [u8], most: usize, calls: Calls) -> Self {
         FakeReader {
             rest: bytes,
@@ -75,12 +75,12 @@ impl<'a> FakeReader<'a> {
         }
     }
 
-    /// The reads that it was asked for.
+    /// Returns the number of reads.
     pub fn reads(&self) -> usize {
         self.calls.made
     }
 
-    /// The bytes that each of its first four reads returned.
+    /// Returns how many bytes each of the first four reads gave.
     pub fn sizes(&self) -> [usize; 4] {
         self.sizes
     }
@@ -101,7 +101,7 @@ impl Read for FakeReader<'_> {
     }
 }
 
-/// A writer that holds the first bytes that it took, and takes a few a call. A flush is a call.
+/// A writer that accepts a few bytes a call, 64 in all, and holds them. A flush counts as a call.
 #[derive(Drop)]
 pub struct FakeWriter {
     held: [u8; 64],
@@ -112,7 +112,7 @@ pub struct FakeWriter {
 }
 
 impl FakeWriter {
-    /// A writer that takes at most `most` bytes a call.
+    /// Accepts at most `most` bytes a call.
     pub fn new(most: usize, calls: Calls) -> Self {
         FakeWriter {
             held: [0; 64],
@@ -122,12 +122,12 @@ impl FakeWriter {
         }
     }
 
-    /// The bytes that it took.
+    /// Returns the bytes that it accepted.
     pub fn taken(&self) -> &[u8] {
         &self.held[..self.count]
     }
 
-    /// The writes and flushes that it was asked for.
+    /// Returns the number of writes and flushes.
     pub fn calls(&self) -> usize {
         self.calls.made
     }

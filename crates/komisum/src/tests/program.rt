@@ -1,7 +1,7 @@
 //! The whole program, from an environment that a test makes to what is written.
 
 use super::fakes::{Calls, FakeReader, FakeWriter, Stop};
-use super::messages::TO_SEVEN;
+use super::messages::message;
 use crate::hex::hex_line;
 use crate::program::run;
 use crate::settings::settings_given;
@@ -11,20 +11,20 @@ use std::env::FillError;
 use std::process::Abort;
 use std::rt::Env;
 
-// An environment of these words, and no variables.
+// An environment of these arguments, and no variables.
 #[derive(Drop)]
-struct FakeWords<'a>(&'a [&'a [u8]]);
+struct FakeArguments<'a>(&'a [&'a [u8]]);
 
-impl Env for FakeWords<'_> {
+impl Env for FakeArguments<'_> {
     fn arg(&self, i: usize, buf: &mut [u8]) -> Result<usize, FillError> {
-        let Some(word) = self.0.get(i) else {
+        let Some(argument) = self.0.get(i) else {
             return Err(FillError::NotPresent);
         };
-        if word.len() > buf.len() {
+        if argument.len() > buf.len() {
             return Err(FillError::TooLong);
         }
-        buf[..word.len()].copy_from_slice(word);
-        Ok(word.len())
+        buf[..argument.len()].copy_from_slice(argument);
+        Ok(argument.len())
     }
 
     fn var(&self, _name: &str, _buf: &mut [u8]) -> Result<usize, FillError> {
@@ -36,16 +36,17 @@ impl Env for FakeWords<'_> {
     }
 }
 
-// What the program says at its end, how many reads it makes, and the writer that it leaves.
+// Runs the program over 31 bytes. Returns its message, how often it read, and the writer.
 fn ran(
     alloc: Global,
-    words: &[&[u8]],
+    arguments: &[&[u8]],
     calls: Calls,
     writer: FakeWriter,
 ) -> (&'static str, usize, FakeWriter) {
-    let mut reader = FakeReader::new(&TO_SEVEN, 7, calls);
+    let message = message::<31>();
+    let mut reader = FakeReader::new(&message, 7, calls);
     let mut writer = Watched::new(writer);
-    let host = (FakeWords(words), alloc);
+    let host = (FakeArguments(arguments), alloc);
     let ending = run(
         settings_given(&host),
         &mut Watched::new(&mut reader),
@@ -58,61 +59,62 @@ fn ran(
     )
 }
 
-// What it says, and what it writes.
+// Compares its message, and what it wrote.
 fn says(rt: &impl Abort, given: (&'static str, usize, FakeWriter), text: &str, taken: &[u8]) {
     let (said, _, writer) = given;
     assert!(rt; said == text, "{said} and not {text}");
     assert!(rt; writer.taken() == taken, "other bytes, and {text}");
 }
 
-// The words, with nothing that stops, and the line that they ask for.
-fn writes(rt: &impl Abort, alloc: Global, words: &[&[u8]], line: &[u8; 17]) {
+// Compares the line for these arguments, where nothing fails.
+fn writes(rt: &impl Abort, alloc: Global, arguments: &[&[u8]], line: &[u8; 17]) {
     let writer = FakeWriter::new(usize::MAX, Calls::endless());
-    says(rt, ran(alloc, words, Calls::endless(), writer), "ok", line);
+    let given = ran(alloc, arguments, Calls::endless(), writer);
+    says(rt, given, "ok", line);
+}
+
+// The lines of 31 bytes with seed 0.
+const LINE_OF_FOUR: &[u8; 17] = b"0f7df4052fe226f9\n";
+
+const LINE_OF_FIVE: &[u8; 17] = b"b185b58982d52180\n";
+
+#[test]
+fn lines_for_arguments(rt: HostRuntime) {
+    writes(&rt, rt.alloc(), &[b"komisum"], LINE_OF_FIVE);
+    writes(&rt, rt.alloc(), &[b"komisum", b"5", b"0"], LINE_OF_FIVE);
+    writes(&rt, rt.alloc(), &[b"komisum", b"4", b"0"], LINE_OF_FOUR);
+    writes(&rt, rt.alloc(), &[], LINE_OF_FIVE);
 }
 
 #[test]
-fn lines_for_words(rt: HostRuntime) {
-    let high = b"8000000000000000\n";
-    writes(&rt, rt.alloc(), &[b"komisum"], high);
-    writes(&rt, rt.alloc(), &[b"komisum", b"5", b"0"], high);
-    writes(
-        &rt,
-        rt.alloc(),
-        &[b"komisum", b"4", b"0"],
-        b"0000000000000007\n",
-    );
-    writes(&rt, rt.alloc(), &[], high);
-}
-
-#[test]
-fn a_name_that_is_not_utf8(rt: HostRuntime) {
+fn a_program_name_that_is_not_utf8(rt: HostRuntime) {
     let name = b"\xff".as_slice();
-    writes(&rt, rt.alloc(), &[name], b"8000000000000000\n");
-    writes(&rt, rt.alloc(), &[name, b"4", b"0"], b"0000000000000007\n");
+    writes(&rt, rt.alloc(), &[name], LINE_OF_FIVE);
+    writes(&rt, rt.alloc(), &[name, b"4", b"0"], LINE_OF_FOUR);
 }
 
 #[test]
-fn seeds_of_words(rt: HostRuntime) {
-    let four = hex_line(komihash::v4::komihash(&TO_SEVEN, 0x1f));
+fn seeds_of_arguments(rt: HostRuntime) {
+    let message = message::<31>();
+    let four = hex_line(komihash::v4::komihash(&message, 0x1f));
     writes(&rt, rt.alloc(), &[b"komisum", b"4", b"1f"], &four);
-    let five = hex_line(komihash::v5::komihash(&TO_SEVEN, 0x1f));
+    let five = hex_line(komihash::v5::komihash(&message, 0x1f));
     writes(&rt, rt.alloc(), &[b"komisum", b"5", b"1f"], &five);
-    let all = hex_line(komihash::v5::komihash(&TO_SEVEN, 0x123456789abcdef0));
+    let all = hex_line(komihash::v5::komihash(&message, 0x123456789abcdef0));
     let digits = b"123456789abcdef0";
     writes(&rt, rt.alloc(), &[b"komisum", b"5", digits], &all);
 }
 
-// Words that ask for nothing: nothing is read, and nothing written.
-fn refuses(rt: &impl Abort, alloc: Global, words: &[&[u8]]) {
+// Arguments that are wrong usage: nothing is read, and nothing written.
+fn refuses(rt: &impl Abort, alloc: Global, arguments: &[&[u8]]) {
     let writer = FakeWriter::new(usize::MAX, Calls::endless());
-    let (text, reads, writer) = ran(alloc, words, Calls::endless(), writer);
+    let (text, reads, writer) = ran(alloc, arguments, Calls::endless(), writer);
     assert!(rt; text == "usage: komisum [4|5 SEED]");
     assert!(rt; reads == 0 && writer.calls() == 0);
 }
 
 #[test]
-fn words_that_are_refused(rt: HostRuntime) {
+fn wrong_usage(rt: HostRuntime) {
     refuses(&rt, rt.alloc(), &[b"komisum", b"4"]);
     refuses(&rt, rt.alloc(), &[b"komisum", b"5", b"\xff"]);
     refuses(&rt, rt.alloc(), &[b"komisum", b"5", b"0", b"0"]);
@@ -132,5 +134,5 @@ fn faults(rt: HostRuntime) {
     assert!(rt; reads == 3 && writer.calls() == 0);
     let writer = FakeWriter::new(5, Calls::stopping(Stop::Fails, 2));
     let given = ran(rt.alloc(), &[b"komisum"], Calls::endless(), writer);
-    says(&rt, given, "write failed", b"80000");
+    says(&rt, given, "write failed", b"b185b");
 }

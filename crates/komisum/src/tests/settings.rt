@@ -1,4 +1,4 @@
-//! What words ask for.
+//! What arguments ask for.
 
 ghost use Rattle.std.specs.Prelude.{◌≤◌};
 
@@ -7,16 +7,16 @@ use komihash::Komirand;
 use std::process::Abort;
 use std::str;
 
-// The number of the version and the seed that words ask for.
-fn numbers(words: &[&str]) -> Option<(u8, u64)> {
-    match settings(words)? {
+// Returns the number of the version and the seed that arguments ask for.
+fn numbers(arguments: &[&str]) -> Option<(u8, u64)> {
+    match settings(arguments)? {
         (Version::Four, seed) => Some((4, seed)),
         (Version::Five, seed) => Some((5, seed)),
     }
 }
 
 #[test]
-fn words_that_ask(rt: HostRuntime) {
+fn versions_and_seeds(rt: HostRuntime) {
     assert_eq!(rt; numbers(&[]), Some((5, 0)));
     let asked = [
         (["4", "0"], (4, 0)),
@@ -24,13 +24,13 @@ fn words_that_ask(rt: HostRuntime) {
         (["4", "0000000000000001"], (4, 1)),
         (["5", "0123456789abcdef"], (5, 0x0123456789abcdef)),
     ];
-    for (words, wanted) in asked {
-        assert_eq!(rt; numbers(&words), Some(wanted));
+    for (arguments, wanted) in asked {
+        assert_eq!(rt; numbers(&arguments), Some(wanted));
     }
 }
 
 #[test]
-fn words_that_do_not_ask(rt: HostRuntime) {
+fn wrong_usage(rt: HostRuntime) {
     assert_eq!(rt; numbers(&["5"]), None);
     assert_eq!(rt; numbers(&["5", "0", "0"]), None);
     let refused = [
@@ -45,13 +45,13 @@ fn words_that_do_not_ask(rt: HostRuntime) {
         ["55", "0"],
         ["5", " 1"],
     ];
-    for words in refused {
-        assert_eq!(rt; numbers(&words), None);
+    for arguments in refused {
+        assert_eq!(rt; numbers(&arguments), None);
     }
 }
 
-// What two words ask for, as the rule says: `4` or `5` exactly, and the number that 1 to 16 of the
-// characters `0-9a-f` write.
+// Returns what two arguments ask for by the rule: `4` or `5` exactly, and 1 to 16 of the characters
+// `0-9a-f`.
 fn asked(version: &[u8], seed: &[u8]) -> Option<(u8, u64)> {
     let number = match version {
         b"4" => 4,
@@ -73,37 +73,37 @@ fn asked(version: &[u8], seed: &[u8]) -> Option<(u8, u64)> {
     Some((number, value))
 }
 
-// Up to 18 characters, of which most are digits.
-fn draw(random: &mut Komirand, word: &mut [u8; 18]) -> usize
+// Draws 18 characters, most of them digits. Returns how many of them to use.
+fn draw(random: &mut Komirand, characters: &mut [u8; 18]) -> usize
     ensures { result ≤ 18 }
 {
     for i in 0..18usize {
-        let characters = if random.next() % 40 == 0 {
+        let alphabet = if random.next() % 40 == 0 {
             b"gGAF x-+./:@`~\0_"
         } else {
             b"0123456789abcdef"
         };
-        word[i] = characters[(random.next() % 16) as usize];
+        characters[i] = alphabet[(random.next() % 16) as usize];
     }
     (random.next() % 19) as usize
 }
 
-// Two words ask for what the rule says.
+// Compares what two arguments ask for with the rule.
 fn agrees(rt: &impl Abort, version: &str, seed: &str) {
     let wanted = asked(version.as_bytes(), seed.as_bytes());
     assert_eq!(rt; numbers(&[version, seed]), wanted, "{version} {seed}");
 }
 
 #[test]
-fn random_words(rt: HostRuntime) {
+fn random_arguments(rt: HostRuntime) {
     let versions = ["4", "5", "4", "5", "", "6", "55", " 4"];
     let mut random = Komirand::init(20_261_122);
     for _ in 0..20_000usize {
         let version = versions[(random.next() % 8) as usize];
-        let mut word = [0; 18];
-        let length = draw(&mut random, &mut word);
-        let Ok(seed) = str::from_utf8(&word[..length]) else {
-            panic!(rt; "a word is not UTF-8");
+        let mut characters = [0; 18];
+        let length = draw(&mut random, &mut characters);
+        let Ok(seed) = str::from_utf8(&characters[..length]) else {
+            panic!(rt; "an argument is not UTF-8");
         };
         agrees(&rt, version, seed);
     }

@@ -1,9 +1,9 @@
-//! Lines of inputs, and what faults leave.
+//! Lines of inputs, and what a fault leaves.
 
 ghost use Rattle.std.specs.Prelude.{◌≤◌};
 
 use super::fakes::{Calls, FakeReader, FakeWriter, Stop};
-use super::messages::{TO_SEVEN, TO_SIX, TO_ZERO};
+use super::messages::message;
 use crate::ending::Fault;
 use crate::hex::hex_line;
 use crate::program::show;
@@ -13,18 +13,20 @@ use std::process::Abort;
 
 static ZEROS: [u8; 5000] = [0; 5000];
 
-// The line of the hash 0.
-const LINE_OF_ZERO: &[u8; 17] = b"0000000000000000\n";
+// Lines of messages with seed 0, by the Rust crate.
+const LINE_OF_16: &[u8; 17] = b"05d539f6f9c41083\n";
 
-// What a call's answer is called.
-fn name(answer: Result<(), Fault>) -> &'static str {
-    match answer {
+const LINE_OF_95: &[u8; 17] = b"33d5bc38d7199825\n";
+
+// Returns the message of a fault, or `ok`.
+fn name(shown: Result<(), Fault>) -> &'static str {
+    match shown {
         Ok(()) => "ok",
         Err(fault) => fault.text(),
     }
 }
 
-// What the call answers, and the reader and the writer that it leaves.
+// Calls `show`. Returns its fault or `ok`, the reader and the writer.
 fn shown<'a>(
     reader: FakeReader<'a>,
     writer: FakeWriter,
@@ -33,26 +35,26 @@ fn shown<'a>(
 ) -> (&'static str, FakeReader<'a>, FakeWriter) {
     let mut reader = Watched::new(reader);
     let mut writer = Watched::new(writer);
-    let answer = show(&mut reader, &mut writer, version, seed);
-    (name(answer), reader.into_inner(), writer.into_inner())
+    let result = show(&mut reader, &mut writer, version, seed);
+    (name(result), reader.into_inner(), writer.into_inner())
 }
 
-// The same over the whole of some bytes, with nothing that stops.
+// Shows the line of some bytes, where nothing fails.
 fn line_of(bytes: &[u8], version: Version, seed: u64) -> (&'static str, FakeWriter) {
     let reader = FakeReader::new(bytes, usize::MAX, Calls::endless());
     let writer = FakeWriter::new(usize::MAX, Calls::endless());
-    let (answer, _, writer) = shown(reader, writer, version, seed);
-    (answer, writer)
+    let (name, _, writer) = shown(reader, writer, version, seed);
+    (name, writer)
 }
 
-// The same in version 5 with seed 0, where the writer may stop.
+// Shows it in version 5 with seed 0, to a writer that may stop.
 fn written_by(bytes: &[u8], at_once: usize, calls: Calls) -> (&'static str, FakeWriter) {
     let reader = FakeReader::new(bytes, usize::MAX, Calls::endless());
-    let (answer, _, writer) = shown(reader, FakeWriter::new(at_once, calls), Version::Five, 0);
-    (answer, writer)
+    let (name, _, writer) = shown(reader, FakeWriter::new(at_once, calls), Version::Five, 0);
+    (name, writer)
 }
 
-// What a call leaves: the name of its answer, and of its writer the bytes taken and the calls made.
+// Compares the fault or `ok`, the bytes that the writer accepted, and the calls of it.
 fn leaves(
     rt: &impl Abort,
     left: (&'static str, FakeWriter),
@@ -69,7 +71,7 @@ fn leaves(
     );
 }
 
-// The line of some bytes is written whole and flushed.
+// Compares the line of some bytes, which is written in one call, and flushed.
 fn writes(rt: &impl Abort, bytes: &[u8], version: Version, seed: u64, line: &[u8; 17]) {
     leaves(rt, line_of(bytes, version, seed), "ok", line, 2);
 }
@@ -79,14 +81,26 @@ fn lines_of_version_five(rt: HostRuntime) {
     writes(&rt, b"a", Version::Five, 0, b"5117f5064cfd0faa\n");
     writes(&rt, b"", Version::Five, 0, b"b7683ea7430132b4\n");
     writes(&rt, b"", Version::Five, u64::MAX, b"4bcc041f3f885859\n");
-    writes(&rt, &TO_ZERO, Version::Five, 0, LINE_OF_ZERO);
-    writes(&rt, &TO_SIX, Version::Five, 0, b"0000000000000006\n");
-    writes(&rt, &TO_SEVEN, Version::Five, 0, b"8000000000000000\n");
+    writes(&rt, &message::<16>(), Version::Five, 0, LINE_OF_16);
+    writes(
+        &rt,
+        &message::<31>(),
+        Version::Five,
+        0,
+        b"b185b58982d52180\n",
+    );
+    writes(&rt, &message::<95>(), Version::Five, 0, LINE_OF_95);
 }
 
 #[test]
 fn line_of_version_four(rt: HostRuntime) {
-    writes(&rt, &TO_SEVEN, Version::Four, 0, b"0000000000000007\n");
+    writes(
+        &rt,
+        &message::<31>(),
+        Version::Four,
+        0,
+        b"0f7df4052fe226f9\n",
+    );
 }
 
 #[test]
@@ -98,7 +112,7 @@ fn lines_of_zeros(rt: HostRuntime) {
     }
 }
 
-// The reads of 5,000 bytes, from a reader that gives all that it is asked for.
+// A reader of 5,000 bytes gives as many as a read has room for.
 #[test]
 fn reads_of_a_chunk(rt: HostRuntime) {
     let reader = FakeReader::new(&ZEROS, usize::MAX, Calls::endless());
@@ -108,13 +122,13 @@ fn reads_of_a_chunk(rt: HostRuntime) {
     assert!(rt; reader.sizes() == [4096, 904, 0, 0]);
 }
 
-// Reads of seven bytes, of which one fails, and after which nothing more is read: the answer, the
-// reads that are made, and what is written.
+// Compares what `show` leaves, and how often it reads, where one of the reads of 7 bytes fails.
 fn read_at(rt: &impl Abort, call: usize, name: &str, reads: usize, taken: &[u8], calls: usize) {
-    let reader = FakeReader::new(&TO_SIX, 7, Calls::stopping(Stop::Fails, call));
+    let message = message::<95>();
+    let reader = FakeReader::new(&message, 7, Calls::stopping(Stop::Fails, call));
     let writer = FakeWriter::new(usize::MAX, Calls::endless());
-    let (answer, reader, writer) = shown(reader, writer, Version::Five, 0);
-    leaves(rt, (answer, writer), name, taken, calls);
+    let (given, reader, writer) = shown(reader, writer, Version::Five, 0);
+    leaves(rt, (given, writer), name, taken, calls);
     assert!(rt; reader.reads() == reads, "other reads than {reads}");
 }
 
@@ -123,25 +137,26 @@ fn reads_that_fail(rt: HostRuntime) {
     for call in 1..=15 {
         read_at(&rt, call, "read failed", call, b"", 0);
     }
-    read_at(&rt, 16, "ok", 15, b"0000000000000006\n", 2);
+    read_at(&rt, 16, "ok", 15, LINE_OF_95, 2);
 }
 
-// A line of zeros, of which so many bytes are taken at once, where a call stops: a write fails there.
+// Compares what is left where a call of the writer stops, which accepts `at_once` bytes a call.
 fn write_at(rt: &impl Abort, at_once: usize, stop: Stop, call: usize) {
     let before = 17.min(at_once.saturating_mul(call.saturating_sub(1)));
-    let left = written_by(&TO_ZERO, at_once, Calls::stopping(stop, call));
-    leaves(rt, left, "write failed", &LINE_OF_ZERO[..before], call);
+    let left = written_by(&message::<16>(), at_once, Calls::stopping(stop, call));
+    leaves(rt, left, "write failed", &LINE_OF_16[..before], call);
 }
 
-// Each write fails in turn, and then the flush; after them none is left to fail.
+// Each write fails in turn, and then the flush. No call comes after that.
 fn writes_at(rt: &impl Abort, at_once: usize, writes: usize)
     requires { writes ≤ 17 }
 {
     for call in 1..=writes + 1 {
         write_at(rt, at_once, Stop::Fails, call);
     }
-    let left = written_by(&TO_ZERO, at_once, Calls::stopping(Stop::Fails, writes + 2));
-    leaves(rt, left, "ok", LINE_OF_ZERO, writes + 1);
+    let calls = Calls::stopping(Stop::Fails, writes + 2);
+    let left = written_by(&message::<16>(), at_once, calls);
+    leaves(rt, left, "ok", LINE_OF_16, writes + 1);
 }
 
 #[test]
@@ -154,7 +169,7 @@ fn writes_that_fail(rt: HostRuntime) {
 }
 
 #[test]
-fn writes_of_none(rt: HostRuntime) {
+fn writes_that_accept_nothing(rt: HostRuntime) {
     for call in 1..=4usize {
         write_at(&rt, 5, Stop::MovesNone, call);
     }

@@ -1,33 +1,33 @@
 //! Calls through a watched reader or writer.
 
 use super::fakes::{Calls, FakeReader, FakeWriter, ODD, Stop};
-use super::messages::TO_ZERO;
+use super::messages::message;
 use crate::watched::Watched;
 use std::io::{ErrorKind, Read, Result, Write};
 use std::process::Abort;
 use std::result;
 
-// A call returns this, an error of this kind, and then one has failed or not.
-fn answers(
+// Compares what a call returned, by the kind of an error, and whether one has failed.
+fn returns(
     rt: &impl Abort,
     given: (Result<usize>, bool),
     wanted: result::Result<usize, ErrorKind>,
     failed: bool,
 ) {
-    let answer = given.0.map_err(|error| error.kind());
-    assert!(rt; answer == wanted, "another answer");
+    let result = given.0.map_err(|error| error.kind());
+    assert!(rt; result == wanted, "another result");
     assert!(rt; given.1 == failed, "failed or not");
 }
 
-// A read gives these bytes, and then the reader has failed or not.
+// Reads. Compares the bytes, and whether the reader has failed.
 fn reads(rt: &impl Abort, watched: &mut Watched<FakeReader<'_>>, wanted: &[u8], failed: bool) {
     let mut bytes = [0u8; 16];
-    let answer = watched.read(&mut bytes);
-    answers(rt, (answer, watched.failed()), Ok(wanted.len()), failed);
+    let result = watched.read(&mut bytes);
+    returns(rt, (result, watched.failed()), Ok(wanted.len()), failed);
     assert!(rt; bytes.starts_with(wanted), "other bytes read");
 }
 
-// A write answers this, and then the writer has failed or not.
+// Writes. Compares what that returned, and whether the writer has failed.
 fn writes(
     rt: &impl Abort,
     watched: &mut Watched<FakeWriter>,
@@ -35,29 +35,30 @@ fn writes(
     wanted: result::Result<usize, ErrorKind>,
     failed: bool,
 ) {
-    let answer = watched.write(bytes);
-    answers(rt, (answer, watched.failed()), wanted, failed);
+    let result = watched.write(bytes);
+    returns(rt, (result, watched.failed()), wanted, failed);
 }
 
-// A flush answers this, 0 where it does not fail, and then the writer has failed or not.
+// Flushes. Compares what that returned, 0 for `Ok`, and whether the writer has failed.
 fn flushes(
     rt: &impl Abort,
     watched: &mut Watched<FakeWriter>,
     wanted: result::Result<usize, ErrorKind>,
     failed: bool,
 ) {
-    let answer = watched.flush().map(|_| 0);
-    answers(rt, (answer, watched.failed()), wanted, failed);
+    let result = watched.flush().map(|_| 0);
+    returns(rt, (result, watched.failed()), wanted, failed);
 }
 
 #[test]
 fn reads_through(rt: HostRuntime) {
-    let reader = FakeReader::new(&TO_ZERO, 8, Calls::stopping(Stop::FailsOddly, 3));
+    let message = message::<16>();
+    let reader = FakeReader::new(&message, 8, Calls::stopping(Stop::FailsOddly, 3));
     let mut watched = Watched::new(reader);
-    reads(&rt, &mut watched, &TO_ZERO[..8], false);
-    reads(&rt, &mut watched, &TO_ZERO[8..], false);
-    let answer = watched.read(&mut [0u8; 16]);
-    answers(&rt, (answer, watched.failed()), Err(ODD), true);
+    reads(&rt, &mut watched, &message[..8], false);
+    reads(&rt, &mut watched, &message[8..], false);
+    let result = watched.read(&mut [0u8; 16]);
+    returns(&rt, (result, watched.failed()), Err(ODD), true);
     reads(&rt, &mut watched, b"", true);
     assert!(rt; watched.into_inner().reads() == 4);
 }
@@ -89,7 +90,7 @@ fn flushes_through(rt: HostRuntime) {
 }
 
 #[test]
-fn writes_of_none(rt: HostRuntime) {
+fn writes_that_accept_nothing(rt: HostRuntime) {
     let mut watched = Watched::new(FakeWriter::new(3, Calls::stopping(Stop::MovesNone, 2)));
     writes(&rt, &mut watched, b"", Ok(0), false);
     writes(&rt, &mut watched, b"1", Ok(0), true);

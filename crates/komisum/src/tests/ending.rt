@@ -1,4 +1,4 @@
-//! What the program says where something went wrong.
+//! Messages on standard error, and statuses.
 
 use super::fakes::{Calls, FakeWriter, Stop};
 use crate::ending::{Ending, Fault, Refusal};
@@ -7,13 +7,13 @@ use crate::watched::Watched;
 use std::process::Abort;
 
 #[test]
-fn texts_of_faults(rt: HostRuntime) {
+fn messages_of_faults(rt: HostRuntime) {
     assert_eq!(rt; Fault::Read.text(), "read failed");
     assert_eq!(rt; Fault::TooLong.text(), "too long");
     assert_eq!(rt; Fault::Write.text(), "write failed");
 }
 
-// The line of an ending on standard error, and its status.
+// Compares the line of an ending on standard error, and its status.
 fn reports(rt: &impl Abort, ending: Ending, line: &[u8], status: u8) {
     let mut errors = Watched::new(FakeWriter::new(7, Calls::endless()));
     report(&mut errors, &ending);
@@ -24,12 +24,12 @@ fn reports(rt: &impl Abort, ending: Ending, line: &[u8], status: u8) {
     assert!(rt; ending.status() == status, "another status than {status}");
 }
 
-// The line of a fault. All have the same status.
+// Compares the line of a fault. Each has status 1.
 fn fails(rt: &impl Abort, fault: Fault, line: &[u8]) {
     reports(rt, Ending::Failed(fault), line, 1);
 }
 
-// The line of a refusal, and its status.
+// Compares the line of a refusal, and its status.
 fn refuses(rt: &impl Abort, refusal: Refusal, line: &[u8], status: u8) {
     reports(rt, Ending::Refused(refusal), line, status);
 }
@@ -46,7 +46,7 @@ fn lines_and_statuses(rt: HostRuntime) {
 }
 
 #[test]
-fn a_line_that_cannot_be_written(rt: HostRuntime) {
+fn a_message_that_cannot_be_written(rt: HostRuntime) {
     let mut errors = Watched::new(FakeWriter::new(7, Calls::stopping(Stop::Fails, 3)));
     report(&mut errors, &Ending::Failed(Fault::TooLong));
     let writer = errors.into_inner();
