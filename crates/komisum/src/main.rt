@@ -1,4 +1,4 @@
-//! The hash of standard input, printed as a line on standard output.
+//! Prints the hash of standard input as a line on standard output.
 //!
 //! `komisum` prints the hash of version 5 with seed 0, and `komisum VERSION SEED` that of version
 //! `4` or `5` with a seed of 1 to 16 lower-case hexadecimal digits.
@@ -19,11 +19,11 @@ use std::io::BufReader;
 use std::process::ExitCode;
 use watched::Watched;
 
-// The bytes that are read ahead of the chunks of `show`: as many as a pipe holds.
-const AHEAD: usize = 1 << 16;
+// The bytes of the input's buffer: as many as a pipe holds.
+const BUFFER_LENGTH: usize = 1 << 16;
 
 fn main(rt: HostRuntime) -> ExitCode {
-    let ending = match BufReader::with_capacity(rt.alloc(), AHEAD, rt.stdin()) {
+    let ending = match BufReader::with_capacity(rt.alloc(), BUFFER_LENGTH, rt.stdin()) {
         Ok(input) => {
             let asked = settings::settings_given(&rt);
             let mut output = Watched::new(rt.stdout());

@@ -54,8 +54,10 @@ pub fn show<R: Read, W: Write>(
     flush(writer)
 }
 
-/// Shows the line of the version and the seed that the arguments ask for, or ends with the refusal
-/// that came of them.
+/// Shows the line for the version and the seed that the arguments ask for.
+///
+/// Returns `Shown`, or `Failed` with the fault that `show` returned. If the arguments were refused,
+/// returns `Refused` with that refusal, and neither reads nor writes.
 ///
 /// Neither side must have failed before.
 pub fn run<R: Read, W: Write>(

@@ -1,9 +1,9 @@
-//! What the program says where something went wrong.
+//! The program's message on standard error, and its status.
 
 ghost use Rattle.std.specs.Prelude.{◌≡◌, ◌↔◌, true, false, Some, OnOk, IfErr, IsErr};
 ghost use Rattle.std.specs.Io.KnownBytes.{Appends};
 ghost use Rattle.std.specs.Process.{exit_status};
-ghost use Rattle.komisum.specs.Ending.{said, text_of, status_of};
+ghost use Rattle.komisum.specs.Ending.{said, status_of, text_of};
 ghost use Rattle.komisum.specs.Watched.{AppendsPrefix};
 
 use crate::ending::{Ending, Fault};
@@ -11,11 +11,12 @@ use crate::watched::{Watched, write_whole};
 use std::io::Write;
 use std::process::ExitCode;
 
-// Writes what went wrong as a line.
+// Writes a line: the program's name, a message and a newline. Returns `Fault::Write` if a write
+// fails.
 fn write_message<W: Write>(errors: &mut Watched<W>, text: &str) -> Result<(), Fault>
     requires { errors.old.failed ≡ false }
-    ensures whole { OnOk result
-        (Appends (W.contents errors.old.inner) (W.contents errors.new.inner) (said (Some text.now))) }
+    ensures whole { OnOk result (Appends (W.contents errors.old.inner)
+        (W.contents errors.new.inner) (said (Some text.now))) }
     ensures begun { AppendsPrefix (W.contents errors.old.inner) (W.contents errors.new.inner)
         (said (Some text.now)) }
     ensures failed { IsErr result ↔ (errors.new.failed ≡ true) }
@@ -26,8 +27,10 @@ fn write_message<W: Write>(errors: &mut Watched<W>, text: &str) -> Result<(), Fa
     write_whole(errors, b"\n")
 }
 
-/// Writes what went wrong, if anything, as a line, and gives the status to end with. A fault in
-/// writing it changes nothing.
+/// Writes the message of an ending, if it has one, as a line. Returns the program's status, also if
+/// that line could not be written.
+///
+/// The writer must not have failed before.
 pub fn report<W: Write>(errors: &mut Watched<W>, ending: &Ending) -> ExitCode
     requires { errors.old.failed ≡ false }
     ensures status { exit_status result ≡ status_of ending.now }

@@ -1,8 +1,6 @@
 -- What the reader gave grows by what a read gives.
-use Rattle.std.proofs.Common.{◌≡◌, ◌↔◌, ℕ, ◌+◌, ◌≤◌, ◌<◌, false, Err, List, [], ◌++◌, take, length, arith, ap, ◌∙◌, length-append, length-take-le, refl, rules}
-use Rattle.std.proofs.KnownBytes.{Consumes-nil, Consumes-trans}
+use Rattle.std.proofs.Common.{◌≡◌, ◌↔◌, ℕ, ◌+◌, ◌≤◌, ◌<◌, false, Err, length, arith, refl, rules}
 use Rattle.std.specs.declared.result.Result.{Result}
-use Rattle.komihash.specs.Stream.{absorb}
 use Rattle.komisum.specs.declared.ending.Fault.{Fault}
 use Rattle.komisum.specs.declared.ending.Fault.TheVariants.{TooLong}
 use Rattle.komisum.proofs.KnownBytes.{takes_more}
