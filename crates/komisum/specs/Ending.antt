@@ -1,6 +1,7 @@
--- The program's message at its end, and its status.
-use Rattle.std.specs.Prelude.{ℕ, List, [], ◌∷◌, ◌++◌, codes, None, Some}
+-- How the program ends: its message, and its status.
+use Rattle.std.specs.Prelude.{ℕ, List, [], ◌∷◌, ◌++◌, codes, None, Some, Ok, Err}
 use Rattle.std.specs.declared.option.Option.{Option}
+use Rattle.std.specs.declared.result.Result.{Result}
 use Rattle.komisum.specs.declared.ending.Fault.{Fault}
 use Rattle.komisum.specs.declared.ending.Fault.TheVariants.{Read, TooLong, Write}
 use Rattle.komisum.specs.declared.ending.Refusal.{Refusal}
@@ -23,6 +24,11 @@ refusal_text Usage = codes "usage: komisum [4|5 SEED]"
 abbrev pub refusal_status : Refusal → ℕ
 refusal_status NoMemory = 1
 refusal_status Usage = 2
+
+-- the ending after `show`
+abbrev pub ending_of : {T : Type 0} → Result T Fault → Ending
+ending_of (Ok _) = Shown
+ending_of (Err fault) = Failed fault
 
 -- the message, if there is one
 abbrev pub text_of : Ending → Option (List ℕ)

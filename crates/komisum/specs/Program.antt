@@ -1,8 +1,6 @@
--- What the program writes and reads, and which fault it ends with.
-use Rattle.std.specs.Prelude.{◌≡◌, ◌↔◌, ℕ, ◌+◌, ◌^◌, ◌<◌, ◌≤◌, true, false, List}
-use Rattle.std.specs.Prelude.{Ok, Err, IfSome}
+-- What the program reads and writes, and when it ends with a fault.
+use Rattle.std.specs.Prelude.{◌≡◌, ◌↔◌, ℕ, ◌+◌, ◌^◌, ◌<◌, ◌≤◌, true, false, List, IfSome}
 use Rattle.std.specs.declared.option.Option.{Option}
-use Rattle.std.specs.declared.result.Result.{Result}
 use Rattle.std.specs.Io.KnownBytes.{Appends, IsAtEnd, Keeps}
 use Rattle.komihash.specs.Hash.{komi}
 use Rattle.komisum.specs.Hex.{line}
@@ -10,7 +8,6 @@ use Rattle.komisum.specs.Settings.{number_of}
 use Rattle.komisum.specs.Watched.{AppendsPrefix, Takes}
 use Rattle.komisum.specs.declared.ending.Ending.{Ending}
 use Rattle.komisum.specs.declared.ending.Ending.TheVariants.{Shown, Failed}
-use Rattle.komisum.specs.declared.ending.Fault.{Fault}
 use Rattle.komisum.specs.declared.ending.Fault.TheVariants.{Read, TooLong, Write}
 use Rattle.komisum.specs.declared.settings.Version.{Version}
 use Rattle.komisum.specs.declared.watched.Watched.{Watched}
@@ -37,11 +34,6 @@ abbrev pub AppendsLinePrefix : Version → ℕ → (message old new : Option (Li
 AppendsLinePrefix version seed message old new =
     IfSome message (λ bytes. AppendsPrefix old new (hash_line version seed bytes))
 
--- the program's ending after `show`
-abbrev pub ending_of : {T : Type 0} → Result T Fault → Ending
-ending_of (Ok _) = Shown
-ending_of (Err fault) = Failed fault
-
 -- each fault comes exactly where it is due
 pub record FaultsCome {R W : Type 0} (ending : Ending) (remaining : R → Option (List ℕ))
     (old new : Watched R) (writer : Watched W) : Type 0 where
@@ -59,6 +51,7 @@ pub record ReadsEnough {R : Type 0} (ending : Ending) (remaining : R → Option 
   pub read_bound : ending ≡ Failed Read → Takes remaining old new (λ taken. taken ≤ longest_input)
 
 -- nothing is written if a read fails or the input is too long
-pub record WritesNothing (ending : Ending) (old new : Option (List ℕ)) : Type 0 where
-  pub read : ending ≡ Failed Read → Keeps old new
-  pub too_long : ending ≡ Failed TooLong → Keeps old new
+pub record WritesNothing {W : Type 0} (ending : Ending) (contents : W → Option (List ℕ))
+    (old new : Watched W) : Type 0 where
+  pub read : ending ≡ Failed Read → Keeps (contents old.inner) (contents new.inner)
+  pub too_long : ending ≡ Failed TooLong → Keeps (contents old.inner) (contents new.inner)

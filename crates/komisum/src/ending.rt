@@ -1,7 +1,8 @@
 //! How the program ends: its message on standard error, and its status.
 
-ghost use Rattle.std.specs.Prelude.{◌≡◌, None, Some, MatchOption, MatchResult};
-ghost use Rattle.komisum.specs.Ending.{fault_text, refusal_text, refusal_status, text_of, status_of};
+ghost use Rattle.std.specs.Prelude.{◌≡◌, None, Some, MatchOption};
+ghost use Rattle.komisum.specs.Ending.{ending_of, fault_text, refusal_status, refusal_text};
+ghost use Rattle.komisum.specs.Ending.{status_of, text_of};
 
 /// Why no line was written, or only part of one.
 #[derive(Drop)]
@@ -72,7 +73,7 @@ pub enum Ending {
 impl Ending {
     /// Converts the result of `show`.
     pub fn of(shown: Result<(), Fault>) -> Self
-        ensures { MatchResult shown (λ _. result ≡ Ending.Shown) (λ fault. result ≡ Ending.Failed fault) }
+        ensures { result ≡ ending_of shown }
     {
         match shown {
             Ok(()) => Ending::Shown,

@@ -1,7 +1,8 @@
 //! The program, over any reader and writer.
 
 ghost use Rattle.std.specs.Prelude.{◌≡◌, false, OnOk, IfErr, IsOkAnd};
-ghost use Rattle.komisum.specs.Program.{AppendsLine, AppendsLinePrefix, ending_of};
+ghost use Rattle.komisum.specs.Ending.{ending_of};
+ghost use Rattle.komisum.specs.Program.{AppendsLine, AppendsLinePrefix};
 ghost use Rattle.komisum.specs.Program.{FaultsCome, ReadsEnough, WritesNothing};
 ghost use Rattle.komisum.specs.declared.ending.Refusal.{Refusal as ARefusal};
 
@@ -42,8 +43,7 @@ pub fn show<R: Read, W: Write>(
         (W.contents writer.old.inner) (W.contents writer.new.inner) }
     ensures faults { FaultsCome (ending_of result) R.remaining reader.old reader.new writer.new }
     ensures reads { ReadsEnough (ending_of result) R.remaining reader.old reader.new }
-    ensures unwritten { WritesNothing (ending_of result)
-        (W.contents writer.old.inner) (W.contents writer.new.inner) }
+    ensures unwritten { WritesNothing (ending_of result) W.contents writer.old writer.new }
 {
     let mut chunk = [0u8; CHUNK_LENGTH];
     let hash = match version {
@@ -77,8 +77,7 @@ pub fn run<R: Read, W: Write>(
         (W.contents writer.old.inner) (W.contents writer.new.inner)) }
     ensures faults { FaultsCome result R.remaining input.old input.new writer.new }
     ensures reads { ReadsEnough result R.remaining input.old input.new }
-    ensures unwritten { WritesNothing result
-        (W.contents writer.old.inner) (W.contents writer.new.inner) }
+    ensures unwritten { WritesNothing result W.contents writer.old writer.new }
 
     // A refusal is passed on, with nothing read and nothing written.
     ensures refused { IfErr asked (λ refusal. result ≡ Ending.Refused refusal) }
