@@ -1,6 +1,6 @@
 -- Numbers in hexadecimal digits, the highest digit first.
-use Rattle.std.specs.Prelude.{ℕ, ◌+◌, ◌-◌, ◌*◌, ◌/◌, ◌%◌, ◌^◌, List, [], ◌∷◌, ◌++◌, length, map}
-use Rattle.std.specs.Char.{digit_char, digit_value}
+use Rattle.std.specs.Prelude.{ℕ, ◌-◌, ◌/◌, ◌%◌, ◌^◌, List, [], ◌∷◌, ◌++◌, map}
+use Rattle.std.specs.Char.{digit_char}
 use Rattle.std.specs.List.{range_with_len}
 
 -- the digit of a number at an index from 0, the highest of sixteen, to 15
@@ -10,9 +10,3 @@ digit_at number index = digit_char (number / 16 ^ (15 - index) % 16)
 -- the line of a number: its sixteen digits and a newline
 unfoldable pub line : ℕ → List ℕ
 line number = map (digit_at number) (range_with_len 0 16) ++ 10 ∷ []
-
--- the number that digits write
-abbrev pub number_written : List ℕ → ℕ
-number_written [] = 0
-number_written (digit ∷ digits) =
-    digit_value digit * 16 ^ length digits + number_written digits

@@ -6,7 +6,7 @@ use Rattle.std.specs.List.{list_all}
 use Rattle.std.specs.declared.option.Option.{Option}
 use Rattle.std.specs.declared.result.Result.{Result}
 use Rattle.std.specs.Option.{ok_or}
-use Rattle.komisum.specs.Hex.{number_written}
+use Rattle.std.specs.Str.Parse.{digits_value}
 use Rattle.komisum.specs.declared.ending.Refusal.{Refusal}
 use Rattle.komisum.specs.declared.ending.Refusal.TheVariants.{Usage}
 use Rattle.komisum.specs.declared.settings.Version.{Version}
@@ -35,9 +35,9 @@ abbrev pub is_seed : List ℕ → Bool
 is_seed argument =
     nat_le 1 (length argument) && nat_le (length argument) 16 && list_all is_hex_digit argument
 
--- the seed that an argument asks for
+-- the seed that an argument asks for, its digits to base 16
 abbrev pub seed_of : List ℕ → Option ℕ
-seed_of argument = if is_seed argument then Some (number_written argument) else None
+seed_of argument = if is_seed argument then Some (digits_value 16 argument) else None
 
 -- both, where there are both
 abbrev pub both_of : Option Version → Option ℕ → Option (Version × ℕ)
