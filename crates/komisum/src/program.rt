@@ -23,9 +23,10 @@ const CHUNK_LENGTH: usize = 4096;
 /// Writes the line of the hash of all bytes that a reader has left: 16 hexadecimal digits and a
 /// newline. Then flushes.
 ///
-/// Accepts up to 2^40 bytes, reads up to 4,096 at once, and allocates nothing. Returns `Fault::Read`
-/// if a read returns an error, of any kind, `Fault::TooLong` if more bytes come, and `Fault::Write`
-/// if a write or the flush returns an error, or a write accepts no byte.
+/// Accepts up to 2^40 bytes, reads up to 4,096 at once, and allocates nothing.
+///
+/// Returns `Fault::Read` if a read returns an error, of any kind, `Fault::TooLong` if more bytes
+/// come, and `Fault::Write` if a write or the flush returns an error, or a write accepts no byte.
 ///
 /// Neither side must have failed before.
 pub fn show<R: Read, W: Write>(
@@ -81,7 +82,8 @@ pub fn run<R: Read, W: Write>(
 
     // A refusal is passed on, with nothing read and nothing written.
     ensures refused { IfErr asked (λ refusal. result ≡ Ending.Refused refusal) }
-    ensures accepted { (refusal : ARefusal) → result ≡ Ending.Refused refusal → asked ≡ Err refusal }
+    ensures accepted { (refusal : ARefusal) → result ≡ Ending.Refused refusal
+        → asked ≡ Err refusal }
     ensures untouched { (refusal : ARefusal) → result ≡ Ending.Refused refusal
         → (input.new ≡ input.old) × (writer.new ≡ writer.old) }
 {

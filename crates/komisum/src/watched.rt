@@ -31,7 +31,7 @@ impl<T> Watched<T> {
         }
     }
 
-    /// Returns whether a call has failed.
+    /// Returns whether a call has failed. Once true, this stays true.
     pub fn failed(&self) -> bool
         ensures { result ≡ self.now.failed }
     {

@@ -58,7 +58,7 @@ impl Calls {
 /// A reader that gives a few bytes a call.
 #[derive(Drop)]
 pub struct FakeReader<'a> {
-    rest: &'a [u8],
+    left: &'a [u8],
     most: usize,
     calls: Calls,
     sizes: [usize; 4],
@@ -68,7 +68,7 @@ impl<'a> FakeReader<'a> {
     /// Gives `bytes`, at most `most` a call.
     pub fn new(bytes: &'a [u8], most: usize, calls: Calls) -> Self {
         FakeReader {
-            rest: bytes,
+            left: bytes,
             most,
             calls,
             sizes: [0; 4],
@@ -91,9 +91,9 @@ impl Read for FakeReader<'_> {
         if !self.calls.next()? {
             return Ok(0);
         }
-        let count = self.most.min(self.rest.len()).min(buf.len());
-        buf[..count].copy_from_slice(&self.rest[..count]);
-        self.rest = &self.rest[count..];
+        let count = self.most.min(self.left.len()).min(buf.len());
+        buf[..count].copy_from_slice(&self.left[..count]);
+        self.left = &self.left[count..];
         if let Some(size) = self.sizes.get_mut(self.calls.made.saturating_sub(1)) {
             *size = count;
         }

@@ -1,26 +1,24 @@
--- A write of what is left takes the bytes that follow what is written.
-use Rattle.std.proofs.Common.{◌≡◌, ℕ, ◌+◌, ◌-◌, List, ◌++◌, take, drop, length, rules, arith, ap, sym, ◌∙◌, subst, length-drop, length-take-le, take_all}
+-- A write of what is left accepts the bytes that follow those written.
+use Rattle.std.proofs.Common.{◌≡◌, ℕ, ◌+◌, ◌-◌, List, ◌++◌, take, drop, length, rules, arith, ap, sym, ◌∙◌, subst, length-drop}
 use Rattle.std.proofs.Math.Seq.{take-add}
+use Rattle.std.proofs.lemmas.List.{take_rest}
 use Rattle.std.proofs.KnownBytes.{Appends-trans}
 use Rattle.std.specs.Io.KnownBytes.{Appends}
 use Rattle.komisum.proofs.watched.write_whole.Goals as goal
 
 -- the first bytes, and the first of what is left
 take_on : (i n : ℕ) (xs : List ℕ) → take i xs ++ take n (take (length xs - i) (drop i xs)) ≡ take (i + n) xs
-take_on i n xs =
-    ap (λ rest. take i xs ++ take n rest) (take_all (length xs - i) (drop i xs) (omega (arith, length-drop i xs)))
-    ∙ sym (take-add i n xs)
-
--- the length of what is left
-length-take_rest : (i : ℕ) (xs : List ℕ) → length (take (length xs - i) (drop i xs)) ≡ length xs - i
-length-take_rest i xs = length-take-le (length xs - i) (drop i xs) (omega (arith, length-drop i xs))
+take_on i n xs = ap (λ left. take i xs ++ take n left) (take_rest xs i) ∙ sym (take-add i n xs)
 
 pub loop-written-preserved : goal.loop-written-preserved
-loop-written-preserved g c = record {
-  within = omega (arith, length-take_rest c.loop-written.written c.args.bytes.now, c.in-Ok.ensures.bound);
-  bytes =
-      subst (Appends (g.W.Write.contents c.args.writer.now.inner) (g.W.Write.contents c.write.new.self.inner))
-      (take_on c.loop-written.written c.in-Ok.count c.args.bytes.now)
-      (Appends-trans _ _ _ _ _ c.loop-written.invariant.bytes c.in-Ok.ensures.bytes);
-  sound = search rules;
-}
+loop-written-preserved g c =
+    let bytes = c.args.bytes.now in
+    let i = c.loop-written.written in
+    record {
+      within = omega (arith, ap length (take_rest bytes i), length-drop i bytes, c.in-Ok.ensures.bound);
+      bytes =
+          subst (Appends (g.W.Write.contents c.args.writer.now.inner) (g.W.Write.contents c.write.new.self.inner))
+          (take_on i c.in-Ok.count bytes)
+          (Appends-trans _ _ _ _ _ c.loop-written.invariant.bytes c.in-Ok.ensures.bytes);
+      sound = search rules;
+    }
