@@ -7,7 +7,7 @@ use std::io::{Error, ErrorKind, Read, Result, Write};
 /// The kind of the error that `Stop::FailsOddly` returns.
 pub const ODD: ErrorKind = ErrorKind::StaleNetworkFileHandle;
 
-/// What the call returns at which a fake stops.
+/// What a fake returns at the call where it stops.
 #[derive(Drop)]
 pub enum Stop {
     /// An error of the kind "interrupted", after which a caller might retry.
@@ -18,7 +18,7 @@ pub enum Stop {
     MovesNone,
 }
 
-/// The call, from 1, at which a fake stops, and what it returns there.
+/// The call where a fake stops, counted from 1, and what it returns there.
 #[derive(Drop)]
 pub struct Calls {
     stop: Stop,
@@ -27,7 +27,7 @@ pub struct Calls {
 }
 
 impl Calls {
-    /// Stops at a call, counted from 1.
+    /// Stops at one call.
     pub fn stopping(stop: Stop, stops_at: usize) -> Self {
         Calls {
             stop,

@@ -47,14 +47,14 @@ fn line_of(bytes: &[u8], version: Version, seed: u64) -> (&'static str, FakeWrit
     (name, writer)
 }
 
-// Shows it in version 5 with seed 0, to a writer that may stop.
+// Shows it in version 5 with seed 0, to a writer that may stop at a call.
 fn written_by(bytes: &[u8], at_once: usize, calls: Calls) -> (&'static str, FakeWriter) {
     let reader = FakeReader::new(bytes, usize::MAX, Calls::endless());
     let (name, _, writer) = shown(reader, FakeWriter::new(at_once, calls), Version::Five, 0);
     (name, writer)
 }
 
-// Compares the fault or `ok`, the bytes that the writer accepted, and the calls of it.
+// Compares the fault or `ok`, the bytes that the writer accepted, and the number of its calls.
 fn leaves(
     rt: &impl Abort,
     left: (&'static str, FakeWriter),
@@ -140,7 +140,7 @@ fn reads_that_fail(rt: HostRuntime) {
     read_at(&rt, 16, "ok", 15, LINE_OF_95, 2);
 }
 
-// Compares what is left where a call of the writer stops, which accepts `at_once` bytes a call.
+// Compares what `show` leaves if the writer, which accepts `at_once` bytes a call, stops at one.
 fn write_at(rt: &impl Abort, at_once: usize, stop: Stop, call: usize) {
     let before = 17.min(at_once.saturating_mul(call.saturating_sub(1)));
     let left = written_by(&message::<16>(), at_once, Calls::stopping(stop, call));
