@@ -7,6 +7,7 @@ pub mod GeneratorFills
 pub mod Halves
 pub mod HashSteps
 pub mod LaneWords
+pub mod LawLemmas
 pub mod Lists
 pub mod PaddingBack
 pub mod PaddingWords

@@ -1,7 +1,10 @@
-//! Laws of the definitions. A function here makes no call: its contract is the law, which is proved
-//! for every message, seed and version at once.
+//! Laws of the definitions in `specs/`. Each function has an empty body: its contract states a law,
+//! which is proved for all messages, seeds and versions.
 
-ghost use Rattle.std.specs.Prelude.{◌≡◌, ℕ, ◌+◌, ◌%◌, ◌^◌, ◌<◌, bit_xor, List, [], ◌∷◌, ◌++◌, length};
+#![tactic(auto, using(crate::proofs::LawLemmas::laws))]
+
+ghost use Rattle.std.specs.Prelude.{◌≡◌, ℕ, ◌+◌, ◌%◌, ◌^◌, ◌<◌, bit_xor};
+ghost use Rattle.std.specs.Prelude.{List, [], ◌∷◌, ◌++◌, length};
 ghost use Rattle.komihash.specs.Calls.{AreAbsorbs, bytes_of_calls, run_products};
 ghost use Rattle.komihash.specs.Hasher.{number_after};
 ghost use Rattle.komihash.specs.Counts.{hash_products};
@@ -15,38 +18,42 @@ ghost use Rattle.komihash.specs.Words.{AreBytes};
 ghost use Rattle.komihash.specs.declared.stream.Call.{Call};
 ghost use Rattle.komihash.specs.declared.stream.Call.TheVariants.{Answer};
 
-/// A seed can be told from its two words before the first product, so no two seeds share them.
+/// Proves that the two words that a seed is made into give the seed back, so no two seeds share
+/// both of their words.
 pub fn seed_back()
     ensures { (seed : ℕ) → seed < 2 ^ 64 →
-        bit_xor (bit_xor (seed_words seed).0 (constant 1)) (bit_xor (seed_words seed).1 (constant 5)) ≡ seed }
+        bit_xor (bit_xor (seed_words seed).0 (constant 1)) (bit_xor (seed_words seed).1 (constant 5))
+        ≡ seed }
 {}
 
-/// A message may be cut anywhere: from every state, to absorb it is to absorb its parts in order.
+/// Proves that a message can be cut anywhere: from every state, absorbing it leads to the same state
+/// as absorbing its parts in order.
 pub fn cut()
     ensures { (v : ℕ) (s : State) (x y : List ℕ) → absorb v s (x ++ y) ≡ absorb v (absorb v s x) y }
 {}
 
-/// What a new stream answers after a message is the hash of that message.
+/// Proves that a new stream that absorbs a message answers with the hash of that message.
 pub fn joined()
     ensures { (v seed : ℕ) (m : List ℕ) → answer v (absorb v (start seed) m) ≡ komi v seed m }
 {}
 
-/// To absorb no bytes changes nothing, in any state. A chain counts a write of no bytes: its next
-/// number is the hash of no bytes.
+/// Proves that absorbing no bytes changes no state of a stream, and that a hasher's number after a
+/// write of no bytes is the hash of no bytes, with the number before as the seed.
 pub fn empty_write()
     ensures stream { (v : ℕ) (s : State) → absorb v s [] ≡ s }
     ensures chain { (v number : ℕ) (writes : List (List ℕ)) →
         number_after v number ([] ∷ writes) ≡ number_after v (komi v number []) writes }
 {}
 
-/// However n bytes are cut, a run that absorbs them and answers once at the end takes 3 products, 4
-/// for each whole block, and 1 for each 16 bytes after the blocks.
+/// Proves that absorbing n bytes in any pieces and answering once at the end costs as many products
+/// as hashing them at once: 3, 4 for each whole block, and 1 for each 16 bytes after the blocks.
 pub fn cost_of_pieces()
     ensures { (pieces : List Call) → AreAbsorbs pieces →
         run_products (pieces ++ Answer ∷ []) ≡ hash_products (length (bytes_of_calls pieces)) }
 {}
 
-/// A fill of x and then of y bytes is one fill of x + y bytes, where x is a multiple of 8.
+/// Proves that a fill of x bytes and then one of y bytes write what one fill of x + y bytes writes,
+/// and leave the same pair, if x is a multiple of 8.
 pub fn fill_cut()
     ensures bytes { (v : ℕ) (s : ℕ × ℕ) (x y : ℕ) → x % 8 ≡ 0 →
         fill v s (x + y) ≡ fill v s x ++ fill v (after_fill v s x) y }
@@ -54,8 +61,8 @@ pub fn fill_cut()
         after_fill v s (x + y) ≡ after_fill v (after_fill v s x) y }
 {}
 
-/// From one seed as both numbers, a fill of 32 + n bytes is 32 bytes and then the fill of n bytes
-/// from the pair after four steps, which `init` begins with. Both end in the same pair.
+/// Proves that from one seed as both numbers, a fill of 32 + n bytes writes 32 bytes, and then what
+/// a fill of n bytes writes after the four steps that `init` takes. Both leave the same pair.
 pub fn one_seed()
     ensures length { (v seed : ℕ) → length (fill v (seed, seed) 32) ≡ 32 }
     ensures bytes { (v seed n : ℕ) → fill v (seed, seed) (32 + n)
@@ -64,13 +71,17 @@ pub fn one_seed()
         ≡ after_fill v (after_steps v 4 (seed, seed)) n }
 {}
 
-/// Padding loses nothing: two messages with the same padded words in one version are the same.
+/// Proves that padding loses nothing: messages with the same padded words in one version are equal.
 pub fn same_words()
-    ensures { (v : ℕ) (x y : List ℕ) → AreBytes x → AreBytes y → padded_words v x ≡ padded_words v y → x ≡ y }
+    ensures { (v : ℕ) (x y : List ℕ) → AreBytes x → AreBytes y →
+        padded_words v x ≡ padded_words v y → x ≡ y }
 {}
 
-/// A saved stream can only be one: two states never share a text, not even states of both versions.
+/// Proves that a saved text has one state and one version: no two states share a text, not even
+/// states of different versions.
 pub fn saved_once()
-    ensures version { (v w : ℕ) (s t : State) → IsState v s → IsState w t → text v s ≡ text w t → v ≡ w }
-    ensures state { (v w : ℕ) (s t : State) → IsState v s → IsState w t → text v s ≡ text w t → s ≡ t }
+    ensures version { (v w : ℕ) (s t : State) → IsState v s → IsState w t →
+        text v s ≡ text w t → v ≡ w }
+    ensures state { (v w : ℕ) (s t : State) → IsState v s → IsState w t →
+        text v s ≡ text w t → s ≡ t }
 {}
