@@ -6,7 +6,7 @@ use Rattle.komihash.specs.Stream.{State, absorb, answer}
 use Rattle.komihash.specs.declared.stream.Call.{Call}
 use Rattle.komihash.specs.declared.stream.Call.TheVariants.{Absorb, Answer}
 
--- for each Answer in order, f of the bytes m and those that the calls before it absorb, joined
+-- for each Answer in order, f of the bytes m followed by those that the calls before it absorb
 abbrev pub answers_after : (List ℕ → ℕ) → List ℕ → List Call → List ℕ
 answers_after f m [] = []
 answers_after f m (Absorb bytes ∷ calls) = answers_after f (m ++ bytes.now) calls
@@ -16,7 +16,7 @@ answers_after f m (Answer ∷ calls) = f m ∷ answers_after f m calls
 abbrev pub answers : ℕ → ℕ → List Call → List ℕ
 answers v seed calls = answers_after (komi v seed) [] calls
 
--- the answers of a stream from a state onward
+-- the answers of a stream in state s
 abbrev pub onward : ℕ → State → List Call → List ℕ
 onward v s calls = answers_after (λ m. answer v (absorb v s m)) [] calls
 
@@ -38,9 +38,11 @@ products_of_answers n [] = 0
 products_of_answers n (Absorb bytes ∷ calls) = products_of_answers (n + length bytes.now) calls
 products_of_answers n (Answer ∷ calls) = answer_products (n % 64) + products_of_answers n calls
 
--- the products of calls where p bytes are pending: four a block of all bytes, and those of the answers
+-- the products of calls where p bytes are pending: four for each block of all bytes, and those of
+-- the answers
 abbrev pub onward_products : ℕ → List Call → ℕ
-onward_products p calls = 4 * ((p + length (bytes_of_calls calls)) / 64) + products_of_answers p calls
+onward_products p calls =
+    4 * ((p + length (bytes_of_calls calls)) / 64) + products_of_answers p calls
 
 -- the bytes that calls put into the buffer, where n bytes came before the first
 abbrev pub onward_kept : ℕ → List Call → ℕ

@@ -103,6 +103,7 @@ pub enum Call<'a> {
 /// `out` needs room for one `u64` for each call. Its words after the answers stay as they are. The
 /// stream has absorbed all bytes then, and may go on. If it had absorbed a message from a seed on,
 /// each answer is the hash of that message and of the bytes since, joined.
+#[tactic(auto, using(crate::proofs::CallLists::runs))]
 pub fn run_on<S: KomiStream>(
     stream: &mut S,
     calls: &[Call<'_>],

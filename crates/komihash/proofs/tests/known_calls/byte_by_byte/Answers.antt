@@ -1,11 +1,15 @@
-use Rattle.std.proofs.Common.{◌≡◌, ◌+◌, ◌-◌, ◌%◌, ◌∷◌, take, drop, length, ap, ◌∙◌, arith}
+use Rattle.std.proofs.Common.{◌≡◌, ℕ, ◌+◌, ◌-◌, ◌%◌, ◌<◌, ◌∷◌, take, drop, length, ap, ◌∙◌, arith}
 use Rattle.std.proofs.Math.ListN.{length-set}
+use Rattle.std.proofs.lemmas.Bool.Decides.{nat_tests}
 use Rattle.std.proofs.lemmas.List.{drop-set, length-append, length-drop, length-take-le}
 use Rattle.komihash.specs.Calls.{bytes_of_calls, products_of_answers, onward_kept}
 use Rattle.komihash.specs.Counts.{kept_bytes}
 use Rattle.komihash.specs.declared.stream.Call.{Call}
-use Rattle.komihash.proofs.CallLists.{kept_bytes-one}
 use Rattle.komihash.proofs.tests.known_calls.byte_by_byte.Goals as goal
+
+-- one byte is always kept
+kept_bytes-one : (p : ℕ) → p < 64 → kept_bytes p 1 ≡ 1
+kept_bytes-one p few = grind (arith, nat_tests)
 
 pub loop-i-preserved : goal.loop-i-preserved
 loop-i-preserved c =

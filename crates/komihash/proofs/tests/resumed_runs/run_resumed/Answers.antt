@@ -1,9 +1,24 @@
-use Rattle.std.proofs.Common.{◌≡◌, ◌+◌, ◌-◌, ◌%◌, ◌∙◌, ◌++◌, [], length, take, drop, sym, ap, arith}
+use Rattle.std.proofs.Common.{◌≡◌, ℕ, ◌+◌, ◌-◌, ◌≤◌, ◌∙◌, List, [], ◌∷◌, ◌++◌, length, take, drop, sym, ap, arith}
 use Rattle.std.proofs.lemmas.List.{drop-drop, length-drop, length-take-le, take-append-drop}
-use Rattle.komihash.specs.Calls.{bytes_of_calls, onward_products, onward_kept}
+use Rattle.komihash.specs.Calls.{answers_after, bytes_of_calls, onward_products, onward_kept}
 use Rattle.komihash.specs.Stream.{absorb, answer}
-use Rattle.komihash.proofs.CallLists.{pending-absorb, onward_products-cut, onward_kept-cut, length-answers_after, counted}
+use Rattle.komihash.specs.declared.stream.Call.{Call}
+use Rattle.komihash.specs.declared.stream.Call.TheVariants.{Absorb, Answer}
+use Rattle.komihash.proofs.CallLists.{goes_on}
 use Rattle.komihash.proofs.tests.resumed_runs.run_resumed.Goals as goal
+
+-- there are no more answers than calls
+length-answers_after : (f : List ℕ → ℕ) (m : List ℕ) (calls : List Call)
+    → length (answers_after f m calls) ≤ length calls
+length-answers_after f m [] = omega arith
+length-answers_after f m (Absorb bytes ∷ calls) =
+    omega (arith, length-answers_after f (m ++ bytes.now) calls)
+length-answers_after f m (Answer ∷ calls) = omega (arith, length-answers_after f m calls)
+
+-- where the remaining cost completes it, so it does after a step
+counted : (before after first here remaining left all : ℕ) → after ≡ before + here
+    → left ≡ here + remaining → before + left ≡ first + all → after + remaining ≡ first + all
+counted before after first here remaining left all step split so_far = omega arith
 
 pub loop-i-preserved : goal.loop-i-preserved
 loop-i-preserved g c =
@@ -24,14 +39,12 @@ loop-i-preserved g c =
     sym (take-append-drop (i + 1 - i) (drop i calls))
     ∙ ap (λ xs. piece ++ xs) (drop-drop (i + 1 - i) i calls ∙ ap (λ n. drop n calls) up) in
     let fill = length before.pending in
-    let next_fill = length after.pending in
     let few = (g.met.S.KomiStream.is_state c.loop-i.stream).few in
-    let pending : next_fill ≡ (fill + length (bytes_of_calls piece)) % 64 =
-    ap (λ s. length s.pending) (c.save_and_resume.ensures.state ∙ run.ensures.state)
-    ∙ pending-absorb v before (bytes_of_calls piece) few in
-    let products =
-    ap (onward_products fill) left ∙ onward_products-cut fill next_fill piece rest pending in
-    let kept = ap (onward_kept fill) left ∙ onward_kept-cut fill next_fill piece rest pending in
+    let state : after ≡ absorb v before (bytes_of_calls piece) =
+    c.save_and_resume.ensures.state ∙ run.ensures.state in
+    let more = goes_on v before after piece rest few state in
+    let products = ap (onward_products fill) left ∙ more.products in
+    let kept = ap (onward_kept fill) left ∙ more.kept in
     let answers = length-answers_after (λ m. answer v (absorb v before m)) [] piece in
     record {
       count = omega (arith, so_far.count, run.ensures.count, answers);
