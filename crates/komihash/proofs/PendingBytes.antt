@@ -171,20 +171,9 @@ module _ (ws : List ℕ) (fill : ℕ) (are : ArePending ws fill) where
   pub last_fits : (i : ℕ) → i + 1 ≡ fill → Fits w8 (get_or ws (i / 8) 0 / 2 ^ (8 * (i % 8)))
   last_fits i e = rw (last_pending i e) record { fits = AreBytes_pending ws fill i }
 
--- what the functions on pending bytes are proved by
-pub ruleset pending_laws = (
-  take_all_bytes,
-  pending_bytes_none,
-  ArePending_none,
-  length_pending,
-  bytes_put,
-  ArePending_put,
-  words_put,
-  join_pending,
-  extend-set,
-  count_pending,
-  word_pending,
-  final_word_pending,
-  last_pending,
-  last_fits,
-)
+-- what the functions that append, those that read, and all functions on pending bytes are proved by
+pub ruleset put_laws = (length_pending, bytes_put, ArePending_put, words_put, join_pending, extend-set)
+
+pub ruleset read_laws = (count_pending, word_pending, final_word_pending, last_pending, last_fits)
+
+pub ruleset pending_laws = (put_laws, read_laws, take_all_bytes, pending_bytes_none, ArePending_none)
