@@ -3,6 +3,7 @@
 
   callers      the Rust blocks of CALLING.md are the callers of crates/komisum/src/tests/callers.rt, whole and
                in order, and README's block is one of them
+  items        CALLING.md lists every public function, by file, and each clause that it shows stands in that file
   definitions  docs/DEFINITIONS.md names every public definition of specs/
   names        each name in docs/DEFINITIONS.md stands in specs/, proofs/ or src/
   files_named  each file that a document names is there
@@ -22,6 +23,7 @@ from rules import SOURCE, imports_of, without_comments
 SCRIPTS = Path(__file__).resolve().parent
 TOP = SCRIPTS.parent
 CALLERS = "crates/komisum/src/tests/callers.rt"
+SOURCES = "crates/komihash/src/"
 DEFINITIONS = "docs/DEFINITIONS.md"
 ARCHITECTURE = "docs/ARCHITECTURE.md"
 
@@ -57,6 +59,13 @@ def code_spans(text):
     return re.findall(r"`([^`\n]+)`", re.sub(r"```.*?```", "", text, flags=re.DOTALL))
 
 
+def public_functions(text):
+    """The names of a source's public functions, and of those of its public traits."""
+    traits = re.findall(r"^pub trait .*?^}", text, re.DOTALL | re.MULTILINE)
+    required = re.findall(r"^    fn (\w+)", "".join(traits), re.MULTILINE)
+    return required + re.findall(r"^ *pub fn (\w+)", text, re.MULTILINE)
+
+
 class Documents:
     """The files, and what each rule finds in them."""
 
@@ -73,6 +82,24 @@ class Documents:
         blocks = rust_blocks(self.files["README.md"])
         if not blocks or any(block not in callers for block in blocks):
             yield f"README.md: its Rust block is no caller of {CALLERS}"
+
+    def items(self):
+        shown = re.search(r"^## Items\n.*?```text\n(.*?)```", self.files["CALLING.md"], re.DOTALL | re.MULTILINE)
+        sections = {
+            f"{SOURCES}{file}": section
+            for section in (shown[1] if shown else "").split("\n\n")
+            for file in re.findall(r"[\w/]+\.rt", section.partition("\n")[0])
+        }
+        for file, text in self.texts(SOURCES + r"(?!tests/).*\.rt").items():
+            section = sections.get(file, "")
+            for name in public_functions(text):
+                if not re.search(rf"\b{name}\b", section):
+                    yield f"CALLING.md: {name} of {file} is not under Items"
+            version = re.search(r"/v(\d+)\.rt", file)
+            contracts = " ".join(text.split())
+            for formula in re.findall(r"(?: {2}|; )([^;\n]* [≡→] [^;\n]*)", section):
+                if (re.sub(r"\bV\b", version[1], formula) if version else formula).strip() not in contracts:
+                    yield f"CALLING.md: {file} does not say {formula.strip()}"
 
     def definitions(self):
         named = {name for span in code_spans(self.files[DEFINITIONS]) for name in re.findall(r"[\w-]+", span)}
@@ -132,6 +159,7 @@ class Documents:
 
 RULES = (
     Documents.callers,
+    Documents.items,
     Documents.definitions,
     Documents.names,
     Documents.files_named,
