@@ -3,7 +3,6 @@ use Rattle.std.proofs.Common.{◌≡◌, ℕ, zero, suc, ◌+◌, ◌/◌, ◌<�
 use Rattle.std.proofs.Common.{◌∷◌, ◌++◌, length, take, drop, refl, ap, arith, ◌∙◌, sym}
 use Rattle.std.proofs.Common.{append_assoc, length-append, length-drop}
 use native.Mathlib.Numerals.{unary_clauses}
-use Rattle.std.proofs.lemmas.Bool.Decides.{nat_tests}
 use Rattle.std.proofs.lemmas.List.{length-take-le, take-append-drop}
 use Rattle.std.specs.Prelude.{slice_index}
 use Rattle.komihash.specs.Rounds.{Lanes, lanes, seed_pair, block_round, pair_round, join, closing}
@@ -114,6 +113,6 @@ komi_empty v seed [] e = komi_few v seed [] (omega arith)
 komi_empty v seed (b ∷ m) e = absurd (omega arith)
 
 -- what `hash.rt` needs, for short messages and for long ones
-pub ruleset short_hash = (komi_short, komi_two, komi_few, komi_empty, length-whole_words, nat_tests)
+pub ruleset short_hash = (komi_short, komi_two, komi_few)
 
 pub ruleset long_hash = (komi_long, words_after_blocks)
