@@ -46,6 +46,7 @@ fn in_order(lanes: &[u64; 8]) -> [u64; 8]
 
 // Returns the halves that a stream keeps, from the lanes in their order.
 #[inline(always)]
+#[tactic(auto, using(crate::proofs::SavedTexts::lanes_back))]
 fn halves(lanes: &[u64; 8]) -> [u64; 8]
     ensures { in_order (lanes_in result) ≡ lanes.now }
 {

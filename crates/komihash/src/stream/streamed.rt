@@ -165,6 +165,7 @@ impl<const V: u8> StreamedKomihash<V> {
     /// `out` needs room for `LONGEST_TEXT` bytes, whatever is pending. What is after the text stays
     /// as it is. `resume` makes the same stream of the text, also in another process.
     #[inline]
+    #[tactic(auto, using(crate::proofs::SavedTexts::saves), unfolding(crate::specs::Saved::text))]
     pub fn save(&self, out: &mut [u8]) -> usize
         requires { LONGEST_TEXT ≤ length out.old }
         ensures length { result ≡ length (text V self.now.state) }
