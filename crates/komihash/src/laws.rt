@@ -21,13 +21,12 @@ ghost use Rattle.komihash.specs.declared.stream.Call.TheVariants.{Answer};
 /// Proves that the two words that a seed is made into give the seed back, so no two seeds share
 /// both of their words.
 pub fn seed_back()
-    ensures { (seed : ℕ) → seed < 2 ^ 64 →
-        bit_xor (bit_xor (seed_words seed).0 (constant 1)) (bit_xor (seed_words seed).1 (constant 5))
-        ≡ seed }
+    ensures { (seed : ℕ) → seed < 2 ^ 64 → bit_xor (bit_xor (seed_words seed).0 (constant 1))
+        (bit_xor (seed_words seed).1 (constant 5)) ≡ seed }
 {}
 
-/// Proves that a message can be cut anywhere: from every state, absorbing it leads to the same state
-/// as absorbing its parts in order.
+/// Proves that a message can be cut anywhere: from every state, absorbing it leads to the same
+/// state as absorbing its parts in order.
 pub fn cut()
     ensures { (v : ℕ) (s : State) (x y : List ℕ) → absorb v s (x ++ y) ≡ absorb v (absorb v s x) y }
 {}

@@ -7,7 +7,7 @@ use super::assertions::{same_bytes, same_count, same_length, same_words};
 use super::stream::{finishes, hash};
 use crate::padding::{pad, unpad};
 use crate::stream::streamed::StreamedKomihash;
-use crate::stream::{Call, KomiStream, run};
+use crate::stream::{Call, KomiStream, LONGEST_TEXT, run};
 use crate::tally::Tally;
 use crate::{Komirand, v4, v5};
 use std::process::Abort;
@@ -58,7 +58,7 @@ fn next_end(random: &mut Komirand, from: usize) -> usize
 
 // Saves a stream, and returns the one that is resumed from its text.
 fn resumed<const V: u8>(rt: &impl Abort, stream: &StreamedKomihash<V>) -> StreamedKomihash<V> {
-    let mut text = [0; 131];
+    let mut text = [0; LONGEST_TEXT];
     let length = stream.save(&mut text);
     let Some(resumed) = StreamedKomihash::resume(&text[..length]) else {
         panic!(rt; "no stream of a saved text");

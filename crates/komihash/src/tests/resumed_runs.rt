@@ -7,7 +7,7 @@ use super::assertions::{same, same_bytes, same_count, same_length, same_words};
 use super::known_calls::{CUT_ANSWERS, at_cuts, byte_by_byte};
 use super::known_messages::block_message;
 use super::known_texts::{lanes_after_block, new_text, text_of_zeros};
-use crate::stream::{Call, KomiStream, run_on};
+use crate::stream::{Call, KomiStream, LONGEST_TEXT, run_on};
 use crate::tally::Tally;
 use crate::{v4, v5};
 
@@ -16,7 +16,7 @@ fn save_and_resume<S: KomiStream>(stream: &mut S) -> bool
     ensures resumed { IsTrue result }
     ensures state { S.state stream.new ≡ S.state stream.old }
 {
-    let mut text = [0; 131];
+    let mut text = [0; LONGEST_TEXT];
     let end = stream.store(&mut text);
     match S::restore(&text[..end]) {
         Some(resumed) => {
@@ -47,7 +47,7 @@ fn run_resumed<S: KomiStream>(calls: &[Call<'_>], out: &mut [u64], tally: &mut T
 fn cuts_cost<S: KomiStream>(
     message: &[u8; 95],
     out: &mut [u64; 9],
-    text: &mut [u8; 131],
+    text: &mut [u8; LONGEST_TEXT],
     tally: &mut Tally,
 ) -> (usize, usize)
     ensures products { tally.new.products ≡ tally.old.products + 16 }
@@ -68,7 +68,7 @@ fn bytes_cost<S: KomiStream>(message: &[u8; 95], out: &mut [u64; 96], tally: &mu
 // Makes no calls on a new stream, and then saves it.
 fn nothing_costs<S: KomiStream>(
     out: &mut [u64; 2],
-    text: &mut [u8; 131],
+    text: &mut [u8; LONGEST_TEXT],
     tally: &mut Tally,
 ) -> (usize, usize)
     ensures products { tally.new.products ≡ tally.old.products + 1 }
@@ -96,7 +96,7 @@ fn answer_costs<S: KomiStream>(
 fn saving_and_resuming_changes_nothing(rt: HostRuntime) {
     let mut tally = Tally::new();
     let mut out = [9; 9];
-    let mut text = [0; 131];
+    let mut text = [0; LONGEST_TEXT];
     let message = block_message(5);
     let (count, end) = cuts_cost::<v5::StreamedKomihash>(&message, &mut out, &mut text, &mut tally);
     same_count(&rt, count, 5, 0);

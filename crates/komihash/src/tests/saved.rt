@@ -6,8 +6,8 @@ use super::assertions::{same, same_bytes, same_count};
 use super::known_messages::{block_message, pattern};
 use super::known_texts::{LANES, lanes_after_block, new_text, text_of, text_of_zeros};
 use super::stream::answers;
-use crate::stream::KomiStream;
 use crate::stream::streamed::StreamedKomihash;
+use crate::stream::{KomiStream, LONGEST_TEXT};
 use crate::tally::Tally;
 use crate::{v4, v5};
 use std::process::Abort;
@@ -38,22 +38,22 @@ fn accepts<S: KomiStream>(rt: &impl Abort, text: &[u8], is_one: bool) {
 }
 
 // Returns the text of a stream of seed 1 after a prefix of the pattern, and the text's length.
-fn text_after<S: KomiStream>(count: usize) -> ([u8; 131], usize)
+fn text_after<S: KomiStream>(count: usize) -> ([u8; LONGEST_TEXT], usize)
     requires { count ≤ 200 }
-    ensures { result.1 ≤ 131 }
+    ensures { result.1 ≤ LONGEST_TEXT }
 {
     let message = pattern();
     let mut tally = Tally::new();
     let mut stream = S::start(1, &mut tally);
     stream.absorb(&message[..count], &mut tally);
-    let mut out = [0; 131];
+    let mut out = [0; LONGEST_TEXT];
     let end = stream.store(&mut out);
     (out, end)
 }
 
 // Saves a stream and compares its text. Nothing is written after it.
 fn saves<const V: u8>(rt: &impl Abort, stream: &StreamedKomihash<V>, text: &[u8]) {
-    assert!(rt; text.len() <= 131);
+    assert!(rt; text.len() <= LONGEST_TEXT);
     let mut out = [0xee; 140];
     let mut wanted = [0xee; 140];
     wanted[..text.len()].copy_from_slice(text);
@@ -89,7 +89,7 @@ fn saves_known_texts(rt: HostRuntime) {
 
 #[test]
 fn saves_the_top_bit_in_version_four(rt: HostRuntime) {
-    let mut out = [0; 131];
+    let mut out = [0; LONGEST_TEXT];
     let mut stream = v4::StreamedKomihash::new();
     stream.write(&[0xff; 64]);
     same_count(&rt, stream.save(&mut out), 68, 4);
@@ -232,7 +232,7 @@ fn agrees_at_each_end<S: KomiStream, O: KomiStream>(rt: &impl Abort) {
         let (text, end) = text_after::<S>(count);
         accepts::<O>(rt, &text[..end], false);
         let mut longer = [0; 140];
-        longer[..131].copy_from_slice(&text);
+        longer[..LONGEST_TEXT].copy_from_slice(&text);
         for length in 0..=140usize {
             accepts::<S>(rt, &longer[..length], length == end);
         }

@@ -2,13 +2,14 @@
 //! contracts of the calls. CALLING.md shows them, and `scripts/documents.py` compares it with this
 //! file.
 
-ghost use Rattle.std.specs.Prelude.{◌≡◌, ◌≢◌, ◌+◌, ◌*◌, ◌/◌, ◌%◌, ◌<◌, ◌≤◌, ℕ, List, ◌++◌, IfSome, IsSomeAnd, false, length, take};
+ghost use Rattle.std.specs.Prelude.{◌≡◌, ◌≢◌, ◌+◌, ◌*◌, ◌/◌, ◌%◌, ◌<◌, ◌≤◌, ℕ, false};
+ghost use Rattle.std.specs.Prelude.{List, ◌++◌, length, take, IfSome, IsSomeAnd};
 ghost use Rattle.std.specs.List.{flat_map};
 ghost use Rattle.komihash.specs.Generator.{after_steps, fill};
 ghost use Rattle.komihash.specs.Hash.{komi};
 ghost use Rattle.komihash.specs.Saved.{IsTextAfter};
 
-use komihash::stream::KomiStream;
+use komihash::stream::{KomiStream, LONGEST_TEXT};
 use komihash::tally::Tally;
 use komihash::{KomiHasher, Komirand, StreamedKomihash, komihash, laws, v5};
 use std::hash::Hasher;
@@ -91,8 +92,8 @@ fn key_read_back(key: &[u8], words: &mut [u64], out: &mut [u8]) -> Option<usize>
 }
 
 /// Begins a digest, and saves it as the first bytes of `checkpoint`.
-fn begin(first: &[u8], seed: u64, checkpoint: &mut [u8; 131]) -> usize
-    ensures most { result ≤ 131 }
+fn begin(first: &[u8], seed: u64, checkpoint: &mut [u8; LONGEST_TEXT]) -> usize
+    ensures most { result ≤ LONGEST_TEXT }
     ensures saved { IsTextAfter 5 seed first.now (take result checkpoint.new) }
 {
     let mut stream = StreamedKomihash::new_with_seed(seed);
@@ -101,9 +102,9 @@ fn begin(first: &[u8], seed: u64, checkpoint: &mut [u8; 131]) -> usize
 }
 
 /// Continues from a checkpoint, and replaces it.
-fn go_on(checkpoint: &mut [u8; 131], count: usize, next: &[u8]) -> Option<usize>
-    requires { count ≤ 131 }
-    ensures most { IfSome result (λ n. n ≤ 131) }
+fn go_on(checkpoint: &mut [u8; LONGEST_TEXT], count: usize, next: &[u8]) -> Option<usize>
+    requires { count ≤ LONGEST_TEXT }
+    ensures most { IfSome result (λ n. n ≤ LONGEST_TEXT) }
     ensures saved { (seed : ℕ) (m : List ℕ) → IsTextAfter 5 seed m (take count checkpoint.old)
         → IsSomeAnd result (λ n. IsTextAfter 5 seed (m ++ next.now) (take n checkpoint.new)) }
 {
@@ -113,8 +114,8 @@ fn go_on(checkpoint: &mut [u8; 131], count: usize, next: &[u8]) -> Option<usize>
 }
 
 /// Finishes the digest of a checkpoint.
-fn end(checkpoint: &[u8; 131], count: usize, last: &[u8]) -> Option<u64>
-    requires { count ≤ 131 }
+fn end(checkpoint: &[u8; LONGEST_TEXT], count: usize, last: &[u8]) -> Option<u64>
+    requires { count ≤ LONGEST_TEXT }
     ensures { (seed : ℕ) (m : List ℕ) → IsTextAfter 5 seed m (take count checkpoint.now)
         → IsSomeAnd result (λ hash. hash ≡ komi 5 seed (m ++ last.now)) }
 {
@@ -179,7 +180,7 @@ fn keys_are_read_back(rt: HostRuntime) {
 #[test]
 fn goes_on_from_checkpoints(rt: HostRuntime) {
     let message = message::<95>();
-    let mut checkpoint = [0; 131];
+    let mut checkpoint = [0; LONGEST_TEXT];
     for cut in 0..=95usize {
         let (first, next) = message.split_at(cut);
         let count = begin(first, 0, &mut checkpoint);

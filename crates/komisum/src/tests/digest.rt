@@ -6,7 +6,7 @@ use super::fakes::{Calls, FakeReader, Stop};
 use super::messages::{HASH_OF_16, HASH_OF_31_IN_FOUR, HASH_OF_64, HASH_OF_95, message};
 use crate::digest::digest;
 use crate::watched::Watched;
-use komihash::stream::{Call, KomiStream, run_on};
+use komihash::stream::{Call, KomiStream, LONGEST_TEXT, run_on};
 use komihash::tally::Tally;
 use komihash::{v4, v5};
 use std::process::Abort;
@@ -128,7 +128,7 @@ fn digested_with_saves<S: KomiStream>(bytes: &[u8], size: usize) -> Option<u64>
 {
     let mut tally = Tally::new();
     let mut stream = S::start(0, &mut tally);
-    let mut text = [0; 131];
+    let mut text = [0; LONGEST_TEXT];
     let mut out = [0];
     for piece in bytes.chunks(size) {
         run_on(&mut stream, &[Call::Absorb(piece)], &mut out, &mut tally);

@@ -46,8 +46,8 @@ fn put_few(words: &mut [u64; 8], fill: usize, bytes: &[u8])
     }
 }
 
-// Stores the next N words of `bytes`, starting at `from`, if so many are left. Returns the next index
-// in `words` and the next offset in `bytes`.
+// Stores the next N words of `bytes`, starting at `from`, if so many are left. Returns the next
+// index in `words` and the next offset in `bytes`.
 #[inline(always)]
 fn move_words<const N: usize>(
     words: &mut [u64; 8],
