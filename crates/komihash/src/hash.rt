@@ -7,7 +7,7 @@ ghost use Rattle.komihash.specs.Hash.{komi};
 use crate::padding::end::{end_byte, final_of_long, final_of_many};
 use crate::rounds::blocks::absorb_blocks;
 use crate::rounds::{close_one, close_two, join, lanes, seed_pair};
-use crate::tails::answer_below_eight;
+use crate::tails::hash_below_eight;
 use crate::tally::Tally;
 use crate::utils::{read_partial_word, read_word};
 
@@ -25,7 +25,7 @@ fn hash_of_blocks<const V: u8>(bytes: &[u8], seed: u64, tally: &mut Tally) -> u6
     let last = final_of_long(bytes, end_byte::<V>(bytes));
     let mut lanes = lanes(pair);
     let rest = absorb_blocks::<V>(&mut lanes, bytes, tally);
-    answer_below_eight(join(&lanes, true), &rest, last, tally)
+    hash_below_eight(join(&lanes, true), &rest, last, tally)
 }
 
 /// Returns the hash of a message with a seed in version V, and counts its products in the tally.
@@ -47,7 +47,7 @@ pub(crate) fn komihash_counted<const V: u8>(bytes: &[u8], seed: u64, tally: &mut
         if bytes.len() < 16 {
             close_two(pair, read_word(bytes), last, tally)
         } else {
-            answer_below_eight(pair, &bytes, last, tally)
+            hash_below_eight(pair, &bytes, last, tally)
         }
     } else if bytes.is_empty() {
         close_one(pair, 0, tally)

@@ -164,7 +164,7 @@ pub(crate) fn pair_round(pair: Pair, w0: u64, w1: u64, tally: &mut Tally) -> Pai
 // Returns the hash from the pair of the closing's first mix.
 #[inline(always)]
 fn mix_again(pair: Pair, tally: &mut Tally) -> u64
-    ensures answer { result ≡ mix_again (pair_in pair) }
+    ensures hash { result ≡ mix_again (pair_in pair) }
     ensures products { tally.new.products ≡ tally.old.products + 1 }
     ensures kept { tally.new.kept ≡ tally.old.kept }
 {
@@ -177,7 +177,7 @@ fn mix_again(pair: Pair, tally: &mut Tally) -> u64
 #[inline(always)]
 #[tactic(auto, using(crate::proofs::Xor::xor_late_left))]
 pub(crate) fn close_one(pair: Pair, word: u64, tally: &mut Tally) -> u64
-    ensures answer { result ≡ closing (pair_in pair) (word ∷ []) }
+    ensures hash { result ≡ closing (pair_in pair) (word ∷ []) }
     ensures products { tally.new.products ≡ tally.old.products + 2 }
     ensures kept { tally.new.kept ≡ tally.old.kept }
 {
@@ -190,7 +190,7 @@ pub(crate) fn close_one(pair: Pair, word: u64, tally: &mut Tally) -> u64
 #[inline(always)]
 #[tactic(auto, using(crate::proofs::Xor::xor_late_left))]
 pub(crate) fn close_two(pair: Pair, word: u64, last: u64, tally: &mut Tally) -> u64
-    ensures answer { result ≡ closing (pair_in pair) (word ∷ last ∷ []) }
+    ensures hash { result ≡ closing (pair_in pair) (word ∷ last ∷ []) }
     ensures products { tally.new.products ≡ tally.old.products + 2 }
     ensures kept { tally.new.kept ≡ tally.old.kept }
 {

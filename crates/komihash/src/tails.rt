@@ -10,11 +10,11 @@ use crate::utils::Words;
 
 // Returns the hash from a pair, fewer than two words from index `at`, and the final word.
 #[inline(always)]
-fn answer_below_two<W: Words>(pair: Pair, left: &W, at: usize, last: u64, tally: &mut Tally) -> u64
+fn hash_below_two<W: Words>(pair: Pair, left: &W, at: usize, last: u64, tally: &mut Tally) -> u64
     requires within { at ≤ length (W.words left.now) }
     requires few { length (W.words left.now) < at + 2 }
     requires place { at < 7 }
-    ensures answer { result
+    ensures hash { result
         ≡ hash_from_pair (pair_in pair) (drop at (W.words left.now) ++ last ∷ []) }
     ensures products { tally.new.products ≡ tally.old.products + 2 }
     ensures kept { tally.new.kept ≡ tally.old.kept }
@@ -33,7 +33,7 @@ fn answer_below_two<W: Words>(pair: Pair, left: &W, at: usize, last: u64, tally:
 fn take_two<W: Words>(pair: Pair, left: &W, at: usize, tally: &mut Tally) -> Pair
     requires within { at + 2 ≤ length (W.words left.now) }
     requires place { at < 5 }
-    ensures answer { (last : ℕ)
+    ensures hash { (last : ℕ)
         → hash_from_pair (pair_in result) (drop (at + 2) (W.words left.now) ++ last ∷ [])
         ≡ hash_from_pair (pair_in pair) (drop at (W.words left.now) ++ last ∷ []) }
     ensures products { tally.new.products ≡ tally.old.products + 1 }
@@ -44,11 +44,11 @@ fn take_two<W: Words>(pair: Pair, left: &W, at: usize, tally: &mut Tally) -> Pai
 
 // Returns the hash from a pair, fewer than four words from index `at`, and the final word.
 #[inline(always)]
-fn answer_below_four<W: Words>(pair: Pair, left: &W, at: usize, last: u64, tally: &mut Tally) -> u64
+fn hash_below_four<W: Words>(pair: Pair, left: &W, at: usize, last: u64, tally: &mut Tally) -> u64
     requires within { at ≤ length (W.words left.now) }
     requires few { length (W.words left.now) < at + 4 }
     requires place { at < 5 }
-    ensures answer { result
+    ensures hash { result
         ≡ hash_from_pair (pair_in pair) (drop at (W.words left.now) ++ last ∷ []) }
     ensures products { tally.new.products
         ≡ tally.old.products + (2 + (length (W.words left.now) - at) / 2) }
@@ -56,22 +56,22 @@ fn answer_below_four<W: Words>(pair: Pair, left: &W, at: usize, last: u64, tally
 {
     if left.holds(at + 2) {
         let pair = take_two(pair, left, at, tally);
-        answer_below_two(pair, left, at + 2, last, tally)
+        hash_below_two(pair, left, at + 2, last, tally)
     } else {
-        answer_below_two(pair, left, at, last, tally)
+        hash_below_two(pair, left, at, last, tally)
     }
 }
 
 /// Returns the hash from a pair, fewer than eight words, and the final word.
 #[inline(always)]
-pub(crate) fn answer_below_eight<W: Words>(
+pub(crate) fn hash_below_eight<W: Words>(
     pair: Pair,
     left: &W,
     last: u64,
     tally: &mut Tally,
 ) -> u64
     requires { length (W.words left.now) < 8 }
-    ensures answer { result ≡ hash_from_pair (pair_in pair) (W.words left.now ++ last ∷ []) }
+    ensures hash { result ≡ hash_from_pair (pair_in pair) (W.words left.now ++ last ∷ []) }
     ensures products { tally.new.products
         ≡ tally.old.products + (2 + length (W.words left.now) / 2) }
     ensures kept { tally.new.kept ≡ tally.old.kept }
@@ -79,8 +79,8 @@ pub(crate) fn answer_below_eight<W: Words>(
     if left.holds(4) {
         let pair = take_two(pair, left, 0, tally);
         let pair = take_two(pair, left, 2, tally);
-        answer_below_four(pair, left, 4, last, tally)
+        hash_below_four(pair, left, 4, last, tally)
     } else {
-        answer_below_four(pair, left, 0, last, tally)
+        hash_below_four(pair, left, 0, last, tally)
     }
 }

@@ -14,7 +14,7 @@ use super::{KomiStream, LONGEST_TEXT};
 use crate::padding::end::{has_top_bit, padding_after};
 use crate::rounds::pending::Pending;
 use crate::rounds::{close_one, join, lanes, seed_pair};
-use crate::tails::answer_below_eight;
+use crate::tails::hash_below_eight;
 use crate::tally::Tally;
 use crate::version::{IsVersion, Versions};
 use std::marker::Model;
@@ -156,7 +156,7 @@ impl<const V: u8> StreamedKomihash<V> {
             return close_one(pair, end, tally);
         }
         let word = self.pending.final_word(end);
-        answer_below_eight(pair, &self.pending, word, tally)
+        hash_below_eight(pair, &self.pending, word, tally)
     }
 
     /// Writes the saved text of the stream to the front of `out`, and returns its length in bytes:

@@ -4,8 +4,8 @@ use Rattle.komihash.proofs.WholeWords.{length-whole_words}
 use Rattle.komihash.proofs.HashSteps.{komi_empty}
 use Rattle.komihash.proofs.hash.komihash_counted.Goals as goal
 
-pub answer_below_eight-requires : goal.answer_below_eight-requires
-answer_below_eight-requires g c = omega (arith, length-whole_words c.args.bytes.now)
+pub hash_below_eight-requires : goal.hash_below_eight-requires
+hash_below_eight-requires g c = omega (arith, length-whole_words c.args.bytes.now)
 
 pub returns-else-bytes-lt16-clause-products : goal.returns-else-bytes-lt16-clause-products
 returns-else-bytes-lt16-clause-products g c = omega (arith, length-whole_words c.args.bytes.now)
