@@ -16,11 +16,11 @@ AreBytes-append (x ∷ xs) ys h g (suc k) = AreBytes-append xs ys (λ j. h (suc 
 pub AreBytes-typed : (xs : List ℕ) → ((k : ℕ) → Fits w8 (get_or xs k 0)) → AreBytes xs
 AreBytes-typed xs h k = (h k).fits
 
-pub pow_byte : (n : ℕ) → 2 ^ (8 * suc n) ≡ 256 * 2 ^ (8 * n)
+pow_byte : (n : ℕ) → 2 ^ (8 * suc n) ≡ 256 * 2 ^ (8 * n)
 pow_byte n = let e : 8 * suc n ≡ 8 + 8 * n = omega arith in ap (λ k. 2 ^ k) e ∙ pow-add 2 8 (8 * n)
 
 -- the word of two pieces, the second as high as the first is long
-pub word_of-append : (xs ys : List ℕ) → word_of (xs ++ ys) ≡ word_of ys * 2 ^ (8 * length xs) + word_of xs
+word_of-append : (xs ys : List ℕ) → word_of (xs ++ ys) ≡ word_of ys * 2 ^ (8 * length xs) + word_of xs
 word_of-append [] ys = omega arith
 word_of-append (x ∷ xs) ys =
     omega (arith, word_of-append xs ys, ap (λ p. word_of ys * p) (pow_byte (length xs)))
@@ -39,7 +39,7 @@ pub AreBytes-drop : (k : ℕ) (xs : List ℕ) → AreBytes xs → AreBytes (drop
 AreBytes-drop k xs h i = rw get_or-drop (h (k + i))
 
 -- a mask leaves the first bytes, and a shift to the right the others
-pub word_of-take : (k : ℕ) (xs : List ℕ) → AreBytes xs → word_of (take k xs) ≡ word_of xs % 2 ^ (8 * k)
+word_of-take : (k : ℕ) (xs : List ℕ) → AreBytes xs → word_of (take k xs) ≡ word_of xs % 2 ^ (8 * k)
 word_of-take zero xs h = omega arith
 word_of-take (suc k) [] h = sym (zero-mod (2 ^ (8 * suc k)))
 word_of-take (suc k) (x ∷ xs) h =

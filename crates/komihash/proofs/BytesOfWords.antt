@@ -39,7 +39,7 @@ AreBytes-all_bytes [] k = omega arith
 AreBytes-all_bytes (w ∷ ws) k =
     AreBytes-append (bytes_of 8 w) (all_bytes ws) (AreBytes-bytes_of 8 w) (AreBytes-all_bytes ws) k
 
-pub drop-all_bytes : (ws : List ℕ) (i : ℕ) → i < length ws
+drop-all_bytes : (ws : List ℕ) (i : ℕ) → i < length ws
     → drop (8 * i) (all_bytes ws) ≡ bytes_of 8 (get_or ws i 0) ++ drop (8 * suc i) (all_bytes ws)
 unfolding bytes_of
 drop-all_bytes [] i lt = absurd (omega arith)

@@ -53,14 +53,6 @@ two_pieces k n all out zs ys len le most fits first second =
     let long : length (put_mid (n - k) k xs ys) ≤ n = search (rules, overwrites) in
     rw (first, size, last) (sym (take_all n (put_mid (n - k) k xs ys) long) ∙ both.front)
 
--- a range written over, and what was there before it and after it
-pub put_mid-between : (a k n : ℕ) (xs ys zs : List ℕ) → a + k ≡ n → ys ≡ zs
-    → put_mid a k xs ys ≡ take a xs ++ zs ++ drop n xs
-put_mid-between a k n xs ys zs sum is =
-    ap (λ bs. take a xs ++ (bs ++ drop k (drop a xs))) is
-    ∙ ap (λ bs. take a xs ++ (zs ++ bs)) (drop-drop k a xs ∙ ap (λ n. drop n xs) sum)
-    ∙ sym (append_assoc (take a xs) zs (drop n xs))
-
 -- what was written whole
 pub written : (k : ℕ) (ys all : List ℕ) → length ys ≡ k → take k ys ≡ take k all → ys ≡ take k all
 written k ys all size same = sym (take_all k ys (omega arith)) ∙ same

@@ -64,9 +64,6 @@ after_words-drop (a ∷ b ∷ c ∷ d ∷ e ∷ f ∷ g ∷ h ∷ bs) =
     after_words-drop bs ∙ ap (λ k. drop k (a ∷ b ∷ c ∷ d ∷ e ∷ f ∷ g ∷ h ∷ bs)) (sym n)
 after_words-drop xs = refl
 
-pub length-after_words : (xs : List ℕ) → length (after_words xs) ≡ length xs % 8
-length-after_words xs = ap length (after_words-drop xs) ∙ omega (arith, length-drop (length xs - length xs % 8) xs)
-
 pub after_words-append : (xs ys : List ℕ) (k : ℕ) → length xs ≡ 8 * k → after_words (xs ++ ys) ≡ after_words ys
 after_words-append [] ys k e = refl
 after_words-append (a ∷ b ∷ c ∷ d ∷ e ∷ f ∷ g ∷ h ∷ xs) ys k is = after_words-append xs ys (k - 1) (omega arith)

@@ -44,7 +44,7 @@ abbrev pub onward_products : ℕ → List Call → ℕ
 onward_products p calls =
     4 * ((p + length (bytes_of_calls calls)) / 64) + products_of_answers p calls
 
--- the bytes that calls put into the buffer, where n bytes came before the first
+-- the bytes that calls copy into a stream, where n bytes came before the first
 abbrev pub onward_kept : ℕ → List Call → ℕ
 onward_kept n [] = 0
 onward_kept n (Absorb bytes ∷ calls) =

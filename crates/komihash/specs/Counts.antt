@@ -1,4 +1,4 @@
--- What a call costs in multiplications of two words.
+-- What a call costs: products of two words, and bytes that are copied into a stream.
 use Rattle.std.specs.Prelude.{ℕ, ◌+◌, ◌-◌, ◌*◌, ◌/◌, ◌%◌, ◌==◌, nat_lt, if◌then◌else◌}
 
 -- the products of the hash of n bytes
@@ -13,7 +13,7 @@ write_products f b = 4 * ((f + b) / 64)
 abbrev pub answer_products : ℕ → ℕ
 answer_products f = 2 + f / 16
 
--- the bytes that a write of b bytes puts into the buffer where f are pending: all where no block is
+-- the bytes that a write of b bytes copies into a stream where f are pending: all if no block is
 -- filled; else those that fill up the begun block, if there is one, and those after the last block
 abbrev pub kept_bytes : ℕ → ℕ → ℕ
 kept_bytes f b =

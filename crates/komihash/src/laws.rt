@@ -60,7 +60,7 @@ pub fn fill_cut()
         after_fill v s (x + y) ≡ after_fill v (after_fill v s x) y }
 {}
 
-/// Proves that from one seed as both numbers, a fill of 32 + n bytes writes 32 bytes, and then what
+/// Proves that from one seed as both words, a fill of 32 + n bytes writes 32 bytes, and then what
 /// a fill of n bytes writes after the four steps that `init` takes. Both leave the same pair.
 pub fn one_seed()
     ensures length { (v seed : ℕ) → length (fill v (seed, seed) 32) ≡ 32 }

@@ -48,7 +48,7 @@ pub trait KomiStream: Sized + Drop {
         ensures kept { tally.new.kept ≡ tally.old.kept
             + kept_bytes (length (state self.old).pending) (length bytes.now) };
 
-    /// Returns the hash of all bytes so far. The stream stays as it is, and may go on. Counts two
+    /// Returns the hash of all bytes so far. The stream stays as it is. Counts two
     /// products, and one for each 16 pending bytes.
     fn answer(&self, tally: &mut Tally) -> u64
         ensures answer { result ≡ answer VERSION (state self.now) }
@@ -101,7 +101,7 @@ pub enum Call<'a> {
 /// many there are. Counts what the calls cost.
 ///
 /// `out` needs room for one `u64` for each call. Its words after the answers stay as they are. The
-/// stream has absorbed all bytes then, and may go on. If it had absorbed a message from a seed on,
+/// stream has then absorbed all bytes of the calls. If it was the stream of a seed after a message,
 /// each answer is the hash of that message and of the bytes since, joined.
 #[tactic(auto, using(crate::proofs::CallLists::runs))]
 pub fn run_on<S: KomiStream>(

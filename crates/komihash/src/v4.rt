@@ -41,7 +41,7 @@ pub fn komihash_counted(bytes: &[u8], seed: u64, tally: &mut Tally) -> u64
 }
 
 /// Writes the padded words of a message, and returns how many they are: `bytes.len() / 8 + 1`,
-/// which is the capacity that `out` needs.
+/// which is the length that `out` needs.
 ///
 /// They are the bytes of the message, its padding byte, and zeros, eight bytes a word, the lowest
 /// byte first; those of the empty message are one 0. The rest of `out` stays as it is.
@@ -57,7 +57,7 @@ pub fn pad(bytes: &[u8], out: &mut [u64]) -> usize
 
 /// Writes the message that has these padded words, and returns its length in bytes.
 ///
-/// `out` needs a capacity of eight bytes for each word. What is after the message in `out` stays as
+/// `out` needs room for eight bytes for each word. What is after the message in `out` stays as
 /// it is. Returns `None` if no message has these padded words in this version, and then leaves all
 /// of `out` as it is.
 #[inline]

@@ -28,7 +28,7 @@ const CHUNK_LENGTH: usize = 4096;
 /// Returns `Fault::Read` if a read returns an error, of any kind, `Fault::TooLong` if more bytes
 /// come, and `Fault::Write` if a write or the flush returns an error, or a write accepts no byte.
 ///
-/// Neither side must have failed before.
+/// Neither side may have failed before.
 pub fn show<R: Read, W: Write>(
     reader: &mut Watched<R>,
     writer: &mut Watched<W>,
@@ -60,7 +60,7 @@ pub fn show<R: Read, W: Write>(
 /// Returns `Shown`, or `Failed` with the fault that `show` returned. If the arguments were refused,
 /// returns `Refused` with that refusal, and neither reads nor writes.
 ///
-/// Neither side must have failed before.
+/// Neither side may have failed before.
 pub fn run<R: Read, W: Write>(
     asked: Result<(Version, u64), Refusal>,
     input: &mut Watched<R>,

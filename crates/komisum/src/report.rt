@@ -27,7 +27,7 @@ fn write_message<W: Write>(errors: &mut Watched<W>, text: &str) -> Result<(), Fa
     write_whole(errors, b"\n")
 }
 
-/// Writes the message of an ending, if it has one, as a line. Returns the program's status, also if
+/// Writes the message of an ending, if it has one, as a line. Returns the program's status, even if
 /// that line could not be written.
 ///
 /// The writer must not have failed before.

@@ -37,8 +37,8 @@ pub(crate) fn end_byte<const V: u8>(message: &[u8]) -> u64
 
 /// Returns the final word of at least eight bytes: those after the last whole word, and `end`.
 ///
-/// They are read with the last eight bytes, and the others of these are shifted out. That takes two
-/// shifts, since no byte after the last whole word means a shift by 64.
+/// Reads the last eight bytes, and shifts out those of the last whole word. That takes two shifts,
+/// since their sum is 64, too wide for one, if no byte comes after that word.
 #[inline(always)]
 #[tactic(auto, using(crate::proofs::PaddingWords::final_word_many))]
 pub(crate) fn final_of_many(bytes: &[u8], end: u64) -> u64
@@ -51,8 +51,8 @@ pub(crate) fn final_of_many(bytes: &[u8], end: u64) -> u64
     (eight >> 1) >> (63 - over) | end << over
 }
 
-/// Returns the same for a long message, which often is whole words alone: then it is `end`, and
-/// nothing is read.
+/// Returns the final word of a long message. If it is whole words alone, that is `end`, and nothing
+/// is read.
 #[inline(always)]
 #[tactic(auto, using(crate::proofs::PaddingWords::final_word_whole))]
 pub(crate) fn final_of_long(bytes: &[u8], end: u64) -> u64

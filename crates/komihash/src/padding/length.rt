@@ -1,4 +1,4 @@
-//! The length of the message that has given padded words.
+//! The length of the message whose padded words are given.
 
 ghost use Rattle.std.specs.Prelude.{◌≡◌, ◌+◌, ◌*◌, ◌/◌, ◌^◌, ◌<◌, ◌≤◌, ◌↔◌};
 ghost use Rattle.std.specs.Prelude.{IfSome, IfNone, IsTrue, length, take, slice_index};
@@ -7,7 +7,7 @@ ghost use Rattle.komihash.specs.Words.{all_bytes};
 
 use crate::padding::end::{has_top_bit, padding_after};
 
-// Returns the place of a word's highest byte that is not 0, counted from the lowest byte.
+// Returns the index of a word's highest byte that is not 0, counted from the lowest byte.
 #[inline(always)]
 #[tactic(auto, using(crate::proofs::PaddingBack::highest))]
 fn highest_place(word: u64) -> usize

@@ -27,8 +27,8 @@ fn block_words(block: &[u8; 64]) -> [u64; 8]
     ]
 }
 
-// Absorbs the first block, and returns the bytes after it. To absorb all blocks of these leads to
-// the same lanes and the same remainder as before.
+// Absorbs the first block, and returns the bytes after it. Absorbing their blocks too leads to
+// the lanes and the remainder that absorbing all blocks of `bytes` leads to.
 #[inline(always)]
 #[tactic(auto, using(crate::proofs::Blocks::next_block))]
 fn absorb_block<'a, const V: u8>(

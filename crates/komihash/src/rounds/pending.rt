@@ -79,8 +79,8 @@ impl Pending {
         self.fill = fill + bytes.len();
     }
 
-    /// Appends bytes that fill a block or more, and absorbs each whole block. Returns whether the
-    /// last byte of the last block has a top bit that version V looks at.
+    /// Appends bytes that fill a block or more, and absorbs each whole block. Returns whether
+    /// `has_top_bit` holds of the last byte of the last block.
     #[inline(always)]
     pub(crate) fn absorb<const V: u8>(
         &mut self,

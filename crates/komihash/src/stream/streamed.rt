@@ -23,8 +23,8 @@ use std::marker::Model;
 /// any time.
 ///
 /// The hash is that of `komihash`, however the bytes are cut. There is no limit to their number.
-/// Pieces of a multiple of 64 bytes are best: as long as all are, each is read where it lies. Of
-/// other pieces up to 63 bytes are pending at a time, and are copied into the stream.
+/// Pieces of a multiple of 64 bytes are best: as long as all are, none is copied. Of other pieces
+/// up to 63 bytes are pending at a time, and are copied into the stream.
 #[derive(Drop)]
 pub struct StreamedKomihash<const V: u8> {
     lanes: [u64; 8],
@@ -48,7 +48,7 @@ impl<const V: u8> Model for StreamedKomihash<V> {
     } };
 }
 
-// Returns the byte that ends a stream's tail.
+// Returns the byte that ends the message so far: its padding byte, or 0 if it is empty.
 #[inline(always)]
 fn tail_end<const V: u8>(pending: &Pending, absorbed: bool, top_bit: bool) -> u64
     ensures byte { result ≡ tail_end V pending.now absorbed top_bit }
@@ -129,7 +129,7 @@ impl<const V: u8> StreamedKomihash<V> {
         }
     }
 
-    /// Returns the hash of all bytes so far. The stream stays as it is, and may go on.
+    /// Returns the hash of all bytes so far. The stream stays as it is, and may absorb more.
     #[inline]
     pub fn finish(&self) -> u64
         ensures answer { result ≡ answer V self.now.state }
@@ -163,7 +163,7 @@ impl<const V: u8> StreamedKomihash<V> {
     /// 68, and one for each pending byte.
     ///
     /// `out` needs room for `LONGEST_TEXT` bytes, whatever is pending. What is after the text stays
-    /// as it is. `resume` makes the same stream of the text, also in another process.
+    /// as it is. `resume` makes the same stream from the text, also in another process.
     #[inline]
     #[tactic(auto, using(crate::proofs::SavedTexts::saves), unfolding(crate::specs::Saved::text))]
     pub fn save(&self, out: &mut [u8]) -> usize

@@ -70,7 +70,7 @@ fn sample(seed: u64, out: &mut [u8])
     Komirand::init(seed).fill_bytes(out);
 }
 
-/// Writes the same sample in two steps, of which the first takes 32 bytes.
+/// Writes the same sample in two parts, the first of 32 bytes.
 fn sample_in_two(seed: u64, first: &mut [u8; 32], second: &mut [u8])
     ensures { first.new ++ second.new
         ≡ fill 5 (after_steps 5 4 (seed, seed)) (32 + length second.old) }

@@ -67,7 +67,7 @@ fn put_left(words: &mut [u64; 8], left: &[u8], tally: &mut Tally)
 }
 
 /// Absorbs bytes that fill a block or more, and stores those after the last block. Returns their
-/// number, and whether the last byte of the last block has a top bit that version V looks at.
+/// number, and whether `has_top_bit` holds of the last byte of the last block.
 ///
 /// The fill is passed and returned by value, so that a caller's loop over pieces keeps it in a
 /// register.
