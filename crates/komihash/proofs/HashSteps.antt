@@ -112,7 +112,5 @@ pub komi_empty : (v seed : ℕ) (m : List ℕ) → length m ≡ 0
 komi_empty v seed [] e = komi_few v seed [] (omega arith)
 komi_empty v seed (b ∷ m) e = absurd (omega arith)
 
--- what `hash.rt` needs, for short messages and for long ones
-pub ruleset short_hash = (komi_short, komi_two, komi_few)
-
+-- what the hash of blocks needs
 pub ruleset long_hash = (komi_long, words_after_blocks)

@@ -32,7 +32,6 @@ fn hash_of_blocks<const V: u8>(bytes: &[u8], seed: u64, tally: &mut Tally) -> u6
 ///
 /// Messages of 8 to 15 bytes have a path of their own, with one test fewer.
 #[inline(never)]
-#[tactic(auto, using(crate::proofs::HashSteps::short_hash))]
 pub(crate) fn komihash_counted<const V: u8>(bytes: &[u8], seed: u64, tally: &mut Tally) -> u64
     ensures hash { result ≡ komi V seed bytes.now }
     ensures products { tally.new.products ≡ tally.old.products + hash_products (length bytes.now) }
