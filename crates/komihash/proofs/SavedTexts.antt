@@ -1,14 +1,14 @@
 -- The saved text: its state can be read back from it, and which bytes are a text.
 use Rattle.std.proofs.Common.{◌≡◌, ℕ, zero, suc, ◌+◌, ◌-◌, ◌*◌, ◌^◌, ◌<◌, ◌≤◌, ◌↔◌, Bool, true, false, List, [], ◌∷◌, ◌++◌, length, take, drop, get_or, refl, ap, arith, ◌∙◌, sym, subst}
 use Rattle.std.proofs.lemmas.Bool.Decides.{nat_tests}
-use Rattle.std.proofs.lemmas.List.{append_assoc, append-nil, length-append, length-drop, length-take-le, take-append-drop, take_at, drop_at, take_all}
+use Rattle.std.proofs.lemmas.List.{append-nil, length-append, length-drop, length-take-le, take-append-drop, take_at, drop_at, take_all}
 use Rattle.std.proofs.lemmas.Slice.{take-put_mid, drop-put_mid}
 use borrow.Rule.Slice.PartMut.{put_mid}
 use Rattle.std.specs.Prelude.{slice_index, ◌==◌}
 use Rattle.komihash.specs.Halves.{lanes_in, state_in}
 use Rattle.komihash.specs.Rounds.{Lanes}
-use Rattle.komihash.specs.Saved.{flag_byte, in_order, text, IsText, IsTextAfter}
-use Rattle.komihash.specs.Stream.{AreWords, State, IsState, HasAbsorbed}
+use Rattle.komihash.specs.Saved.{flag_byte, in_order, text, IsText}
+use Rattle.komihash.specs.Stream.{AreWords, State, IsState}
 use Rattle.komihash.specs.Tails.{whole_words}
 use Rattle.komihash.specs.Words.{AreBytes, all_bytes}
 use Rattle.komihash.proofs.Xor.{xor_again}
@@ -91,14 +91,6 @@ pub length-text : (v : ℕ) (s : State) → length (text v s) ≡ 68 + length s.
 unfolding text
 length-text v s =
     omega (arith, length-append (all_bytes (in_order s.lanes)) s.pending, length-all_bytes (in_order s.lanes))
-
-pub text-after : (v seed : ℕ) (m bytes : List ℕ) (s : State) → IsState v s → HasAbsorbed v seed s m
-    → text v s ≡ bytes → IsTextAfter v seed m bytes
-unfolding IsTextAfter
-text-after v seed m bytes s is absorbed same = (s, is, absorbed, same)
-
--- what the search of `save` needs
-pub ruleset saves = (append_assoc, length-text, text-after)
 
 -- two states never share a text
 module _ (v w : ℕ) (s t : State) (same : text v s ≡ text w t) where

@@ -1,21 +1,20 @@
 -- A stream before and after a call: its fields show what the rules absorb and answer.
-use Rattle.std.proofs.Common.{◌≡◌, ℕ, ◌+◌, ◌-◌, ◌%◌, ◌<◌, ◌≤◌, true, List, ◌++◌, length, refl, ap, arith, ◌∙◌, sym}
+use Rattle.std.proofs.Common.{◌≡◌, ℕ, ◌+◌, ◌-◌, ◌%◌, ◌<◌, ◌≤◌, Bool, true, List, ◌++◌, length, refl, ap, arith, ◌∙◌, sym}
 use Rattle.std.proofs.lemmas.Bool.{false≢true}
 use Rattle.std.proofs.lemmas.Bool.Decides.{nat_tests}
-use Rattle.std.proofs.lemmas.List.{length-append, get_or-append-add, nil_from_length}
+use Rattle.std.proofs.lemmas.List.{length-append, get_or-append-add}
 use Rattle.std.specs.Prelude.{slice_index}
+use Rattle.komihash.specs.Halves.{lanes_in, state_in}
 use Rattle.komihash.specs.Hash.{komi}
 use Rattle.komihash.specs.Padding.{has_top_bit}
 use Rattle.komihash.specs.Stream.{State, IsState, HasAbsorbed, start, answer}
-use Rattle.komihash.specs.Tails.{whole_words, after_blocks}
+use Rattle.komihash.specs.Tails.{whole_words, after_blocks, block_lanes}
 use Rattle.komihash.specs.Words.{AreBytes}
 use Rattle.komihash.proofs.Blocks.{length-after_blocks}
 use Rattle.komihash.proofs.BytesInWords.{AreBytes-append, AreBytes-drop}
-use Rattle.komihash.proofs.CallLists.{HasAbsorbed-more}
 use Rattle.komihash.proofs.LaneWords.{AreWords-block_lanes, AreWords-seed_pair}
-use Rattle.komihash.proofs.StreamAbsorbs.{blocks_state, absorb-append, absorb-few, absorb-blocks}
+use Rattle.komihash.proofs.StreamAbsorbs.{blocks_state}
 use Rattle.komihash.proofs.StreamAnswers.{answer-by_pair, answer-joined, answer-none}
-use Rattle.komihash.proofs.WholeWords.{length-whole_words}
 
 -- ---- what a stream shows is a state
 
@@ -48,7 +47,7 @@ IsState-blocks v s bytes is are =
 -- ---- what it absorbs and answers
 
 -- the last byte of the last block is one of those written
-pub last_of_block : (xs ys : List ℕ) (left : ℕ) → length xs < 64 → 64 ≤ length xs + length ys
+last_of_block : (xs ys : List ℕ) (left : ℕ) → length xs < 64 → 64 ≤ length xs + length ys
     → left ≡ length (after_blocks (xs ++ ys))
     → slice_index ys (length ys - left - 1)
     ≡ slice_index (xs ++ ys) (length (xs ++ ys) - length (xs ++ ys) % 64 - 1)
@@ -57,11 +56,17 @@ last_of_block xs ys left few many is =
     omega (arith, length-append xs ys, length-after_blocks (xs ++ ys)) in
     sym (get_or-append-add xs ys (length ys - left - 1) 0) ∙ ap (slice_index (xs ++ ys)) k
 
+-- what a write that fills a block leaves, of the clauses of `Pending::absorb`
+pub after_write : (v : ℕ) (s : State) (bytes halves left : List ℕ) (top_bit : Bool)
+    → length s.pending < 64 → 64 ≤ length s.pending + length bytes
+    → lanes_in halves ≡ block_lanes v s.lanes (whole_words (s.pending ++ bytes))
+    → left ≡ after_blocks (s.pending ++ bytes)
+    → top_bit ≡ has_top_bit v (slice_index bytes (length bytes - length left - 1))
+    → state_in halves left true top_bit ≡ blocks_state v s.lanes (s.pending ++ bytes)
+after_write v s bytes halves left top_bit few many lanes is top =
+    let last = last_of_block s.pending bytes (length left) few many (ap length is) in
+    cc
+
 pub komi-answer : (v seed : ℕ) (m : List ℕ) (s : State) → HasAbsorbed v seed s m → komi v seed m ≡ answer v s
 unfolding HasAbsorbed
 komi-answer v seed m s is = sym (answer-joined v seed m) ∙ ap (answer v) (sym is)
-
--- what the searches of `absorb_counted` and of `answer_counted` need
-pub ruleset absorbs = (HasAbsorbed-more, absorb-few, absorb-blocks, last_of_block)
-
-pub ruleset answers = (answer-by_pair, answer-none, nil_from_length, komi-answer, length-whole_words)

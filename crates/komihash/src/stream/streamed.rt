@@ -111,7 +111,6 @@ impl<const V: u8> StreamedKomihash<V> {
 
     // Does what `write` does, and counts what it costs.
     #[inline(always)]
-    #[tactic(auto, using(crate::proofs::StreamSteps::absorbs))]
     fn absorb_counted(&mut self, bytes: &[u8], tally: &mut Tally)
         ensures state { self.new.state ≡ absorb V self.old.state bytes.now }
         ensures message { (seed : ℕ) (m : List ℕ) → HasAbsorbed V seed self.old.state m
@@ -141,7 +140,6 @@ impl<const V: u8> StreamedKomihash<V> {
 
     // Does what `finish` does, and counts what it costs.
     #[inline(always)]
-    #[tactic(auto, using(crate::proofs::StreamSteps::answers))]
     fn answer_counted(&self, tally: &mut Tally) -> u64
         ensures answer { result ≡ answer V self.now.state }
         ensures hash { (seed : ℕ) (m : List ℕ) → HasAbsorbed V seed self.now.state m
@@ -165,7 +163,6 @@ impl<const V: u8> StreamedKomihash<V> {
     /// `out` needs room for `LONGEST_TEXT` bytes, whatever is pending. What is after the text stays
     /// as it is. `resume` makes the same stream from the text, also in another process.
     #[inline]
-    #[tactic(auto, using(crate::proofs::SavedTexts::saves), unfolding(crate::specs::Saved::text))]
     pub fn save(&self, out: &mut [u8]) -> usize
         requires { LONGEST_TEXT ≤ length out.old }
         ensures length { result ≡ length (text V self.now.state) }

@@ -1,15 +1,50 @@
-use Rattle.std.proofs.Common.{◌≡◌, ◌++◌, arith, true}
+use Rattle.std.proofs.Common.{◌∙◌, ap, arith, sym}
 use Rattle.komihash.specs.Halves.{state_in}
+use Rattle.komihash.specs.Stream.{StateOf, absorb}
 use Rattle.komihash.proofs.BytesInWords.{AreBytes-typed}
-use Rattle.komihash.proofs.StreamAbsorbs.{blocks_state}
-use Rattle.komihash.proofs.StreamSteps.{IsState-blocks, last_of_block}
+use Rattle.komihash.proofs.CallLists.{HasAbsorbed-more}
+use Rattle.komihash.proofs.StreamAbsorbs.{absorb-few, absorb-blocks}
+use Rattle.komihash.proofs.StreamSteps.{IsState-blocks, after_write}
 use Rattle.komihash.proofs.stream.streamed.StreamedKomihash.absorb_counted.Goals as goal
+
+pub returns-then-bytes-len-clause-state : goal.returns-then-bytes-len-clause-state
+returns-then-bytes-len-clause-state g c =
+    let s = c.self.inside in
+    let shown = state_in s.lanes s.pending s.absorbed s.top_bit in
+    let bytes = c.args.bytes.now in
+    rw c.put.ensures.bytes
+    (sym (absorb-few g.row.V shown bytes (omega arith))
+    ∙ ap (λ (t : StateOf g.row.V). absorb g.row.V t.state bytes) c.self.view_is)
+
+pub returns-then-bytes-len-clause-message : goal.returns-then-bytes-len-clause-message
+returns-then-bytes-len-clause-message g c seed m is =
+    HasAbsorbed-more g.row.V seed _ _ m _ is (returns-then-bytes-len-clause-state g c)
+
+pub returns-else-bytes-len-clause-state : goal.returns-else-bytes-len-clause-state
+returns-else-bytes-len-clause-state g c =
+    let s = c.self.inside in
+    let shown = state_in s.lanes s.pending s.absorbed s.top_bit in
+    let bytes = c.args.bytes.now in
+    let w = c.absorb-self-inside in
+    let e = w.ensures in
+    after_write g.row.V shown bytes w.new.lanes _ _ (omega arith) (omega arith)
+    e.lanes e.bytes e.top_bit
+    ∙ sym (absorb-blocks g.row.V shown bytes (omega arith) (omega arith))
+    ∙ ap (λ (t : StateOf g.row.V). absorb g.row.V t.state bytes) c.self.view_is
+
+pub returns-else-bytes-len-clause-message : goal.returns-else-bytes-len-clause-message
+returns-else-bytes-len-clause-message g c seed m is =
+    HasAbsorbed-more g.row.V seed _ _ m _ is (returns-else-bytes-len-clause-state g c)
 
 pub invariant_of-self-inside-else-bytes-len : goal.invariant_of-self-inside-else-bytes-len
 invariant_of-self-inside-else-bytes-len g c =
-    let s = c.args.self.now in
+    let s = c.self.inside in
+    let shown = state_in s.lanes s.pending s.absorbed s.top_bit in
     let bytes = c.args.bytes.now in
     let w = c.absorb-self-inside in
-    let after : state_in w.new.lanes w.new.self true w.result
-    ≡ blocks_state g.row.V s.state.lanes (s.state.pending ++ bytes) = grind (arith, last_of_block) in
-    (rw after (IsState-blocks g.row.V s.state bytes s.is_state (AreBytes-typed bytes c.type_inv.bytes)), tt)
+    let e = w.ensures in
+    let are = AreBytes-typed bytes c.type_inv.bytes in
+    let after =
+    after_write g.row.V shown bytes w.new.lanes _ _ (omega arith) (omega arith)
+    e.lanes e.bytes e.top_bit in
+    (rw after (IsState-blocks g.row.V shown bytes s.is_state are), tt)

@@ -1,0 +1,51 @@
+use Rattle.std.proofs.Common.{◌++◌, [], ◌∷◌, ◌∙◌, ap, arith, length, sym}
+use Rattle.std.proofs.lemmas.List.{nil_from_length}
+use Rattle.komihash.specs.Halves.{lanes_in, state_in}
+use Rattle.komihash.specs.Hash.{hash_from_pair}
+use Rattle.komihash.specs.Rounds.{join, closing}
+use Rattle.komihash.specs.Stream.{StateOf, answer}
+use Rattle.komihash.specs.Tails.{whole_words, final_word, tail_end}
+use Rattle.komihash.proofs.StreamAnswers.{answer-by_pair, answer-none}
+use Rattle.komihash.proofs.StreamSteps.{komi-answer}
+use Rattle.komihash.proofs.WholeWords.{length-whole_words}
+use Rattle.komihash.proofs.stream.streamed.StreamedKomihash.answer_counted.Goals as goal
+
+pub returns-then-len-eq0-clause-answer : goal.returns-then-len-eq0-clause-answer
+returns-then-len-eq0-clause-answer g c =
+    let s = c.self.inside in
+    let none = nil_from_length s.pending (omega arith) in
+    let end =
+    c.tail_end-end.ensures.byte ∙ ap (λ m. tail_end g.row.V m s.absorbed s.top_bit) none in
+    c.close_one.ensures.hash
+    ∙ ap (λ p. closing p (c.tail_end-end.result ∷ [])) c.join-pair.ensures
+    ∙ ap (λ b. closing (join s.absorbed (lanes_in s.lanes)) (b ∷ [])) end
+    ∙ sym (answer-none g.row.V (state_in s.lanes s.pending s.absorbed s.top_bit) none)
+    ∙ ap (λ (t : StateOf g.row.V). answer g.row.V t.state) c.self.view_is
+
+pub returns-then-len-eq0-clause-hash : goal.returns-then-len-eq0-clause-hash
+returns-then-len-eq0-clause-hash g c seed m is =
+    returns-then-len-eq0-clause-answer g c ∙ sym (komi-answer g.row.V seed m _ is)
+
+pub hash_below_eight-requires : goal.hash_below_eight-requires
+hash_below_eight-requires g c = omega (arith, length-whole_words c.self.inside.pending)
+
+pub returns-clause-products : goal.returns-clause-products
+returns-clause-products g c =
+    let same = ap (λ (t : StateOf g.row.V). length t.state.pending) c.self.view_is in
+    omega (arith, length-whole_words c.self.inside.pending)
+
+pub returns-clause-answer : goal.returns-clause-answer
+returns-clause-answer g c =
+    let s = c.self.inside in
+    let word = c.final_word-word.ensures ∙ ap (final_word s.pending) c.tail_end-end.ensures.byte in
+    c.hash_below_eight.ensures.hash
+    ∙ ap (λ p. hash_from_pair p (whole_words s.pending ++ c.final_word-word.result ∷ []))
+    c.join-pair.ensures
+    ∙ ap (λ w. hash_from_pair (join s.absorbed (lanes_in s.lanes)) (whole_words s.pending ++ w ∷ []))
+    word
+    ∙ sym (answer-by_pair g.row.V (state_in s.lanes s.pending s.absorbed s.top_bit))
+    ∙ ap (λ (t : StateOf g.row.V). answer g.row.V t.state) c.self.view_is
+
+pub returns-clause-hash : goal.returns-clause-hash
+returns-clause-hash g c seed m is =
+    returns-clause-answer g c ∙ sym (komi-answer g.row.V seed m _ is)
