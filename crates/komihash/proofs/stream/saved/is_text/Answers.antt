@@ -1,4 +1,5 @@
-use Rattle.std.proofs.Common.{rules}
+use Rattle.std.proofs.Common.{rules, arith}
+use Rattle.std.proofs.lemmas.Bool.Decides.{nat_tests}
 use Rattle.komihash.proofs.BytesInWords.{AreBytes-typed}
 use Rattle.komihash.proofs.SavedTexts.{IsLaidOut-text}
 use Rattle.komihash.proofs.stream.saved.is_text.Goals as goal
@@ -6,9 +7,9 @@ use Rattle.komihash.proofs.stream.saved.is_text.Goals as goal
 pub returns-then-bytes-lt64-clause-text : goal.returns-then-bytes-lt64-clause-text
 returns-then-bytes-lt64-clause-text g c =
     let laid = IsLaidOut-text g.row.V c.args.bytes.now (AreBytes-typed _ c.type_inv.bytes) in
-    ((λ is. laid.0 (search rules)), λ is. let l = laid.1 is in search rules)
+    ((λ is. laid.0 (search rules)), λ is. let l = laid.1 is in grind (arith, nat_tests))
 
 pub returns-else-bytes-lt64-clause-text : goal.returns-else-bytes-lt64-clause-text
 returns-else-bytes-lt64-clause-text g c =
     let laid = IsLaidOut-text g.row.V c.args.bytes.now (AreBytes-typed _ c.type_inv.bytes) in
-    ((λ is. laid.0 (search rules)), λ is. let l = laid.1 is in search rules)
+    ((λ is. absurd (grind (arith, nat_tests))), λ is. let l = laid.1 is in grind (arith, nat_tests))
