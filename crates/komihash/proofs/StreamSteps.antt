@@ -14,7 +14,7 @@ use Rattle.komihash.proofs.Blocks.{length-after_blocks}
 use Rattle.komihash.proofs.BytesInWords.{AreBytes-append, AreBytes-drop}
 use Rattle.komihash.proofs.LaneWords.{AreWords-block_lanes, AreWords-seed_pair}
 use Rattle.komihash.proofs.StreamAbsorbs.{blocks_state}
-use Rattle.komihash.proofs.StreamAnswers.{answer-by_pair, answer-joined, answer-none}
+use Rattle.komihash.proofs.StreamAnswers.{answer-joined}
 
 -- ---- what a stream shows is a state
 
