@@ -1,6 +1,6 @@
 -- Lists that are cut, joined and written over piece by piece.
 use Rattle.std.proofs.Common.{zero, ◌≤◌, ◌-◌, ◌≡◌, ℕ, ◌+◌, List, [], ◌∷◌, ◌++◌, length, take, drop, ap, arith, ◌∙◌, sym, suc, rules, refl}
-use Rattle.std.proofs.lemmas.List.{append_assoc, length-append, take-append-drop, take-take, drop-take, drop-drop, take-append-le, length-drop, length-take-le, take_all}
+use Rattle.std.proofs.lemmas.List.{length-append, take-append-drop, take-take, drop-take, drop-drop, take-append-le, length-drop, length-take-le, take_all}
 use Rattle.std.proofs.lemmas.Slice.{take-put_mid, drop-put_mid, overwrites}
 use borrow.Rule.Slice.PartMut.{put_mid}
 

@@ -64,12 +64,7 @@ fn hash_below_four<W: Words>(pair: Pair, left: &W, at: usize, last: u64, tally: 
 
 /// Returns the hash from a pair, fewer than eight words, and the final word.
 #[inline(always)]
-pub(crate) fn hash_below_eight<W: Words>(
-    pair: Pair,
-    left: &W,
-    last: u64,
-    tally: &mut Tally,
-) -> u64
+pub(crate) fn hash_below_eight<W: Words>(pair: Pair, left: &W, last: u64, tally: &mut Tally) -> u64
     requires { length (W.words left.now) < 8 }
     ensures hash { result ≡ hash_from_pair (pair_in pair) (W.words left.now ++ last ∷ []) }
     ensures products { tally.new.products
