@@ -41,7 +41,8 @@ returns-clause-answer g c =
     c.hash_below_eight.ensures.hash
     ∙ ap (λ p. hash_from_pair p (whole_words s.pending ++ c.final_word-word.result ∷ []))
     c.join-pair.ensures
-    ∙ ap (λ w. hash_from_pair (join s.absorbed (lanes_in s.lanes)) (whole_words s.pending ++ w ∷ []))
+    ∙ ap
+    (λ w. hash_from_pair (join s.absorbed (lanes_in s.lanes)) (whole_words s.pending ++ w ∷ []))
     word
     ∙ sym (answer-by_pair g.row.V (state_in s.lanes s.pending s.absorbed s.top_bit))
     ∙ ap (λ (t : StateOf g.row.V). answer g.row.V t.state) c.self.view_is
