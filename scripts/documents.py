@@ -18,7 +18,7 @@ import sys
 from pathlib import Path
 
 from checks import cases_of, report
-from rules import SOURCE, imports_of, without_comments
+from rules import codes_of, imports_of
 
 SCRIPTS = Path(__file__).resolve().parent
 TOP = SCRIPTS.parent
@@ -64,6 +64,12 @@ def public_functions(text):
     traits = re.findall(r"^pub trait .*?^}", text, re.DOTALL | re.MULTILINE)
     required = re.findall(r"^    fn (\w+)", "".join(traits), re.MULTILINE)
     return required + re.findall(r"^ *pub fn (\w+)", text, re.MULTILINE)
+
+
+def too_early(names, imports):
+    """Each name that stands before one that it imports, and that one."""
+    for place, name in enumerate(names):
+        yield from ((name, late) for late in imports.get(name, set()) - set(names[:place]))
 
 
 class Documents:
@@ -137,24 +143,20 @@ class Documents:
         if sorted(names) != sorted(texts):
             yield f"{ARCHITECTURE}: it does not list the base files of proofs/, each once"
             return
-        for place, name in enumerate(names):
-            imported = re.findall(r"^use Rattle\.komihash\.proofs\.(\w+)\.", texts[name], re.MULTILINE)
-            for late in set(imported) - set(names[:place]):
-                yield f"{ARCHITECTURE}: {name} stands before {late}, which it imports"
+        use = re.compile(r"^use Rattle\.komihash\.proofs\.(\w+)\.", re.MULTILINE)
+        for name, late in too_early(names, {name: set(use.findall(text)) for name, text in texts.items()}):
+            yield f"{ARCHITECTURE}: {name} stands before {late}, which it imports"
 
     def modules(self):
         shown = re.search(r"^## Modules\n.*?```\n(.*?)```", self.files[ARCHITECTURE], re.DOTALL | re.MULTILINE)
         lines = shown[1].splitlines() if shown else []
         texts = {name.removeprefix("crates/komihash/"): text for name, text in self.files.items()}
-        codes = {file: without_comments(file, text) for file, text in texts.items() if SOURCE.fullmatch(file)}
-        graph = imports_of(codes)
+        graph = imports_of(codes_of(texts))
         wanted = [f"{module}: {', '.join(sorted(imported)) or 'nothing'}" for module, imported in graph.items()]
         yield from (f"{ARCHITECTURE}: not under Modules: {line}" for line in wanted if line not in lines)
         yield from (f"{ARCHITECTURE}: wrong under Modules: {line}" for line in lines if line not in wanted)
-        names = [line.partition(":")[0] for line in lines]
-        for place, name in enumerate(names):
-            for late in graph.get(name, set()) - set(names[:place]):
-                yield f"{ARCHITECTURE}: under Modules {name} stands before {late}, which it imports"
+        for name, late in too_early([line.partition(":")[0] for line in lines], graph):
+            yield f"{ARCHITECTURE}: under Modules {name} stands before {late}, which it imports"
 
 
 RULES = (

@@ -74,6 +74,11 @@ def without_comments(file, text):
     return re.sub(r"//.*" if file.endswith(".rt") else r"--.*", "", text)
 
 
+def codes_of(files):
+    """The sources among the files, without comments."""
+    return {file: without_comments(file, text) for file, text in files.items() if SOURCE.fullmatch(file)}
+
+
 def end_of(tokens, index):
     """The index after a token, or after the whole bracket that it opens."""
     depth = 0
@@ -252,7 +257,7 @@ class Crate:
 
     def __init__(self, files):
         self.files = files
-        self.codes = {file: without_comments(file, text) for file, text in files.items() if SOURCE.fullmatch(file)}
+        self.codes = codes_of(files)
         self.functions = [function for file, code in self.codes.items() for function in functions_of(file, code)]
 
     def all_operations(self):
