@@ -4,10 +4,7 @@ use Rattle.std.proofs.Common.{List, [], ◌∷◌, ◌++◌, length, take, drop,
 use Rattle.std.proofs.lemmas.List.{length-drop, length-take-le, take-append-drop, drop-drop}
 use Rattle.komihash.specs.Rounds.{Lanes, block_round}
 use Rattle.komihash.specs.Tails.{whole_words, block_lanes, after_blocks}
-use Rattle.komihash.proofs.WholeWords.{whole_words-append, whole_words-block, length-whole_words}
-
--- the words of a block, each read by itself
-pub ruleset words_of_block = (whole_words-block)
+use Rattle.komihash.proofs.WholeWords.{whole_words-append, length-whole_words}
 
 -- ---- the lanes
 
@@ -57,6 +54,3 @@ length-after_blocks m = omega (arith, length-drop (length m - length m % 64) m)
 
 pub words_after_blocks : (m : List ℕ) → length (whole_words (after_blocks m)) ≡ length m % 64 / 8
 words_after_blocks m = omega (arith, length-whole_words (after_blocks m), length-after_blocks m)
-
--- what a block is taken off by
-pub ruleset next_block = (block_lanes_more, after_blocks_more)

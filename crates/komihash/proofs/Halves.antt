@@ -1,9 +1,9 @@
 -- Pairs and lanes as the code stores them, in halves, are those of the rules.
-use Rattle.std.proofs.Common.{◌≡◌, ℕ, [], ◌∷◌}
-use Rattle.std.specs.Prelude.{bit_xor}
-use Rattle.komihash.specs.Rounds.{constant, lanes}
+use Rattle.std.proofs.Common.{◌≡◌, ℕ, ◌*◌, List, [], ◌∷◌, refl}
+use Rattle.std.specs.Prelude.{bit_xor, slice_index}
+use Rattle.komihash.specs.Rounds.{low, high, plus, constant, lanes, word_at_place, block_round_by}
 use Rattle.komihash.specs.Halves.{pair_in, lanes_in}
-use Rattle.komihash.proofs.Xor.{xor_middle, xor_swap, xor_turn, xor_around}
+use Rattle.komihash.proofs.Xor.{product, xor_middle, xor_swap, xor_turn, xor_around}
 
 -- the lanes of a pair
 pub lanes_in_lanes : (low e : ℕ)
@@ -21,3 +21,25 @@ lanes_in_lanes low e =
 
 -- what joining the lanes needs: words and low halves change places, and a word met twice is gone
 pub ruleset joined = (xor_middle, xor_turn, xor_around)
+
+-- a product of a block round, as the code makes it
+abbrev pub late_product : List ℕ → List ℕ → List ℕ → ℕ → ℕ → ℕ → ℕ
+late_product table ws h k j next =
+    bit_xor (word_at_place table ws j) (slice_index h next)
+    * bit_xor (bit_xor (word_at_place table ws k) (slice_index h j)) (slice_index h k)
+
+-- the lanes after a block round, from the halves of its products
+pub lanes_in_round : (table ws h : List ℕ) (l1 e1 l2 e2 l3 e3 l4 e4 : ℕ)
+    → l1 ≡ low (late_product table ws h 0 1 2)
+    → e1 ≡ plus (slice_index h 2) (high (late_product table ws h 0 1 2))
+    → l2 ≡ low (late_product table ws h 2 3 4)
+    → e2 ≡ plus (slice_index h 4) (high (late_product table ws h 2 3 4))
+    → l3 ≡ low (late_product table ws h 4 5 6)
+    → e3 ≡ plus (slice_index h 6) (high (late_product table ws h 4 5 6))
+    → l4 ≡ low (late_product table ws h 6 7 0)
+    → e4 ≡ plus (slice_index h 0) (high (late_product table ws h 6 7 0))
+    → lanes_in (e4 ∷ l1 ∷ e1 ∷ l2 ∷ e2 ∷ l3 ∷ e3 ∷ l4 ∷ [])
+    ≡ block_round_by table (lanes_in h) ws
+unfolding block_round_by
+lanes_in_round table ws h l1 e1 l2 e2 l3 e3 l4 e4 p1 q1 p2 q2 p3 q3 p4 q4 =
+    rw (p1, q1, p2, q2, p3, q3, p4, q4) (simp product refl)

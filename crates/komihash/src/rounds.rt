@@ -106,7 +106,6 @@ pub(crate) fn places<const V: u8>() -> [usize; 8]
 
 /// Absorbs a block of eight words, multiplied as the table `places` says.
 #[inline(always)]
-#[tactic(auto, using(crate::proofs::Xor::product), unfolding(crate::specs::Rounds::block_round_by))]
 pub(crate) fn block_round(
     lanes: &mut [u64; 8],
     words: &[u64; 8],

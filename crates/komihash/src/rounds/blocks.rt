@@ -1,6 +1,6 @@
 //! Whole blocks of a message, absorbed where they lie.
 
-ghost use Rattle.std.specs.Prelude.{◌≡◌, ◌+◌, ◌*◌, ◌/◌, ◌≤◌, length, take, drop};
+ghost use Rattle.std.specs.Prelude.{◌≡◌, ◌+◌, ◌*◌, ◌/◌, ◌%◌, ◌≤◌, length, take, drop};
 ghost use Rattle.komihash.specs.Halves.{lanes_in};
 ghost use Rattle.komihash.specs.Rounds.{block_round};
 ghost use Rattle.komihash.specs.Tails.{whole_words, block_lanes, after_blocks};
@@ -11,7 +11,6 @@ use crate::utils::word_at;
 
 // Returns the eight words of a block.
 #[inline(always)]
-#[tactic(auto, using(crate::proofs::Blocks::words_of_block))]
 fn block_words(block: &[u8; 64]) -> [u64; 8]
     ensures { result ≡ whole_words block.now }
 {
@@ -30,7 +29,6 @@ fn block_words(block: &[u8; 64]) -> [u64; 8]
 // Absorbs the first block, and returns the bytes after it. Absorbing their blocks too leads to
 // the lanes and the remainder that absorbing all blocks of `bytes` leads to.
 #[inline(always)]
-#[tactic(auto, using(crate::proofs::Blocks::next_block))]
 fn absorb_block<'a, const V: u8>(
     lanes: &mut [u64; 8],
     bytes: &'a [u8],
@@ -56,13 +54,13 @@ fn absorb_block<'a, const V: u8>(
 ///
 /// The loop absorbs two blocks a turn. If their number is odd, one goes first.
 #[inline(always)]
-#[tactic(auto, using(crate::proofs::Blocks::after_blocks_few))]
 pub(crate) fn absorb_blocks<'a, const V: u8>(
     lanes: &mut [u64; 8],
     bytes: &'a [u8],
     tally: &mut Tally,
 ) -> &'a [u8]
     ensures left { result.now ≡ after_blocks bytes.now }
+    ensures length { length result.now ≡ length bytes.now % 64 }
     ensures lanes { lanes_in lanes.new
         ≡ block_lanes V (lanes_in lanes.old) (whole_words bytes.now) }
     ensures products { tally.new.products ≡ tally.old.products + 4 * (length bytes.now / 64) }

@@ -2,8 +2,8 @@
 
 #![tactic(auto, using(crate::proofs::PendingBlocks::block_laws))]
 
-ghost use Rattle.std.specs.Prelude.{◌≡◌, ◌+◌, ◌-◌, ◌*◌, ◌/◌, ◌<◌, ◌≤◌, ◌==◌, ◌++◌};
-ghost use Rattle.std.specs.Prelude.{if◌then◌else◌, length, slice_index};
+ghost use Rattle.std.specs.Prelude.{◌≡◌, ◌+◌, ◌-◌, ◌*◌, ◌/◌, ◌%◌, ◌<◌, ◌≤◌, ◌++◌};
+ghost use Rattle.std.specs.Prelude.{length, slice_index};
 ghost use Rattle.komihash.specs.Counts.{write_products, kept_bytes};
 ghost use Rattle.komihash.specs.Halves.{lanes_in};
 ghost use Rattle.komihash.specs.Pending.{pending_bytes, ArePending};
@@ -34,8 +34,8 @@ fn absorb_begun<'a, const V: u8>(
     ensures left { after_blocks result.1.now
         ≡ after_blocks (pending_bytes words.old fill ++ bytes.now) }
     ensures none { ArePending words.new 0 }
-    ensures kept { tally.new.kept ≡ tally.old.kept + (if fill == 0 then 0 else 64 - fill) }
-    ensures taken { length result.1.now + (if fill == 0 then 0 else 64 - fill) ≡ length bytes.now }
+    ensures taken { length result.1.now + (64 - fill) % 64 ≡ length bytes.now }
+    ensures kept { tally.new.kept ≡ tally.old.kept + (64 - fill) % 64 }
     ensures products { tally.new.products + 4 * (length result.1.now / 64)
         ≡ tally.old.products + 4 * ((fill + length bytes.now) / 64) }
 {
