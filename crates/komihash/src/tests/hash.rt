@@ -156,7 +156,7 @@ fn stays_at_zero_with_few_more_bytes(rt: HostRuntime) {
 #[test]
 fn hashes_as_the_rust_crate_does(rt: HostRuntime) {
     let message = pattern();
-    for (seed, n, four, five) in RUST_CRATE {
+    for &(seed, n, four, five) in &RUST_CRATE {
         assert!(rt; n <= LONGEST);
         let prefix = &message[..n];
         same(&rt, v4::komihash(prefix, seed), four, n);
