@@ -45,8 +45,8 @@ fn wrong_usage(rt: HostRuntime) {
         ["55", "0"],
         ["5", " 1"],
     ];
-    for arguments in refused {
-        assert_eq!(rt; numbers(&arguments), None);
+    for arguments in &refused {
+        assert_eq!(rt; numbers(arguments), None);
     }
 }
 
