@@ -1,6 +1,6 @@
 -- Calls on a stream, and then others: what they answer, absorb and cost together.
 use Rattle.std.proofs.Common.{◌≡◌, ℕ, ◌+◌, ◌%◌, ◌<◌, ◌≤◌, List, [], ◌∷◌, ◌++◌, length, refl, ap, arith, ◌∙◌, sym, inl, inr}
-use Rattle.std.proofs.lemmas.List.{append_assoc, append-nil, length-append, take_all}
+use Rattle.std.proofs.lemmas.List.{append_assoc, append-nil, length-append}
 use Rattle.std.proofs.lemmas.Bool.{cases_lt}
 use Rattle.komihash.specs.Calls.{answers_after, onward, bytes_of_calls, AreAbsorbs, run_products, products_of_answers, onward_products, onward_kept}
 use Rattle.komihash.specs.Counts.{hash_products}
@@ -9,7 +9,7 @@ use Rattle.komihash.specs.Stream.{State, HasAbsorbed, start, absorb, answer}
 use Rattle.komihash.specs.declared.stream.Call.{Call}
 use Rattle.komihash.specs.declared.stream.Call.TheVariants.{Absorb, Answer}
 use Rattle.komihash.proofs.Blocks.{length-after_blocks}
-use Rattle.komihash.proofs.StreamAbsorbs.{absorb-append, absorb-nothing, absorb-few, absorb-blocks}
+use Rattle.komihash.proofs.StreamAbsorbs.{absorb-append, absorb-few, absorb-blocks}
 use Rattle.komihash.proofs.StreamAnswers.{answer-joined}
 
 -- more bytes after a message
@@ -134,6 +134,3 @@ goes_on v first now xs ys few is =
       products = onward_products-then (length first.pending) (length now.pending) xs ys pending;
       kept = onward_kept-then (length first.pending) (length now.pending) xs ys (omega arith);
     }
-
--- what the proof of `run_on` needs, but for one step
-pub ruleset runs = (absorb-nothing, onward-message, HasAbsorbed-more, take_all)

@@ -103,7 +103,6 @@ pub enum Call<'a> {
 /// `out` needs room for one `u64` for each call. Its words after the answers stay as they are. The
 /// stream has then absorbed all bytes of the calls. If it was the stream of a seed after a message,
 /// each answer is the hash of that message and of the bytes since, joined.
-#[tactic(auto, using(crate::proofs::CallLists::runs))]
 pub fn run_on<S: KomiStream>(
     stream: &mut S,
     calls: &[Call<'_>],

@@ -1,13 +1,32 @@
-use Rattle.std.proofs.Common.{◌≡◌, ◌+◌, ◌%◌, ◌++◌, length, get_or, take, drop, ap, arith, ◌∙◌, [], ◌∷◌}
-use Rattle.std.proofs.lemmas.List.{append_assoc, append-nil, take_more, drop_more, length-append}
+use Rattle.std.proofs.Common.{◌≡◌, ℕ, ◌<◌, List, refl, sym, slice_set, ◌+◌, ◌%◌, ◌++◌, length, get_or, take, drop, ap, arith, ◌∙◌, [], ◌∷◌}
+use Rattle.std.proofs.lemmas.List.{append_assoc, append-nil, take_more, drop_more, length-append, take_all}
 use Rattle.std.proofs.Math.Seq.{set-append_seam}
 use Rattle.komihash.specs.Calls.{onward}
 use Rattle.komihash.proofs.StreamAbsorbs.{absorb-nothing}
-use Rattle.komihash.proofs.CallLists.{goes_on}
+use Rattle.komihash.proofs.CallLists.{goes_on, HasAbsorbed-more, onward-message}
 use Rattle.komihash.specs.declared.stream.Call.{Call}
 use Rattle.komihash.specs.declared.stream.Call.TheVariants.{Absorb, Answer}
 use Rattle.komihash.proofs.stream.run_on.Goals as goal
 use Rattle.komihash.proofs.stream.run_on.Goals.{in-Absorb, in-Answer}
+
+put_answer : (answers out now : List ℕ) (count answer : ℕ) → now ≡ answers ++ drop count out
+    → count ≡ length answers → count < length out
+    → slice_set now count answer ≡ (answers ++ answer ∷ []) ++ drop (count + 1) out
+put_answer answers out now count answer now_is is room =
+    let put = set-append_seam answers (get_or out count 0) (drop (count + 1) out) answer in
+    rw (now_is, drop_more out count 0 room, append_assoc) (rw (sym is) at put)
+
+pub loop-call-init : goal.loop-call-init
+loop-call-init g c =
+    let few = (g.met.S.KomiStream.is_state c.args.stream.now).few in
+    record {
+      few = omega arith;
+      count = refl;
+      answers = refl;
+      state = sym (absorb-nothing g.S.KomiStream.VERSION _);
+      products = omega arith;
+      kept = omega arith;
+    }
 
 pub loop-call-preserved : goal.loop-call-preserved
 loop-call-preserved g c =
@@ -17,45 +36,62 @@ loop-call-preserved g c =
     let i = c.loop-call.call-index in
     let count = c.loop-call.count in
     let calls = c.args.calls.now in
+    let out = c.args.out.now in
     let made = take i calls in
     let answers = onward v first made in
+    let is = c.loop-call.invariant in
     let few = (g.met.S.KomiStream.is_state c.args.stream.now).few in
     let few_now = (g.met.S.KomiStream.is_state c.loop-call.stream).few in
-    let with = λ (call : Call). goes_on v first now made (call ∷ []) few c.loop-call.invariant.state in
+    let with = λ (call : Call). goes_on v first now made (call ∷ []) few is.state in
     elim c.match-call.branch [
       | in-Absorb w ↦
           let bytes = w.in-Absorb.bytes in
           let next : take (i + 1) calls ≡ made ++ Absorb bytes ∷ [] =
           take_more calls i _ c.loop-call-test.true ∙ ap (λ call. made ++ call ∷ []) w.in-Absorb.is in
           let one = with (Absorb bytes) in
-          let no_answer = append-nil answers in
-          let all = append-nil bytes.now in
+          let no_answer = one.answers ∙ append-nil answers in
           let pending : length now.pending % 64 ≡ length now.pending = omega arith in
           let kept = rw pending at one.kept in
-          rw (next, w.stream-is, w.out-is, w.tally-is, w.count-is) record {
+          rw (next, w.stream-is, w.out-is, w.tally-is, w.count-is, no_answer) record {
             few = omega arith;
-            count = cc;
-            answers = cc;
-            state = cc;
+            count = is.count;
+            answers = is.answers;
+            state = rw (one.state, append-nil bytes.now) w.absorb.ensures.state;
             products = omega (arith, length-append bytes.now []);
             kept = omega arith;
           }
       | in-Answer w ↦
           let answer = w.answer.result in
-          let left = drop (count + 1) c.args.out.now in
           let next : take (i + 1) calls ≡ made ++ Answer ∷ [] =
           take_more calls i _ c.loop-call-test.true ∙ ap (λ call. made ++ call ∷ []) w.in-Answer.is in
           let one = with Answer in
           let same = absorb-nothing v now in
-          let room = drop_more c.args.out.now count 0 (omega arith) in
-          let put = set-append_seam answers (get_or c.args.out.now count 0) left answer in
-          let joined = append_assoc answers (answer ∷ []) left in
-          rw (next, w.stream-is, w.out-is, w.tally-is, w.count-is) record {
+          let more : onward v first (made ++ Answer ∷ []) ≡ answers ++ answer ∷ [] =
+          rw (one.answers, same, w.answer.ensures.answer) in
+          rw (next, w.stream-is, w.out-is, w.tally-is, w.count-is, more) record {
             few = omega arith;
-            count = omega (arith, simp length-append at (ap length one.answers));
-            answers = cc;
-            state = cc;
+            count = omega (arith, length-append answers (answer ∷ []));
+            answers = put_answer answers out _ _ answer is.answers is.count (omega arith);
+            state = sym (one.state ∙ same);
             products = omega arith;
             kept = omega arith;
           }
     ]
+
+pub returns : goal.returns
+returns g c =
+    let v = g.S.KomiStream.VERSION in
+    let calls = c.args.calls.now in
+    let all = take_all c.loop-call.call-index calls c.loop-call-test.false in
+    let did = rw all at c.loop-call.invariant in
+    let left = drop c.loop-call.count c.args.out.now in
+    record {
+      answers = did.answers;
+      count = did.count;
+      hashes = λ seed m is.
+          did.answers ∙ ap (λ made. made ++ left) (onward-message v seed _ m calls is);
+      state = did.state;
+      message = λ seed m is. HasAbsorbed-more v seed _ _ m _ is did.state;
+      products = did.products;
+      kept = did.kept;
+    }

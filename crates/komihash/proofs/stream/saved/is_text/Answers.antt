@@ -6,10 +6,12 @@ use Rattle.komihash.proofs.stream.saved.is_text.Goals as goal
 
 pub returns-then-bytes-lt64-clause-text : goal.returns-then-bytes-lt64-clause-text
 returns-then-bytes-lt64-clause-text g c =
-    let laid = IsLaidOut-text g.row.V c.args.bytes.now (AreBytes-typed _ c.type_inv.bytes) in
+    let bytes = c.args.bytes.now in
+    let laid = IsLaidOut-text g.row.V bytes (AreBytes-typed bytes c.type_inv.bytes) in
     ((λ is. laid.0 (search rules)), λ is. let l = laid.1 is in grind (arith, nat_tests))
 
 pub returns-else-bytes-lt64-clause-text : goal.returns-else-bytes-lt64-clause-text
 returns-else-bytes-lt64-clause-text g c =
-    let laid = IsLaidOut-text g.row.V c.args.bytes.now (AreBytes-typed _ c.type_inv.bytes) in
+    let bytes = c.args.bytes.now in
+    let laid = IsLaidOut-text g.row.V bytes (AreBytes-typed bytes c.type_inv.bytes) in
     ((λ is. absurd (grind (arith, nat_tests))), λ is. let l = laid.1 is in grind (arith, nat_tests))

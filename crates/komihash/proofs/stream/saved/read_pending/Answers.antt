@@ -5,4 +5,5 @@ use Rattle.komihash.proofs.stream.saved.read_pending.Goals as goal
 pub returns : goal.returns
 returns c =
     let bytes = c.args.bytes.now in
-    cc (take_all (length bytes - 68) (drop 68 bytes) (omega (arith, length-drop 68 bytes)))
+    let all = take_all (length bytes - 68) (drop 68 bytes) (omega (arith, length-drop 68 bytes)) in
+    rw (c.new-pending.ensures, all) at c.put.ensures.bytes
