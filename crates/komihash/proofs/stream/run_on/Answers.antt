@@ -9,6 +9,7 @@ use Rattle.komihash.specs.declared.stream.Call.TheVariants.{Absorb, Answer}
 use Rattle.komihash.proofs.stream.run_on.Goals as goal
 use Rattle.komihash.proofs.stream.run_on.Goals.{in-Absorb, in-Answer}
 
+-- an answer put after those so far
 put_answer : (answers out now : List ℕ) (count answer : ℕ) → now ≡ answers ++ drop count out
     → count ≡ length answers → count < length out
     → slice_set now count answer ≡ (answers ++ answer ∷ []) ++ drop (count + 1) out
