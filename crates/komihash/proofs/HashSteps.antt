@@ -9,7 +9,7 @@ use Rattle.komihash.specs.Rounds.{Lanes, lanes, seed_pair, block_round, pair_rou
 use Rattle.komihash.specs.Hash.{hash_from_pair, hash_from_lanes, komi}
 use Rattle.komihash.specs.Tails.{whole_words, final_word, end_byte, block_lanes, after_blocks}
 use Rattle.komihash.specs.Words.{word_of}
-use Rattle.komihash.proofs.Blocks.{block_lanes_more, block_lanes_few, words_after_blocks}
+use Rattle.komihash.proofs.Blocks.{block_lanes_more, block_lanes_few}
 use Rattle.komihash.proofs.Blocks.{after_blocks_more, after_blocks_few}
 use Rattle.komihash.proofs.PaddingWords.{padded_words-by_tail}
 use Rattle.komihash.proofs.WholeWords.{whole_words-few, after_words-few, whole_words-more}
@@ -111,6 +111,3 @@ pub komi_empty : (v seed : ℕ) (m : List ℕ) → length m ≡ 0
     → komi v seed m ≡ closing (seed_pair seed) (0 ∷ [])
 komi_empty v seed [] e = komi_few v seed [] (omega arith)
 komi_empty v seed (b ∷ m) e = absurd (omega arith)
-
--- what the hash of blocks needs
-pub ruleset long_hash = (komi_long, words_after_blocks)

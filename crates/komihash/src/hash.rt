@@ -14,7 +14,6 @@ use crate::utils::{read_partial_word, read_word};
 // Returns the hash of a message of at least 64 bytes. It is a function of its own, since only its
 // loop needs registers that have to be saved.
 #[inline(never)]
-#[tactic(auto, using(crate::proofs::HashSteps::long_hash))]
 fn hash_of_blocks<const V: u8>(bytes: &[u8], seed: u64, tally: &mut Tally) -> u64
     requires { 64 ≤ length bytes.now }
     ensures hash { result ≡ komi V seed bytes.now }

@@ -46,7 +46,6 @@ fn is_padding_byte<const V: u8>(byte: u64, words: &[u64], count: usize) -> bool
 /// The padding byte can only be the last word's highest byte that is not 0. The byte before it
 /// decides whether it is.
 #[inline(always)]
-#[tactic(auto, using(crate::proofs::PaddingBack::one_place, crate::proofs::PaddingBack::unpadded))]
 pub(crate) fn message_length<const V: u8>(words: &[u64]) -> Option<usize>
     requires { 8 * length words.now < 2 ^ 64 }
     ensures length { IfSome result (λ n. n / 8 + 1 ≡ length words.now) }

@@ -1,5 +1,6 @@
 use Rattle.std.proofs.Common.{arith}
-use Rattle.komihash.proofs.PaddingBack.{padded_zero, one_place}
+use Rattle.std.proofs.lemmas.Bool.{iff_false}
+use Rattle.komihash.proofs.PaddingBack.{padded_zero, unpadded, one_place}
 use Rattle.komihash.proofs.padding.length.message_length.Goals as goal
 
 pub returns-else-count-eq1-clause-none : goal.returns-else-count-eq1-clause-none
@@ -10,3 +11,15 @@ pub returns-then-length-eq0-clause-none : goal.returns-then-length-eq0-clause-no
 returns-then-length-eq0-clause-none g c p =
     let place = c.highest_place-place in
     omega (arith, (one_place _ _ place.result p place.ensures.some place.ensures.last).0)
+
+pub returns-then-is_padding_byte-clause-message : goal.returns-then-is_padding_byte-clause-message
+returns-then-is_padding_byte-clause-message g c =
+    let place = c.highest_place-place in
+    unpadded g.row.V c.args.words.now place.result (λ k. (c.type_inv.words k).fits) (omega arith)
+    place.ensures.place (omega arith) (c.is_padding_byte.ensures.0 c.if-is_padding_byte.true)
+
+pub returns-else-is_padding_byte-clause-none : goal.returns-else-is_padding_byte-clause-none
+returns-else-is_padding_byte-clause-none g c p =
+    let place = c.highest_place-place in
+    iff_false c.is_padding_byte.ensures c.if-is_padding_byte.false
+    (one_place _ _ place.result p place.ensures.some place.ensures.last).1
