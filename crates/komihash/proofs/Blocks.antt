@@ -51,6 +51,3 @@ after_blocks_more xs le =
 
 pub length-after_blocks : (m : List ℕ) → length (after_blocks m) ≡ length m % 64
 length-after_blocks m = omega (arith, length-drop (length m - length m % 64) m)
-
-pub words_after_blocks : (m : List ℕ) → length (whole_words (after_blocks m)) ≡ length m % 64 / 8
-words_after_blocks m = omega (arith, length-whole_words (after_blocks m), length-after_blocks m)

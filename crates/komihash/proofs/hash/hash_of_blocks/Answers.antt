@@ -1,17 +1,13 @@
-use Rattle.std.proofs.Common.{◌∙◌, length, arith, refl, ap}
-use Rattle.komihash.specs.Tails.{whole_words}
-use Rattle.komihash.proofs.Blocks.{words_after_blocks}
+use Rattle.std.proofs.Common.{arith, refl}
+use Rattle.komihash.proofs.WholeWords.{length-whole_words}
 use Rattle.komihash.proofs.HashSteps.{komi_long}
 use Rattle.komihash.proofs.hash.hash_of_blocks.Goals as goal
 
 pub hash_below_eight-requires : goal.hash_below_eight-requires
-hash_below_eight-requires g c =
-    rw c.absorb_blocks-rest.ensures.left (omega (arith, words_after_blocks c.args.bytes.now))
+hash_below_eight-requires g c = omega (arith, length-whole_words c.absorb_blocks-rest.result.now)
 
 pub returns-clause-products : goal.returns-clause-products
-returns-clause-products g c =
-    let few = ap (λ m. length (whole_words m)) c.absorb_blocks-rest.ensures.left in
-    omega (arith, few ∙ words_after_blocks c.args.bytes.now)
+returns-clause-products g c = omega (arith, length-whole_words c.absorb_blocks-rest.result.now)
 
 pub returns-clause-hash : goal.returns-clause-hash
 returns-clause-hash g c =
