@@ -1,4 +1,4 @@
-use Rattle.std.proofs.Common.{◌≡◌, ◌∙◌, ap, refl, sym}
+use Rattle.std.proofs.Common.{◌∙◌, ap, refl, sym}
 use Rattle.komihash.specs.Halves.{lanes_in}
 use Rattle.komihash.specs.Tails.{after_blocks}
 use Rattle.komihash.proofs.Blocks.{after_blocks_more, block_lanes_more}

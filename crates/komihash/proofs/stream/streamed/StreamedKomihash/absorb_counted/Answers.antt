@@ -41,14 +41,16 @@ pub invariant_of-self-inside : goal.invariant_of-self-inside
 invariant_of-self-inside g c =
     let s = c.self.inside in
     let bytes = c.args.bytes.now in
-    let are = AreBytes-typed bytes c.type_inv.bytes in
-    (rw c.put.ensures.bytes (record {
-      words = s.is_state.words;
-      bytes = AreBytes-append s.pending bytes s.is_state.bytes are;
-      few = omega (arith, length-append s.pending bytes);
-      top_bit_absorbed = s.is_state.top_bit_absorbed;
-      top_bit_version = s.is_state.top_bit_version;
-    }), tt)
+    let are = AreBytes-typed bytes c.type_inv.bytes in (
+      rw c.put.ensures.bytes (record {
+        words = s.is_state.words;
+        bytes = AreBytes-append s.pending bytes s.is_state.bytes are;
+        few = omega (arith, length-append s.pending bytes);
+        top_bit_absorbed = s.is_state.top_bit_absorbed;
+        top_bit_version = s.is_state.top_bit_version;
+      }),
+      tt,
+    )
 
 pub invariant_of-self-inside-else-bytes-len : goal.invariant_of-self-inside-else-bytes-len
 invariant_of-self-inside-else-bytes-len g c =
