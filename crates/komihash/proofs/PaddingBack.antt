@@ -143,8 +143,8 @@ reads-padded v (b ∷ m) are =
       some = λ _. (omega arith, high);
     }
 
-reads : {v : ℕ} {ws : List ℕ} → (p : ArePadded v ws) → Reads v ws p.0
-reads {v} p = subst (λ ws. Reads v ws p.0) p.2 (reads-padded v p.0 p.1)
+reads : (v : ℕ) {ws : List ℕ} → (p : ArePadded v ws) → Reads v ws p.0
+reads v p = subst (λ ws. Reads v ws p.0) p.2 (reads-padded v p.0 p.1)
 
 -- the place of the padding byte
 reads-highest : {v : ℕ} {ws m : List ℕ} → Reads v ws m → 0 < last ws
@@ -156,7 +156,7 @@ pub same_message : (v : ℕ) (x y : List ℕ) → AreBytes x → AreBytes y
     → padded_words v x ≡ padded_words v y → x ≡ y
 same_message v x y are_x are_y same =
     let ws = padded_words v y in
-    let of_x = reads (x, are_x, same) in
+    let of_x = reads v (x, are_x, same) in
     let of_y = reads-padded v y are_y in
     let sizes : length x ≡ length y =
     elim (cases_lt 0 (last ws)) as (λ _. length x ≡ length y) [
@@ -201,7 +201,7 @@ padded_words-some v (b ∷ m) some = padded_words-by_tail v (b ∷ m)
 
 pub padded_zero : (v : ℕ) (ws : List ℕ) → ArePadded v ws → last ws ≡ 0 → length ws ≡ 1
 padded_zero v ws p zero =
-    let of_m = reads p in
+    let of_m = reads v p in
     omega (arith, of_m.size, of_m.none zero)
 
 -- a message that ends below place r of the last word
@@ -225,7 +225,7 @@ module _ (v : ℕ) (ws : List ℕ) (r : ℕ) where
       → (0 < size) × (last ws / 2 ^ (8 * r) ≡ padding_byte v message)
   one_place p above below =
       let lt = pos_of_div-pos (2 ^ (8 * r)) above in
-      let of_m = reads p in
+      let of_m = reads v p in
       let place = one_highest _ r _ (above, below) (reads-highest of_m lt) in
       let n : size ≡ length p.0 = omega (arith, of_m.size, place) in
       let same : message ≡ p.0 = ap (λ n. take n (all_bytes ws)) n ∙ of_m.bytes in

@@ -5,12 +5,12 @@ use Rattle.komihash.proofs.padding.length.message_length.Goals as goal
 
 pub returns-else-count-eq1-clause-none : goal.returns-else-count-eq1-clause-none
 returns-else-count-eq1-clause-none g c p =
-    c.if-count-eq1.false (padded_zero _ _ p c.if-last-eq0.true)
+    c.if-count-eq1.false (padded_zero g.row.V _ p c.if-last-eq0.true)
 
 pub returns-then-length-eq0-clause-none : goal.returns-then-length-eq0-clause-none
 returns-then-length-eq0-clause-none g c p =
     let place = c.highest_place-place in
-    omega (arith, (one_place _ _ place.result p place.ensures.some place.ensures.last).0)
+    omega (arith, (one_place g.row.V _ place.result p place.ensures.some place.ensures.last).0)
 
 pub returns-then-is_padding_byte-clause-message : goal.returns-then-is_padding_byte-clause-message
 returns-then-is_padding_byte-clause-message g c =
@@ -22,4 +22,4 @@ pub returns-else-is_padding_byte-clause-none : goal.returns-else-is_padding_byte
 returns-else-is_padding_byte-clause-none g c p =
     let place = c.highest_place-place in
     iff_false c.is_padding_byte.ensures c.if-is_padding_byte.false
-    (one_place _ _ place.result p place.ensures.some place.ensures.last).1
+    (one_place g.row.V _ place.result p place.ensures.some place.ensures.last).1
