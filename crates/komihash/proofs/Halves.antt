@@ -23,7 +23,7 @@ lanes_in_lanes low e =
 pub ruleset joined = (xor_middle, xor_turn, xor_around)
 
 -- a product of a block round, as the code makes it
-abbrev pub late_product : List ℕ → List ℕ → List ℕ → ℕ → ℕ → ℕ → ℕ
+abbrev late_product : List ℕ → List ℕ → List ℕ → ℕ → ℕ → ℕ → ℕ
 late_product table ws h k j next =
     bit_xor (word_at_place table ws j) (slice_index h next)
     * bit_xor (bit_xor (word_at_place table ws k) (slice_index h j)) (slice_index h k)

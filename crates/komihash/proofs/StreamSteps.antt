@@ -28,6 +28,19 @@ IsState-start v seed s is =
       top_bit_version = λ h. absurd (false≢true h);
     }
 
+-- a write that fills no block
+pub IsState-few : (v : ℕ) (s : State) (bytes : List ℕ) → IsState v s → AreBytes bytes
+    → length s.pending + length bytes < 64
+    → IsState v (record { lanes = s.lanes; pending = s.pending ++ bytes; absorbed = s.absorbed; top_bit = s.top_bit })
+IsState-few v s bytes is are few =
+    record {
+      words = is.words;
+      bytes = AreBytes-append s.pending bytes is.bytes are;
+      few = omega (arith, length-append s.pending bytes);
+      top_bit_absorbed = is.top_bit_absorbed;
+      top_bit_version = is.top_bit_version;
+    }
+
 has_top_bit-version : (v b : ℕ) → has_top_bit v b ≡ true → v ≡ 4
 has_top_bit-version v b h = grind (arith, nat_tests)
 

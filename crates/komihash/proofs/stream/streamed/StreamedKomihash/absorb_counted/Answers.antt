@@ -1,11 +1,10 @@
 use Rattle.std.proofs.Common.{◌∙◌, ap, arith, sym}
-use Rattle.std.proofs.lemmas.List.{length-append}
 use Rattle.komihash.specs.Halves.{state_in}
 use Rattle.komihash.specs.Stream.{StateOf, absorb}
-use Rattle.komihash.proofs.BytesInWords.{AreBytes-append, AreBytes-typed}
+use Rattle.komihash.proofs.BytesInWords.{AreBytes-typed}
 use Rattle.komihash.proofs.CallLists.{HasAbsorbed-more}
 use Rattle.komihash.proofs.StreamAbsorbs.{absorb-few, absorb-blocks}
-use Rattle.komihash.proofs.StreamSteps.{IsState-blocks, after_write}
+use Rattle.komihash.proofs.StreamSteps.{IsState-few, IsState-blocks, after_write}
 use Rattle.komihash.proofs.stream.streamed.StreamedKomihash.absorb_counted.Goals as goal
 
 pub returns-then-bytes-len-clause-state : goal.returns-then-bytes-len-clause-state
@@ -40,17 +39,10 @@ returns-else-bytes-len-clause-message g c seed m is =
 pub invariant_of-self-inside : goal.invariant_of-self-inside
 invariant_of-self-inside g c =
     let s = c.self.inside in
+    let shown = state_in s.lanes s.pending s.absorbed s.top_bit in
     let bytes = c.args.bytes.now in
-    let are = AreBytes-typed bytes c.type_inv.bytes in (
-      rw c.put.ensures.bytes (record {
-        words = s.is_state.words;
-        bytes = AreBytes-append s.pending bytes s.is_state.bytes are;
-        few = omega (arith, length-append s.pending bytes);
-        top_bit_absorbed = s.is_state.top_bit_absorbed;
-        top_bit_version = s.is_state.top_bit_version;
-      }),
-      tt,
-    )
+    let are = AreBytes-typed bytes c.type_inv.bytes in
+    (rw c.put.ensures.bytes (IsState-few g.row.V shown bytes s.is_state are (omega arith)), tt)
 
 pub invariant_of-self-inside-else-bytes-len : goal.invariant_of-self-inside-else-bytes-len
 invariant_of-self-inside-else-bytes-len g c =
