@@ -7,8 +7,6 @@
   definitions  docs/DEFINITIONS.md names every public definition of specs/
   names        each name in docs/DEFINITIONS.md stands in specs/, proofs/ or src/
   files_named  each file that a document names is there
-  order        docs/ARCHITECTURE.md lists the base files of crates/komihash/proofs/, each after those it imports
-  modules      docs/ARCHITECTURE.md shows what each module of crates/komihash/src/ imports, each after those it imports
 
 Then each edit of scripts/planted/documents/ has to be found, and each rule to find one. The last line is 'N passed, M failed'.
 """
@@ -18,14 +16,12 @@ import sys
 from pathlib import Path
 
 from checks import cases_of, report
-from rules import codes_of, imports_of
 
 SCRIPTS = Path(__file__).resolve().parent
 TOP = SCRIPTS.parent
 CALLERS = "crates/komisum/src/tests/callers.rt"
 SOURCES = "crates/komihash/src/"
 DEFINITIONS = "docs/DEFINITIONS.md"
-ARCHITECTURE = "docs/ARCHITECTURE.md"
 
 # Definitions of the tally's seal, which no rule of the hash needs: docs/DECISIONS.md has them.
 SEAL = {"crates/komihash/specs/Sealed.antt", "crates/komihash/specs/Tallies.antt"}
@@ -64,12 +60,6 @@ def public_functions(text):
     traits = re.findall(r"^pub trait .*?^}", text, re.DOTALL | re.MULTILINE)
     required = re.findall(r"^    fn (\w+)", "".join(traits), re.MULTILINE)
     return required + re.findall(r"^ *pub fn (\w+)", text, re.MULTILINE)
-
-
-def too_early(names, imports):
-    """Each name that stands before one that it imports, and that one."""
-    for place, name in enumerate(names):
-        yield from ((name, late) for late in imports.get(name, set()) - set(names[:place]))
 
 
 class Documents:
@@ -135,39 +125,8 @@ class Documents:
         pattern = "(?:.*/)?" + re.escape(name).replace(r"\*", "[^/]*")
         return name in NOT_COMMITTED or bool(self.texts(pattern))
 
-    def order(self):
-        listed = re.search(r"^The base files of `proofs/`.*", self.files[ARCHITECTURE], re.MULTILINE)
-        names = code_spans(listed[0])[1:] if listed else []
-        base_files = self.texts(r"crates/komihash/proofs/(?!Lib)\w+\.antt")
-        texts = {Path(file).stem: text for file, text in base_files.items()}
-        if sorted(names) != sorted(texts):
-            yield f"{ARCHITECTURE}: it does not list the base files of proofs/, each once"
-            return
-        use = re.compile(r"^use Rattle\.komihash\.proofs\.(\w+)\.", re.MULTILINE)
-        for name, late in too_early(names, {name: set(use.findall(text)) for name, text in texts.items()}):
-            yield f"{ARCHITECTURE}: {name} stands before {late}, which it imports"
 
-    def modules(self):
-        shown = re.search(r"^## Modules\n.*?```\n(.*?)```", self.files[ARCHITECTURE], re.DOTALL | re.MULTILINE)
-        lines = shown[1].splitlines() if shown else []
-        texts = {name.removeprefix("crates/komihash/"): text for name, text in self.files.items()}
-        graph = imports_of(codes_of(texts))
-        wanted = [f"{module}: {', '.join(sorted(imported)) or 'nothing'}" for module, imported in graph.items()]
-        yield from (f"{ARCHITECTURE}: not under Modules: {line}" for line in wanted if line not in lines)
-        yield from (f"{ARCHITECTURE}: wrong under Modules: {line}" for line in lines if line not in wanted)
-        for name, late in too_early([line.partition(":")[0] for line in lines], graph):
-            yield f"{ARCHITECTURE}: under Modules {name} stands before {late}, which it imports"
-
-
-RULES = (
-    Documents.callers,
-    Documents.items,
-    Documents.definitions,
-    Documents.names,
-    Documents.files_named,
-    Documents.order,
-    Documents.modules,
-)
+RULES = (Documents.callers, Documents.items, Documents.definitions, Documents.names, Documents.files_named)
 
 
 def findings(files):

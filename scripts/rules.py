@@ -8,11 +8,10 @@ source and compared with what is allowed:
   operations  operations.txt lists what each function does: its products, loops and assignments, and its calls of
               functions that do something. All else is refused.
   tallies     A function that is passed a tally makes none. As there is no other in reach, it passes this one on.
-  seal        seal.txt lists the lines that decide who can make or change a tally, in sources, specs and proofs.
   names       A function is called by its own name: no `use .. as`, no types of functions, no macros.
   imports     Modules import in one direction: none imports a module that imports it, or leads back to it.
 
-Tests are not read. They are not part of the library, which a line of seal.txt ensures.
+Tests are not read: they are not part of the library. Who can make or change a tally, surface.py holds.
 
 The script reads names, not meanings. It can't see a product that is made of sums or shifts, a copy that is made by
 naming values anew (`let first = words[0];`), or what the standard library does inside.
@@ -50,13 +49,8 @@ REFUSED = {
     r"/\*|#(?!\s*!?\s*\[)": "there is a comment by `/*`, or a `#` without `[`, which could hide code",
 }
 
-# Sources but for the tests. The lines of seal.txt: in all files those that name what is sealed; in sources also other
-# uses of the type of a tally than the usual; in the tally's own files also all that decide who sees what.
+# Sources but for the tests.
 SOURCE = re.compile(r"src/(?!tests\b).*\.rt")
-SEALED = re.compile(r"\b(?:Sealed|Tallies|Raised|Facts|TallyKey|mod tests)\b")
-USUAL = re.compile(r"\buse crate::tally::Tally;|\btally: &mut Tally\b|&mut Tally::new\(\)")
-OF_TALLY = re.compile(r"src/tally\.rt|specs/(?:Sealed|Tallies)\.antt|proofs/Raised\.antt|proofs/tally/.*")
-VISIBLE = re.compile(r"\b(?:pub|abbrev|unfoldable|struct|impl|fn|ghost|derive)\b")
 
 TOKEN = re.compile(r"\w+|::|\.\.=?|->|=>|[=!<>]=|&&|\|\||<<=?|>>=|[-+*/%^|&]=|\S")
 PATH = re.compile(r"\w+(?:::\w+)+")
@@ -229,21 +223,6 @@ def imports_of(codes):
     return graph
 
 
-def is_sealed(file, line):
-    """Whether a line has to stand in seal.txt."""
-    if SEALED.search(line) or OF_TALLY.fullmatch(file) and VISIBLE.search(line):
-        return True
-    return bool(SOURCE.fullmatch(file)) and "Tally" in USUAL.sub("", line)
-
-
-@lru_cache(maxsize=None)
-def sealed_lines(file, text):
-    """The lines of a file that have to stand in seal.txt. A word such as `pub` is moved to the line it belongs to."""
-    text = without_comments(file, text)
-    text = re.sub(r"(\b(?:pub(?:\([^)]*\))?|abbrev|unfoldable)|#\[cfg\(test\)\])\s+", r"\1 ", text)
-    return [f"{file}: {line.strip()}" for line in text.splitlines() if is_sealed(file, line)]
-
-
 def differences(table, lines):
     """Where lines are not those of a table."""
     listed = Counter(line for line in (SCRIPTS / table).read_text(encoding="utf-8").splitlines() if line[:1] != "#")
@@ -280,9 +259,6 @@ class Crate:
             if function.is_passed_tally and "Tally" in function.tokens:
                 yield f"{function.file} {function.name}: it is passed a tally, and makes one"
 
-    def seal(self):
-        return differences("seal.txt", [line for file in self.files for line in sealed_lines(file, self.files[file])])
-
     def names(self):
         for file, code in self.codes.items():
             yield from (f"{file}: {fault}" for pattern, fault in REFUSED.items() if re.search(pattern, code))
@@ -299,7 +275,7 @@ class Crate:
                 yield f"{module} imports {back}: from there imports lead back to {module}"
 
 
-RULES = (Crate.operations, Crate.tallies, Crate.seal, Crate.names, Crate.imports)
+RULES = (Crate.operations, Crate.tallies, Crate.names, Crate.imports)
 
 
 def read_files():

@@ -81,6 +81,7 @@ part() {
 
 look_for_tools
 part python3 scripts/rules.py
+part python3 scripts/surface.py
 part python3 scripts/documents.py
 part rt ci
 part bash scripts/program.sh

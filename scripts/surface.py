@@ -1,0 +1,143 @@
+#!/usr/bin/env python3
+"""Compares all that the crates and the C library promise with surface.txt, a list that this script makes.
+
+For each file, in the order of the sources, the list has:
+
+  - every public item with its signature and clauses, and so every law; and the private functions of names.rt, whose
+    clauses state the version of each public name;
+  - every module with its visibility, every type with its derives and public fields, every impl of a trait;
+  - where the names in these lines are imported from, unless it is the Prelude of the standard library.
+
+It also has a checksum of each file of definitions, and of the proofs that open the seal of a tally; the modules of
+specs/ and proofs/; and all lines that name a part of that seal (docs/DECISIONS.md, "The tally").
+
+After a change that is wanted, `python3 scripts/surface.py renew` writes the list anew: review its difference first.
+Each edit of planted/surface/ has to make a difference. The last line is 'N passed, M failed'.
+"""
+
+import difflib
+import hashlib
+import re
+import sys
+from pathlib import Path
+
+from checks import cases_of, report
+from rules import without_comments
+
+SCRIPTS = Path(__file__).resolve().parent
+TOP = SCRIPTS.parent
+LIST = SCRIPTS / "surface.txt"
+SOURCES = ("crates/*/src/**/*.rt", "compare/library/*.rt.in", "crates/*/specs/*.antt", "crates/*/proofs/**/*.antt")
+
+# The private functions of this file are listed too.
+NAMES = "crates/komihash/src/names.rt"
+
+# What is not listed: how a function is compiled and proved, and brackets in quotes.
+INTERNAL = re.compile(r"#!?\[(?:inline|tactic)\b[^\]]*\]\s*")
+QUOTED = re.compile(r"\"[^\"\n]*\"|'[^\w\n]'")
+BRACKETS = re.compile(r"[()\[\]{}]")
+
+# An item: its attributes, visibility and kind. The items that end with a semicolon, whatever brackets they have. What
+# stands before the bracket of a clause. A public field. What an import brings in.
+KIND = re.compile(r"(?:#!?\[[^\]]*\]\s*)*(pub(?:\([^)]*\))? )?(?:ghost |const |extern \S+ )*(\w+)")
+NO_BLOCK = re.compile(r"(?:pub(?:\([^)]*\))? )?(?:use|ghost|type|const(?! fn))\b")
+CLAUSE = re.compile(r"\b(?:requires|ensures)\b\W*\w*\s*$")
+FIELD = re.compile(r"^ *pub (?:\{[^}]*\}|[^,{])*", re.MULTILINE)
+IMPORT = re.compile(r"\s*(?:ghost )?use\b.*?(?:\{([^}]*)\}|(\w+));", re.DOTALL)
+
+# The files that open the seal of a tally, and the lines that name a part of it.
+OPENERS = re.compile(r"crates/komihash/proofs/(?:Raised|Facts|tally/.*)\.antt")
+MODULES = re.compile(r"crates/\w+/(?:specs|proofs)/Lib\.antt")
+SEALED = re.compile(r"\b(?:Sealed|Tallies|Raised|Facts|TallyKey)\b")
+OTHER_TALLY = re.compile(r"(?<!use crate::tally::)(?<!tally: &mut )(?<!&mut )\bTally\b")
+
+
+def items_of(text):
+    """The items of a source or a block, without their blocks, and each block or `None`. A body is a block too."""
+    start, depth, block = 0, 0, None
+    for place, character in enumerate(text):
+        head = text[start:place].strip()
+        if character == "{" and depth == 0 and not NO_BLOCK.match(head) and not CLAUSE.search(head):
+            block = place
+        depth += (character in "([{") - (character in ")]}")
+        if depth == 0 and (character == ";" or character == "}" and block is not None):
+            yield (text[start : place + 1], None) if block is None else (text[start:block], text[block + 1 : place])
+            start, block = place + 1, None
+
+
+def promised(text, is_public=False):
+    """The public items of a text, or all of them."""
+    for item, block in items_of(text):
+        visibility, kind = KIND.match(item.strip()).groups()
+        if kind in ("mod", "use", "_"):
+            yield item
+        elif kind in ("struct", "enum"):
+            is_whole = kind == "enum" or "repr" in item
+            yield "\n".join([item, *([block] if is_whole else FIELD.findall(block or ""))])
+        elif kind == "impl":
+            members = list(promised(block, " for " in item))
+            yield from [item, *members] if members or " for " in item else []
+        elif is_public or visibility == "pub ":
+            yield item
+            yield from promised(block, True) if kind == "trait" else []
+
+
+def lines_of(items):
+    return [line.rstrip() for line in "\n".join(items).splitlines() if line.strip()]
+
+
+def without_idle_imports(items):
+    """The items without the imports of names that no other item mentions, and without those of the Prelude."""
+    imports = {item: found for item in items if (found := IMPORT.match(item))}
+    words = set(re.findall(r"\w+", " ".join(item for item in items if item not in imports)))
+    for item in items:
+        names = set(re.findall(r"\w+", "".join(filter(None, imports[item].groups())))) if item in imports else words
+        if names & words and "std.specs.Prelude" not in item:
+            yield item
+
+
+def entry_of(name, code):
+    """What is listed of a file."""
+    if name.endswith(".antt"):
+        if MODULES.fullmatch(name):
+            return ["", name, *lines_of([code])]
+        digest = hashlib.sha256(" ".join(code.split()).encode()).hexdigest()
+        return [f"{name}: {digest[:16]}"] if "/specs/" in name or OPENERS.fullmatch(name) else []
+    code = QUOTED.sub(lambda quoted: BRACKETS.sub("", quoted[0]), INTERNAL.sub("", code))
+    items = promised(code, name == NAMES)
+    lines = lines_of(without_idle_imports(list(items)))
+    return ["", name, *lines] if lines else []
+
+
+def names_seal(name, line):
+    """Whether a line of the library names a part of the seal, or the type of a tally in an unusual place."""
+    return "komihash/" in name and bool(SEALED.search(line) or "/src/" in name and OTHER_TALLY.search(line))
+
+
+def listed(files):
+    """The lines of surface.txt for these files."""
+    codes = {name: without_comments(name.removesuffix(".in"), text) for name, text in files.items()}
+    lines = [line for name, code in codes.items() for line in entry_of(name, code)]
+    seal = [(name, line) for name, code in codes.items() for line in code.splitlines() if names_seal(name, line)]
+    return lines[1:] + ["", *(f"{name}: {line.strip()}" for name, line in seal)]
+
+
+def read_files():
+    """The text of each source but for the tests, by its name."""
+    paths = [path for pattern in SOURCES for path in sorted(TOP.glob(pattern)) if "tests" not in path.as_posix()]
+    return {path.relative_to(TOP).as_posix(): path.read_text(encoding="utf-8") for path in paths}
+
+
+def findings(files):
+    """Each line that is not the list's, by the name of the only rule."""
+    wanted = LIST.read_text(encoding="utf-8").splitlines()
+    lines = difflib.unified_diff(wanted, listed(files), "surface.txt", "sources", lineterm="", n=0)
+    return {"surface": [line for line in lines if line[:2] not in ("--", "++", "@@")]}
+
+
+if __name__ == "__main__":
+    if sys.argv[1:] == ["renew"]:
+        LIST.write_text("\n".join(listed(read_files())) + "\n", encoding="utf-8")
+    else:
+        EDITS = sorted((SCRIPTS / "planted/surface").glob("*.edit"))
+        sys.exit(report(cases_of("the sources", findings, read_files(), EDITS)))
