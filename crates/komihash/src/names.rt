@@ -1,5 +1,5 @@
-//! The version of each public name. An alias of a type has no contract of its own that could say
-//! it, so a contract of each function here does.
+//! The version of each alias and re-export. These have no contracts that could say it, so the
+//! contracts of the functions here do.
 
 ghost use Rattle.std.specs.Prelude.{◌≡◌};
 ghost use Rattle.komihash.specs.Generator.{next};

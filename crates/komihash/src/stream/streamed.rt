@@ -23,8 +23,9 @@ use std::marker::Model;
 /// any time.
 ///
 /// The hash is that of `komihash`, however the bytes are cut. There is no limit to their number.
-/// Pieces of a multiple of 64 bytes are best: as long as all are, none is copied. Of other pieces
-/// up to 63 bytes are pending at a time, and are copied into the stream.
+/// Pieces of a multiple of 64 bytes are best: as long as all are, none is copied. Otherwise a write
+/// copies into the stream the bytes that complete a block that was begun, and those that begin the
+/// next one: at most 63 of each.
 #[derive(Drop)]
 pub struct StreamedKomihash<const V: u8> {
     lanes: [u64; 8],
