@@ -2,7 +2,7 @@
 # The port beside the Rust crate `komihash` 0.5.0, and the port as a static library. README.md says more.
 #
 #   run.sh library                  builds the library: out/libkomihash.a and out/komihash.h
-#   run.sh examples                 compiles and runs the README's programs on it, and compares their output
+#   run.sh examples                 compiles and runs programs in C and Rust on it, and compares their output
 #   run.sh answers                  prints the table of reference answers by the Rust crate
 #   run.sh fuzz SEED N              compares every call on N random inputs
 #   run.sh bench [REPEATS [WORD]]   times the calls, of all rows or of those whose group and name hold WORD
@@ -98,10 +98,28 @@ bench() {
 # Prints the block of a language in README.md.
 block() { sed -n "/^\`\`\`$1\$/,/^\`\`\`\$/{/^\`\`\`/!p}" README.md; }
 
-# Prints the library's sources as declarations in C.
+# Compiles C, with warnings as errors.
+compile() { "${CC:-cc}" -Wall -Wextra -Werror -I "$out" "$@"; }
+
+# Prints the checks of a stream's layout in C, for the type of the given name.
+layout() {
+    printf '_Static_assert(%s, "the layout of a stream");\n' "sizeof($1) == 132" \
+        "offsetof($1, text) == 0" "offsetof($1, length) == 131"
+}
+
+# Prints the library's struct and functions as C, and the checks of both layouts, its own and the header's.
 declarations() {
     printf '%s\n' '#include "komihash.h"' 'typedef uint8_t u8;' 'typedef uint64_t u64;' 'typedef size_t usize;' \
-        'typedef komihash_stream SavedStream;' '_Static_assert(sizeof(SavedStream) == 132, "size");'
+        'typedef komihash_stream SavedStream;'
+    sed -nE '/^pub struct SavedStream \{/,/^\}/{
+        s/^pub (struct SavedStream)/\1/
+        s/(\w+): \[(\w+); (\w+)\],/\2 \1[\3];/
+        s/(\w+): (\w+),/\2 \1;/
+        s/^\}/};/
+        p
+    }' library/lib.rt.in
+    layout komihash_stream
+    layout 'struct SavedStream'
     grep '^pub extern "C" fn ' library/version.rt.in | sed -E '
         s/^pub extern "C" fn (.*) -> (\w+)$/\2 \1;/
         s/^pub extern "C" fn (.*)$/void \1;/
@@ -113,26 +131,40 @@ declarations() {
         h; s/VERSION/4/p; g; s/VERSION/5/'
 }
 
-# Whether komihash.h declares what the library has.
+# Whether komihash.h declares what the library has, and library/calls.c calls all of it.
 fits_header() {
-    diff <(grep -o 'komihash_v[a-z0-9_]*(' "$out/komihash.h" | tr -d '(' | sort) \
-        <(nm --defined-only --extern-only "$out/libkomihash.a" | awk 'NF == 3 { print $3 }' | sort) || return 1
+    grep -o 'komihash_v[a-z0-9_]*(' "$out/komihash.h" | tr -d '(' | sort > "$out/declared"
+    nm --defined-only --extern-only "$out/libkomihash.a" | awk 'NF == 3 { print $3 }' | sort |
+        diff "$out/declared" - || return 1
+    nm --undefined-only "$out/calls.o" | grep -o 'komihash_v.*' | sort |
+        diff "$out/declared" - || return 1
     declarations > "$out/declarations.c"
-    "${CC:-cc}" -Wall -Wextra -Werror -fsyntax-only -I "$out" "$out/declarations.c"
+    compile -fsyntax-only "$out/declarations.c"
+}
+
+# Stops if a program fails, or prints something else than a file has.
+expect() {
+    "$out/$1" > "$out/$1.printed" || stop "$1 fails"
+    diff "$2" "$out/$1.printed" || stop "$1 prints something else than $2 has"
 }
 
 examples() {
-    need "${CC:-cc}" 'compiles the C program'
+    need "${CC:-cc}" 'compiles the C programs'
     need rustc 'compiles the Rust program (https://rustup.rs)'
     need nm "lists the library's functions"
-    fits_header || stop 'komihash.h and the library have different functions'
     block c > "$out/example.c"
     block rust > "$out/example.rs"
-    "${CC:-cc}" -Wall -Wextra -Werror -I "$out" "$out/example.c" "$out/libkomihash.a" -o "$out/example-c"
-    rustc --edition 2024 -L "native=$out" -l static=komihash "$out/example.rs" -o "$out/example-rust"
-    diff <(block text) <("$out/example-c") || stop 'the C program prints something else than README.md says'
-    diff <(block text) <("$out/example-rust") || stop 'the Rust program prints something else than README.md says'
-    echo 'Both programs print what README.md says, and komihash.h declares what the library has.'
+    block text > "$out/example.txt"
+    compile -c library/calls.c -o "$out/calls.o"
+    fits_header || stop 'komihash.h, the library and library/calls.c do not agree'
+    compile "$out/calls.o" "$out/libkomihash.a" -o "$out/calls"
+    compile "$out/example.c" "$out/libkomihash.a" -o "$out/example-c"
+    rustc --edition 2024 -D warnings -L "native=$out" -l static=komihash "$out/example.rs" \
+        -o "$out/example-rust"
+    expect calls library/calls.txt
+    expect example-c "$out/example.txt"
+    expect example-rust "$out/example.txt"
+    echo 'All programs print what is expected, and komihash.h declares what the library has.'
 }
 
 case "$*" in
