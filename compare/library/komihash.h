@@ -1,5 +1,6 @@
 /* komihash.h: komihash versions 4 and 5, a fast hash of 64 bits that is not cryptographic.
- * Link with libkomihash.a. A function of version 4 is the one of version 5 by its other name.
+ * Link with libkomihash.a. Each function exists for both versions: the names for version 4 begin
+ * with komihash_v4, those for version 5 with komihash_v5.
  *
  * For every call:
  * - A length counts items: bytes, or words of eight bytes. It is at most PTRDIFF_MAX bytes.
