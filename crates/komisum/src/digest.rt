@@ -20,7 +20,6 @@ use std::io::Read;
 /// either it reads nothing more, and the reader stands after the bytes taken.
 ///
 /// The chunk must not be empty, and the reader must not have failed before.
-#[tactic(auto, unfolding(komihash::specs::Stream::absorb))]
 pub fn digest<R: Read, S: KomiStream>(
     reader: &mut Watched<R>,
     seed: u64,
@@ -49,6 +48,7 @@ pub fn digest<R: Read, S: KomiStream>(
         → Takes R.remaining reader.old reader.new (λ taken. taken ≤ most) }
 {
     laws::cut();
+    laws::empty_write();
     laws::joined();
     let tally = &mut Tally::new();
     let mut stream = S::start(seed, tally);
