@@ -3,7 +3,7 @@
 ghost use Rattle.std.specs.Prelude.{◌<◌, ◌≤◌, ◌^◌};
 
 use super::fakes::{Calls, FakeReader, Stop};
-use super::messages::{HASH_OF_16, HASH_OF_31_IN_FOUR, HASH_OF_64, HASH_OF_95, message};
+use super::messages::{BLOCK_MESSAGE, HASH_OF_BLOCK, HIGH_END, ZERO};
 use crate::digest::digest;
 use crate::watched::Watched;
 use komihash::stream::{Call, KomiStream, LONGEST_TEXT, run_on};
@@ -62,14 +62,12 @@ fn digests(
 
 #[test]
 fn any_chunk(rt: HostRuntime) {
-    let short = message::<16>();
-    let long = message::<95>();
     for room in [1, 7, 64, 95, 96] {
-        digests(&rt, &short, 96, 16, room, Ok(HASH_OF_16));
-        digests(&rt, &short, 96, 15, room, Err("too long"));
-        digests(&rt, &long, 96, 95, room, Ok(HASH_OF_95));
-        digests(&rt, &long, 1, 95, room, Ok(HASH_OF_95));
-        digests(&rt, &long, 96, 94, room, Err("too long"));
+        digests(&rt, &ZERO, 96, 16, room, Ok(0));
+        digests(&rt, &ZERO, 96, 15, room, Err("too long"));
+        digests(&rt, &BLOCK_MESSAGE, 96, 95, room, Ok(6));
+        digests(&rt, &BLOCK_MESSAGE, 1, 95, room, Ok(6));
+        digests(&rt, &BLOCK_MESSAGE, 96, 94, room, Err("too long"));
     }
     digests(&rt, b"", 96, 0, 96, Ok(0xb7683ea7430132b4));
     digests(&rt, b"a", 96, 0, 96, Err("too long"));
@@ -77,10 +75,9 @@ fn any_chunk(rt: HostRuntime) {
 
 #[test]
 fn version_four(rt: HostRuntime) {
-    let message = message::<31>();
-    let reader = FakeReader::new(&message, 7, Calls::endless());
+    let reader = FakeReader::new(&HIGH_END, 7, Calls::endless());
     let (hash, _) = digested::<v4::StreamedKomihash>(reader, 31, 96);
-    assert!(rt; hash == Ok(HASH_OF_31_IN_FOUR));
+    assert!(rt; hash == Ok(7));
 }
 
 // Compares the hash or fault, and how often `digest` reads.
@@ -100,25 +97,22 @@ fn digests_by(
 
 #[test]
 fn nothing_is_read_after_a_fault(rt: HostRuntime) {
-    let short = message::<16>();
-    let long = message::<95>();
     for call in 1..=15 {
-        let reader = FakeReader::new(&long, 7, Calls::stopping(Stop::Fails, call));
+        let reader = FakeReader::new(&BLOCK_MESSAGE, 7, Calls::stopping(Stop::Fails, call));
         digests_by(&rt, reader, 95, Err("read failed"), call);
     }
-    let reader = FakeReader::new(&short, 8, Calls::stopping(Stop::Fails, 2));
+    let reader = FakeReader::new(&ZERO, 8, Calls::stopping(Stop::Fails, 2));
     digests_by(&rt, reader, 16, Err("read failed"), 2);
-    let reader = FakeReader::new(&long, 7, Calls::stopping(Stop::Fails, 16));
-    digests_by(&rt, reader, 95, Ok(HASH_OF_95), 15);
-    let reader = FakeReader::new(&long, 7, Calls::endless());
+    let reader = FakeReader::new(&BLOCK_MESSAGE, 7, Calls::stopping(Stop::Fails, 16));
+    digests_by(&rt, reader, 95, Ok(6), 15);
+    let reader = FakeReader::new(&BLOCK_MESSAGE, 7, Calls::endless());
     digests_by(&rt, reader, 20, Err("too long"), 3);
 }
 
 #[test]
 fn a_read_of_no_bytes_is_the_end(rt: HostRuntime) {
-    let message = message::<95>();
-    let reader = FakeReader::new(&message, 64, Calls::stopping(Stop::MovesNone, 2));
-    digests_by(&rt, reader, 95, Ok(HASH_OF_64), 2);
+    let reader = FakeReader::new(&BLOCK_MESSAGE, 64, Calls::stopping(Stop::MovesNone, 2));
+    digests_by(&rt, reader, 95, Ok(HASH_OF_BLOCK), 2);
 }
 
 // Returns the hash of bytes that come in pieces. After each piece the stream is saved, and another
@@ -141,10 +135,9 @@ fn digested_with_saves<S: KomiStream>(bytes: &[u8], size: usize) -> Option<u64>
 
 #[test]
 fn saving_changes_nothing(rt: HostRuntime) {
-    let message = message::<95>();
     for size in [1, 7, 63, 64, 95] {
-        let hash = digested_with_saves::<v5::StreamedKomihash>(&message, size);
-        assert!(rt; hash == Some(HASH_OF_95), "pieces of {size}");
-        digests(&rt, &message, 96, 95, size, Ok(HASH_OF_95));
+        let hash = digested_with_saves::<v5::StreamedKomihash>(&BLOCK_MESSAGE, size);
+        assert!(rt; hash == Some(6), "pieces of {size}");
+        digests(&rt, &BLOCK_MESSAGE, 96, 95, size, Ok(6));
     }
 }

@@ -1,22 +1,47 @@
 //! Lines of inputs, and what a fault leaves.
 
-ghost use Rattle.std.specs.Prelude.{◌≤◌};
+ghost use Rattle.std.specs.Prelude.{◌≡◌, ◌↔◌, ◌+◌, ◌<◌, ◌≤◌, false};
+ghost use Rattle.komisum.specs.Ending.{ending_of};
+ghost use Rattle.komisum.specs.Program.{chunk_length};
+ghost use Rattle.komisum.specs.Watched.{Takes};
 
 use super::fakes::{Calls, FakeReader, FakeWriter, Stop};
-use super::messages::message;
-use crate::ending::Fault;
+use super::messages::{BLOCK_MESSAGE, HIGH_END, ZERO};
+use crate::ending::{Ending, Fault};
 use crate::hex::hex_line;
 use crate::program::show;
 use crate::settings::Version;
 use crate::watched::Watched;
+use std::io::{Read, Write};
 use std::process::Abort;
 
 static ZEROS: [u8; 5000] = [0; 5000];
 
-// Lines of messages with seed 0, by the Rust crate.
-const LINE_OF_16: &[u8; 17] = b"05d539f6f9c41083\n";
+// Lines of messages with seed 0.
+const LINE_OF_NONE: &[u8; 17] = b"b7683ea7430132b4\n";
 
-const LINE_OF_95: &[u8; 17] = b"33d5bc38d7199825\n";
+const LINE_OF_ZERO: &[u8; 17] = b"0000000000000000\n";
+
+const LINE_OF_BLOCK_MESSAGE: &[u8; 17] = b"0000000000000006\n";
+
+// Calls `show`. Its limits, 2^40 bytes of input and 4,096 of a read, stand here as plain numbers.
+fn show_within_limits<R: Read, W: Write>(
+    reader: &mut Watched<R>,
+    writer: &mut Watched<W>,
+    version: Version,
+    seed: u64,
+) -> Result<(), Fault>
+    requires reader { reader.old.failed ≡ false }
+    requires writer { writer.old.failed ≡ false }
+    ensures input { Takes R.remaining reader.old reader.new (λ taken.
+        (ending_of result ≡ Ending.Failed Fault.TooLong)
+        ↔ ((reader.new.failed ≡ false) × (1099511627776 < taken))) }
+    ensures chunk { chunk_length ≡ 4096 }
+    ensures read { Takes R.remaining reader.old reader.new (λ taken.
+        taken ≤ 1099511627776 + 4096) }
+{
+    show(reader, writer, version, seed)
+}
 
 // Returns the message of a fault, or `ok`.
 fn name(shown: Result<(), Fault>) -> &'static str {
@@ -35,7 +60,7 @@ fn shown<'a>(
 ) -> (&'static str, FakeReader<'a>, FakeWriter) {
     let mut reader = Watched::new(reader);
     let mut writer = Watched::new(writer);
-    let result = show(&mut reader, &mut writer, version, seed);
+    let result = show_within_limits(&mut reader, &mut writer, version, seed);
     (name(result), reader.into_inner(), writer.into_inner())
 }
 
@@ -79,28 +104,15 @@ fn writes(rt: &impl Abort, bytes: &[u8], version: Version, seed: u64, line: &[u8
 #[test]
 fn lines_of_version_five(rt: HostRuntime) {
     writes(&rt, b"a", Version::Five, 0, b"5117f5064cfd0faa\n");
-    writes(&rt, b"", Version::Five, 0, b"b7683ea7430132b4\n");
+    writes(&rt, b"", Version::Five, 0, LINE_OF_NONE);
     writes(&rt, b"", Version::Five, u64::MAX, b"4bcc041f3f885859\n");
-    writes(&rt, &message::<16>(), Version::Five, 0, LINE_OF_16);
-    writes(
-        &rt,
-        &message::<31>(),
-        Version::Five,
-        0,
-        b"b185b58982d52180\n",
-    );
-    writes(&rt, &message::<95>(), Version::Five, 0, LINE_OF_95);
+    writes(&rt, &ZERO, Version::Five, 0, LINE_OF_ZERO);
+    writes(&rt, &BLOCK_MESSAGE, Version::Five, 0, LINE_OF_BLOCK_MESSAGE);
 }
 
 #[test]
 fn line_of_version_four(rt: HostRuntime) {
-    writes(
-        &rt,
-        &message::<31>(),
-        Version::Four,
-        0,
-        b"0f7df4052fe226f9\n",
-    );
+    writes(&rt, &HIGH_END, Version::Four, 0, b"0000000000000007\n");
 }
 
 #[test]
@@ -124,8 +136,7 @@ fn reads_of_a_chunk(rt: HostRuntime) {
 
 // Compares what `show` leaves, and how often it reads, where one of the reads of 7 bytes fails.
 fn read_at(rt: &impl Abort, call: usize, name: &str, reads: usize, taken: &[u8], calls: usize) {
-    let message = message::<95>();
-    let reader = FakeReader::new(&message, 7, Calls::stopping(Stop::Fails, call));
+    let reader = FakeReader::new(&BLOCK_MESSAGE, 7, Calls::stopping(Stop::Fails, call));
     let writer = FakeWriter::new(usize::MAX, Calls::endless());
     let (given, reader, writer) = shown(reader, writer, Version::Five, 0);
     leaves(rt, (given, writer), name, taken, calls);
@@ -137,40 +148,46 @@ fn reads_that_fail(rt: HostRuntime) {
     for call in 1..=15 {
         read_at(&rt, call, "read failed", call, b"", 0);
     }
-    read_at(&rt, 16, "ok", 15, LINE_OF_95, 2);
+    read_at(&rt, 16, "ok", 15, LINE_OF_BLOCK_MESSAGE, 2);
 }
 
-// Compares what `show` leaves if the writer, which accepts `at_once` bytes a call, stops at one.
-fn write_at(rt: &impl Abort, at_once: usize, stop: Stop, call: usize) {
+// Compares what `show` leaves of a message's line if the writer, which accepts `at_once` bytes a
+// call, stops at one.
+fn write_at(
+    rt: &impl Abort,
+    bytes: &[u8],
+    line: &[u8; 17],
+    at_once: usize,
+    stop: Stop,
+    call: usize,
+) {
     let before = 17.min(at_once.saturating_mul(call.saturating_sub(1)));
-    let left = written_by(&message::<16>(), at_once, Calls::stopping(stop, call));
-    leaves(rt, left, "write failed", &LINE_OF_16[..before], call);
+    let left = written_by(bytes, at_once, Calls::stopping(stop, call));
+    leaves(rt, left, "write failed", &line[..before], call);
 }
 
 // Each write fails in turn, and then the flush. No call comes after that.
-fn writes_at(rt: &impl Abort, at_once: usize, writes: usize)
+fn writes_at(rt: &impl Abort, bytes: &[u8], line: &[u8; 17], at_once: usize, writes: usize)
     requires { writes ≤ 17 }
 {
     for call in 1..=writes + 1 {
-        write_at(rt, at_once, Stop::Fails, call);
+        write_at(rt, bytes, line, at_once, Stop::Fails, call);
     }
     let calls = Calls::stopping(Stop::Fails, writes + 2);
-    let left = written_by(&message::<16>(), at_once, calls);
-    leaves(rt, left, "ok", LINE_OF_16, writes + 1);
+    let left = written_by(bytes, at_once, calls);
+    leaves(rt, left, "ok", line, writes + 1);
 }
 
 #[test]
 fn writes_that_fail(rt: HostRuntime) {
-    writes_at(&rt, 1, 17);
-    writes_at(&rt, 5, 4);
-    writes_at(&rt, 17, 1);
-    let left = written_by(b"", 5, Calls::stopping(Stop::Fails, 2));
-    leaves(&rt, left, "write failed", b"b7683", 2);
+    writes_at(&rt, &ZERO, LINE_OF_ZERO, 1, 17);
+    writes_at(&rt, &ZERO, LINE_OF_ZERO, 17, 1);
+    writes_at(&rt, b"", LINE_OF_NONE, 5, 4);
 }
 
 #[test]
 fn writes_that_accept_nothing(rt: HostRuntime) {
     for call in 1..=4usize {
-        write_at(&rt, 5, Stop::MovesNone, call);
+        write_at(&rt, &ZERO, LINE_OF_ZERO, 5, Stop::MovesNone, call);
     }
 }

@@ -1,7 +1,7 @@
 //! Calls through a watched reader or writer.
 
 use super::fakes::{Calls, FakeReader, FakeWriter, ODD, Stop};
-use super::messages::message;
+use super::messages::ZERO;
 use crate::watched::Watched;
 use std::io::{ErrorKind, Read, Result, Write};
 use std::process::Abort;
@@ -52,11 +52,10 @@ fn flushes(
 
 #[test]
 fn reads_through(rt: HostRuntime) {
-    let message = message::<16>();
-    let reader = FakeReader::new(&message, 8, Calls::stopping(Stop::FailsOddly, 3));
+    let reader = FakeReader::new(&ZERO, 8, Calls::stopping(Stop::FailsOddly, 3));
     let mut watched = Watched::new(reader);
-    reads(&rt, &mut watched, &message[..8], false);
-    reads(&rt, &mut watched, &message[8..], false);
+    reads(&rt, &mut watched, &ZERO[..8], false);
+    reads(&rt, &mut watched, &ZERO[8..], false);
     let result = watched.read(&mut [0u8; 16]);
     returns(&rt, (result, watched.failed()), Err(ODD), true);
     reads(&rt, &mut watched, b"", true);
@@ -83,7 +82,7 @@ fn writes_through(rt: HostRuntime) {
 fn flushes_through(rt: HostRuntime) {
     let mut watched = Watched::new(FakeWriter::new(3, Calls::stopping(Stop::FailsOddly, 3)));
     writes(&rt, &mut watched, b"12345", Ok(3), false);
-    flushes(&rt, &mut watched, Ok(0), false);
+    writes(&rt, &mut watched, b"45678", Ok(3), false);
     flushes(&rt, &mut watched, Err(ODD), true);
     flushes(&rt, &mut watched, Ok(0), true);
     assert!(rt; watched.into_inner().calls() == 4);
@@ -91,7 +90,8 @@ fn flushes_through(rt: HostRuntime) {
 
 #[test]
 fn writes_that_accept_nothing(rt: HostRuntime) {
-    let mut watched = Watched::new(FakeWriter::new(3, Calls::stopping(Stop::MovesNone, 2)));
+    let mut watched = Watched::new(FakeWriter::new(3, Calls::stopping(Stop::MovesNone, 3)));
     writes(&rt, &mut watched, b"", Ok(0), false);
+    flushes(&rt, &mut watched, Ok(0), false);
     writes(&rt, &mut watched, b"1", Ok(0), true);
 }
