@@ -65,20 +65,26 @@ fn fills<const V: u8>(rt: &impl Abort, mut generator: Komirand<V>, fills: &[&[u8
     generator
 }
 
+// Compares the bytes that fill_bytes writes from two words 0, and the outputs after them; also
+// after a call on no bytes, which changes nothing.
+fn fills_from_zero<const V: u8>(rt: &impl Abort, bytes: &[&[u8]], outputs: &[u64]) {
+    let generator = Komirand::<V>::new(0, 0);
+    gives(rt, fills(rt, generator, bytes), outputs);
+    let generator = fills(rt, Komirand::<V>::new(0, 0), &[&[]]);
+    gives(rt, fills(rt, generator, bytes), outputs);
+}
+
 #[test]
 fn fill_bytes_discards_unused_bytes(rt: HostRuntime) {
     let nine = [0xaa, 0xaa, 0xaa, 0xaa, 0xaa, 0xaa, 0xaa, 0xaa, 0xfe];
-    fills(&rt, v4::Komirand::new(0, 0), &[&nine]);
-    let threes: [&[u8]; 3] = [&[], &[0xaa, 0xaa, 0xaa], &[0xfe, 0xff, 0xff]];
-    fills(&rt, v4::Komirand::new(0, 0), &threes);
+    fills_from_zero::<4>(&rt, &[&nine], &[]);
+    fills_from_zero::<4>(&rt, &[&[0xaa, 0xaa, 0xaa], &[0xfe, 0xff, 0xff]], &[]);
     let eleven = [
         0x55, 0x55, 0x55, 0x55, 0x55, 0x55, 0x55, 0x55, 0xe6, 0x79, 0x9e,
     ];
-    fills(&rt, v5::Komirand::new(0, 0), &[&eleven]);
-    let threes: [&[u8]; 3] = [&[], &[0x55, 0x55, 0x55], &[0xe6, 0x79, 0x9e]];
-    fills(&rt, v5::Komirand::new(0, 0), &threes);
-    let after = fills(&rt, v5::Komirand::new(0, 0), &[&[0x55, 0x55, 0x55]]);
-    gives(&rt, after, &[0x79e7_9e79_e79e_79e6]);
+    fills_from_zero::<5>(&rt, &[&eleven], &[]);
+    fills_from_zero::<5>(&rt, &[&[0x55, 0x55, 0x55], &[0xe6, 0x79, 0x9e]], &[]);
+    fills_from_zero::<5>(&rt, &[&[0x55, 0x55, 0x55]], &[0x79e7_9e79_e79e_79e6]);
 }
 
 // Writes 16 bytes at once and as twice 8, and no bytes, which takes no step.

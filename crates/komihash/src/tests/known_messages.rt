@@ -2,7 +2,7 @@
 
 use super::known_texts::LANES;
 
-/// Its pair round takes e to 0 and a to a word whose closing gives 0, so the hash is 0.
+/// Its pair round takes e to 0, so both products of the closing are 0, and so is the hash.
 pub(crate) const ZERO: [u8; 16] = [
     0x23, 0xb7, 0xf5, 0x1b, 0xf5, 0x11, 0x2d, 0xfe, 0xf1, 0xff, 0xff, 0xff, 0xff, 0xff, 0xff, 0xff,
 ];
