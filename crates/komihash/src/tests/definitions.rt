@@ -12,6 +12,7 @@ ghost use Rattle.komihash.specs.Words.{all_bytes};
 
 use super::known_messages::{BLOCK_END, HIGH_END, SIX, ZERO};
 use super::known_texts::LANES;
+use crate::stream::LONGEST_TEXT;
 
 // The lanes s1 to s4 of seed 0. They are words of the block of `block_message`.
 const S1: u64 = 0x01d2_ee0a_e40a_48dc;
@@ -29,6 +30,7 @@ fn hashes()
     ensures none { komi 5 0 [] ≡ 0xb7683ea7430132b4 }
     ensures none_in_four { komi 4 0 [] ≡ 0xb7683ea7430132b4 }
     ensures greatest_seed { komi 5 0xffffffffffffffff [] ≡ 0x4bcc041f3f885859 }
+    ensures irregular_seed { komi 5 0x0123456789abcdef [] ≡ 0x269707e5bf5fbe07 }
     ensures letter { komi 5 0 (0x61 ∷ []) ≡ 0x5117f5064cfd0faa }
     ensures letter_in_four { komi 4 0 (0x61 ∷ []) ≡ 0x5117f5064cfd0faa }
     ensures zero { komi 5 0 ZERO ≡ 0 }
@@ -79,6 +81,7 @@ fn zero_and_more()
 fn padded_words()
     ensures none { padded_words 5 [] ≡ 0 ∷ [] }
     ensures three { padded_words 4 (0x61 ∷ 0x62 ∷ 0x63 ∷ []) ≡ 0x01636261 ∷ [] }
+    ensures low_in_four { padded_words 4 (0x7f ∷ []) ≡ 0x017f ∷ [] }
     ensures high { padded_words 5 (0x80 ∷ []) ≡ 0x0180 ∷ [] }
     ensures high_in_four { padded_words 4 (0x80 ∷ []) ≡ 0x0280 ∷ [] }
     ensures full { padded_words 5 FULL ≡ 0xffffffffffffffff ∷ 1 ∷ [] }
@@ -96,6 +99,16 @@ fn texts()
         ≡ 5 ∷ 1 ∷ 0 ∷ 0 ∷ (drop 56 LANES ++ take 24 (drop 32 LANES) ++ drop 32 LANES) }
 {}
 
+// The lengths of texts and of a block, as plain numbers.
+#[tactic(auto, unfolding(crate::specs::Saved::text, crate::specs::Stream::absorb, crate::specs::Rounds::mix, crate::specs::Words::bytes_of))]
+fn lengths()
+    ensures shortest { length (text 5 (start 0)) ≡ 68 }
+    ensures longest { length (text 5 (absorb 5 (start 0) (take 63 LANES))) ≡ 131 }
+    ensures room { LONGEST_TEXT ≡ 131 }
+    ensures below_a_block { (absorb 5 (start 0) (take 63 LANES)).pending ≡ take 63 LANES }
+    ensures block { (absorb 5 (start 0) LANES).pending ≡ [] }
+{}
+
 #[test]
 fn definitions_give_the_known_values() {
     hashes();
@@ -105,4 +118,5 @@ fn definitions_give_the_known_values() {
     zero_and_more();
     padded_words();
     texts();
+    lengths();
 }
