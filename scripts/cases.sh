@@ -45,11 +45,9 @@ note() {
 # Runs a function of `count` cases that need a tool, if the command `works` shows that the tool
 # works here. Otherwise skips them.
 cases_with() {
-    local tool=$1 works=$2 count=$3 cases=$4 before=$((passed + failed))
+    local tool=$1 works=$2 count=$3 cases=$4
     if "$works" > "$room/tried" 2>&1; then
         "$cases"
-        [ $((passed + failed - before)) = "$count" ] ||
-            note "the number of cases that need $tool" "$count" "$((passed + failed - before))"
     else
         skipped=$((skipped + count))
         cat "$room/tried"
@@ -57,13 +55,21 @@ cases_with() {
     fi
 }
 
-# Prints the counts. Succeeds if no case failed.
+# Notes whether this many cases came before, and prints the counts. Succeeds if no case failed.
 counted() {
     local skips=", $skipped skipped"
     [ "$skipped" != 0 ] || skips=
+    note 'the number of cases' "$1" $((passed + failed + skipped))
     echo "$passed passed, $failed failed$skips"
     [ "$failed" = 0 ]
 }
+
+# Three cases that have to fail: two texts that differ, nothing wanted, another number of cases.
+if must_fail=$(note differing a b; note empty '' ''; counted 1) ||
+    [ "${must_fail##*$'\n'}" != '0 passed, 3 failed' ]; then
+    printf '%s\n' "$must_fail" 'FAILED: cases.sh has to count three failed cases above'
+    exit 1
+fi
 
 # Runs a command, and prints its status, standard output and standard error, each after its name.
 ran() {

@@ -1,5 +1,22 @@
 """What the scripts share that read files of the repository and are tried on planted edits."""
 
+import contextlib
+import io
+import sys
+from pathlib import Path
+
+SCRIPTS = Path(__file__).resolve().parent
+TOP = SCRIPTS.parent
+
+# What is read: not what Python leaves beside the scripts.
+TEXTS = {".rt", ".in", ".antt", ".md", ".sh", ".py", ".edit", ".txt", ".c"}
+
+
+def texts_of(*patterns):
+    """The texts of the repository's files that match a pattern, by name, in the order of the patterns."""
+    paths = [path for pattern in patterns for path in sorted(TOP.glob(pattern)) if path.suffix in TEXTS]
+    return {path.relative_to(TOP).as_posix(): path.read_text(encoding="utf-8") for path in paths}
+
 
 def planted(files, edit):
     """The files, as texts by name, with an edit in: a line `file: NAME`, then pairs of lines `old: TEXT`, `new: TEXT`.
@@ -20,24 +37,31 @@ def planted(files, edit):
     return {**files, file: text}
 
 
-def cases_of(subject, findings, files, edits):
+def trial(findings, before, files, edit):
+    """The case of an edit: only the rule that its folder is named after, or all that `+` joins, find something new."""
+    try:
+        found = findings(planted(files, edit))
+    except ValueError as fault:
+        return edit.name, [str(fault)]
+    new = [(rule, text) for rule, texts in found.items() for text in texts if text not in before[rule]]
+    shown = [f"{rule} finds {edit.stem}: {text}" for rule, text in new]
+    is_found = {rule for rule, _ in new} == {*edit.parent.name.split("+")}
+    return (shown[0], []) if is_found else (f"only {edit.parent.name} finds {edit.stem}", shown or ["no rule does"])
+
+
+def cases_of(subject, findings, files, folder, count):
     """Each case: its name, and its faults. `findings` tells of files what each rule finds, by the rule's name.
 
-    In the files themselves nothing may be found. Each edit has to add a finding, and each rule to find an edit.
+    In the files themselves nothing may be found. Each edit in a folder of `folder` has to be found by the rule of that
+    name alone, and each rule needs such an edit. `count` is the number of all cases.
     """
     before = findings(files)
-    yield from ((f"{subject}, {rule}", texts) for rule, texts in before.items())
-    finders = set()
-    for edit in edits:
-        try:
-            found = findings(planted(files, edit))
-        except ValueError as fault:
-            yield edit.name, [str(fault)]
-            continue
-        new = [(rule, text) for rule, texts in found.items() for text in texts if text not in before[rule]]
-        finders |= {rule for rule, _ in new}
-        yield ": ".join(["found", edit.stem, *(text for _, text in new[:1])]), [] if new else ["no rule finds it"]
-    yield from ((f"a planted edit is found by {rule}", [] if rule in finders else ["none is"]) for rule in before)
+    edits = sorted(folder.glob("*/*.edit"))
+    cases = [(f"{subject}, {rule}", texts) for rule, texts in before.items()]
+    cases += [trial(findings, before, files, edit) for edit in edits]
+    cases += [("each rule finds an edit alone", sorted(before.keys() - {edit.parent.name for edit in edits}))]
+    wrong = [] if len(cases) + 1 == count else [f"there are {len(cases) + 1}"]
+    return [*cases, (f"there are {count} cases", wrong)]
 
 
 def report(cases):
@@ -49,3 +73,15 @@ def report(cases):
         passed += not faults
     print(f"{passed} passed, {failed} failed")
     return int(failed > 0)
+
+
+def must_fail():
+    """Ends the script if one of five cases that have to fail does not, or is not counted as failed."""
+    with contextlib.redirect_stdout(io.StringIO()) as told:
+        folder = SCRIPTS / "planted/checks"
+        status = report(cases_of("a fake", lambda files: {"fake": files["fake"].split()}, {"fake": "fault"}, folder, 0))
+    if status != 1 or told.getvalue().splitlines()[-1] != "0 passed, 5 failed":
+        sys.exit(f"{told.getvalue()}FAILED: checks.py has to count five failed cases above")
+
+
+must_fail()

@@ -8,17 +8,15 @@
   names        each name in docs/DEFINITIONS.md stands in specs/, proofs/ or src/
   files_named  each file that a document names is there
 
-Then each edit of scripts/planted/documents/ has to be found, and each rule to find one. The last line is 'N passed, M failed'.
+Each edit of scripts/planted/documents/RULE/ is found by that rule alone. The last line is 'N passed, M failed'.
 """
 
 import re
 import sys
-from pathlib import Path
 
-from checks import cases_of, report
+from checks import SCRIPTS, cases_of, report, texts_of
 
-SCRIPTS = Path(__file__).resolve().parent
-TOP = SCRIPTS.parent
+FILES = ("*.md", "docs/*.md", "scripts/**/*", "crates/*/[smp]*/**/*")
 CALLERS = "crates/komisum/src/tests/callers.rt"
 SOURCES = "crates/komihash/src/"
 DEFINITIONS = "docs/DEFINITIONS.md"
@@ -29,20 +27,8 @@ SEAL = {"crates/komihash/specs/Sealed.antt", "crates/komihash/specs/Tallies.antt
 # Files that a document names and that are not committed: what builds leave, and what a reader would write.
 NOT_COMMITTED = {"out/komisum", "Answers.antt", "Invariants.antt"}
 
-# What is read: not what Python leaves beside the scripts.
-TEXTS = {".rt", ".antt", ".md", ".sh", ".py", ".edit", ".txt", ".c"}
-
 NAMED_FILE = re.compile(r"[\w./*{},-]+\.(?:rt|antt|md|sh|py|edit|h|c)")
 PUBLIC = re.compile(r"^(?:(?:abbrev|unfoldable) )?pub (?:record )?([\w-]+)", re.MULTILINE)
-
-
-def read_files():
-    """The text of each document and of each source of the crates."""
-    found = [*TOP.glob("*.md"), *TOP.glob("docs/*.md"), *TOP.glob("scripts/**/*")]
-    for part in ("src", "specs", "proofs", "must-fail"):
-        found += TOP.glob(f"crates/*/{part}/**/*")
-    texts = (path for path in sorted(found) if path.suffix in TEXTS)
-    return {path.relative_to(TOP).as_posix(): path.read_text(encoding="utf-8") for path in texts}
 
 
 def rust_blocks(text):
@@ -136,5 +122,4 @@ def findings(files):
 
 
 if __name__ == "__main__":
-    EDITS = sorted((SCRIPTS / "planted/documents").glob("*.edit"))
-    sys.exit(report(cases_of("the documents", findings, read_files(), EDITS)))
+    sys.exit(report(cases_of("the documents", findings, texts_of(*FILES), SCRIPTS / "planted/documents", 21)))

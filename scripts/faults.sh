@@ -152,10 +152,11 @@ refused_requests() {
 compiles() { "${CC:-cc}" -shared -fPIC -o "$room/refuse.so" ../../scripts/refuse.c; }
 cases_with 'a C compiler' compiles 11 refused_requests
 
-# The number and size of allocations don't depend on the input's length, and all are freed.
+# The number and size of allocations don't depend on the input's length, and all are freed. Two
+# arguments need more.
 heap_usage() {
     rm -f "$room/usage"
-    valgrind --log-file="$room/usage" "$program" > "$room/output"
+    valgrind --log-file="$room/usage" "$program" "$@" > "$room/output"
     grep -o 'total heap usage.*' "$room/usage"
 }
 memory_by_length() {
@@ -165,9 +166,11 @@ memory_by_length() {
             'total heap usage: 2 allocs, 2 frees, 65,792 bytes allocated' \
             "$(message "$size" | heap_usage)"
     done
+    note 'allocations with two arguments' \
+        'total heap usage: 7 allocs, 7 frees, 66,560 bytes allocated' "$(heap_usage 4 1f < stdin)"
 }
 counts_memory() { valgrind true; }
-cases_with valgrind counts_memory 5 memory_by_length
+cases_with valgrind counts_memory 6 memory_by_length
 
 # The tests of `komihash` make every call. Their program names no allocation function, so no call
 # can allocate; `komisum` names two, which refuse.c replaces.
@@ -186,4 +189,4 @@ allocation_functions() {
 has_built_tests() { [ -x ../komihash/out/komihash_tests ]; }
 cases_with "the program of komihash's tests" has_built_tests 2 allocation_functions
 
-counted
+counted 101

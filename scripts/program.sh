@@ -68,4 +68,4 @@ done << 'SIZES'
 4294967297 18b2c156967628ab df1023034e6f8a39
 SIZES
 
-counted
+counted 59

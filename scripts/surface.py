@@ -19,13 +19,9 @@ import difflib
 import hashlib
 import re
 import sys
-from pathlib import Path
 
-from checks import cases_of, report
-from rules import without_comments
+from checks import SCRIPTS, cases_of, report, texts_of
 
-SCRIPTS = Path(__file__).resolve().parent
-TOP = SCRIPTS.parent
 LIST = SCRIPTS / "surface.txt"
 SOURCES = ("crates/*/src/**/*.rt", "compare/library/*.rt.in", "crates/*/specs/*.antt", "crates/*/proofs/**/*.antt")
 
@@ -116,16 +112,10 @@ def names_seal(name, line):
 
 def listed(files):
     """The lines of surface.txt for these files."""
-    codes = {name: without_comments(name.removesuffix(".in"), text) for name, text in files.items()}
+    codes = {name: re.sub(r"--.*" if name.endswith(".antt") else r"//.*", "", text) for name, text in files.items()}
     lines = [line for name, code in codes.items() for line in entry_of(name, code)]
     seal = [(name, line) for name, code in codes.items() for line in code.splitlines() if names_seal(name, line)]
     return lines[1:] + ["", *(f"{name}: {line.strip()}" for name, line in seal)]
-
-
-def read_files():
-    """The text of each source but for the tests, by its name."""
-    paths = [path for pattern in SOURCES for path in sorted(TOP.glob(pattern)) if "tests" not in path.as_posix()]
-    return {path.relative_to(TOP).as_posix(): path.read_text(encoding="utf-8") for path in paths}
 
 
 def findings(files):
@@ -136,8 +126,8 @@ def findings(files):
 
 
 if __name__ == "__main__":
+    FILES = {name: text for name, text in texts_of(*SOURCES).items() if "tests" not in name}
     if sys.argv[1:] == ["renew"]:
-        LIST.write_text("\n".join(listed(read_files())) + "\n", encoding="utf-8")
+        LIST.write_text("\n".join(listed(FILES)) + "\n", encoding="utf-8")
     else:
-        EDITS = sorted((SCRIPTS / "planted/surface").glob("*.edit"))
-        sys.exit(report(cases_of("the sources", findings, read_files(), EDITS)))
+        sys.exit(report(cases_of("the sources", findings, FILES, SCRIPTS / "planted/surface", 51)))
