@@ -125,29 +125,32 @@ refused() {
 }
 
 # Refuses each allocation in turn, and then one that is never requested. For each the program
-# reports no memory and reads nothing, except for the tolerated one, which it requests again.
+# reports no memory and reads nothing, except for the tolerated one, which it requests again. The
+# last one, for the input's buffer, is also requested after one for the arguments was refused.
 refuse_each() {
-    local name=$1 line=$2 requests=$3 tolerated=$4 k
+    local name=$1 line=$2 requests=$3 tolerated=$4 k made
     shift 4
     for ((k = 1; k <= requests; k++)); do
+        made=$((k < requests ? k + 1 : k))
         if [ "$k" = "$tolerated" ]; then
             note "$name: allocation $k is refused, and requested again" \
                 "$(line "$line"; printf 'left \nrequests %s\n' $((requests + 1)))" \
                 "$(refused "$k" "$@")"
         else
             note "$name: allocation $k is refused" \
-                "$(fault 1 'no memory'; printf 'left a\nrequests %s\n' "$k")" "$(refused "$k" "$@")"
+                "$(fault 1 'no memory'; printf 'left a\nrequests %s\n' $made)" \
+                "$(refused "$k" "$@")"
         fi
     done
     note "$name: there is no allocation $k" \
         "$(line "$line"; printf 'left \nrequests %s\n' "$requests")" "$(refused "$k" "$@")"
 }
 
-# With two arguments, allocation 6 reserves room for the list of both. It is requested again when
+# With two arguments, allocation 5 reserves room for the list of both. It is requested again when
 # the first is pushed.
 refused_requests() {
     refuse_each 'no arguments' "$whole" 2 none
-    refuse_each 'two arguments' 4bde5bdc63771675 7 6 4 1f
+    refuse_each 'two arguments' 4bde5bdc63771675 7 5 4 1f
 }
 compiles() { "${CC:-cc}" -shared -fPIC -o "$room/refuse.so" ../../scripts/refuse.c; }
 cases_with 'a C compiler' compiles 11 refused_requests

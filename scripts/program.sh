@@ -31,6 +31,13 @@ refuse 'seventeen digits' 5 00000000000000000
 refuse 'a character that is no digit' 5 g
 refuse 'an argument that is not UTF-8' 5 $'\xff'
 refuse 'a third argument that is not UTF-8' 5 0 $'\xff'
+refuse -h -h
+refuse --help --help
+for length in 257 300; do
+    zeros=$(printf "%0${length}d" 0)
+    refuse "a first argument of $length digits" "$zeros"
+    refuse "a third argument of $length digits" 5 0 "$zeros"
+done
 
 # Sizes around 4,096 bytes, the buffer's 65,536 and above 2^20, from files and slow pipes.
 slow_message() {
@@ -68,4 +75,4 @@ done << 'SIZES'
 4294967297 18b2c156967628ab df1023034e6f8a39
 SIZES
 
-counted 59
+counted 71

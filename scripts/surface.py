@@ -130,4 +130,4 @@ if __name__ == "__main__":
     if sys.argv[1:] == ["renew"]:
         LIST.write_text("\n".join(listed(FILES)) + "\n", encoding="utf-8")
     else:
-        sys.exit(report(cases_of("the sources", findings, FILES, SCRIPTS / "planted/surface", 51)))
+        sys.exit(report(cases_of("the sources", findings, FILES, SCRIPTS / "planted/surface", 52)))

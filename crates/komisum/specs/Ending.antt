@@ -1,13 +1,16 @@
 -- How the program ends: its message, and its status.
-use Rattle.std.specs.Prelude.{ℕ, List, [], ◌∷◌, ◌++◌, codes, None, Some, Ok, Err}
+use Rattle.std.specs.Prelude.{◌≡◌, ℕ, false, List, [], ◌∷◌, ◌++◌, codes, None, Some, Ok, Err}
 use Rattle.std.specs.declared.option.Option.{Option}
 use Rattle.std.specs.declared.result.Result.{Result}
+use Rattle.std.specs.Io.KnownBytes.{Appends}
+use Rattle.komisum.specs.Watched.{AppendsPrefix}
 use Rattle.komisum.specs.declared.ending.Fault.{Fault}
 use Rattle.komisum.specs.declared.ending.Fault.TheVariants.{Read, TooLong, Write}
 use Rattle.komisum.specs.declared.ending.Refusal.{Refusal}
 use Rattle.komisum.specs.declared.ending.Refusal.TheVariants.{NoMemory, Usage}
 use Rattle.komisum.specs.declared.ending.Ending.{Ending}
 use Rattle.komisum.specs.declared.ending.Ending.TheVariants.{Shown, Failed, Refused}
+use Rattle.komisum.specs.declared.watched.Watched.{Watched}
 
 -- the message of a fault
 abbrev pub fault_text : Fault → List ℕ
@@ -40,6 +43,14 @@ text_of (Refused refusal) = Some (refusal_text refusal)
 abbrev pub said : Option (List ℕ) → List ℕ
 said None = []
 said (Some text) = codes "komisum: " ++ text ++ 10 ∷ []
+
+-- this line is written, or a prefix of it if a write fails; without a message nothing happens
+pub record Reports {W : Type 0} (message : Option (List ℕ)) (contents : W → Option (List ℕ))
+    (old new : Watched W) : Type 0 where
+  pub line : new.failed ≡ false
+      → Appends (contents old.inner) (contents new.inner) (said message)
+  pub begun : AppendsPrefix (contents old.inner) (contents new.inner) (said message)
+  pub silent : message ≡ None → new ≡ old
 
 -- the program's status
 abbrev pub status_of : Ending → ℕ

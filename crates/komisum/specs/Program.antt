@@ -1,14 +1,17 @@
 -- What the program reads and writes, and when it ends with a fault.
-use Rattle.std.specs.Prelude.{◌≡◌, ◌↔◌, ℕ, ◌+◌, ◌^◌, ◌<◌, ◌≤◌, true, false, List, IfSome}
+use Rattle.std.specs.Prelude.{◌≡◌, ◌↔◌, ℕ, ◌+◌, ◌^◌, ◌<◌, ◌≤◌, true, false, List}
+use Rattle.std.specs.Prelude.{Err, IfSome, IfErr, IsOkAnd}
 use Rattle.std.specs.declared.option.Option.{Option}
-use Rattle.std.specs.Io.KnownBytes.{Appends, IsAtEnd, Keeps}
+use Rattle.std.specs.declared.result.Result.{Result}
+use Rattle.std.specs.Io.KnownBytes.{Appends, IsAtEnd}
 use Rattle.komihash.specs.Hash.{komi}
 use Rattle.komisum.specs.Hex.{line}
 use Rattle.komisum.specs.Settings.{number_of}
 use Rattle.komisum.specs.Watched.{AppendsPrefix, Takes}
 use Rattle.komisum.specs.declared.ending.Ending.{Ending}
-use Rattle.komisum.specs.declared.ending.Ending.TheVariants.{Shown, Failed}
+use Rattle.komisum.specs.declared.ending.Ending.TheVariants.{Shown, Failed, Refused}
 use Rattle.komisum.specs.declared.ending.Fault.TheVariants.{Read, TooLong, Write}
+use Rattle.komisum.specs.declared.ending.Refusal.{Refusal}
 use Rattle.komisum.specs.declared.settings.Version.{Version}
 use Rattle.komisum.specs.declared.watched.Watched.{Watched}
 
@@ -51,7 +54,25 @@ pub record ReadsEnough {R : Type 0} (ending : Ending) (remaining : R → Option 
   pub read_bound : ending ≡ Failed Read → Takes remaining old new (λ taken. taken ≤ longest_input)
 
 -- nothing is written if a read fails or the input is too long
-pub record WritesNothing {W : Type 0} (ending : Ending) (contents : W → Option (List ℕ))
-    (old new : Watched W) : Type 0 where
-  pub read : ending ≡ Failed Read → Keeps (contents old.inner) (contents new.inner)
-  pub too_long : ending ≡ Failed TooLong → Keeps (contents old.inner) (contents new.inner)
+pub record WritesNothing {W : Type 0} (ending : Ending) (old new : Watched W) : Type 0 where
+  pub read : ending ≡ Failed Read → new ≡ old
+  pub too_long : ending ≡ Failed TooLong → new ≡ old
+
+-- what the program did with its input until it ended: it showed the line for what was asked, or
+-- passed on the refusal, with nothing read and nothing written
+pub record Ran {R W : Type 0} (ending : Ending) (asked : Result (Version × ℕ) Refusal)
+    (remaining : R → Option (List ℕ)) (old new : Watched R)
+    (contents : W → Option (List ℕ)) (before after : Watched W) : Type 0 where
+  pub line : ending ≡ Shown → IsOkAnd asked (λ settings.
+      AppendsLine settings.0 settings.1 (remaining old.inner)
+      (contents before.inner) (contents after.inner))
+  pub begun : ending ≡ Failed Write → IsOkAnd asked (λ settings.
+      AppendsLinePrefix settings.0 settings.1 (remaining old.inner)
+      (contents before.inner) (contents after.inner))
+  pub faults : FaultsCome ending remaining old new after
+  pub reads : ReadsEnough ending remaining old new
+  pub unwritten : WritesNothing ending before after
+  pub refused : IfErr asked (λ refusal. ending ≡ Refused refusal)
+  pub accepted : (refusal : Refusal) → ending ≡ Refused refusal → asked ≡ Err refusal
+  pub untouched : (refusal : Refusal) → ending ≡ Refused refusal
+      → (new ≡ old) × (after ≡ before)

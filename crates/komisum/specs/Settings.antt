@@ -50,7 +50,8 @@ settings_of [] = Some (Five, 0)
 settings_of (version ∷ seed ∷ []) = both_of (version_of version) (seed_of seed)
 settings_of _ = None
 
--- what arguments ask for, or the refusal in their place; if they ask for nothing, wrong usage
+-- what arguments ask for, or the refusal in their place; wrong usage if there are some, but not
+-- exactly a version and a seed
 abbrev pub asked :
     {A B : Type 0} → Result (Vec (String A) B) Refusal → Result (Version × ℕ) Refusal
 asked (Ok arguments) = ok_or (settings_of (map string_bytes arguments.items)) Usage

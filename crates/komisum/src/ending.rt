@@ -31,9 +31,9 @@ impl Fault {
 /// Why the program did not begin to read.
 #[derive(Drop)]
 pub enum Refusal {
-    /// The arguments or the input's buffer could not be allocated.
+    /// The arguments, a list of them or the input's buffer could not be allocated.
     NoMemory,
-    /// The arguments ask for no version and seed.
+    /// There are arguments, but not exactly a version and a seed.
     Usage,
 }
 

@@ -14,7 +14,6 @@ mod settings;
 mod tests;
 mod watched;
 
-use ending::{Ending, Refusal};
 use std::io::BufReader;
 use std::process::ExitCode;
 use watched::Watched;
@@ -23,13 +22,10 @@ use watched::Watched;
 const BUFFER_LENGTH: usize = 1 << 16;
 
 fn main(rt: HostRuntime) -> ExitCode {
-    let ending = match BufReader::with_capacity(rt.alloc(), BUFFER_LENGTH, rt.stdin()) {
-        Ok(input) => {
-            let asked = settings::settings_given(&rt);
-            let mut output = Watched::new(rt.stdout());
-            program::run(asked, &mut Watched::new(input), &mut output)
-        }
-        Err(_) => Ending::Refused(Refusal::NoMemory),
-    };
-    report::report(&mut Watched::new(rt.stderr()), &ending)
+    program::run(
+        settings::settings_given(&rt),
+        &mut BufReader::with_capacity(rt.alloc(), BUFFER_LENGTH, rt.stdin()).map(Watched::new),
+        &mut Watched::new(rt.stdout()),
+        &mut Watched::new(rt.stderr()),
+    )
 }

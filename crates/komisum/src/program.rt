@@ -1,18 +1,21 @@
 //! The program, over any reader and writer.
 
-ghost use Rattle.std.specs.Prelude.{◌≡◌, false, OnOk, IfErr, IsOkAnd};
-ghost use Rattle.komisum.specs.Ending.{ending_of};
+ghost use Rattle.std.specs.Prelude.{◌≡◌, false, OnOk, IfOk, IsErr, IsOkAnd};
+ghost use Rattle.std.specs.Process.{exit_status};
+ghost use Rattle.komisum.specs.Ending.{Reports, ending_of, status_of, text_of};
 ghost use Rattle.komisum.specs.Program.{AppendsLine, AppendsLinePrefix};
-ghost use Rattle.komisum.specs.Program.{FaultsCome, ReadsEnough, WritesNothing};
-ghost use Rattle.komisum.specs.declared.ending.Refusal.{Refusal as ARefusal};
+ghost use Rattle.komisum.specs.Program.{FaultsCome, Ran, ReadsEnough, WritesNothing};
+ghost use Rattle.komisum.specs.declared.ending.Ending.{Ending as AnEnding};
 
 use crate::digest::digest;
 use crate::ending::{Ending, Fault, Refusal};
 use crate::hex::hex_line;
+use crate::report::report;
 use crate::settings::Version;
 use crate::watched::{Watched, flush, write_whole};
 use komihash::{v4, v5};
-use std::io::{Read, Write};
+use std::io::{self, Read, Write};
+use std::process::ExitCode;
 
 // The bytes of an input, at most.
 const LONGEST_INPUT: u64 = 1 << 40;
@@ -44,7 +47,7 @@ pub fn show<R: Read, W: Write>(
         (W.contents writer.old.inner) (W.contents writer.new.inner) }
     ensures faults { FaultsCome (ending_of result) R.remaining reader.old reader.new writer.new }
     ensures reads { ReadsEnough (ending_of result) R.remaining reader.old reader.new }
-    ensures unwritten { WritesNothing (ending_of result) W.contents writer.old writer.new }
+    ensures unwritten { WritesNothing (ending_of result) writer.old writer.new }
 {
     let mut chunk = [0u8; CHUNK_LENGTH];
     let hash = match version {
@@ -55,40 +58,38 @@ pub fn show<R: Read, W: Write>(
     flush(writer)
 }
 
-/// Shows the line for the version and the seed that the arguments ask for.
+/// Runs the program on what `main` got from its host. Returns the program's status.
 ///
-/// Returns `Shown`, or `Failed` with the fault that `show` returned. If the arguments were refused,
-/// returns `Refused` with that refusal, and neither reads nor writes.
+/// Shows the line for the version and the seed that the arguments ask for, and writes the message
+/// of how that ended, if it has one, to `errors`. If the arguments were refused, or the input's
+/// buffer could not be allocated, neither reads nor writes anything else. A buffer that could not
+/// be allocated ends as `no memory`, whatever the arguments.
 ///
-/// Neither side may have failed before.
-pub fn run<R: Read, W: Write>(
+/// Neither the input nor an output may have failed before.
+pub fn run<R: Read, W: Write, E: Write>(
     asked: Result<(Version, u64), Refusal>,
-    input: &mut Watched<R>,
-    writer: &mut Watched<W>,
-) -> Ending
-    requires input { input.old.failed ≡ false }
-    requires writer { writer.old.failed ≡ false }
+    input: &mut io::Result<Watched<R>>,
+    output: &mut Watched<W>,
+    errors: &mut Watched<E>,
+) -> ExitCode
+    requires input { IfOk input.old (λ reader. reader.failed ≡ false) }
+    requires output { output.old.failed ≡ false }
+    requires errors { errors.old.failed ≡ false }
 
-    // As `show`, with the version and the seed that were asked for.
-    ensures line { result ≡ Ending.Shown → IsOkAnd asked (λ settings.
-        AppendsLine settings.0 settings.1 (R.remaining input.old.inner)
-        (W.contents writer.old.inner) (W.contents writer.new.inner)) }
-    ensures begun { result ≡ Ending.Failed Fault.Write → IsOkAnd asked (λ settings.
-        AppendsLinePrefix settings.0 settings.1 (R.remaining input.old.inner)
-        (W.contents writer.old.inner) (W.contents writer.new.inner)) }
-    ensures faults { FaultsCome result R.remaining input.old input.new writer.new }
-    ensures reads { ReadsEnough result R.remaining input.old input.new }
-    ensures unwritten { WritesNothing result W.contents writer.old writer.new }
-
-    // A refusal is passed on, with nothing read and nothing written.
-    ensures refused { IfErr asked (λ refusal. result ≡ Ending.Refused refusal) }
-    ensures accepted { (refusal : ARefusal) → result ≡ Ending.Refused refusal
-        → asked ≡ Err refusal }
-    ensures untouched { (refusal : ARefusal) → result ≡ Ending.Refused refusal
-        → (input.new ≡ input.old) × (writer.new ≡ writer.old) }
+    // One ending has the status and the message, and says what was read and written.
+    ensures { (ending : AnEnding) × record {
+      status : exit_status result ≡ status_of ending;
+      message : Reports (text_of ending) E.contents errors.old errors.new;
+      ran : IfOk input.old (λ old. IsOkAnd input.new (λ new.
+          Ran ending asked R.remaining old new W.contents output.old output.new));
+      no_buffer : IsErr input.old → (ending ≡ Ending.Refused Refusal.NoMemory)
+          × (input.new ≡ input.old) × (output.new ≡ output.old);
+    } }
 {
-    match asked {
-        Ok((version, seed)) => Ending::of(show(input, writer, version, seed)),
-        Err(refusal) => Ending::Refused(refusal),
-    }
+    let ending = match (input, asked) {
+        (Err(_), _) => Ending::Refused(Refusal::NoMemory),
+        (Ok(_), Err(refusal)) => Ending::Refused(refusal),
+        (Ok(input), Ok((version, seed))) => Ending::of(show(input, output, version, seed)),
+    };
+    report(errors, &ending)
 }

@@ -3,7 +3,7 @@
 ghost use Rattle.std.specs.Prelude.{◌≡◌, ◌↔◌, true, false, Some, OnOk, IfErr, IsErr};
 ghost use Rattle.std.specs.Io.KnownBytes.{Appends};
 ghost use Rattle.std.specs.Process.{exit_status};
-ghost use Rattle.komisum.specs.Ending.{said, status_of, text_of};
+ghost use Rattle.komisum.specs.Ending.{Reports, said, status_of, text_of};
 ghost use Rattle.komisum.specs.Watched.{AppendsPrefix};
 
 use crate::ending::{Ending, Fault};
@@ -34,11 +34,7 @@ fn write_message<W: Write>(errors: &mut Watched<W>, text: &str) -> Result<(), Fa
 pub fn report<W: Write>(errors: &mut Watched<W>, ending: &Ending) -> ExitCode
     requires { errors.old.failed ≡ false }
     ensures status { exit_status result ≡ status_of ending.now }
-    ensures line { errors.new.failed ≡ false
-        → Appends (W.contents errors.old.inner) (W.contents errors.new.inner)
-        (said (text_of ending.now)) }
-    ensures begun { AppendsPrefix (W.contents errors.old.inner) (W.contents errors.new.inner)
-        (said (text_of ending.now)) }
+    ensures reported { Reports (text_of ending.now) W.contents errors.old errors.new }
 {
     if let Some(text) = ending.text() {
         let _ = write_message(errors, text);

@@ -96,8 +96,8 @@ impl<H: Env> Env for AfterName<'_, H> {
     }
 }
 
-// Returns the refusal for an error of `env::args`: an argument is not UTF-8, or could not be
-// allocated.
+// Returns the refusal for an error of `env::args`, whose kind is `InvalidData` if an argument is not
+// UTF-8. Takes all others for a lack of memory.
 fn refusal_for(error: &io::Error) -> Refusal
     ensures { (result ≡ Refusal.Usage) ↔ (error_kind error.now ≡ ErrorKind.InvalidData) }
 {
@@ -120,8 +120,9 @@ fn collected<H: AllocGlobal>(host: &H, arguments: Args) -> Result<Vec<String>, R
 
 /// Returns the arguments that `env::args` returned, all of them, in order and unchanged.
 ///
-/// Returns `Usage` if `env::args` found one that is not UTF-8, and `NoMemory` if they could not be
-/// allocated.
+/// Returns `Usage` exactly if the kind of the error of `env::args` is `InvalidData`, as for an
+/// argument that is not UTF-8, and `NoMemory` for all other errors, or if the list of the arguments
+/// could not be allocated.
 pub fn arguments_of<H: AllocGlobal>(
     host: &H,
     given: io::Result<Args>,
@@ -159,8 +160,8 @@ fn strs_of<'a, H: AllocGlobal>(
 
 /// Returns the version and the seed that arguments ask for, or the refusal in place of arguments.
 ///
-/// Returns `Usage` if they ask for no version and seed, and `NoMemory` if a list of them could not
-/// be allocated.
+/// Returns `Usage` if there are arguments, but not exactly a version and a seed, and `NoMemory` if a
+/// list of them could not be allocated.
 pub fn settings_in<H: AllocGlobal>(
     host: &H,
     arguments: Result<Vec<String>, Refusal>,

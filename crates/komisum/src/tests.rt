@@ -1,5 +1,6 @@
 //! Tests of the calls, on values from elsewhere.
 
+mod arguments;
 mod callers;
 mod digest;
 mod ending;

@@ -1,138 +1,180 @@
-//! The whole program, from an environment that a test makes to what is written.
+//! The whole program: from its settings and its input to the status and both outputs.
 
 use super::fakes::{Calls, FakeReader, FakeWriter, Stop};
 use super::messages::message;
-use crate::hex::hex_line;
+use crate::ending::Refusal;
 use crate::program::run;
-use crate::settings::settings_given;
+use crate::settings::Version;
 use crate::watched::Watched;
-use std::alloc::Global;
-use std::env::FillError;
-use std::process::Abort;
-use std::rt::Env;
+use std::io::{self, ErrorKind, Read};
+use std::process::{Abort, ExitCode};
 
-// An environment of these arguments, and no variables.
+/// What a run ends with: its status, the number of reads, and both outputs.
 #[derive(Drop)]
-struct FakeArguments<'a>(&'a [&'a [u8]]);
-
-impl Env for FakeArguments<'_> {
-    fn arg(&self, i: usize, buf: &mut [u8]) -> Result<usize, FillError> {
-        let Some(argument) = self.0.get(i) else {
-            return Err(FillError::NotPresent);
-        };
-        if argument.len() > buf.len() {
-            return Err(FillError::TooLong);
-        }
-        buf[..argument.len()].copy_from_slice(argument);
-        Ok(argument.len())
-    }
-
-    fn var(&self, _name: &str, _buf: &mut [u8]) -> Result<usize, FillError> {
-        Err(FillError::NotPresent)
-    }
-
-    fn var_at(&self, _i: usize, _buf: &mut [u8]) -> Result<usize, FillError> {
-        Err(FillError::NotPresent)
-    }
+pub struct Outcome {
+    status: ExitCode,
+    reads: usize,
+    output: FakeWriter,
+    errors: FakeWriter,
 }
 
-// Runs the program over 31 bytes. Returns its message, how often it read, and the writer.
+// Returns a writer that accepts any number of bytes a call, and never stops.
+fn sound() -> FakeWriter {
+    FakeWriter::new(usize::MAX, Calls::endless())
+}
+
+// Runs the program on an input. Returns the status and both outputs.
+fn ended<R: Read + Drop>(
+    asked: Result<(Version, u64), Refusal>,
+    input: io::Result<R>,
+    output: FakeWriter,
+    errors: FakeWriter,
+) -> (ExitCode, FakeWriter, FakeWriter) {
+    let mut output = Watched::new(output);
+    let mut errors = Watched::new(errors);
+    let mut input = input.map(Watched::new);
+    let status = run(asked, &mut input, &mut output, &mut errors);
+    (status, output.into_inner(), errors.into_inner())
+}
+
+// Runs the program over 31 bytes, 7 a read.
 fn ran(
-    alloc: Global,
-    arguments: &[&[u8]],
+    asked: Result<(Version, u64), Refusal>,
     calls: Calls,
-    writer: FakeWriter,
-) -> (&'static str, usize, FakeWriter) {
+    output: FakeWriter,
+    errors: FakeWriter,
+) -> Outcome {
     let message = message::<31>();
     let mut reader = FakeReader::new(&message, 7, calls);
-    let mut writer = Watched::new(writer);
-    let host = (FakeArguments(arguments), alloc);
-    let ending = run(
-        settings_given(&host),
-        &mut Watched::new(&mut reader),
-        &mut writer,
+    let (status, output, errors) = ended(asked, Ok(&mut reader), output, errors);
+    Outcome {
+        status,
+        reads: reader.reads(),
+        output,
+        errors,
+    }
+}
+
+/// Runs the program over 31 bytes, 7 a read, where nothing fails.
+pub fn shown(asked: Result<(Version, u64), Refusal>) -> Outcome {
+    ran(asked, Calls::endless(), sound(), sound())
+}
+
+// Compares the status, the number of reads, and what each output accepted.
+fn leaves(
+    rt: &impl Abort,
+    outcome: &Outcome,
+    status: u8,
+    reads: usize,
+    output: &[u8],
+    errors: &[u8],
+) {
+    assert!(rt;
+        outcome.errors.taken() == errors,
+        "another message at status {status}"
     );
-    (
-        ending.text().unwrap_or("ok"),
-        reader.reads(),
-        writer.into_inner(),
-    )
+    assert!(rt;
+        outcome.output.taken() == output,
+        "other bytes at status {status}"
+    );
+    assert!(rt; outcome.reads == reads, "other reads than {reads}");
+    assert!(rt;
+        outcome.status == ExitCode::from(status),
+        "another status than {status}"
+    );
 }
 
-// Compares its message, and what it wrote.
-fn says(rt: &impl Abort, given: (&'static str, usize, FakeWriter), text: &str, taken: &[u8]) {
-    let (said, _, writer) = given;
-    assert!(rt; said == text, "{said} and not {text}");
-    assert!(rt; writer.taken() == taken, "other bytes, and {text}");
+/// The line of 31 bytes with seed 0 in version 4.
+pub const LINE_OF_FOUR: &[u8; 17] = b"0f7df4052fe226f9\n";
+
+/// The line of 31 bytes with seed 0 in version 5.
+pub const LINE_OF_FIVE: &[u8; 17] = b"b185b58982d52180\n";
+
+const USAGE: &[u8; 35] = b"komisum: usage: komisum [4|5 SEED]\n";
+
+const NO_MEMORY: &[u8; 19] = b"komisum: no memory\n";
+
+const READ_FAILED: &[u8; 21] = b"komisum: read failed\n";
+
+const WRITE_FAILED: &[u8; 22] = b"komisum: write failed\n";
+
+/// Compares a line, after which nothing is reported.
+pub fn writes(rt: &impl Abort, outcome: &Outcome, line: &[u8; 17]) {
+    leaves(rt, outcome, 0, 6, line, b"");
+    assert!(rt; outcome.errors.calls() == 0);
 }
 
-// Compares the line for these arguments, where nothing fails.
-fn writes(rt: &impl Abort, alloc: Global, arguments: &[&[u8]], line: &[u8; 17]) {
-    let writer = FakeWriter::new(usize::MAX, Calls::endless());
-    let given = ran(alloc, arguments, Calls::endless(), writer);
-    says(rt, given, "ok", line);
+// Compares a refusal: nothing is read, and the output is not called.
+fn refuses(rt: &impl Abort, outcome: &Outcome, status: u8, line: &[u8]) {
+    leaves(rt, outcome, status, 0, b"", line);
+    assert!(rt; outcome.output.calls() == 0);
 }
 
-// The lines of 31 bytes with seed 0.
-const LINE_OF_FOUR: &[u8; 17] = b"0f7df4052fe226f9\n";
-
-const LINE_OF_FIVE: &[u8; 17] = b"b185b58982d52180\n";
-
-#[test]
-fn lines_for_arguments(rt: HostRuntime) {
-    writes(&rt, rt.alloc(), &[b"komisum"], LINE_OF_FIVE);
-    writes(&rt, rt.alloc(), &[b"komisum", b"5", b"0"], LINE_OF_FIVE);
-    writes(&rt, rt.alloc(), &[b"komisum", b"4", b"0"], LINE_OF_FOUR);
-    writes(&rt, rt.alloc(), &[], LINE_OF_FIVE);
-}
-
-#[test]
-fn a_program_name_that_is_not_utf8(rt: HostRuntime) {
-    let name = b"\xff".as_slice();
-    writes(&rt, rt.alloc(), &[name], LINE_OF_FIVE);
-    writes(&rt, rt.alloc(), &[name, b"4", b"0"], LINE_OF_FOUR);
-}
-
-#[test]
-fn seeds_of_arguments(rt: HostRuntime) {
-    let message = message::<31>();
-    let four = hex_line(komihash::v4::komihash(&message, 0x1f));
-    writes(&rt, rt.alloc(), &[b"komisum", b"4", b"1f"], &four);
-    let five = hex_line(komihash::v5::komihash(&message, 0x1f));
-    writes(&rt, rt.alloc(), &[b"komisum", b"5", b"1f"], &five);
-    let all = hex_line(komihash::v5::komihash(&message, 0x123456789abcdef0));
-    let digits = b"123456789abcdef0";
-    writes(&rt, rt.alloc(), &[b"komisum", b"5", digits], &all);
-}
-
-// Arguments that are wrong usage: nothing is read, and nothing written.
-fn refuses(rt: &impl Abort, alloc: Global, arguments: &[&[u8]]) {
-    let writer = FakeWriter::new(usize::MAX, Calls::endless());
-    let (text, reads, writer) = ran(alloc, arguments, Calls::endless(), writer);
-    assert!(rt; text == "usage: komisum [4|5 SEED]");
-    assert!(rt; reads == 0 && writer.calls() == 0);
+/// Compares wrong usage.
+pub fn refuses_usage(rt: &impl Abort, outcome: &Outcome) {
+    refuses(rt, outcome, 2, USAGE);
 }
 
 #[test]
-fn wrong_usage(rt: HostRuntime) {
-    refuses(&rt, rt.alloc(), &[b"komisum", b"4"]);
-    refuses(&rt, rt.alloc(), &[b"komisum", b"5", b"\xff"]);
-    refuses(&rt, rt.alloc(), &[b"komisum", b"5", b"0", b"0"]);
-    refuses(&rt, rt.alloc(), &[b"komisum", b"5", b"0", b"0", b"0"]);
-    refuses(&rt, rt.alloc(), &[b"komisum", b"5", b"0", b""]);
-    refuses(&rt, rt.alloc(), &[b"komisum", b"5", &[b'0'; 300]]);
-    refuses(&rt, rt.alloc(), &[b"komisum", b"5", b"FF"]);
-    refuses(&rt, rt.alloc(), &[b"komisum", b"5", b"00000000000000000"]);
+fn lines(rt: HostRuntime) {
+    writes(&rt, &shown(Ok((Version::Four, 0))), LINE_OF_FOUR);
+    writes(&rt, &shown(Ok((Version::Five, 0))), LINE_OF_FIVE);
 }
 
 #[test]
-fn faults(rt: HostRuntime) {
-    let writer = FakeWriter::new(usize::MAX, Calls::endless());
-    let calls = Calls::stopping(Stop::Fails, 3);
-    let (text, reads, writer) = ran(rt.alloc(), &[b"komisum"], calls, writer);
-    assert!(rt; text == "read failed");
-    assert!(rt; reads == 3 && writer.calls() == 0);
-    let writer = FakeWriter::new(5, Calls::stopping(Stop::Fails, 2));
-    let given = ran(rt.alloc(), &[b"komisum"], Calls::endless(), writer);
-    says(&rt, given, "write failed", b"b185b");
+fn refusals(rt: HostRuntime) {
+    refuses_usage(&rt, &shown(Err(Refusal::Usage)));
+    refuses(&rt, &shown(Err(Refusal::NoMemory)), 1, NO_MEMORY);
+}
+
+// Compares how the program ends without an input.
+fn has_no_memory(rt: &impl Abort, asked: Result<(Version, u64), Refusal>) {
+    let none: io::Result<FakeReader> = Err(io::Error::from(ErrorKind::OutOfMemory));
+    let (status, output, errors) = ended(asked, none, sound(), sound());
+    let outcome = Outcome {
+        status,
+        reads: 0,
+        output,
+        errors,
+    };
+    refuses(rt, &outcome, 1, NO_MEMORY);
+}
+
+#[test]
+fn no_buffer(rt: HostRuntime) {
+    has_no_memory(&rt, Ok((Version::Five, 0)));
+    has_no_memory(&rt, Err(Refusal::Usage));
+    has_no_memory(&rt, Err(Refusal::NoMemory));
+}
+
+#[test]
+fn reads_that_fail(rt: HostRuntime) {
+    for call in 1..=6usize {
+        let calls = Calls::stopping(Stop::Fails, call);
+        let outcome = ran(Ok((Version::Five, 0)), calls, sound(), sound());
+        leaves(&rt, &outcome, 1, call, b"", READ_FAILED);
+        assert!(rt; outcome.output.calls() == 0);
+    }
+}
+
+// The writes of 5 bytes fail in turn, and then the flush.
+#[test]
+fn writes_that_fail(rt: HostRuntime) {
+    for call in 1..=5usize {
+        let output = FakeWriter::new(5, Calls::stopping(Stop::Fails, call));
+        let outcome = ran(Ok((Version::Five, 0)), Calls::endless(), output, sound());
+        let written = 17.min(5 * (call - 1));
+        leaves(&rt, &outcome, 1, 6, &LINE_OF_FIVE[..written], WRITE_FAILED);
+    }
+}
+
+// A message that can't be written, or only in part, changes no status.
+#[test]
+fn messages_that_cannot_be_written(rt: HostRuntime) {
+    let errors = FakeWriter::new(7, Calls::stopping(Stop::Fails, 1));
+    let none = ran(Err(Refusal::Usage), Calls::endless(), sound(), errors);
+    leaves(&rt, &none, 2, 0, b"", b"");
+    let errors = FakeWriter::new(7, Calls::stopping(Stop::MovesNone, 3));
+    let part = ran(Err(Refusal::NoMemory), Calls::endless(), sound(), errors);
+    leaves(&rt, &part, 1, 0, b"", b"komisum: ");
 }

@@ -1,0 +1,131 @@
+//! Arguments, from an environment that a test makes to what the program does.
+
+use super::messages::message;
+use super::program::{LINE_OF_FIVE, LINE_OF_FOUR, Outcome, refuses_usage, shown, writes};
+use crate::hex::hex_line;
+use crate::settings::{Version, settings_given};
+use std::alloc::Global;
+use std::env::FillError;
+use std::process::Abort;
+use std::rt::Env;
+
+// An environment of these arguments, and no variables.
+#[derive(Drop)]
+struct FakeArguments<'a>(&'a [&'a [u8]]);
+
+impl Env for FakeArguments<'_> {
+    fn arg(&self, i: usize, buf: &mut [u8]) -> Result<usize, FillError> {
+        let Some(argument) = self.0.get(i) else {
+            return Err(FillError::NotPresent);
+        };
+        if argument.len() > buf.len() {
+            return Err(FillError::TooLong);
+        }
+        buf[..argument.len()].copy_from_slice(argument);
+        Ok(argument.len())
+    }
+
+    fn var(&self, _name: &str, _buf: &mut [u8]) -> Result<usize, FillError> {
+        Err(FillError::NotPresent)
+    }
+
+    fn var_at(&self, _i: usize, _buf: &mut [u8]) -> Result<usize, FillError> {
+        Err(FillError::NotPresent)
+    }
+}
+
+// Runs the program over 31 bytes with these arguments, the first of which is the program's name.
+fn with(alloc: Global, arguments: &[&[u8]]) -> Outcome {
+    shown(settings_given(&(FakeArguments(arguments), alloc)))
+}
+
+// Compares the line for these arguments.
+fn gives(rt: &impl Abort, alloc: Global, arguments: &[&[u8]], line: &[u8; 17]) {
+    writes(rt, &with(alloc, arguments), line);
+}
+
+#[test]
+fn lines_for_arguments(rt: HostRuntime) {
+    gives(&rt, rt.alloc(), &[b"komisum"], LINE_OF_FIVE);
+    gives(&rt, rt.alloc(), &[b"komisum", b"5", b"0"], LINE_OF_FIVE);
+    gives(&rt, rt.alloc(), &[b"komisum", b"4", b"0"], LINE_OF_FOUR);
+    gives(&rt, rt.alloc(), &[], LINE_OF_FIVE);
+}
+
+// A program's name need not be UTF-8, and may be long.
+#[test]
+fn program_names(rt: HostRuntime) {
+    for name in [b"\xff".as_slice(), &[b'0'; 300]] {
+        gives(&rt, rt.alloc(), &[name], LINE_OF_FIVE);
+        gives(&rt, rt.alloc(), &[name, b"4", b"0"], LINE_OF_FOUR);
+    }
+}
+
+#[test]
+fn lines_of_seeds(rt: HostRuntime) {
+    let message = message::<31>();
+    let four = hex_line(komihash::v4::komihash(&message, 0x1f));
+    gives(&rt, rt.alloc(), &[b"komisum", b"4", b"1f"], &four);
+    let five = hex_line(komihash::v5::komihash(&message, 0x1f));
+    gives(&rt, rt.alloc(), &[b"komisum", b"5", b"1f"], &five);
+}
+
+// Compares the version and the seed that an environment asks for.
+fn asks(rt: &impl Abort, alloc: Global, digits: &[u8], seed: u64) {
+    let arguments: [&[u8]; 3] = [b"komisum", b"5", digits];
+    let asked = settings_given(&(FakeArguments(&arguments), alloc));
+    let Ok((Version::Five, given)) = asked else {
+        panic!(rt; "the seed {seed:x} is refused");
+    };
+    assert!(rt; given == seed, "{given:x} and not {seed:x}");
+}
+
+#[test]
+fn seeds_of_every_length(rt: HostRuntime) {
+    let digits = b"fedcba9876543210";
+    let mut seed = 0xfedc_ba98_7654_3210u64;
+    for length in (1..=16usize).rev() {
+        asks(&rt, rt.alloc(), &digits[..length], seed);
+        asks(&rt, rt.alloc(), &[b'0'; 16][..length], 0);
+        seed >>= 4;
+    }
+}
+
+// Compares wrong usage of these arguments.
+fn refuses(rt: &impl Abort, alloc: Global, arguments: &[&[u8]]) {
+    refuses_usage(rt, &with(alloc, arguments));
+}
+
+#[test]
+fn wrong_usage(rt: HostRuntime) {
+    refuses(&rt, rt.alloc(), &[b"komisum", b"4"]);
+    refuses(&rt, rt.alloc(), &[b"komisum", b""]);
+    refuses(&rt, rt.alloc(), &[b"komisum", b"-h"]);
+    refuses(&rt, rt.alloc(), &[b"komisum", b"5", b"\xff"]);
+    refuses(&rt, rt.alloc(), &[b"komisum", b"5", b"0", b"0"]);
+    refuses(&rt, rt.alloc(), &[b"komisum", b"5", b"0", b"0", b"0"]);
+    refuses(&rt, rt.alloc(), &[b"komisum", b"5", b"0", b""]);
+    refuses(&rt, rt.alloc(), &[b"komisum", b"5", b"FF"]);
+    refuses(&rt, rt.alloc(), &[b"komisum", b"5", b"00000000000000000"]);
+}
+
+// An argument of more than 256 bytes doesn't fit the buffer that is tried first.
+#[test]
+fn long_arguments(rt: HostRuntime) {
+    let zeros = [b'0'; 300];
+    for length in [255usize, 256, 257, 300] {
+        let long = &zeros[..length];
+        refuses(&rt, rt.alloc(), &[b"komisum", long]);
+        refuses(&rt, rt.alloc(), &[b"komisum", long, b"0"]);
+        refuses(&rt, rt.alloc(), &[b"komisum", b"5", long]);
+        refuses(&rt, rt.alloc(), &[b"komisum", b"5", b"0", long]);
+        refuses(&rt, rt.alloc(), &[b"komisum", b"5", b"0", long, b"0"]);
+    }
+}
+
+#[test]
+fn a_thousand_arguments(rt: HostRuntime) {
+    let arguments = [b"5".as_slice(); 1001];
+    refuses(&rt, rt.alloc(), &arguments);
+    refuses(&rt, rt.alloc(), &arguments[..1000]);
+}
