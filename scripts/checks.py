@@ -19,10 +19,7 @@ def texts_of(*patterns):
 
 
 def planted(files, edit):
-    """The files, as texts by name, with an edit in: a line `file: NAME`, then pairs of lines `old: TEXT`, `new: TEXT`.
-
-    Each old text has to stand exactly once in the file, also after the pairs before it.
-    """
+    """The files with an edit in: a line `file: NAME`, then pairs `old: TEXT`, `new: TEXT`, each old text once."""
     lines = [line.partition(": ")[::2] for line in edit.read_text(encoding="utf-8").splitlines() if line]
     if [name for name, _ in lines] != ["file"] + ["old", "new"] * max(1, len(lines) // 2):
         raise ValueError("it is not a line `file:` and pairs of lines `old:`, `new:`")

@@ -1,8 +1,7 @@
 #!/usr/bin/env python3
 """Compares the documents with the sources that they show and name.
 
-  callers      the Rust blocks of CALLING.md are the callers of crates/komisum/src/tests/callers.rt, whole and
-               in order, and README's block is one of them
+  callers      the Rust blocks of CALLING.md are the callers in komisum's tests, whole and in order; README's is one
   items        CALLING.md lists every public function, by file, and each clause that it shows stands in that file
   definitions  docs/DEFINITIONS.md names every public definition of specs/
   names        each name in docs/DEFINITIONS.md stands in specs/, proofs/ or src/

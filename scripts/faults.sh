@@ -1,8 +1,7 @@
 #!/usr/bin/env bash
-# Tests the built program when reads, writes and allocations fail. Each case prints a line; the last
-# line is 'N passed, M failed', with ', K skipped' if some could not run. Needs what cases.sh names.
-# It also uses strace, which makes system calls fail, a C compiler for refuse.c, which makes
-# allocations fail, and valgrind, which counts allocations. Cases whose tool is missing are skipped.
+# Tests the built program when reads, writes and allocations fail. Each case prints a line, and the
+# last line has the counts. Needs what cases.sh names, strace, which makes system calls fail, a C
+# compiler for refuse.c, and valgrind, which counts allocations; without one its cases are skipped.
 source "$(dirname "$0")/cases.sh"
 
 whole=$(cat stdout)
@@ -124,9 +123,8 @@ refused() {
     } < stdin
 }
 
-# Refuses each allocation in turn, and then one that is never requested. For each the program
-# reports no memory and reads nothing, except for the tolerated one, which it requests again. The
-# last one, for the input's buffer, is also requested after one for the arguments was refused.
+# Refuses each allocation in turn, and then none. For each the program reports no memory and reads
+# nothing, but requests the tolerated one again. The last one, the input's buffer, is always made.
 refuse_each() {
     local name=$1 line=$2 requests=$3 tolerated=$4 k made
     shift 4
@@ -175,8 +173,8 @@ memory_by_length() {
 counts_memory() { valgrind true; }
 cases_with valgrind counts_memory 6 memory_by_length
 
-# The tests of `komihash` make every call. Their program names no allocation function, so no call
-# can allocate; `komisum` names two, which refuse.c replaces.
+# The tests of `komihash` make every call except the laws, and their program names no allocation
+# function, so none can allocate. `komisum` names two, which refuse.c replaces.
 allocation_functions_in() {
     local names
     names=$(grep -aoE '\b(malloc|calloc|realloc|aligned_alloc|posix_memalign|mmap|s?brk)\b' "$1") ||

@@ -3,7 +3,7 @@
 
 A contract counts products and kept bytes in the tally that a call is passed. What is done outside that tally it can't
 see: a product of words, a hash whose result is dropped, a copy of the message, a pass over it. And `main` and a few
-functions beside it have no contract. So what a function does is read off its source and compared with what is allowed:
+functions beside it have no contract. So what a function does is read off its source:
 
   operations  operations.txt lists what each function of `komihash` does, and each one of `komisum` without a contract:
               its calls, products, comparisons, loops, assignments, arrays and copies. All else is refused.
@@ -219,49 +219,38 @@ def imports_of(codes):
     return graph
 
 
-def differences(table, lines):
-    """Where lines are not those of a table."""
-    listed = Counter(line for line in (SCRIPTS / table).read_text(encoding="utf-8").splitlines() if line[:1] != "#")
-    lines = Counter(lines)
-    yield from (f"not in {table}: {line}" for line in (lines - listed).elements())
-    yield from (f"only in {table}: {line}" for line in (listed - lines).elements() if line)
+def operations(functions):
+    """Where the table isn't what the functions do."""
+    done = [(f"{function.file} {function.name}", function.operations) for function in functions]
+    lines = Counter(f"{name}: {', '.join(found)}" for name, found in done if found)
+    table = (SCRIPTS / "operations.txt").read_text(encoding="utf-8").splitlines()
+    listed = Counter(line for line in table if line and line[0] != "#")
+    yield from (f"not in operations.txt: {line}" for line in (lines - listed).elements())
+    yield from (f"only in operations.txt: {line}" for line in (listed - lines).elements())
 
 
-class Crate:
-    """The sources of both crates, and what each rule finds in them."""
-
-    def __init__(self, files):
-        self.codes = codes_of(files)
-        functions = (function for file, code in self.codes.items() for function in functions_of(file, code))
-        self.functions = [each for each in functions if each.file[:3] == "src" or "ensures" not in each.head]
-
-    def operations(self):
-        done = [(f"{function.file} {function.name}", function.operations) for function in self.functions]
-        return differences("operations.txt", [f"{name}: {', '.join(found)}" for name, found in done if found])
-
-    def tallies(self):
-        for function in self.functions:
-            if "& mut Tally" in " ".join(function.head) and "Tally" in function.tokens:
-                yield f"{function.file} {function.name}: it is passed a tally, and makes one"
-
-    def imports(self):
-        try:
-            TopologicalSorter(imports_of(self.codes)).prepare()
-        except CycleError as fault:
-            yield " is imported by ".join(fault.args[1])
+def tallies(functions):
+    for function in functions:
+        if "& mut Tally" in " ".join(function.head) and "Tally" in function.tokens:
+            yield f"{function.file} {function.name}: it is passed a tally, and makes one"
 
 
-RULES = (Crate.operations, Crate.tallies, Crate.imports)
+def imports(codes):
+    try:
+        TopologicalSorter(imports_of(codes)).prepare()
+    except CycleError as fault:
+        yield " is imported by ".join(fault.args[1])
 
 
 def findings(files):
     """What each rule finds, by the rule's name."""
-    crate = Crate(files)
-    found = {rule.__name__: list(rule(crate)) for rule in RULES}
+    codes = codes_of(files)
+    functions = [function for file, code in codes.items() for function in functions_of(file, code)]
+    functions = [each for each in functions if each.file[:3] == "src" or "ensures" not in each.head]
+    found = {"operations": operations(functions), "tallies": tallies(functions), "imports": imports(codes)}
     for rule, pattern in REFUSED.items():
-        matches = ((file, match) for file, code in crate.codes.items() for match in re.finditer(pattern, code))
-        found[rule] = [f"{file}: {match[0]}" for file, match in matches]
-    return found
+        found[rule] = [f"{file}: {match[0]}" for file in codes for match in re.finditer(pattern, codes[file])]
+    return {rule: list(texts) for rule, texts in found.items()}
 
 
 if __name__ == "__main__":

@@ -1,15 +1,11 @@
 #!/usr/bin/env python3
 """Compares all that the crates and the C library promise with surface.txt, a list that this script makes.
 
-For each file, in the order of the sources, the list has:
-
-  - every public item with its signature and clauses, and so every law; and the private functions of names.rt, whose
-    clauses state the version of each public name;
-  - every module with its visibility, every type with its derives and public fields, every impl of a trait;
-  - where the names in these lines are imported from, unless it is the Prelude of the standard library.
-
-It also has a checksum of each file of definitions, and of the proofs that open the seal of a tally; the modules of
-specs/ and proofs/; and all lines that name a part of that seal (docs/DECISIONS.md, "The tally").
+For each source the list has every public item with its signature and clauses, and so every law, and the functions of
+names.rt, which state the version of each public name; every module with its visibility, every type with its derives
+and public fields, every impl of a trait; and where the names in these lines are imported from, unless it is the
+Prelude of the standard library. It also has a checksum of each file of definitions and of the proofs that open the seal
+of a tally, the modules of specs/ and proofs/, and all lines that name a part of that seal (docs/DECISIONS.md).
 
 After a change that is wanted, `python3 scripts/surface.py renew` writes the list anew: review its difference first.
 Each edit of planted/surface/ has to make a difference. The last line is 'N passed, M failed'.
@@ -25,16 +21,12 @@ from checks import SCRIPTS, cases_of, report, texts_of
 LIST = SCRIPTS / "surface.txt"
 SOURCES = ("crates/*/src/**/*.rt", "compare/library/*.rt.in", "crates/*/specs/*.antt", "crates/*/proofs/**/*.antt")
 
-# The private functions of this file are listed too.
-NAMES = "crates/komihash/src/names.rt"
-
 # What is not listed: how a function is compiled and proved, and brackets in quotes.
 INTERNAL = re.compile(r"#!?\[(?:inline|tactic)\b[^\]]*\]\s*")
 QUOTED = re.compile(r"\"[^\"\n]*\"|'[^\w\n]'")
 BRACKETS = re.compile(r"[()\[\]{}]")
 
-# An item: its attributes, visibility and kind. The items that end with a semicolon, whatever brackets they have. What
-# stands before the bracket of a clause. A public field. What an import brings in.
+# An item's visibility and kind; items that have no block; what comes before a clause; a public field; an import.
 KIND = re.compile(r"(?:#!?\[[^\]]*\]\s*)*(pub(?:\([^)]*\))? )?(?:ghost |const |extern \S+ )*(\w+)")
 NO_BLOCK = re.compile(r"(?:pub(?:\([^)]*\))? )?(?:use|ghost|type|const(?! fn))\b")
 CLAUSE = re.compile(r"\b(?:requires|ensures)\b\W*\w*\s*$")
@@ -45,7 +37,7 @@ IMPORT = re.compile(r"\s*(?:ghost )?use\b.*?(?:\{([^}]*)\}|(\w+));", re.DOTALL)
 OPENERS = re.compile(r"crates/komihash/proofs/(?:Raised|Facts|tally/.*)\.antt")
 MODULES = re.compile(r"crates/\w+/(?:specs|proofs)/Lib\.antt")
 SEALED = re.compile(r"\b(?:Sealed|Tallies|Raised|Facts|TallyKey)\b")
-OTHER_TALLY = re.compile(r"(?<!use crate::tally::)(?<!tally: &mut )(?<!&mut )\bTally\b")
+SEALED_OR_TALLY = re.compile(rf"{SEALED.pattern}|(?<!use crate::tally::)(?<!tally: &mut )(?<!&mut )\bTally\b")
 
 
 def items_of(text):
@@ -100,22 +92,20 @@ def entry_of(name, code):
         digest = hashlib.sha256(" ".join(code.split()).encode()).hexdigest()
         return [f"{name}: {digest[:16]}"] if "/specs/" in name or OPENERS.fullmatch(name) else []
     code = QUOTED.sub(lambda quoted: BRACKETS.sub("", quoted[0]), INTERNAL.sub("", code))
-    items = promised(code, name == NAMES)
+    items = promised(code, name == "crates/komihash/src/names.rt")
     lines = lines_of(without_idle_imports(list(items)))
     return ["", name, *lines] if lines else []
 
 
-def names_seal(name, line):
-    """Whether a line of the library names a part of the seal, or the type of a tally in an unusual place."""
-    return "komihash/" in name and bool(SEALED.search(line) or "/src/" in name and OTHER_TALLY.search(line))
-
-
 def listed(files):
-    """The lines of surface.txt for these files."""
+    """The lines of surface.txt for these files. Those of the seal also have each unusual place of a tally's type."""
     codes = {name: re.sub(r"--.*" if name.endswith(".antt") else r"//.*", "", text) for name, text in files.items()}
-    lines = [line for name, code in codes.items() for line in entry_of(name, code)]
-    seal = [(name, line) for name, code in codes.items() for line in code.splitlines() if names_seal(name, line)]
-    return lines[1:] + ["", *(f"{name}: {line.strip()}" for name, line in seal)]
+    lines = [line for name, code in codes.items() for line in entry_of(name, code)][1:] + [""]
+    for name, code in codes.items():
+        sealed = SEALED if name.endswith(".antt") else SEALED_OR_TALLY
+        found = (line.strip() for line in code.splitlines() if sealed.search(line))
+        lines += [f"{name}: {line}" for line in found if "komihash/" in name]
+    return lines
 
 
 def findings(files):
