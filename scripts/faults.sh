@@ -124,7 +124,7 @@ refused() {
 }
 
 # Refuses each allocation in turn, and then none. For each the program reports no memory and reads
-# nothing, but requests the tolerated one again. The last one, the input's buffer, is always made.
+# nothing, but requests the tolerated one again. The last, for the buffer, is always made.
 refuse_each() {
     local name=$1 line=$2 requests=$3 tolerated=$4 k made
     shift 4
