@@ -28,4 +28,5 @@ fn main(rt: HostRuntime) -> ExitCode {
         &mut Watched::new(rt.stdout()),
         &mut Watched::new(rt.stderr()),
     )
+    .0
 }

@@ -5,7 +5,6 @@ ghost use Rattle.std.specs.Process.{exit_status};
 ghost use Rattle.komisum.specs.Ending.{Reports, ending_of, status_of, text_of};
 ghost use Rattle.komisum.specs.Program.{AppendsLine, AppendsLinePrefix};
 ghost use Rattle.komisum.specs.Program.{FaultsCome, Ran, ReadsEnough, WritesNothing};
-ghost use Rattle.komisum.specs.declared.ending.Ending.{Ending as AnEnding};
 
 use crate::digest::digest;
 use crate::ending::{Ending, Fault, Refusal};
@@ -58,7 +57,24 @@ pub fn show<R: Read, W: Write>(
     flush(writer)
 }
 
-/// Runs the program on what `main` got from its host. Returns the program's status.
+// Shows the line for the version and the seed that the arguments ask for, or passes on the refusal.
+fn show_asked<R: Read, W: Write>(
+    asked: Result<(Version, u64), Refusal>,
+    input: &mut Watched<R>,
+    output: &mut Watched<W>,
+) -> Ending
+    requires input { input.old.failed ≡ false }
+    requires output { output.old.failed ≡ false }
+    ensures { Ran result asked R.remaining input.old input.new W.contents output.old output.new }
+{
+    match asked {
+        Ok((version, seed)) => Ending::of(show(input, output, version, seed)),
+        Err(refusal) => Ending::Refused(refusal),
+    }
+}
+
+/// Runs the program on what `main` got from its host. Returns the program's status, and how it
+/// ended.
 ///
 /// Shows the line for the version and the seed that the arguments ask for, and writes the message
 /// of how that ended, if it has one, to `errors`. If the arguments were refused, or the input's
@@ -71,25 +87,20 @@ pub fn run<R: Read, W: Write, E: Write>(
     input: &mut io::Result<Watched<R>>,
     output: &mut Watched<W>,
     errors: &mut Watched<E>,
-) -> ExitCode
+) -> (ExitCode, Ending)
     requires input { IfOk input.old (λ reader. reader.failed ≡ false) }
     requires output { output.old.failed ≡ false }
     requires errors { errors.old.failed ≡ false }
-
-    // One ending has the status and the message, and says what was read and written.
-    ensures { (ending : AnEnding) × record {
-      status : exit_status result ≡ status_of ending;
-      message : Reports (text_of ending) E.contents errors.old errors.new;
-      ran : IfOk input.old (λ old. IsOkAnd input.new (λ new.
-          Ran ending asked R.remaining old new W.contents output.old output.new));
-      no_buffer : IsErr input.old → (ending ≡ Ending.Refused Refusal.NoMemory)
-          × (input.new ≡ input.old) × (output.new ≡ output.old);
-    } }
+    ensures status { exit_status result.0 ≡ status_of result.1 }
+    ensures message { Reports (text_of result.1) E.contents errors.old errors.new }
+    ensures ran { IfOk input.old (λ old. IsOkAnd input.new (λ new.
+        Ran result.1 asked R.remaining old new W.contents output.old output.new)) }
+    ensures no_buffer { IsErr input.old → (result.1 ≡ Ending.Refused Refusal.NoMemory)
+        × (input.new ≡ input.old) × (output.new ≡ output.old) }
 {
-    let ending = match (input, asked) {
-        (Err(_), _) => Ending::Refused(Refusal::NoMemory),
-        (Ok(_), Err(refusal)) => Ending::Refused(refusal),
-        (Ok(input), Ok((version, seed))) => Ending::of(show(input, output, version, seed)),
+    let ending = match input {
+        Ok(input) => show_asked(asked, input, output),
+        Err(_) => Ending::Refused(Refusal::NoMemory),
     };
-    report(errors, &ending)
+    (report(errors, &ending), ending)
 }

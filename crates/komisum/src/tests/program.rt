@@ -33,7 +33,7 @@ fn ended<R: Read + Drop>(
     let mut output = Watched::new(output);
     let mut errors = Watched::new(errors);
     let mut input = input.map(Watched::new);
-    let status = run(asked, &mut input, &mut output, &mut errors);
+    let (status, _) = run(asked, &mut input, &mut output, &mut errors);
     (status, output.into_inner(), errors.into_inner())
 }
 
