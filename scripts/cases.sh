@@ -28,8 +28,8 @@ passed=0
 failed=0
 skipped=0
 
-# Counts a case: it passes if what came is what was wanted. Nothing is never wanted, since a command
-# that fails may print nothing.
+# Counts a case, which passes if the output is the expected one. An empty expectation always fails,
+# since a command that doesn't run prints nothing too.
 note() {
     local name=$1 wanted=$2 came=$3
     if [ -n "$wanted" ] && [ "$wanted" = "$came" ]; then

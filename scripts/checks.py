@@ -1,4 +1,5 @@
-"""What the scripts share that read files of the repository and are tried on planted edits."""
+"""Shared by the scripts that check files of the repository: they read the files here, and try their rules on planted
+edits."""
 
 import contextlib
 import io

@@ -35,7 +35,7 @@ pub xor_turn : (a b c d : ℕ)
 xor_turn a b c d =
     rw (xor_assoc a b c, xor_assoc a (bit_xor b c) d) (xor_comm a (bit_xor (bit_xor b c) d))
 
--- what a word met twice is gone
+-- xor with the same word twice cancels
 pub xor_again : (c x : ℕ) → bit_xor c (bit_xor c x) ≡ x
 xor_again c x = sym (xor_assoc c c x) ∙ ap (λ n. bit_xor n x) (xor_self c) ∙ xor_zero_l x
 

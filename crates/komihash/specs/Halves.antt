@@ -1,6 +1,6 @@
 -- How the code stores pairs and lanes: the low half of a product stays apart from the word that it
--- meets, and is joined to it only where the next factor is made. That takes one step off the path
--- on which each product waits for the one before.
+-- is xored with, until the next factor is made. That takes one step off the path on which each
+-- product waits for the one before.
 use Rattle.std.specs.Prelude.{ℕ, Bool, List, slice_index, bit_xor}
 use Rattle.komihash.specs.Rounds.{Lanes}
 use Rattle.komihash.specs.Stream.{State}
@@ -9,8 +9,7 @@ use Rattle.komihash.specs.Stream.{State}
 abbrev pub pair_in : ℕ × ℕ → ℕ × ℕ
 pair_in halves = (bit_xor halves.1 halves.0, halves.1)
 
--- the lanes that are stored as four words, each before the low half that it meets: the last product
--- raised the first word
+-- the lanes that are stored as s8, s8^s1, s5, s5^s2, s6, s6^s3, s7, s7^s4
 abbrev pub lanes_in : List ℕ → Lanes
 lanes_in halves = record {
   s1 = bit_xor (slice_index halves 0) (slice_index halves 1);

@@ -11,8 +11,8 @@ use crate::tails::hash_below_eight;
 use crate::tally::Tally;
 use crate::utils::{read_partial_word, read_word};
 
-// Returns the hash of a message of at least 64 bytes. It is a function of its own, since only its
-// loop needs registers that have to be saved.
+// Returns the hash of a message of at least 64 bytes. It is a separate function, so that short
+// messages don't save the registers of its loop.
 #[inline(never)]
 fn hash_of_blocks<const V: u8>(bytes: &[u8], seed: u64, tally: &mut Tally) -> u64
     requires { 64 ≤ length bytes.now }

@@ -71,8 +71,7 @@ pub(crate) fn seed_pair(seed: u64, tally: &mut Tally) -> Pair
     mix(a, e, e, tally)
 }
 
-/// Returns the lanes of a pair: the words s8, s5, s6 and s7, each before the low half whose xor
-/// with it is s1, s2, s3 or s4.
+/// Returns the lanes of a pair, stored as s8, s8^s1, s5, s5^s2, s6, s6^s3, s7, s7^s4.
 #[inline(always)]
 #[tactic(auto, using(crate::proofs::Halves::lanes_in_lanes))]
 pub(crate) fn lanes(pair: Pair) -> [u64; 8]

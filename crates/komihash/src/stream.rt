@@ -20,7 +20,8 @@ pub const LONGEST_TEXT: usize = 131;
 /// A stream of either version, for generic code.
 ///
 /// `start`, `absorb` and `answer` also count their cost in a tally that the caller passes: products
-/// of two words, and bytes that are copied into the stream.
+/// of two words, and bytes that are copied into the stream. The methods have other names than those
+/// of the type, so that the name alone tells which of the two a call means.
 pub trait KomiStream: Sized + Drop {
     /// The version: 4 or 5.
     const VERSION: u8;

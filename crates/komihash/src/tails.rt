@@ -26,8 +26,8 @@ fn hash_below_two<W: Words>(pair: Pair, left: &W, at: usize, last: u64, tally: &
     }
 }
 
-// Returns the pair after a round on the two words from index `at`. From it, the words
-// after these give the same hash.
+// Returns the pair after a round on the two words from index `at`. The remaining words hash the
+// same from it.
 #[inline(always)]
 #[tactic(auto, using(crate::proofs::HashSteps::hash_from_pair_two))]
 fn take_two<W: Words>(pair: Pair, left: &W, at: usize, tally: &mut Tally) -> Pair

@@ -12,6 +12,7 @@ use std::marker::{Model, PhantomData};
 /// calls of this crate, or by putting another one in its place, as with any value.
 #[derive(Drop)]
 pub struct Tally {
+    // A struct needs a field that is not ghost.
     marker: PhantomData<()>,
     pub ghost products: { ℕ },
     pub ghost kept: { ℕ },
@@ -50,7 +51,8 @@ impl Tally {
         }
     }
 
-    // Raises the two numbers. No other code changes a tally.
+    // Raises the two numbers. No other code changes a tally. The body is empty, since there is nothing
+    // to do at run time: the handwritten proof changes the ghost fields.
     #[inline(always)]
     fn raise(&mut self, _products: usize, _kept: usize)
         ensures products { self.new.products ≡ self.old.products + _products }

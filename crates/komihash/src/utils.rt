@@ -52,8 +52,8 @@ fn two_at(bytes: &[u8], at: usize) -> u64
 
 /// Returns the word of at most seven bytes and the byte `end` after them.
 ///
-/// Reads the bytes in two pieces that may overlap. A shift drops from the second piece, which `end`
-/// follows, what the first has.
+/// Reads the bytes in two pieces, which may overlap. `end` follows the second piece, and a shift
+/// drops from it the bytes that the first piece has too.
 #[inline(always)]
 pub(crate) fn read_partial_word(bytes: &[u8], end: u64) -> u64
     requires few { length bytes.now ≤ 7 }

@@ -16,10 +16,10 @@ use komihash::{v4, v5};
 use std::io::{self, Read, Write};
 use std::process::ExitCode;
 
-// The bytes of an input, at most.
+// The most bytes that an input may have.
 const LONGEST_INPUT: u64 = 1 << 40;
 
-// The bytes of one read, at most.
+// The most bytes that one read asks for.
 const CHUNK_LENGTH: usize = 4096;
 
 /// Writes the line of the hash of all bytes that a reader has left: 16 hexadecimal digits and a

@@ -6,7 +6,7 @@ ghost use Rattle.komihash.specs.Tails.{end_byte, final_word};
 
 use crate::utils::{read_partial_word, word_at};
 
-/// Returns whether version V looks at the top bit of a message's last byte, and it is set.
+/// Returns whether a last byte takes the padding byte 2: in version 4, if its top bit is set.
 #[inline(always)]
 pub(crate) fn has_top_bit<const V: u8>(byte: u8) -> bool
     ensures { result ≡ has_top_bit V byte }
@@ -37,8 +37,8 @@ pub(crate) fn end_byte<const V: u8>(message: &[u8]) -> u64
 
 /// Returns the final word of at least eight bytes: those after the last whole word, and `end`.
 ///
-/// Reads the last eight bytes, and shifts out those of the last whole word. That takes two shifts,
-/// since their sum is 64, too wide for one, if no byte comes after that word.
+/// Reads the last eight bytes, and shifts out those of the last whole word. If no byte comes after
+/// that word, all 64 bits go, which is too wide for one shift. So there are two.
 #[inline(always)]
 #[tactic(auto, using(crate::proofs::PaddingWords::final_word_many))]
 pub(crate) fn final_of_many(bytes: &[u8], end: u64) -> u64
@@ -51,8 +51,8 @@ pub(crate) fn final_of_many(bytes: &[u8], end: u64) -> u64
     (eight >> 1) >> (63 - over) | end << over
 }
 
-/// Returns the final word of a long message. If it is whole words alone, that is `end`, and nothing
-/// is read.
+/// Returns the final word of at least eight bytes. If they are whole words, that is `end`, and
+/// nothing is read.
 #[inline(always)]
 #[tactic(auto, using(crate::proofs::PaddingWords::final_word_whole))]
 pub(crate) fn final_of_long(bytes: &[u8], end: u64) -> u64

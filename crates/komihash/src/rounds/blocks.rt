@@ -26,8 +26,8 @@ fn block_words(block: &[u8; 64]) -> [u64; 8]
     ]
 }
 
-// Absorbs the first block, and returns the bytes after it. Absorbing their blocks too leads to
-// the lanes and the remainder that absorbing all blocks of `bytes` leads to.
+// Absorbs the first block, and returns the rest. Absorbing that gives the same lanes and the same
+// remainder as absorbing all of `bytes` at first.
 #[inline(always)]
 fn absorb_block<'a, const V: u8>(
     lanes: &mut [u64; 8],
