@@ -75,7 +75,7 @@ impl Pending {
         ensures kept { tally.new.kept ≡ tally.old.kept + length bytes.now }
     {
         let fill = self.fill;
-        writer::put(&mut self.words, fill, bytes, tally);
+        writer::put::<false>(&mut self.words, fill, bytes, tally);
         self.fill = fill + bytes.len();
     }
 

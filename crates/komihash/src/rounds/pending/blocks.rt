@@ -43,7 +43,7 @@ fn absorb_begun<'a, const V: u8>(
         return (*lanes, bytes);
     }
     let (head, rest) = bytes.split_at(64 - fill);
-    put(words, fill, head, tally);
+    put::<true>(words, fill, head, tally);
     let mut after = *lanes;
     block_round(&mut after, words, places::<V>(), tally);
     *words = [0; 8];
@@ -63,7 +63,7 @@ fn put_left(words: &mut [u64; 8], left: &[u8], tally: &mut Tally)
     if left.is_empty() {
         return;
     }
-    put(words, 0, left, tally);
+    put::<false>(words, 0, left, tally);
 }
 
 /// Absorbs bytes that fill a block or more, and stores those after the last block. Returns their
