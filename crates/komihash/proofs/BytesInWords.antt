@@ -4,6 +4,7 @@ use Rattle.std.proofs.lemmas.List.{length-append, length-drop, length-take-le, t
 use Rattle.std.proofs.lemmas.Nat.{pow-add, shl-shr, shr-shr, mod-pow-add, or_shifted, or_comm}
 use Rattle.std.proofs.Math.Nat.{mul-mod_left, zero-mod, zero-div}
 use Rattle.std.specs.Prelude.{bit_or}
+use Rattle.std.specs.Simd.Lanes.{number_l}
 use Rattle.komihash.specs.Words.{AreBytes, word_of}
 use Rattle.komihash.proofs.Lists.{take-more}
 
@@ -134,3 +135,30 @@ word_of-last_eight r xs b h many few small =
       word_of-last j (1 + (63 - 8 * r)) xs h many (omega arith) (omega arith) (omega arith),
     )
     (word_of-push (drop j xs) r b (AreBytes-drop j xs h) (omega (arith, length-drop j xs)) few (omega arith))
+
+-- the two words of sixteen bytes, as a vector of bytes is made into one of words
+pub two_words : (xs : List ℕ) → AreBytes xs → 16 ≤ length xs → let n = number_l 256 (take 16 xs) in
+    (n % 2 ^ 64 ≡ word_of (take 8 xs)) × (n / 2 ^ 64 % 2 ^ 64 ≡ word_of (take 8 (drop 8 xs)))
+two_words (a ∷ b ∷ c ∷ d ∷ e ∷ f ∷ g ∷ h ∷ a' ∷ b' ∷ c' ∷ d' ∷ e' ∷ f' ∷ g' ∷ h' ∷ xs) are le = (
+  omega (arith, are 0, are 1, are 2, are 3, are 4, are 5, are 6, are 7),
+  omega (
+    arith,
+    are 0,
+    are 1,
+    are 2,
+    are 3,
+    are 4,
+    are 5,
+    are 6,
+    are 7,
+    are 8,
+    are 9,
+    are 10,
+    are 11,
+    are 12,
+    are 13,
+    are 14,
+    are 15,
+  ),
+)
+two_words xs are le = absurd (omega arith)

@@ -1,8 +1,10 @@
 -- Lists that are cut, joined and written over piece by piece.
-use Rattle.std.proofs.Common.{zero, ◌≤◌, ◌-◌, ◌≡◌, ℕ, ◌+◌, List, [], ◌∷◌, ◌++◌, length, take, drop, ap, arith, ◌∙◌, sym, suc, rules, refl}
+use Rattle.std.proofs.Common.{zero, ◌≤◌, ◌-◌, ◌≡◌, ℕ, ◌+◌, List, [], ◌∷◌, ◌++◌, length, take, drop, set, ap, arith, ◌∙◌, sym, suc, rules, refl}
 use Rattle.std.proofs.lemmas.List.{length-append, take-append-drop, take-take, drop-take, drop-drop, take-append-le, length-drop, length-take-le, take_all}
 use Rattle.std.proofs.lemmas.Slice.{take-put_mid, drop-put_mid, overwrites}
-use borrow.Rule.Slice.PartMut.{put_mid}
+use Rattle.std.proofs.lemmas.Simd.{put_chunk_is}
+use Rattle.std.specs.Simd.Lanes.{put_chunk}
+use borrow.Rule.Slice.PartMut.{put_mid, mid_of}
 
 pub take-more : (m n : ℕ) (xs : List ℕ) → take m xs ++ take n (drop m xs) ≡ take (m + n) xs
 take-more m n xs =
@@ -57,3 +59,14 @@ two_pieces k n all whole out zs ys same enough len le most first second =
 -- what was written whole
 pub written : (k : ℕ) (ys all : List ℕ) → length ys ≡ k → take k ys ≡ take k all → ys ≡ take k all
 written k ys all size same = sym (take_all k ys (omega arith)) ∙ same
+
+-- a vector of two items, stored at a place of a list
+pub two_put : (at k : ℕ) (xs : List ℕ) (v w : ℕ) → at + k ≡ length xs → 2 ≤ k
+    → put_mid at k xs (put_chunk 0 (mid_of at k xs) (v ∷ w ∷ [])) ≡ set (set xs at v) (suc at) w
+two_put zero k (x ∷ y ∷ xs) v w size le =
+    let two : k ≡ suc (suc (k - 2)) = omega arith in
+    rw (two, put_chunk_is 0 (take (k - 2) xs) [] (omega arith))
+    (ap (λ zs. v ∷ w ∷ zs) (take-append-drop (k - 2) xs))
+two_put zero k xs v w size le = absurd (omega arith)
+two_put (suc at) k (x ∷ xs) v w size le = ap (λ zs. x ∷ zs) (two_put at k xs v w (omega arith) le)
+two_put (suc at) k [] v w size le = absurd (omega arith)

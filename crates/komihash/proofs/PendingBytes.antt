@@ -2,12 +2,14 @@
 use Rattle.std.proofs.Common.{◌≡◌, ℕ, zero, suc, ◌+◌, ◌-◌, ◌*◌, ◌/◌, ◌%◌, ◌^◌, ◌<◌, ◌≤◌, List, [], ◌∷◌, ◌++◌, length, take, drop, get_or, set, refl, ap, arith, ◌∙◌, sym, Fits, w8}
 use Rattle.std.proofs.lemmas.List.{append_assoc, length-append, length-drop, length-take, length-take-le, take_all, drop_all, drop_more, take-append-drop, take-append-le, drop-append-le, drop-drop}
 use Rattle.std.specs.Prelude.{bit_or}
+use Rattle.std.specs.Simd.Lanes.{number_l, put_chunk}
+use borrow.Rule.Slice.PartMut.{put_mid, mid_of}
 use Rattle.komihash.specs.Pending.{pending_words, pending_bytes, ArePending, Store, Extend}
 use Rattle.komihash.specs.Tails.{whole_words, final_word}
 use Rattle.komihash.specs.Words.{AreBytes, word_of, bytes_of, all_bytes}
-use Rattle.komihash.proofs.Lists.{take-more, take-append}
+use Rattle.komihash.proofs.Lists.{take-more, take-append, two_put}
 use Rattle.komihash.proofs.WholeWords.{length-pending_words, pending_words-whole, get_or-pending_words, length-whole_words, slice_index-whole_words, after_words-drop}
-use Rattle.komihash.proofs.BytesInWords.{AreBytes-append, AreBytes-take, AreBytes-drop, AreBytes-typed, word_of-join, word_of-push, word_of-drop}
+use Rattle.komihash.proofs.BytesInWords.{AreBytes-append, AreBytes-take, AreBytes-drop, AreBytes-typed, word_of-join, word_of-push, word_of-drop, two_words}
 use Rattle.komihash.proofs.BytesOfWords.{length-all_bytes, AreBytes-all_bytes, take-bytes_of-word_of, length-bytes_of}
 
 -- the words hold the bytes that they were made of
@@ -54,6 +56,22 @@ extend-set old at from bytes lt within xs place is =
     ap (λ b. word_of (b ++ next)) (sym (drop_all (8 * at) front (omega arith))) in
     rw (is, word, set-pending_words 8 at front next lt (omega arith) (omega (arith, length-take 8 (drop from bytes))))
     (ap (pending_words 8) (append_assoc xs (take from bytes) next ∙ ap (λ b. xs ++ b) (take-more from 8 bytes)))
+
+-- the next two words, stored as a vector
+pub extend-two : (old : List ℕ) (at from : ℕ) (bytes : List ℕ) → AreBytes bytes → at < 7 → from + 16 ≤ length bytes
+    → let n = number_l 256 (take 16 (drop from bytes)) in
+    Extend old (put_mid at (8 - at) old
+    (put_chunk 0 (mid_of at (8 - at) old) (n % 2 ^ 64 ∷ n / 2 ^ 64 % 2 ^ 64 ∷ []))) at bytes from (from + 16)
+extend-two old at from bytes are lt within xs place is =
+    let size : length old ≡ 8 = ap length is ∙ length-pending_words 8 (xs ++ take from bytes) in
+    let (first, second) =
+    two_words (drop from bytes) (AreBytes-drop from bytes are) (omega (arith, length-drop from bytes)) in
+    let next = word_of (take 8 (drop from bytes)) in
+    let all : from + 16 ≡ from + 8 + 8 = omega arith in
+    let second_at : 8 + from ≡ from + 8 = omega arith in
+    rw (two_put at (8 - at) old _ _ (omega arith) (omega arith), first, second, drop-drop 8 from bytes, all)
+    (extend-set (set old at next) (suc at) (from + 8) bytes (omega arith) (omega arith) xs (omega arith)
+    (extend-set old at from bytes (omega arith) (omega arith) xs place is))
 
 -- ---- the bytes that words store up to a fill
 

@@ -120,13 +120,14 @@ pub(crate) fn block_round(
     let [p0, p1, p2, p3, p4, p5, p6, p7] = places;
     // These factors are made before the first product, so that no word e is needed after its own
     // sum. Each takes the low half first, which is ready before the raised word that it belongs to.
-    let x1 = (words[p0] ^ low1) ^ e4;
+    // In this order of products a block takes the fewest instructions.
     let x2 = (words[p2] ^ low2) ^ e1;
     let x3 = (words[p4] ^ low3) ^ e2;
+    let x1 = (words[p0] ^ low1) ^ e4;
     let x4 = (words[p6] ^ low4) ^ e3;
-    let first = mix(words[p1] ^ e1, x1, e1, tally);
     let second = mix(words[p3] ^ e2, x2, e2, tally);
     let third = mix(words[p5] ^ e3, x3, e3, tally);
+    let first = mix(words[p1] ^ e1, x1, e1, tally);
     let fourth = mix(words[p7] ^ e4, x4, e4, tally);
     *lanes = [
         fourth.1, first.0, first.1, second.0, second.1, third.0, third.1, fourth.0,

@@ -12,6 +12,7 @@ ghost use Rattle.komihash.specs.Padding.{has_top_bit};
 mod blocks;
 mod writer;
 
+use crate::padding::end::has_top_bit;
 use crate::tally::Tally;
 use crate::utils::Words;
 use crate::utils::copies::write_bytes;
@@ -75,7 +76,7 @@ impl Pending {
         ensures kept { tally.new.kept ≡ tally.old.kept + length bytes.now }
     {
         let fill = self.fill;
-        writer::put(&mut self.words, fill, bytes, tally);
+        writer::put::<false>(&mut self.words, fill, bytes, tally);
         self.fill = fill + bytes.len();
     }
 
@@ -99,9 +100,9 @@ impl Pending {
         ensures kept { tally.new.kept
             ≡ tally.old.kept + kept_bytes (length self.old) (length bytes.now) }
     {
-        let (fill, top_bit) = blocks::absorb::<V>(lanes, &mut self.words, self.fill, bytes, tally);
+        let fill = blocks::absorb::<V>(lanes, &mut self.words, self.fill, bytes, tally);
         self.fill = fill;
-        top_bit
+        has_top_bit::<V>(bytes[bytes.len() - fill - 1])
     }
 
     /// Returns the final word: the bytes after the last whole word, and the byte `end` after them.

@@ -3,15 +3,13 @@
 #![tactic(auto, using(crate::proofs::PendingBlocks::block_laws))]
 
 ghost use Rattle.std.specs.Prelude.{◌≡◌, ◌+◌, ◌-◌, ◌*◌, ◌/◌, ◌%◌, ◌<◌, ◌≤◌, ◌++◌};
-ghost use Rattle.std.specs.Prelude.{length, slice_index};
+ghost use Rattle.std.specs.Prelude.{length};
 ghost use Rattle.komihash.specs.Counts.{write_products, kept_bytes};
 ghost use Rattle.komihash.specs.Halves.{lanes_in};
 ghost use Rattle.komihash.specs.Pending.{pending_bytes, ArePending};
 ghost use Rattle.komihash.specs.Tails.{whole_words, block_lanes, after_blocks};
-ghost use Rattle.komihash.specs.Padding.{has_top_bit};
 
 use super::writer::put;
-use crate::padding::end::has_top_bit;
 use crate::rounds::blocks::absorb_blocks;
 use crate::rounds::{block_round, places};
 use crate::tally::Tally;
@@ -43,7 +41,7 @@ fn absorb_begun<'a, const V: u8>(
         return (*lanes, bytes);
     }
     let (head, rest) = bytes.split_at(64 - fill);
-    put(words, fill, head, tally);
+    put::<true>(words, fill, head, tally);
     let mut after = *lanes;
     block_round(&mut after, words, places::<V>(), tally);
     *words = [0; 8];
@@ -63,11 +61,11 @@ fn put_left(words: &mut [u64; 8], left: &[u8], tally: &mut Tally)
     if left.is_empty() {
         return;
     }
-    put(words, 0, left, tally);
+    put::<false>(words, 0, left, tally);
 }
 
 /// Absorbs bytes that fill a block or more, and stores those after the last block. Returns their
-/// number, and whether `has_top_bit` holds of the last byte of the last block.
+/// number.
 ///
 /// The fill is passed and returned by value, so that a caller's loop over pieces keeps it in a
 /// register.
@@ -78,17 +76,16 @@ pub(crate) fn absorb<const V: u8>(
     fill: usize,
     bytes: &[u8],
     tally: &mut Tally,
-) -> (usize, bool)
+) -> usize
     requires pending { ArePending words.old fill }
     requires many { 64 ≤ fill + length bytes.now }
     ensures lanes { lanes_in lanes.new
         ≡ block_lanes V (lanes_in lanes.old)
         (whole_words (pending_bytes words.old fill ++ bytes.now)) }
-    ensures pending { ArePending words.new result.0 }
-    ensures bytes { pending_bytes words.new result.0
+    ensures pending { ArePending words.new result }
+    ensures bytes { pending_bytes words.new result
         ≡ after_blocks (pending_bytes words.old fill ++ bytes.now) }
-    ensures top_bit { result.1
-        ≡ has_top_bit V (slice_index bytes.now (length bytes.now - result.0 - 1)) }
+    ensures few { result < length bytes.now }
     ensures products { tally.new.products
         ≡ tally.old.products + write_products fill (length bytes.now) }
     ensures kept { tally.new.kept ≡ tally.old.kept + kept_bytes fill (length bytes.now) }
@@ -97,8 +94,5 @@ pub(crate) fn absorb<const V: u8>(
     let left = absorb_blocks::<V>(&mut local, rest, tally);
     *lanes = local;
     put_left(words, left, tally);
-    (
-        left.len(),
-        has_top_bit::<V>(bytes[bytes.len() - left.len() - 1]),
-    )
+    left.len()
 }

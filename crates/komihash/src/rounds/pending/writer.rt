@@ -1,13 +1,14 @@
 //! Appends pending bytes to the eight words that store them. No other code does.
 
-ghost use Rattle.std.specs.Prelude.{◌≡◌, ℕ, ◌+◌, ◌-◌, ◌*◌, ◌%◌, ◌<◌, ◌≤◌};
-ghost use Rattle.std.specs.Prelude.{List, ◌++◌, length, take, drop};
+ghost use Rattle.std.specs.Prelude.{◌≡◌, ℕ, ◌+◌, ◌-◌, ◌*◌, ◌/◌, ◌%◌, ◌<◌, ◌≤◌};
+ghost use Rattle.std.specs.Prelude.{List, ◌++◌, length, take, drop, IsTrue};
 ghost use Rattle.komihash.specs.Pending.{pending_bytes, ArePending, Store, Extend};
 ghost use Rattle.komihash.specs.Tails.{whole_words};
 ghost use Rattle.komihash.specs.Words.{AreBytes, word_of};
 
 use crate::tally::Tally;
 use crate::utils::{read_partial_word, read_word, word_at};
+use std::simd::{u8x16, u64x2};
 
 // Appends the bytes of a word that fit in the word that the fill has begun.
 #[inline(always)]
@@ -30,87 +31,131 @@ fn set_word(words: &mut [u64; 8], at: usize, word: u64)
     words[at] = word;
 }
 
-// Appends fewer than eight bytes.
+// Sets the first two words that store no bytes yet, to the next sixteen bytes.
 #[inline(always)]
-fn put_few(words: &mut [u64; 8], fill: usize, bytes: &[u8])
+fn set_two(words: &mut [u64; 8], at: usize, bytes: &[u8], from: usize)
+    requires place { at < 7 }
+    requires within { from + 16 ≤ length bytes.now }
+    ensures { Extend words.old words.new at bytes.now from (from + 16) }
+{
+    let two = u64x2::from_le_bytes(u8x16::from_slice(&bytes[from..]));
+    two.copy_to_slice(&mut words[at..]);
+}
+
+// Appends fewer than eight bytes, all that fit if FULL.
+#[inline(always)]
+fn put_few<const FULL: bool>(words: &mut [u64; 8], fill: usize, bytes: &[u8])
     requires pending { ArePending words.old fill }
     requires few { length bytes.now < 8 }
     requires room { fill + length bytes.now ≤ 64 }
+    requires full { IsTrue FULL → fill + length bytes.now ≡ 64 }
     ensures { Store words.new (pending_bytes words.old fill ++ bytes.now) }
 {
     let word = read_partial_word(bytes, 0);
     let over = fill % 8;
     join_word(words, fill, word);
-    if over + bytes.len() > 8 {
+    if !FULL && over + bytes.len() > 8 {
         set_word(words, fill / 8 + 1, word >> (64 - 8 * over));
     }
 }
 
-// Stores the next N words of `bytes`, starting at `from`, if so many are left. Returns the next
-// index in `words` and the next offset in `bytes`.
+// Stores whole words, fewer than two, at index k after the begun word.
 #[inline(always)]
-fn move_words<const N: usize>(
-    words: &mut [u64; 8],
-    at: usize,
-    bytes: &[u8],
-    from: usize,
-) -> (usize, usize)
-    requires within { from ≤ length bytes.now }
-    requires room { 8 * at + (length bytes.now - from) ≤ 64 }
-    requires few { length bytes.now < from + 16 * N }
-    requires number { N ≤ 4 }
-    ensures on { from ≤ result.1 }
-    ensures within { result.1 ≤ length bytes.now }
-    ensures left { length bytes.now < result.1 + 8 * N }
-    ensures place { 8 * result.0 ≡ 8 * at + (result.1 - from) }
-    ensures words { Extend words.old words.new at bytes.now from result.1 }
+fn move_below_two(words: &mut [u64; 8], fill: usize, bytes: &[u8], k: usize)
+    requires room { fill + length bytes.now ≤ 64 }
+    requires place { 0 < k }
+    requires within { 8 * k ≤ fill % 8 + length bytes.now }
+    requires few { fill % 8 + length bytes.now < 8 * k + 16 }
+    ensures { Extend words.old words.new (fill / 8 + k) bytes.now (8 * k - fill % 8)
+        (length bytes.now - (fill + length bytes.now) % 8) }
 {
-    if bytes.len() - from < 8 * N {
-        return (at, from);
+    if fill % 8 + bytes.len() >= 8 * k + 8 {
+        set_word(words, fill / 8 + k, word_at(bytes, 8 * k - fill % 8));
     }
-    'words: for i in 0..N {
-        set_word(words, at + i, word_at(bytes, from + 8 * i));
-    }
-    (at + N, from + 8 * N)
 }
 
-// Stores the bytes from `from` on, fewer than eight, which it reads with the last eight.
+// Stores whole words, fewer than four, from index k after the begun word on.
 #[inline(always)]
-fn put_last(words: &mut [u64; 8], at: usize, bytes: &[u8], from: usize)
+fn move_below_four(words: &mut [u64; 8], fill: usize, bytes: &[u8], k: usize)
+    requires room { fill + length bytes.now ≤ 64 }
+    requires place { 0 < k }
+    requires within { 8 * k ≤ fill % 8 + length bytes.now }
+    requires few { fill % 8 + length bytes.now < 8 * k + 32 }
+    ensures { Extend words.old words.new (fill / 8 + k) bytes.now (8 * k - fill % 8)
+        (length bytes.now - (fill + length bytes.now) % 8) }
+{
+    if fill % 8 + bytes.len() >= 8 * k + 16 {
+        set_two(words, fill / 8 + k, bytes, 8 * k - fill % 8);
+        move_below_two(words, fill, bytes, k + 2);
+    } else {
+        move_below_two(words, fill, bytes, k);
+    }
+}
+
+// Stores the whole words after the begun word.
+//
+// All indices are a number of words, known here, after the begun one: a turn of a loop would wait
+// for the index of the one before.
+#[inline(always)]
+fn move_words(words: &mut [u64; 8], fill: usize, bytes: &[u8])
     requires many { 8 ≤ length bytes.now }
-    requires within { from ≤ length bytes.now }
-    requires room { 8 * at + (length bytes.now - from) ≤ 64 }
-    requires few { length bytes.now < from + 8 }
-    ensures { Extend words.old words.new at bytes.now from (from + 8) }
+    requires room { fill + length bytes.now ≤ 64 }
+    ensures { Extend words.old words.new (fill / 8 + 1) bytes.now (8 - fill % 8)
+        (length bytes.now - (fill + length bytes.now) % 8) }
 {
-    let left = bytes.len() - from;
-    if 0 < left {
-        let eight = word_at(bytes, bytes.len() - 8);
-        set_word(words, at, eight >> (64 - 8 * left));
+    if fill % 8 + bytes.len() >= 40 {
+        set_two(words, fill / 8 + 1, bytes, 8 - fill % 8);
+        set_two(words, fill / 8 + 3, bytes, 24 - fill % 8);
+        move_below_four(words, fill, bytes, 5);
+    } else {
+        move_below_four(words, fill, bytes, 1);
     }
 }
 
-// Appends eight bytes or more: the first fill up the begun word, then whole words follow, and then
-// fewer than eight bytes.
+// Stores the bytes after the last whole word, fewer than eight, which it reads with the last eight.
 #[inline(always)]
-fn put_many(words: &mut [u64; 8], fill: usize, bytes: &[u8])
+fn put_last(words: &mut [u64; 8], fill: usize, bytes: &[u8])
+    requires many { 8 ≤ length bytes.now }
+    requires room { fill + length bytes.now ≤ 64 }
+    ensures { Extend words.old words.new ((fill + length bytes.now) / 8) bytes.now
+        (length bytes.now - (fill + length bytes.now) % 8) (length bytes.now) }
+{
+    let all = fill % 8 + bytes.len();
+    if all % 8 > 0 {
+        let eight = word_at(bytes, bytes.len() - 8);
+        set_word(words, fill / 8 + all / 8, eight >> (64 - 8 * (all % 8)));
+    }
+}
+
+// Appends eight bytes or more, all that fit if FULL: the first fill up the begun word, then whole
+// words follow, and then fewer than eight bytes.
+#[inline(always)]
+fn put_many<const FULL: bool>(words: &mut [u64; 8], fill: usize, bytes: &[u8])
     requires pending { ArePending words.old fill }
     requires many { 8 ≤ length bytes.now }
     requires room { fill + length bytes.now ≤ 64 }
+    requires full { IsTrue FULL → fill + length bytes.now ≡ 64 }
     ensures { Store words.new (pending_bytes words.old fill ++ bytes.now) }
 {
     join_word(words, fill, read_word(bytes));
-    let (at, from) = move_words::<4>(words, fill / 8 + 1, bytes, 8 - fill % 8);
-    let (at, from) = move_words::<2>(words, at, bytes, from);
-    let (at, from) = move_words::<1>(words, at, bytes, from);
-    put_last(words, at, bytes, from);
+    move_words(words, fill, bytes);
+    if !FULL {
+        put_last(words, fill, bytes);
+    }
 }
 
-/// Appends bytes to those that the words store up to the fill, and counts them as kept.
+/// Appends bytes to those that the words store up to the fill, and counts them as kept. FULL says
+/// that they fill the block, which ends in a whole word.
 #[inline(always)]
-pub(crate) fn put(words: &mut [u64; 8], fill: usize, bytes: &[u8], tally: &mut Tally)
+pub(crate) fn put<const FULL: bool>(
+    words: &mut [u64; 8],
+    fill: usize,
+    bytes: &[u8],
+    tally: &mut Tally,
+)
     requires pending { ArePending words.old fill }
     requires room { fill + length bytes.now ≤ 64 }
+    requires full { IsTrue FULL → fill + length bytes.now ≡ 64 }
     ensures full { fill + length bytes.now ≡ 64
         → words.new ≡ whole_words (pending_bytes words.old fill ++ bytes.now) }
     ensures bytes { pending_bytes words.new (fill + length bytes.now)
@@ -122,8 +167,8 @@ pub(crate) fn put(words: &mut [u64; 8], fill: usize, bytes: &[u8], tally: &mut T
 {
     tally.count_kept(bytes.len());
     if bytes.len() < 8 {
-        put_few(words, fill, bytes);
+        put_few::<FULL>(words, fill, bytes);
     } else {
-        put_many(words, fill, bytes);
+        put_many::<FULL>(words, fill, bytes);
     }
 }

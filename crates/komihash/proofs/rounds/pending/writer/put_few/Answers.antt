@@ -1,13 +1,14 @@
-use Rattle.std.proofs.Common.{◌≡◌, ◌∙◌, ◌-◌, ◌+◌, ◌*◌, ◌%◌, ◌/◌, ◌^◌, take, drop, arith}
+use Rattle.std.proofs.Common.{◌≡◌, ◌∙◌, ◌-◌, ◌+◌, ◌*◌, ◌%◌, ◌/◌, ◌^◌, ◌≤◌, rules, length, take, drop, arith}
 use Rattle.std.proofs.lemmas.List.{take_all, length-drop}
 use Rattle.komihash.specs.Pending.{pending_bytes}
 use Rattle.komihash.specs.Words.{word_of}
 use Rattle.komihash.proofs.BytesInWords.{AreBytes-typed, word_of-zero, word_of-drop}
 use Rattle.komihash.proofs.PendingBytes.{length_pending}
 use Rattle.komihash.proofs.rounds.pending.writer.put_few.Goals as goal
+use Rattle.komihash.proofs.rounds.pending.writer.put_few.Goals.{else-not-this-via-then-not-this+else-over-bytes-gt8, else-not-this-via-else-not-this}
 
 pub returns-then-over-bytes-gt8 : goal.returns-then-over-bytes-gt8
-returns-then-over-bytes-gt8 c =
+returns-then-over-bytes-gt8 g c =
     let bytes = c.args.bytes.now in
     let fit = 8 - c.args.fill % 8 in
     let are = AreBytes-typed bytes c.type_inv.bytes in
@@ -20,9 +21,14 @@ returns-then-over-bytes-gt8 c =
     (c.set_word.ensures bytes fit (omega arith) left (pending_bytes c.args.words.now c.args.fill) (omega arith)
     (c.join_word.ensures bytes are word))
 
-pub returns-else-over-bytes-gt8 : goal.returns-else-over-bytes-gt8
-returns-else-over-bytes-gt8 c =
+pub returns-else-not-this : goal.returns-else-not-this
+returns-else-not-this g c =
     let bytes = c.args.bytes.now in
     let word = c.read_partial_word-word.ensures ∙ word_of-zero bytes in
-    rw (take_all (8 - c.args.fill % 8) bytes (omega arith)) at
+    let fits : length bytes ≤ 8 - c.args.fill % 8 = elim c.else-not-this.branch [
+      | else-not-this-via-then-not-this+else-over-bytes-gt8 w ↦ omega arith
+      | else-not-this-via-else-not-this w ↦
+          let full : c.args.fill + length bytes ≡ 64 = c.requires.full (search rules) in omega arith
+    ] in
+    rw (take_all (8 - c.args.fill % 8) bytes fits) at
     (c.join_word.ensures bytes (AreBytes-typed bytes c.type_inv.bytes) word)
