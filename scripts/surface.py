@@ -19,7 +19,7 @@ import sys
 from checks import SCRIPTS, cases_of, report, texts_of
 
 LIST = SCRIPTS / "surface.txt"
-SOURCES = ("crates/*/src/**/*.rt", "compare/library/*.rt.in", "crates/*/specs/*.antt", "crates/*/proofs/**/*.antt")
+SOURCES = ("crates/*/src/**/*.rt", "c/*.rt.in", "crates/*/specs/*.antt", "crates/*/proofs/**/*.antt")
 
 # What is not listed: how a function is compiled and proved, and brackets in quotes.
 INTERNAL = re.compile(r"#!?\[(?:inline|tactic)\b[^\]]*\]\s*")

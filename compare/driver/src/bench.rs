@@ -2,7 +2,7 @@
 //! each side in nanoseconds, with tabs between; ../table.py makes the table.
 use crate::original::{OriginalFive, OriginalFour};
 use crate::port::{PortFive, PortFour};
-use crate::side::{Port, Side};
+use crate::side::{FromC, Piece, Port, Side};
 use std::hint::black_box;
 use std::time::Instant;
 
@@ -53,11 +53,13 @@ fn time<T>(count: u64, side: &mut impl FnMut(u64) -> T) -> u128 {
 }
 
 impl Bench<'_> {
-    fn all<P: Port, O: Side>(&self) {
+    fn all<P: Port, O: Side + FromC>(&self) {
         self.hashes::<P, O>();
         self.chained_hashes::<P, O>();
         self.mixed_hashes::<P, O>();
         self.streams::<P, O>();
+        self.streams_from_c::<P, O>();
+        self.lists_from_c::<P, O>();
         self.generators::<P, O>();
         self.words::<P>();
     }
@@ -140,6 +142,47 @@ impl Bench<'_> {
         let original = |i| O::stream(black_box(bytes), pieces, &mut [], i);
         let port = |i| P::stream(black_box(bytes), pieces, &mut [], i);
         self.row(group, name, original, port);
+    }
+
+    /// One call on a stream that lies in memory, and all calls of a short message.
+    fn streams_from_c<P: FromC, O: FromC>(&self) {
+        for length in [1, 8, 16, 64, 256, 1000, 4096] {
+            let bytes = &self.bytes[..length];
+            let (mut x, mut y) = (O::start(1), P::start(1));
+            let original = |_| O::write(black_box(&mut x), black_box(bytes));
+            let port = |_| P::write(black_box(&mut y), black_box(bytes));
+            self.row("c write", &length.to_string(), original, port);
+        }
+        for pending in [0, 16, 63] {
+            let (mut x, mut y) = (O::start(1), P::start(1));
+            O::write(&mut x, &self.bytes[..64 + pending]);
+            P::write(&mut y, &self.bytes[..64 + pending]);
+            let (original, port) = (|_| O::finish(black_box(&x)), |_| P::finish(black_box(&y)));
+            self.row("c finish", &format!("{pending} pending"), original, port);
+        }
+        let (original, port) = (|i| self.from_start::<O>(i), |i| self.from_start::<P>(i));
+        self.row("c start to finish", "16", original, port);
+    }
+
+    fn from_start<S: FromC>(&self, seed: u64) -> Option<u64> {
+        let mut stream = S::start(seed);
+        S::write(black_box(&mut stream), black_box(&self.bytes[..16]));
+        S::finish(black_box(&stream))
+    }
+
+    /// Lists of pieces of 16 bytes: hashed at once, and written to a stream that lies in memory.
+    fn lists_from_c<P: FromC, O: FromC>(&self) {
+        let pieces: Vec<Piece> = self.bytes[..1024].chunks(16).map(Piece::from).collect();
+        for count in [2, 8, 64] {
+            let (pieces, name) = (&pieces[..count], format!("{count} by 16"));
+            let original = |i| O::pieces(black_box(pieces), i);
+            let port = |i| P::pieces(black_box(pieces), i);
+            self.row("c pieces", &name, original, port);
+            let (mut x, mut y) = (O::start(1), P::start(1));
+            let original = |_| O::write_pieces(black_box(&mut x), black_box(pieces));
+            let port = |_| P::write_pieces(black_box(&mut y), black_box(pieces));
+            self.row("c write pieces", &name, original, port);
+        }
     }
 
     fn generators<P: Port, O: Side>(&self) {

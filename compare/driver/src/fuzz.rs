@@ -3,7 +3,7 @@ use crate::input::{Input, Random};
 use crate::original::{OriginalFive, OriginalFour};
 use crate::port::{PortFive, PortFour};
 use crate::rules::{is_text, padded, text_without_lanes, unpadded};
-use crate::side::{Port, Side, Stream};
+use crate::side::{Piece, Port, Side, Stream};
 use std::fmt::Debug;
 
 type Found = Result<(), String>;
@@ -36,6 +36,7 @@ fn case<P: Port, O: Side>(input: &Input, random: &mut Random) -> Found {
     pads::<P>(input, random)?;
     unpads::<P>(input, random)?;
     saves::<P, O>(input)?;
+    lists::<P, O>(input, random)?;
     resumes::<P>(input, random)
 }
 
@@ -147,6 +148,17 @@ fn saves<P: Port, O: Side>(input: &Input) -> Found {
     same("saved text but its lanes", text_without_lanes(P::VERSION, input.bytes()), shown)
 }
 
+/// Lists of pieces, beside the message at once and the calls for one piece.
+fn lists<P: Port, O: Side>(input: &Input, random: &mut Random) -> Found {
+    let pieces: Vec<Piece> = input.parts().into_iter().map(Piece::from).collect();
+    same("hash of pieces", O::hash(input.bytes(), input.seed), P::pieces(&pieces, input.seed))?;
+    let mut stream = P::start(input.seed);
+    for list in pieces.chunks(1 + random.below(8)) {
+        same("a saved stream takes a list of pieces", true, P::write_pieces(&mut stream, list))?;
+    }
+    same("text after lists of pieces", saved::<P>(input)?.text(), stream.text())
+}
+
 fn resumes<P: Port>(input: &Input, random: &mut Random) -> Found {
     let mut stream = saved::<P>(input)?;
     match random.below(5) {
@@ -159,6 +171,8 @@ fn resumes<P: Port>(input: &Input, random: &mut Random) -> Found {
     let is_text = is_text(P::VERSION, stream.text());
     same(&format!("resume {:x?}", stream.text()), is_text, P::finish(&stream).is_some())?;
     let text = stream.text().to_vec();
+    same("a write of no pieces is taken", is_text, P::write_pieces(&mut stream, &[]))?;
+    same("text after a write of no pieces", &text[..], stream.text())?;
     same("a write of no bytes is taken", is_text, P::write(&mut stream, &[]))?;
     same("text after a write of no bytes", text, stream.text().to_vec())
 }

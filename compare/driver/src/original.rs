@@ -1,18 +1,65 @@
 //! The Rust crate, in the same loops as the port's. None is inlined, since none of the port's is.
-use crate::side::Side;
+use crate::side::{FromC, Piece, Side};
 
 /// A slice from a pointer and a length, with the test for null that the port's functions make for callers in C.
 #[inline(always)]
-fn slice<'a>(bytes: *const u8, length: usize) -> &'a [u8] {
-    // SAFETY: `hash` passes those of a slice.
-    unsafe { std::slice::from_raw_parts(bytes.wrapping_add((bytes.is_null() as usize) << 12), length) }
+fn slice<'a, T>(items: *const T, length: usize) -> &'a [T] {
+    // SAFETY: the callers pass those of a slice.
+    unsafe { std::slice::from_raw_parts(items.wrapping_byte_add((items.is_null() as usize) << 12), length) }
 }
 
 macro_rules! original {
     ($name:ident, $module:ident) => {
         mod $module {
+            use super::Piece;
             use komihash::$module::{KomiHasher, Komirand, StreamedKomihash, komihash};
             use std::hash::Hasher;
+
+            #[inline(never)]
+            pub extern "C" fn start(seed: u64) -> Box<StreamedKomihash> {
+                Box::new(StreamedKomihash::new_with_seed(seed))
+            }
+
+            #[inline(never)]
+            pub extern "C" fn write(stream: &mut StreamedKomihash, bytes: *const u8, length: usize) {
+                stream.write(super::slice(bytes, length));
+            }
+
+            #[inline(never)]
+            pub extern "C" fn write_pieces(stream: &mut StreamedKomihash, pieces: *const Piece, count: usize) {
+                for piece in super::slice(pieces, count) {
+                    stream.write(piece.bytes());
+                }
+            }
+
+            #[inline(never)]
+            pub extern "C" fn finish(stream: &StreamedKomihash) -> u64 {
+                stream.finish()
+            }
+
+            #[inline(never)]
+            pub extern "C" fn free(stream: Box<StreamedKomihash>) {
+                drop(stream);
+            }
+
+            #[inline(never)]
+            pub extern "C" fn pieces(pieces: *const Piece, count: usize, seed: u64) -> u64 {
+                let mut stream = StreamedKomihash::new_with_seed(seed);
+                for piece in super::slice(pieces, count) {
+                    stream.write(piece.bytes());
+                }
+                stream.finish()
+            }
+
+            /// A stream on the heap, as a library that allocates would keep it for C.
+            pub struct Stream(pub Option<Box<StreamedKomihash>>);
+
+            impl Drop for Stream {
+                #[inline(always)]
+                fn drop(&mut self) {
+                    free(self.0.take().unwrap());
+                }
+            }
 
             #[inline(never)]
             pub extern "C" fn hash(bytes: *const u8, length: usize, seed: u64) -> u64 {
@@ -79,6 +126,33 @@ macro_rules! original {
 
         /// The Rust crate's version.
         pub struct $name;
+
+        impl FromC for $name {
+            type Stream = $module::Stream;
+
+            #[inline(always)]
+            fn start(seed: u64) -> Self::Stream {
+                $module::Stream(Some($module::start(seed)))
+            }
+            #[inline(always)]
+            fn write(stream: &mut Self::Stream, bytes: &[u8]) -> bool {
+                $module::write(stream.0.as_mut().unwrap(), bytes.as_ptr(), bytes.len());
+                true
+            }
+            #[inline(always)]
+            fn write_pieces(stream: &mut Self::Stream, pieces: &[Piece]) -> bool {
+                $module::write_pieces(stream.0.as_mut().unwrap(), pieces.as_ptr(), pieces.len());
+                true
+            }
+            #[inline(always)]
+            fn finish(stream: &Self::Stream) -> Option<u64> {
+                Some($module::finish(stream.0.as_ref().unwrap()))
+            }
+            #[inline(always)]
+            fn pieces(pieces: &[Piece], seed: u64) -> u64 {
+                $module::pieces(pieces.as_ptr(), pieces.len(), seed)
+            }
+        }
 
         impl Side for $name {
             #[inline(always)]

@@ -1,10 +1,10 @@
 //! The port, by its static libraries. A slice is passed as a pointer and a length.
-use crate::side::{Once, Port, Side, Stream};
+use crate::side::{FromC, Once, Piece, Port, Side, Stream};
 
 macro_rules! port {
     ($name:ident, $module:ident, $version:literal) => {
         mod $module {
-            use super::{Once, Stream};
+            use super::{Once, Piece, Stream};
 
             unsafe extern "C" {
                 #[link_name = concat!("komihash_v", $version)]
@@ -15,6 +15,10 @@ macro_rules! port {
                 pub fn start(stream: *mut Stream, seed: u64);
                 #[link_name = concat!("komihash_v", $version, "_write")]
                 pub fn write(stream: *mut Stream, bytes: *const u8, length: usize) -> bool;
+                #[link_name = concat!("komihash_v", $version, "_write_pieces")]
+                pub fn write_pieces(stream: *mut Stream, pieces: *const Piece, count: usize) -> bool;
+                #[link_name = concat!("komihash_v", $version, "_pieces")]
+                pub fn pieces(pieces: *const Piece, count: usize, seed: u64) -> u64;
                 #[link_name = concat!("komihash_v", $version, "_finish")]
                 pub fn finish(stream: *const Stream, hash: *mut u64) -> bool;
                 #[link_name = concat!("komihash_v", $version, "_fill")]
@@ -98,6 +102,34 @@ macro_rules! port {
             }
         }
 
+        impl FromC for $name {
+            type Stream = Stream;
+
+            #[inline(always)]
+            fn start(seed: u64) -> Stream {
+                let mut stream = Stream { text: [0; 131], length: 0 };
+                unsafe { $module::start(&mut stream, seed) }
+                stream
+            }
+            #[inline(always)]
+            fn write(stream: &mut Stream, bytes: &[u8]) -> bool {
+                unsafe { $module::write(stream, bytes.as_ptr(), bytes.len()) }
+            }
+            #[inline(always)]
+            fn write_pieces(stream: &mut Stream, pieces: &[Piece]) -> bool {
+                unsafe { $module::write_pieces(stream, pieces.as_ptr(), pieces.len()) }
+            }
+            #[inline(always)]
+            fn finish(stream: &Stream) -> Option<u64> {
+                let mut hash = 0;
+                unsafe { $module::finish(stream, &mut hash) }.then_some(hash)
+            }
+            #[inline(always)]
+            fn pieces(pieces: &[Piece], seed: u64) -> u64 {
+                unsafe { $module::pieces(pieces.as_ptr(), pieces.len(), seed) }
+            }
+        }
+
         impl Port for $name {
             const VERSION: u8 = $version;
 
@@ -118,18 +150,6 @@ macro_rules! port {
                 let mut once = Once::default();
                 unsafe { $module::once(bytes.as_ptr(), bytes.len(), seed, &mut once) }
                 once
-            }
-            fn start(seed: u64) -> Stream {
-                let mut stream = Stream { text: [0; 131], length: 0 };
-                unsafe { $module::start(&mut stream, seed) }
-                stream
-            }
-            fn write(stream: &mut Stream, bytes: &[u8]) -> bool {
-                unsafe { $module::write(stream, bytes.as_ptr(), bytes.len()) }
-            }
-            fn finish(stream: &Stream) -> Option<u64> {
-                let mut hash = 0;
-                unsafe { $module::finish(stream, &mut hash) }.then_some(hash)
             }
             fn next_in_chain(number: u64, bytes: &[u8]) -> u64 {
                 unsafe { $module::next_in_chain(number, bytes.as_ptr(), bytes.len()) }

@@ -1,4 +1,5 @@
 //! What is compared: the calls that the port and the Rust crate share, and those of the port alone.
+use std::marker::PhantomData;
 
 /// The calls of one version that both sides have. `pieces` are lengths of pieces: a piece ends where the bytes
 /// end. `start` says how a generator starts: 0 from the pair, 1 from `s1` as a seed, 2 from both as seeds.
@@ -15,15 +16,24 @@ pub trait Side {
     fn fills(out: &mut [u8], pieces: &[usize], s1: u64, s2: u64, start: u32) -> u64;
 }
 
+/// Streams and lists of pieces, as C calls them: a stream lies in memory between its calls.
+pub trait FromC {
+    type Stream;
+    fn start(seed: u64) -> Self::Stream;
+    /// Returns whether the stream is one.
+    fn write(stream: &mut Self::Stream, bytes: &[u8]) -> bool;
+    /// Returns whether the stream is one.
+    fn write_pieces(stream: &mut Self::Stream, pieces: &[Piece]) -> bool;
+    fn finish(stream: &Self::Stream) -> Option<u64>;
+    fn pieces(pieces: &[Piece], seed: u64) -> u64;
+}
+
 /// The calls of one version that the port alone has.
-pub trait Port: Side {
+pub trait Port: Side + FromC<Stream = Stream> {
     const VERSION: u8;
     /// `Side::stream` by lists of calls.
     fn calls(bytes: &[u8], pieces: &[usize], answers: &mut [u64], seed: u64) -> u64;
     fn once(bytes: &[u8], seed: u64) -> Once;
-    fn start(seed: u64) -> Stream;
-    fn write(stream: &mut Stream, bytes: &[u8]) -> bool;
-    fn finish(stream: &Stream) -> Option<u64>;
     fn next_in_chain(number: u64, bytes: &[u8]) -> u64;
     fn fill(out: &mut [u8], s1: u64, s2: u64);
     fn fill_seeded(out: &mut [u8], seed: u64, extra_seed: u64);
@@ -42,7 +52,29 @@ pub struct Once {
     pub default_hasher: u64,
 }
 
-/// A saved stream, as `komihash.h` has it.
+/// A piece of a message, as `komihash_rattle.h` has it.
+#[repr(C)]
+pub struct Piece<'a> {
+    start: *const u8,
+    length: usize,
+    bytes: PhantomData<&'a [u8]>,
+}
+
+impl<'a> From<&'a [u8]> for Piece<'a> {
+    fn from(bytes: &'a [u8]) -> Self {
+        Piece { start: bytes.as_ptr(), length: bytes.len(), bytes: PhantomData }
+    }
+}
+
+impl<'a> Piece<'a> {
+    #[inline(always)]
+    pub fn bytes(&self) -> &'a [u8] {
+        // SAFETY: they are those of a slice, from which alone a piece is made.
+        unsafe { std::slice::from_raw_parts(self.start, self.length) }
+    }
+}
+
+/// A saved stream, as `komihash_rattle.h` has it.
 #[repr(C)]
 #[derive(Clone, Debug, PartialEq)]
 pub struct Stream {

@@ -163,7 +163,7 @@ impl<const V: u8> StreamedKomihash<V> {
     ///
     /// `out` needs room for `LONGEST_TEXT` bytes, whatever is pending. What is after the text stays
     /// as it is. `resume` makes the same stream from the text, also in another process.
-    #[inline]
+    #[inline(always)]
     pub fn save(&self, out: &mut [u8]) -> usize
         requires { LONGEST_TEXT ≤ length out.old }
         ensures length { result ≡ length (text V self.now.state) }
@@ -180,7 +180,7 @@ impl<const V: u8> StreamedKomihash<V> {
 
     /// Returns the stream that has these bytes as its saved text, or `None` if no stream of this
     /// version has.
-    #[inline]
+    #[inline(always)]
     #[tactic(auto, unfolding(crate::specs::Saved::IsTextAfter))]
     pub fn resume(bytes: &[u8]) -> Option<Self>
         ensures text { IfSome result (λ stream. text V stream.state ≡ bytes.now) }

@@ -1,6 +1,6 @@
-/* Calls every function of komihash.h in both versions, and prints what each returns and writes.
- * calls.txt is what it must print. */
-#include "komihash.h"
+/* Calls every function of komihash_rattle.h in both versions, and prints what each returns and
+ * writes. calls.txt is what it must print. */
+#include "komihash_rattle.h"
 #include <inttypes.h>
 #include <stdio.h>
 #include <string.h>
@@ -8,24 +8,28 @@
 /* The functions of one version. */
 struct version {
     const char *name;
-    uint64_t (*hash)(const uint8_t *, size_t, uint64_t);
-    uint64_t (*chain)(uint64_t, const uint8_t *, size_t);
+    uint64_t (*hash)(const void *, size_t, uint64_t);
+    uint64_t (*pieces)(const komihash_piece *, size_t, uint64_t);
+    uint64_t (*chain)(uint64_t, const void *, size_t);
     void (*start)(komihash_stream *, uint64_t);
-    bool (*write)(komihash_stream *, const uint8_t *, size_t);
+    bool (*write)(komihash_stream *, const void *, size_t);
+    bool (*write_pieces)(komihash_stream *, const komihash_piece *, size_t);
     bool (*finish)(const komihash_stream *, uint64_t *);
-    void (*fill)(uint8_t *, size_t, uint64_t, uint64_t);
-    void (*fill_seeded)(uint8_t *, size_t, uint64_t, uint64_t);
-    size_t (*pad)(const uint8_t *, size_t, uint64_t *, size_t);
-    size_t (*unpad)(const uint64_t *, size_t, uint8_t *, size_t);
+    void (*fill)(void *, size_t, uint64_t, uint64_t);
+    void (*fill_seeded)(void *, size_t, uint64_t, uint64_t);
+    size_t (*pad)(const void *, size_t, uint64_t *, size_t);
+    size_t (*unpad)(const uint64_t *, size_t, void *, size_t);
 };
 
 #define VERSION(v) \
     { \
         .name = "version " #v, \
         .hash = komihash_v##v, \
+        .pieces = komihash_v##v##_pieces, \
         .chain = komihash_v##v##_chain, \
         .start = komihash_v##v##_start, \
         .write = komihash_v##v##_write, \
+        .write_pieces = komihash_v##v##_write_pieces, \
         .finish = komihash_v##v##_finish, \
         .fill = komihash_v##v##_fill, \
         .fill_seeded = komihash_v##v##_fill_seeded, \
@@ -39,6 +43,10 @@ static const uint64_t seed = 0x0123456789abcdef, other_seed = 0xfedcba9876543210
 
 /* Byte i is 7 * i + 3 modulo 256. */
 static uint8_t message[100];
+
+/* The message in four pieces, one of them empty. */
+static const komihash_piece pieces[4] = {
+    {message, 20}, {message + 20, 0}, {message + 20, 43}, {message + 63, 37}};
 
 static void print_hash(const char *name, uint64_t hash) {
     printf("%-22s %016" PRIx64 "\n", name, hash);
@@ -61,6 +69,8 @@ static void hashes(const struct version *version) {
     uint64_t number = version->chain(seed, message, 70);
     print_hash("hash", version->hash(message, 100, seed));
     print_hash("hash of no bytes", version->hash(NULL, 0, seed));
+    print_hash("pieces", version->pieces(pieces, 4, seed));
+    print_hash("pieces, none", version->pieces(NULL, 0, seed));
     print_hash("chain", number);
     print_hash("chain, next", version->chain(number, message + 70, 30));
 }
@@ -86,8 +96,15 @@ static void streams(const struct version *version, const struct version *other) 
     print_stream(version, &stream);
     printf("write %d, no bytes\n", version->write(&stream, NULL, 0));
     print_stream(version, &stream);
+    version->start(&stream, seed);
+    printf("write_pieces %d\n", version->write_pieces(&stream, pieces, 4));
+    print_stream(version, &stream);
+    printf("write_pieces %d, no pieces\n", version->write_pieces(&stream, NULL, 0));
+    print_stream(version, &stream);
     other->start(&stream, seed);
     printf("write %d, text of the other version\n", version->write(&stream, message, 20));
+    printf("write_pieces %d, text of the other version\n",
+           version->write_pieces(&stream, pieces, 4));
     print_stream(version, &stream);
 }
 
