@@ -1,5 +1,5 @@
 -- What the generator's outputs fill a buffer with: their bytes, one output after the other.
-use Rattle.std.proofs.Common.{◌≡◌, ℕ, zero, suc, ◌+◌, ◌*◌, ◌%◌, ◌≤◌, List, ◌++◌, length, take, refl, ap, arith, ◌∙◌, sym, zero-add, suc-add}
+use Rattle.std.proofs.Common.{◌≡◌, ℕ, zero, suc, ◌+◌, ◌*◌, ◌%◌, ◌≤◌, List, [], ◌∷◌, ◌++◌, length, take, refl, ap, arith, ◌∙◌, sym, zero-add, suc-add}
 use Rattle.std.proofs.lemmas.List.{append_assoc, append-nil, length-take-le}
 use Rattle.std.proofs.lemmas.Slice.{take-put_mid}
 use Rattle.std.proofs.Math.Seq.{take-append-add, take-length}
@@ -9,11 +9,36 @@ use Rattle.komihash.specs.Words.{bytes_of, all_bytes}
 
 -- ---- steps in two parts
 
-after_steps-add : (v m n : ℕ) (s : ℕ × ℕ)
+pub after_steps-add : (v m n : ℕ) (s : ℕ × ℕ)
     → after_steps v (m + n) s ≡ after_steps v n (after_steps v m s)
 unfolding after_steps
 after_steps-add v zero n s = rw zero-add refl
 after_steps-add v (suc m) n s = rw suc-add (after_steps-add v m n (next v s))
+
+pub outputs-add : (v m n : ℕ) (s : ℕ × ℕ)
+    → outputs v (m + n) s ≡ outputs v m s ++ outputs v n (after_steps v m s)
+unfolding after_steps outputs
+outputs-add v zero n s = rw zero-add refl
+outputs-add v (suc m) n s = rw suc-add (ap (λ ws. (next v s).0 ∷ ws) (outputs-add v m n (next v s)))
+
+-- ---- steps one by one
+
+pub after_steps-none : (v : ℕ) (s : ℕ × ℕ) → after_steps v 0 s ≡ s
+unfolding after_steps
+after_steps-none v s = refl
+
+pub outputs-none : (v : ℕ) (s : ℕ × ℕ) → outputs v 0 s ≡ []
+unfolding outputs
+outputs-none v s = refl
+
+pub after_steps-one : (v n : ℕ) (s : ℕ × ℕ) → after_steps v (n + 1) s ≡ next v (after_steps v n s)
+unfolding after_steps
+after_steps-one v n s = after_steps-add v n 1 s
+
+pub outputs-one : (v n : ℕ) (s : ℕ × ℕ)
+    → outputs v (n + 1) s ≡ outputs v n s ++ (next v (after_steps v n s)).0 ∷ []
+unfolding outputs
+outputs-one v n s = outputs-add v n 1 s
 
 -- the bytes of n outputs
 abbrev output_bytes : ℕ → ℕ → ℕ × ℕ → List ℕ

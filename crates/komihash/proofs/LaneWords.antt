@@ -7,7 +7,7 @@ use Rattle.komihash.specs.Stream.{AreWords}
 use Rattle.komihash.specs.Tails.{block_lanes}
 
 -- a raised word, and the low half that it meets
-mixed-lt : (a b p : ℕ) → bit_xor (plus a b) (low p) < 2 ^ 64
+pub mixed-lt : (a b p : ℕ) → bit_xor (plus a b) (low p) < 2 ^ 64
 mixed-lt a b p = xor_lt 64 (plus a b) (low p) (omega arith) (omega arith)
 
 AreWords-lanes : (s : ℕ × ℕ) → s.0 < 2 ^ 64 → s.1 < 2 ^ 64 → AreWords (lanes s)

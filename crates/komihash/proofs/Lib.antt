@@ -1,4 +1,5 @@
 pub mod Blocks
+pub mod Bounds
 pub mod BytesInWords
 pub mod BytesOfWords
 pub mod CallLists

@@ -7,7 +7,7 @@ use borrow.Rule.Slice.PartMut.{put_mid}
 use Rattle.std.specs.Prelude.{slice_index, ◌==◌}
 use Rattle.komihash.specs.Halves.{lanes_in, state_in}
 use Rattle.komihash.specs.Rounds.{Lanes}
-use Rattle.komihash.specs.Saved.{flag_byte, in_order, text, IsText}
+use Rattle.komihash.specs.Saved.{flag_byte, in_order, text, IsText, IsTextAfter}
 use Rattle.komihash.specs.Stream.{AreWords, State, IsState}
 use Rattle.komihash.specs.Tails.{whole_words}
 use Rattle.komihash.specs.Words.{AreBytes, all_bytes}
@@ -91,6 +91,13 @@ pub length-text : (v : ℕ) (s : State) → length (text v s) ≡ 68 + length s.
 unfolding text
 length-text v s =
     omega (arith, length-append (all_bytes (in_order s.lanes)) s.pending, length-all_bytes (in_order s.lanes))
+
+pub text-most : (v : ℕ) (s : State) (bytes : List ℕ) → IsState v s → text v s ≡ bytes → length bytes ≤ 131
+text-most v s bytes is same = omega (arith, is.few, length-text v s, ap length same)
+
+pub IsTextAfter-most : (v seed : ℕ) (m bytes : List ℕ) → IsTextAfter v seed m bytes → length bytes ≤ 131
+unfolding IsTextAfter
+IsTextAfter-most v seed m bytes (s, is, absorbed, same) = text-most v s bytes is same
 
 -- two states never share a text
 module _ (v w : ℕ) (s t : State) (same : text v s ≡ text w t) where

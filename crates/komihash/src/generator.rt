@@ -1,6 +1,6 @@
 //! The pseudorandom generator of both versions.
 
-ghost use Rattle.std.specs.Prelude.{◌≡◌, length};
+ghost use Rattle.std.specs.Prelude.{◌≡◌, ◌<◌, ◌^◌, length};
 ghost use Rattle.komihash.specs.Generator.{next, after_steps, fill, after_fill};
 
 use crate::tally::Tally;
@@ -60,6 +60,15 @@ impl<const V: u8> Komirand<V> {
         generator.next();
         generator.next();
         generator
+    }
+
+    // Reads both words, which shows that they are words.
+    #[inline(always)]
+    pub(crate) fn are_words(&self)
+        ensures first { self.now.0 < 2 ^ 64 }
+        ensures second { self.now.1 < 2 ^ 64 }
+    {
+        let (_s1, _s2) = (self.s1, self.s2);
     }
 
     /// Takes one step, and returns its output.

@@ -1,22 +1,27 @@
-//! Laws of the definitions in `specs/`. Each function has an empty body: its contract states a law,
+//! Laws of the definitions in `specs/`. Each function changes nothing: its contract states a law,
 //! which is proved for all messages, seeds and versions.
 
 #![tactic(auto, using(crate::proofs::LawLemmas::laws))]
 
-ghost use Rattle.std.specs.Prelude.{◌≡◌, ℕ, ◌+◌, ◌%◌, ◌^◌, ◌<◌, bit_xor};
+ghost use Rattle.std.specs.Prelude.{◌≡◌, ℕ, ◌+◌, ◌%◌, ◌^◌, ◌<◌, ◌≤◌, bit_xor};
 ghost use Rattle.std.specs.Prelude.{List, [], ◌∷◌, ◌++◌, length};
 ghost use Rattle.komihash.specs.Calls.{AreAbsorbs, bytes_of_calls, run_products};
 ghost use Rattle.komihash.specs.Hasher.{number_after};
 ghost use Rattle.komihash.specs.Counts.{hash_products};
-ghost use Rattle.komihash.specs.Generator.{after_steps, fill, after_fill};
+ghost use Rattle.komihash.specs.Generator.{next, after_steps, outputs, fill, after_fill};
 ghost use Rattle.komihash.specs.Hash.{komi};
 ghost use Rattle.komihash.specs.Rounds.{seed_words, constant};
-ghost use Rattle.komihash.specs.Saved.{text};
+ghost use Rattle.komihash.specs.Saved.{text, IsTextAfter};
 ghost use Rattle.komihash.specs.Stream.{State, IsState, start, absorb, answer};
 ghost use Rattle.komihash.specs.Padding.{padded_words};
 ghost use Rattle.komihash.specs.Words.{AreBytes};
 ghost use Rattle.komihash.specs.declared.stream.Call.{Call};
 ghost use Rattle.komihash.specs.declared.stream.Call.TheVariants.{Answer};
+
+use crate::generator::Komirand;
+use crate::hasher::KomiHasher;
+use crate::stream::LONGEST_TEXT;
+use std::hash::Hasher;
 
 /// Proves that the two words that a seed is made into give the seed back, so no two seeds share
 /// both of their words.
@@ -83,4 +88,56 @@ pub fn saved_once()
         text v s ≡ text w t → v ≡ w }
     ensures state { (v w : ℕ) (s t : State) → IsState v s → IsState w t →
         text v s ≡ text w t → s ≡ t }
+{}
+
+/// Proves that every hash is a word, below 2^64.
+pub fn hash_bound()
+    ensures { (v seed : ℕ) (m : List ℕ) → komi v seed m < 2 ^ 64 }
+{}
+
+/// Proves that a hasher's number is a word, below 2^64.
+pub fn hasher_bound<const V: u8>(hasher: &KomiHasher<V>)
+    ensures { hasher.now < 2 ^ 64 }
+{
+    let _number = hasher.finish();
+}
+
+/// Proves that a generator's pair is two words, below 2^64.
+pub fn generator_bound<const V: u8>(generator: &Komirand<V>)
+    ensures first { generator.now.0 < 2 ^ 64 }
+    ensures second { generator.now.1 < 2 ^ 64 }
+{
+    generator.are_words();
+}
+
+/// Proves that the saved text of a stream has at most `LONGEST_TEXT` bytes.
+pub fn text_bound()
+    ensures { (v seed : ℕ) (m bytes : List ℕ) → IsTextAfter v seed m bytes →
+        length bytes ≤ LONGEST_TEXT }
+{}
+
+/// Proves that a hasher's writes can be cut anywhere: the number after all of them is the one that
+/// the later writes lead to from the number after the earlier ones.
+pub fn chain_cut()
+    ensures { (v number : ℕ) (x y : List (List ℕ)) →
+        number_after v number (x ++ y) ≡ number_after v (number_after v number x) y }
+{}
+
+/// Proves that a generator's steps can be cut anywhere: m + n steps are m steps and then n.
+pub fn steps_cut()
+    ensures pair { (v m n : ℕ) (s : ℕ × ℕ) →
+        after_steps v (m + n) s ≡ after_steps v n (after_steps v m s) }
+    ensures outputs { (v m n : ℕ) (s : ℕ × ℕ) →
+        outputs v (m + n) s ≡ outputs v m s ++ outputs v n (after_steps v m s) }
+{}
+
+/// Proves what a loop of steps needs: no step leaves the pair as it is and has no output, and n + 1
+/// steps are n steps and one more.
+pub fn step_by_step()
+    ensures no_step { (v : ℕ) (s : ℕ × ℕ) → after_steps v 0 s ≡ s }
+    ensures no_output { (v : ℕ) (s : ℕ × ℕ) → outputs v 0 s ≡ [] }
+    ensures pair { (v n : ℕ) (s : ℕ × ℕ) →
+        after_steps v (n + 1) s ≡ next v (after_steps v n s) }
+    ensures outputs { (v n : ℕ) (s : ℕ × ℕ) →
+        outputs v (n + 1) s ≡ outputs v n s ++ (next v (after_steps v n s)).0 ∷ [] }
 {}

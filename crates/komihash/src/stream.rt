@@ -44,6 +44,8 @@ pub trait KomiStream: Sized + Drop {
         ensures state { state self.new ≡ absorb VERSION (state self.old) bytes.now }
         ensures message { (seed : ℕ) (m : List ℕ) → HasAbsorbed VERSION seed (state self.old) m
             → HasAbsorbed VERSION seed (state self.new) (m ++ bytes.now) }
+        ensures joined { (seed : ℕ) (m all : List ℕ) → HasAbsorbed VERSION seed (state self.old) m
+            → m ++ bytes.now ≡ all → HasAbsorbed VERSION seed (state self.new) all }
         ensures products { tally.new.products ≡ tally.old.products
             + write_products (length (state self.old).pending) (length bytes.now) }
         ensures kept { tally.new.kept ≡ tally.old.kept
@@ -80,6 +82,7 @@ pub trait KomiStream: Sized + Drop {
             → IsSomeAnd result (λ stream. state stream ≡ s) }
         ensures message { (seed : ℕ) (m : List ℕ) → IsTextAfter VERSION seed m bytes.now
             → IsSomeAnd result (λ stream. HasAbsorbed VERSION seed (state stream) m) }
+        ensures most { IfSome result (λ _. length bytes.now ≤ LONGEST_TEXT) }
         ensures none { IsNone result ↔ ¬ IsText VERSION bytes.now };
 
     ghost versions: { (VERSION ≡ 4) ⊎ (VERSION ≡ 5) };

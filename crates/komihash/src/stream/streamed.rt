@@ -106,6 +106,8 @@ impl<const V: u8> StreamedKomihash<V> {
         ensures state { self.new.state ≡ absorb V self.old.state bytes.now }
         ensures message { (seed : ℕ) (m : List ℕ) → HasAbsorbed V seed self.old.state m
             → HasAbsorbed V seed self.new.state (m ++ bytes.now) }
+        ensures joined { (seed : ℕ) (m all : List ℕ) → HasAbsorbed V seed self.old.state m
+            → m ++ bytes.now ≡ all → HasAbsorbed V seed self.new.state all }
     {
         self.absorb_counted(bytes, &mut Tally::new());
     }
@@ -188,6 +190,7 @@ impl<const V: u8> StreamedKomihash<V> {
             → IsSomeAnd result (λ stream. stream.state ≡ s) }
         ensures message { (seed : ℕ) (m : List ℕ) → IsTextAfter V seed m bytes.now
             → IsSomeAnd result (λ stream. HasAbsorbed V seed stream.state m) }
+        ensures most { IfSome result (λ _. length bytes.now ≤ LONGEST_TEXT) }
         ensures none { IsNone result ↔ ¬ IsText V bytes.now }
     {
         if !is_text::<V>(bytes) {

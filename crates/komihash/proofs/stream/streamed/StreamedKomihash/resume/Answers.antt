@@ -1,7 +1,7 @@
 use Rattle.std.proofs.Common.{◌∙◌, sym, ap, subst}
 use Rattle.komihash.specs.Saved.{text, IsTextAfter}
 use Rattle.komihash.specs.Stream.{IsState, HasAbsorbed}
-use Rattle.komihash.proofs.SavedTexts.{read_back}
+use Rattle.komihash.proofs.SavedTexts.{read_back, text-most}
 use Rattle.komihash.proofs.stream.streamed.StreamedKomihash.resume.Goals as goal
 
 pub invariant_of-result : goal.invariant_of-result
@@ -22,3 +22,8 @@ returns-clause-text g c =
 pub returns-clause-message : goal.returns-clause-message
 unfolding IsTextAfter HasAbsorbed
 returns-clause-message g c seed m (s, is, absorbed, same) = returns-clause-same g c s is same ∙ absorbed
+
+pub returns-clause-most : goal.returns-clause-most
+returns-clause-most g c =
+    let (s, is, same) = c.is_text.ensures.text.0 c.if-not-is_text.false in
+    text-most g.row.V s c.args.bytes.now is same

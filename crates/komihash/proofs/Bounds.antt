@@ -1,0 +1,34 @@
+-- Bounds of hashes, and the numbers of a hasher after more writes.
+use Rattle.std.proofs.Common.{◌≡◌, ℕ, ◌^◌, ◌<◌, Bool, true, List, [], ◌∷◌, ◌++◌, refl, arith}
+use Rattle.komihash.specs.Hash.{hash_from_pair, hash_from_lanes, komi}
+use Rattle.komihash.specs.Hasher.{number_after}
+use Rattle.komihash.specs.Padding.{padded_words}
+use Rattle.komihash.specs.Rounds.{Lanes, seed_pair, lanes, mix}
+use Rattle.komihash.specs.Rounds.{block_round, join, pair_round, closing}
+use Rattle.komihash.proofs.LaneWords.{mixed-lt}
+
+closing-lt : (s : ℕ × ℕ) (ws : List ℕ) → closing s ws < 2 ^ 64
+unfolding mix
+closing-lt s (p ∷ []) = mixed-lt _ _ _
+closing-lt s (w ∷ p ∷ []) = mixed-lt _ _ _
+closing-lt s ws = omega arith
+
+hash_from_pair-lt : (s : ℕ × ℕ) (ws : List ℕ) → hash_from_pair s ws < 2 ^ 64
+hash_from_pair-lt s (w0 ∷ w1 ∷ w ∷ ws) = hash_from_pair-lt (pair_round s w0 w1) (w ∷ ws)
+hash_from_pair-lt s ws = closing-lt s ws
+
+hash_from_lanes-lt : (v : ℕ) (s : Lanes) (absorbed : Bool) (ws : List ℕ)
+    → hash_from_lanes v s absorbed ws < 2 ^ 64
+hash_from_lanes-lt v s absorbed (w0 ∷ w1 ∷ w2 ∷ w3 ∷ w4 ∷ w5 ∷ w6 ∷ w7 ∷ w ∷ ws) =
+    let block = w0 ∷ w1 ∷ w2 ∷ w3 ∷ w4 ∷ w5 ∷ w6 ∷ w7 ∷ [] in
+    hash_from_lanes-lt v (block_round v s block) true (w ∷ ws)
+hash_from_lanes-lt v s absorbed ws = hash_from_pair-lt (join absorbed s) ws
+
+pub komi-lt : (v seed : ℕ) (m : List ℕ) → komi v seed m < 2 ^ 64
+unfolding komi
+komi-lt v seed m = hash_from_lanes-lt v (lanes (seed_pair seed)) _ (padded_words v m)
+
+pub number_after-append : (v s : ℕ) (xs ys : List (List ℕ))
+    → number_after v s (xs ++ ys) ≡ number_after v (number_after v s xs) ys
+number_after-append v s [] ys = refl
+number_after-append v s (m ∷ xs) ys = number_after-append v (komi v s m) xs ys
