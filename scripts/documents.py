@@ -15,7 +15,7 @@ import sys
 
 from checks import SCRIPTS, cases_of, report, texts_of
 
-FILES = ("*.md", "docs/*.md", "scripts/**/*", "crates/*/[smp]*/**/*")
+FILES = ("*.md", "docs/*.md", "scripts/**/*", "crates/*/[smp]*/**/*", "c/*")
 CALLERS = "crates/komisum/src/tests/callers.rt"
 SOURCES = "crates/komihash/src/"
 DEFINITIONS = "docs/DEFINITIONS.md"
