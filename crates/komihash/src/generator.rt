@@ -4,7 +4,7 @@ ghost use Rattle.std.specs.Prelude.{◌≡◌, ◌<◌, ◌^◌, length};
 ghost use Rattle.komihash.specs.Generator.{next, after_steps, fill, after_fill};
 
 use crate::tally::Tally;
-use crate::utils::{multiply128, write_partial_word};
+use crate::utils::{multiply128, write_partial_word, write_word};
 use std::marker::Model;
 
 /// A pseudorandom generator of version V, which contracts see as a pair of words. It is not
@@ -104,7 +104,7 @@ impl<const V: u8> Komirand<V> {
         let whole = buffer.len() / 8;
         'words: for i in 0..whole {
             let word = self.next();
-            buffer[8 * i..8 * i + 8].copy_from_slice(&word.to_le_bytes());
+            write_word(word, &mut buffer[8 * i..8 * i + 8]);
         }
         if buffer.len() % 8 > 0 {
             let output = self.next();

@@ -72,6 +72,20 @@ pub(crate) fn read_partial_word(bytes: &[u8], end: u64) -> u64
     }
 }
 
+/// Fills `out`, of eight bytes, with the bytes of a word.
+///
+/// Assigns an array, which is one store. A copy from a slice also compares addresses.
+#[inline(always)]
+pub(crate) fn write_word(word: u64, out: &mut [u8])
+    requires { length out.old ≡ 8 }
+    ensures { out.new ≡ bytes_of 8 word }
+{
+    let Some(chunk) = out.first_chunk_mut::<8>() else {
+        unreachable!()
+    };
+    *chunk = word.to_le_bytes();
+}
+
 /// Fills `out`, of at most seven bytes, with the lowest bytes of a word.
 ///
 /// Writes them in two pieces that may overlap.

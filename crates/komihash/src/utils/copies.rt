@@ -4,7 +4,7 @@ ghost use Rattle.std.specs.Prelude.{◌≡◌, ◌*◌, ◌/◌, ◌≤◌, leng
 ghost use Rattle.komihash.specs.Words.{all_bytes};
 ghost use Rattle.komihash.specs.Tails.{whole_words};
 
-use super::{word_at, write_partial_word};
+use super::{word_at, write_partial_word, write_word};
 
 /// Writes the whole words of `bytes` to the front of `out`.
 #[inline(always)]
@@ -28,7 +28,7 @@ pub(crate) fn write_bytes(words: &[u64], count: usize, out: &mut [u8])
 {
     let whole = count / 8;
     'whole: for i in 0..whole {
-        out[8 * i..8 * i + 8].copy_from_slice(&words[i].to_le_bytes());
+        write_word(words[i], &mut out[8 * i..8 * i + 8]);
     }
     if count % 8 > 0 {
         write_partial_word(words[whole], &mut out[8 * whole..count]);

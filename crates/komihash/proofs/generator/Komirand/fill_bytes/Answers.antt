@@ -2,16 +2,14 @@ use Rattle.std.proofs.Common.{◌≡◌, ◌-◌, ◌*◌, ◌/◌, ◌∙◌, l
 use Rattle.std.proofs.lemmas.List.{take_all}
 use Rattle.std.proofs.lemmas.Slice.{overwrites}
 use Rattle.komihash.specs.Words.{bytes_of}
-use Rattle.komihash.proofs.BytesOfWords.{to_le_bytes-word}
 use Rattle.komihash.proofs.GeneratorFills.{Filled-more}
 use Rattle.komihash.proofs.generator.Komirand.fill_bytes.Goals as goal
 
 pub words-preserved : goal.words-preserved
 unfolding bytes_of
 words-preserved g c =
-    let bytes = c.to_le_bytes.ensures ∙ to_le_bytes-word c.next-word.result in
     Filled-more _ 8 _ c.words.invariant c.next-word.ensures.output c.next-word.ensures.pair
-    (c.copy_from_slice.ensures.after ∙ bytes)
+    c.write_word.ensures
     (omega arith) refl (omega arith) (omega arith)
 
 pub returns-then-buffer-gt0 : goal.returns-then-buffer-gt0

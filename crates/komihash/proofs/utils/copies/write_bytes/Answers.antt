@@ -2,7 +2,7 @@ use Rattle.std.proofs.Common.{◌≡◌, ◌+◌, ◌-◌, ◌*◌, ◌/◌, ◌
 use Rattle.std.proofs.lemmas.List.{length-take-le, length-drop, take_all}
 use Rattle.komihash.specs.Words.{bytes_of, all_bytes}
 use Rattle.komihash.proofs.Lists.{covers-put_mid}
-use Rattle.komihash.proofs.BytesOfWords.{length-bytes_of, take-all_bytes, to_le_bytes-word, length-all_bytes}
+use Rattle.komihash.proofs.BytesOfWords.{length-bytes_of, take-all_bytes, length-all_bytes}
 use Rattle.komihash.proofs.utils.copies.write_bytes.Goals as goal
 
 pub whole-preserved : goal.whole-preserved
@@ -12,9 +12,9 @@ whole-preserved c =
     let word = get_or words i 0 in
     let size = length-all_bytes words in
     let eight : 8 * i + 8 - 8 * i ≡ 8 = omega arith in
-    rw eight (covers-put_mid (8 * i) 8 (8 * (i + 1)) c.whole.out c.copy_from_slice.new.self (all_bytes words) c.args.out.now
+    rw eight (covers-put_mid (8 * i) 8 (8 * (i + 1)) c.whole.out c.write_word.new.out (all_bytes words) c.args.out.now
     (omega arith) (omega arith) (omega arith)
-    (c.copy_from_slice.ensures.after ∙ c.to_le_bytes.ensures ∙ to_le_bytes-word word
+    (c.write_word.ensures
     ∙ sym (take_all 8 (bytes_of 8 word) (omega (arith, length-bytes_of 8 word)))
     ∙ sym (take-all_bytes words i 8 (omega arith) (omega arith))) c.whole.invariant)
 
