@@ -1,5 +1,6 @@
 /* Calls every function of komihash_rattle.h in both versions, and prints what each returns and
- * writes. calls.txt is what it must print. */
+ * writes. calls.txt is what it must print. The Rust crate gave the hashes and filled bytes there;
+ * the padded words and saved texts follow from their rules. */
 #include "komihash_rattle.h"
 #include <inttypes.h>
 #include <stdio.h>

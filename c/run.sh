@@ -18,8 +18,8 @@ need() { command -v "$1" > /dev/null || stop "there is no $1, which $2"; }
 
 # Whether the library is there for a processor, and no source is newer.
 is_built() {
-    [ -f "$library.so" ] && [ "$(cat "$out/cpu")" = "$1" ] || return 1
-    [ -z "$(find ../crates/komihash/{src,specs,proofs} *.in proofs -newer "$library.so" -print -quit)" ]
+    [ -f "$out/cpu" ] && [ "$(cat "$out/cpu")" = "$1" ] || return 1
+    [ -z "$(find ../crates/komihash/{src,specs,proofs} *.in proofs -newer "$out/cpu" -print -quit)" ]
 }
 
 # Makes a workspace of the crate and the library. It lies outside of the repository: the merge gate refuses sources that
@@ -45,6 +45,7 @@ build() (
     is_built "$cpu" && return
     need rt 'proves and builds the library'
     need "${CC:-cc}" 'links the shared object'
+    rm -f "$out/cpu"
     room=$(mktemp -d)
     trap 'rm -rf "$room"' EXIT
     make_workspace "$room"
@@ -102,7 +103,6 @@ fits_header() {
     local compiler=$1
     grep -o 'komihash_v[a-z0-9_]*(' "$out/komihash_rattle.h" | tr -d '(' | sort > "$out/declared"
     nm --defined-only --extern-only "$library.a" | awk 'NF == 3 { print $3 }' | sort | diff "$out/declared" - || return 1
-    compile "$compiler" c11 -c calls.c -o "$out/calls.o"
     nm --undefined-only "$out/calls.o" | grep -o 'komihash_v.*' | sort | diff "$out/declared" - || return 1
     declarations > "$out/declarations.c"
     compile "$compiler" c11 -fsyntax-only "$out/declarations.c"
@@ -131,6 +131,7 @@ examples() {
     example > "$out/example.c"
     for compiler in gcc clang; do
         command -v "$compiler" > /dev/null || continue
+        compile "$compiler" c11 -c calls.c -o "$out/calls.o"
         fits_header "$compiler" || stop 'komihash_rattle.h, the library and calls.c do not agree'
         run "$compiler" c11 calls.c calls.txt
         run "$compiler" c11 "$out/example.c" examples/printed.txt
@@ -149,9 +150,12 @@ examples() {
 }
 
 case "$*" in
-    library) build x86-64-v2 ;;
-    'library --cpu '*) build "$3" ;;
-    examples) build x86-64-v2 && examples ;;
+    library | examples) cpu=x86-64-v2 ;;
+    'library --cpu '*) cpu=$3 ;;
     *) sed -n '4,5s/^# \?//p' run.sh >&2 && exit 2 ;;
 esac
-[ "$1" = examples ] || echo "$library.a and $library.so are built for $(cat "$out/cpu"), with $out/komihash_rattle.h."
+build "$cpu"
+case $1 in
+    library) echo "$library.a and $library.so are built for $cpu, with $out/komihash_rattle.h." ;;
+    examples) examples ;;
+esac
