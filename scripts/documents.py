@@ -1,7 +1,7 @@
 #!/usr/bin/env python3
 """Compares the documents with the sources that they show and name.
 
-  callers      the Rust blocks of CALLING.md are the callers in komisum's tests, whole and in order; README's is one
+  callers      the blocks of code of README and CALLING.md are whole files of komisum, which are proved and tested
   items        CALLING.md lists every public function, by file, and each clause that it shows stands in that file
   definitions  docs/DEFINITIONS.md names every public definition of specs/
   names        each name in docs/DEFINITIONS.md stands in specs/, proofs/ or src/
@@ -16,7 +16,18 @@ import sys
 from checks import SCRIPTS, cases_of, report, texts_of
 
 FILES = ("*.md", "docs/*.md", "scripts/**/*", "crates/*/[smp]*/**/*", "c/*")
-CALLERS = "crates/komisum/src/tests/callers.rt"
+KOMISUM = "crates/komisum/"
+SHOWN = {
+    "README.md": ["src/tests/pieces.rt"],
+    "CALLING.md": [
+        "src/tests/shards.rt",
+        "src/tests/numbers.rt",
+        "src/tests/lists.rt",
+        "proofs/tests/lists/hash_of_numbers/Invariants.antt",
+        "src/tests/samples.rt",
+        "src/tests/checkpoints.rt",
+    ],
+}
 SOURCES = "crates/komihash/src/"
 DEFINITIONS = "docs/DEFINITIONS.md"
 
@@ -30,9 +41,9 @@ NAMED_FILE = re.compile(r"[\w./*{},-]+\.(?:rt|antt|md|sh|py|edit|h|c)")
 PUBLIC = re.compile(r"^(?:(?:abbrev|unfoldable) )?pub (?:record )?([\w-]+)", re.MULTILINE)
 
 
-def rust_blocks(text):
-    """The Rust blocks of a document."""
-    return [block.strip() for block in re.findall(r"```rust\n(.*?)```", text, re.DOTALL)]
+def blocks_of_code(text):
+    """The blocks of Rattle and of antt of a document."""
+    return re.findall(r"```(?:rust|antt)\n(.*?)```", text, re.DOTALL)
 
 
 def code_spans(text):
@@ -57,12 +68,9 @@ class Documents:
         return {name: text for name, text in self.files.items() if re.fullmatch(pattern, name)}
 
     def callers(self):
-        callers = self.files[CALLERS].partition("\n\n")[2].partition("\nuse super::")[0].strip()
-        if "\n\n".join(rust_blocks(self.files["CALLING.md"])) != callers:
-            yield f"CALLING.md: its Rust blocks are not the callers of {CALLERS}"
-        blocks = rust_blocks(self.files["README.md"])
-        if not blocks or any(block not in callers for block in blocks):
-            yield f"README.md: its Rust block is no caller of {CALLERS}"
+        for document, names in SHOWN.items():
+            if blocks_of_code(self.files[document]) != [self.files[KOMISUM + name] for name in names]:
+                yield f"{document}: its blocks of code are not {', '.join(names)}"
 
     def items(self):
         shown = re.search(r"^## Items\n.*?```text\n(.*?)```", self.files["CALLING.md"], re.DOTALL | re.MULTILINE)
@@ -123,4 +131,4 @@ def findings(files):
 
 
 if __name__ == "__main__":
-    sys.exit(report(cases_of("the documents", findings, texts_of(*FILES), SCRIPTS / "planted/documents", 22)))
+    sys.exit(report(cases_of("the documents", findings, texts_of(*FILES), SCRIPTS / "planted/documents", 23)))

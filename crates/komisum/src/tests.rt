@@ -2,12 +2,19 @@
 
 mod arguments;
 mod callers;
+mod checkpoints;
 mod digest;
 mod ending;
 mod fakes;
 mod hex;
+mod keys;
+mod lists;
 mod messages;
+mod numbers;
+mod pieces;
 mod program;
+mod samples;
 mod settings;
+mod shards;
 mod show;
 mod watched;

@@ -1,0 +1,34 @@
+//! Digests that continue from a checkpoint, the saved text of a stream.
+
+ghost use Rattle.std.specs.Prelude.{◌≤◌, ◌≡◌, ◌++◌, ℕ, List, take, IfSome, IsSomeAnd};
+ghost use Rattle.std.specs.List.{flat_map};
+ghost use Rattle.komihash.specs.Hash.{komi};
+ghost use Rattle.komihash.specs.Saved.{IsTextAfter};
+
+use komihash::StreamedKomihash;
+use komihash::stream::LONGEST_TEXT;
+
+/// Continues from a checkpoint, and replaces it.
+pub fn go_on(checkpoint: &mut [u8; LONGEST_TEXT], count: usize, next: &[u8]) -> Option<usize>
+    requires { count ≤ LONGEST_TEXT }
+    ensures most { IfSome result (λ n. n ≤ LONGEST_TEXT) }
+    ensures saved { (seed : ℕ) (m : List ℕ) → IsTextAfter 5 seed m (take count checkpoint.old)
+        → IsSomeAnd result (λ n. IsTextAfter 5 seed (m ++ next.now) (take n checkpoint.new)) }
+{
+    let mut stream = StreamedKomihash::resume(&checkpoint[..count])?;
+    stream.write(next);
+    Some(stream.save(checkpoint))
+}
+
+/// Digests parts, with a checkpoint after each.
+pub fn upload(parts: &[&[u8]], seed: u64, checkpoint: &mut [u8; LONGEST_TEXT]) -> Option<u64>
+    ensures { IsSomeAnd result (λ hash.
+        hash ≡ komi 5 seed (flat_map (λ part. part.now) parts.now)) }
+{
+    let mut count = StreamedKomihash::new_with_seed(seed).save(checkpoint);
+    for part in parts {
+        count = go_on(checkpoint, count, part)?;
+    }
+    let stream = StreamedKomihash::resume(&checkpoint[..count])?;
+    Some(stream.finish())
+}

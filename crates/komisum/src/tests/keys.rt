@@ -1,0 +1,47 @@
+//! Calls on keys that CALLING.md does not show.
+
+ghost use Rattle.std.specs.Prelude.{◌≡◌, ◌≢◌, ◌+◌, ◌*◌, ◌/◌, ◌≤◌, false};
+ghost use Rattle.std.specs.Prelude.{length, map, take, IsSomeAnd};
+ghost use Rattle.komihash.specs.Hash.{komi};
+ghost use Rattle.komihash.specs.Hasher.{number_after};
+
+use komihash::tally::Tally;
+use komihash::{KomiHasher, komihash, laws, v5};
+use std::hash::Hasher;
+
+/// Returns `false` only if two contents differ.
+pub fn may_be_equal(left: &[u8], right: &[u8]) -> bool
+    ensures { result ≡ false → left.now ≢ right.now }
+{
+    komihash(left, 0) == komihash(right, 0)
+}
+
+/// Hashes a key of 16 bytes by four multiplications.
+pub fn hash_of_key(key: &[u8; 16], tally: &mut Tally) -> u64
+    ensures hash { result ≡ komi 5 0 key.now }
+    ensures products { tally.new.products ≡ tally.old.products + 4 }
+{
+    v5::komihash_counted(key, 0, tally)
+}
+
+/// Hashes a list of fields, whose cuts count.
+pub fn hash_of_fields(fields: &[&[u8]]) -> u64
+    ensures { result ≡ number_after 5 0 (map (λ field. field.now) fields.now) }
+{
+    laws::chain_cut();
+    let mut hasher = KomiHasher::default();
+    for field in fields {
+        hasher.write(field);
+    }
+    hasher.finish()
+}
+
+/// Stores a key as padded words, and reads it back into `out`.
+pub fn key_read_back(key: &[u8], words: &mut [u64], out: &mut [u8]) -> Option<usize>
+    requires words { length key.now / 8 + 1 ≤ length words.old }
+    requires bytes { 8 * length words.old ≤ length out.old }
+    ensures { IsSomeAnd result (λ n. take n out.new ≡ key.now) }
+{
+    let count = v5::pad(key, words);
+    v5::unpad(&words[..count], out)
+}

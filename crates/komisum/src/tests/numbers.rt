@@ -1,0 +1,34 @@
+//! Hashes of numbers.
+
+ghost use Rattle.std.specs.Prelude.{◌≡◌, ◌++◌, length};
+ghost use Rattle.std.specs.Int.{to_le_bytes, w64};
+ghost use Rattle.komihash.specs.Hash.{komi};
+
+use komihash::{StreamedKomihash, komihash};
+
+/// Hashes a number.
+pub fn hash_of_number(number: u64) -> u64
+    ensures { result ≡ komi 5 0 (to_le_bytes w64 number) }
+{
+    komihash(&number.to_le_bytes(), 0)
+}
+
+/// Hashes two hashes, as for the parent of two nodes in a Merkle tree.
+pub fn parent(left: u64, right: u64) -> u64
+    ensures { result ≡ komi 5 0 (to_le_bytes w64 left ++ to_le_bytes w64 right) }
+{
+    let mut stream = StreamedKomihash::new();
+    stream.write(&left.to_le_bytes());
+    stream.write(&right.to_le_bytes());
+    stream.finish()
+}
+
+/// Hashes a name after its length.
+pub fn hash_of_name(name: &[u8]) -> u64
+    ensures { result ≡ komi 5 0 (to_le_bytes w64 (length name.now) ++ name.now) }
+{
+    let mut stream = StreamedKomihash::new();
+    stream.write(&(name.len() as u64).to_le_bytes());
+    stream.write(name);
+    stream.finish()
+}
