@@ -31,8 +31,8 @@ SHOWN = {
 SOURCES = "crates/komihash/src/"
 DEFINITIONS = "docs/DEFINITIONS.md"
 
-# Definitions of the tally's seal, which no rule of the hash needs: docs/DECISIONS.md has them.
-SEAL = {"crates/komihash/specs/Sealed.antt", "crates/komihash/specs/Tallies.antt"}
+# Definitions that no rule of the hash needs: those of the tally's seal, and those that follow the code.
+PRIVATE = {f"crates/komihash/specs/{name}.antt" for name in ("Sealed", "Tallies", "Tails", "Halves", "Pending")}
 
 # Files that a document names and that are not committed: what builds leave, and what a reader would write.
 NOT_COMMITTED = {"out/komisum", "Answers.antt", "Invariants.antt"}
@@ -96,7 +96,7 @@ class Documents:
         named = {name for span in shown for name in re.findall(r"[\w-]+", span)}
         for file, text in self.texts(r"crates/\w+/specs/\w+\.antt").items():
             for name in PUBLIC.findall(text):
-                if file not in SEAL and name not in named | {"mod", "use"}:
+                if file not in PRIVATE and name not in named | {"mod", "use"}:
                     yield f"{DEFINITIONS}: {name} of {file} is not named"
 
     def names(self):
