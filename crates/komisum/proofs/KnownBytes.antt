@@ -21,21 +21,3 @@ takes_more old mid new xs ys n P before here within many =
     let total : length xs + n ≡ length (xs ++ take n ys) =
     omega (arith, length-append xs (take n ys), length-take-le n ys within) in
     takes old new (xs ++ take n ys) P (Consumes-trans old mid new xs (take n ys) before here) (subst P total many)
-
--- a beginning of the first bytes is one of all
-pub AppendsPrefix-front : (old new : Option (List ℕ)) (xs ys : List ℕ)
-    → AppendsPrefix old new xs → AppendsPrefix old new (xs ++ ys)
-AppendsPrefix-front old new xs ys (n, begun) =
-    let front = take n xs in
-    let all : front ++ (drop n xs ++ ys) ≡ xs ++ ys =
-    sym (append_assoc front (drop n xs) ys) ∙ ap (λ l. l ++ ys) (take-append-drop n xs) in
-    let same : take (length front) (xs ++ ys) ≡ front =
-    ap (take (length front)) (sym all) ∙ take-append_seam front (drop n xs ++ ys) in
-    (length front, subst (Appends old new) (sym same) begun)
-
--- the first bytes, and then a beginning of the others
-pub AppendsPrefix-then : (old mid new : Option (List ℕ)) (xs ys : List ℕ)
-    → Appends old mid xs → AppendsPrefix mid new ys → AppendsPrefix old new (xs ++ ys)
-AppendsPrefix-then old mid new xs ys whole (n, begun) =
-    let both = Appends-trans old mid new xs (take n ys) whole begun in
-    (length xs + n, subst (Appends old new) (sym (take-append-add xs ys n)) both)

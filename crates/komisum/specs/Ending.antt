@@ -49,7 +49,7 @@ pub record Reports {W : Type 0} (message : Option (List ℕ)) (contents : W → 
     (old new : Watched W) : Type 0 where
   pub line : new.failed ≡ false
       → Appends (contents old.inner) (contents new.inner) (said message)
-  pub begun : AppendsPrefix (contents old.inner) (contents new.inner) (said message)
+  pub partial : AppendsPrefix (contents old.inner) (contents new.inner) (said message)
   pub silent : message ≡ None → new ≡ old
 
 -- the program's status

@@ -66,7 +66,7 @@ pub record Ran {R W : Type 0} (ending : Ending) (asked : Result (Version × ℕ)
   pub line : ending ≡ Shown → IsOkAnd asked (λ settings.
       AppendsLine settings.0 settings.1 (remaining old.inner)
       (contents before.inner) (contents after.inner))
-  pub begun : ending ≡ Failed Write → IsOkAnd asked (λ settings.
+  pub partial : ending ≡ Failed Write → IsOkAnd asked (λ settings.
       AppendsLinePrefix settings.0 settings.1 (remaining old.inner)
       (contents before.inner) (contents after.inner))
   pub faults : FaultsCome ending remaining old new after

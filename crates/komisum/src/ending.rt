@@ -1,6 +1,6 @@
 //! How the program ends: its message on standard error, and its status.
 
-ghost use Rattle.std.specs.Prelude.{◌≡◌, None, Some, MatchOption};
+ghost use Rattle.std.specs.Prelude.{◌≡◌, ◌≤◌, length, None, Some, IfSome, MatchOption};
 ghost use Rattle.komisum.specs.Ending.{ending_of, fault_text, refusal_status, refusal_text};
 ghost use Rattle.komisum.specs.Ending.{status_of, text_of};
 
@@ -18,7 +18,8 @@ pub enum Fault {
 impl Fault {
     /// Returns the message.
     pub fn text(&self) -> &'static str
-        ensures { result.now ≡ fault_text self.now }
+        ensures text { result.now ≡ fault_text self.now }
+        ensures short { length result.now ≤ 26 }
     {
         match self {
             Fault::Read => "read failed",
@@ -40,7 +41,8 @@ pub enum Refusal {
 impl Refusal {
     /// Returns the message.
     pub fn text(&self) -> &'static str
-        ensures { result.now ≡ refusal_text self.now }
+        ensures text { result.now ≡ refusal_text self.now }
+        ensures short { length result.now ≤ 26 }
     {
         match self {
             Refusal::NoMemory => "no memory",
@@ -83,8 +85,9 @@ impl Ending {
 
     /// Returns the message, or `None` if the line was written.
     pub fn text(&self) -> Option<&'static str>
-        ensures { MatchOption result (text_of self.now ≡ None)
+        ensures text { MatchOption result (text_of self.now ≡ None)
             (λ text. text_of self.now ≡ Some text.now) }
+        ensures short { IfSome result (λ text. length text.now ≤ 26) }
     {
         match self {
             Ending::Shown => None,

@@ -41,7 +41,7 @@ pub fn show<R: Read, W: Write>(
     requires writer { writer.old.failed ≡ false }
     ensures line { OnOk result (AppendsLine version seed (R.remaining reader.old.inner)
         (W.contents writer.old.inner) (W.contents writer.new.inner)) }
-    ensures begun { result ≡ Err Fault.Write
+    ensures partial { result ≡ Err Fault.Write
         → AppendsLinePrefix version seed (R.remaining reader.old.inner)
         (W.contents writer.old.inner) (W.contents writer.new.inner) }
     ensures faults { FaultsCome (ending_of result) R.remaining reader.old reader.new writer.new }

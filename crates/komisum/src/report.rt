@@ -1,6 +1,6 @@
 //! The program's message on standard error, and its status.
 
-ghost use Rattle.std.specs.Prelude.{◌≡◌, ◌↔◌, true, false, Some, OnOk, IfErr, IsErr};
+ghost use Rattle.std.specs.Prelude.{◌≡◌, ◌≤◌, ◌↔◌, length, true, false, Some, OnOk, IfErr, IsErr};
 ghost use Rattle.std.specs.Io.KnownBytes.{Appends};
 ghost use Rattle.std.specs.Process.{exit_status};
 ghost use Rattle.komisum.specs.Ending.{Reports, said, status_of, text_of};
@@ -11,20 +11,25 @@ use crate::watched::{Watched, write_whole};
 use std::io::Write;
 use std::process::ExitCode;
 
-// Writes a line: the program's name, a message and a newline. Returns `Fault::Write` if a write
+// Writes a line: the program's name, a message of at most 26 bytes, and a newline. If the writer
+// accepts them in one call, no other output can come between them. Returns `Fault::Write` if a write
 // fails.
 fn write_message<W: Write>(errors: &mut Watched<W>, text: &str) -> Result<(), Fault>
-    requires { errors.old.failed ≡ false }
+    requires sound { errors.old.failed ≡ false }
+    requires short { length text.now ≤ 26 }
     ensures whole { OnOk result (Appends (W.contents errors.old.inner)
         (W.contents errors.new.inner) (said (Some text.now))) }
-    ensures begun { AppendsPrefix (W.contents errors.old.inner) (W.contents errors.new.inner)
+    ensures partial { AppendsPrefix (W.contents errors.old.inner) (W.contents errors.new.inner)
         (said (Some text.now)) }
     ensures failed { IsErr result ↔ (errors.new.failed ≡ true) }
     ensures fault { IfErr result (λ fault. fault ≡ Fault.Write) }
 {
-    write_whole(errors, b"komisum: ")?;
-    write_whole(errors, text.as_bytes())?;
-    write_whole(errors, b"\n")
+    let mut line = [0; 36];
+    let end = 9 + text.len();
+    line[..9].copy_from_slice(b"komisum: ");
+    line[9..end].copy_from_slice(text.as_bytes());
+    line[end] = b'\n';
+    write_whole(errors, &line[..=end])
 }
 
 /// Writes the message of an ending, if it has one, as a line. Returns the program's status, even if

@@ -96,28 +96,6 @@ impl<H: Env> Env for AfterName<'_, H> {
     }
 }
 
-// Returns the refusal for an error of `env::args`, whose kind is `InvalidData` if an argument is not
-// UTF-8. Takes all others for a lack of memory.
-fn refusal_for(error: &io::Error) -> Refusal
-    ensures { (result ≡ Refusal.Usage) ↔ (error_kind error.now ≡ ErrorKind.InvalidData) }
-{
-    if error.kind() == ErrorKind::InvalidData {
-        Refusal::Usage
-    } else {
-        Refusal::NoMemory
-    }
-}
-
-// Collects arguments into a vector.
-fn collected<H: AllocGlobal>(host: &H, arguments: Args) -> Result<Vec<String>, Refusal>
-    ensures all { IfOk result (λ all. all.items ≡ into_iter_items arguments) }
-    ensures memory { IfErr result (λ refusal. refusal ≡ Refusal.NoMemory) }
-{
-    arguments
-        .collect(host.alloc())
-        .map_err(|_| Refusal::NoMemory)
-}
-
 /// Returns the arguments that `env::args` returned, all of them, in order and unchanged.
 ///
 /// Returns `Usage` exactly if the kind of the error of `env::args` is `InvalidData`, as for an
@@ -133,14 +111,13 @@ pub fn arguments_of<H: AllocGlobal>(
         ↔ IsErrAnd given (λ error. error_kind error ≡ ErrorKind.InvalidData) }
 {
     match given {
-        Ok(arguments) => collected(host, arguments),
-        Err(error) => Err(refusal_for(&error)),
+        Ok(arguments) => match arguments.collect(host.alloc()) {
+            Ok(all) => Ok(all),
+            Err(_) => Err(Refusal::NoMemory),
+        },
+        Err(error) if error.kind() == ErrorKind::InvalidData => Err(Refusal::Usage),
+        Err(_) => Err(Refusal::NoMemory),
     }
-}
-
-/// Returns the arguments of an environment, after the program's name, as `arguments_of` does.
-pub fn arguments_given<H: Env + AllocGlobal>(host: &H) -> Result<Vec<String>, Refusal> {
-    arguments_of(host, env::args(&(AfterName(host), host.alloc())))
 }
 
 // Returns a list of the arguments as `&str`.
@@ -176,8 +153,9 @@ pub fn settings_in<H: AllocGlobal>(
     }
 }
 
-/// Returns the version and the seed that the arguments of an environment ask for, or a refusal, as
-/// `arguments_of` and `settings_in` do.
+/// Returns the version and the seed that the arguments of an environment after the program's name
+/// ask for, or a refusal, as `arguments_of` and `settings_in` do.
 pub fn settings_given<H: Env + AllocGlobal>(host: &H) -> Result<(Version, u64), Refusal> {
-    settings_in(host, arguments_given(host))
+    let given = env::args(&(AfterName(host), host.alloc()));
+    settings_in(host, arguments_of(host, given))
 }

@@ -97,7 +97,7 @@ pub fn write_whole<W: Write>(writer: &mut Watched<W>, bytes: &[u8]) -> Result<()
     requires { writer.old.failed ≡ false }
     ensures whole { OnOk result
         (Appends (W.contents writer.old.inner) (W.contents writer.new.inner) bytes.now) }
-    ensures begun { AppendsPrefix (W.contents writer.old.inner) (W.contents writer.new.inner)
+    ensures partial { AppendsPrefix (W.contents writer.old.inner) (W.contents writer.new.inner)
         bytes.now }
     ensures failed { IsErr result ↔ (writer.new.failed ≡ true) }
     ensures fault { IfErr result (λ fault. fault ≡ Fault.Write) }

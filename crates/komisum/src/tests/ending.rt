@@ -45,11 +45,19 @@ fn lines_and_statuses(rt: HostRuntime) {
     refuses(&rt, Refusal::Usage, usage, 2);
 }
 
+// Nothing that another program writes comes between the parts of a line that is one write.
+#[test]
+fn a_message_is_one_write(rt: HostRuntime) {
+    let mut errors = Watched::new(FakeWriter::new(usize::MAX, Calls::endless()));
+    report(&mut errors, &Ending::Refused(Refusal::Usage));
+    assert_eq!(rt; errors.into_inner().calls(), 1);
+}
+
 #[test]
 fn a_message_that_cannot_be_written(rt: HostRuntime) {
     let mut errors = Watched::new(FakeWriter::new(7, Calls::stopping(Stop::Fails, 3)));
     report(&mut errors, &Ending::Failed(Fault::TooLong));
     let writer = errors.into_inner();
-    assert_eq!(rt; writer.taken(), b"komisum: ".as_slice());
+    assert_eq!(rt; writer.taken(), b"komisum: too l".as_slice());
     assert_eq!(rt; writer.calls(), 3);
 }

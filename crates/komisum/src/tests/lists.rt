@@ -20,7 +20,7 @@ pub fn hash_of_numbers(numbers: &[u64]) -> u64
     stream.finish()
 }
 
-/// Returns the digest of a list of slices, in the version of `S`.
+/// Returns the digest of a list of slices, in the version of `S`. A tally counts the work.
 pub fn digest_of_slices<S: KomiStream>(slices: &[&[u8]], seed: u64) -> u64
     ensures { result ≡ komi S.VERSION seed (flat_map (λ slice. slice.now) slices.now) }
 {

@@ -23,7 +23,7 @@ pub fn parent(left: u64, right: u64) -> u64
     stream.finish()
 }
 
-/// Hashes a name after its length.
+/// Hashes a name, preceded by its length.
 pub fn hash_of_name(name: &[u8]) -> u64
     ensures { result ≡ komi 5 0 (to_le_bytes w64 (length name.now) ++ name.now) }
 {

@@ -176,5 +176,5 @@ fn messages_that_cannot_be_written(rt: HostRuntime) {
     leaves(&rt, &none, 2, 0, b"", b"");
     let errors = FakeWriter::new(7, Calls::stopping(Stop::MovesNone, 3));
     let part = ran(Err(Refusal::NoMemory), Calls::endless(), sound(), errors);
-    leaves(&rt, &part, 1, 0, b"", b"komisum: ");
+    leaves(&rt, &part, 1, 0, b"", b"komisum: no me");
 }

@@ -1,21 +1,45 @@
--- A part that fails leaves a beginning of the message.
-use Rattle.std.proofs.Common.{◌≡◌, sym, codes, ◌++◌, [], ◌∷◌}
-use Rattle.komisum.proofs.KnownBytes.{AppendsPrefix-front, AppendsPrefix-then}
+-- The line is the name, the message and a newline.
+use Rattle.std.proofs.Common.{◌≡◌, ℕ, ◌+◌, ◌-◌, ◌<◌, List, codes, length, take, drop, set, replicate, ◌++◌, [], ◌∷◌, ◌∙◌, ap, arith, subst, append_assoc, length-drop, length-take-le, length-append}
+use Rattle.std.proofs.lemmas.List.{take_more_set}
+use Rattle.std.proofs.lemmas.Slice.{take-put_mid}
+use Rattle.std.specs.Prelude.{OnOk}
+use Rattle.std.specs.Io.KnownBytes.{Appends}
+use Rattle.komisum.specs.Watched.{AppendsPrefix}
+use borrow.Rule.Slice.PartMut.{put_mid, same_len_mid}
 use Rattle.komisum.proofs.report.write_message.Goals as goal
 
-pub returns-in_err-write_whole-clause-begun : goal.returns-in_err-write_whole-clause-begun
-returns-in_err-write_whole-clause-begun g c =
-    AppendsPrefix-front _ _ (codes "komisum: ") (c.args.text.now ++ 10 ∷ []) c.in_err-write_whole.ensures.begun
+-- bytes written at index a, and a newline after them
+line_at : (a k n : ℕ) (xs ys : List ℕ) → k ≡ length ys → n ≡ a + k → n < length xs
+    → take (n + 1) (set (put_mid a k xs ys) n 10) ≡ take a xs ++ (ys ++ 10 ∷ [])
+line_at a k n xs ys size end room =
+    let part : length (take k (drop a xs)) ≡ k = length-take-le k (drop a xs) (omega (arith, length-drop a xs)) in
+    let all : length (put_mid a k xs ys) ≡ length xs = same_len_mid a k xs ys (omega (arith, part, size)) in
+    take_more_set (put_mid a k xs ys) n 10 (omega (arith, all))
+    ∙ ap (λ l. l ++ 10 ∷ []) (take-put_mid a k xs ys n (omega (arith, size)) (omega arith))
+    ∙ append_assoc (take a xs) ys (10 ∷ [])
 
-pub returns-in_err-write_whole-2-clause-begun : goal.returns-in_err-write_whole-2-clause-begun
-returns-in_err-write_whole-2-clause-begun g c =
-    let text : c.as_bytes.result.now ≡ c.args.text.now = c.as_bytes.ensures.value in
-    AppendsPrefix-then _ _ _ (codes "komisum: ") (c.args.text.now ++ 10 ∷ []) c.in_ok-write_whole.ensures.whole
-    (AppendsPrefix-front _ _ c.args.text.now (10 ∷ []) (rw (sym text) c.in_err-write_whole-2.ensures.begun))
+-- the name, copied into zeros, then the message
+line : (k n : ℕ) (name text copied : List ℕ) → name ≡ codes "komisum: " → copied ≡ text → k ≡ length text
+    → n ≡ 9 + k → length text < 27
+    → take (n + 1) (set (put_mid 9 k (name ++ replicate 27 0) copied) n 10) ≡ codes "komisum: " ++ text ++ 10 ∷ []
+line k n name text copied is_name is_text size end short =
+    line_at 9 k n (name ++ replicate 27 0) copied (omega (arith, size, ap length is_text)) end
+    (omega (arith, length-append name (replicate 27 0), ap length is_name))
+    ∙ ap (λ name. take 9 (name ++ replicate 27 0) ++ (copied ++ 10 ∷ [])) is_name
+    ∙ ap (λ text. codes "komisum: " ++ text ++ 10 ∷ []) is_text
 
-pub returns-clause-begun : goal.returns-clause-begun
-returns-clause-begun g c =
-    let text : c.as_bytes.result.now ≡ c.args.text.now = c.as_bytes.ensures.value in
-    AppendsPrefix-then _ _ _ (codes "komisum: ") (c.args.text.now ++ 10 ∷ []) c.in_ok-write_whole.ensures.whole
-    (AppendsPrefix-then _ _ _ c.args.text.now (10 ∷ []) (rw (sym text) c.in_ok-write_whole-2.ensures.whole)
-    c.write_whole-3.ensures.begun)
+pub returns-clause-whole : goal.returns-clause-whole
+returns-clause-whole g c =
+    let text = c.copy_from_slice-2.ensures.after ∙ c.as_bytes.ensures.value in
+    subst
+    (λ bytes. OnOk c.write_whole.result
+    (Appends (g.W.Write.contents c.args.errors.now.inner) (g.W.Write.contents c.write_whole.new.writer.inner) bytes))
+    (line _ _ _ _ _ c.copy_from_slice.ensures.after text (omega arith) (omega arith) (omega arith))
+    c.write_whole.ensures.whole
+
+pub returns-clause-partial : goal.returns-clause-partial
+returns-clause-partial g c =
+    let text = c.copy_from_slice-2.ensures.after ∙ c.as_bytes.ensures.value in
+    subst (AppendsPrefix (g.W.Write.contents c.args.errors.now.inner) (g.W.Write.contents c.write_whole.new.writer.inner))
+    (line _ _ _ _ _ c.copy_from_slice.ensures.after text (omega arith) (omega arith) (omega arith))
+    c.write_whole.ensures.partial
