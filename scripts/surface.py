@@ -2,7 +2,7 @@
 """Compares all that the crates and the C library promise with surface.txt, a list that this script makes.
 
 For each source the list has every public item with its signature and clauses, and so every law, and the functions of
-names.rt, which state the version of each public name; every module with its visibility, every type with its derives
+aliases.rt, which state the version of each public name; every module with its visibility, every type with its derives
 and public fields, every impl of a trait; and where the names in these lines are imported from, unless it is the
 Prelude of the standard library. It also has a checksum of each file of definitions and of the proofs that open the seal
 of a tally, the modules of specs/ and proofs/, and all lines that name a part of that seal (docs/DECISIONS.md).
@@ -92,7 +92,7 @@ def entry_of(name, code):
         digest = hashlib.sha256(" ".join(code.split()).encode()).hexdigest()
         return [f"{name}: {digest[:16]}"] if "/specs/" in name or OPENERS.fullmatch(name) else []
     code = QUOTED.sub(lambda quoted: BRACKETS.sub("", quoted[0]), INTERNAL.sub("", code))
-    items = promised(code, name == "crates/komihash/src/names.rt")
+    items = promised(code, name == "crates/komihash/src/aliases.rt")
     lines = lines_of(without_idle_imports(list(items)))
     return ["", name, *lines] if lines else []
 

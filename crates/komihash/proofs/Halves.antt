@@ -2,7 +2,7 @@
 use Rattle.std.proofs.Common.{◌≡◌, ℕ, ◌*◌, List, [], ◌∷◌, refl}
 use Rattle.std.specs.Prelude.{bit_xor, slice_index}
 use Rattle.komihash.specs.Rounds.{low, high, plus, constant, lanes, word_at_place, block_round_by}
-use Rattle.komihash.specs.Halves.{pair_in, lanes_in}
+use Rattle.komihash.specs.Halves.{pair_of, lanes_in}
 use Rattle.komihash.proofs.Xor.{product, xor_middle, xor_swap, xor_turn, xor_around}
 
 -- the lanes of a pair
@@ -10,7 +10,7 @@ pub lanes_in_lanes : (low e : ℕ)
     → lanes_in (bit_xor (constant 8) e ∷ bit_xor (constant 8) low ∷ e ∷ bit_xor (constant 2) low
     ∷ bit_xor (constant 6) e ∷ bit_xor (bit_xor (constant 3) (constant 6)) low
     ∷ bit_xor (constant 7) e ∷ bit_xor (bit_xor (constant 4) (constant 7)) low ∷ [])
-    ≡ lanes (pair_in (low, e))
+    ≡ lanes (pair_of (low, e))
 lanes_in_lanes low e =
     let c = constant in
     let s1 = xor_middle (c 8) e (c 8) low in

@@ -48,11 +48,11 @@ two_pieces k n all whole out zs ys same enough len le most first second =
     let front = length-take-le k all (omega arith) in
     let size : length xs ≡ n = omega (arith, length-append (take k all) (drop k out), front, length-drop k out) in
     let last : n - (n - k) ≡ k = omega arith in
-    let begun : Covers (n - k) xs all xs = record {
+    let before : Covers (n - k) xs all xs = record {
       front = take-append-le (n - k) (take k all) (drop k out) (omega arith) ∙ take-take (n - k) k all (omega arith);
       others = refl;
     } in
-    let both = covers-put_mid (n - k) k n xs ys all xs (omega arith) (omega arith) fits (rw last at second) begun in
+    let both = covers-put_mid (n - k) k n xs ys all xs (omega arith) (omega arith) fits (rw last at second) before in
     let long : length (put_mid (n - k) k xs ys) ≤ n = search (rules, overwrites) in
     rw (first, size, last) (sym (take_all n (put_mid (n - k) k xs ys) long) ∙ both.front ∙ ap (take n) same)
 

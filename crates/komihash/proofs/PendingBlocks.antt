@@ -1,4 +1,4 @@
--- The begun block, filled up with the first bytes of a write, is the first block of all bytes.
+-- The partial block, completed by the first bytes of a write, is the first block of all bytes.
 use Rattle.std.proofs.Common.{◌≡◌, ℕ, ◌+◌, ◌-◌, ◌<◌, ◌≤◌, List, ◌++◌, length, take, drop, ap, arith, ◌∙◌, sym}
 use Rattle.std.proofs.lemmas.List.{append_assoc, length-append, length-take-le, take-append-drop, drop_at, nil_from_length}
 use Rattle.komihash.specs.Rounds.{Lanes, block_round}
@@ -22,13 +22,13 @@ module _ (xs bytes : List ℕ) (few : length xs < 64) (many : 64 ≤ length xs +
       sym (append_assoc xs (take (64 - length xs) bytes) rest
       ∙ ap (λ b. xs ++ b) (take-append-drop (64 - length xs) bytes))
 
-  pub begun_lanes : (v : ℕ) (l : Lanes)
+  pub completed_lanes : (v : ℕ) (l : Lanes)
       → block_lanes v l (whole_words (xs ++ bytes))
       ≡ block_lanes v (block_round v l (whole_words block)) (whole_words rest)
-  begun_lanes v l = rw all_bytes (block_lanes-bytes v l block rest length_block)
+  completed_lanes v l = rw all_bytes (block_lanes-bytes v l block rest length_block)
 
-  pub begun_left : after_blocks (xs ++ bytes) ≡ after_blocks rest
-  begun_left =
+  pub completed_left : after_blocks (xs ++ bytes) ≡ after_blocks rest
+  completed_left =
       rw all_bytes (after_blocks_more (block ++ rest) (omega (arith, length-append block rest, length_block))
       ∙ ap after_blocks (drop_at block rest 64 length_block))
 

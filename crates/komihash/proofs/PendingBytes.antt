@@ -132,20 +132,20 @@ module _ (ws : List ℕ) (fill : ℕ) (are : ArePending ws fill) where
       get_or_pending at (omega (arith, are.few, count_pending))
       ∙ sym (slice_index-whole_words (pending_bytes ws fill) at lt)
 
-  -- the begun word
-  abbrev begun : List ℕ
-  begun = drop (8 * (fill / 8)) (pending_bytes ws fill)
+  -- the partial word
+  abbrev partial : List ℕ
+  partial = drop (8 * (fill / 8)) (pending_bytes ws fill)
 
-  length_begun : length begun ≡ fill % 8
-  length_begun = omega (arith, length-drop (8 * (fill / 8)) (pending_bytes ws fill), length_pending)
+  length_partial : length partial ≡ fill % 8
+  length_partial = omega (arith, length-drop (8 * (fill / 8)) (pending_bytes ws fill), length_pending)
 
-  AreBytes_begun : AreBytes begun
-  AreBytes_begun = AreBytes-drop (8 * (fill / 8)) (pending_bytes ws fill) (AreBytes_pending ws fill)
+  AreBytes_partial : AreBytes partial
+  AreBytes_partial = AreBytes-drop (8 * (fill / 8)) (pending_bytes ws fill) (AreBytes_pending ws fill)
 
-  get_or_begun : get_or ws (fill / 8) 0 ≡ word_of begun
-  get_or_begun =
+  get_or_partial : get_or ws (fill / 8) 0 ≡ word_of partial
+  get_or_partial =
       get_or_pending (fill / 8) (omega (arith, are.few))
-      ∙ ap word_of (take_all 8 begun (omega (arith, length_begun)))
+      ∙ ap word_of (take_all 8 partial (omega (arith, length_partial)))
 
   -- a word joined to it, which then holds as many of the bytes as fit
   pub join_pending : (w : ℕ) (bytes : List ℕ) → AreBytes bytes → w ≡ word_of bytes
@@ -155,8 +155,8 @@ module _ (ws : List ℕ) (fill : ℕ) (are : ArePending ws fill) where
       let xs = pending_bytes ws fill in
       let fit = length-take (8 - fill % 8) bytes in
       let size = length_pending in
-      rw (get_or_begun, is, word_of-join begun bytes (fill % 8) AreBytes_begun h length_begun (omega arith))
-      (ap (λ us. set us (fill / 8) (word_of (begun ++ take (8 - fill % 8) bytes))) are.words
+      rw (get_or_partial, is, word_of-join partial bytes (fill % 8) AreBytes_partial h length_partial (omega arith))
+      (ap (λ us. set us (fill / 8) (word_of (partial ++ take (8 - fill % 8) bytes))) are.words
       ∙ set-pending_words 8 (fill / 8) xs (take (8 - fill % 8) bytes) (omega (arith, are.few)) (omega arith) (omega arith))
 
   -- a byte after it
@@ -164,8 +164,8 @@ module _ (ws : List ℕ) (fill : ℕ) (are : ArePending ws fill) where
       → bit_or (get_or ws (fill / 8) 0) (end * 2 ^ (8 * (fill % 8)) % 2 ^ 64) ≡ final_word (pending_bytes ws fill) end
   final_word_pending end small =
       let place : fill - fill % 8 ≡ 8 * (fill / 8) = omega arith in
-      rw (get_or_begun, after_words-drop (pending_bytes ws fill), length_pending, place)
-      (word_of-push begun (fill % 8) end AreBytes_begun length_begun (omega arith) small)
+      rw (get_or_partial, after_words-drop (pending_bytes ws fill), length_pending, place)
+      (word_of-push partial (fill % 8) end AreBytes_partial length_partial (omega arith) small)
 
   -- the last byte, which nothing stands above
   pub last_pending : (i : ℕ) → i + 1 ≡ fill

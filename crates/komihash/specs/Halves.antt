@@ -6,8 +6,8 @@ use Rattle.komihash.specs.Rounds.{Lanes}
 use Rattle.komihash.specs.Stream.{State}
 
 -- the pair (a, e) that is stored as a low half and the word e
-abbrev pub pair_in : ℕ × ℕ → ℕ × ℕ
-pair_in halves = (bit_xor halves.1 halves.0, halves.1)
+abbrev pub pair_of : ℕ × ℕ → ℕ × ℕ
+pair_of halves = (bit_xor halves.1 halves.0, halves.1)
 
 -- the lanes that are stored as s8, s8^s1, s5, s5^s2, s6, s6^s3, s7, s7^s4
 abbrev pub lanes_in : List ℕ → Lanes

@@ -4,7 +4,7 @@ ghost use Rattle.std.specs.Prelude.{◌≡◌, ◌+◌, ◌≤◌, length};
 ghost use Rattle.komihash.specs.Counts.{hash_products};
 ghost use Rattle.komihash.specs.Hash.{komi};
 
-use crate::padding::end::{end_byte, final_of_long, final_of_many};
+use crate::padding::final_word::{end_byte, final_word_of_blocks, final_word_of_many};
 use crate::rounds::blocks::absorb_blocks;
 use crate::rounds::{close_one, close_two, join, lanes, seed_pair};
 use crate::tails::hash_below_eight;
@@ -21,7 +21,7 @@ fn hash_of_blocks<const V: u8>(bytes: &[u8], seed: u64, tally: &mut Tally) -> u6
     ensures kept { tally.new.kept ≡ tally.old.kept }
 {
     let pair = seed_pair(seed, tally);
-    let last = final_of_long(bytes, end_byte::<V>(bytes));
+    let last = final_word_of_blocks(bytes, end_byte::<V>(bytes));
     let mut lanes = lanes(pair);
     let rest = absorb_blocks::<V>(&mut lanes, bytes, tally);
     hash_below_eight(join(&lanes, true), &rest, last, tally)
@@ -31,7 +31,7 @@ fn hash_of_blocks<const V: u8>(bytes: &[u8], seed: u64, tally: &mut Tally) -> u6
 ///
 /// Messages of 8 to 15 bytes have a path of their own, with one test fewer.
 #[inline(never)]
-pub(crate) fn komihash_counted<const V: u8>(bytes: &[u8], seed: u64, tally: &mut Tally) -> u64
+pub(crate) fn hash_message_counted<const V: u8>(bytes: &[u8], seed: u64, tally: &mut Tally) -> u64
     ensures hash { result ≡ komi V seed bytes.now }
     ensures products { tally.new.products ≡ tally.old.products + hash_products (length bytes.now) }
     ensures kept { tally.new.kept ≡ tally.old.kept }
@@ -41,7 +41,7 @@ pub(crate) fn komihash_counted<const V: u8>(bytes: &[u8], seed: u64, tally: &mut
     }
     let pair = seed_pair(seed, tally);
     if bytes.len() >= 8 {
-        let last = final_of_many(bytes, end_byte::<V>(bytes));
+        let last = final_word_of_many(bytes, end_byte::<V>(bytes));
         if bytes.len() < 16 {
             close_two(pair, read_word(bytes), last, tally)
         } else {
@@ -57,8 +57,8 @@ pub(crate) fn komihash_counted<const V: u8>(bytes: &[u8], seed: u64, tally: &mut
 
 /// Returns the hash of a message with a seed in version V.
 #[inline(always)]
-pub(crate) fn komihash<const V: u8>(bytes: &[u8], seed: u64) -> u64
+pub(crate) fn hash_message<const V: u8>(bytes: &[u8], seed: u64) -> u64
     ensures { result ≡ komi V seed bytes.now }
 {
-    komihash_counted::<V>(bytes, seed, &mut Tally::new())
+    hash_message_counted::<V>(bytes, seed, &mut Tally::new())
 }

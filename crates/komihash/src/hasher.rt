@@ -3,7 +3,7 @@
 ghost use Rattle.std.specs.Prelude.{◌≡◌, ℕ};
 ghost use Rattle.komihash.specs.Hash.{komi};
 
-use crate::hash::komihash;
+use crate::hash::hash_message;
 use std::hash::Hasher;
 use std::marker::Model;
 
@@ -57,6 +57,6 @@ impl<const V: u8> Hasher for KomiHasher<V> {
     /// Replaces the number by the hash of the bytes, with the number as the seed.
     #[inline]
     fn write(&mut self, bytes: &[u8]) {
-        self.number = komihash::<V>(bytes, self.number);
+        self.number = hash_message::<V>(bytes, self.number);
     }
 }

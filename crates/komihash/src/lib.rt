@@ -4,11 +4,11 @@
 //! be the hash that the definitions in `specs/` give.
 #![tactic(auto)]
 
+mod aliases;
 mod generator;
 mod hash;
 mod hasher;
 pub mod laws;
-mod names;
 mod padding;
 mod rounds;
 pub mod stream;

@@ -4,7 +4,7 @@
 //! passed.
 
 ghost use Rattle.std.specs.Prelude.{◌≡◌, ℕ, ◌+◌, ◌*◌, ◌<◌, List, [], ◌∷◌, true, All};
-ghost use Rattle.komihash.specs.Halves.{pair_in, lanes_in};
+ghost use Rattle.komihash.specs.Halves.{pair_of, lanes_in};
 ghost use Rattle.komihash.specs.Rounds.{low, high, plus, seed_words, mix, seed_pair, lanes, places};
 ghost use Rattle.komihash.specs.Rounds.{block_round_by, join, pair_round, mix_again, closing};
 
@@ -39,7 +39,7 @@ pub(crate) type Pair = (u64, u64);
 #[inline(always)]
 #[tactic(auto, unfolding(crate::specs::Rounds::mix))]
 pub(crate) fn mix(x: u64, y: u64, e: u64, tally: &mut Tally) -> Pair
-    ensures pair { pair_in result ≡ mix x y e }
+    ensures pair { pair_of result ≡ mix x y e }
     ensures low { result.0 ≡ low (x * y) }
     ensures raised { result.1 ≡ plus e (high (x * y)) }
     ensures products { tally.new.products ≡ tally.old.products + 1 }
@@ -63,7 +63,7 @@ pub(crate) fn seed_words(seed: u64) -> (u64, u64)
 /// Returns the pair that a seed begins with.
 #[inline(always)]
 pub(crate) fn seed_pair(seed: u64, tally: &mut Tally) -> Pair
-    ensures pair { pair_in result ≡ seed_pair seed }
+    ensures pair { pair_of result ≡ seed_pair seed }
     ensures products { tally.new.products ≡ tally.old.products + 1 }
     ensures kept { tally.new.kept ≡ tally.old.kept }
 {
@@ -75,7 +75,7 @@ pub(crate) fn seed_pair(seed: u64, tally: &mut Tally) -> Pair
 #[inline(always)]
 #[tactic(auto, using(crate::proofs::Halves::lanes_in_lanes))]
 pub(crate) fn lanes(pair: Pair) -> [u64; 8]
-    ensures { lanes_in result ≡ lanes (pair_in pair) }
+    ensures { lanes_in result ≡ lanes (pair_of pair) }
 {
     let (low, e) = pair;
     [
@@ -139,7 +139,7 @@ pub(crate) fn block_round(
 #[inline(always)]
 #[tactic(auto, using(crate::proofs::Halves::joined))]
 pub(crate) fn join(lanes: &[u64; 8], absorbed: bool) -> Pair
-    ensures { pair_in result ≡ join absorbed (lanes_in lanes.now) }
+    ensures { pair_of result ≡ join absorbed (lanes_in lanes.now) }
 {
     let [e4, low1, e1, low2, e2, low3, e3, low4] = *lanes;
     if absorbed {
@@ -153,7 +153,7 @@ pub(crate) fn join(lanes: &[u64; 8], absorbed: bool) -> Pair
 #[inline(always)]
 #[tactic(auto, using(crate::proofs::Xor::xor_late))]
 pub(crate) fn pair_round(pair: Pair, w0: u64, w1: u64, tally: &mut Tally) -> Pair
-    ensures pair { pair_in result ≡ pair_round (pair_in pair) w0 w1 }
+    ensures pair { pair_of result ≡ pair_round (pair_of pair) w0 w1 }
     ensures products { tally.new.products ≡ tally.old.products + 1 }
     ensures kept { tally.new.kept ≡ tally.old.kept }
 {
@@ -164,7 +164,7 @@ pub(crate) fn pair_round(pair: Pair, w0: u64, w1: u64, tally: &mut Tally) -> Pai
 // Returns the hash from the pair of the closing's first mix.
 #[inline(always)]
 fn mix_again(pair: Pair, tally: &mut Tally) -> u64
-    ensures hash { result ≡ mix_again (pair_in pair) }
+    ensures hash { result ≡ mix_again (pair_of pair) }
     ensures products { tally.new.products ≡ tally.old.products + 1 }
     ensures kept { tally.new.kept ≡ tally.old.kept }
 {
@@ -177,7 +177,7 @@ fn mix_again(pair: Pair, tally: &mut Tally) -> u64
 #[inline(always)]
 #[tactic(auto, using(crate::proofs::Xor::xor_late_left))]
 pub(crate) fn close_one(pair: Pair, word: u64, tally: &mut Tally) -> u64
-    ensures hash { result ≡ closing (pair_in pair) (word ∷ []) }
+    ensures hash { result ≡ closing (pair_of pair) (word ∷ []) }
     ensures products { tally.new.products ≡ tally.old.products + 2 }
     ensures kept { tally.new.kept ≡ tally.old.kept }
 {
@@ -190,7 +190,7 @@ pub(crate) fn close_one(pair: Pair, word: u64, tally: &mut Tally) -> u64
 #[inline(always)]
 #[tactic(auto, using(crate::proofs::Xor::xor_late_left))]
 pub(crate) fn close_two(pair: Pair, word: u64, last: u64, tally: &mut Tally) -> u64
-    ensures hash { result ≡ closing (pair_in pair) (word ∷ last ∷ []) }
+    ensures hash { result ≡ closing (pair_of pair) (word ∷ last ∷ []) }
     ensures products { tally.new.products ≡ tally.old.products + 2 }
     ensures kept { tally.new.kept ≡ tally.old.kept }
 {

@@ -1,7 +1,7 @@
 //! The end of a hash: fewer than eight whole words, and the final word.
 
 ghost use Rattle.std.specs.Prelude.{◌≡◌, ℕ, ◌+◌, ◌-◌, ◌/◌, ◌<◌, ◌≤◌, [], ◌∷◌, ◌++◌, length, drop};
-ghost use Rattle.komihash.specs.Halves.{pair_in};
+ghost use Rattle.komihash.specs.Halves.{pair_of};
 ghost use Rattle.komihash.specs.Hash.{hash_from_pair};
 
 use crate::rounds::{Pair, close_one, close_two, pair_round};
@@ -15,7 +15,7 @@ fn hash_below_two<W: Words>(pair: Pair, left: &W, at: usize, last: u64, tally: &
     requires few { length (W.words left.now) < at + 2 }
     requires place { at < 7 }
     ensures hash { result
-        ≡ hash_from_pair (pair_in pair) (drop at (W.words left.now) ++ last ∷ []) }
+        ≡ hash_from_pair (pair_of pair) (drop at (W.words left.now) ++ last ∷ []) }
     ensures products { tally.new.products ≡ tally.old.products + 2 }
     ensures kept { tally.new.kept ≡ tally.old.kept }
 {
@@ -34,8 +34,8 @@ fn take_two<W: Words>(pair: Pair, left: &W, at: usize, tally: &mut Tally) -> Pai
     requires within { at + 2 ≤ length (W.words left.now) }
     requires place { at < 5 }
     ensures hash { (last : ℕ)
-        → hash_from_pair (pair_in result) (drop (at + 2) (W.words left.now) ++ last ∷ [])
-        ≡ hash_from_pair (pair_in pair) (drop at (W.words left.now) ++ last ∷ []) }
+        → hash_from_pair (pair_of result) (drop (at + 2) (W.words left.now) ++ last ∷ [])
+        ≡ hash_from_pair (pair_of pair) (drop at (W.words left.now) ++ last ∷ []) }
     ensures products { tally.new.products ≡ tally.old.products + 1 }
     ensures kept { tally.new.kept ≡ tally.old.kept }
 {
@@ -49,7 +49,7 @@ fn hash_below_four<W: Words>(pair: Pair, left: &W, at: usize, last: u64, tally: 
     requires few { length (W.words left.now) < at + 4 }
     requires place { at < 5 }
     ensures hash { result
-        ≡ hash_from_pair (pair_in pair) (drop at (W.words left.now) ++ last ∷ []) }
+        ≡ hash_from_pair (pair_of pair) (drop at (W.words left.now) ++ last ∷ []) }
     ensures products { tally.new.products
         ≡ tally.old.products + (2 + (length (W.words left.now) - at) / 2) }
     ensures kept { tally.new.kept ≡ tally.old.kept }
@@ -66,7 +66,7 @@ fn hash_below_four<W: Words>(pair: Pair, left: &W, at: usize, last: u64, tally: 
 #[inline(always)]
 pub(crate) fn hash_below_eight<W: Words>(pair: Pair, left: &W, last: u64, tally: &mut Tally) -> u64
     requires { length (W.words left.now) < 8 }
-    ensures hash { result ≡ hash_from_pair (pair_in pair) (W.words left.now ++ last ∷ []) }
+    ensures hash { result ≡ hash_from_pair (pair_of pair) (W.words left.now ++ last ∷ []) }
     ensures products { tally.new.products
         ≡ tally.old.products + (2 + length (W.words left.now) / 2) }
     ensures kept { tally.new.kept ≡ tally.old.kept }

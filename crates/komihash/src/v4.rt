@@ -24,7 +24,7 @@ pub type Komirand = generator::Komirand<4>;
 pub fn komihash(bytes: &[u8], seed: u64) -> u64
     ensures { result ≡ komi 4 seed bytes.now }
 {
-    hash::komihash::<4>(bytes, seed)
+    hash::hash_message::<4>(bytes, seed)
 }
 
 /// Returns the hash of a message with a seed, and counts its cost in a tally.
@@ -37,7 +37,7 @@ pub fn komihash_counted(bytes: &[u8], seed: u64, tally: &mut Tally) -> u64
     ensures products { tally.new.products ≡ tally.old.products + hash_products (length bytes.now) }
     ensures kept { tally.new.kept ≡ tally.old.kept }
 {
-    hash::komihash_counted::<4>(bytes, seed, tally)
+    hash::hash_message_counted::<4>(bytes, seed, tally)
 }
 
 /// Writes the padded words of a message, and returns how many they are: `bytes.len() / 8 + 1`,
@@ -71,5 +71,5 @@ pub fn unpad(words: &[u64], out: &mut [u8]) -> Option<usize>
     ensures none { IsNone result ↔ ¬ ArePadded 4 words.now }
     ensures unchanged { IfNone result (out.new ≡ out.old) }
 {
-    padding::unpad::<4>(words, out)
+    padding::unpad::unpad::<4>(words, out)
 }

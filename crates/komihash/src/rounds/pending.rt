@@ -12,7 +12,7 @@ ghost use Rattle.komihash.specs.Padding.{has_top_bit};
 mod blocks;
 mod writer;
 
-use crate::padding::end::has_top_bit;
+use crate::padding::final_word::has_top_bit;
 use crate::tally::Tally;
 use crate::utils::Words;
 use crate::utils::copies::write_bytes;
@@ -69,7 +69,7 @@ impl Pending {
 
     /// Appends bytes that do not fill a block, and counts them as kept.
     #[inline(always)]
-    pub(crate) fn put(&mut self, bytes: &[u8], tally: &mut Tally)
+    pub(crate) fn append(&mut self, bytes: &[u8], tally: &mut Tally)
         requires { length self.old + length bytes.now < 64 }
         ensures bytes { self.new ≡ self.old ++ bytes.now }
         ensures products { tally.new.products ≡ tally.old.products }
@@ -83,7 +83,7 @@ impl Pending {
     /// Appends bytes that fill a block or more, and absorbs each whole block. Returns whether
     /// `has_top_bit` holds of the last byte of the last block.
     #[inline(always)]
-    pub(crate) fn absorb<const V: u8>(
+    pub(crate) fn append_and_absorb<const V: u8>(
         &mut self,
         lanes: &mut [u64; 8],
         bytes: &[u8],
@@ -100,7 +100,7 @@ impl Pending {
         ensures kept { tally.new.kept
             ≡ tally.old.kept + kept_bytes (length self.old) (length bytes.now) }
     {
-        let fill = blocks::absorb::<V>(lanes, &mut self.words, self.fill, bytes, tally);
+        let fill = blocks::absorb_and_keep::<V>(lanes, &mut self.words, self.fill, bytes, tally);
         self.fill = fill;
         has_top_bit::<V>(bytes[bytes.len() - fill - 1])
     }

@@ -114,6 +114,6 @@ pub(crate) fn read_pending(bytes: &[u8]) -> Pending
     ensures { result ≡ drop PENDING_AT bytes.now }
 {
     let mut pending = Pending::new();
-    pending.put(&bytes[PENDING_AT..], &mut Tally::new());
+    pending.append(&bytes[PENDING_AT..], &mut Tally::new());
     pending
 }

@@ -11,7 +11,7 @@ ghost use Rattle.komihash.specs.Tails.{tail_end};
 
 use super::saved::{is_text, read_lanes, read_pending, write_head, write_lanes, write_pending};
 use super::{KomiStream, LONGEST_TEXT};
-use crate::padding::end::{has_top_bit, padding_after};
+use crate::padding::final_word::{has_top_bit, padding_after};
 use crate::rounds::pending::Pending;
 use crate::rounds::{close_one, join, lanes, seed_pair};
 use crate::tails::hash_below_eight;
@@ -24,8 +24,7 @@ use std::marker::Model;
 ///
 /// The hash is that of `komihash`, however the bytes are cut. There is no limit to their number.
 /// Pieces of a multiple of 64 bytes are best: as long as all are, none is copied. Otherwise a write
-/// copies into the stream the bytes that complete a block that was begun, and those that begin the
-/// next one: at most 63 of each.
+/// copies into the stream the bytes that complete a partial block, and those that begin the next one: at most 63 of each.
 #[derive(Drop)]
 pub struct StreamedKomihash<const V: u8> {
     lanes: [u64; 8],
@@ -124,9 +123,11 @@ impl<const V: u8> StreamedKomihash<V> {
             + kept_bytes (length self.old.state.pending) (length bytes.now) }
     {
         if bytes.len() < 64 - self.pending.len() {
-            self.pending.put(bytes, tally);
+            self.pending.append(bytes, tally);
         } else {
-            self.top_bit = self.pending.absorb::<V>(&mut self.lanes, bytes, tally);
+            self.top_bit = self
+                .pending
+                .append_and_absorb::<V>(&mut self.lanes, bytes, tally);
             self.absorbed = true;
         }
     }

@@ -10,8 +10,7 @@ ghost use Rattle.komihash.specs.Padding.{padded_words};
 ghost use Rattle.komihash.specs.Rounds.{pair_round, seed_pair};
 ghost use Rattle.komihash.specs.Words.{all_bytes};
 
-use super::known_messages::{BLOCK_END, HIGH_END, SIX, ZERO};
-use super::known_texts::LANES;
+use super::known::{BLOCK_END, HIGH_END, LANES, SIX, ZERO};
 use crate::stream::LONGEST_TEXT;
 
 // The lanes s1 to s4 of seed 0. They are words of the block of `block_message`.

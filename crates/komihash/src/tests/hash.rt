@@ -1,8 +1,8 @@
 //! The hash of known messages in both versions: worked out by hand, and from the Rust crate.
 
 use super::assertions::same;
-use super::known_messages::{HIGH_END, LONGEST, SIX, ZERO, block_message, pattern};
-use crate::hash::komihash;
+use super::known::{HIGH_END, LONGEST, SIX, ZERO, block_message, pattern};
+use crate::hash::hash_message;
 use crate::{v4, v5};
 use std::process::Abort;
 
@@ -170,7 +170,7 @@ fn hashes_alike_in_both_versions(rt: HostRuntime) {
 // Hashes each proper prefix of at least `from` bytes. Each hash is 0.
 fn stays_at_zero<const V: u8>(rt: &impl Abort, message: &[u8], from: usize) {
     for n in from..message.len() {
-        same(rt, komihash::<V>(&message[..n], 0), 0, n);
+        same(rt, hash_message::<V>(&message[..n], 0), 0, n);
     }
 }
 

@@ -1,8 +1,8 @@
 //! The hashers of both versions: writes of known messages, and chains of writes.
 
 use super::assertions::same;
-use super::known_messages::{HIGH_END, ZERO};
-use crate::hash::komihash;
+use super::known::{HIGH_END, ZERO};
+use crate::hash::hash_message;
 use crate::hasher::KomiHasher;
 use std::hash::Hasher;
 use std::process::Abort;
@@ -42,13 +42,13 @@ fn hashes_known_writes(rt: HostRuntime) {
 
 // Writes twice, also after `finish`: each hash is the seed of the next write.
 fn takes_each_hash_as_the_next_seed<const V: u8>(rt: &impl Abort) {
-    let hello = komihash::<V>(b"hello", 0);
+    let hello = hash_message::<V>(b"hello", 0);
     let mut hasher = KomiHasher::<V>::default();
     same(rt, after_writes(&mut hasher, &[b"hello"]), hello, 1);
     same(
         rt,
         after_writes(&mut hasher, &[b"world"]),
-        komihash::<V>(b"world", hello),
+        hash_message::<V>(b"world", hello),
         2,
     );
     same(rt, hasher.finish(), 0x5d27_c8da_42bb_d50f, 3);

@@ -3,7 +3,7 @@
 ghost use Rattle.std.specs.Prelude.{◌+◌, ◌*◌, ◌/◌, ◌<◌, ◌≤◌, length};
 
 use super::assertions::{same_bytes, same_count, same_length, same_words};
-use super::known_messages::pattern;
+use super::known::pattern;
 use crate::{v4, v5};
 use std::process::Abort;
 

@@ -3,7 +3,7 @@
 ghost use Rattle.std.specs.Prelude.{◌+◌, ◌<◌, length};
 
 use super::assertions::same_bytes;
-use super::known_messages::pattern;
+use super::known::pattern;
 use crate::rounds::pending::Pending;
 use crate::tally::Tally;
 use std::process::Abort;
@@ -14,8 +14,8 @@ fn writes(rt: &impl Abort, first: &[u8], second: &[u8], wanted: &[u8; 64])
 {
     let mut tally = Tally::new();
     let mut pending = Pending::new();
-    pending.put(first, &mut tally);
-    pending.put(second, &mut tally);
+    pending.append(first, &mut tally);
+    pending.append(second, &mut tally);
     let mut out = [0xee; 64];
     pending.write_to(&mut out);
     same_bytes(rt, &out, wanted, first.len());

@@ -1,9 +1,9 @@
 //! The known messages in pieces, cut at every index and byte by byte, and empty writes.
 
 use super::assertions::same;
-use super::known_messages::{HIGH_END, SIX, block_message};
+use super::known::{HIGH_END, SIX, block_message};
 use super::stream::{agrees_between, finishes};
-use crate::hash::komihash;
+use crate::hash::hash_message;
 use crate::stream::streamed::StreamedKomihash;
 use std::process::Abort;
 
@@ -29,7 +29,7 @@ fn agrees_byte_by_byte<const V: u8>(rt: &impl Abort, message: &[u8], zero_from: 
 }
 
 fn agrees_however_cut<const V: u8>(rt: &impl Abort, message: &[u8], zero_from: usize, hash: u64) {
-    same(rt, komihash::<V>(message, 0), hash, message.len());
+    same(rt, hash_message::<V>(message, 0), hash, message.len());
     agrees_cut_in_two::<V>(rt, message);
     agrees_byte_by_byte::<V>(rt, message, zero_from);
 }

@@ -5,7 +5,8 @@ ghost use Rattle.std.specs.Prelude.{◌*◌, ◌<◌, ◌≤◌, length};
 
 use super::assertions::{same_bytes, same_count, same_length, same_words};
 use super::stream::{finishes, hash};
-use crate::padding::{pad, unpad};
+use crate::padding::pad;
+use crate::padding::unpad::unpad;
 use crate::stream::streamed::StreamedKomihash;
 use crate::stream::{Call, KomiStream, LONGEST_TEXT, run};
 use crate::tally::Tally;

@@ -1,7 +1,7 @@
 //! The names that the crate's root exports are those of version 5.
 
 use super::assertions::same;
-use super::known_messages::HIGH_END;
+use super::known::HIGH_END;
 use crate::v5;
 use std::hash::Hasher;
 

@@ -4,9 +4,9 @@ ghost use Rattle.std.specs.Prelude.{◌≡◌, ◌+◌, ◌≤◌, IsTrue, IfSom
 ghost use Rattle.komihash.specs.Calls.{run_products, run_kept};
 
 use super::assertions::{same, same_bytes, same_count, same_length, same_words};
-use super::known_calls::{CUT_ANSWERS, at_cuts, byte_by_byte};
-use super::known_messages::block_message;
-use super::known_texts::{lanes_after_block, new_text, text_of_zeros};
+use super::known::{
+    CUT_ANSWERS, at_cuts, block_message, byte_by_byte, lanes_after_block, new_text, text_of_zeros,
+};
 use crate::stream::{Call, KomiStream, LONGEST_TEXT, run_on};
 use crate::tally::Tally;
 use crate::{v4, v5};

@@ -3,8 +3,7 @@
 ghost use Rattle.std.specs.Prelude.{◌≤◌, length};
 
 use super::assertions::{same, same_count, same_words};
-use super::known_calls::{CUT_ANSWERS, at_cuts, byte_by_byte};
-use super::known_messages::{ZERO, block_message};
+use super::known::{CUT_ANSWERS, ZERO, at_cuts, block_message, byte_by_byte};
 use crate::stream::{Call, KomiStream, run, run_on};
 use crate::tally::Tally;
 use crate::{v4, v5};

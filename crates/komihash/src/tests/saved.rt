@@ -3,8 +3,9 @@
 ghost use Rattle.std.specs.Prelude.{◌≤◌};
 
 use super::assertions::{same, same_bytes, same_count};
-use super::known_messages::{block_message, pattern};
-use super::known_texts::{LANES, lanes_after_block, new_text, text_of, text_of_zeros};
+use super::known::{
+    LANES, block_message, lanes_after_block, new_text, pattern, text_of, text_of_zeros,
+};
 use super::stream::answers;
 use crate::stream::streamed::StreamedKomihash;
 use crate::stream::{KomiStream, LONGEST_TEXT};

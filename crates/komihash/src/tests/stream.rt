@@ -3,8 +3,8 @@
 ghost use Rattle.std.specs.Prelude.{◌≢◌};
 
 use super::assertions::same;
-use super::known_messages::{LONGEST, ZERO, pattern};
-use crate::hash::komihash;
+use super::known::{LONGEST, ZERO, pattern};
+use crate::hash::hash_message;
 use crate::stream::streamed::StreamedKomihash;
 use crate::stream::{Call, KomiStream};
 use crate::tally::Tally;
@@ -36,7 +36,7 @@ pub(crate) fn finishes<const V: u8>(
     message: &[u8],
     seed: u64,
 ) {
-    let hash = komihash::<V>(message, seed);
+    let hash = hash_message::<V>(message, seed);
     same(rt, stream.finish(), hash, message.len());
 }
 
@@ -92,7 +92,7 @@ fn agrees_after_pending_bytes<S: KomiStream>(rt: &impl Abort) {
 }
 
 #[test]
-fn completes_a_begun_block(rt: HostRuntime) {
+fn completes_a_partial_block(rt: HostRuntime) {
     agrees_after_pending_bytes::<v4::StreamedKomihash>(&rt);
     agrees_after_pending_bytes::<v5::StreamedKomihash>(&rt);
 }

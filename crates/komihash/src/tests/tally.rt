@@ -5,9 +5,8 @@ ghost use Rattle.std.specs.Prelude.{◌≡◌, ◌+◌, ◌%◌, length};
 ghost use Rattle.komihash.specs.Counts.{hash_products, kept_bytes};
 
 use super::assertions::{same, same_count, same_words};
-use super::known_calls::{at_cuts, byte_by_byte};
-use super::known_messages::block_message;
-use crate::hash::komihash;
+use super::known::{at_cuts, block_message, byte_by_byte};
+use crate::hash::hash_message;
 use crate::stream::{Call, KomiStream, run};
 use crate::tally::Tally;
 use crate::{v4, v5};
@@ -185,11 +184,11 @@ fn agrees_counted<const V: u8>(rt: &impl Abort) {
         &mut Tally::new(),
         &mut Tally::new(),
     );
-    let wanted = komihash::<V>(&[], 0)
-        ^ komihash::<V>(&bytes[..16], 0)
-        ^ komihash::<V>(&bytes[..64], 0)
-        ^ komihash::<V>(&bytes[..95], 0)
-        ^ komihash::<V>(bytes, 0);
+    let wanted = hash_message::<V>(&[], 0)
+        ^ hash_message::<V>(&bytes[..16], 0)
+        ^ hash_message::<V>(&bytes[..64], 0)
+        ^ hash_message::<V>(&bytes[..95], 0)
+        ^ hash_message::<V>(bytes, 0);
     same(rt, sum, wanted, 0);
 }
 

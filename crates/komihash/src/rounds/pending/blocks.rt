@@ -1,4 +1,4 @@
-//! Absorbs the begun block, once it is filled up, and the whole blocks after it.
+//! Absorbs the partial block, once it is complete, and the whole blocks after it.
 
 #![tactic(auto, using(crate::proofs::PendingBlocks::block_laws))]
 
@@ -14,10 +14,10 @@ use crate::rounds::blocks::absorb_blocks;
 use crate::rounds::{block_round, places};
 use crate::tally::Tally;
 
-// Fills up the begun block, if there is one, and absorbs it. Returns the lanes after it, and the
+// Completes the partial block, if there is one, and absorbs it. Returns the lanes after it, and the
 // bytes that are left. Reads the lanes only after the writer, which needs the registers itself.
 #[inline(always)]
-fn absorb_begun<'a, const V: u8>(
+fn complete_block<'a, const V: u8>(
     lanes: &[u64; 8],
     words: &mut [u64; 8],
     fill: usize,
@@ -70,7 +70,7 @@ fn put_left(words: &mut [u64; 8], left: &[u8], tally: &mut Tally)
 /// The fill is passed and returned by value, so that a caller's loop over pieces keeps it in a
 /// register.
 #[inline(never)]
-pub(crate) fn absorb<const V: u8>(
+pub(crate) fn absorb_and_keep<const V: u8>(
     lanes: &mut [u64; 8],
     words: &mut [u64; 8],
     fill: usize,
@@ -90,7 +90,7 @@ pub(crate) fn absorb<const V: u8>(
         ≡ tally.old.products + write_products fill (length bytes.now) }
     ensures kept { tally.new.kept ≡ tally.old.kept + kept_bytes fill (length bytes.now) }
 {
-    let (mut local, rest) = absorb_begun::<V>(lanes, words, fill, bytes, tally);
+    let (mut local, rest) = complete_block::<V>(lanes, words, fill, bytes, tally);
     let left = absorb_blocks::<V>(&mut local, rest, tally);
     *lanes = local;
     put_left(words, left, tally);

@@ -10,7 +10,7 @@ use crate::tally::Tally;
 use crate::utils::{read_partial_word, read_word, word_at};
 use std::simd::{u8x16, u64x2};
 
-// Appends the bytes of a word that fit in the word that the fill has begun.
+// Appends the bytes of a word that fit in the partial word.
 #[inline(always)]
 fn join_word(words: &mut [u64; 8], fill: usize, word: u64)
     requires { ArePending words.old fill }
@@ -59,7 +59,7 @@ fn put_few<const FULL: bool>(words: &mut [u64; 8], fill: usize, bytes: &[u8])
     }
 }
 
-// Stores whole words, fewer than two, at index k after the begun word.
+// Stores whole words, fewer than two, at index k after the partial word.
 #[inline(always)]
 fn move_below_two(words: &mut [u64; 8], fill: usize, bytes: &[u8], k: usize)
     requires room { fill + length bytes.now ≤ 64 }
@@ -74,7 +74,7 @@ fn move_below_two(words: &mut [u64; 8], fill: usize, bytes: &[u8], k: usize)
     }
 }
 
-// Stores whole words, fewer than four, from index k after the begun word on.
+// Stores whole words, fewer than four, from index k after the partial word on.
 #[inline(always)]
 fn move_below_four(words: &mut [u64; 8], fill: usize, bytes: &[u8], k: usize)
     requires room { fill + length bytes.now ≤ 64 }
@@ -92,9 +92,9 @@ fn move_below_four(words: &mut [u64; 8], fill: usize, bytes: &[u8], k: usize)
     }
 }
 
-// Stores the whole words after the begun word.
+// Stores the whole words after the partial word.
 //
-// All indices are a number of words, known here, after the begun one: a turn of a loop would wait
+// All indices are a number of words, known here, after the partial one: a turn of a loop would wait
 // for the index of the one before.
 #[inline(always)]
 fn move_words(words: &mut [u64; 8], fill: usize, bytes: &[u8])
@@ -127,7 +127,7 @@ fn put_last(words: &mut [u64; 8], fill: usize, bytes: &[u8])
     }
 }
 
-// Appends eight bytes or more, all that fit if FULL: the first fill up the begun word, then whole
+// Appends eight bytes or more, all that fit if FULL: the first complete the partial word, then whole
 // words follow, and then fewer than eight bytes.
 #[inline(always)]
 fn put_many<const FULL: bool>(words: &mut [u64; 8], fill: usize, bytes: &[u8])

@@ -6,4 +6,4 @@ pub returns : goal.returns
 returns c =
     let bytes = c.args.bytes.now in
     let all = take_all (length bytes - 68) (drop 68 bytes) (omega (arith, length-drop 68 bytes)) in
-    rw (c.new-pending.ensures, all) at c.put.ensures.bytes
+    rw (c.new-pending.ensures, all) at c.append.ensures.bytes

@@ -10,20 +10,20 @@ returns-then-not-this g c =
     let bytes = c.args.bytes.now in
     let xs = pending_bytes c.args.words.now c.args.fill in
     let size = length_pending c.args.words.now c.args.fill c.requires.pending in
-    let begun = rw (take-take (8 - c.args.fill % 8) 8 bytes (omega arith)) at
+    let partial = rw (take-take (8 - c.args.fill % 8) 8 bytes (omega arith)) at
     (c.join_word.ensures (take 8 bytes) (AreBytes-take 8 bytes (AreBytes-typed bytes c.type_inv.bytes))
     c.read_word.ensures) in
     rw (take_all (length bytes) bytes (omega arith)) at
-    (c.put_last.ensures xs (omega arith) (c.move_words.ensures xs (omega arith) begun))
+    (c.put_last.ensures xs (omega arith) (c.move_words.ensures xs (omega arith) partial))
 
 pub returns-else-not-this : goal.returns-else-not-this
 returns-else-not-this g c =
     let bytes = c.args.bytes.now in
     let xs = pending_bytes c.args.words.now c.args.fill in
     let size = length_pending c.args.words.now c.args.fill c.requires.pending in
-    let begun = rw (take-take (8 - c.args.fill % 8) 8 bytes (omega arith)) at
+    let partial = rw (take-take (8 - c.args.fill % 8) 8 bytes (omega arith)) at
     (c.join_word.ensures (take 8 bytes) (AreBytes-take 8 bytes (AreBytes-typed bytes c.type_inv.bytes))
     c.read_word.ensures) in
     let full : c.args.fill + length bytes ≡ 64 = c.requires.full (search rules) in
     rw (take_all (length bytes - (c.args.fill + length bytes) % 8) bytes (omega arith)) at
-    (c.move_words.ensures xs (omega arith) begun)
+    (c.move_words.ensures xs (omega arith) partial)

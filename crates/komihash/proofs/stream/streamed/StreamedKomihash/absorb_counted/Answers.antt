@@ -12,7 +12,7 @@ returns-then-bytes-len-clause-state g c =
     let s = c.self.inside in
     let shown = state_in s.lanes s.pending s.absorbed s.top_bit in
     let bytes = c.args.bytes.now in
-    rw c.put.ensures.bytes
+    rw c.append.ensures.bytes
     (sym (absorb-few g.row.V shown bytes (omega arith))
     ∙ ap (λ (t : StateOf g.row.V). absorb g.row.V t.state bytes) c.self.view_is)
 
@@ -25,7 +25,7 @@ returns-else-bytes-len-clause-state g c =
     let s = c.self.inside in
     let shown = state_in s.lanes s.pending s.absorbed s.top_bit in
     let bytes = c.args.bytes.now in
-    let w = c.absorb-self-inside in
+    let w = c.append_and_absorb-self-inside in
     let e = w.ensures in
     after_write g.row.V shown bytes w.new.lanes _ _ (omega arith) (omega arith)
     e.lanes e.bytes e.top_bit
@@ -42,14 +42,14 @@ invariant_of-self-inside g c =
     let shown = state_in s.lanes s.pending s.absorbed s.top_bit in
     let bytes = c.args.bytes.now in
     let are = AreBytes-typed bytes c.type_inv.bytes in
-    (rw c.put.ensures.bytes (IsState-few g.row.V shown bytes s.is_state are (omega arith)), tt)
+    (rw c.append.ensures.bytes (IsState-few g.row.V shown bytes s.is_state are (omega arith)), tt)
 
 pub invariant_of-self-inside-else-bytes-len : goal.invariant_of-self-inside-else-bytes-len
 invariant_of-self-inside-else-bytes-len g c =
     let s = c.self.inside in
     let shown = state_in s.lanes s.pending s.absorbed s.top_bit in
     let bytes = c.args.bytes.now in
-    let w = c.absorb-self-inside in
+    let w = c.append_and_absorb-self-inside in
     let e = w.ensures in
     let are = AreBytes-typed bytes c.type_inv.bytes in
     let after =

@@ -1,16 +1,16 @@
 use Rattle.std.proofs.Common.{arith, refl}
 use Rattle.komihash.specs.Halves.{lanes_in}
 use Rattle.komihash.specs.Pending.{pending_bytes}
-use Rattle.komihash.proofs.PendingBlocks.{begun_lanes, begun_left}
+use Rattle.komihash.proofs.PendingBlocks.{completed_lanes, completed_left}
 use Rattle.komihash.proofs.PendingBytes.{length_pending}
-use Rattle.komihash.proofs.rounds.pending.blocks.absorb_begun.Goals as goal
+use Rattle.komihash.proofs.rounds.pending.blocks.complete_block.Goals as goal
 
 pub returns-clause-lanes : goal.returns-clause-lanes
 returns-clause-lanes g c =
     let xs = pending_bytes c.args.words.now c.args.fill in
     let size = length_pending c.args.words.now c.args.fill c.requires.pending in
     rw (
-      begun_lanes xs c.args.bytes.now (omega arith) (omega arith) g.row.V (lanes_in c.args.lanes.now),
+      completed_lanes xs c.args.bytes.now (omega arith) (omega arith) g.row.V (lanes_in c.args.lanes.now),
       c.block_round.ensures.lanes,
       c.places.ensures.table,
       c.put.ensures.full (omega arith),
@@ -24,5 +24,5 @@ pub returns-clause-left : goal.returns-clause-left
 returns-clause-left g c =
     let xs = pending_bytes c.args.words.now c.args.fill in
     let size = length_pending c.args.words.now c.args.fill c.requires.pending in
-    rw (begun_left xs c.args.bytes.now (omega arith) (omega arith), c.split_at.ensures.back, size)
+    rw (completed_left xs c.args.bytes.now (omega arith) (omega arith), c.split_at.ensures.back, size)
     refl

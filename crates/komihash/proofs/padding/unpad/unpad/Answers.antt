@@ -3,7 +3,7 @@ use Rattle.std.proofs.lemmas.Bool.{false≢true}
 use Rattle.komihash.proofs.BytesInWords.{AreBytes-take}
 use Rattle.komihash.proofs.BytesOfWords.{AreBytes-all_bytes}
 use Rattle.komihash.proofs.PaddingBack.{same_message}
-use Rattle.komihash.proofs.padding.unpad.Goals as goal
+use Rattle.komihash.proofs.padding.unpad.unpad.Goals as goal
 
 pub returns-clause-none : goal.returns-clause-none
 returns-clause-none g c =

@@ -1,4 +1,4 @@
-//! How a message ends: its padding byte, and its final word.
+//! The final word of a message, and the padding byte in it.
 
 ghost use Rattle.std.specs.Prelude.{◌≡◌, ◌<◌, ◌≤◌, length};
 ghost use Rattle.komihash.specs.Padding.{has_top_bit, padding_after};
@@ -41,7 +41,7 @@ pub(crate) fn end_byte<const V: u8>(message: &[u8]) -> u64
 /// that word, all 64 bits go, which is too wide for one shift. So there are two.
 #[inline(always)]
 #[tactic(auto, using(crate::proofs::PaddingWords::final_word_many))]
-pub(crate) fn final_of_many(bytes: &[u8], end: u64) -> u64
+pub(crate) fn final_word_of_many(bytes: &[u8], end: u64) -> u64
     requires many { 8 ≤ length bytes.now }
     requires end { end < 4 }
     ensures { result ≡ final_word bytes.now end }
@@ -52,10 +52,10 @@ pub(crate) fn final_of_many(bytes: &[u8], end: u64) -> u64
 }
 
 /// Returns the final word of at least eight bytes. If they are whole words, that is `end`, and
-/// nothing is read.
+/// nothing is read, which long messages gain by.
 #[inline(always)]
 #[tactic(auto, using(crate::proofs::PaddingWords::final_word_whole))]
-pub(crate) fn final_of_long(bytes: &[u8], end: u64) -> u64
+pub(crate) fn final_word_of_blocks(bytes: &[u8], end: u64) -> u64
     requires many { 8 ≤ length bytes.now }
     requires end { end < 4 }
     ensures { result ≡ final_word bytes.now end }
@@ -63,7 +63,7 @@ pub(crate) fn final_of_long(bytes: &[u8], end: u64) -> u64
     if bytes.len() % 8 == 0 {
         return end;
     }
-    final_of_many(bytes, end)
+    final_word_of_many(bytes, end)
 }
 
 /// Returns the final word of a message.
@@ -75,6 +75,6 @@ pub(crate) fn final_word<const V: u8>(bytes: &[u8]) -> u64
     if bytes.len() < 8 {
         read_partial_word(bytes, end)
     } else {
-        final_of_many(bytes, end)
+        final_word_of_many(bytes, end)
     }
 }

@@ -1,11 +1,13 @@
-//! The length of the message whose padded words are given.
+//! The message whose padded words are given.
 
-ghost use Rattle.std.specs.Prelude.{◌≡◌, ◌+◌, ◌*◌, ◌/◌, ◌^◌, ◌<◌, ◌≤◌, ◌↔◌};
-ghost use Rattle.std.specs.Prelude.{IfSome, IfNone, IsTrue, length, take, slice_index};
+ghost use Rattle.std.specs.Prelude.{◌≡◌, ℕ, ◌+◌, ◌*◌, ◌/◌, ◌^◌, ◌<◌, ◌≤◌, ◌↔◌, IsTrue};
+ghost use Rattle.std.specs.Prelude.{IfSome, IfNone, IsNone, IsSomeAnd};
+ghost use Rattle.std.specs.Prelude.{List, length, take, drop, slice_index};
 ghost use Rattle.komihash.specs.Padding.{ArePadded, padded_words, padding_byte};
-ghost use Rattle.komihash.specs.Words.{all_bytes};
+ghost use Rattle.komihash.specs.Words.{AreBytes, all_bytes};
 
-use crate::padding::end::{has_top_bit, padding_after};
+use super::final_word::{has_top_bit, padding_after};
+use crate::utils::copies::write_bytes;
 
 // Returns the index of a word's highest byte that is not 0, counted from the lowest byte.
 #[inline(always)]
@@ -40,13 +42,13 @@ fn is_padding_byte<const V: u8>(byte: u64, words: &[u64], count: usize) -> bool
     byte == padding_after(has_top_bit::<V>(byte_at(words, count - 1)))
 }
 
-/// Returns the length in bytes of the message that has these padded words in version V, or `None`
-/// if no message has them.
-///
-/// The padding byte can only be the last word's highest byte that is not 0. The byte before it
-/// decides whether it is.
+// Returns the length in bytes of the message that has these padded words in version V, or `None`
+// if no message has them.
+//
+// The padding byte can only be the last word's highest byte that is not 0. The byte before it
+// decides whether it is.
 #[inline(always)]
-pub(crate) fn message_length<const V: u8>(words: &[u64]) -> Option<usize>
+fn message_length<const V: u8>(words: &[u64]) -> Option<usize>
     requires { 8 * length words.now < 2 ^ 64 }
     ensures length { IfSome result (λ n. n / 8 + 1 ≡ length words.now) }
     ensures message { IfSome result
@@ -71,4 +73,22 @@ pub(crate) fn message_length<const V: u8>(words: &[u64]) -> Option<usize>
     } else {
         None
     }
+}
+
+/// Writes the message whose padded words in version V these are to the front of `out`, and returns
+/// its length in bytes. Returns `None`, and leaves `out` as it was, if no message has these words.
+#[inline(always)]
+pub(crate) fn unpad<const V: u8>(words: &[u64], out: &mut [u8]) -> Option<usize>
+    requires { 8 * length words.now ≤ length out.old }
+    ensures length { IfSome result (λ n. n / 8 + 1 ≡ length words.now) }
+    ensures message { IfSome result (λ n. padded_words V (take n out.new) ≡ words.now) }
+    ensures rest { IfSome result (λ n. drop n out.new ≡ drop n out.old) }
+    ensures same { (m : List ℕ) → AreBytes m → padded_words V m ≡ words.now
+        → IsSomeAnd result (λ n. take n out.new ≡ m) }
+    ensures none { IsNone result ↔ ¬ ArePadded V words.now }
+    ensures unchanged { IfNone result (out.new ≡ out.old) }
+{
+    let count = message_length::<V>(words)?;
+    write_bytes(words, count, out);
+    Some(count)
 }

@@ -1,7 +1,7 @@
 use Rattle.std.proofs.Common.{arith}
 use Rattle.std.proofs.lemmas.Bool.{iff_false}
 use Rattle.komihash.proofs.PaddingBack.{padded_zero, unpadded, one_place}
-use Rattle.komihash.proofs.padding.length.message_length.Goals as goal
+use Rattle.komihash.proofs.padding.unpad.message_length.Goals as goal
 
 pub returns-else-count-eq1-clause-none : goal.returns-else-count-eq1-clause-none
 returns-else-count-eq1-clause-none g c p =
