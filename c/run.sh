@@ -8,56 +8,21 @@ cd "$(dirname "${BASH_SOURCE[0]}")"
 out=$PWD/out
 library=$out/libkomihash_rattle
 mkdir -p "$out"
-
-stop() {
-    echo "run.sh: $1" >&2
-    exit 2
-}
-
-need() { command -v "$1" > /dev/null || stop "there is no $1, which $2"; }
+. ./build.sh
 
 # Whether the library is there for a processor, and no source is newer.
-is_built() {
-    [ -f "$out/cpu" ] && [ "$(cat "$out/cpu")" = "$1" ] || return 1
-    [ -z "$(find ../crates/komihash/{src,specs,proofs} *.in proofs -newer "$out/cpu" -print -quit)" ]
-}
+is_built() { is_newest "$out/cpu" *.in proofs && [ "$(cat "$out/cpu")" = "$1" ]; }
 
-# Makes a workspace of the crate and the library. It lies outside of the repository: the merge gate refuses sources that
-# are in no crate, so those of the library end in `.in` here. What is proved in the repository is kept.
-make_workspace() {
-    local room=$1 crate=$1/crates/library version
-    printf '%s\n' 'komihash:' 'library staticlib: komihash' > "$room/crates.txt"
-    cp ../HANDLES "$room/"
-    mkdir -p "$crate/src"
-    cp -a ../crates/komihash "$room/crates/"
-    cp -r proofs "$crate/"
-    find "$crate/proofs" -name '*.in' -exec sh -c 'mv "$1" "${1%.in}"' sh {} \;
-    cp lib.rt.in "$crate/src/lib.rt"
-    cp streams.rt.in "$crate/src/streams.rt"
-    for version in 4 5; do
-        sed "s/VERSION/$version/g" version.rt.in > "$crate/src/v$version.rt"
-    done
-}
-
-build() (
-    cpu=$1
+build() {
+    local cpu=$1
     cp komihash_rattle.h "$out/"
     is_built "$cpu" && return
-    need rt 'proves and builds the library'
     need "${CC:-cc}" 'links the shared object'
     rm -f "$out/cpu"
-    room=$(mktemp -d)
-    trap 'rm -rf "$room"' EXIT
-    make_workspace "$room"
-    echo 'Proving and building the library. With nothing proved yet, this takes minutes.' >&2
-    if ! (cd "$room/crates/library" && rt lib --cpu "$cpu") > "$library.log" 2>&1; then
-        tail -n 40 "$library.log" >&2
-        stop 'the library is not proved or not built; c/out/libkomihash_rattle.log has it all'
-    fi
-    cp "$room/crates/library/out/liblibrary.a" "$library.a"
+    build_static library . "$library.a" --cpu "$cpu"
     "${CC:-cc}" -shared -Wl,--whole-archive "$library.a" -Wl,--no-whole-archive -o "$library.so"
     echo "$cpu" > "$out/cpu"
-)
+}
 
 # Compiles with warnings as errors, by a compiler and for a standard.
 compile() { "$1" -std="$2" -Wall -Wextra -Wpedantic -Werror -I "$out" "${@:3}"; }

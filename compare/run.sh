@@ -12,48 +12,14 @@ original=${KOMIHASH_CRATE:+$(realpath -m "$KOMIHASH_CRATE")}
 cd "$(dirname "${BASH_SOURCE[0]}")"
 out=$PWD/out
 mkdir -p "$out"
-
-stop() {
-    echo "run.sh: $1" >&2
-    exit 2
-}
-
-need() { command -v "$1" > /dev/null || stop "there is no $1, which $2"; }
-
-# Whether the loops are there, and no source is newer.
-are_built() {
-    [ -f "$out/libloops.a" ] || return 1
-    [ -z "$(find ../crates/komihash/{src,specs,proofs} loops -newer "$out/libloops.a" -print -quit)" ]
-}
-
-# Makes a workspace of the crate and the loops, as ../c/run.sh does.
-make_workspace() {
-    local room=$1 version
-    printf '%s\n' 'komihash:' 'loops staticlib: komihash' > "$room/crates.txt"
-    cp ../HANDLES "$room/"
-    mkdir -p "$room/crates/loops/src"
-    cp -a ../crates/komihash "$room/crates/"
-    cp loops/lib.rt.in "$room/crates/loops/src/lib.rt"
-    for version in 4 5; do
-        sed "s/VERSION/$version/g" loops/version.rt.in > "$room/crates/loops/src/v$version.rt"
-    done
-}
+. ../c/build.sh
 
 # Builds the loops, and the library for C.
-build_libraries() (
+build_libraries() {
     ../c/run.sh library >&2
     cp ../c/out/libkomihash_rattle.a "$out/"
-    are_built && return
-    room=$(mktemp -d)
-    trap 'rm -rf "$room"' EXIT
-    make_workspace "$room"
-    echo 'Proving and building the loops.' >&2
-    if ! (cd "$room/crates/loops" && rt lib) > "$out/loops.log" 2>&1; then
-        tail -n 40 "$out/loops.log" >&2
-        stop 'the loops are not proved or not built; compare/out/loops.log has it all'
-    fi
-    cp "$room/crates/loops/out/libloops.a" "$out/"
-)
+    is_newest "$out/libloops.a" loops || build_static loops loops "$out/libloops.a"
+}
 
 # Builds the driver as the file that is named, with flags for rustc.
 build_driver() {
