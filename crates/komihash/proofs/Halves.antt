@@ -19,7 +19,7 @@ lanes_in_lanes low e =
     let s4 = xor_middle (c 7) e (bit_xor (c 4) (c 7)) low in
     cc
 
--- what joining the lanes needs: words and low halves change places, and a word met twice is gone
+-- what joining the lanes needs: words and low halves change places, and a word that comes twice cancels
 pub ruleset joined = (xor_middle, xor_turn, xor_around)
 
 -- a product of a block round, as the code makes it

@@ -28,7 +28,7 @@ unfolding answer
 answer-by_pair v s =
     ap (hash_from_pair (join s.absorbed s.lanes)) (tail_of-words v s.pending s.absorbed s.top_bit)
 
-tail_end-pending : (v : ℕ) (m : List ℕ) (absorbed top_bit : Bool) → 0 < length m
+pub tail_end-pending : (v : ℕ) (m : List ℕ) (absorbed top_bit : Bool) → 0 < length m
     → tail_end v m absorbed top_bit ≡ padding_byte v m
 tail_end-pending v [] absorbed top_bit some = absurd (omega arith)
 tail_end-pending v (b ∷ m) absorbed top_bit some = refl

@@ -69,7 +69,7 @@ last_of_block xs ys left few many is =
     omega (arith, length-append xs ys, length-after_blocks (xs ++ ys)) in
     sym (get_or-append-add xs ys (length ys - left - 1) 0) ∙ ap (slice_index (xs ++ ys)) k
 
--- what a write that fills a block leaves, of the clauses of `Pending::absorb`
+-- the state after a write that fills a block, by the clauses of `Pending::append_and_absorb`
 pub after_write : (v : ℕ) (s : State) (bytes halves left : List ℕ) (top_bit : Bool)
     → length s.pending < 64 → 64 ≤ length s.pending + length bytes
     → lanes_in halves ≡ block_lanes v s.lanes (whole_words (s.pending ++ bytes))

@@ -1,11 +1,11 @@
--- Orders of `^`: which two of several words meet first.
+-- Orders of xor: which two of several words are taken first.
 use Rattle.std.proofs.Common.{◌≡◌, ℕ, ◌+◌, ◌*◌, ◌^◌, ◌<◌, ap, ◌∙◌, sym, arith, lit<}
 use Rattle.std.proofs.Math.Nat.{mul_comm}
 use Rattle.std.proofs.lemmas.Nat.{and_comm, and_assoc, and-not}
 use Rattle.std.specs.Prelude.{bit_xor, bit_and}
 use Rattle.std.specs.Int.Bits.{xor_assoc, xor_comm, xor_self, xor_zero_l, xor_disjoint}
 
--- a word meets a low half first, and then the word that the half belongs to
+-- a word is xored with a low half first, and then with the word that the half belongs to
 pub xor_late : (w low e : ℕ) → bit_xor (bit_xor w low) e ≡ bit_xor w (bit_xor e low)
 xor_late w low e = xor_assoc w low e ∙ ap (bit_xor w) (xor_comm low e)
 

@@ -48,7 +48,7 @@ impl<const V: u8> Hasher for KomiHasher<V> {
 
     ghost finish = { λ s. s };
 
-    /// Returns the number. The hasher stays as it is, and takes further writes.
+    /// Returns the number. The hasher is unchanged, and takes further writes.
     #[inline]
     fn finish(&self) -> u64 {
         self.number

@@ -51,8 +51,8 @@ pub trait KomiStream: Sized + Drop {
         ensures kept { tally.new.kept ≡ tally.old.kept
             + kept_bytes (length (state self.old).pending) (length bytes.now) };
 
-    /// Returns the hash of all bytes so far. The stream stays as it is. Counts two
-    /// products, and one for each 16 pending bytes.
+    /// Returns the hash of all bytes so far. The stream is unchanged. Counts two products, and one
+    /// for each 16 pending bytes.
     fn answer(&self, tally: &mut Tally) -> u64
         ensures answer { result ≡ answer VERSION (state self.now) }
         ensures hash { (seed : ℕ) (m : List ℕ) → HasAbsorbed VERSION seed (state self.now) m
@@ -63,8 +63,7 @@ pub trait KomiStream: Sized + Drop {
 
     /// Writes the saved text of the stream to the front of `out`. Returns its length in bytes.
     ///
-    /// `out` needs room for `LONGEST_TEXT` bytes, whatever is pending. What is after the text stays
-    /// as it is.
+    /// `out` needs room for `LONGEST_TEXT` bytes, whatever is pending. The rest of `out` is unchanged.
     fn store(&self, out: &mut [u8]) -> usize
         requires { LONGEST_TEXT ≤ length out.old }
         ensures length { result ≡ length (text VERSION (state self.now)) }
@@ -104,9 +103,9 @@ pub enum Call<'a> {
 /// Makes calls on a stream, in order, writes the answers to the front of `out`, and returns how
 /// many there are. Counts what the calls cost.
 ///
-/// `out` needs room for one `u64` for each call. Its words after the answers stay as they are. The
-/// stream has then absorbed all bytes of the calls. If it was the stream of a seed after a message,
-/// each answer is the hash of that message and of the bytes since, joined.
+/// `out` needs room for one `u64` for each call. The rest of `out` is unchanged. Afterwards
+/// the stream has absorbed all bytes of the calls. If it had absorbed a message from a seed before,
+/// each answer is the hash of that message and the bytes since, joined.
 pub fn run_on<S: KomiStream>(
     stream: &mut S,
     calls: &[Call<'_>],
@@ -144,8 +143,8 @@ pub fn run_on<S: KomiStream>(
 /// Makes calls on a new stream of a seed, in order, writes the answers to the front of `out`, and
 /// returns how many there are. Counts what the new stream and the calls cost.
 ///
-/// `out` needs room for one `u64` for each call. Its words after the answers stay as they are. Each
-/// answer is the hash of all bytes that the calls before it absorb, joined.
+/// `out` needs room for one `u64` for each call. The rest of `out` is unchanged. Each answer
+/// is the hash of all bytes that the calls before it absorb, joined.
 pub fn run<S: KomiStream>(
     seed: u64,
     calls: &[Call<'_>],

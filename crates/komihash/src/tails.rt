@@ -27,7 +27,7 @@ fn hash_below_two<W: Words>(pair: Pair, left: &W, at: usize, last: u64, tally: &
 }
 
 // Returns the pair after a round on the two words from index `at`. The remaining words hash the
-// same from it.
+// same from it. This is stated and proved here once, for three calls.
 #[inline(always)]
 #[tactic(auto, using(crate::proofs::HashSteps::hash_from_pair_two))]
 fn take_two<W: Words>(pair: Pair, left: &W, at: usize, tally: &mut Tally) -> Pair

@@ -124,7 +124,8 @@ pub(crate) trait Words {
         ensures { result ≡ slice_index (words self.now) at };
 }
 
-/// The whole words of a message's bytes.
+/// The whole words of a message's bytes. The impl is for the reference, since no type parameter can
+/// stand for `[u8]`. So callers pass a `&&[u8]`.
 impl Words for &[u8] {
     ghost words = { λ bytes. whole_words bytes.now };
 

@@ -2,6 +2,7 @@
 
 ghost use Rattle.std.specs.Prelude.{◌≡◌, ◌<◌, ◌≤◌, length};
 ghost use Rattle.komihash.specs.Padding.{has_top_bit, padding_after};
+ghost use Rattle.komihash.specs.Stream.{end_after_blocks};
 ghost use Rattle.komihash.specs.Tails.{end_byte, final_word};
 
 use crate::utils::{read_partial_word, word_at};
@@ -20,6 +21,15 @@ pub(crate) fn padding_after(top_bit: bool) -> u64
     ensures { result ≡ padding_after top_bit }
 {
     1 + u64::from(top_bit)
+}
+
+/// Returns the byte that ends a stream with no pending bytes: the padding byte of its last block, or
+/// 0 if no block was absorbed.
+#[inline(always)]
+pub(crate) fn end_after_blocks(absorbed: bool, top_bit: bool) -> u64
+    ensures { result ≡ end_after_blocks absorbed top_bit }
+{
+    if absorbed { padding_after(top_bit) } else { 0 }
 }
 
 /// Returns the byte that ends a message: its padding byte, or 0 if the message is empty.

@@ -76,7 +76,7 @@ fn message_length<const V: u8>(words: &[u64]) -> Option<usize>
 }
 
 /// Writes the message whose padded words in version V these are to the front of `out`, and returns
-/// its length in bytes. Returns `None`, and leaves `out` as it was, if no message has these words.
+/// its length in bytes. Returns `None`, with `out` unchanged, if no message has these words.
 #[inline(always)]
 pub(crate) fn unpad<const V: u8>(words: &[u64], out: &mut [u8]) -> Option<usize>
     requires { 8 * length words.now ≤ length out.old }

@@ -114,7 +114,7 @@ impl Pending {
         self.words[self.fill / 8] | end << (8 * (self.fill % 8))
     }
 
-    /// Writes the bytes to the front of `out`, and leaves the bytes after them as they are.
+    /// Writes the bytes to the front of `out`, whose rest is unchanged.
     #[inline(always)]
     pub(crate) fn write_to(&self, out: &mut [u8])
         requires { length self.now ≤ length out.old }

@@ -7,11 +7,10 @@ ghost use Rattle.komihash.specs.Halves.{state_in};
 ghost use Rattle.komihash.specs.Hash.{komi};
 ghost use Rattle.komihash.specs.Saved.{text, IsText, IsTextAfter};
 ghost use Rattle.komihash.specs.Stream.{State, IsState, HasAbsorbed, start, absorb, answer};
-ghost use Rattle.komihash.specs.Tails.{tail_end};
 
 use super::saved::{is_text, read_lanes, read_pending, write_head, write_lanes, write_pending};
 use super::{KomiStream, LONGEST_TEXT};
-use crate::padding::final_word::{has_top_bit, padding_after};
+use crate::padding::final_word::{end_after_blocks, has_top_bit, padding_after};
 use crate::rounds::pending::Pending;
 use crate::rounds::{close_one, join, lanes, seed_pair};
 use crate::tails::hash_below_eight;
@@ -46,21 +45,6 @@ impl<const V: u8> Model for StreamedKomihash<V> {
       state = state_in s.lanes s.pending s.absorbed s.top_bit;
       is_state = s.is_state;
     } };
-}
-
-// Returns the byte that ends the message so far: its padding byte, or 0 if it is empty.
-#[inline(always)]
-fn tail_end<const V: u8>(pending: &Pending, absorbed: bool, top_bit: bool) -> u64
-    ensures byte { result ≡ tail_end V pending.now absorbed top_bit }
-    ensures small { result < 4 }
-{
-    if pending.len() > 0 {
-        padding_after(has_top_bit::<V>(pending.last_byte()))
-    } else if absorbed {
-        padding_after(top_bit)
-    } else {
-        0
-    }
 }
 
 impl<const V: u8> StreamedKomihash<V> {
@@ -132,7 +116,7 @@ impl<const V: u8> StreamedKomihash<V> {
         }
     }
 
-    /// Returns the hash of all bytes so far. The stream stays as it is, and may absorb more.
+    /// Returns the hash of all bytes so far. The stream is unchanged, and may absorb more.
     #[inline]
     pub fn finish(&self) -> u64
         ensures answer { result ≡ answer V self.now.state }
@@ -153,10 +137,11 @@ impl<const V: u8> StreamedKomihash<V> {
         ensures kept { tally.new.kept ≡ tally.old.kept }
     {
         let pair = join(&self.lanes, self.absorbed);
-        let end = tail_end::<V>(&self.pending, self.absorbed, self.top_bit);
         if self.pending.len() == 0 {
+            let end = end_after_blocks(self.absorbed, self.top_bit);
             return close_one(pair, end, tally);
         }
+        let end = padding_after(has_top_bit::<V>(self.pending.last_byte()));
         let word = self.pending.final_word(end);
         hash_below_eight(pair, &self.pending, word, tally)
     }
@@ -164,8 +149,8 @@ impl<const V: u8> StreamedKomihash<V> {
     /// Writes the saved text of the stream to the front of `out`, and returns its length in bytes:
     /// 68, and one for each pending byte.
     ///
-    /// `out` needs room for `LONGEST_TEXT` bytes, whatever is pending. What is after the text stays
-    /// as it is. `resume` makes the same stream from the text, also in another process.
+    /// `out` needs room for `LONGEST_TEXT` bytes, whatever is pending. The rest of `out` is
+    /// unchanged. `resume` makes the same stream from the text, also in another process.
     #[inline(always)]
     pub fn save(&self, out: &mut [u8]) -> usize
         requires { LONGEST_TEXT ≤ length out.old }

@@ -4,8 +4,9 @@ use Rattle.komihash.specs.Halves.{lanes_in, state_in}
 use Rattle.komihash.specs.Hash.{hash_from_pair}
 use Rattle.komihash.specs.Rounds.{join, closing}
 use Rattle.komihash.specs.Stream.{StateOf, answer}
-use Rattle.komihash.specs.Tails.{whole_words, final_word, tail_end}
-use Rattle.komihash.proofs.StreamAnswers.{answer-by_pair, answer-none}
+use Rattle.komihash.specs.Padding.{has_top_bit, padding_after}
+use Rattle.komihash.specs.Tails.{whole_words, final_word}
+use Rattle.komihash.proofs.StreamAnswers.{answer-by_pair, answer-none, tail_end-pending}
 use Rattle.komihash.proofs.StreamSteps.{komi-answer}
 use Rattle.komihash.proofs.WholeWords.{length-whole_words}
 use Rattle.komihash.proofs.stream.streamed.StreamedKomihash.answer_counted.Goals as goal
@@ -14,11 +15,9 @@ pub returns-then-len-eq0-clause-answer : goal.returns-then-len-eq0-clause-answer
 returns-then-len-eq0-clause-answer g c =
     let s = c.self.inside in
     let none = nil_from_length s.pending (omega arith) in
-    let end =
-    c.tail_end-end.ensures.byte ∙ ap (λ m. tail_end g.row.V m s.absorbed s.top_bit) none in
     c.close_one.ensures.hash
-    ∙ ap (λ p. closing p (c.tail_end-end.result ∷ [])) c.join-pair.ensures
-    ∙ ap (λ b. closing (join s.absorbed (lanes_in s.lanes)) (b ∷ [])) end
+    ∙ ap (λ p. closing p (c.end_after_blocks-end.result ∷ [])) c.join-pair.ensures
+    ∙ ap (λ b. closing (join s.absorbed (lanes_in s.lanes)) (b ∷ [])) c.end_after_blocks-end.ensures
     ∙ sym (answer-none g.row.V (state_in s.lanes s.pending s.absorbed s.top_bit) none)
     ∙ ap (λ (t : StateOf g.row.V). answer g.row.V t.state) c.self.view_is
 
@@ -37,7 +36,10 @@ returns-clause-products g c =
 pub returns-clause-answer : goal.returns-clause-answer
 returns-clause-answer g c =
     let s = c.self.inside in
-    let word = c.final_word-word.ensures ∙ ap (final_word s.pending) c.tail_end-end.ensures.byte in
+    let end =
+    c.padding_after-end.ensures ∙ ap padding_after (c.has_top_bit.ensures ∙ ap (has_top_bit g.row.V) c.last_byte.ensures)
+    ∙ sym (tail_end-pending g.row.V s.pending s.absorbed s.top_bit (omega arith)) in
+    let word = c.final_word-word.ensures ∙ ap (final_word s.pending) end in
     c.hash_below_eight.ensures.hash
     ∙ ap (λ p. hash_from_pair p (whole_words s.pending ++ c.final_word-word.result ∷ []))
     c.join-pair.ensures
