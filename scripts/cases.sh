@@ -93,4 +93,4 @@ message() { seq 1 1000000 | head -c "$1"; }
 # Print what is expected of a line, of a fault, and of a fault after part of the line.
 line() { printf 'status 0\noutput %s\n.|\nerrors .|\n' "$1"; }
 fault() { printf 'status %s\noutput .|\nerrors komisum: %s\n.|\n' "$1" "$2"; }
-begun() { printf 'status 1\noutput %s.|\nerrors komisum: write failed\n.|\n' "$1"; }
+partial() { printf 'status 1\noutput %s.|\nerrors komisum: write failed\n.|\n' "$1"; }

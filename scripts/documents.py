@@ -13,7 +13,7 @@ Each edit of scripts/planted/documents/RULE/ is found by that rule alone. The la
 import re
 import sys
 
-from checks import SCRIPTS, cases_of, report, texts_of
+from cases import SCRIPTS, cases_of, report, texts_of
 
 FILES = ("*.md", "docs/*.md", "scripts/**/*", "crates/*/[smp]*/**/*", "c/*")
 KOMISUM = "crates/komisum/"

@@ -38,7 +38,7 @@ for bytes in {0..17}; do
     (trap '' XFSZ; ulimit -f 1; "$program" < stdin >> "$room/full" 2> "$room/errors")
     status=$?
     tail -c "+$((1025 - bytes))" "$room/full" > "$room/output"
-    wanted=$(if [ "$bytes" = 17 ]; then line "$whole"; else begun "${whole::bytes}"; fi)
+    wanted=$(if [ "$bytes" = 17 ]; then line "$whole"; else partial "${whole::bytes}"; fi)
     note "output file with room for $bytes bytes" "$wanted" "$(told $status)"
 done
 

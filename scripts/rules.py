@@ -26,7 +26,7 @@ from collections import Counter
 from functools import cached_property, lru_cache
 from graphlib import CycleError, TopologicalSorter
 
-from checks import SCRIPTS, cases_of, report, texts_of
+from cases import SCRIPTS, cases_of, report, texts_of
 
 # What is refused anywhere in a source: what could call a function by another name, or hide code from this script.
 REFUSED = {

@@ -5,7 +5,6 @@ pub mod BytesOfWords
 pub mod CallLists
 mod Facts
 pub mod GeneratorFills
-pub mod Halves
 pub mod HashSteps
 pub mod LaneWords
 pub mod LawLemmas

@@ -5,7 +5,6 @@ use Rattle.std.proofs.lemmas.List.{append-nil, length-append, length-drop, lengt
 use Rattle.std.proofs.lemmas.Slice.{take-put_mid, drop-put_mid}
 use borrow.Rule.Slice.PartMut.{put_mid}
 use Rattle.std.specs.Prelude.{slice_index, ◌==◌}
-use Rattle.komihash.specs.Halves.{lanes_in, state_in}
 use Rattle.komihash.specs.Rounds.{Lanes}
 use Rattle.komihash.specs.Saved.{flag_byte, in_order, text, IsText, IsTextAfter}
 use Rattle.komihash.specs.Stream.{AreWords, State, IsState}
@@ -188,10 +187,7 @@ IsLaidOut-text v bytes are = (
 )
 
 -- what is read from a text is its state
-pub read_back : (v : ℕ) (bytes halves : List ℕ) (s : State) → IsState v s → text v s ≡ bytes
-    → in_order (lanes_in halves) ≡ whole_words (take 64 (drop 4 bytes))
-    → state_in halves (drop 68 bytes) (slice_index bytes 1 == 1) (slice_index bytes 2 == 1) ≡ s
-read_back v bytes halves s is same lanes =
-    let read : lanes_in halves ≡ lanes_of (whole_words (take 64 (drop 4 bytes))) = ap lanes_of lanes in
-    let shown : state_in halves (drop 68 bytes) (slice_index bytes 1 == 1) (slice_index bytes 2 == 1) ≡ state_of bytes = cc in
-    shown ∙ ap state_of (sym same) ∙ state_of-text v s is.words
+pub read_back : (v : ℕ) (bytes : List ℕ) (lanes : Lanes) (s : State) → IsState v s → text v s ≡ bytes
+    → in_order lanes ≡ whole_words (take 64 (drop 4 bytes)) → record (state_of bytes) { lanes = lanes } ≡ s
+read_back v bytes lanes s is same read =
+    ap (λ ws. record (state_of bytes) { lanes = lanes_of ws }) read ∙ ap state_of (sym same) ∙ state_of-text v s is.words

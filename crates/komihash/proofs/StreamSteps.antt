@@ -4,9 +4,9 @@ use Rattle.std.proofs.lemmas.Bool.{false≢true}
 use Rattle.std.proofs.lemmas.Bool.Decides.{nat_tests}
 use Rattle.std.proofs.lemmas.List.{length-append, get_or-append-add}
 use Rattle.std.specs.Prelude.{slice_index}
-use Rattle.komihash.specs.Halves.{lanes_in, state_in}
 use Rattle.komihash.specs.Hash.{komi}
 use Rattle.komihash.specs.Padding.{has_top_bit}
+use Rattle.komihash.specs.Rounds.{Lanes}
 use Rattle.komihash.specs.Stream.{State, IsState, HasAbsorbed, start, answer}
 use Rattle.komihash.specs.Tails.{whole_words, after_blocks, block_lanes}
 use Rattle.komihash.specs.Words.{AreBytes}
@@ -70,14 +70,14 @@ last_of_block xs ys left few many is =
     sym (get_or-append-add xs ys (length ys - left - 1) 0) ∙ ap (slice_index (xs ++ ys)) k
 
 -- the state after a write that fills a block, by the clauses of `Pending::append_and_absorb`
-pub after_write : (v : ℕ) (s : State) (bytes halves left : List ℕ) (top_bit : Bool)
-    → length s.pending < 64 → 64 ≤ length s.pending + length bytes
-    → lanes_in halves ≡ block_lanes v s.lanes (whole_words (s.pending ++ bytes))
-    → left ≡ after_blocks (s.pending ++ bytes)
+pub after_write : (v : ℕ) (l : Lanes) (xs bytes : List ℕ) (lanes : Lanes) (left : List ℕ) (top_bit : Bool)
+    → length xs < 64 → 64 ≤ length xs + length bytes
+    → lanes ≡ block_lanes v l (whole_words (xs ++ bytes))
+    → left ≡ after_blocks (xs ++ bytes)
     → top_bit ≡ has_top_bit v (slice_index bytes (length bytes - length left - 1))
-    → state_in halves left true top_bit ≡ blocks_state v s.lanes (s.pending ++ bytes)
-after_write v s bytes halves left top_bit few many lanes is top =
-    let last = last_of_block s.pending bytes (length left) few many (ap length is) in
+    → record { lanes = lanes; pending = left; absorbed = true; top_bit = top_bit } ≡ blocks_state v l (xs ++ bytes)
+after_write v l xs bytes lanes left top_bit few many after is top =
+    let last = last_of_block xs bytes (length left) few many (ap length is) in
     cc
 
 pub komi-answer : (v seed : ℕ) (m : List ℕ) (s : State) → HasAbsorbed v seed s m → komi v seed m ≡ answer v s

@@ -6,7 +6,7 @@ ghost use Rattle.komihash.specs.Hash.{komi};
 
 use crate::padding::final_word::{end_byte, final_word_of_blocks, final_word_of_many};
 use crate::rounds::blocks::absorb_blocks;
-use crate::rounds::{close_one, close_two, join, lanes, seed_pair};
+use crate::rounds::{close_one, close_two, join, lanes_of, seed_pair};
 use crate::tails::hash_below_eight;
 use crate::tally::Tally;
 use crate::utils::{read_partial_word, read_word};
@@ -22,7 +22,7 @@ fn hash_of_blocks<const V: u8>(bytes: &[u8], seed: u64, tally: &mut Tally) -> u6
 {
     let pair = seed_pair(seed, tally);
     let last = final_word_of_blocks(bytes, end_byte::<V>(bytes));
-    let mut lanes = lanes(pair);
+    let mut lanes = lanes_of(pair);
     let rest = absorb_blocks::<V>(&mut lanes, bytes, tally);
     hash_below_eight(join(&lanes, true), &rest, last, tally)
 }

@@ -4,7 +4,7 @@
 //! passed.
 
 ghost use Rattle.std.specs.Prelude.{◌≡◌, ℕ, ◌+◌, ◌*◌, ◌<◌, List, [], ◌∷◌, true, All};
-ghost use Rattle.komihash.specs.Halves.{pair_of, lanes_in};
+ghost use Rattle.komihash.specs.Halves.{pair_of};
 ghost use Rattle.komihash.specs.Rounds.{low, high, plus, seed_words, mix, seed_pair, lanes, places};
 ghost use Rattle.komihash.specs.Rounds.{block_round_by, join, pair_round, mix_again, closing};
 
@@ -13,6 +13,7 @@ pub(crate) mod pending;
 
 use crate::tally::Tally;
 use crate::utils::multiply128;
+use std::marker::Model;
 
 // The hash's eight constants: the first 512 bits of the fractional part of π.
 const C1: u64 = 0x243f_6a88_85a3_08d3;
@@ -34,6 +35,35 @@ const C8: u64 = 0x3f84_d5b5_b547_0917;
 /// A pair (a, e) as the code stores it: the low half of the last product, and the word e. The
 /// pair's a is their xor, which is computed only when a factor needs it.
 pub(crate) type Pair = (u64, u64);
+
+/// The eight lanes as the code stores them: one pair for each product of a block, as its `mix` makes
+/// it. s5 to s8 are the words e of the four pairs. s1 to s4 are their low halves, each xor the word e
+/// of the pair before it. The fourth pair stands first, since it is the one before the first.
+#[derive(Drop)]
+pub(crate) struct Lanes {
+    pub(crate) fourth: Pair,
+    pub(crate) first: Pair,
+    pub(crate) second: Pair,
+    pub(crate) third: Pair,
+}
+
+impl Model for Lanes {
+    ghost use Rattle.std.specs.Prelude.{bit_xor};
+    ghost use Rattle.komihash.specs.Rounds.{Lanes};
+
+    ghost Value = { Lanes };
+
+    ghost view = { λ l. record {
+      s1 = bit_xor l.fourth.1 l.first.0;
+      s2 = bit_xor l.first.1 l.second.0;
+      s3 = bit_xor l.second.1 l.third.0;
+      s4 = bit_xor l.third.1 l.fourth.0;
+      s5 = l.first.1;
+      s6 = l.second.1;
+      s7 = l.third.1;
+      s8 = l.fourth.1;
+    } };
+}
 
 /// Mixes the product of `x` and `y` into the word `e`, and returns the pair.
 #[inline(always)]
@@ -71,23 +101,18 @@ pub(crate) fn seed_pair(seed: u64, tally: &mut Tally) -> Pair
     mix(a, e, e, tally)
 }
 
-/// Returns the lanes of a pair, stored as s8, s8^s1, s5, s5^s2, s6, s6^s3, s7, s7^s4.
+/// Returns the lanes of a pair.
 #[inline(always)]
-#[tactic(auto, using(crate::proofs::Halves::lanes_in_lanes))]
-pub(crate) fn lanes(pair: Pair) -> [u64; 8]
-    ensures { lanes_in result ≡ lanes (pair_of pair) }
+pub(crate) fn lanes_of(pair: Pair) -> Lanes
+    ensures { result ≡ lanes (pair_of pair) }
 {
     let (low, e) = pair;
-    [
-        C8 ^ e,
-        C8 ^ low,
-        e,
-        C2 ^ low,
-        C6 ^ e,
-        (C3 ^ C6) ^ low,
-        C7 ^ e,
-        (C4 ^ C7) ^ low,
-    ]
+    Lanes {
+        first: (C8 ^ low, e),
+        second: (C2 ^ low, C6 ^ e),
+        third: ((C3 ^ C6) ^ low, C7 ^ e),
+        fourth: ((C4 ^ C7) ^ low, C8 ^ e),
+    }
 }
 
 /// Returns which words of a block are multiplied: two indices for each of its four products.
@@ -105,18 +130,20 @@ pub(crate) fn places<const V: u8>() -> [usize; 8]
 
 /// Absorbs a block of eight words, multiplied as the table `places` says.
 #[inline(always)]
+#[tactic(auto, unfolding(crate::specs::Rounds::block_round_by), using(crate::proofs::Xor::product))]
 pub(crate) fn block_round(
-    lanes: &mut [u64; 8],
+    lanes: &mut Lanes,
     words: &[u64; 8],
     places: [usize; 8],
     tally: &mut Tally,
 )
     requires { All (λ place. place < 8) places }
-    ensures lanes { lanes_in lanes.new ≡ block_round_by places (lanes_in lanes.old) words.now }
+    ensures lanes { lanes.new ≡ block_round_by places lanes.old words.now }
     ensures products { tally.new.products ≡ tally.old.products + 4 }
     ensures kept { tally.new.kept ≡ tally.old.kept }
 {
-    let [e4, low1, e1, low2, e2, low3, e3, low4] = *lanes;
+    let ((low1, e1), (low2, e2)) = (lanes.first, lanes.second);
+    let ((low3, e3), (low4, e4)) = (lanes.third, lanes.fourth);
     let [p0, p1, p2, p3, p4, p5, p6, p7] = places;
     // These factors are made before the first product, so that no word e is needed after its own
     // sum. Each takes the low half first, which is ready before the raised word that it belongs to.
@@ -129,19 +156,36 @@ pub(crate) fn block_round(
     let third = mix(words[p5] ^ e3, x3, e3, tally);
     let first = mix(words[p1] ^ e1, x1, e1, tally);
     let fourth = mix(words[p7] ^ e4, x4, e4, tally);
-    *lanes = [
-        fourth.1, first.0, first.1, second.0, second.1, third.0, third.1, fourth.0,
-    ];
+    *lanes = Lanes {
+        first,
+        second,
+        third,
+        fourth,
+    };
+}
+
+/// Returns a copy of the lanes.
+#[inline(always)]
+pub(crate) fn copied(lanes: &Lanes) -> Lanes
+    ensures { result ≡ lanes.now }
+{
+    Lanes {
+        first: lanes.first,
+        second: lanes.second,
+        third: lanes.third,
+        fourth: lanes.fourth,
+    }
 }
 
 /// Returns the pair of the lanes: all of them joined if a block was absorbed, otherwise the pair
 /// that they were made of.
 #[inline(always)]
-#[tactic(auto, using(crate::proofs::Halves::joined))]
-pub(crate) fn join(lanes: &[u64; 8], absorbed: bool) -> Pair
-    ensures { pair_of result ≡ join absorbed (lanes_in lanes.now) }
+#[tactic(auto, using(crate::proofs::Xor::joined))]
+pub(crate) fn join(lanes: &Lanes, absorbed: bool) -> Pair
+    ensures { pair_of result ≡ join absorbed lanes.now }
 {
-    let [e4, low1, e1, low2, e2, low3, e3, low4] = *lanes;
+    let ((low1, e1), (low2, e2)) = (lanes.first, lanes.second);
+    let ((low3, e3), (low4, e4)) = (lanes.third, lanes.fourth);
     if absorbed {
         (low1 ^ low2 ^ low3 ^ low4, e1 ^ e2 ^ e3 ^ e4)
     } else {

@@ -1,11 +1,10 @@
 //! Whole blocks of a message, absorbed where they lie.
 
 ghost use Rattle.std.specs.Prelude.{◌≡◌, ◌+◌, ◌*◌, ◌/◌, ◌%◌, ◌≤◌, length, take, drop};
-ghost use Rattle.komihash.specs.Halves.{lanes_in};
 ghost use Rattle.komihash.specs.Rounds.{block_round};
 ghost use Rattle.komihash.specs.Tails.{whole_words, block_lanes, after_blocks};
 
-use super::{block_round, places};
+use super::{Lanes, block_round, places};
 use crate::tally::Tally;
 use crate::utils::word_at;
 
@@ -29,16 +28,12 @@ fn block_words(block: &[u8; 64]) -> [u64; 8]
 // Absorbs the first block, and returns the rest. Absorbing that gives the same lanes and the same
 // remainder as absorbing all of `bytes` at first.
 #[inline(always)]
-fn absorb_block<'a, const V: u8>(
-    lanes: &mut [u64; 8],
-    bytes: &'a [u8],
-    tally: &mut Tally,
-) -> &'a [u8]
+fn absorb_block<'a, const V: u8>(lanes: &mut Lanes, bytes: &'a [u8], tally: &mut Tally) -> &'a [u8]
     requires { 64 ≤ length bytes.now }
     ensures length { length result.now + 64 ≡ length bytes.now }
     ensures left { after_blocks result.now ≡ after_blocks bytes.now }
-    ensures lanes { block_lanes V (lanes_in lanes.new) (whole_words result.now)
-        ≡ block_lanes V (lanes_in lanes.old) (whole_words bytes.now) }
+    ensures lanes { block_lanes V lanes.new (whole_words result.now)
+        ≡ block_lanes V lanes.old (whole_words bytes.now) }
     ensures products { tally.new.products ≡ tally.old.products + 4 }
     ensures kept { tally.new.kept ≡ tally.old.kept }
 {
@@ -55,14 +50,13 @@ fn absorb_block<'a, const V: u8>(
 /// The loop absorbs two blocks a turn. If their number is odd, one goes first.
 #[inline(always)]
 pub(crate) fn absorb_blocks<'a, const V: u8>(
-    lanes: &mut [u64; 8],
+    lanes: &mut Lanes,
     bytes: &'a [u8],
     tally: &mut Tally,
 ) -> &'a [u8]
     ensures left { result.now ≡ after_blocks bytes.now }
     ensures length { length result.now ≡ length bytes.now % 64 }
-    ensures lanes { lanes_in lanes.new
-        ≡ block_lanes V (lanes_in lanes.old) (whole_words bytes.now) }
+    ensures lanes { lanes.new ≡ block_lanes V lanes.old (whole_words bytes.now) }
     ensures products { tally.new.products ≡ tally.old.products + 4 * (length bytes.now / 64) }
     ensures kept { tally.new.kept ≡ tally.old.kept }
 {

@@ -5,13 +5,13 @@
 ghost use Rattle.std.specs.Prelude.{◌≡◌, ◌+◌, ◌-◌, ◌<◌, ◌≤◌, [], ◌++◌};
 ghost use Rattle.std.specs.Prelude.{length, take, drop, slice_index};
 ghost use Rattle.komihash.specs.Counts.{write_products, kept_bytes};
-ghost use Rattle.komihash.specs.Halves.{lanes_in};
 ghost use Rattle.komihash.specs.Tails.{whole_words, final_word, block_lanes, after_blocks};
 ghost use Rattle.komihash.specs.Padding.{has_top_bit};
 
 mod blocks;
 mod writer;
 
+use super::Lanes;
 use crate::padding::final_word::has_top_bit;
 use crate::tally::Tally;
 use crate::utils::Words;
@@ -85,13 +85,12 @@ impl Pending {
     #[inline(always)]
     pub(crate) fn append_and_absorb<const V: u8>(
         &mut self,
-        lanes: &mut [u64; 8],
+        lanes: &mut Lanes,
         bytes: &[u8],
         tally: &mut Tally,
     ) -> bool
         requires { 64 ≤ length self.old + length bytes.now }
-        ensures lanes { lanes_in lanes.new
-            ≡ block_lanes V (lanes_in lanes.old) (whole_words (self.old ++ bytes.now)) }
+        ensures lanes { lanes.new ≡ block_lanes V lanes.old (whole_words (self.old ++ bytes.now)) }
         ensures bytes { self.new ≡ after_blocks (self.old ++ bytes.now) }
         ensures top_bit { result
             ≡ has_top_bit V (slice_index bytes.now (length bytes.now - length self.new - 1)) }

@@ -3,12 +3,12 @@
 
 ghost use Rattle.std.specs.Prelude.{◌≡◌, ◌+◌, ◌<◌, ◌≤◌, ◌↔◌, ℕ, IsTrue};
 ghost use Rattle.std.specs.Prelude.{[], ◌∷◌, ◌++◌, length, take, drop};
-ghost use Rattle.komihash.specs.Halves.{lanes_in};
 ghost use Rattle.komihash.specs.Saved.{flag_byte, in_order, IsText};
 ghost use Rattle.komihash.specs.Tails.{whole_words};
 ghost use Rattle.komihash.specs.Words.{all_bytes};
 
 use super::LONGEST_TEXT;
+use crate::rounds::Lanes;
 use crate::rounds::pending::Pending;
 use crate::tally::Tally;
 use crate::utils::copies::{write_bytes, write_words};
@@ -35,31 +35,37 @@ pub(crate) fn write_head<const V: u8>(absorbed: bool, top_bit: bool, fill: usize
     out[3] = fill as u8;
 }
 
-// Returns the lanes in their order, from the halves that a stream keeps.
+// Returns the lanes in their order.
 #[inline(always)]
-fn in_order(lanes: &[u64; 8]) -> [u64; 8]
-    ensures { result ≡ in_order (lanes_in lanes.now) }
+fn in_order(lanes: &Lanes) -> [u64; 8]
+    ensures { result ≡ in_order lanes.now }
 {
-    let [s8, low1, s5, low2, s6, low3, s7, low4] = *lanes;
-    [s8 ^ low1, s5 ^ low2, s6 ^ low3, s7 ^ low4, s5, s6, s7, s8]
+    let ((low1, e1), (low2, e2)) = (lanes.first, lanes.second);
+    let ((low3, e3), (low4, e4)) = (lanes.third, lanes.fourth);
+    [e4 ^ low1, e1 ^ low2, e2 ^ low3, e3 ^ low4, e1, e2, e3, e4]
 }
 
-// Returns the halves that a stream keeps, from the lanes in their order.
+// Returns the lanes from their words in order.
 #[inline(always)]
 #[tactic(auto, using(crate::proofs::SavedTexts::lanes_back))]
-fn halves(lanes: &[u64; 8]) -> [u64; 8]
-    ensures { in_order (lanes_in result) ≡ lanes.now }
+fn from_order(lanes: &[u64; 8]) -> Lanes
+    ensures { in_order result ≡ lanes.now }
 {
     let [s1, s2, s3, s4, s5, s6, s7, s8] = *lanes;
-    [s8, s8 ^ s1, s5, s5 ^ s2, s6, s6 ^ s3, s7, s7 ^ s4]
+    Lanes {
+        first: (s8 ^ s1, s5),
+        second: (s5 ^ s2, s6),
+        third: (s6 ^ s3, s7),
+        fourth: (s7 ^ s4, s8),
+    }
 }
 
 /// Writes the lanes after the first four bytes.
 #[inline(always)]
-pub(crate) fn write_lanes(lanes: &[u64; 8], out: &mut [u8])
+pub(crate) fn write_lanes(lanes: &Lanes, out: &mut [u8])
     requires { PENDING_AT ≤ length out.old }
     ensures lanes { take PENDING_AT out.new
-        ≡ take LANES_AT out.old ++ all_bytes (in_order (lanes_in lanes.now)) }
+        ≡ take LANES_AT out.old ++ all_bytes (in_order lanes.now) }
     ensures after { (n : ℕ) → PENDING_AT ≤ n → drop n out.new ≡ drop n out.old }
 {
     write_bytes(&in_order(lanes), 64, &mut out[LANES_AT..PENDING_AT]);
@@ -94,16 +100,16 @@ pub(crate) fn is_text<const V: u8>(bytes: &[u8]) -> bool
         && bytes.len() == PENDING_AT + usize::from(bytes[3])
 }
 
-/// Returns the lanes of a text, as the halves that a stream keeps.
+/// Returns the lanes of a text.
 #[inline(always)]
 #[tactic(auto, using(crate::proofs::SavedTexts::cuts))]
-pub(crate) fn read_lanes(bytes: &[u8]) -> [u64; 8]
+pub(crate) fn read_lanes(bytes: &[u8]) -> Lanes
     requires { PENDING_AT ≤ length bytes.now }
-    ensures { in_order (lanes_in result) ≡ whole_words (take 64 (drop LANES_AT bytes.now)) }
+    ensures { in_order result ≡ whole_words (take 64 (drop LANES_AT bytes.now)) }
 {
     let mut lanes = [0; 8];
     write_words(&bytes[LANES_AT..PENDING_AT], &mut lanes);
-    halves(&lanes)
+    from_order(&lanes)
 }
 
 /// Returns the pending bytes of a text.

@@ -3,7 +3,6 @@
 ghost use Rattle.std.specs.Prelude.{◌≡◌, ◌+◌, ◌<◌, ◌≤◌, ◌↔◌, ℕ, IfSome, IsSomeAnd, IsNone};
 ghost use Rattle.std.specs.Prelude.{List, [], ◌++◌, length, take, drop};
 ghost use Rattle.komihash.specs.Counts.{write_products, answer_products, kept_bytes};
-ghost use Rattle.komihash.specs.Halves.{state_in};
 ghost use Rattle.komihash.specs.Hash.{komi};
 ghost use Rattle.komihash.specs.Saved.{text, IsText, IsTextAfter};
 ghost use Rattle.komihash.specs.Stream.{State, IsState, HasAbsorbed, start, absorb, answer};
@@ -12,7 +11,7 @@ use super::saved::{is_text, read_lanes, read_pending, write_head, write_lanes, w
 use super::{KomiStream, LONGEST_TEXT};
 use crate::padding::final_word::{end_after_blocks, has_top_bit, padding_after};
 use crate::rounds::pending::Pending;
-use crate::rounds::{close_one, join, lanes, seed_pair};
+use crate::rounds::{Lanes, close_one, join, lanes_of, seed_pair};
 use crate::tails::hash_below_eight;
 use crate::tally::Tally;
 use crate::version::{IsVersion, Versions};
@@ -23,26 +22,36 @@ use std::marker::Model;
 ///
 /// The hash is that of `komihash`, however the bytes are cut. There is no limit to their number.
 /// Pieces of a multiple of 64 bytes are best: as long as all are, none is copied. Otherwise a write
-/// copies into the stream the bytes that complete a partial block, and those that begin the next one: at most 63 of each.
+/// copies into the stream the bytes that complete a partial block, and those that begin the next one:
+/// at most 63 of each.
 #[derive(Drop)]
 pub struct StreamedKomihash<const V: u8> {
-    lanes: [u64; 8],
+    lanes: Lanes,
     pending: Pending,
     // Whether a block was absorbed.
     absorbed: bool,
     // In version 4, whether the last byte of the last block is at least 128.
     top_bit: bool,
-    ghost is_state: { IsState V (state_in lanes pending absorbed top_bit) },
+    ghost is_state: { IsState V (record {
+      lanes = lanes;
+      pending = pending;
+      absorbed = absorbed;
+      top_bit = top_bit;
+    }) },
 }
 
 impl<const V: u8> Model for StreamedKomihash<V> {
-    ghost use Rattle.komihash.specs.Halves.{state_in};
     ghost use Rattle.komihash.specs.Stream.{StateOf};
 
     ghost Value = { StateOf V };
 
     ghost view = { λ s. record {
-      state = state_in s.lanes s.pending s.absorbed s.top_bit;
+      state = record {
+        lanes = s.lanes;
+        pending = s.pending;
+        absorbed = s.absorbed;
+        top_bit = s.top_bit;
+      };
       is_state = s.is_state;
     } };
 }
@@ -76,7 +85,7 @@ impl<const V: u8> StreamedKomihash<V> {
         ensures kept { tally.new.kept ≡ tally.old.kept }
     {
         StreamedKomihash {
-            lanes: lanes(seed_pair(seed, tally)),
+            lanes: lanes_of(seed_pair(seed, tally)),
             pending: Pending::new(),
             absorbed: false,
             top_bit: false,

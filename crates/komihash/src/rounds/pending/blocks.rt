@@ -5,30 +5,28 @@
 ghost use Rattle.std.specs.Prelude.{◌≡◌, ◌+◌, ◌-◌, ◌*◌, ◌/◌, ◌%◌, ◌<◌, ◌≤◌, ◌++◌};
 ghost use Rattle.std.specs.Prelude.{length};
 ghost use Rattle.komihash.specs.Counts.{write_products, kept_bytes};
-ghost use Rattle.komihash.specs.Halves.{lanes_in};
 ghost use Rattle.komihash.specs.Pending.{pending_bytes, ArePending};
 ghost use Rattle.komihash.specs.Tails.{whole_words, block_lanes, after_blocks};
 
 use super::writer::put;
 use crate::rounds::blocks::absorb_blocks;
-use crate::rounds::{block_round, places};
+use crate::rounds::{Lanes, block_round, copied, places};
 use crate::tally::Tally;
 
 // Completes the partial block, if there is one, and absorbs it. Returns the lanes after it, and the
 // bytes that are left. Reads the lanes only after the writer, which needs the registers itself.
 #[inline(always)]
 fn complete_block<'a, const V: u8>(
-    lanes: &[u64; 8],
+    lanes: &Lanes,
     words: &mut [u64; 8],
     fill: usize,
     bytes: &'a [u8],
     tally: &mut Tally,
-) -> ([u64; 8], &'a [u8])
+) -> (Lanes, &'a [u8])
     requires pending { ArePending words.old fill }
     requires many { 64 ≤ fill + length bytes.now }
-    ensures lanes { block_lanes V (lanes_in result.0) (whole_words result.1.now)
-        ≡ block_lanes V (lanes_in lanes.now)
-        (whole_words (pending_bytes words.old fill ++ bytes.now)) }
+    ensures lanes { block_lanes V result.0 (whole_words result.1.now)
+        ≡ block_lanes V lanes.now (whole_words (pending_bytes words.old fill ++ bytes.now)) }
     ensures left { after_blocks result.1.now
         ≡ after_blocks (pending_bytes words.old fill ++ bytes.now) }
     ensures none { ArePending words.new 0 }
@@ -38,11 +36,11 @@ fn complete_block<'a, const V: u8>(
         ≡ tally.old.products + 4 * ((fill + length bytes.now) / 64) }
 {
     if fill == 0 {
-        return (*lanes, bytes);
+        return (copied(lanes), bytes);
     }
     let (head, rest) = bytes.split_at(64 - fill);
     put::<true>(words, fill, head, tally);
-    let mut after = *lanes;
+    let mut after = copied(lanes);
     block_round(&mut after, words, places::<V>(), tally);
     *words = [0; 8];
     (after, rest)
@@ -71,7 +69,7 @@ fn put_left(words: &mut [u64; 8], left: &[u8], tally: &mut Tally)
 /// register.
 #[inline(never)]
 pub(crate) fn absorb_and_keep<const V: u8>(
-    lanes: &mut [u64; 8],
+    lanes: &mut Lanes,
     words: &mut [u64; 8],
     fill: usize,
     bytes: &[u8],
@@ -79,9 +77,8 @@ pub(crate) fn absorb_and_keep<const V: u8>(
 ) -> usize
     requires pending { ArePending words.old fill }
     requires many { 64 ≤ fill + length bytes.now }
-    ensures lanes { lanes_in lanes.new
-        ≡ block_lanes V (lanes_in lanes.old)
-        (whole_words (pending_bytes words.old fill ++ bytes.now)) }
+    ensures lanes { lanes.new
+        ≡ block_lanes V lanes.old (whole_words (pending_bytes words.old fill ++ bytes.now)) }
     ensures pending { ArePending words.new result }
     ensures bytes { pending_bytes words.new result
         ≡ after_blocks (pending_bytes words.old fill ++ bytes.now) }

@@ -1,5 +1,4 @@
 use Rattle.std.proofs.Common.{◌∙◌, ap, refl, sym}
-use Rattle.komihash.specs.Halves.{lanes_in}
 use Rattle.komihash.specs.Tails.{after_blocks}
 use Rattle.komihash.proofs.Blocks.{after_blocks_more, block_lanes_more}
 use Rattle.komihash.proofs.rounds.blocks.absorb_block.Goals as goal
@@ -11,7 +10,7 @@ returns-clause-left g c =
 pub returns-clause-lanes : goal.returns-clause-lanes
 returns-clause-lanes g c =
     rw (
-      block_lanes_more g.row.V (lanes_in c.args.lanes.now) c.args.bytes.now c.requires,
+      block_lanes_more g.row.V c.args.lanes.now c.args.bytes.now c.requires,
       c.block_round.ensures.lanes,
       c.places.ensures.table,
       c.block_words-words.ensures,

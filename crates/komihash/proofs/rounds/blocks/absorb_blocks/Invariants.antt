@@ -1,14 +1,13 @@
 -- What is left leads to the same lanes and the same remainder, by the products that are left. It is
 -- an even number of blocks.
 use Rattle.std.proofs.Common.{◌≡◌, ◌+◌, ◌*◌, ◌/◌, ◌%◌, length}
-use Rattle.komihash.specs.Halves.{lanes_in}
 use Rattle.komihash.specs.Tails.{whole_words, block_lanes, after_blocks}
 use Rattle.komihash.proofs.rounds.blocks.absorb_blocks.Given as goal
 
 abbrev pub invariant-whole : goal.invariant-whole
 invariant-whole g l = record {
-  lanes : block_lanes g.row.V (lanes_in l.lanes) (whole_words l.rest)
-      ≡ block_lanes g.row.V (lanes_in l.fn.lanes) (whole_words l.bytes);
+  lanes : block_lanes g.row.V l.lanes (whole_words l.rest)
+      ≡ block_lanes g.row.V l.fn.lanes (whole_words l.bytes);
   left : after_blocks l.rest ≡ after_blocks l.bytes;
   products : l.tally.products + 4 * (length l.rest / 64)
       ≡ l.fn.tally.products + 4 * (length l.bytes / 64);

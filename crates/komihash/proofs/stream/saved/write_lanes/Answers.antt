@@ -1,6 +1,5 @@
 use Rattle.std.proofs.Common.{◌∙◌, ap, arith, take}
 use Rattle.std.proofs.lemmas.List.{take_all}
-use Rattle.komihash.specs.Halves.{lanes_in}
 use Rattle.komihash.specs.Saved.{in_order}
 use Rattle.komihash.specs.Words.{all_bytes}
 use Rattle.komihash.proofs.BytesOfWords.{length-all_bytes}
@@ -9,7 +8,7 @@ use Rattle.komihash.proofs.stream.saved.write_lanes.Goals as goal
 
 pub returns : goal.returns
 returns c =
-    let ws = in_order (lanes_in c.args.lanes.now) in
+    let ws = in_order c.args.lanes.now in
     let (lanes, after) =
     part-put 4 68 c.args.out.now c.write_bytes.new.out (all_bytes ws) (omega arith) (omega arith)
     c.write_bytes.auto.out

@@ -1,5 +1,4 @@
 use Rattle.std.proofs.Common.{arith, refl}
-use Rattle.komihash.specs.Halves.{lanes_in}
 use Rattle.komihash.specs.Pending.{pending_bytes}
 use Rattle.komihash.proofs.PendingBlocks.{completed_lanes, completed_left}
 use Rattle.komihash.proofs.PendingBytes.{length_pending}
@@ -10,8 +9,9 @@ returns-clause-lanes g c =
     let xs = pending_bytes c.args.words.now c.args.fill in
     let size = length_pending c.args.words.now c.args.fill c.requires.pending in
     rw (
-      completed_lanes xs c.args.bytes.now (omega arith) (omega arith) g.row.V (lanes_in c.args.lanes.now),
+      completed_lanes xs c.args.bytes.now (omega arith) (omega arith) g.row.V c.args.lanes.now,
       c.block_round.ensures.lanes,
+      c.copied-after.ensures,
       c.places.ensures.table,
       c.put.ensures.full (omega arith),
       c.split_at.ensures.front,

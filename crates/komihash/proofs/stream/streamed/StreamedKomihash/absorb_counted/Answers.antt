@@ -1,5 +1,4 @@
 use Rattle.std.proofs.Common.{◌∙◌, ap, arith, sym}
-use Rattle.komihash.specs.Halves.{state_in}
 use Rattle.komihash.specs.Stream.{StateOf, absorb}
 use Rattle.komihash.proofs.BytesInWords.{AreBytes-typed}
 use Rattle.komihash.proofs.CallLists.{HasAbsorbed-more}
@@ -9,11 +8,9 @@ use Rattle.komihash.proofs.stream.streamed.StreamedKomihash.absorb_counted.Goals
 
 pub returns-then-bytes-len-clause-state : goal.returns-then-bytes-len-clause-state
 returns-then-bytes-len-clause-state g c =
-    let s = c.self.inside in
-    let shown = state_in s.lanes s.pending s.absorbed s.top_bit in
     let bytes = c.args.bytes.now in
     rw c.append.ensures.bytes
-    (sym (absorb-few g.row.V shown bytes (omega arith))
+    (sym (absorb-few g.row.V _ bytes (omega arith))
     ∙ ap (λ (t : StateOf g.row.V). absorb g.row.V t.state bytes) c.self.view_is)
 
 pub returns-then-bytes-len-clause-message : goal.returns-then-bytes-len-clause-message
@@ -23,13 +20,11 @@ returns-then-bytes-len-clause-message g c seed m is =
 pub returns-else-bytes-len-clause-state : goal.returns-else-bytes-len-clause-state
 returns-else-bytes-len-clause-state g c =
     let s = c.self.inside in
-    let shown = state_in s.lanes s.pending s.absorbed s.top_bit in
     let bytes = c.args.bytes.now in
-    let w = c.append_and_absorb-self-inside in
-    let e = w.ensures in
-    after_write g.row.V shown bytes w.new.lanes _ _ (omega arith) (omega arith)
+    let e = c.append_and_absorb-self-inside.ensures in
+    after_write g.row.V s.lanes s.pending bytes _ _ _ (omega arith) (omega arith)
     e.lanes e.bytes e.top_bit
-    ∙ sym (absorb-blocks g.row.V shown bytes (omega arith) (omega arith))
+    ∙ sym (absorb-blocks g.row.V _ bytes (omega arith) (omega arith))
     ∙ ap (λ (t : StateOf g.row.V). absorb g.row.V t.state bytes) c.self.view_is
 
 pub returns-else-bytes-len-clause-message : goal.returns-else-bytes-len-clause-message
@@ -39,20 +34,17 @@ returns-else-bytes-len-clause-message g c seed m is =
 pub invariant_of-self-inside : goal.invariant_of-self-inside
 invariant_of-self-inside g c =
     let s = c.self.inside in
-    let shown = state_in s.lanes s.pending s.absorbed s.top_bit in
     let bytes = c.args.bytes.now in
     let are = AreBytes-typed bytes c.type_inv.bytes in
-    (rw c.append.ensures.bytes (IsState-few g.row.V shown bytes s.is_state are (omega arith)), tt)
+    (rw c.append.ensures.bytes (IsState-few g.row.V _ bytes s.is_state are (omega arith)), tt)
 
 pub invariant_of-self-inside-else-bytes-len : goal.invariant_of-self-inside-else-bytes-len
 invariant_of-self-inside-else-bytes-len g c =
     let s = c.self.inside in
-    let shown = state_in s.lanes s.pending s.absorbed s.top_bit in
     let bytes = c.args.bytes.now in
-    let w = c.append_and_absorb-self-inside in
-    let e = w.ensures in
+    let e = c.append_and_absorb-self-inside.ensures in
     let are = AreBytes-typed bytes c.type_inv.bytes in
     let after =
-    after_write g.row.V shown bytes w.new.lanes _ _ (omega arith) (omega arith)
+    after_write g.row.V s.lanes s.pending bytes _ _ _ (omega arith) (omega arith)
     e.lanes e.bytes e.top_bit in
-    (rw after (IsState-blocks g.row.V shown bytes s.is_state are), tt)
+    (rw after (IsState-blocks g.row.V _ bytes s.is_state are), tt)

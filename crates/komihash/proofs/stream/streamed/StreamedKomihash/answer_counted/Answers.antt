@@ -1,6 +1,5 @@
 use Rattle.std.proofs.Common.{◌++◌, [], ◌∷◌, ◌∙◌, ap, arith, length, sym}
 use Rattle.std.proofs.lemmas.List.{nil_from_length}
-use Rattle.komihash.specs.Halves.{lanes_in, state_in}
 use Rattle.komihash.specs.Hash.{hash_from_pair}
 use Rattle.komihash.specs.Rounds.{join, closing}
 use Rattle.komihash.specs.Stream.{StateOf, answer}
@@ -17,8 +16,8 @@ returns-then-len-eq0-clause-answer g c =
     let none = nil_from_length s.pending (omega arith) in
     c.close_one.ensures.hash
     ∙ ap (λ p. closing p (c.end_after_blocks-end.result ∷ [])) c.join-pair.ensures
-    ∙ ap (λ b. closing (join s.absorbed (lanes_in s.lanes)) (b ∷ [])) c.end_after_blocks-end.ensures
-    ∙ sym (answer-none g.row.V (state_in s.lanes s.pending s.absorbed s.top_bit) none)
+    ∙ ap (λ b. closing (join s.absorbed s.lanes) (b ∷ [])) c.end_after_blocks-end.ensures
+    ∙ sym (answer-none g.row.V _ none)
     ∙ ap (λ (t : StateOf g.row.V). answer g.row.V t.state) c.self.view_is
 
 pub returns-then-len-eq0-clause-hash : goal.returns-then-len-eq0-clause-hash
@@ -44,9 +43,9 @@ returns-clause-answer g c =
     ∙ ap (λ p. hash_from_pair p (whole_words s.pending ++ c.final_word-word.result ∷ []))
     c.join-pair.ensures
     ∙ ap
-    (λ w. hash_from_pair (join s.absorbed (lanes_in s.lanes)) (whole_words s.pending ++ w ∷ []))
+    (λ w. hash_from_pair (join s.absorbed s.lanes) (whole_words s.pending ++ w ∷ []))
     word
-    ∙ sym (answer-by_pair g.row.V (state_in s.lanes s.pending s.absorbed s.top_bit))
+    ∙ sym (answer-by_pair g.row.V _)
     ∙ ap (λ (t : StateOf g.row.V). answer g.row.V t.state) c.self.view_is
 
 pub returns-clause-hash : goal.returns-clause-hash

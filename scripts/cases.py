@@ -76,10 +76,10 @@ def report(cases):
 def must_fail():
     """Ends the script if one of five cases that have to fail does not, or is not counted as failed."""
     with contextlib.redirect_stdout(io.StringIO()) as told:
-        folder = SCRIPTS / "planted/checks"
+        folder = SCRIPTS / "planted/cases"
         status = report(cases_of("a fake", lambda files: {"fake": files["fake"].split()}, {"fake": "fault"}, folder, 0))
     if status != 1 or told.getvalue().splitlines()[-1] != "0 passed, 5 failed":
-        sys.exit(f"{told.getvalue()}FAILED: checks.py has to count five failed cases above")
+        sys.exit(f"{told.getvalue()}FAILED: cases.py has to count five failed cases above")
 
 
 must_fail()
