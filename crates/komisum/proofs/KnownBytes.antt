@@ -1,11 +1,8 @@
 -- What readers gave and writers took, in one call after another.
-use Rattle.std.proofs.Common.{◌≡◌, ℕ, ◌+◌, ◌≤◌, List, ◌++◌, take, drop, length, None, Some, IfSome, arith, sym, ap, ◌∙◌, subst, append_assoc, length-append, length-take-le, take-append-drop}
+use Rattle.std.proofs.Common.{◌≡◌, ℕ, ◌+◌, ◌≤◌, List, ◌++◌, take, length, None, Some, IfSome, arith, subst, length-append, length-take-le}
 use Rattle.std.specs.declared.option.Option.{Option}
-use Rattle.std.proofs.Math.Seq.{take-append-add}
-use Rattle.std.proofs.KnownBytes.{Appends-trans, Consumes-trans}
-use Rattle.std.specs.Io.KnownBytes.{Appends, Consumes}
-use Rattle.komisum.specs.Watched.{AppendsPrefix}
-use lib.Seq.{take-append_seam}
+use Rattle.std.proofs.KnownBytes.{Consumes-trans}
+use Rattle.std.specs.Io.KnownBytes.{Consumes}
 
 -- a reader that gave some bytes
 takes : (old new : Option (List ℕ)) (bytes : List ℕ) (P : ℕ → Type 0) → Consumes old new bytes → P (length bytes)

@@ -1,4 +1,4 @@
-//! Digests that continue from a checkpoint, the saved text of a stream.
+//! Digests that continue from a checkpoint, which is the state of a stream, saved as bytes.
 
 ghost use Rattle.std.specs.Prelude.{◌≤◌, ◌≡◌, ◌++◌, ℕ, List, take, IfSome, IsSomeAnd};
 ghost use Rattle.std.specs.List.{flat_map};

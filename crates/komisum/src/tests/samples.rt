@@ -1,4 +1,4 @@
-//! Samples that can be drawn again.
+//! Reproducible samples.
 
 ghost use Rattle.std.specs.Prelude.{◌≡◌, length};
 ghost use Rattle.komihash.specs.Generator.{after_steps, outputs};

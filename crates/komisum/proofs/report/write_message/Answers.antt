@@ -1,5 +1,5 @@
 -- The line is the name, the message and a newline.
-use Rattle.std.proofs.Common.{◌≡◌, ℕ, ◌+◌, ◌-◌, ◌<◌, List, codes, length, take, drop, set, replicate, ◌++◌, [], ◌∷◌, ◌∙◌, ap, arith, subst, append_assoc, length-drop, length-take-le, length-append}
+use Rattle.std.proofs.Common.{◌≡◌, ℕ, ◌+◌, ◌<◌, List, codes, length, take, drop, set, replicate, ◌++◌, [], ◌∷◌, ◌∙◌, ap, arith, subst, append_assoc, length-drop, length-take-le, length-append}
 use Rattle.std.proofs.lemmas.List.{take_more_set}
 use Rattle.std.proofs.lemmas.Slice.{take-put_mid}
 use Rattle.std.specs.Prelude.{OnOk}
