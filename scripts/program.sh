@@ -65,7 +65,8 @@ done << 'SIZES'
 1048577 388de716583121be d577466f23642771
 SIZES
 
-# Zero bytes: 2^20 + 1 and 2^32 + 1.
+# Zero bytes: 2^20 + 1 and 2^32 + 1. The longest input, 2^40 zero bytes, takes 7 minutes and was tried by hand: its line
+# in version 5 is b105583901d0a6f8, as by the Rust crate.
 zeros() { head -c "$1" /dev/zero; }
 while read -r size five four; do
     note "$size zero bytes, version 5" "$(line "$five")" "$(zeros "$size" | run)"
