@@ -35,7 +35,7 @@ DEFINITIONS = "docs/DEFINITIONS.md"
 PRIVATE = {f"crates/komihash/specs/{name}.antt" for name in ("Sealed", "Tallies", "Tails", "Halves", "Pending")}
 
 # Files that a document names and that are not committed: what builds leave, and what a reader would write.
-NOT_COMMITTED = {"out/komisum", "Answers.antt", "Invariants.antt"}
+NOT_COMMITTED = {"out/komisum", "Answers.antt", "Invariants.antt", "specs/Tree.antt"}
 
 NAMED_FILE = re.compile(r"[\w./*{},-]+\.(?:rt|antt|md|sh|py|edit|h|c)")
 PUBLIC = re.compile(r"^(?:(?:abbrev|unfoldable) )?pub (?:record )?([\w-]+)", re.MULTILINE)

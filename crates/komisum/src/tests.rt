@@ -6,6 +6,7 @@ mod checkpoints;
 mod digest;
 mod ending;
 mod fakes;
+mod generic;
 mod hex;
 mod keys;
 mod lists;
