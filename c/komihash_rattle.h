@@ -23,7 +23,7 @@
 extern "C" {
 #endif
 
-/* The length that `unpad` returns where there is no message. */
+/* The length that `unpad` returns if there is no message. */
 #define KOMIHASH_NONE SIZE_MAX
 
 /* A stream between two calls: its saved text, which is the first `length` bytes of `text`. These
@@ -46,7 +46,7 @@ typedef struct {
 uint64_t komihash_v4(const void *bytes, size_t length, uint64_t seed);
 uint64_t komihash_v5(const void *bytes, size_t length, uint64_t seed);
 
-/* Returns the hash of the message that pieces are in order. */
+/* Returns the hash of pieces, joined in order. */
 uint64_t komihash_v4_pieces(const komihash_piece *pieces, size_t count, uint64_t seed);
 uint64_t komihash_v5_pieces(const komihash_piece *pieces, size_t count, uint64_t seed);
 
@@ -85,14 +85,14 @@ void komihash_v5_fill(void *out, size_t length, uint64_t s1, uint64_t s2);
 void komihash_v4_fill_seeded(void *out, size_t length, uint64_t seed, uint64_t extra_seed);
 void komihash_v5_fill_seeded(void *out, size_t length, uint64_t seed, uint64_t extra_seed);
 
-/* Writes the padded words of a message first in `out`, and returns their number, length / 8 + 1.
- * Returns 0, and writes nothing, if `out` has no room for them. */
+/* Writes the padded words of a message to the front of `out`, and returns their number,
+ * length / 8 + 1. Returns 0, and writes nothing, if `out` has no room for them. */
 size_t komihash_v4_pad(const void *bytes, size_t length, uint64_t *out, size_t room);
 size_t komihash_v5_pad(const void *bytes, size_t length, uint64_t *out, size_t room);
 
-/* Writes the message that has these padded words first in `out`, and returns its length. Returns
- * KOMIHASH_NONE, and writes nothing, if no message has them, or if `out` has fewer than eight
- * bytes for each word. */
+/* Writes the message that has these padded words to the front of `out`, and returns its length.
+ * Returns KOMIHASH_NONE, and writes nothing, if no message has them, or if `out` has fewer than
+ * eight bytes for each word. */
 size_t komihash_v4_unpad(const uint64_t *words, size_t length, void *out, size_t room);
 size_t komihash_v5_unpad(const uint64_t *words, size_t length, void *out, size_t room);
 

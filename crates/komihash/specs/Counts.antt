@@ -14,7 +14,8 @@ abbrev pub answer_products : ℕ → ℕ
 answer_products f = 2 + f / 16
 
 -- the bytes that a write of b bytes copies into a stream where f are pending: all if no block is
--- filled; else those that complete the partial block, if there is one, and those after the last block
+-- filled; else those that complete the partial block, if there is one, and those after the last
+-- block
 abbrev pub kept_bytes : ℕ → ℕ → ℕ
 kept_bytes f b =
     if nat_lt (f + b) 64 then b else (if f == 0 then 0 else 64 - f) + (f + b) % 64

@@ -29,8 +29,8 @@ fn hash_of_blocks<const V: u8>(bytes: &[u8], seed: u64, tally: &mut Tally) -> u6
 
 /// Returns the hash of a message with a seed in version V, and counts its products in the tally.
 ///
-/// Messages of 8 to 15 bytes, as many keys have, take a path of their own, with one test fewer. That
-/// takes 7 to 11% less time.
+/// Messages of 8 to 15 bytes, as many keys have, take a path of their own, with one test fewer.
+/// That takes 7 to 11% less time.
 #[inline(never)]
 pub(crate) fn hash_message_counted<const V: u8>(bytes: &[u8], seed: u64, tally: &mut Tally) -> u64
     ensures hash { result ≡ komi V seed bytes.now }

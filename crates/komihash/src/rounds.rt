@@ -36,9 +36,10 @@ const C8: u64 = 0x3f84_d5b5_b547_0917;
 /// pair's a is their xor, which is computed only when a factor needs it.
 pub(crate) type Pair = (u64, u64);
 
-/// The eight lanes as the code stores them: one pair for each product of a block, as its `mix` makes
-/// it. s5 to s8 are the words e of the four pairs. s1 to s4 are their low halves, each xor the word e
-/// of the pair before it. The fourth pair stands first, since it is the one before the first.
+/// The eight lanes as the code stores them: one pair for each product of a block, as its `mix`
+/// makes it. s5 to s8 are the words e of the four pairs. s1 to s4 are their low halves, each xor
+/// the word e of the pair before it. The fourth pair stands first, since it is the one before the
+/// first.
 #[derive(Drop)]
 pub(crate) struct Lanes {
     pub(crate) fourth: Pair,

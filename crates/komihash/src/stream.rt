@@ -63,7 +63,8 @@ pub trait KomiStream: Sized + Drop {
 
     /// Writes the saved text of the stream to the front of `out`. Returns its length in bytes.
     ///
-    /// `out` needs room for `LONGEST_TEXT` bytes, whatever is pending. The rest of `out` is unchanged.
+    /// `out` needs room for `LONGEST_TEXT` bytes, whatever is pending. The rest of `out` is
+    /// unchanged.
     fn store(&self, out: &mut [u8]) -> usize
         requires { LONGEST_TEXT ≤ length out.old }
         ensures length { result ≡ length (text VERSION (state self.now)) }

@@ -51,8 +51,8 @@ impl Tally {
         }
     }
 
-    // Raises the two numbers. No other code changes a tally. The body is empty, since there is nothing
-    // to do at run time: the handwritten proof changes the ghost fields.
+    // Raises the two numbers. No other code changes a tally. The body is empty, since there is
+    // nothing to do at run time: the handwritten proof changes the ghost fields.
     #[inline(always)]
     fn raise(&mut self, _products: usize, _kept: usize)
         ensures products { self.new.products ≡ self.old.products + _products }

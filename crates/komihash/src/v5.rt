@@ -43,7 +43,7 @@ pub fn komihash_counted(bytes: &[u8], seed: u64, tally: &mut Tally) -> u64
 /// Writes the padded words of a message, and returns how many they are: `bytes.len() / 8 + 1`,
 /// which is the length that `out` needs.
 ///
-/// They are the bytes of the message, its padding byte, and zeros, eight bytes a word, the lowest
+/// They are the bytes of the message, its padding byte, and zeros, eight bytes per word, the lowest
 /// byte first; those of the empty message are one 0. The rest of `out` is unchanged.
 #[inline]
 pub fn pad(bytes: &[u8], out: &mut [u64]) -> usize
@@ -57,8 +57,8 @@ pub fn pad(bytes: &[u8], out: &mut [u64]) -> usize
 
 /// Writes the message that has these padded words, and returns its length in bytes.
 ///
-/// `out` needs room for eight bytes for each word. The rest of `out` is unchanged. Returns `None` if
-/// no message has these padded words in this version, and then all of `out` is unchanged.
+/// `out` needs room for eight bytes for each word. The rest of `out` is unchanged. Returns `None`
+/// if no message has these padded words in this version, and then all of `out` is unchanged.
 #[inline]
 pub fn unpad(words: &[u64], out: &mut [u8]) -> Option<usize>
     requires { 8 * length words.now ≤ length out.old }

@@ -12,8 +12,8 @@ use std::io::Write;
 use std::process::ExitCode;
 
 // Writes a line: the program's name, a message of at most 26 bytes, and a newline. If the writer
-// accepts them in one call, no other output can come between them. Returns `Fault::Write` if a write
-// fails.
+// accepts them in one call, no other output can come between them. Returns `Fault::Write` if a
+// write fails.
 fn write_message<W: Write>(errors: &mut Watched<W>, text: &str) -> Result<(), Fault>
     requires sound { errors.old.failed ≡ false }
     requires short { length text.now ≤ 26 }

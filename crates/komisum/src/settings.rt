@@ -137,8 +137,8 @@ fn strs_of<'a, H: AllocGlobal>(
 
 /// Returns the version and the seed that arguments ask for, or the refusal in place of arguments.
 ///
-/// Returns `Usage` if there are arguments, but not exactly a version and a seed, and `NoMemory` if a
-/// list of them could not be allocated.
+/// Returns `Usage` if there are arguments, but not exactly a version and a seed, and `NoMemory` if
+/// a list of them could not be allocated.
 pub fn settings_in<H: AllocGlobal>(
     host: &H,
     arguments: Result<Vec<String>, Refusal>,

@@ -23,8 +23,8 @@ pub(crate) fn padding_after(top_bit: bool) -> u64
     1 + u64::from(top_bit)
 }
 
-/// Returns the byte that ends a stream with no pending bytes: the padding byte of its last block, or
-/// 0 if no block was absorbed.
+/// Returns the byte that ends a stream with no pending bytes: the padding byte of its last block,
+/// or 0 if no block was absorbed.
 #[inline(always)]
 pub(crate) fn end_after_blocks(absorbed: bool, top_bit: bool) -> u64
     ensures { result ≡ end_after_blocks absorbed top_bit }

@@ -55,7 +55,7 @@ impl Calls {
     }
 }
 
-/// A reader that gives a few bytes a call.
+/// A reader that gives a few bytes per call.
 #[derive(Drop)]
 pub struct FakeReader<'a> {
     left: &'a [u8],
@@ -101,7 +101,7 @@ impl Read for FakeReader<'_> {
     }
 }
 
-/// A writer that accepts a few bytes a call, 64 in all, and holds them. A flush counts as a call.
+/// A writer that accepts a few bytes per call, 64 in all, and holds them. A flush counts as a call.
 #[derive(Drop)]
 pub struct FakeWriter {
     held: [u8; 64],
@@ -112,7 +112,7 @@ pub struct FakeWriter {
 }
 
 impl FakeWriter {
-    /// Accepts at most `most` bytes a call.
+    /// Accepts at most `most` bytes per call.
     pub fn new(most: usize, calls: Calls) -> Self {
         FakeWriter {
             held: [0; 64],

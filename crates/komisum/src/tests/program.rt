@@ -18,7 +18,7 @@ pub struct Outcome {
     errors: FakeWriter,
 }
 
-// Returns a writer that accepts any number of bytes a call, and never stops.
+// Returns a writer that accepts any number of bytes per call, and never stops.
 fn sound() -> FakeWriter {
     FakeWriter::new(usize::MAX, Calls::endless())
 }
@@ -55,7 +55,7 @@ fn ran(
     }
 }
 
-/// Runs the program over 31 bytes, 7 a read, where nothing fails.
+/// Runs the program over 31 bytes, 7 per read, with nothing that fails.
 pub fn shown(asked: Result<(Version, u64), Refusal>) -> Outcome {
     ran(asked, Calls::endless(), sound(), sound())
 }

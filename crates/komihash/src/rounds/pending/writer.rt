@@ -127,8 +127,8 @@ fn put_last(words: &mut [u64; 8], fill: usize, bytes: &[u8])
     }
 }
 
-// Appends eight bytes or more, all that fit if FULL: the first complete the partial word, then whole
-// words follow, and then fewer than eight bytes.
+// Appends eight bytes or more, all that fit if FULL: the first complete the partial word, then
+// whole words follow, and then fewer than eight bytes.
 #[inline(always)]
 fn put_many<const FULL: bool>(words: &mut [u64; 8], fill: usize, bytes: &[u8])
     requires pending { ArePending words.old fill }
