@@ -2,12 +2,20 @@
 
 ghost use Rattle.std.specs.Prelude.{◌≡◌, ◌≢◌, ◌+◌, ◌*◌, ◌/◌, ◌≤◌, false};
 ghost use Rattle.std.specs.Prelude.{length, map, take, IsSomeAnd};
+ghost use Rattle.std.specs.Int.{to_le_bytes, w64};
 ghost use Rattle.komihash.specs.Hash.{komi};
 ghost use Rattle.komihash.specs.Hasher.{number_after};
 
 use komihash::tally::Tally;
 use komihash::{KomiHasher, komihash, laws, v5};
 use std::hash::Hasher;
+
+/// Hashes a number.
+pub fn hash_of_number(number: u64) -> u64
+    ensures { result ≡ komi 5 0 (to_le_bytes w64 number) }
+{
+    komihash(&number.to_le_bytes(), 0)
+}
 
 /// Returns `false` only if two contents differ.
 pub fn may_be_equal(left: &[u8], right: &[u8]) -> bool

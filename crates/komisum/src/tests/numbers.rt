@@ -4,14 +4,7 @@ ghost use Rattle.std.specs.Prelude.{◌≡◌, ◌++◌, length};
 ghost use Rattle.std.specs.Int.{to_le_bytes, w64};
 ghost use Rattle.komihash.specs.Hash.{komi};
 
-use komihash::{StreamedKomihash, komihash};
-
-/// Hashes a number.
-pub fn hash_of_number(number: u64) -> u64
-    ensures { result ≡ komi 5 0 (to_le_bytes w64 number) }
-{
-    komihash(&number.to_le_bytes(), 0)
-}
+use komihash::StreamedKomihash;
 
 /// Hashes two hashes, as for the parent of two nodes in a Merkle tree.
 pub fn parent(left: u64, right: u64) -> u64
