@@ -1,13 +1,13 @@
 //! Calls on keys that CALLING.md does not show.
 
-ghost use Rattle.std.specs.Prelude.{◌≡◌, ◌≢◌, ◌+◌, ◌*◌, ◌/◌, ◌≤◌, false};
+ghost use Rattle.std.specs.Prelude.{◌≡◌, ◌≢◌, ◌+◌, ◌*◌, ◌/◌, ◌++◌, ◌≤◌, false};
 ghost use Rattle.std.specs.Prelude.{length, map, take, IsSomeAnd};
 ghost use Rattle.std.specs.Int.{to_le_bytes, w64};
 ghost use Rattle.komihash.specs.Hash.{komi};
 ghost use Rattle.komihash.specs.Hasher.{number_after};
 
 use komihash::tally::Tally;
-use komihash::{KomiHasher, komihash, laws, v5};
+use komihash::{KomiHasher, StreamedKomihash, komihash, laws, v5};
 use std::hash::Hasher;
 
 /// Hashes a number.
@@ -15,6 +15,16 @@ pub fn hash_of_number(number: u64) -> u64
     ensures { result ≡ komi 5 0 (to_le_bytes w64 number) }
 {
     komihash(&number.to_le_bytes(), 0)
+}
+
+/// Hashes a name, preceded by its length.
+pub fn hash_of_name(name: &[u8]) -> u64
+    ensures { result ≡ komi 5 0 (to_le_bytes w64 (length name.now) ++ name.now) }
+{
+    let mut stream = StreamedKomihash::new();
+    stream.write(&(name.len() as u64).to_le_bytes());
+    stream.write(name);
+    stream.finish()
 }
 
 /// Returns `false` only if two contents differ.

@@ -1,6 +1,6 @@
 //! Hashes of numbers.
 
-ghost use Rattle.std.specs.Prelude.{◌≡◌, ◌++◌, length};
+ghost use Rattle.std.specs.Prelude.{◌≡◌, ◌++◌};
 ghost use Rattle.std.specs.Int.{to_le_bytes, w64};
 ghost use Rattle.komihash.specs.Hash.{komi};
 
@@ -13,15 +13,5 @@ pub fn parent(left: u64, right: u64) -> u64
     let mut stream = StreamedKomihash::new();
     stream.write(&left.to_le_bytes());
     stream.write(&right.to_le_bytes());
-    stream.finish()
-}
-
-/// Hashes a name, preceded by its length.
-pub fn hash_of_name(name: &[u8]) -> u64
-    ensures { result ≡ komi 5 0 (to_le_bytes w64 (length name.now) ++ name.now) }
-{
-    let mut stream = StreamedKomihash::new();
-    stream.write(&(name.len() as u64).to_le_bytes());
-    stream.write(name);
     stream.finish()
 }

@@ -17,7 +17,7 @@ pub fn shard_of(key: &[u8], shards: u64) -> u64
     komihash(key, 0) % shards
 }
 
-/// Returns the shard of a key of two fields. Unlike a stream's hash, a hasher's depends on where
+/// Returns the shard of a key of two fields. A hasher's hash, unlike a stream's, depends on where
 /// each field ends.
 pub fn shard_of_fields(first: &[u8], second: &[u8], shards: u64) -> u64
     requires { 0 < shards }
