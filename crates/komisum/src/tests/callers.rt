@@ -7,8 +7,9 @@ ghost use Rattle.komihash.specs.Saved.{IsTextAfter};
 
 use super::checkpoints::upload;
 use super::generic::digest_of_slices;
-use super::keys::{hash_of_fields, hash_of_key, hash_of_name, hash_of_number};
-use super::keys::{key_read_back, may_be_equal};
+use super::keys::{
+    hash_of_fields, hash_of_key, hash_of_name, hash_of_number, key_read_back, may_be_equal,
+};
 use super::lists::hash_of_numbers;
 use super::messages::{HASH_OF_16, HASH_OF_31, HASH_OF_31_IN_FOUR, HASH_OF_95, message};
 use super::numbers::parent;
