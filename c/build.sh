@@ -14,8 +14,8 @@ is_newest() {
 }
 
 # Makes a workspace of `komihash` and a crate over it, from the files of a folder. It lies outside of the repository:
-# the merge gate refuses sources that are in no crate, so those of this one end in `.in`. `version.rt.in` becomes a file
-# for each version. What is proved in the repository is kept.
+# `rt ci` refuses sources that are in no crate, so those of this one end in `.in`. `version.rt.in` becomes a file for
+# each version. What is proved in the repository is not proved again.
 make_workspace() {
     local room=$1 name=$2 folder=$3 crate=$1/crates/$2 version file
     printf '%s\n' 'komihash:' "$name staticlib: komihash" > "$room/crates.txt"
@@ -36,14 +36,14 @@ make_workspace() {
 # Proves and builds a crate from the files of a folder as a static library, with flags for `rt lib`.
 build_static() (
     name=$1 folder=$2 file=$3
-    need rt "proves and builds $name"
+    need rt "proves and builds the crate $name"
     room=$(mktemp -d)
     trap 'rm -rf "$room"' EXIT
     make_workspace "$room" "$name" "$folder"
-    echo "Proving and building $name. With nothing proved yet, this takes minutes." >&2
+    echo "Proving and building the crate $name. If nothing is proved yet, this takes minutes." >&2
     if ! (cd "$room/crates/$name" && rt lib "${@:4}") > "${file%.a}.log" 2>&1; then
         tail -n 40 "${file%.a}.log" >&2
-        stop "$name is not proved or not built; ${file%.a}.log has it all"
+        stop "the crate $name is not proved or not built; see ${file%.a}.log"
     fi
     cp "$room/crates/$name/out/lib$name.a" "$file"
 )

@@ -3,10 +3,10 @@
  * begin with komihash_v4, those for version 5 with komihash_v5.
  *
  * For every call:
- * - A length counts items: bytes, or words of eight bytes; `count` counts pieces. All items that a
- *   pointer leads to take at most PTRDIFF_MAX bytes.
- * - A pointer may be null only if the length or count after it is 0. Three pointers may never be
- *   null: `stream`, `hash`, and that of a piece, even of an empty one.
+ * - A length or `room` counts items: bytes, or words of eight bytes; `count` counts pieces. All
+ *   items that a pointer leads to take at most PTRDIFF_MAX bytes.
+ * - A pointer may be null only if the length, room or count after it is 0. Three pointers may never
+ *   be null: `stream`, `hash`, and the one in a piece, even in an empty one.
  * - A pointer to words or pieces is aligned to eight bytes. One to bytes needs no alignment.
  * - What a call writes must not overlap anything else that the call is passed.
  * - No call allocates, or keeps anything for the next. Calls on different data may run at the same
@@ -23,7 +23,7 @@
 extern "C" {
 #endif
 
-/* The length that `unpad` returns if there is no message. */
+/* What `unpad` returns instead of a length. */
 #define KOMIHASH_NONE SIZE_MAX
 
 /* A stream between two calls: its saved text, which is the first `length` bytes of `text`. These

@@ -1,9 +1,9 @@
 #!/usr/bin/env bash
 # The port beside the Rust crate `komihash` 0.5.0. README.md says more.
 #
-#   run.sh answers                  prints the table of reference answers by the Rust crate
+#   run.sh answers                  prints the table of reference hashes by the Rust crate
 #   run.sh fuzz SEED N              compares every call on N random inputs
-#   run.sh bench [REPEATS [WORD]]   times the calls, of all rows or of those whose group and name hold WORD
+#   run.sh bench [REPEATS [WORD]]   times the calls; prints all rows, or those whose group and name contain WORD
 #
 # LAYOUTS says in how many layouts of the machine code `bench` runs, 8 if unset. KOMIHASH_CRATE names a folder with
 # the Rust crate, where cargo has no registry to get it from.

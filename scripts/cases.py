@@ -20,7 +20,7 @@ def texts_of(*patterns):
 
 
 def planted(files, edit):
-    """The files with an edit in: a line `file: NAME`, then pairs `old: TEXT`, `new: TEXT`, each old text once."""
+    """The files after an edit: a line `file: NAME`, then pairs `old: TEXT`, `new: TEXT`, each old text found once."""
     lines = [line.partition(": ")[::2] for line in edit.read_text(encoding="utf-8").splitlines() if line]
     if [name for name, _ in lines] != ["file"] + ["old", "new"] * max(1, len(lines) // 2):
         raise ValueError("it is not a line `file:` and pairs of lines `old:`, `new:`")
@@ -48,7 +48,7 @@ def trial(findings, before, files, edit):
 
 
 def cases_of(subject, findings, files, folder, count):
-    """Each case: its name, and its faults. `findings` tells of files what each rule finds, by the rule's name.
+    """Each case: its name, and its faults. `findings` gives what each rule finds in files, by the rule's name.
 
     In the files themselves nothing may be found. Each edit in a folder of `folder` has to be found by the rule of that
     name alone, and each rule needs such an edit. `count` is the number of all cases.
@@ -63,7 +63,7 @@ def cases_of(subject, findings, files, folder, count):
 
 
 def report(cases):
-    """Prints a line for each case, a name and its faults, and the counts; the status to end with."""
+    """Prints a line for each case, a name and its faults, and then the counts. Returns the status to end with."""
     passed = failed = 0
     for name, faults in cases:
         print(f"{'FAILED' if faults else 'ok'}: {name}", *faults, sep="\n    ")

@@ -90,7 +90,7 @@ told() {
 # Prints a message of this many bytes, from what `seq` prints.
 message() { seq 1 1000000 | head -c "$1"; }
 
-# Print what is expected of a line, of a fault, and of a fault after part of the line.
+# Print what `told` prints for a line, for a fault, and for a fault after part of the line.
 line() { printf 'status 0\noutput %s\n.|\nerrors .|\n' "$1"; }
 fault() { printf 'status %s\noutput .|\nerrors komisum: %s\n.|\n' "$1" "$2"; }
 partial() { printf 'status 1\noutput %s.|\nerrors komisum: write failed\n.|\n' "$1"; }

@@ -4,7 +4,7 @@
   callers      the blocks of code of README and CALLING.md are whole files of komisum, which are proved and tested
   items        CALLING.md lists every public function, by file, and each clause that it shows stands in that file
   definitions  docs/DEFINITIONS.md names every public definition of specs/
-  names        each name in docs/DEFINITIONS.md stands in specs/, proofs/ or src/
+  names        each name with `_` or `-` in docs/DEFINITIONS.md stands in specs/, proofs/ or src/
   files_named  each file that a document names is there
 
 Each edit of scripts/planted/documents/RULE/ is found by that rule alone. The last line is 'N passed, M failed'.

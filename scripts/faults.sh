@@ -1,7 +1,8 @@
 #!/usr/bin/env bash
 # Tests the built program when reads, writes and allocations fail. Each case prints a line, and the
-# last line has the counts. Needs what cases.sh names, strace, which makes system calls fail, a C
-# compiler for refuse.c, and valgrind, which counts allocations; without one its cases are skipped.
+# last line has the counts. Needs what cases.sh names, grep, strace, which makes system calls fail,
+# a C compiler for refuse.c, and valgrind, which counts allocations. Without one of the last three,
+# its cases are skipped.
 source "$(dirname "$0")/cases.sh"
 
 whole=$(cat stdout)
@@ -31,8 +32,8 @@ into_closed_pipe() {
 }
 note 'output pipe closes early' "$(fault 1 'write failed')" "$(into_closed_pipe)"
 
-# Output files with room for only the first bytes of the line: these are written, and the next write
-# fails.
+# Output files with room for 0 to 17 bytes of the line: these are written, and if that is not all,
+# the next write fails.
 for bytes in {0..17}; do
     head -c $((1024 - bytes)) /dev/zero > "$room/full"
     (trap '' XFSZ; ulimit -f 1; "$program" < stdin >> "$room/full" 2> "$room/errors")
@@ -42,7 +43,7 @@ for bytes in {0..17}; do
     note "output file with room for $bytes bytes" "$wanted" "$(told $status)"
 done
 
-# Runs the program with faulty system calls on a file, and prints how many there were.
+# Runs the program with faulty system calls on a file. Prints how it ended and how many there were.
 injected() {
     local file=$1 call=$2 what=$3
     ran strace -o "$room/trace" -P "$file" -e "trace=$call" -e "inject=$call:$what" "$program"
@@ -58,11 +59,11 @@ errors_at_each_call() {
             note "read $k fails with $error" "$(fault 1 'read failed'; echo "calls $k")" \
                 "$(injected "$room/long" read "error=$error:when=$k" < "$room/long")"
         done
-        note "no read fails with $error" "$(line "$long"; echo 'calls 5')" \
+        note "there is no read 6 to fail with $error" "$(line "$long"; echo 'calls 5')" \
             "$(injected "$room/long" read "error=$error:when=6" < "$room/long")"
         note "the write fails with $error" "$(fault 1 'write failed'; echo 'calls 1')" \
             "$(injected "$room/output" write "error=$error:when=1" < stdin)"
-        note "no write fails with $error" "$(line "$whole"; echo 'calls 1')" \
+        note "there is no write 2 to fail with $error" "$(line "$whole"; echo 'calls 1')" \
             "$(injected "$room/output" write "error=$error:when=2" < stdin)"
         note "the message fails with $error" \
             "$(printf 'status 1\noutput .|\nerrors .|\ncalls 1\n')" \
@@ -70,7 +71,7 @@ errors_at_each_call() {
     done
 }
 
-# Makes calls transfer nothing, or one byte.
+# Makes calls return 0 or 1, without moving a byte.
 calls_that_move_little() {
     local k read_before
     for k in {1..5}; do
@@ -124,7 +125,8 @@ refused() {
 }
 
 # Refuses each allocation in turn, and then none. For each the program reports no memory and reads
-# nothing, but requests the tolerated one again. The last, for the buffer, is always made.
+# nothing; only the one that `tolerated` numbers it requests again. It always makes the last
+# request, which is for the buffer.
 refuse_each() {
     local name=$1 line=$2 requests=$3 tolerated=$4 k made
     shift 4

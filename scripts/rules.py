@@ -6,12 +6,12 @@ see: a product of words, a hash whose result is dropped, a copy of the message, 
 functions beside it have no contract. So what a function does is read off its source:
 
   operations  operations.txt lists what each function of `komihash` does, and each one of `komisum` without a contract:
-              its calls, products, comparisons, loops, assignments, arrays and copies. All else is refused.
+              its calls, products, comparisons, loops, assignments, arrays and copies. Any difference is a fault.
   tallies     A function that is passed a tally makes none. As there is no other in reach, it passes this one on.
   imports     Modules of `komihash` import in one direction: none imports a module that leads back to it.
 
-The other rules are patterns that no source may have. Tests are not read: they are not part of the library. Who can
-make or change a tally, surface.py holds.
+The other rules are patterns that no source may have. Tests are not read: they are not part of the library. surface.py
+checks who can make or change a tally.
 
 The script reads names, not meanings. It can't see a product that is made of sums or shifts, a copy that is made by
 naming values anew (`let first = words[0];`), or what the standard library does inside.
@@ -40,8 +40,8 @@ REFUSED = {
 # Sources but for the tests.
 SOURCE = re.compile(r"(?:crates/komisum/)?src/(?!tests\b).*\.rt")
 
-# Comments; and strings and characters, for each of which a number is read. `rt fmt` puts spaces around `<`, `>`, `>>`
-# only where they are no brackets.
+# Comments, which are dropped; and strings and characters, each of which becomes the number 0. `rt fmt` puts spaces
+# around `<`, `>`, `>>` only where they are no brackets.
 UNREAD = re.compile(r"""(//.*)|(?:\b[bc])?(?:\br"[^"]*"|"(?:\\[\s\S]|[^"\\])*"|'(?:\\.[^']*|[^'\\])')""")
 ORDER = re.compile(r"(?<=\s)[<>](?=\s)")
 TOKEN = re.compile(r"\w+|::|\.\.=?|->|=>|[=!<>]=|<>|&&|\|\||<<=?|>>=|(?<=\s)>>(?=\s)|[-+*/%^|&]=|\S")
@@ -75,7 +75,7 @@ def end_of(tokens, index):
 
 
 def start_of(tokens, index, stops):
-    """The index after the last stop before a token, with another between. Stops in brackets don't count."""
+    """The index after the last stop before a token, with at least one token between. Stops in brackets don't count."""
     depth = 0
     while True:
         index -= 1
@@ -254,6 +254,6 @@ def findings(files):
 
 
 if __name__ == "__main__":
-    # The names of the files of `komihash` begin in its folder.
+    # Files of `komihash` are named relative to its folder.
     FILES = {name.removeprefix("crates/komihash/"): text for name, text in texts_of("crates/*/src/**/*").items()}
     sys.exit(report(cases_of("the sources", findings, FILES, SCRIPTS / "planted/rules", 98)))

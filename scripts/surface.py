@@ -9,8 +9,9 @@ of a tally, the modules of specs/ and proofs/, and all lines that name a part of
 
 The seal is closed as long as the list shows this: `TallyKey`, `raise`, `Sealed`, `Raised` and `Facts` are private; no
 other type holds `TallyKey`; `counted` and `Key` are neither `abbrev` nor `unfoldable`; only the handwritten proofs of
-`Tally::new` and `raise` import `Raised`, and each has one public lemma; no ghost member of a trait holds a lemma of
-these files; and specs/Tallies.antt, through which proofs/ reaches `counted` and `opened`, doesn't pass on the key.
+`Tally::new` and `raise` import `Raised`, and each of these two has one public lemma; no ghost member of a trait holds a
+lemma of the two, of `Raised` or of `Facts`; and specs/Tallies.antt, through which proofs/ reaches `counted` and
+`opened`, doesn't pass on the key.
 
 After a change that is wanted, `python3 scripts/surface.py renew` writes the list anew: review its difference first.
 Each edit of planted/surface/ has to make a difference. The last line is 'N passed, M failed'.
@@ -103,7 +104,8 @@ def entry_of(name, code):
 
 
 def listed(files):
-    """The lines of surface.txt for these files. Those of the seal also have each unusual place of a tally's type."""
+    """The lines of surface.txt for these files. Those of the seal also have each line with the type `Tally`, unless
+    it is an import or has `&mut` before it."""
     codes = {name: re.sub(r"--.*" if name.endswith(".antt") else r"//.*", "", text) for name, text in files.items()}
     lines = [line for name, code in codes.items() for line in entry_of(name, code)][1:] + [""]
     for name, code in codes.items():
@@ -114,7 +116,7 @@ def listed(files):
 
 
 def findings(files):
-    """Each line that is not the list's, by the name of the only rule."""
+    """Each line that differs between the list and the sources, by the name of the only rule."""
     wanted = LIST.read_text(encoding="utf-8").splitlines()
     lines = difflib.unified_diff(wanted, listed(files), "surface.txt", "sources", lineterm="", n=0)
     return {"surface": [line for line in lines if line[:2] not in ("--", "++", "@@")]}

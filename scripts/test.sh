@@ -1,11 +1,11 @@
 #!/usr/bin/env bash
-# Runs every proof and every test: first the rules for sources and documents, which take seconds,
-# then the toolchain's merge gate, then the tests of the built program. The first part that fails
-# ends the run.
+# Runs every proof and test of both crates: first the rules for sources and documents, which take
+# seconds, then `rt ci`, then the tests of the built program. The first part that fails ends the
+# run.
 #
 # The last line is 'N passed, M failed', the sum of all parts, with ', K skipped' if a tool is
-# missing that some cases need; lines above it name these cases. With REQUIRE_ALL=1 in the
-# environment, skipped cases count as failed.
+# missing that some cases need; lines above it say how many cases lack which tool. With
+# REQUIRE_ALL=1 in the environment, skipped cases count as failed.
 set -euo pipefail
 cd "$(dirname "$0")/.."
 
@@ -64,7 +64,7 @@ add_counts() {
         fi
     else
         failed=$((failed + 1))
-        echo 'FAILED: the last line has no counts'
+        echo 'FAILED: the last line of this part has no counts'
     fi
 }
 

@@ -1,4 +1,4 @@
-//! The table of reference answers, by the Rust crate, as crates/komihash/src/tests/hash.rt has it.
+//! The table of reference hashes, by the Rust crate, as crates/komihash/src/tests/hash.rt has it.
 use crate::original::{OriginalFive, OriginalFour};
 use crate::side::Side;
 

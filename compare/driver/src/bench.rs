@@ -6,7 +6,7 @@ use crate::side::{FromC, Piece, Port, Side};
 use std::hint::black_box;
 use std::time::Instant;
 
-/// Nanoseconds of a batch: short, so that the two of a pair see the same clock.
+/// Nanoseconds of a batch: short, so that both sides run at the same clock frequency.
 const BATCH: u128 = 60_000;
 
 const LENGTHS: [usize; 21] =
@@ -32,7 +32,7 @@ fn scattered(i: u64) -> usize {
     ((i + 1).wrapping_mul(0x9e37_79b9_7f4a_7c15) >> 33) as usize
 }
 
-/// Lengths from 1 to a greatest, which make 65,536 bytes.
+/// Lengths from 1 to `greatest`, 65,536 in sum.
 fn mixed_pieces(greatest: usize) -> Vec<usize> {
     let (mut pieces, mut left) = (Vec::new(), 65536);
     while left > 0 {
@@ -144,7 +144,7 @@ impl Bench<'_> {
         self.row(group, name, original, port);
     }
 
-    /// One call on a stream that lies in memory, and all calls of a short message.
+    /// One call on a stream that is kept in memory between calls, and all calls of a short message.
     fn streams_from_c<P: FromC, O: FromC>(&self) {
         for length in [1, 8, 16, 64, 256, 1000, 4096] {
             let bytes = &self.bytes[..length];

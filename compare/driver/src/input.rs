@@ -60,7 +60,7 @@ impl Random {
         bytes
     }
 
-    /// Lengths of pieces that a message of a length is cut into; the last part may be left.
+    /// Lengths of pieces that a message of a length is cut into. A remainder may stay uncut.
     fn pieces(&mut self, length: usize) -> Vec<usize> {
         let mut pieces = Vec::new();
         let mut left = length;
@@ -87,7 +87,7 @@ impl Random {
 pub struct Input {
     pub seed: u64,
     pub pieces: Vec<usize>,
-    /// After how many pieces an answer is taken.
+    /// How many answers are taken, one after each of the first pieces.
     pub answers: usize,
     pub s1: u64,
     pub s2: u64,

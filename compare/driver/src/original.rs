@@ -124,7 +124,7 @@ macro_rules! original {
             }
         }
 
-        /// The Rust crate's version.
+        /// One version of the hash, by the Rust crate.
         pub struct $name;
 
         impl FromC for $name {

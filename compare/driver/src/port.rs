@@ -68,7 +68,7 @@ macro_rules! port {
             }
         }
 
-        /// The port's version.
+        /// One version of the hash, by the port.
         pub struct $name;
 
         // SAFETY, for every call: the declarations above fit the library's, and each pointer and length are those of

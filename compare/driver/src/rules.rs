@@ -1,6 +1,6 @@
 //! The rules of padded words and saved texts, which the Rust crate lacks, written once more.
 
-/// The padded words of a message: its bytes, the byte that ends it, and zeros; 0 alone for no bytes.
+/// The padded words of a message: its bytes, its padding byte, and zeros; 0 alone for no bytes.
 pub fn padded(version: u8, bytes: &[u8]) -> Vec<u64> {
     let Some(last) = bytes.last() else { return vec![0] };
     let mut all = bytes.to_vec();

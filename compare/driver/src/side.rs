@@ -1,8 +1,8 @@
 //! What is compared: the calls that the port and the Rust crate share, and those of the port alone.
 use std::marker::PhantomData;
 
-/// The calls of one version that both sides have. `pieces` are lengths of pieces: a piece ends where the bytes
-/// end. `start` says how a generator starts: 0 from the pair, 1 from `s1` as a seed, 2 from both as seeds.
+/// The calls of one version that both sides have. `pieces` are lengths of pieces: one that is too long ends where
+/// the bytes end. `start` says how a generator starts: 0 from the pair, 1 from `s1` as a seed, 2 from both as seeds.
 pub trait Side {
     fn hash(bytes: &[u8], seed: u64) -> u64;
     /// The hash by a stream that takes the pieces, and then what is left. `answers` takes the answers after as many
@@ -20,9 +20,9 @@ pub trait Side {
 pub trait FromC {
     type Stream;
     fn start(seed: u64) -> Self::Stream;
-    /// Returns whether the stream is one.
+    /// Returns whether `stream` is the text of a stream.
     fn write(stream: &mut Self::Stream, bytes: &[u8]) -> bool;
-    /// Returns whether the stream is one.
+    /// Returns whether `stream` is the text of a stream.
     fn write_pieces(stream: &mut Self::Stream, pieces: &[Piece]) -> bool;
     fn finish(stream: &Self::Stream) -> Option<u64>;
     fn pieces(pieces: &[Piece], seed: u64) -> u64;
@@ -41,7 +41,7 @@ pub trait Port: Side + FromC<Stream = Stream> {
     fn unpad(words: &[u64], out: &mut [u8]) -> Option<usize>;
 }
 
-/// The hashes of one message by calls that should agree with the plain ones.
+/// The hashes of one message by calls that should give the same as `komihash`.
 #[repr(C)]
 #[derive(Default)]
 pub struct Once {

@@ -8,13 +8,13 @@ use Rattle.komihash.proofs.WholeWords.{whole_words-append, length-whole_words}
 
 -- ---- the lanes
 
--- a block of words, and others after it
+-- a block of words, and more words after it
 block_lanes-round : (v : ℕ) (l : Lanes) (ws us : List ℕ) → length ws ≡ 8
     → block_lanes v l (ws ++ us) ≡ block_lanes v (block_round v l ws) us
 block_lanes-round v l (w0 ∷ w1 ∷ w2 ∷ w3 ∷ w4 ∷ w5 ∷ w6 ∷ w7 ∷ []) us e = refl
 block_lanes-round v l ws us e = absurd (omega arith)
 
--- a block of bytes, and others after it
+-- a block of bytes, and more bytes after it
 pub block_lanes-bytes : (v : ℕ) (l : Lanes) (xs ys : List ℕ) → length xs ≡ 64
     → block_lanes v l (whole_words (xs ++ ys))
     ≡ block_lanes v (block_round v l (whole_words xs)) (whole_words ys)

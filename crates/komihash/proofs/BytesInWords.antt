@@ -20,7 +20,7 @@ AreBytes-typed xs h k = (h k).fits
 pow_byte : (n : ℕ) → 2 ^ (8 * suc n) ≡ 256 * 2 ^ (8 * n)
 pow_byte n = let e : 8 * suc n ≡ 8 + 8 * n = omega arith in ap (λ k. 2 ^ k) e ∙ pow-add 2 8 (8 * n)
 
--- the word of two pieces, the second as high as the first is long
+-- the word of two pieces, the second shifted by the length of the first
 word_of-append : (xs ys : List ℕ) → word_of (xs ++ ys) ≡ word_of ys * 2 ^ (8 * length xs) + word_of xs
 word_of-append [] ys = omega arith
 word_of-append (x ∷ xs) ys =
@@ -113,7 +113,7 @@ word_of-two_ends k s xs b h le most few small e =
     (length-take-le k zs (omega arith)) (omega arith)
     ∙ ap word_of (take-more k (8 - k) zs ∙ take_all (k + (8 - k)) zs (omega arith)))
 
--- the bytes from place j on, read with the last eight: a shift drops those before
+-- the bytes from index j on, read with the last eight: a shift drops those before
 pub word_of-last : (j s : ℕ) (xs : List ℕ) → AreBytes xs → 8 ≤ length xs → j ≤ length xs
     → s ≡ 8 * (j + 8 - length xs) → length xs ≤ j + 8
     → word_of (take 8 (drop (length xs - 8) xs)) / 2 ^ s ≡ word_of (drop j xs)
@@ -136,7 +136,7 @@ word_of-last_eight r xs b h many few small =
     )
     (word_of-push (drop j xs) r b (AreBytes-drop j xs h) (omega (arith, length-drop j xs)) few (omega arith))
 
--- the two words of sixteen bytes, as a vector of bytes is made into one of words
+-- the two words of sixteen bytes, as a vector of bytes becomes a vector of words
 pub two_words : (xs : List ℕ) → AreBytes xs → 16 ≤ length xs → let n = number_l 256 (take 16 xs) in
     (n % 2 ^ 64 ≡ word_of (take 8 xs)) × (n / 2 ^ 64 % 2 ^ 64 ≡ word_of (take 8 (drop 8 xs)))
 two_words (a ∷ b ∷ c ∷ d ∷ e ∷ f ∷ g ∷ h ∷ a' ∷ b' ∷ c' ∷ d' ∷ e' ∷ f' ∷ g' ∷ h' ∷ xs) are le = (

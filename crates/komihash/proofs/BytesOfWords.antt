@@ -1,4 +1,4 @@
--- The bytes of words: how many, by place, and as the standard library writes them.
+-- The bytes of words: how many, by index, and as the standard library writes them.
 use Rattle.std.proofs.Common.{◌≡◌, ℕ, zero, suc, ◌+◌, ◌*◌, ◌/◌, ◌%◌, ◌<◌, ◌≤◌, List, [], ◌∷◌, ◌++◌, length, take, drop, get_or, set, refl, ap, arith, ◌∙◌, sym, w64}
 use Rattle.std.proofs.lemmas.List.{drop-drop, length-append, take-append-le}
 use Rattle.std.proofs.Math.Nat.{div-div-eq-div-mul}
@@ -50,7 +50,7 @@ drop-all_bytes (w ∷ ws) (suc i) lt =
     rw (here, next, ← drop-drop (8 * i) 8 (all_bytes (w ∷ ws)), ← drop-drop (8 * suc i) 8 (all_bytes (w ∷ ws)))
     (drop-all_bytes ws i (omega arith))
 
--- the first bytes of the word at a place
+-- the first bytes of the word at an index
 pub take-all_bytes : (ws : List ℕ) (i over : ℕ) → i < length ws → over ≤ 8
     → take over (drop (8 * i) (all_bytes ws)) ≡ take over (bytes_of 8 (get_or ws i 0))
 take-all_bytes ws i over lt le =

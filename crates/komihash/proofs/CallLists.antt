@@ -30,7 +30,7 @@ pending-absorb v s bytes few =
       | inr le ↦ rw (absorb-blocks v s bytes few le) (omega arith)
     ]
 
--- functions that agree on what may come after the first calls have the same answers to the others
+-- the later calls have the answers of g, if f agrees with g on all that may come after the first
 answers_after-then : (f g : List ℕ → ℕ) (m n : List ℕ) (xs ys : List Call)
     → ((x : List ℕ) → f (m ++ (bytes_of_calls xs ++ x)) ≡ g (n ++ x))
     → answers_after f m (xs ++ ys) ≡ answers_after f m xs ++ answers_after g n ys
@@ -65,7 +65,7 @@ bytes_of_calls-append (Absorb bytes ∷ xs) ys =
     rw (bytes_of_calls-append xs ys) (sym (append_assoc bytes.now _ _))
 bytes_of_calls-append (Answer ∷ xs) ys = bytes_of_calls-append xs ys
 
--- costs depend on the bytes before up to whole blocks
+-- costs depend only on how many bytes came before, modulo 64
 products_of_answers-then : (p q : ℕ) (xs ys : List Call) → q % 64 ≡ (p + length (bytes_of_calls xs)) % 64
     → products_of_answers p (xs ++ ys) ≡ products_of_answers p xs + products_of_answers q ys
 products_of_answers-then p q [] [] e = refl
@@ -97,7 +97,6 @@ onward_products-then p q xs ys is =
     let size = length-append (bytes_of_calls xs) (bytes_of_calls ys) in
     omega (arith, products_of_answers-then p q xs ys (omega arith))
 
--- pieces, and one answer at their end
 products_of_answers-none : (n : ℕ) (pieces : List Call) → AreAbsorbs pieces
     → products_of_answers n pieces ≡ 0
 products_of_answers-none n [] only = refl
@@ -105,6 +104,7 @@ products_of_answers-none n (Absorb bytes ∷ pieces) only =
     products_of_answers-none (n + length bytes.now) pieces only
 products_of_answers-none n (Answer ∷ pieces) only = absurd only
 
+-- pieces, and one answer at their end
 pub run_products-pieces : (pieces : List Call) → AreAbsorbs pieces
     → run_products (pieces ++ Answer ∷ []) ≡ hash_products (length (bytes_of_calls pieces))
 run_products-pieces pieces only =

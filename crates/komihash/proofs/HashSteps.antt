@@ -60,7 +60,7 @@ block_bytes v s b xs last le =
     (block_words v s b (whole_words (take 64 xs)) (whole_words (drop 64 xs)) last
     (omega (arith, length-whole_words (take 64 xs))))
 
--- after a block, those that follow it, and the end
+-- after a block: the blocks that follow it, and then what is left
 after_block : (k v : ℕ) (s : Lanes) (xs : List ℕ) (last : ℕ) → length xs / 64 ≡ k
     → hash_from_lanes v s true (whole_words xs ++ last ∷ [])
     ≡ hash_from_pair (join true (block_lanes v s (whole_words xs)))

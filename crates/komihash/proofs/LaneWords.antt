@@ -6,7 +6,7 @@ use Rattle.komihash.specs.Rounds.{Lanes, low, plus, mix, seed_pair, lanes, block
 use Rattle.komihash.specs.Stream.{AreWords}
 use Rattle.komihash.specs.Tails.{block_lanes}
 
--- a raised word xor a low half is a word
+-- a sum xor a low half is a word
 pub mixed-lt : (a b p : ℕ) → bit_xor (plus a b) (low p) < 2 ^ 64
 mixed-lt a b p = xor_lt 64 (plus a b) (low p) (omega arith) (omega arith)
 

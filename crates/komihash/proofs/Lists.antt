@@ -12,7 +12,7 @@ take-more m n xs =
     ∙ ap (λ ys. take m (take (m + n) xs) ++ ys) (sym (drop-take m n xs))
     ∙ take-append-drop m (take (m + n) xs)
 
--- the first of two pieces, and what is left of the second
+-- the first n items of two pieces: those of the first, and as many of the second as are missing
 pub take-append : (n : ℕ) (xs ys : List ℕ) → take n (xs ++ ys) ≡ take n xs ++ take (n - length xs) ys
 take-append zero xs ys = let none : 0 - length xs ≡ 0 = omega arith in rw none refl
 take-append (suc n) [] ys = let all : suc n - 0 ≡ suc n = omega arith in rw all refl
@@ -25,7 +25,7 @@ pub record Covers (n : ℕ) (out all old : List ℕ) : Type 0 where
   pub front : take n out ≡ take n all
   pub others : drop n out ≡ drop n old
 
--- a range written after those before
+-- a range written after the first a items
 pub covers-put_mid : (a k n : ℕ) (xs ys all old : List ℕ) → a + k ≡ n → n ≤ length xs → n ≤ length all
     → ys ≡ take k (drop a all) → Covers a xs all old → Covers n (put_mid a k xs ys) all old
 covers-put_mid a k n xs ys all old sum within fits is so =
@@ -60,7 +60,7 @@ two_pieces k n all whole out zs ys same enough len le most first second =
 pub written : (k : ℕ) (ys all : List ℕ) → length ys ≡ k → take k ys ≡ take k all → ys ≡ take k all
 written k ys all size same = sym (take_all k ys (omega arith)) ∙ same
 
--- a vector of two items, stored at a place of a list
+-- a vector of two items, stored at an index of a list
 pub two_put : (at k : ℕ) (xs : List ℕ) (v w : ℕ) → at + k ≡ length xs → 2 ≤ k
     → put_mid at k xs (put_chunk 0 (mid_of at k xs) (v ∷ w ∷ [])) ≡ set (set xs at v) (suc at) w
 two_put zero k (x ∷ y ∷ xs) v w size le =

@@ -92,13 +92,13 @@ ended-back m end are =
       bytes = bytes_of-word_of_append m (end ∷ []) are;
     }
 
--- ---- the highest byte of a word that is not 0
+-- ---- the highest nonzero byte of a word
 
--- r is its place
+-- r is its index
 abbrev IsHighest : ℕ → ℕ → Type 0
 IsHighest w r = (0 < w / 2 ^ (8 * r)) × (w / 2 ^ (8 * r) < 256)
 
--- only zeros stand above place r, and another byte at place s or above
+-- only zeros stand above index r, and a nonzero byte at index s or above
 place-le : (w r s : ℕ) → w / 2 ^ (8 * r) < 256 → 0 < w / 2 ^ (8 * s) → s ≤ r
 place-le w r s below above =
     elim (cases_lt r s) as (λ _. s ≤ r) [
@@ -119,7 +119,7 @@ padding_byte-within v m = (grind arith, grind arith)
 
 -- ---- what padded words say of their message
 
--- the last word is 0 where the message is empty, else its highest byte is the padding byte
+-- the last word is 0 where the message is empty, else its highest nonzero byte is the padding byte
 record Reads (v : ℕ) (ws m : List ℕ) : Type 0 where
   size : length ws ≡ length m / 8 + 1
   bytes : take (length m) (all_bytes ws) ≡ m
@@ -146,7 +146,7 @@ reads-padded v (b ∷ m) are =
 reads : (v : ℕ) {ws : List ℕ} → (p : ArePadded v ws) → Reads v ws p.0
 reads v p = subst (λ ws. Reads v ws p.0) p.2 (reads-padded v p.0 p.1)
 
--- the place of the padding byte
+-- the index of the padding byte
 reads-highest : {v : ℕ} {ws m : List ℕ} → Reads v ws m → 0 < last ws
     → IsHighest (last ws) (length m % 8)
 reads-highest {v} {ws} {m} r lt = rw (r.some lt).1 (padding_byte-within v m)
@@ -167,7 +167,7 @@ same_message v x y are_x are_y same =
     ] in
     sym of_x.bytes ∙ ap (λ n. take n (all_bytes ws)) sizes ∙ of_y.bytes
 
--- ---- what the code finds: the highest byte of the last word that is not 0
+-- ---- what the code finds: the highest nonzero byte of the last word
 
 pub highest : (w bit : ℕ) → 2 ^ bit ≤ w → w < 2 * 2 ^ bit
     → (0 < w / 2 ^ (8 * (bit / 8))) × (w / 2 ^ (8 * (bit / 8)) < 256)
@@ -204,7 +204,7 @@ padded_zero v ws p zero =
     let of_m = reads v p in
     omega (arith, of_m.size, of_m.none zero)
 
--- a message that ends below place r of the last word
+-- a message that ends below index r of the last word
 module _ (v : ℕ) (ws : List ℕ) (r : ℕ) where
   abbrev size : ℕ
   size = 8 * (length ws - 1) + r

@@ -29,7 +29,7 @@ bytes-pending_words (suc n) xs are le =
     )
     (take-append-drop 8 xs)
 
--- a word set to hold more: that of the bytes that it holds and those after them
+-- a word set to that of its old bytes and of more after them
 set-pending_words : (n i : ℕ) (xs ys : List ℕ) → i < n → 8 * i ≤ length xs → length xs + length ys ≤ 8 * i + 8
     → set (pending_words n xs) i (word_of (drop (8 * i) xs ++ ys)) ≡ pending_words n (xs ++ ys)
 unfolding pending_words
@@ -44,7 +44,7 @@ set-pending_words (suc n) (suc i) xs ys lt from few =
     (ap (λ ws. word_of (take 8 xs) ∷ ws)
     (set-pending_words n i (drop 8 xs) ys (omega arith) (omega arith) (omega arith)))
 
--- a word at a whole place holds the next eight bytes, or as many as there are
+-- a word set where the old bytes end on a whole word: the next eight bytes, or all that are left
 pub extend-set : (old : List ℕ) (at from : ℕ) (bytes : List ℕ) → at < 8 → from ≤ length bytes
     → Extend old (set old at (word_of (take 8 (drop from bytes)))) at bytes from (from + 8)
 extend-set old at from bytes lt within xs place is =
@@ -147,7 +147,7 @@ module _ (ws : List ℕ) (fill : ℕ) (are : ArePending ws fill) where
       get_or_pending (fill / 8) (omega (arith, are.few))
       ∙ ap word_of (take_all 8 partial (omega (arith, length_partial)))
 
-  -- a word joined to it, which then holds as many of the bytes as fit
+  -- a word joined to the partial word: as many of its bytes as fit
   pub join_pending : (w : ℕ) (bytes : List ℕ) → AreBytes bytes → w ≡ word_of bytes
       → Store (set ws (fill / 8) (bit_or (get_or ws (fill / 8) 0) (w * 2 ^ (8 * (fill % 8)) % 2 ^ 64)))
       (pending_bytes ws fill ++ take (8 - fill % 8) bytes)
@@ -189,7 +189,7 @@ module _ (ws : List ℕ) (fill : ℕ) (are : ArePending ws fill) where
   pub last_fits : (i : ℕ) → i + 1 ≡ fill → Fits w8 (get_or ws (i / 8) 0 / 2 ^ (8 * (i % 8)))
   last_fits i e = rw (last_pending i e) record { fits = AreBytes_pending ws fill i }
 
--- what the functions that append, those that read, and all functions on pending bytes are proved by
+-- the lemmas for functions that append, for those that read, and for all on pending bytes
 pub ruleset put_laws = (length_pending, bytes_put, ArePending_put, words_put, join_pending, extend-set)
 
 pub ruleset read_laws = (count_pending, word_pending, final_word_pending, last_pending, last_fits)

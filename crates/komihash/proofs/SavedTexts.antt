@@ -30,7 +30,7 @@ part-put a n out part bytes le within room is =
       λ m after. drop-put_mid a (n - a) out part m (omega arith) (omega arith) size,
     )
 
--- what the search of `read_lanes` needs
+-- what the proof of `read_lanes` needs
 pub ruleset cuts = (length-take-le, length-drop, take_all)
 
 -- ---- a text, and the state that is read from it
@@ -113,7 +113,7 @@ pub in_order-back : (ws : List ℕ) → length ws ≡ 8 → in_order (lanes_of w
 in_order-back (a ∷ b ∷ c ∷ d ∷ e ∷ f ∷ g ∷ h ∷ []) eight = refl
 in_order-back ws eight = absurd (omega arith)
 
--- what the search of `halves` needs
+-- what the proof of `from_order` needs
 pub ruleset lanes_back = (in_order-back, xor_again)
 
 -- the bytes of whole words

@@ -60,7 +60,7 @@ absorb-few v s (b ∷ bytes) few =
     ∙ absorb-few v (byte_state s b) bytes (omega arith)
     ∙ rw append_assoc
 
--- the state after all whole blocks of bytes that begin a block
+-- the state after bytes that fill at least one block, the first of them at a block's beginning
 abbrev pub blocks_state : ℕ → Lanes → List ℕ → State
 blocks_state v l all = record {
   lanes = block_lanes v l (whole_words all);

@@ -20,7 +20,7 @@ tail_of-words : (v : ℕ) (m : List ℕ) (absorbed top_bit : Bool)
 tail_of-words v [] absorbed top_bit = grind arith
 tail_of-words v (b ∷ m) absorbed top_bit = padded_words-by_tail v (b ∷ m)
 
--- an answer, from the pair of its lanes and its final word
+-- an answer, from the pair of its lanes, its whole words and its final word
 pub answer-by_pair : (v : ℕ) (s : State)
     → answer v s ≡ hash_from_pair (join s.absorbed s.lanes)
     (whole_words s.pending ++ final_word s.pending (tail_end v s.pending s.absorbed s.top_bit) ∷ [])

@@ -1,4 +1,4 @@
--- The whole words of bytes, by place, and the bytes after them.
+-- The whole words of bytes, by index, and the bytes after them.
 use Rattle.std.proofs.Common.{◌≤◌, take, drop, ◌≡◌, ℕ, suc, ◌-◌, ◌%◌, ◌<◌, List, [], ◌∷◌, ◌++◌, length, get_or, refl, ap, arith, ◌∙◌, sym, zero, ◌+◌, ◌*◌, ◌/◌}
 use Rattle.komihash.specs.Pending.{pending_words}
 use Rattle.komihash.specs.Words.{word_of, words_of}
@@ -7,7 +7,7 @@ use Rattle.std.proofs.lemmas.List.{length-drop, drop-drop}
 use Rattle.std.proofs.lemmas.Bool.Decides.{nat_tests}
 use Rattle.std.specs.Prelude.{slice_index}
 
--- the word at a place of those that store bytes
+-- the word at an index of those that store bytes
 pub get_or-pending_words : (n i : ℕ) (xs : List ℕ) → i < n
     → get_or (pending_words n xs) i 0 ≡ word_of (take 8 (drop (8 * i) xs))
 unfolding pending_words
@@ -55,7 +55,7 @@ pub after_words-few : (xs : List ℕ) → length xs < 8 → after_words xs ≡ x
 after_words-few (a ∷ b ∷ c ∷ d ∷ e ∷ f ∷ g ∷ h ∷ bs) le = absurd (omega arith)
 after_words-few xs le = refl
 
--- the bytes after the last whole word, by place
+-- the bytes after the last whole word, by index
 pub after_words-drop : (xs : List ℕ) → after_words xs ≡ drop (length xs - length xs % 8) xs
 after_words-drop (a ∷ b ∷ c ∷ d ∷ e ∷ f ∷ g ∷ h ∷ bs) =
     let n : suc (suc (suc (suc (suc (suc (suc (suc (length bs)))))))) - suc
@@ -77,7 +77,7 @@ whole_words-append (a ∷ b ∷ c ∷ d ∷ e ∷ f ∷ g ∷ h ∷ xs) ys k is 
     ap (λ ws. word_of (a ∷ b ∷ c ∷ d ∷ e ∷ f ∷ g ∷ h ∷ []) ∷ ws) (whole_words-append xs ys (k - 1) (omega arith))
 whole_words-append xs ys k is = absurd (omega arith)
 
--- n words from a place on
+-- n words from an index on
 abbrev words_from : ℕ → ℕ → List ℕ → List ℕ
 words_from zero at xs = []
 words_from (suc n) at xs = word_of (take 8 (drop at xs)) ∷ words_from n (at + 8) xs
@@ -93,7 +93,7 @@ whole_words-from (suc n) at xs e =
 pub whole_words-block : (xs : List ℕ) → length xs ≡ 64 → whole_words xs ≡ words_from 8 0 xs
 whole_words-block xs e = whole_words-from 8 0 xs e
 
--- whole words as they are read from bytes, each by itself
+-- what proofs that read whole words one by one need
 pub ruleset read_words = (length-whole_words, slice_index-whole_words, nat_tests)
 
 -- bytes that are all in whole words

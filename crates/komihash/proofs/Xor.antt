@@ -1,4 +1,4 @@
--- Orders of xor: which two of several words are taken first.
+-- Laws of xor: orders of words, words that cancel, and two masks.
 use Rattle.std.proofs.Common.{◌≡◌, ℕ, ◌+◌, ◌*◌, ◌^◌, ◌<◌, ap, ◌∙◌, sym, arith, lit<}
 use Rattle.std.proofs.Math.Nat.{mul_comm}
 use Rattle.std.proofs.lemmas.Nat.{and_comm, and_assoc, and-not}
@@ -45,7 +45,7 @@ xor_back c x = xor_comm (bit_xor c x) c ∙ xor_again c x
 pub xor_around : (c x : ℕ) → bit_xor c (bit_xor x c) ≡ x
 xor_around c x = ap (bit_xor c) (xor_comm x c) ∙ xor_again c x
 
--- what joining the lanes needs: words and low halves change places, and a word met twice is gone
+-- what joining the lanes needs: words and low halves change places, and a word met twice cancels
 pub ruleset joined = (xor_middle, xor_turn, xor_around)
 
 -- the bits of a word at even and at odd places make the word

@@ -32,26 +32,26 @@ AreAbsorbs [] = Unit {0}
 AreAbsorbs (Absorb bytes ∷ calls) = AreAbsorbs calls
 AreAbsorbs (Answer ∷ calls) = ⊥
 
--- the products of the answers alone, where n bytes came before the first call
+-- the products of the answers alone, where n modulo 64 bytes are pending before the first call
 abbrev pub products_of_answers : ℕ → List Call → ℕ
 products_of_answers n [] = 0
 products_of_answers n (Absorb bytes ∷ calls) = products_of_answers (n + length bytes.now) calls
 products_of_answers n (Answer ∷ calls) = answer_products (n % 64) + products_of_answers n calls
 
--- the products of calls where p bytes are pending: four for each block of all bytes, and those of
--- the answers
+-- the products of calls where p bytes are pending: four for each whole block of the pending and the
+-- absorbed bytes, and those of the answers
 abbrev pub onward_products : ℕ → List Call → ℕ
 onward_products p calls =
     4 * ((p + length (bytes_of_calls calls)) / 64) + products_of_answers p calls
 
--- the bytes that calls copy into a stream, where n bytes came before the first
+-- how many bytes calls copy into a stream, where n modulo 64 are pending before the first call
 abbrev pub onward_kept : ℕ → List Call → ℕ
 onward_kept n [] = 0
 onward_kept n (Absorb bytes ∷ calls) =
     kept_bytes (n % 64) (length bytes.now) + onward_kept (n + length bytes.now) calls
 onward_kept n (Answer ∷ calls) = onward_kept n calls
 
--- the products and the kept bytes of calls on a new stream, with those of its seed
+-- the products and the kept bytes of calls on a new stream, with the one product of its start
 abbrev pub run_products : List Call → ℕ
 run_products calls = 1 + onward_products 0 calls
 

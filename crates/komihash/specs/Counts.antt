@@ -13,8 +13,8 @@ write_products f b = 4 * ((f + b) / 64)
 abbrev pub answer_products : ℕ → ℕ
 answer_products f = 2 + f / 16
 
--- the bytes that a write of b bytes copies into a stream where f are pending: all if no block is
--- filled; else those that complete the partial block, if there is one, and those after the last
+-- how many bytes a write of b bytes copies into a stream where f are pending: all if no block is
+-- completed; else those that complete the partial block, if there is one, and those after the last
 -- block
 abbrev pub kept_bytes : ℕ → ℕ → ℕ
 kept_bytes f b =

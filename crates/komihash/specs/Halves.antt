@@ -1,6 +1,6 @@
 -- How the code stores pairs: the low half of a product stays apart from the word that it is xored
--- with, until the next factor is made. That takes one step off the path on which each product waits
--- for the one before. `Lanes` of src/rounds.rt stores the lanes in the same way.
+-- with, until the next factor is made. That makes the way from one product to the next one xor
+-- shorter. `Lanes` of src/rounds.rt stores the lanes in a similar way.
 use Rattle.std.specs.Prelude.{ℕ, bit_xor}
 
 -- the pair (a, e) that is stored as a low half and the word e

@@ -3,7 +3,7 @@ use Rattle.std.specs.Prelude.{◌≡◌, ℕ, Bool, ◌-◌, ◌%◌, ◌==◌, 
 use Rattle.std.specs.Prelude.{List, [], ◌∷◌, ◌++◌, length, replicate, slice_index}
 use Rattle.komihash.specs.Words.{AreBytes, words_of}
 
--- whether a last byte is at least 128, and version v looks at that: only version 4 does
+-- whether the version is 4 and a last byte is at least 128
 abbrev pub has_top_bit : ℕ → ℕ → Bool
 has_top_bit v b = v == 4 && nat_le 128 b
 

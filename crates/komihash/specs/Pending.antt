@@ -21,8 +21,8 @@ pub record ArePending (ws : List ℕ) (fill : ℕ) : Type 0 where
   pub few : fill < 64
   pub words : Store ws (pending_bytes ws fill)
 
--- After any bytes xs, the old words store the first `from` of these bytes and the new ones the
--- first `to`. Word `at` is the first that differs.
+-- if the old words store some bytes xs and then the first `from` of `bytes`, in `at` whole words,
+-- the new words store xs and then the first `to` of `bytes`
 abbrev pub Extend : List ℕ → List ℕ → ℕ → List ℕ → ℕ → ℕ → Type 0
 Extend old new at bytes from to =
     (xs : List ℕ) → length xs + from ≡ 8 * at → Store old (xs ++ take from bytes)

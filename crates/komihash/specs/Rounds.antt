@@ -20,7 +20,7 @@ low p = p % 2 ^ 64
 abbrev pub high : ℕ → ℕ
 high p = p / 2 ^ 64
 
--- the sum of two words
+-- the sum of two words, modulo 2 ^ 64
 abbrev pub plus : ℕ → ℕ → ℕ
 plus x y = (x + y) % 2 ^ 64
 
@@ -35,7 +35,7 @@ seed_words seed = (
   bit_xor (constant 5) (bit_and seed 0xaaaaaaaaaaaaaaaa),
 )
 
--- the pair that a seed begins with
+-- the pair that a hash with a seed begins with
 abbrev pub seed_pair : ℕ → ℕ × ℕ
 seed_pair seed = mix (seed_words seed).0 (seed_words seed).1 (seed_words seed).1
 
@@ -63,7 +63,7 @@ lanes s = record {
   s8 = bit_xor (constant 8) s.1;
 }
 
--- which words of a block are multiplied: two indices for each of its four products
+-- which words of a block are multiplied with each other: two indices for each product
 abbrev pub places : ℕ → List ℕ
 places v =
     if v == 4
@@ -100,7 +100,7 @@ block_round_by table s ws =
 abbrev pub block_round : ℕ → Lanes → List ℕ → Lanes
 block_round v s ws = block_round_by (places v) s ws
 
--- the pair of the lanes: all joined if a block was absorbed, else the pair they were made of
+-- the pair of the lanes: s1 to s4 xored and s5 to s8 xored if a block was absorbed, else s1 and s5
 abbrev pub join : Bool → Lanes → ℕ × ℕ
 join absorbed s =
     if absorbed

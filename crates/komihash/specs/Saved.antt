@@ -12,8 +12,8 @@ flag_byte flag = if flag then 1 else 0
 abbrev pub in_order : Lanes → List ℕ
 in_order s = s.s1 ∷ s.s2 ∷ s.s3 ∷ s.s4 ∷ s.s5 ∷ s.s6 ∷ s.s7 ∷ s.s8 ∷ []
 
--- the first four bytes: the version, whether a block was absorbed, the bit of version 4, and how
--- many bytes are pending
+-- the first four bytes: the version, whether a block was absorbed, the top bit that only version 4
+-- keeps, and how many bytes are pending
 abbrev pub head : ℕ → State → List ℕ
 head v s = v ∷ flag_byte s.absorbed ∷ flag_byte s.top_bit ∷ length s.pending ∷ []
 
@@ -25,6 +25,6 @@ text v s = head v s ++ all_bytes (in_order s.lanes) ++ s.pending
 abbrev pub IsText : ℕ → List ℕ → Type 0
 IsText v bytes = (s : State) × IsState v s × (text v s ≡ bytes)
 
--- the bytes are the text of a stream of version v that has absorbed the message m from the seed
+-- the bytes are the text of a stream of version v that began from the seed and has absorbed m
 unfoldable pub IsTextAfter : ℕ → ℕ → List ℕ → List ℕ → Type 0
 IsTextAfter v seed m bytes = (s : State) × IsState v s × HasAbsorbed v seed s m × (text v s ≡ bytes)

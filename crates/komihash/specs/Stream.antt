@@ -23,7 +23,7 @@ start seed = record {
   top_bit = false;
 }
 
--- the state after one byte: it is pending, and once 64 are, they go through one block round
+-- the state after one byte: the byte is pending, and once 64 are, they go through one block round
 abbrev pub absorb_byte : ℕ → State → ℕ → State
 absorb_byte v s b =
     let bytes = s.pending ++ b ∷ [] in
@@ -41,7 +41,7 @@ unfoldable pub absorb : ℕ → State → List ℕ → State
 absorb v s [] = s
 absorb v s (b ∷ bytes) = absorb v (absorb_byte v s b) bytes
 
--- the state is that of a new stream of the seed that absorbed the message, in whatever pieces
+-- the state is that of a new stream of the seed once it has absorbed the message, however cut
 unfoldable pub HasAbsorbed : ℕ → ℕ → State → List ℕ → Type 0
 HasAbsorbed v seed s m = s ≡ absorb v (start seed) m
 

@@ -6,7 +6,7 @@ use Rattle.komihash.specs.Padding.{padding_byte}
 use Rattle.komihash.specs.Stream.{end_after_blocks}
 use Rattle.komihash.specs.Words.{word_of}
 
--- the words of whole eights of bytes
+-- the words of each eight bytes, without the fewer than eight at the end
 abbrev pub whole_words : List ℕ → List ℕ
 whole_words (a ∷ b ∷ c ∷ d ∷ e ∷ f ∷ g ∷ h ∷ bs) =
     word_of (a ∷ b ∷ c ∷ d ∷ e ∷ f ∷ g ∷ h ∷ []) ∷ whole_words bs
@@ -22,7 +22,7 @@ abbrev pub end_byte : ℕ → List ℕ → ℕ
 end_byte v [] = 0
 end_byte v (b ∷ m) = padding_byte v (b ∷ m)
 
--- the word of the bytes after the last whole word, and the byte that ends them
+-- the word of the bytes after the last whole word and of the byte that ends them
 abbrev pub final_word : List ℕ → ℕ → ℕ
 final_word m end = word_of (after_words m ++ end ∷ [])
 

@@ -1,2 +1,3 @@
--- What a tally owns besides its numbers. Other crates can name it, but have no key to it.
+-- What a tally owns besides its numbers, and the proof that its key opens it. Other crates can name
+-- both, but have no key.
 pub use Rattle.komihash.specs.Sealed.{counted, opened}

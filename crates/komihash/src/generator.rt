@@ -12,8 +12,8 @@ use std::marker::Model;
 ///
 /// A step multiplies the words, and replaces them by sums and exclusive ors of the second word, the
 /// halves of the product, and constants of alternating bits. Its output is the new first word.
-/// `next` of `specs/Generator.antt` has the rule of each version; rules and constants are those of
-/// komihash. In one version, the same pair always gives the same outputs.
+/// `next` of `specs/Generator.antt` has the rule of each version, with the constants of the
+/// original. In one version, the same pair always gives the same outputs.
 #[derive(Drop)]
 pub struct Komirand<const V: u8> {
     s1: u64,
@@ -40,7 +40,7 @@ impl<const V: u8> Komirand<V> {
         Komirand { s1, s2 }
     }
 
-    /// Returns the generator of a seed, used as both words, after four steps.
+    /// Returns the generator that has the seed as both words, after four steps.
     #[inline]
     pub fn init(seed: u64) -> Self
         ensures { result ≡ after_steps V 4 (seed, seed) }
@@ -62,7 +62,7 @@ impl<const V: u8> Komirand<V> {
         generator
     }
 
-    // Reads both words, which shows that they are words.
+    // Shows that both words are below 2^64, by reading the fields.
     #[inline(always)]
     pub(crate) fn are_words(&self)
         ensures first { self.now.0 < 2 ^ 64 }
@@ -94,7 +94,7 @@ impl<const V: u8> Komirand<V> {
     /// Fills the buffer with the bytes of the next outputs, the lowest byte of each first.
     ///
     /// Takes one step for each eight bytes, and one more for a remainder, which gets the lowest
-    /// bytes of that output; the others are dropped. Takes no step if the buffer is empty.
+    /// bytes of its output; its other bytes are dropped. Takes no step if the buffer is empty.
     #[inline]
     #[tactic(auto, unfolding(crate::specs::Generator::after_steps))]
     pub fn fill_bytes(&mut self, buffer: &mut [u8])

@@ -49,8 +49,9 @@ pub fn empty_write()
         number_after v number ([] ∷ writes) ≡ number_after v (komi v number []) writes }
 {}
 
-/// Proves that absorbing n bytes in any pieces and answering once at the end costs as many products
-/// as hashing them at once: 3, 4 for each whole block, and 1 for each 16 bytes after the blocks.
+/// Proves that a new stream that absorbs n bytes in any pieces and answers once at the end costs as
+/// many products as a hash of them at once: 3, plus 4 for each whole block, plus 1 for each 16
+/// bytes after the blocks.
 pub fn cost_of_pieces()
     ensures { (pieces : List Call) → AreAbsorbs pieces →
         run_products (pieces ++ Answer ∷ []) ≡ hash_products (length (bytes_of_calls pieces)) }
@@ -65,8 +66,8 @@ pub fn fill_cut()
         after_fill v s (x + y) ≡ after_fill v (after_fill v s x) y }
 {}
 
-/// Proves that from one seed as both words, a fill of 32 + n bytes writes 32 bytes, and then what
-/// a fill of n bytes writes after the four steps that `init` takes. Both leave the same pair.
+/// Proves that from the pair (seed, seed), a fill of 32 + n bytes writes 32 bytes, and then what a
+/// fill of n bytes writes from `init(seed)`. Both leave the same pair.
 pub fn one_seed()
     ensures length { (v seed : ℕ) → length (fill v (seed, seed) 32) ≡ 32 }
     ensures bytes { (v seed n : ℕ) → fill v (seed, seed) (32 + n)
@@ -131,8 +132,8 @@ pub fn steps_cut()
         outputs v (m + n) s ≡ outputs v m s ++ outputs v n (after_steps v m s) }
 {}
 
-/// Proves what a loop of steps needs: no step leaves the pair as it is and has no output, and n + 1
-/// steps are n steps and one more.
+/// Proves what a loop of steps needs: zero steps output nothing and don't change the pair, and
+/// n + 1 steps are n steps and one more.
 pub fn step_by_step()
     ensures no_step { (v : ℕ) (s : ℕ × ℕ) → after_steps v 0 s ≡ s }
     ensures no_output { (v : ℕ) (s : ℕ × ℕ) → outputs v 0 s ≡ [] }

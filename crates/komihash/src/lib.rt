@@ -1,7 +1,7 @@
 //! Komihash, a fast hash of 64 bits that is not cryptographic, in its versions 4 and 5.
 //!
-//! The same bytes and the same seed give the same hash, however the bytes were cut. It is proved to
-//! be the hash that the definitions in `specs/` give.
+//! In one version, `komihash` and streams give the same bytes and seed the same hash, however the
+//! bytes were cut. It is proved to be the hash that the definitions in `specs/` give.
 #![tactic(auto)]
 
 mod aliases;

@@ -1,7 +1,7 @@
 //! The steps of the hash: seeding, lanes, block round, joining, pair round, closing.
 //!
-//! Only `places` depends on the version. Each step counts its products in the tally that it is
-//! passed.
+//! Only `places` depends on the version. A step that makes products counts them in the tally that
+//! it is passed.
 
 ghost use Rattle.std.specs.Prelude.{◌≡◌, ℕ, ◌+◌, ◌*◌, ◌<◌, List, [], ◌∷◌, true, All};
 ghost use Rattle.komihash.specs.Halves.{pair_of};
@@ -32,14 +32,13 @@ const C7: u64 = 0xc0ac_29b7_c97c_50dd;
 
 const C8: u64 = 0x3f84_d5b5_b547_0917;
 
-/// A pair (a, e) as the code stores it: the low half of the last product, and the word e. The
-/// pair's a is their xor, which is computed only when a factor needs it.
+/// A pair (a, e) as the code stores it: a xor e, and the word e. After a `mix`, a xor e is the low
+/// half of the product. The word a itself is computed only for a factor, and as the hash.
 pub(crate) type Pair = (u64, u64);
 
-/// The eight lanes as the code stores them: one pair for each product of a block, as its `mix`
-/// makes it. s5 to s8 are the words e of the four pairs. s1 to s4 are their low halves, each xor
-/// the word e of the pair before it. The fourth pair stands first, since it is the one before the
-/// first.
+/// The eight lanes as the code stores them: four pairs in a ring, one for each product of a block.
+/// s5 to s8 are the second words of the pairs. s1 to s4 are the first words, each xor the second
+/// word of the pair before it. The fourth pair comes before the first, so it stands there.
 #[derive(Drop)]
 pub(crate) struct Lanes {
     pub(crate) fourth: Pair,
@@ -91,7 +90,7 @@ pub(crate) fn seed_words(seed: u64) -> (u64, u64)
     )
 }
 
-/// Returns the pair that a seed begins with.
+/// Returns the pair that a hash with the seed begins with.
 #[inline(always)]
 pub(crate) fn seed_pair(seed: u64, tally: &mut Tally) -> Pair
     ensures pair { pair_of result ≡ seed_pair seed }
@@ -116,7 +115,7 @@ pub(crate) fn lanes_of(pair: Pair) -> Lanes
     }
 }
 
-/// Returns which words of a block are multiplied: two indices for each of its four products.
+/// Returns which words of a block are multiplied with each other: two indices for each product.
 #[inline(always)]
 pub(crate) fn places<const V: u8>() -> [usize; 8]
     ensures table { result ≡ places V }
@@ -147,7 +146,7 @@ pub(crate) fn block_round(
     let ((low3, e3), (low4, e4)) = (lanes.third, lanes.fourth);
     let [p0, p1, p2, p3, p4, p5, p6, p7] = places;
     // These factors are made before the first product, so that no word e is needed after its own
-    // sum. Each takes the low half first, which is ready before the raised word that it belongs to.
+    // sum. Each takes the low half of a product first, which is ready before the sum that follows.
     // In this order of products a block takes the fewest instructions.
     let x2 = (words[p2] ^ low2) ^ e1;
     let x3 = (words[p4] ^ low3) ^ e2;
@@ -165,7 +164,6 @@ pub(crate) fn block_round(
     };
 }
 
-/// Returns a copy of the lanes.
 #[inline(always)]
 pub(crate) fn copied(lanes: &Lanes) -> Lanes
     ensures { result ≡ lanes.now }
@@ -178,8 +176,8 @@ pub(crate) fn copied(lanes: &Lanes) -> Lanes
     }
 }
 
-/// Returns the pair of the lanes: all of them joined if a block was absorbed, otherwise the pair
-/// that they were made of.
+/// Returns the pair of the lanes: s1 to s4 xored and s5 to s8 xored if a block was absorbed,
+/// otherwise s1 and s5.
 #[inline(always)]
 #[tactic(auto, using(crate::proofs::Xor::joined))]
 pub(crate) fn join(lanes: &Lanes, absorbed: bool) -> Pair

@@ -21,7 +21,7 @@ pub const LONGEST_TEXT: usize = 131;
 ///
 /// `start`, `absorb` and `answer` also count their cost in a tally that the caller passes: products
 /// of two words, and bytes that are copied into the stream. The methods have other names than those
-/// of the type, so that the name alone tells which of the two a call means.
+/// of `StreamedKomihash`, so that the name alone tells which of the two a call means.
 pub trait KomiStream: Sized + Drop {
     /// The version: 4 or 5.
     const VERSION: u8;
@@ -38,8 +38,8 @@ pub trait KomiStream: Sized + Drop {
         ensures products { tally.new.products ≡ tally.old.products + 1 }
         ensures kept { tally.new.kept ≡ tally.old.kept };
 
-    /// Absorbs bytes. Counts four products for each block of 64 bytes that they fill, and the bytes
-    /// that are copied.
+    /// Absorbs bytes. Counts four products for each block of 64 bytes that they complete, and the
+    /// bytes that are copied.
     fn absorb(&mut self, bytes: &[u8], tally: &mut Tally)
         ensures state { state self.new ≡ absorb VERSION (state self.old) bytes.now }
         ensures message { (seed : ℕ) (m : List ℕ) → HasAbsorbed VERSION seed (state self.old) m
@@ -61,10 +61,10 @@ pub trait KomiStream: Sized + Drop {
             ≡ tally.old.products + answer_products (length (state self.now).pending) }
         ensures kept { tally.new.kept ≡ tally.old.kept };
 
-    /// Writes the saved text of the stream to the front of `out`. Returns its length in bytes.
+    /// Writes the saved text of the stream to the front of `out`, whose rest is unchanged. Returns
+    /// the text's length in bytes.
     ///
-    /// `out` needs room for `LONGEST_TEXT` bytes, whatever is pending. The rest of `out` is
-    /// unchanged.
+    /// `out` needs room for `LONGEST_TEXT` bytes, whatever is pending.
     fn store(&self, out: &mut [u8]) -> usize
         requires { LONGEST_TEXT ≤ length out.old }
         ensures length { result ≡ length (text VERSION (state self.now)) }
@@ -101,12 +101,12 @@ pub enum Call<'a> {
     Answer,
 }
 
-/// Makes calls on a stream, in order, writes the answers to the front of `out`, and returns how
-/// many there are. Counts what the calls cost.
+/// Makes calls on a stream, in order, writes the answers to the front of `out`, whose rest is
+/// unchanged, and returns how many there are. Counts what the calls cost.
 ///
-/// `out` needs room for one `u64` for each call. The rest of `out` is unchanged. Afterwards
-/// the stream has absorbed all bytes of the calls. If it had absorbed a message from a seed before,
-/// each answer is the hash of that message and the bytes since, joined.
+/// `out` needs room for one `u64` for each call. Afterwards the stream has absorbed all bytes of
+/// the calls. If it began from a seed and had absorbed a message before, each answer is the hash of
+/// that message and the bytes since, joined.
 pub fn run_on<S: KomiStream>(
     stream: &mut S,
     calls: &[Call<'_>],
@@ -141,11 +141,11 @@ pub fn run_on<S: KomiStream>(
     count
 }
 
-/// Makes calls on a new stream of a seed, in order, writes the answers to the front of `out`, and
-/// returns how many there are. Counts what the new stream and the calls cost.
+/// Makes calls on a new stream of a seed, in order, writes the answers to the front of `out`, whose
+/// rest is unchanged, and returns how many there are. Counts what the stream and the calls cost.
 ///
-/// `out` needs room for one `u64` for each call. The rest of `out` is unchanged. Each answer
-/// is the hash of all bytes that the calls before it absorb, joined.
+/// `out` needs room for one `u64` for each call. Each answer is the hash of all bytes that the
+/// calls before it absorb, joined.
 pub fn run<S: KomiStream>(
     seed: u64,
     calls: &[Call<'_>],

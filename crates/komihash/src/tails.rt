@@ -8,7 +8,7 @@ use crate::rounds::{Pair, close_one, close_two, pair_round};
 use crate::tally::Tally;
 use crate::utils::Words;
 
-// Returns the hash from a pair, fewer than two words from index `at`, and the final word.
+// Returns the hash from a pair, at most one word from index `at` on, and the final word.
 #[inline(always)]
 fn hash_below_two<W: Words>(pair: Pair, left: &W, at: usize, last: u64, tally: &mut Tally) -> u64
     requires within { at ≤ length (W.words left.now) }
@@ -26,8 +26,8 @@ fn hash_below_two<W: Words>(pair: Pair, left: &W, at: usize, last: u64, tally: &
     }
 }
 
-// Returns the pair after a round on the two words from index `at`. The remaining words hash the
-// same from it. This is stated and proved here once, for three calls.
+// Returns the pair after a round on the two words from index `at`. From it, the words after these
+// give the hash that all give from `pair`. This is stated and proved here once, for three calls.
 #[inline(always)]
 #[tactic(auto, using(crate::proofs::HashSteps::hash_from_pair_two))]
 fn take_two<W: Words>(pair: Pair, left: &W, at: usize, tally: &mut Tally) -> Pair
@@ -42,7 +42,7 @@ fn take_two<W: Words>(pair: Pair, left: &W, at: usize, tally: &mut Tally) -> Pai
     pair_round(pair, left.word(at), left.word(at + 1), tally)
 }
 
-// Returns the hash from a pair, fewer than four words from index `at`, and the final word.
+// Returns the hash from a pair, at most three words from index `at` on, and the final word.
 #[inline(always)]
 fn hash_below_four<W: Words>(pair: Pair, left: &W, at: usize, last: u64, tally: &mut Tally) -> u64
     requires within { at ≤ length (W.words left.now) }

@@ -4,8 +4,8 @@ ghost use Rattle.std.specs.Prelude.{◌≡◌, ℕ, ◌+◌};
 
 use std::marker::{Model, PhantomData};
 
-/// Counts two things that only contracts see, without limit: `products`, the products of two words,
-/// and `kept`, the bytes that were copied into streams as pending bytes.
+/// Counts, without limit, two things that only contracts see: `products`, the products of two
+/// words, and `kept`, the bytes that were copied into streams as pending bytes.
 ///
 /// A tally takes no memory at run time, and no program can read it. A contract says by how much a
 /// call raises the tally that it is passed. Another crate can change a tally only by passing it to
@@ -24,8 +24,8 @@ impl Model for Tally {
     ghost also_owns = { λ t. counted t.products t.kept };
 }
 
-// The key to what a tally owns. No proof can make or raise a tally without it, and no other crate
-// can name it, since this struct is private. No value of it is ever made.
+// Gives proofs in this crate the key of `specs/Sealed.antt`. No proof can make or raise a tally
+// without it, and no other crate can name this private struct. No value of it is ever made.
 struct TallyKey;
 
 impl Model for TallyKey {

@@ -1,4 +1,4 @@
-//! Tests of what no contract says: above all, that the definitions are komihash.
+//! Tests, above all that the definitions give the hashes of komihash, which no contract says.
 
 mod assertions;
 mod definitions;

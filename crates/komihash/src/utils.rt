@@ -53,7 +53,7 @@ fn two_at(bytes: &[u8], at: usize) -> u64
 /// Returns the word of at most seven bytes and the byte `end` after them.
 ///
 /// Reads the bytes in two pieces, which may overlap. `end` follows the second piece, and a shift
-/// drops from it the bytes that the first piece has too.
+/// drops from this piece the bytes that the first has too.
 #[inline(always)]
 pub(crate) fn read_partial_word(bytes: &[u8], end: u64) -> u64
     requires few { length bytes.now ≤ 7 }
@@ -74,7 +74,7 @@ pub(crate) fn read_partial_word(bytes: &[u8], end: u64) -> u64
 
 /// Fills `out`, of eight bytes, with the bytes of a word.
 ///
-/// Assigns an array, which is one store. A copy from a slice also compares addresses.
+/// Assigns an array, which is one store. Rattle's `copy_from_slice` also compares addresses.
 #[inline(always)]
 pub(crate) fn write_word(word: u64, out: &mut [u8])
     requires { length out.old ≡ 8 }
@@ -109,7 +109,6 @@ pub(crate) fn write_partial_word(word: u64, out: &mut [u8])
 
 /// Whole words, wherever they lie: in a message's bytes, or in the words of a stream.
 pub(crate) trait Words {
-    /// The words.
     ghost words: { Self → List ℕ };
 
     /// Returns whether there are at least `count` words.

@@ -44,7 +44,7 @@ pub fn komihash_counted(bytes: &[u8], seed: u64, tally: &mut Tally) -> u64
 /// which is the length that `out` needs.
 ///
 /// They are the bytes of the message, its padding byte, and zeros, eight bytes per word, the lowest
-/// byte first; those of the empty message are one 0. The rest of `out` is unchanged.
+/// byte first. The empty message has the one word 0. The rest of `out` is unchanged.
 #[inline]
 pub fn pad(bytes: &[u8], out: &mut [u64]) -> usize
     requires { length bytes.now / 8 + 1 ≤ length out.old }
@@ -55,10 +55,10 @@ pub fn pad(bytes: &[u8], out: &mut [u64]) -> usize
     padding::pad::<4>(bytes, out)
 }
 
-/// Writes the message that has these padded words, and returns its length in bytes.
+/// Writes the message that has these padded words to the front of `out`, whose rest is unchanged,
+/// and returns its length in bytes. `out` needs room for eight bytes for each word.
 ///
-/// `out` needs room for eight bytes for each word. The rest of `out` is unchanged. Returns `None`
-/// if no message has these padded words in this version, and then all of `out` is unchanged.
+/// Returns `None`, with all of `out` unchanged, if no message has these words in this version.
 #[inline]
 pub fn unpad(words: &[u64], out: &mut [u8]) -> Option<usize>
     requires { 8 * length words.now ≤ length out.old }

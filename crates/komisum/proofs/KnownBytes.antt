@@ -1,4 +1,4 @@
--- What readers gave and writers took, in one call after another.
+-- What a reader gave, in one call after another.
 use Rattle.std.proofs.Common.{◌≡◌, ℕ, ◌+◌, ◌≤◌, List, ◌++◌, take, length, None, Some, IfSome, arith, subst, length-append, length-take-le}
 use Rattle.std.specs.declared.option.Option.{Option}
 use Rattle.std.proofs.KnownBytes.{Consumes-trans}

@@ -15,11 +15,11 @@ use Rattle.komisum.specs.declared.ending.Refusal.{Refusal}
 use Rattle.komisum.specs.declared.settings.Version.{Version}
 use Rattle.komisum.specs.declared.watched.Watched.{Watched}
 
--- the bytes of an input, at most
+-- the most bytes that an input may have
 abbrev pub longest_input : ℕ
 longest_input = 2 ^ 40
 
--- the bytes of one read, at most
+-- the most bytes that one read asks for
 abbrev pub chunk_length : ℕ
 chunk_length = 4096
 
@@ -37,7 +37,7 @@ abbrev pub AppendsLinePrefix : Version → ℕ → (message old new : Option (Li
 AppendsLinePrefix version seed message old new =
     IfSome message (λ bytes. AppendsPrefix old new (hash_line version seed bytes))
 
--- each fault comes exactly where it is due
+-- the ending is a fault exactly if the fault's cause occurred
 pub record FaultsCome {R W : Type 0} (ending : Ending) (remaining : R → Option (List ℕ))
     (old new : Watched R) (writer : Watched W) : Type 0 where
   pub read : (ending ≡ Failed Read) ↔ (new.failed ≡ true)
@@ -45,7 +45,7 @@ pub record FaultsCome {R W : Type 0} (ending : Ending) (remaining : R → Option
       (ending ≡ Failed TooLong) ↔ ((new.failed ≡ false) × (longest_input < taken)))
   pub write : (ending ≡ Failed Write) ↔ (writer.failed ≡ true)
 
--- all of the input is read before anything is written, and never much more than the program accepts
+-- all of the input is read if the line is shown or a write fails, and never much beyond the limit
 pub record ReadsEnough {R : Type 0} (ending : Ending) (remaining : R → Option (List ℕ))
     (old new : Watched R) : Type 0 where
   pub all : ending ≡ Shown → IsAtEnd (remaining new.inner)

@@ -39,12 +39,12 @@ is_seed argument =
 abbrev pub seed_of : List ℕ → Option ℕ
 seed_of argument = if is_seed argument then Some (digits_value 16 argument) else None
 
--- both, where there are both
+-- the version and the seed, if there are both
 abbrev pub both_of : Option Version → Option ℕ → Option (Version × ℕ)
 both_of (Some version) (Some seed) = Some (version, seed)
 both_of _ _ = None
 
--- what arguments ask for: version 5 and seed 0 if there are none, else two, a version and a seed
+-- what arguments ask for: version 5 and seed 0 if there are none, or the version and seed of two
 abbrev pub settings_of : List (List ℕ) → Option (Version × ℕ)
 settings_of [] = Some (Five, 0)
 settings_of (version ∷ seed ∷ []) = both_of (version_of version) (seed_of seed)

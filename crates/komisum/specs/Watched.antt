@@ -11,7 +11,7 @@ abbrev pub write_failed : {E : Type 0} → Result ℕ E → ℕ → Bool
 write_failed (Ok taken) n = nat_lt 0 n && (taken == 0)
 write_failed (Err error) n = true
 
--- a reader whose bytes are known gave the first of them, as many as P says
+-- a reader whose bytes are known gave some number of them, of which P holds
 abbrev pub Takes :
     {R : Type 0} → (R → Option (List ℕ)) → (old new : Watched R) → (ℕ → Type 0) → Type 0
 Takes remaining old new P = IfSome (remaining old.inner) (λ _. (bytes : List ℕ)

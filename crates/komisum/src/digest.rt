@@ -35,13 +35,13 @@ pub fn digest<R: Read, S: KomiStream>(
         hash ≡ komi S.VERSION seed bytes)) }
     ensures all_read { OnOk result (IsAtEnd (R.remaining reader.new.inner)) }
 
-    // Each fault comes exactly where it is due.
+    // Each fault is returned exactly if its cause occurs, and `Fault::Write` never.
     ensures read { (result ≡ Err Fault.Read) ↔ (reader.new.failed ≡ true) }
     ensures too_long { Takes R.remaining reader.old reader.new (λ taken.
         (result ≡ Err Fault.TooLong) ↔ ((reader.new.failed ≡ false) × (most < taken))) }
     ensures no_write { result ≢ Err Fault.Write }
 
-    // No more is taken than shows that the input is too long.
+    // At most one chunk is taken beyond `most` bytes, and nothing beyond them if a read fails.
     ensures bound { Takes R.remaining reader.old reader.new (λ taken.
         taken ≤ most + length chunk.old) }
     ensures read_bound { result ≡ Err Fault.Read

@@ -4,7 +4,7 @@ ghost use Rattle.std.specs.Prelude.{◌≡◌, ◌≤◌, length, None, Some, If
 ghost use Rattle.komisum.specs.Ending.{ending_of, fault_text, refusal_status, refusal_text};
 ghost use Rattle.komisum.specs.Ending.{status_of, text_of};
 
-/// Why no line was written, or only part of one.
+/// Why the whole line was not written and flushed.
 #[derive(Drop)]
 pub enum Fault {
     /// A read returned an error.
@@ -66,9 +66,9 @@ impl Refusal {
 pub enum Ending {
     /// The line was written.
     Shown,
-    /// Reading or writing failed.
+    /// A fault ended the program.
     Failed(Fault),
-    /// Nothing was read.
+    /// The program did not begin to read.
     Refused(Refusal),
 }
 

@@ -30,7 +30,7 @@ const CHUNK_LENGTH: usize = 4096;
 /// Returns `Fault::Read` if a read returns an error, of any kind, `Fault::TooLong` if more bytes
 /// come, and `Fault::Write` if a write or the flush returns an error, or a write accepts no byte.
 ///
-/// Neither side may have failed before.
+/// Neither the reader nor the writer may have failed before.
 pub fn show<R: Read, W: Write>(
     reader: &mut Watched<R>,
     writer: &mut Watched<W>,
@@ -78,8 +78,8 @@ fn show_asked<R: Read, W: Write>(
 ///
 /// Shows the line for the version and the seed that the arguments ask for, and writes the message
 /// of how that ended, if it has one, to `errors`. If the arguments were refused, or the input's
-/// buffer could not be allocated, neither reads nor writes anything else. A buffer that could not
-/// be allocated ends as `no memory`, whatever the arguments.
+/// buffer could not be allocated, it reads nothing, and writes nothing else. Without a buffer it
+/// ends with `no memory`, whatever the arguments.
 ///
 /// Neither the input nor an output may have failed before.
 pub fn run<R: Read, W: Write, E: Write>(

@@ -62,9 +62,9 @@ fn seed_in(argument: &str) -> Option<u64>
 
 /// Returns the version and the seed that arguments ask for.
 ///
-/// Without arguments these are version 5 and seed 0. Takes two arguments: VERSION, which is `4` or
-/// `5`, and SEED, its digits to base 16, 1 to 16 of the characters `0-9a-f`. Returns `None` for all
-/// others.
+/// Without arguments these are version 5 and seed 0. Otherwise there must be two: VERSION, which is
+/// `4` or `5`, and SEED, to base 16, which is 1 to 16 of the digits `0-9a-f`. Returns `None` for
+/// all others.
 pub fn settings(arguments: &[&str]) -> Option<(Version, u64)>
     ensures { result ≡ settings_of (map (λ argument. argument.now) arguments.now) }
 {
@@ -153,8 +153,8 @@ pub fn settings_in<H: AllocGlobal>(
     }
 }
 
-/// Returns the version and the seed that the arguments of an environment after the program's name
-/// ask for, or a refusal, as `arguments_of` and `settings_in` do.
+/// Returns the version and the seed that the arguments after the program's name ask for, or a
+/// refusal, as `arguments_of` and `settings_in` do.
 pub fn settings_given<H: Env + AllocGlobal>(host: &H) -> Result<(Version, u64), Refusal> {
     let given = env::args(&(AfterName(host), host.alloc()));
     settings_in(host, arguments_of(host, given))

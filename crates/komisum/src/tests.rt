@@ -1,4 +1,4 @@
-//! Tests of the calls, on values from elsewhere.
+//! Tests of the program, and of callers of the library.
 
 mod arguments;
 mod callers;

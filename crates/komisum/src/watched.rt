@@ -1,4 +1,4 @@
-//! Readers and writers that remember whether a call through them has failed, and writing to them.
+//! Readers and writers that remember whether a call through them has failed, and calls that write.
 
 ghost use Rattle.std.specs.Prelude.{◌≡◌, ◌↔◌, ◌||◌, true, false, is_err, length};
 ghost use Rattle.std.specs.Prelude.{OnOk, IfErr, IsErr};
@@ -91,8 +91,8 @@ impl<W: Write> Write for Watched<W> {
 
 /// Writes all bytes, however few of them a write accepts.
 ///
-/// Returns `Fault::Write` if a write fails, an interruption too; part of the bytes may have been
-/// written then. The writer must not have failed before.
+/// Returns `Fault::Write` if a write fails or is interrupted. Some of the bytes may then have been
+/// written. The writer must not have failed before.
 pub fn write_whole<W: Write>(writer: &mut Watched<W>, bytes: &[u8]) -> Result<(), Fault>
     requires { writer.old.failed ≡ false }
     ensures whole { OnOk result

@@ -7,7 +7,7 @@ ghost use Rattle.komihash.specs.Tails.{end_byte, final_word};
 
 use crate::utils::{read_partial_word, word_at};
 
-/// Returns whether a last byte takes the padding byte 2: in version 4, if its top bit is set.
+/// Returns whether the padding byte after `byte` is 2: in version 4, if its top bit is set.
 #[inline(always)]
 pub(crate) fn has_top_bit<const V: u8>(byte: u8) -> bool
     ensures { result ≡ has_top_bit V byte }
@@ -45,10 +45,10 @@ pub(crate) fn end_byte<const V: u8>(message: &[u8]) -> u64
     }
 }
 
-/// Returns the final word of at least eight bytes: those after the last whole word, and `end`.
+/// Returns the final word of eight or more bytes: the bytes after the last whole word, and `end`.
 ///
 /// Reads the last eight bytes, and shifts out those of the last whole word. If no byte comes after
-/// that word, all 64 bits go, which is too wide for one shift. So there are two.
+/// that word, the shift is by 64, which `>>` doesn't allow. So there are two.
 #[inline(always)]
 #[tactic(auto, using(crate::proofs::PaddingWords::final_word_many))]
 pub(crate) fn final_word_of_many(bytes: &[u8], end: u64) -> u64
@@ -61,8 +61,8 @@ pub(crate) fn final_word_of_many(bytes: &[u8], end: u64) -> u64
     (eight >> 1) >> (63 - over) | end << over
 }
 
-/// Returns the final word of at least eight bytes. If they are whole words, that is `end`, and
-/// nothing is read, which long messages gain by.
+/// Returns the final word of eight or more bytes. If these are whole words, that is `end`, and
+/// nothing is read, which makes long messages faster.
 #[inline(always)]
 #[tactic(auto, using(crate::proofs::PaddingWords::final_word_whole))]
 pub(crate) fn final_word_of_blocks(bytes: &[u8], end: u64) -> u64

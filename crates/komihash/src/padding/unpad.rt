@@ -21,7 +21,7 @@ fn highest_place(word: u64) -> usize
     (word.ilog2() / 8) as usize
 }
 
-// Returns one of the bytes of words, the lowest byte of each word first.
+// Returns the byte at index `at` of words, the lowest byte of each word first.
 #[inline(always)]
 #[tactic(auto, using(crate::proofs::PaddingBack::byte_of_words))]
 fn byte_at(words: &[u64], at: usize) -> u8
@@ -75,7 +75,7 @@ fn message_length<const V: u8>(words: &[u64]) -> Option<usize>
     }
 }
 
-/// Writes the message whose padded words in version V these are to the front of `out`, and returns
+/// Writes the message that has these padded words in version V to the front of `out`, and returns
 /// its length in bytes. Returns `None`, with `out` unchanged, if no message has these words.
 #[inline(always)]
 pub(crate) fn unpad<const V: u8>(words: &[u64], out: &mut [u8]) -> Option<usize>

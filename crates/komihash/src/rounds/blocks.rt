@@ -25,8 +25,8 @@ fn block_words(block: &[u8; 64]) -> [u64; 8]
     ]
 }
 
-// Absorbs the first block, and returns the rest. Absorbing that gives the same lanes and the same
-// remainder as absorbing all of `bytes` at first.
+// Absorbs the first block, and returns the bytes after it. Absorbing these then gives the same
+// lanes and the same remainder as absorbing all of `bytes` at once.
 #[inline(always)]
 fn absorb_block<'a, const V: u8>(lanes: &mut Lanes, bytes: &'a [u8], tally: &mut Tally) -> &'a [u8]
     requires { 64 ≤ length bytes.now }
@@ -47,7 +47,7 @@ fn absorb_block<'a, const V: u8>(lanes: &mut Lanes, bytes: &'a [u8], tally: &mut
 
 /// Absorbs each whole block of the bytes, and returns the bytes after them, fewer than 64.
 ///
-/// The loop absorbs two blocks a turn. If their number is odd, one goes first.
+/// The loop absorbs two blocks per turn. If their number is odd, one goes first.
 #[inline(always)]
 pub(crate) fn absorb_blocks<'a, const V: u8>(
     lanes: &mut Lanes,

@@ -67,7 +67,7 @@ impl Pending {
         (self.words[at / 8] >> (8 * (at % 8))) as u8
     }
 
-    /// Appends bytes that do not fill a block, and counts them as kept.
+    /// Appends bytes that do not complete a block, and counts them as kept.
     #[inline(always)]
     pub(crate) fn append(&mut self, bytes: &[u8], tally: &mut Tally)
         requires { length self.old + length bytes.now < 64 }
@@ -80,7 +80,7 @@ impl Pending {
         self.fill = fill + bytes.len();
     }
 
-    /// Appends bytes that fill a block or more, and absorbs each whole block. Returns whether
+    /// Appends bytes that complete a block or more, and absorbs each whole block. Returns whether
     /// `has_top_bit` holds of the last byte of the last block.
     #[inline(always)]
     pub(crate) fn append_and_absorb<const V: u8>(

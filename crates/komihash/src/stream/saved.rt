@@ -19,8 +19,8 @@ const LANES_AT: usize = 4;
 // Where the pending bytes begin.
 const PENDING_AT: usize = 68;
 
-/// Writes the first four bytes: the version, whether a block was absorbed, the bit of version 4,
-/// and the number of pending bytes.
+/// Writes the first four bytes: the version, whether a block was absorbed, the top bit that only
+/// version 4 keeps, and the number of pending bytes.
 #[inline(always)]
 pub(crate) fn write_head<const V: u8>(absorbed: bool, top_bit: bool, fill: usize, out: &mut [u8])
     requires few { fill < 64 }

@@ -22,8 +22,8 @@ use std::marker::Model;
 ///
 /// The hash is that of `komihash`, however the bytes are cut. There is no limit to their number.
 /// Pieces of a multiple of 64 bytes are best: as long as all are, none is copied. Otherwise a write
-/// copies into the stream the bytes that complete a partial block, and those that begin the next
-/// one: at most 63 of each.
+/// copies into the stream the bytes that continue a partial block, and those that begin a new one:
+/// at most 63 of each.
 #[derive(Drop)]
 pub struct StreamedKomihash<const V: u8> {
     lanes: Lanes,
@@ -155,13 +155,13 @@ impl<const V: u8> StreamedKomihash<V> {
         hash_below_eight(pair, &self.pending, word, tally)
     }
 
-    /// Writes the saved text of the stream to the front of `out`, and returns its length in bytes:
-    /// 68, and one for each pending byte.
+    /// Writes the saved text of the stream to the front of `out`, whose rest is unchanged. Returns
+    /// the text's length in bytes: 68, and one for each pending byte.
     ///
-    /// `out` needs room for `LONGEST_TEXT` bytes, whatever is pending. The rest of `out` is
-    /// unchanged. `resume` makes the same stream from the text, also in another process.
-    // Inlined, as `resume` is, so that no resumed stream is copied: 64 bytes from C take 26 ns, not
-    // 43.
+    /// `out` needs room for `LONGEST_TEXT` bytes, whatever is pending. `resume` makes the same
+    /// stream from the text, also in another process.
+    // It is inlined, as `resume` is. A write through the C library resumes and saves a stream,
+    // which then isn't copied: a write of 64 bytes takes 26 ns, not 43.
     #[inline(always)]
     pub fn save(&self, out: &mut [u8]) -> usize
         requires { LONGEST_TEXT ≤ length out.old }

@@ -1,4 +1,4 @@
-//! Comparisons. Each call passes a length or an index, which the message of a failure names.
+//! Comparisons. Each call passes a number that the message of a failure names.
 
 use std::process::Abort;
 

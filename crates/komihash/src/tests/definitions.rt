@@ -1,4 +1,4 @@
-//! Known values of the definitions, as clauses: they are proved, and nothing is run.
+//! Known values of the definitions, as clauses: they are proved, and running them does nothing.
 
 ghost use Rattle.std.specs.Prelude.{◌≡◌, ℕ, ◌+◌, ◌≤◌, List, [], ◌∷◌, ◌++◌, length, take, drop};
 ghost use Rattle.komihash.specs.Generator.{after_steps, fill, outputs};
@@ -98,7 +98,7 @@ fn texts()
         ≡ 5 ∷ 1 ∷ 0 ∷ 0 ∷ (drop 56 LANES ++ take 24 (drop 32 LANES) ++ drop 32 LANES) }
 {}
 
-// The lengths of texts and of a block, as plain numbers.
+// The lengths of texts, as plain numbers, and what is pending before and after a block's last byte.
 #[tactic(auto, unfolding(crate::specs::Saved::text, crate::specs::Stream::absorb, crate::specs::Rounds::mix, crate::specs::Words::bytes_of))]
 fn lengths()
     ensures shortest { length (text 5 (start 0)) ≡ 68 }

@@ -65,8 +65,8 @@ fn fills<const V: u8>(rt: &impl Abort, mut generator: Komirand<V>, fills: &[&[u8
     generator
 }
 
-// Compares the bytes that fill_bytes writes from two words 0, and the outputs after them; also
-// after a call on no bytes, which changes nothing.
+// Compares the bytes that fill_bytes writes from the pair (0, 0), and the outputs after them;
+// also after a call on no bytes, which changes nothing.
 fn fills_from_zero<const V: u8>(rt: &impl Abort, bytes: &[&[u8]], outputs: &[u64]) {
     let generator = Komirand::<V>::new(0, 0);
     gives(rt, fills(rt, generator, bytes), outputs);
@@ -87,7 +87,7 @@ fn fill_bytes_discards_unused_bytes(rt: HostRuntime) {
     fills_from_zero::<5>(&rt, &[&[0x55, 0x55, 0x55]], &[0x79e7_9e79_e79e_79e6]);
 }
 
-// Writes 16 bytes at once and as twice 8, and no bytes, which takes no step.
+// Fills 16 bytes at once, and as 8 and 8. A fill of no bytes takes no step.
 fn continues<const V: u8>(rt: &impl Abort, seed: u64) {
     let mut whole = [0; 16];
     Komirand::<V>::new(seed, seed).fill_bytes(&mut whole);

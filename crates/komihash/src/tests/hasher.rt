@@ -15,8 +15,8 @@ fn after_writes<H: Hasher>(hasher: &mut H, writes: &[&[u8]]) -> u64 {
     hasher.finish()
 }
 
-// Writes known messages to a default hasher, and to hashers that start with another seed. The hash
-// of `HIGH_END` depends on the version.
+// Writes known messages to default hashers, and no bytes to one of the greatest seed. Without a
+// write, a hasher of seed 7 gives 7. The hash of `HIGH_END` depends on the version.
 fn agrees<const V: u8>(rt: &impl Abort, high_end: u64) {
     let cases: [(&[&[u8]], u64); 5] = [
         (&[], 0),

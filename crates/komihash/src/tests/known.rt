@@ -1,5 +1,5 @@
-//! Messages whose hashes with seed 0 were worked out by hand from the rules, a pattern, saved texts
-//! and lists of calls. The pair of seed 0 is a = 0x01d2ee0ae40a48dc, e = 0x4ef2e8526fea8bc9.
+//! Messages, with hashes for seed 0 that were worked out by hand from the rules; a pattern; saved
+//! texts; and lists of calls. The pair of seed 0 is a = 0x01d2ee0ae40a48dc, e = 0x4ef2e8526fea8bc9.
 
 ghost use Rattle.std.specs.Prelude.{◌≡◌};
 ghost use Rattle.komihash.specs.Calls.{run_products, run_kept};
@@ -33,11 +33,11 @@ pub(crate) const BLOCK_END: [u8; 31] = [
     0xa5, 0x57, 0xd2, 0x48, 0xcd, 0x9a, 0x7c, 0x41, 0x00, 0x00, 0x00, 0x00, 0x00, 0x00, 0x00,
 ];
 
-/// Returns a block and `BLOCK_END`, whose hash in this version is 6.
+/// Returns a block and `BLOCK_END`: a message whose hash in this version is 6.
 ///
 /// The block's words are the lanes s1 to s4 of seed 0, each with a word 0 in its product: version 4
 /// pairs neighbouring words, version 5 words i and i + 4. So each product has a factor 0, and the
-/// joined a and e are equal. `BLOCK_END` then works as the end of `SIX`.
+/// joined a and e are equal. `BLOCK_END` then works as `SIX` does.
 pub(crate) fn block_message(version: u8) -> [u8; 95] {
     let mut message = [0; 95];
     for i in 0..4usize {
@@ -115,7 +115,8 @@ pub(crate) fn at_cuts(message: &[u8; 95]) -> [Call<'_>; 9]
     ]
 }
 
-/// The five answers of `at_cuts` on `block_message` in version 5 with seed 0, and then four 9s.
+/// What a buffer of nine 9s holds after `at_cuts` on `block_message` in version 5 with seed 0: the
+/// five answers, and four 9s.
 pub(crate) const CUT_ANSWERS: [u64; 9] = [
     0xb768_3ea7_4301_32b4,
     0xfd45_482d_180d_0441,

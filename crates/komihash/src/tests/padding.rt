@@ -103,8 +103,8 @@ fn refuses_alike(rt: &impl Abort, version: u8) {
     refuses(rt, version, &[u64::MAX]);
 }
 
-// Unpads known words whose last byte is at least 128, with the padding byte of a version, and with
-// that of the other one.
+// Unpads the words of messages whose last byte is at least 128, with the padding byte of a version,
+// and with that of the other one.
 fn unpads_high_ends(rt: &impl Abort, version: u8, padding: u8, other: u8) {
     let [padding, other] = [u64::from(padding), u64::from(other)];
     unpads(rt, version, &[padding << 8 | 0x80], &[0x80]);

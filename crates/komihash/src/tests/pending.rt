@@ -1,4 +1,4 @@
-//! Pending bytes: what two pieces put is read back.
+//! Pending bytes: what is appended in two pieces is written out.
 
 ghost use Rattle.std.specs.Prelude.{◌+◌, ◌<◌, length};
 
@@ -8,7 +8,7 @@ use crate::rounds::pending::Pending;
 use crate::tally::Tally;
 use std::process::Abort;
 
-// Puts two pieces and compares all pending bytes. Nothing is written after them.
+// Appends two pieces and compares all pending bytes. Nothing is written after them.
 fn writes(rt: &impl Abort, first: &[u8], second: &[u8], wanted: &[u8; 64])
     requires { length first.now + length second.now < 64 }
 {
@@ -22,7 +22,7 @@ fn writes(rt: &impl Abort, first: &[u8], second: &[u8], wanted: &[u8; 64])
 }
 
 #[test]
-fn writes_what_was_put(rt: HostRuntime) {
+fn writes_what_was_appended(rt: HostRuntime) {
     let message = pattern();
     for n in 0..64usize {
         let mut wanted = [0xee; 64];

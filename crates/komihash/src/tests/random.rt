@@ -1,5 +1,5 @@
-//! Properties at 100,000 random inputs a version. The generator's seed is fixed, so each run draws
-//! the same.
+//! Properties at 100,000 random inputs per version. The generator's seed is fixed, so each run
+//! draws the same.
 
 ghost use Rattle.std.specs.Prelude.{◌*◌, ◌<◌, ◌≤◌, length};
 
@@ -27,7 +27,7 @@ fn below(random: &mut Komirand, bound: usize) -> usize
     (random.next() % bound as u64) as usize
 }
 
-// Draws a message. Half of them have only bytes at the ends of the range, and 2, 0x7f and 0x80.
+// Draws a message. Half of them have only the bytes 0, 1, 2, 0x7f, 0x80 and 0xff.
 fn message_of<const N: usize>(random: &mut Komirand) -> [u8; N] {
     let mut message = [0; N];
     random.fill_bytes(&mut message);
@@ -67,7 +67,7 @@ fn resumed<const V: u8>(rt: &impl Abort, stream: &StreamedKomihash<V>) -> Stream
     resumed
 }
 
-// Writes pieces of a message, and calls `finish` after some of them; after others, goes on with the
+// Writes pieces of a message, and calls `finish` after some of them; after some, goes on with the
 // stream that is resumed from a saved text.
 fn agrees_in_pieces<const V: u8>(rt: &impl Abort, random: &mut Komirand) {
     let message = message_of::<600>(random);
@@ -133,7 +133,7 @@ fn byte_at(words: &[u64], at: usize) -> u64
 }
 
 // Returns the length of the message that words were padded from, or None if there is none. The last
-// byte that is not 0 must be in the last word, and the padding byte that the byte before it needs.
+// byte that is not 0 must be in the last word, and be the padding byte for the byte before it.
 fn padded_length<const V: u8>(words: &[u64]) -> Option<usize>
     requires { length words.now ≤ 13 }
 {
@@ -171,7 +171,7 @@ fn agrees_unpadded<const V: u8>(rt: &impl Abort, words: &[u64])
     }
 }
 
-// Pads a message and unpads it, and then again with one byte of the words changed.
+// Pads a message and unpads the words, and unpads them again with one byte changed.
 fn agrees_padded<const V: u8>(rt: &impl Abort, random: &mut Komirand) {
     let message = message_of::<100>(random);
     let n = below(random, 101);

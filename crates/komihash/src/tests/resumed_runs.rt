@@ -130,7 +130,7 @@ fn runs_no_calls(rt: HostRuntime) {
 }
 
 #[test]
-fn answers_once_resumed(rt: HostRuntime) {
+fn answers_after_resuming(rt: HostRuntime) {
     let high = text_of_zeros([4, 1, 1, 0], 0x80);
     let mut out = [9];
     let count = answer_costs::<v4::StreamedKomihash>(&high, &mut out, &mut Tally::new());

@@ -30,7 +30,7 @@ fn is_text<S: KomiStream>(rt: &impl Abort, text: &[u8]) -> bool {
     true
 }
 
-// Asserts that the bytes are a stream's text, or that they are none.
+// Asserts that the bytes are a stream's text, or that they aren't, as `is_one` says.
 fn accepts<S: KomiStream>(rt: &impl Abort, text: &[u8], is_one: bool) {
     assert!(rt;
         is_text::<S>(rt, text) == is_one,
@@ -191,8 +191,8 @@ fn continues_after_each_length(rt: HostRuntime) {
 }
 
 // Returns whether a text with these first four bytes is still one if the byte at an index changes.
-// The version and the number of pending bytes may not change; the flag only if the bit is not set;
-// the bit only in version 4 and if the flag is set. Every later byte may be any.
+// The version and the number of pending bytes must stay. The flag may be 1, or 0 if the bit is 0.
+// The bit may be 0, or 1 in version 4 if the flag is 1. Every later byte may be any.
 fn stays_a_text<S: KomiStream>(head: [u8; 4], at: usize, byte: u8) -> bool {
     match at {
         0 => byte == S::VERSION,
@@ -226,7 +226,7 @@ fn accepts_exactly_the_valid_texts(rt: HostRuntime) {
     agrees_at_each_byte::<v5::StreamedKomihash>(&rt);
 }
 
-// Cuts texts and appends zeros, and resumes a stream of the other version.
+// Cuts texts and appends zeros: only the whole text is accepted, and not in the other version.
 fn agrees_at_each_end<S: KomiStream, O: KomiStream>(rt: &impl Abort) {
     for count in [0usize, 64, 100, 127] {
         assert!(rt; count <= 200);

@@ -115,7 +115,7 @@ pub(crate) fn agrees_between<const V: u8>(
     }
 }
 
-// Writes to one byte before a block's end, to the end, and past it; and pieces of 13 bytes.
+// Writes up to one byte before a block's end, to the end, and past it; and pieces of 13 bytes.
 fn continues<const V: u8>(rt: &impl Abort) {
     let mut message = [0xff; 65];
     message[64] = 0;
@@ -173,7 +173,7 @@ fn finishes_with_the_one_shot_hash(rt: HostRuntime) {
     agrees_in_one_write::<5>(&rt);
 }
 
-// Makes a new stream by each call that does.
+// Makes a new stream by each of `new`, `new_with_seed` and `default`.
 fn starts_empty<const V: u8>(rt: &impl Abort) {
     let empty = 0xb768_3ea7_4301_32b4;
     same(rt, StreamedKomihash::<V>::new().finish(), empty, 0);

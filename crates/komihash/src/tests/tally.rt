@@ -138,7 +138,7 @@ fn pieces_answer<S: KomiStream>(rt: &impl Abort, message: &[u8; 95]) {
     same(rt, out[0], 6, 2);
 }
 
-// Makes the counted runs above, whose last answer is 6.
+// Makes the counted runs above. The last of their answers, if there are any, is 6.
 fn counted_runs_answer<S: KomiStream>(rt: &impl Abort, message: &[u8; 95]) {
     cuts_answer::<S>(rt, message);
     pieces_answer::<S>(rt, message);
@@ -166,7 +166,7 @@ fn a_tally_has_size_zero(rt: HostRuntime) {
     same_count(&rt, size_of::<Tally>(), 0, 0);
 }
 
-// Returns the message of `block_message`, and five bytes 0.
+// Returns the message of `block_message`, and five zeros.
 fn hundred_bytes(version: u8) -> [u8; 100] {
     let mut bytes = [0; 100];
     bytes[..95].copy_from_slice(&block_message(version));

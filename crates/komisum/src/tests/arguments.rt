@@ -1,4 +1,4 @@
-//! Arguments, from an environment that a test makes to what the program does.
+//! What the program does for the arguments of an environment that a test makes.
 
 use super::messages::message;
 use super::program::{LINE_OF_FIVE, LINE_OF_FOUR, Outcome, refuses_usage, shown, writes};
@@ -91,7 +91,7 @@ fn seeds_of_every_length(rt: HostRuntime) {
     }
 }
 
-// Compares wrong usage of these arguments.
+// Checks that these arguments are refused as wrong usage.
 fn refuses(rt: &impl Abort, alloc: Global, arguments: &[&[u8]]) {
     refuses_usage(rt, &with(alloc, arguments));
 }

@@ -48,7 +48,7 @@ fn draw_in_two(generator: &mut Komirand, first: &mut [u64], second: &mut [u64])
     draw(generator, second);
 }
 
-// What no call returns is bounded too.
+// Hashes, a hasher's number, a generator's pair and the length of a saved text are bounded.
 fn bounds(hasher: &v4::KomiHasher, generator: &v5::Komirand)
     ensures hash { (m : List ℕ) → komi 4 hasher.now m < 2 ^ 64 }
     ensures number { hasher.now < 2 ^ 64 }

@@ -56,7 +56,7 @@ fn digests(
     let given = in_five(bytes, at_once, most, room);
     assert!(rt;
         given == wanted,
-        "another result for {most} bytes by {room}"
+        "another result with limit {most} and chunk {room}"
     );
 }
 

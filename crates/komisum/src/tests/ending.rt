@@ -45,7 +45,7 @@ fn lines_and_statuses(rt: HostRuntime) {
     refuses(&rt, Refusal::Usage, usage, 2);
 }
 
-// Nothing that another program writes comes between the parts of a line that is one write.
+// If a line is one write, no other program's output comes between its parts.
 #[test]
 fn a_message_is_one_write(rt: HostRuntime) {
     let mut errors = Watched::new(FakeWriter::new(usize::MAX, Calls::endless()));

@@ -1,4 +1,4 @@
-//! A reader and a writer that stop at a given call.
+//! A reader and a writer of which one given call fails or moves nothing.
 
 ghost use Rattle.std.specs.Prelude.{◌≤◌};
 
@@ -7,18 +7,18 @@ use std::io::{Error, ErrorKind, Read, Result, Write};
 /// The kind of the error that `Stop::FailsOddly` returns.
 pub const ODD: ErrorKind = ErrorKind::StaleNetworkFileHandle;
 
-/// What a fake returns at the call where it stops.
+/// What a fake returns at the given call.
 #[derive(Drop)]
 pub enum Stop {
     /// An error of the kind "interrupted", after which a caller might retry.
     Fails,
     /// An error of a kind that no other code here makes.
     FailsOddly,
-    /// No byte.
+    /// `Ok(0)`, with no byte moved.
     MovesNone,
 }
 
-/// The call where a fake stops, counted from 1, and what it returns there.
+/// The call at which a fake fails or moves nothing, counted from 1, and what it returns there.
 #[derive(Drop)]
 pub struct Calls {
     stop: Stop,
@@ -27,7 +27,7 @@ pub struct Calls {
 }
 
 impl Calls {
-    /// Stops at one call.
+    /// Fails or moves nothing at one call.
     pub fn stopping(stop: Stop, stops_at: usize) -> Self {
         Calls {
             stop,
@@ -36,7 +36,7 @@ impl Calls {
         }
     }
 
-    /// Never stops.
+    /// Moves bytes at every call.
     pub fn endless() -> Self {
         Calls::stopping(Stop::Fails, 0)
     }

@@ -1,4 +1,4 @@
-//! Calls on keys that CALLING.md does not show.
+//! More calls on keys than CALLING.md shows.
 
 ghost use Rattle.std.specs.Prelude.{◌≡◌, ◌≢◌, ◌+◌, ◌*◌, ◌/◌, ◌++◌, ◌≤◌, false};
 ghost use Rattle.std.specs.Prelude.{length, map, take, IsSomeAnd};
@@ -42,7 +42,7 @@ pub fn hash_of_key(key: &[u8; 16], tally: &mut Tally) -> u64
     v5::komihash_counted(key, 0, tally)
 }
 
-/// Hashes a list of fields, whose cuts count.
+/// Hashes a list of fields. The hash depends on where each field ends.
 pub fn hash_of_fields(fields: &[&[u8]]) -> u64
     ensures { result ≡ number_after 5 0 (map (λ field. field.now) fields.now) }
 {

@@ -84,10 +84,10 @@ fn leaves(
     );
 }
 
-/// The line of 31 bytes with seed 0 in version 4.
+/// The line of `message::<31>()` with seed 0 in version 4.
 pub const LINE_OF_FOUR: &[u8; 17] = b"0f7df4052fe226f9\n";
 
-/// The line of 31 bytes with seed 0 in version 5.
+/// The line of `message::<31>()` with seed 0 in version 5.
 pub const LINE_OF_FIVE: &[u8; 17] = b"b185b58982d52180\n";
 
 const USAGE: &[u8; 35] = b"komisum: usage: komisum [4|5 SEED]\n";
@@ -98,7 +98,7 @@ const READ_FAILED: &[u8; 21] = b"komisum: read failed\n";
 
 const WRITE_FAILED: &[u8; 22] = b"komisum: write failed\n";
 
-/// Compares a line, after which nothing is reported.
+/// Compares the line, and checks that no message was written.
 pub fn writes(rt: &impl Abort, outcome: &Outcome, line: &[u8; 17]) {
     leaves(rt, outcome, 0, 6, line, b"");
     assert!(rt; outcome.errors.calls() == 0);
@@ -110,7 +110,7 @@ fn refuses(rt: &impl Abort, outcome: &Outcome, status: u8, line: &[u8]) {
     assert!(rt; outcome.output.calls() == 0);
 }
 
-/// Compares wrong usage.
+/// Checks that wrong usage was refused.
 pub fn refuses_usage(rt: &impl Abort, outcome: &Outcome) {
     refuses(rt, outcome, 2, USAGE);
 }
@@ -127,7 +127,7 @@ fn refusals(rt: HostRuntime) {
     refuses(&rt, &shown(Err(Refusal::NoMemory)), 1, NO_MEMORY);
 }
 
-// Compares how the program ends without an input.
+// Compares how the program ends if its input's buffer can't be allocated.
 fn has_no_memory(rt: &impl Abort, asked: Result<(Version, u64), Refusal>) {
     let none: io::Result<FakeReader> = Err(io::Error::from(ErrorKind::OutOfMemory));
     let (status, output, errors) = ended(asked, none, sound(), sound());

@@ -88,7 +88,7 @@ fn draw(random: &mut Komirand, characters: &mut [u8; 18]) -> usize
     (random.next() % 19) as usize
 }
 
-// Compares what two arguments ask for with the rule.
+// Compares the settings of two arguments with what the rule gives.
 fn agrees(rt: &impl Abort, version: &str, seed: &str) {
     let wanted = asked(version.as_bytes(), seed.as_bytes());
     assert_eq!(rt; numbers(&[version, seed]), wanted, "{version} {seed}");

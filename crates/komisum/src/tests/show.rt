@@ -72,7 +72,7 @@ fn line_of(bytes: &[u8], version: Version, seed: u64) -> (&'static str, FakeWrit
     (name, writer)
 }
 
-// Shows it in version 5 with seed 0, to a writer that may stop at a call.
+// Shows the line of some bytes in version 5 with seed 0, to a writer that may fail at a call.
 fn written_by(bytes: &[u8], at_once: usize, calls: Calls) -> (&'static str, FakeWriter) {
     let reader = FakeReader::new(bytes, usize::MAX, Calls::endless());
     let (name, _, writer) = shown(reader, FakeWriter::new(at_once, calls), Version::Five, 0);
@@ -151,8 +151,8 @@ fn reads_that_fail(rt: HostRuntime) {
     read_at(&rt, 16, "ok", 15, LINE_OF_BLOCK_MESSAGE, 2);
 }
 
-// Compares what `show` leaves of a message's line if the writer, which accepts `at_once` bytes a
-// call, stops at one.
+// Compares what `show` writes of a message's line if one call of the writer fails, which accepts
+// `at_once` bytes per call.
 fn write_at(
     rt: &impl Abort,
     bytes: &[u8],

@@ -7,7 +7,7 @@ use std::io::{ErrorKind, Read, Result, Write};
 use std::process::Abort;
 use std::result;
 
-// Compares what a call returned, by the kind of an error, and whether one has failed.
+// Compares what a call returned, errors by their kind, and whether any call has failed.
 fn returns(
     rt: &impl Abort,
     given: (Result<usize>, bool),
@@ -16,7 +16,7 @@ fn returns(
 ) {
     let result = given.0.map_err(|error| error.kind());
     assert!(rt; result == wanted, "another result");
-    assert!(rt; given.1 == failed, "failed or not");
+    assert!(rt; given.1 == failed, "`failed` is not {failed}");
 }
 
 // Reads. Compares the bytes, and whether the reader has failed.

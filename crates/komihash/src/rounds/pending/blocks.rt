@@ -14,7 +14,7 @@ use crate::rounds::{Lanes, block_round, copied, places};
 use crate::tally::Tally;
 
 // Completes the partial block, if there is one, and absorbs it. Returns the lanes after it, and the
-// bytes that are left. Reads the lanes only after the writer, which needs the registers itself.
+// bytes that are left. Reads the lanes only after `put`, which needs the registers itself.
 #[inline(always)]
 fn complete_block<'a, const V: u8>(
     lanes: &Lanes,
@@ -62,8 +62,8 @@ fn put_left(words: &mut [u64; 8], left: &[u8], tally: &mut Tally)
     put::<false>(words, 0, left, tally);
 }
 
-/// Absorbs bytes that fill a block or more, and stores those after the last block. Returns their
-/// number.
+/// Absorbs bytes that complete a block or more, and stores those after the last block. Returns how
+/// many it stores.
 ///
 /// The fill is passed and returned by value, so that a caller's loop over pieces keeps it in a
 /// register.

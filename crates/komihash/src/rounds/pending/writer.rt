@@ -42,7 +42,7 @@ fn set_two(words: &mut [u64; 8], at: usize, bytes: &[u8], from: usize)
     two.copy_to_slice(&mut words[at..]);
 }
 
-// Appends fewer than eight bytes, all that fit if FULL.
+// Appends fewer than eight bytes. If FULL, they fill the block exactly.
 #[inline(always)]
 fn put_few<const FULL: bool>(words: &mut [u64; 8], fill: usize, bytes: &[u8])
     requires pending { ArePending words.old fill }
@@ -59,7 +59,7 @@ fn put_few<const FULL: bool>(words: &mut [u64; 8], fill: usize, bytes: &[u8])
     }
 }
 
-// Stores whole words, fewer than two, at index k after the partial word.
+// Stores at most one whole word, k words after the partial word.
 #[inline(always)]
 fn move_below_two(words: &mut [u64; 8], fill: usize, bytes: &[u8], k: usize)
     requires room { fill + length bytes.now ≤ 64 }
@@ -74,7 +74,7 @@ fn move_below_two(words: &mut [u64; 8], fill: usize, bytes: &[u8], k: usize)
     }
 }
 
-// Stores whole words, fewer than four, from index k after the partial word on.
+// Stores at most three whole words, from k words after the partial word on.
 #[inline(always)]
 fn move_below_four(words: &mut [u64; 8], fill: usize, bytes: &[u8], k: usize)
     requires room { fill + length bytes.now ≤ 64 }
@@ -94,8 +94,8 @@ fn move_below_four(words: &mut [u64; 8], fill: usize, bytes: &[u8], k: usize)
 
 // Stores the whole words after the partial word.
 //
-// All indices are a number of words, known here, after the partial one: a turn of a loop would wait
-// for the index of the one before.
+// Each index is `fill / 8` plus a constant. In a loop, each turn would wait for the index of the
+// turn before.
 #[inline(always)]
 fn move_words(words: &mut [u64; 8], fill: usize, bytes: &[u8])
     requires many { 8 ≤ length bytes.now }
@@ -112,7 +112,7 @@ fn move_words(words: &mut [u64; 8], fill: usize, bytes: &[u8])
     }
 }
 
-// Stores the bytes after the last whole word, fewer than eight, which it reads with the last eight.
+// Stores the bytes after the last whole word, if any are left. Reads the last eight bytes for that.
 #[inline(always)]
 fn put_last(words: &mut [u64; 8], fill: usize, bytes: &[u8])
     requires many { 8 ≤ length bytes.now }
@@ -127,8 +127,8 @@ fn put_last(words: &mut [u64; 8], fill: usize, bytes: &[u8])
     }
 }
 
-// Appends eight bytes or more, all that fit if FULL: the first complete the partial word, then
-// whole words follow, and then fewer than eight bytes.
+// Appends eight bytes or more: the first complete the partial word, then whole words follow, and
+// then fewer than eight bytes. If FULL, they fill the block exactly.
 #[inline(always)]
 fn put_many<const FULL: bool>(words: &mut [u64; 8], fill: usize, bytes: &[u8])
     requires pending { ArePending words.old fill }
@@ -144,8 +144,8 @@ fn put_many<const FULL: bool>(words: &mut [u64; 8], fill: usize, bytes: &[u8])
     }
 }
 
-/// Appends bytes to those that the words store up to the fill, and counts them as kept. FULL says
-/// that they fill the block, which ends in a whole word.
+/// Appends bytes to those that the words store up to the fill, and counts them as kept. If FULL,
+/// they fill the block exactly.
 #[inline(always)]
 pub(crate) fn put<const FULL: bool>(
     words: &mut [u64; 8],

@@ -1,4 +1,4 @@
--- The stream has absorbed what the reader gave, which is no more than may come.
+-- The stream has absorbed what the reader gave, at most `most` bytes.
 use Rattle.std.proofs.Common.{◌≡◌, List, ℕ, ◌-◌, ◌≤◌, length, false}
 use Rattle.std.specs.Io.KnownBytes.{Consumes}
 use Rattle.komihash.specs.Stream.{start, absorb}

@@ -25,7 +25,7 @@ line_by : (f : ℕ → ℕ) (xs : List ℕ) → length xs ≡ 17 → ((k : ℕ) 
     → xs ≡ map f (range_with_len 0 16) ++ 10 ∷ []
 line_by f xs len digits newline = fill_by_all (λ k. cond (nat_lt k 16) (f k) 10) xs 17 0 len (element f xs digits newline)
 
--- the digits from i on, once the one at i is written
+-- the digits from i - 1 on, once the one there is written
 digits_more : (f : ℕ → ℕ) (xs : List ℕ) (i d : ℕ) → 0 < i → i ≤ 16 → length xs ≡ 17 → d ≡ f (i - 1)
     → ((k : ℕ) → i ≤ k → k < 16 → get_or xs k 0 ≡ f k)
     → (k : ℕ) → i - 1 ≤ k → k < 16 → get_or (slice_set xs (i - 1) d) k 0 ≡ f k

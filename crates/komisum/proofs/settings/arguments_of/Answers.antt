@@ -1,4 +1,4 @@
--- What is collected is what is left.
+-- What is collected is all that the iterator held.
 use Rattle.std.proofs.Common.{◌≡◌, refl, rules, length}
 use Rattle.std.proofs.lemmas.Iterator.Adapters.{fact_from_collect, YieldsList-from_vec}
 use Rattle.std.specs.Vec.{vec_len}

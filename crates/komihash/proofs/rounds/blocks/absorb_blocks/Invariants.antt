@@ -1,5 +1,5 @@
--- What is left leads to the same lanes and the same remainder, by the products that are left. It is
--- an even number of blocks.
+-- What is left leads to the same lanes and the same remainder, and costs the products that are
+-- left. Its whole blocks are even in number.
 use Rattle.std.proofs.Common.{◌≡◌, ◌+◌, ◌*◌, ◌/◌, ◌%◌, length}
 use Rattle.komihash.specs.Tails.{whole_words, block_lanes, after_blocks}
 use Rattle.komihash.proofs.rounds.blocks.absorb_blocks.Given as goal

@@ -1,4 +1,4 @@
--- `new` makes a value of no bytes, at 0 and 0.
+-- `new` makes a value of no bytes, with both numbers 0.
 use Rattle.std.proofs.Common.{[], ◌∷◌, refl}
 use Rattle.std.proofs.raw_atomic.Walks.{proved}
 use Rattle.komihash.proofs.Facts.{both}

@@ -15,7 +15,7 @@ length-answers_after f m (Absorb bytes ∷ calls) =
     omega (arith, length-answers_after f (m ++ bytes.now) calls)
 length-answers_after f m (Answer ∷ calls) = omega (arith, length-answers_after f m calls)
 
--- where the remaining cost completes it, so it does after a step
+-- if the cost so far and the remaining one make the whole cost, they still do after a step
 counted : (before after first here remaining left all : ℕ) → after ≡ before + here
     → left ≡ here + remaining → before + left ≡ first + all → after + remaining ≡ first + all
 counted before after first here remaining left all step split so_far = omega arith
