@@ -51,7 +51,8 @@ def cases_of(subject, findings, files, folder, count):
     """Each case: its name, and its faults. `findings` gives what each rule finds in files, by the rule's name.
 
     In the files themselves nothing may be found. Each edit in a folder of `folder` has to be found by the rule of that
-    name alone, and each rule needs such an edit. `count` is the number of all cases.
+    name alone, or by just those that `+` joins. Each rule needs an edit that it finds alone. `count` is the number of
+    all cases.
     """
     before = findings(files)
     edits = sorted(folder.glob("*/*.edit"))

@@ -13,7 +13,7 @@ static _Alignas(UNIT) unsigned char arena[ARENA];
 static size_t used;
 static size_t requests;
 
-/* Whether the next request is the one to refuse. */
+/* Counts a request, and returns whether it is the one to refuse. */
 static int is_due(void) {
     const char *number = getenv("REFUSED_REQUEST");
     requests++;

@@ -7,11 +7,11 @@ and public fields, every impl of a trait; and where the names in these lines are
 Prelude of the standard library. It also has a checksum of each file of definitions and of the proofs that open the seal
 of a tally, the modules of specs/ and proofs/, and all lines that name a part of that seal (docs/DECISIONS.md).
 
-The seal is closed as long as the list shows this: `TallyKey`, `raise`, `Sealed`, `Raised` and `Facts` are private; no
-other type holds `TallyKey`; `counted` and `Key` are neither `abbrev` nor `unfoldable`; only the handwritten proofs of
-`Tally::new` and `raise` import `Raised`, and each of these two has one public lemma; no ghost member of a trait holds a
-lemma of the two, of `Raised` or of `Facts`; and specs/Tallies.antt, through which proofs/ reaches `counted` and
-`opened`, doesn't pass on the key.
+The seal is closed as long as the following holds, and no edit can break it without a change of the list: `TallyKey`,
+`raise`, `Sealed`, `Raised` and `Facts` are private; no other type holds `TallyKey`; `counted` and `Key` are neither
+`abbrev` nor `unfoldable`; only the handwritten proofs of `Tally::new` and `raise` import `Raised`, and each of these
+two has one public lemma; no ghost member of a trait holds a lemma of the two, of `Raised` or of `Facts`; and
+specs/Tallies.antt, through which proofs/ reaches `counted` and `opened`, doesn't pass on the key.
 
 After a change that is wanted, `python3 scripts/surface.py renew` writes the list anew: review its difference first.
 Each edit of planted/surface/ has to make a difference. The last line is 'N passed, M failed'.

@@ -1,4 +1,5 @@
-//! Compares the port with the Rust crate on random inputs. What the Rust crate lacks is compared with rules.rs.
+//! Compares the port with the Rust crate on random inputs. Padded words and saved texts, which the Rust crate lacks,
+//! are compared with rules.rs.
 use crate::input::{Input, Random};
 use crate::original::{OriginalFive, OriginalFour};
 use crate::port::{PortFive, PortFour};

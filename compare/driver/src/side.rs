@@ -41,7 +41,8 @@ pub trait Port: Side + FromC<Stream = Stream> {
     fn unpad(words: &[u64], out: &mut [u8]) -> Option<usize>;
 }
 
-/// The hashes of one message by calls that should give the same as `komihash`.
+/// The hashes of one message by calls that should give the same as `komihash`: the first two with
+/// a seed, the others with seed 0.
 #[repr(C)]
 #[derive(Default)]
 pub struct Once {

@@ -64,7 +64,7 @@ impl Refusal {
 /// How the program ends.
 #[derive(Drop)]
 pub enum Ending {
-    /// The line was written.
+    /// The line was written and flushed.
     Shown,
     /// A fault ended the program.
     Failed(Fault),
@@ -83,7 +83,7 @@ impl Ending {
         }
     }
 
-    /// Returns the message, or `None` if the line was written.
+    /// Returns the message, or `None` if the line was shown.
     pub fn text(&self) -> Option<&'static str>
         ensures text { MatchOption result (text_of self.now ≡ None)
             (λ text. text_of self.now ≡ Some text.now) }
@@ -96,7 +96,7 @@ impl Ending {
         }
     }
 
-    /// Returns the program's status: 0 if the line was written, 1 after a fault, or the refusal's.
+    /// Returns the program's status: 0 if the line was shown, 1 after a fault, or the refusal's.
     pub fn status(&self) -> u8
         ensures { result ≡ status_of self.now }
     {

@@ -1,4 +1,4 @@
-//! Tests of the callers that README.md and CALLING.md show, and callers of more laws.
+//! Tests of the callers in the files beside this one, and callers of more laws.
 
 ghost use Rattle.std.specs.Prelude.{◌≡◌, ◌<◌, ◌≤◌, ◌+◌, ◌^◌, ℕ, List, ◌++◌, length};
 ghost use Rattle.komihash.specs.Generator.{after_steps, fill, outputs};

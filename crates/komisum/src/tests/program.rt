@@ -18,7 +18,7 @@ pub struct Outcome {
     errors: FakeWriter,
 }
 
-// Returns a writer that accepts any number of bytes per call, and never stops.
+// Returns a writer that accepts 64 bytes, in calls of any length, and returns no error.
 fn sound() -> FakeWriter {
     FakeWriter::new(usize::MAX, Calls::endless())
 }
