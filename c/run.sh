@@ -78,8 +78,9 @@ example() { sed -n '/^```c$/,/^```$/{/^```/!p}' README.md; }
 
 # Stops if a command fails, or prints something else than a file has.
 expect() {
-    "${@:2}" > "$out/printed" || stop "the program that should print what $1 has fails"
-    diff "$1" "$out/printed" || stop "the program that should print what $1 has prints something else"
+    local program="the program that should print what $1 has ($2)"
+    "${@:2}" > "$out/printed" || stop "$program fails"
+    diff "$1" "$out/printed" || stop "$program prints something else"
 }
 
 # Compiles and runs a program in C or C++.

@@ -16,13 +16,12 @@ pub trait Side {
     fn fills(out: &mut [u8], pieces: &[usize], s1: u64, s2: u64, start: u32) -> u64;
 }
 
-/// Streams and lists of pieces, as C calls them: a stream lies in memory between its calls.
+/// Streams and lists of pieces, as C calls them: a stream lies in memory between its calls. Writes of the port return
+/// false, and `finish` returns `None`, if `stream` is not the text of a stream.
 pub trait FromC {
     type Stream;
     fn start(seed: u64) -> Self::Stream;
-    /// Returns whether `stream` is the text of a stream.
     fn write(stream: &mut Self::Stream, bytes: &[u8]) -> bool;
-    /// Returns whether `stream` is the text of a stream.
     fn write_pieces(stream: &mut Self::Stream, pieces: &[Piece]) -> bool;
     fn finish(stream: &Self::Stream) -> Option<u64>;
     fn pieces(pieces: &[Piece], seed: u64) -> u64;
@@ -41,8 +40,7 @@ pub trait Port: Side + FromC<Stream = Stream> {
     fn unpad(words: &[u64], out: &mut [u8]) -> Option<usize>;
 }
 
-/// The hashes of one message by calls that should give the same as `komihash`: the first two with
-/// a seed, the others with seed 0.
+/// What the port's loops fill in: loops/lib.rt.in says what the fields are.
 #[repr(C)]
 #[derive(Default)]
 pub struct Once {

@@ -19,7 +19,8 @@ use std::io::Read;
 /// read returns an error, of any kind, and `Fault::TooLong` if more than `most` bytes come. After
 /// either it reads nothing more, and the reader stands after the bytes taken.
 ///
-/// The chunk must not be empty, `most` is below 2^63, and the reader must not have failed before.
+/// The chunk must not be empty, `most` must be below 2^63, and the reader must not have failed
+/// before.
 pub fn digest<R: Read, S: KomiStream>(
     reader: &mut Watched<R>,
     seed: u64,

@@ -63,7 +63,7 @@ fn seed_in(argument: &str) -> Option<u64>
 /// Returns the version and the seed that arguments ask for.
 ///
 /// Without arguments these are version 5 and seed 0. Otherwise there must be two: VERSION, which is
-/// `4` or `5`, and SEED, to base 16, which is 1 to 16 of the digits `0-9a-f`. Returns `None` for
+/// `4` or `5`, and SEED, which is 1 to 16 of the digits `0-9a-f`, to base 16. Returns `None` for
 /// all others.
 pub fn settings(arguments: &[&str]) -> Option<(Version, u64)>
     ensures { result ≡ settings_of (map (λ argument. argument.now) arguments.now) }
