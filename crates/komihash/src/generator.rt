@@ -5,6 +5,7 @@ ghost use Rattle.komihash.specs.Generator.{next, after_steps, fill, after_fill};
 
 use crate::tally::Tally;
 use crate::utils::{multiply128, write_partial_word, write_word};
+use crate::version::{IsVersion, Versions};
 use std::marker::Model;
 
 /// A pseudorandom generator of version V, which contracts see as a pair of words. It is not
@@ -28,7 +29,10 @@ impl<const V: u8> Model for Komirand<V> {
     ghost view = { λ g. (g.s1, g.s2) };
 }
 
-impl<const V: u8> Komirand<V> {
+impl<const V: u8> Komirand<V>
+where
+    Versions: IsVersion<V>,
+{
     /// Returns the generator of a pair of words, without a step.
     ///
     /// Any words are allowed. The first outputs of small ones are simple patterns: in version 5

@@ -4,6 +4,7 @@ ghost use Rattle.std.specs.Prelude.{◌≡◌, ℕ};
 ghost use Rattle.komihash.specs.Hash.{komi};
 
 use crate::hash::hash_message;
+use crate::version::{IsVersion, Versions};
 use std::hash::Hasher;
 use std::marker::Model;
 
@@ -23,7 +24,10 @@ impl<const V: u8> Model for KomiHasher<V> {
     ghost view = { λ h. h.number };
 }
 
-impl<const V: u8> KomiHasher<V> {
+impl<const V: u8> KomiHasher<V>
+where
+    Versions: IsVersion<V>,
+{
     /// Returns the hasher of a number, which is the seed of its first write.
     #[inline]
     pub fn new(seed: u64) -> Self
@@ -33,7 +37,10 @@ impl<const V: u8> KomiHasher<V> {
     }
 }
 
-impl<const V: u8> Default for KomiHasher<V> {
+impl<const V: u8> Default for KomiHasher<V>
+where
+    Versions: IsVersion<V>,
+{
     ghost is_default = { λ s. s ≡ 0 };
 
     /// Returns the hasher of the number 0.
@@ -43,7 +50,10 @@ impl<const V: u8> Default for KomiHasher<V> {
     }
 }
 
-impl<const V: u8> Hasher for KomiHasher<V> {
+impl<const V: u8> Hasher for KomiHasher<V>
+where
+    Versions: IsVersion<V>,
+{
     ghost write = { komi V };
 
     ghost finish = { λ s. s };

@@ -21,6 +21,7 @@ ghost use Rattle.komihash.specs.declared.stream.Call.TheVariants.{Answer};
 use crate::generator::Komirand;
 use crate::hasher::KomiHasher;
 use crate::stream::LONGEST_TEXT;
+use crate::version::{IsVersion, Versions};
 use std::hash::Hasher;
 
 /// Proves that the two words that a seed is made into give the seed back, so no two seeds share
@@ -98,6 +99,8 @@ pub fn hash_bound()
 
 /// Proves that a hasher's number is a word, below 2^64.
 pub fn hasher_bound<const V: u8>(hasher: &KomiHasher<V>)
+where
+    Versions: IsVersion<V>,
     ensures { hasher.now < 2 ^ 64 }
 {
     let _number = hasher.finish();
@@ -105,6 +108,8 @@ pub fn hasher_bound<const V: u8>(hasher: &KomiHasher<V>)
 
 /// Proves that a generator's pair is two words, below 2^64.
 pub fn generator_bound<const V: u8>(generator: &Komirand<V>)
+where
+    Versions: IsVersion<V>,
     ensures first { generator.now.0 < 2 ^ 64 }
     ensures second { generator.now.1 < 2 ^ 64 }
 {

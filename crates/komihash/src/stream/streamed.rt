@@ -56,7 +56,10 @@ impl<const V: u8> Model for StreamedKomihash<V> {
     } };
 }
 
-impl<const V: u8> StreamedKomihash<V> {
+impl<const V: u8> StreamedKomihash<V>
+where
+    Versions: IsVersion<V>,
+{
     /// Returns the new stream of seed 0.
     #[inline]
     pub fn new() -> Self
@@ -72,24 +75,7 @@ impl<const V: u8> StreamedKomihash<V> {
         ensures state { result.state ≡ start seed }
         ensures message { HasAbsorbed V seed result.state [] }
     {
-        StreamedKomihash::start_counted(seed, &mut Tally::new())
-    }
-
-    // Does what `new_with_seed` does, and counts what it costs.
-    #[inline(always)]
-    #[tactic(auto, unfolding(crate::specs::Stream::absorb, crate::specs::Stream::HasAbsorbed))]
-    fn start_counted(seed: u64, tally: &mut Tally) -> Self
-        ensures state { result.state ≡ start seed }
-        ensures message { HasAbsorbed V seed result.state [] }
-        ensures products { tally.new.products ≡ tally.old.products + 1 }
-        ensures kept { tally.new.kept ≡ tally.old.kept }
-    {
-        StreamedKomihash {
-            lanes: lanes_of(seed_pair(seed, tally)),
-            pending: Pending::new(),
-            absorbed: false,
-            top_bit: false,
-        }
+        StreamedKomihash::start(seed, &mut Tally::new())
     }
 
     /// Absorbs bytes.
@@ -101,28 +87,7 @@ impl<const V: u8> StreamedKomihash<V> {
         ensures joined { (seed : ℕ) (m all : List ℕ) → HasAbsorbed V seed self.old.state m
             → m ++ bytes.now ≡ all → HasAbsorbed V seed self.new.state all }
     {
-        self.absorb_counted(bytes, &mut Tally::new());
-    }
-
-    // Does what `write` does, and counts what it costs.
-    #[inline(always)]
-    fn absorb_counted(&mut self, bytes: &[u8], tally: &mut Tally)
-        ensures state { self.new.state ≡ absorb V self.old.state bytes.now }
-        ensures message { (seed : ℕ) (m : List ℕ) → HasAbsorbed V seed self.old.state m
-            → HasAbsorbed V seed self.new.state (m ++ bytes.now) }
-        ensures products { tally.new.products ≡ tally.old.products
-            + write_products (length self.old.state.pending) (length bytes.now) }
-        ensures kept { tally.new.kept ≡ tally.old.kept
-            + kept_bytes (length self.old.state.pending) (length bytes.now) }
-    {
-        if bytes.len() < 64 - self.pending.len() {
-            self.pending.append(bytes, tally);
-        } else {
-            self.top_bit = self
-                .pending
-                .append_and_absorb::<V>(&mut self.lanes, bytes, tally);
-            self.absorbed = true;
-        }
+        self.absorb(bytes, &mut Tally::new());
     }
 
     /// Returns the hash of all bytes so far. The stream is unchanged, and may absorb more.
@@ -132,27 +97,7 @@ impl<const V: u8> StreamedKomihash<V> {
         ensures hash { (seed : ℕ) (m : List ℕ) → HasAbsorbed V seed self.now.state m
             → result ≡ komi V seed m }
     {
-        self.answer_counted(&mut Tally::new())
-    }
-
-    // Does what `finish` does, and counts what it costs.
-    #[inline(always)]
-    fn answer_counted(&self, tally: &mut Tally) -> u64
-        ensures answer { result ≡ answer V self.now.state }
-        ensures hash { (seed : ℕ) (m : List ℕ) → HasAbsorbed V seed self.now.state m
-            → result ≡ komi V seed m }
-        ensures products { tally.new.products
-            ≡ tally.old.products + answer_products (length self.now.state.pending) }
-        ensures kept { tally.new.kept ≡ tally.old.kept }
-    {
-        let pair = join(&self.lanes, self.absorbed);
-        if self.pending.len() == 0 {
-            let end = end_after_blocks(self.absorbed, self.top_bit);
-            return close_one(pair, end, tally);
-        }
-        let end = padding_after(has_top_bit::<V>(self.pending.last_byte()));
-        let word = self.pending.final_word(end);
-        hash_below_eight(pair, &self.pending, word, tally)
+        self.answer(&mut Tally::new())
     }
 
     /// Writes the saved text of the stream to the front of `out`, whose rest is unchanged. Returns
@@ -202,7 +147,10 @@ impl<const V: u8> StreamedKomihash<V> {
     }
 }
 
-impl<const V: u8> Default for StreamedKomihash<V> {
+impl<const V: u8> Default for StreamedKomihash<V>
+where
+    Versions: IsVersion<V>,
+{
     ghost use Rattle.std.specs.Prelude.{◌≡◌, []};
     ghost use Rattle.komihash.specs.Stream.{start, HasAbsorbed};
 
@@ -226,18 +174,38 @@ where
     ghost state = { λ s. s.state };
 
     #[inline(always)]
+    #[tactic(auto, unfolding(crate::specs::Stream::absorb, crate::specs::Stream::HasAbsorbed))]
     fn start(seed: u64, tally: &mut Tally) -> Self {
-        StreamedKomihash::start_counted(seed, tally)
+        StreamedKomihash {
+            lanes: lanes_of(seed_pair(seed, tally)),
+            pending: Pending::new(),
+            absorbed: false,
+            top_bit: false,
+        }
     }
 
     #[inline(always)]
     fn absorb(&mut self, bytes: &[u8], tally: &mut Tally) {
-        self.absorb_counted(bytes, tally);
+        if bytes.len() < 64 - self.pending.len() {
+            self.pending.append(bytes, tally);
+        } else {
+            self.top_bit = self
+                .pending
+                .append_and_absorb::<V>(&mut self.lanes, bytes, tally);
+            self.absorbed = true;
+        }
     }
 
     #[inline(always)]
     fn answer(&self, tally: &mut Tally) -> u64 {
-        self.answer_counted(tally)
+        let pair = join(&self.lanes, self.absorbed);
+        if self.pending.len() == 0 {
+            let end = end_after_blocks(self.absorbed, self.top_bit);
+            return close_one(pair, end, tally);
+        }
+        let end = padding_after(has_top_bit::<V>(self.pending.last_byte()));
+        let word = self.pending.final_word(end);
+        hash_below_eight(pair, &self.pending, word, tally)
     }
 
     #[inline(always)]

@@ -1,10 +1,10 @@
-use Rattle.std.proofs.Common.{◌∙◌, ap, arith, sym}
-use Rattle.komihash.specs.Stream.{StateOf, absorb}
+use Rattle.std.proofs.Common.{◌∙◌, ap, arith, subst, sym}
+use Rattle.komihash.specs.Stream.{StateOf, HasAbsorbed, absorb}
 use Rattle.komihash.proofs.BytesInWords.{AreBytes-typed}
 use Rattle.komihash.proofs.CallLists.{HasAbsorbed-more}
 use Rattle.komihash.proofs.StreamAbsorbs.{absorb-few, absorb-blocks}
 use Rattle.komihash.proofs.StreamSteps.{IsState-few, IsState-blocks, after_write}
-use Rattle.komihash.proofs.stream.streamed.StreamedKomihash.absorb_counted.Goals as goal
+use Rattle.komihash.proofs.stream.streamed.StreamedKomihashKomiStream.absorb.Goals as goal
 
 pub returns-then-bytes-len-clause-state : goal.returns-then-bytes-len-clause-state
 returns-then-bytes-len-clause-state g c =
@@ -48,3 +48,11 @@ invariant_of-self-inside-else-bytes-len g c =
     after_write g.row.V s.lanes s.pending bytes _ _ _ (omega arith) (omega arith)
     e.lanes e.bytes e.top_bit in
     (rw after (IsState-blocks g.row.V _ bytes s.is_state are), tt)
+
+pub returns-then-bytes-len-clause-joined : goal.returns-then-bytes-len-clause-joined
+returns-then-bytes-len-clause-joined g c seed m all is same =
+    subst (HasAbsorbed g.row.V seed _) same (returns-then-bytes-len-clause-message g c seed m is)
+
+pub returns-else-bytes-len-clause-joined : goal.returns-else-bytes-len-clause-joined
+returns-else-bytes-len-clause-joined g c seed m all is same =
+    subst (HasAbsorbed g.row.V seed _) same (returns-else-bytes-len-clause-message g c seed m is)

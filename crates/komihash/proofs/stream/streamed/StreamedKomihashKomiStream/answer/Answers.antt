@@ -8,7 +8,7 @@ use Rattle.komihash.specs.Tails.{whole_words, final_word}
 use Rattle.komihash.proofs.StreamAnswers.{answer-by_pair, answer-none, tail_end-pending}
 use Rattle.komihash.proofs.StreamSteps.{komi-answer}
 use Rattle.komihash.proofs.WholeWords.{length-whole_words}
-use Rattle.komihash.proofs.stream.streamed.StreamedKomihash.answer_counted.Goals as goal
+use Rattle.komihash.proofs.stream.streamed.StreamedKomihashKomiStream.answer.Goals as goal
 
 pub returns-then-len-eq0-clause-answer : goal.returns-then-len-eq0-clause-answer
 returns-then-len-eq0-clause-answer g c =
