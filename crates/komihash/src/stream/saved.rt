@@ -2,7 +2,7 @@
 //! order, and the pending bytes.
 
 ghost use Rattle.std.specs.Prelude.{◌≡◌, ◌+◌, ◌<◌, ◌≤◌, ◌↔◌, ℕ, IsTrue};
-ghost use Rattle.std.specs.Prelude.{[], ◌∷◌, ◌++◌, length, take, drop};
+ghost use Rattle.std.specs.Prelude.{[], ◌∷◌, ◌++◌, ◌==◌, length, take, drop, slice_index};
 ghost use Rattle.komihash.specs.Saved.{flag_byte, in_order, IsText};
 ghost use Rattle.komihash.specs.Tails.{whole_words};
 ghost use Rattle.komihash.specs.Words.{all_bytes};
@@ -33,6 +33,16 @@ pub(crate) fn write_head<const V: u8>(absorbed: bool, top_bit: bool, fill: usize
     out[1] = u8::from(absorbed);
     out[2] = u8::from(top_bit);
     out[3] = fill as u8;
+}
+
+/// Returns whether a block was absorbed, and the top bit, from the first four bytes of a text.
+#[inline(always)]
+pub(crate) fn read_flags(bytes: &[u8]) -> (bool, bool)
+    requires { LANES_AT ≤ length bytes.now }
+    ensures absorbed { result.0 ≡ (slice_index bytes.now 1 == 1) }
+    ensures top_bit { result.1 ≡ (slice_index bytes.now 2 == 1) }
+{
+    (bytes[1] == 1, bytes[2] == 1)
 }
 
 // Returns the lanes in their order.

@@ -7,7 +7,8 @@ ghost use Rattle.komihash.specs.Hash.{komi};
 ghost use Rattle.komihash.specs.Saved.{text, IsText, IsTextAfter};
 ghost use Rattle.komihash.specs.Stream.{State, IsState, HasAbsorbed, start, absorb, answer};
 
-use super::saved::{is_text, read_lanes, read_pending, write_head, write_lanes, write_pending};
+use super::saved::{is_text, read_flags, read_lanes, read_pending};
+use super::saved::{write_head, write_lanes, write_pending};
 use super::{KomiStream, LONGEST_TEXT};
 use crate::padding::final_word::{end_after_blocks, has_top_bit, padding_after};
 use crate::rounds::pending::Pending;
@@ -105,8 +106,6 @@ where
     ///
     /// `out` needs room for `LONGEST_TEXT` bytes, whatever is pending. `resume` makes the same
     /// stream from the text, also in another process.
-    // It is inlined, as `resume` is. A write through the C library resumes and saves a stream,
-    // which then isn't copied: a write of 64 bytes takes 26 ns, not 43.
     #[inline(always)]
     pub fn save(&self, out: &mut [u8]) -> usize
         requires { LONGEST_TEXT ≤ length out.old }
@@ -117,15 +116,12 @@ where
             → IsTextAfter V seed m (take result out.new) }
         ensures rest { drop result out.new ≡ drop result out.old }
     {
-        write_head::<V>(self.absorbed, self.top_bit, self.pending.len(), out);
-        write_lanes(&self.lanes, out);
-        write_pending(&self.pending, out)
+        self.store(out)
     }
 
     /// Returns the stream that has these bytes as its saved text, or `None` if no stream of this
     /// version has.
     #[inline(always)]
-    #[tactic(auto, unfolding(crate::specs::Saved::IsTextAfter))]
     pub fn resume(bytes: &[u8]) -> Option<Self>
         ensures text { IfSome result (λ stream. text V stream.state ≡ bytes.now) }
         ensures same { (s : State) → IsState V s → text V s ≡ bytes.now
@@ -135,15 +131,7 @@ where
         ensures most { IfSome result (λ _. length bytes.now ≤ LONGEST_TEXT) }
         ensures none { IsNone result ↔ ¬ IsText V bytes.now }
     {
-        if !is_text::<V>(bytes) {
-            return None;
-        }
-        Some(StreamedKomihash {
-            lanes: read_lanes(bytes),
-            pending: read_pending(bytes),
-            absorbed: bytes[1] == 1,
-            top_bit: bytes[2] == 1,
-        })
+        StreamedKomihash::restore(bytes)
     }
 }
 
@@ -210,12 +198,24 @@ where
 
     #[inline(always)]
     fn store(&self, out: &mut [u8]) -> usize {
-        self.save(out)
+        write_head::<V>(self.absorbed, self.top_bit, self.pending.len(), out);
+        write_lanes(&self.lanes, out);
+        write_pending(&self.pending, out)
     }
 
     #[inline(always)]
+    #[tactic(auto, unfolding(crate::specs::Saved::IsTextAfter))]
     fn restore(bytes: &[u8]) -> Option<Self> {
-        StreamedKomihash::resume(bytes)
+        if !is_text::<V>(bytes) {
+            return None;
+        }
+        let (absorbed, top_bit) = read_flags(bytes);
+        Some(StreamedKomihash {
+            lanes: read_lanes(bytes),
+            pending: read_pending(bytes),
+            absorbed,
+            top_bit,
+        })
     }
 
     ghost versions = { ⟦<Versions as IsVersion<V>>⟧.is_version };

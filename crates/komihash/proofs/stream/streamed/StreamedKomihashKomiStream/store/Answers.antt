@@ -1,7 +1,7 @@
 use Rattle.std.proofs.Common.{arith, append_assoc, sym}
 use Rattle.komihash.specs.Saved.{text, IsTextAfter}
 use Rattle.komihash.proofs.SavedTexts.{length-text}
-use Rattle.komihash.proofs.stream.streamed.StreamedKomihash.save.Goals as goal
+use Rattle.komihash.proofs.stream.streamed.StreamedKomihashKomiStream.store.Goals as goal
 
 pub returns-clause-length : goal.returns-clause-length
 returns-clause-length g c = grind (arith, length-text)
