@@ -6,13 +6,13 @@ ghost use Rattle.std.specs.Prelude.{◌≡◌, ◌+◌, ◌-◌, ◌<◌, ◌≤
 ghost use Rattle.std.specs.Prelude.{length, take, drop, slice_index};
 ghost use Rattle.komihash.specs.Counts.{write_products, kept_bytes};
 ghost use Rattle.komihash.specs.Tails.{whole_words, final_word, block_lanes, after_blocks};
-ghost use Rattle.komihash.specs.Padding.{has_top_bit};
+ghost use Rattle.komihash.specs.Padding.{has_top_bit, padding_byte};
 
 mod blocks;
 mod writer;
 
 use super::Lanes;
-use crate::padding::final_word::has_top_bit;
+use crate::padding::final_word::{has_top_bit, padding_after};
 use crate::tally::Tally;
 use crate::utils::Words;
 use crate::utils::copies::write_bytes;
@@ -57,9 +57,9 @@ impl Pending {
         self.fill
     }
 
-    /// Returns the last byte. Its word has zeros above it.
+    // Returns the last byte. Its word has zeros above it.
     #[inline(always)]
-    pub(crate) fn last_byte(&self) -> u8
+    fn last_byte(&self) -> u8
         requires { 0 < length self.now }
         ensures { result ≡ slice_index self.now (length self.now - 1) }
     {
@@ -104,12 +104,14 @@ impl Pending {
         has_top_bit::<V>(bytes[bytes.len() - fill - 1])
     }
 
-    /// Returns the final word: the bytes after the last whole word, and the byte `end` after them.
+    /// Returns the final word of at least one byte: those after the last whole word, and the padding
+    /// byte.
     #[inline(always)]
-    pub(crate) fn final_word(&self, end: u64) -> u64
-        requires { end < 4 }
-        ensures { result ≡ final_word self.now end }
+    pub(crate) fn final_word<const V: u8>(&self) -> u64
+        requires { 0 < length self.now }
+        ensures { result ≡ final_word self.now (padding_byte V self.now) }
     {
+        let end = padding_after(has_top_bit::<V>(self.last_byte()));
         self.words[self.fill / 8] | end << (8 * (self.fill % 8))
     }
 

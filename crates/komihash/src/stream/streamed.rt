@@ -10,7 +10,7 @@ ghost use Rattle.komihash.specs.Stream.{State, IsState, HasAbsorbed, start, abso
 use super::saved::{is_text, read_flags, read_lanes, read_pending};
 use super::saved::{write_head, write_lanes, write_pending};
 use super::{KomiStream, LONGEST_TEXT};
-use crate::padding::final_word::{end_after_blocks, has_top_bit, padding_after};
+use crate::padding::final_word::end_after_blocks;
 use crate::rounds::pending::Pending;
 use crate::rounds::{Lanes, close_one, join, lanes_of, seed_pair};
 use crate::tails::hash_below_eight;
@@ -191,9 +191,8 @@ where
             let end = end_after_blocks(self.absorbed, self.top_bit);
             return close_one(pair, end, tally);
         }
-        let end = padding_after(has_top_bit::<V>(self.pending.last_byte()));
-        let word = self.pending.final_word(end);
-        hash_below_eight(pair, &self.pending, word, tally)
+        let last = self.pending.final_word::<V>();
+        hash_below_eight(pair, &self.pending, last, tally)
     }
 
     #[inline(always)]

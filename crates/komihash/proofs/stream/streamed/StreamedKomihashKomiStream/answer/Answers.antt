@@ -3,7 +3,6 @@ use Rattle.std.proofs.lemmas.List.{nil_from_length}
 use Rattle.komihash.specs.Hash.{hash_from_pair}
 use Rattle.komihash.specs.Rounds.{join, closing}
 use Rattle.komihash.specs.Stream.{StateOf, answer}
-use Rattle.komihash.specs.Padding.{has_top_bit, padding_after}
 use Rattle.komihash.specs.Tails.{whole_words, final_word}
 use Rattle.komihash.proofs.StreamAnswers.{answer-by_pair, answer-none, tail_end-pending}
 use Rattle.komihash.proofs.StreamSteps.{komi-answer}
@@ -35,12 +34,10 @@ returns-clause-products g c =
 pub returns-clause-answer : goal.returns-clause-answer
 returns-clause-answer g c =
     let s = c.self.inside in
-    let end =
-    c.padding_after-end.ensures ∙ ap padding_after (c.has_top_bit.ensures ∙ ap (has_top_bit g.row.V) c.last_byte.ensures)
-    ∙ sym (tail_end-pending g.row.V s.pending s.absorbed s.top_bit (omega arith)) in
-    let word = c.final_word-word.ensures ∙ ap (final_word s.pending) end in
+    let end = sym (tail_end-pending g.row.V s.pending s.absorbed s.top_bit (omega arith)) in
+    let word = c.final_word-last.ensures ∙ ap (final_word s.pending) end in
     c.hash_below_eight.ensures.hash
-    ∙ ap (λ p. hash_from_pair p (whole_words s.pending ++ c.final_word-word.result ∷ []))
+    ∙ ap (λ p. hash_from_pair p (whole_words s.pending ++ c.final_word-last.result ∷ []))
     c.join-pair.ensures
     ∙ ap
     (λ w. hash_from_pair (join s.absorbed s.lanes) (whole_words s.pending ++ w ∷ []))
