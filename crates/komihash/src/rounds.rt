@@ -7,6 +7,7 @@ ghost use Rattle.std.specs.Prelude.{◌≡◌, ℕ, ◌+◌, ◌*◌, ◌<◌, L
 ghost use Rattle.komihash.specs.Halves.{pair_of};
 ghost use Rattle.komihash.specs.Rounds.{low, high, plus, seed_words, mix, seed_pair, lanes, places};
 ghost use Rattle.komihash.specs.Rounds.{block_round_by, join, pair_round, mix_again, closing};
+ghost use Rattle.komihash.specs.Saved.{in_order};
 
 pub(crate) mod blocks;
 pub(crate) mod pending;
@@ -41,10 +42,10 @@ pub(crate) type Pair = (u64, u64);
 /// word of the pair before it. The fourth pair comes before the first, so it stands there.
 #[derive(Drop)]
 pub(crate) struct Lanes {
-    pub(crate) fourth: Pair,
-    pub(crate) first: Pair,
-    pub(crate) second: Pair,
-    pub(crate) third: Pair,
+    fourth: Pair,
+    first: Pair,
+    second: Pair,
+    third: Pair,
 }
 
 impl Model for Lanes {
@@ -115,6 +116,31 @@ pub(crate) fn lanes_of(pair: Pair) -> Lanes
     }
 }
 
+/// Returns the lanes in their order, s1 first.
+#[inline(always)]
+pub(crate) fn in_order(lanes: &Lanes) -> [u64; 8]
+    ensures { result ≡ in_order lanes.now }
+{
+    let ((low1, e1), (low2, e2)) = (lanes.first, lanes.second);
+    let ((low3, e3), (low4, e4)) = (lanes.third, lanes.fourth);
+    [e4 ^ low1, e1 ^ low2, e2 ^ low3, e3 ^ low4, e1, e2, e3, e4]
+}
+
+/// Returns the lanes from their words in that order.
+#[inline(always)]
+#[tactic(auto, using(crate::proofs::SavedTexts::lanes_back))]
+pub(crate) fn from_order(lanes: &[u64; 8]) -> Lanes
+    ensures { in_order result ≡ lanes.now }
+{
+    let [s1, s2, s3, s4, s5, s6, s7, s8] = *lanes;
+    Lanes {
+        first: (s8 ^ s1, s5),
+        second: (s5 ^ s2, s6),
+        third: (s6 ^ s3, s7),
+        fourth: (s7 ^ s4, s8),
+    }
+}
+
 /// Returns which words of a block are multiplied with each other: two indices for each product.
 #[inline(always)]
 pub(crate) fn places<const V: u8>() -> [usize; 8]
@@ -164,6 +190,7 @@ pub(crate) fn block_round(
     };
 }
 
+/// Returns a copy of the lanes.
 #[inline(always)]
 pub(crate) fn copied(lanes: &Lanes) -> Lanes
     ensures { result ≡ lanes.now }

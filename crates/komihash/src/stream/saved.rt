@@ -8,7 +8,7 @@ ghost use Rattle.komihash.specs.Tails.{whole_words};
 ghost use Rattle.komihash.specs.Words.{all_bytes};
 
 use super::LONGEST_TEXT;
-use crate::rounds::Lanes;
+use crate::rounds::{Lanes, from_order, in_order};
 use crate::rounds::pending::Pending;
 use crate::tally::Tally;
 use crate::utils::copies::{write_bytes, write_words};
@@ -33,41 +33,6 @@ pub(crate) fn write_head<const V: u8>(absorbed: bool, top_bit: bool, fill: usize
     out[1] = u8::from(absorbed);
     out[2] = u8::from(top_bit);
     out[3] = fill as u8;
-}
-
-/// Returns whether a block was absorbed, and the top bit, from the first four bytes of a text.
-#[inline(always)]
-pub(crate) fn read_flags(bytes: &[u8]) -> (bool, bool)
-    requires { LANES_AT ≤ length bytes.now }
-    ensures absorbed { result.0 ≡ (slice_index bytes.now 1 == 1) }
-    ensures top_bit { result.1 ≡ (slice_index bytes.now 2 == 1) }
-{
-    (bytes[1] == 1, bytes[2] == 1)
-}
-
-// Returns the lanes in their order.
-#[inline(always)]
-fn in_order(lanes: &Lanes) -> [u64; 8]
-    ensures { result ≡ in_order lanes.now }
-{
-    let ((low1, e1), (low2, e2)) = (lanes.first, lanes.second);
-    let ((low3, e3), (low4, e4)) = (lanes.third, lanes.fourth);
-    [e4 ^ low1, e1 ^ low2, e2 ^ low3, e3 ^ low4, e1, e2, e3, e4]
-}
-
-// Returns the lanes from their words in order.
-#[inline(always)]
-#[tactic(auto, using(crate::proofs::SavedTexts::lanes_back))]
-fn from_order(lanes: &[u64; 8]) -> Lanes
-    ensures { in_order result ≡ lanes.now }
-{
-    let [s1, s2, s3, s4, s5, s6, s7, s8] = *lanes;
-    Lanes {
-        first: (s8 ^ s1, s5),
-        second: (s5 ^ s2, s6),
-        third: (s6 ^ s3, s7),
-        fourth: (s7 ^ s4, s8),
-    }
 }
 
 /// Writes the lanes after the first four bytes.
@@ -108,6 +73,17 @@ pub(crate) fn is_text<const V: u8>(bytes: &[u8]) -> bool
         && bytes[2] <= (if V == 4 { bytes[1] } else { 0 })
         && bytes[3] < 64
         && bytes.len() == PENDING_AT + usize::from(bytes[3])
+}
+
+/// Returns what the first four bytes of a text say of blocks: whether one was absorbed, and the top
+/// bit.
+#[inline(always)]
+pub(crate) fn read_head(bytes: &[u8]) -> (bool, bool)
+    requires { LANES_AT ≤ length bytes.now }
+    ensures absorbed { result.0 ≡ (slice_index bytes.now 1 == 1) }
+    ensures top_bit { result.1 ≡ (slice_index bytes.now 2 == 1) }
+{
+    (bytes[1] == 1, bytes[2] == 1)
 }
 
 /// Returns the lanes of a text.

@@ -7,7 +7,7 @@ ghost use Rattle.komihash.specs.Hash.{komi};
 ghost use Rattle.komihash.specs.Saved.{text, IsText, IsTextAfter};
 ghost use Rattle.komihash.specs.Stream.{State, IsState, HasAbsorbed, start, absorb, answer};
 
-use super::saved::{is_text, read_flags, read_lanes, read_pending};
+use super::saved::{is_text, read_head, read_lanes, read_pending};
 use super::saved::{write_head, write_lanes, write_pending};
 use super::{KomiStream, LONGEST_TEXT};
 use crate::padding::final_word::end_after_blocks;
@@ -208,7 +208,7 @@ where
         if !is_text::<V>(bytes) {
             return None;
         }
-        let (absorbed, top_bit) = read_flags(bytes);
+        let (absorbed, top_bit) = read_head(bytes);
         Some(StreamedKomihash {
             lanes: read_lanes(bytes),
             pending: read_pending(bytes),
