@@ -4,7 +4,7 @@ ghost use Rattle.std.specs.Prelude.{◌≡◌, ◌+◌, ◌≤◌, length};
 ghost use Rattle.komihash.specs.Counts.{hash_products};
 ghost use Rattle.komihash.specs.Hash.{komi};
 
-use crate::padding::final_word::{end_byte, final_word_of_blocks, final_word_of_many};
+use crate::padding::final_word::{end_byte, final_word_or_end, final_word_of_many};
 use crate::rounds::blocks::absorb_blocks;
 use crate::rounds::{close_one, close_two, join, lanes_of, seed_pair};
 use crate::tails::hash_below_eight;
@@ -21,7 +21,7 @@ fn hash_of_blocks<const V: u8>(bytes: &[u8], seed: u64, tally: &mut Tally) -> u6
     ensures kept { tally.new.kept ≡ tally.old.kept }
 {
     let pair = seed_pair(seed, tally);
-    let last = final_word_of_blocks(bytes, end_byte::<V>(bytes));
+    let last = final_word_or_end(bytes, end_byte::<V>(bytes));
     let mut lanes = lanes_of(pair);
     let rest = absorb_blocks::<V>(&mut lanes, bytes, tally);
     hash_below_eight(join(&lanes, true), &rest, last, tally)

@@ -32,7 +32,7 @@ pub(crate) fn word_at(bytes: &[u8], at: usize) -> u64
 
 // Returns the word of the four bytes from index `at`.
 #[inline(always)]
-fn four_at(bytes: &[u8], at: usize) -> u64
+fn u32_at(bytes: &[u8], at: usize) -> u64
     requires { at + 4 ≤ length bytes.now }
     ensures { result ≡ word_of (take 4 (drop at bytes.now)) }
 {
@@ -42,7 +42,7 @@ fn four_at(bytes: &[u8], at: usize) -> u64
 
 // Returns the word of the two bytes from index `at`.
 #[inline(always)]
-fn two_at(bytes: &[u8], at: usize) -> u64
+fn u16_at(bytes: &[u8], at: usize) -> u64
     requires { at + 2 ≤ length bytes.now }
     ensures { result ≡ word_of (take 2 (drop at bytes.now)) }
 {
@@ -62,9 +62,9 @@ pub(crate) fn read_partial_word(bytes: &[u8], end: u64) -> u64
 {
     let n = bytes.len();
     if n >= 4 {
-        four_at(bytes, 0) | (four_at(bytes, n - 4) | end << 32) >> (64 - 8 * n) << 32
+        u32_at(bytes, 0) | (u32_at(bytes, n - 4) | end << 32) >> (64 - 8 * n) << 32
     } else if n >= 2 {
-        two_at(bytes, 0) | (two_at(bytes, n - 2) | end << 16) >> (32 - 8 * n) << 16
+        u16_at(bytes, 0) | (u16_at(bytes, n - 2) | end << 16) >> (32 - 8 * n) << 16
     } else if n == 1 {
         u64::from(bytes[0]) | end << 8
     } else {

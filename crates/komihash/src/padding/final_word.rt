@@ -65,7 +65,7 @@ pub(crate) fn final_word_of_many(bytes: &[u8], end: u64) -> u64
 /// nothing is read, which makes long messages faster.
 #[inline(always)]
 #[tactic(auto, using(crate::proofs::PaddingWords::final_word_whole))]
-pub(crate) fn final_word_of_blocks(bytes: &[u8], end: u64) -> u64
+pub(crate) fn final_word_or_end(bytes: &[u8], end: u64) -> u64
     requires many { 8 ≤ length bytes.now }
     requires end { end < 4 }
     ensures { result ≡ final_word bytes.now end }

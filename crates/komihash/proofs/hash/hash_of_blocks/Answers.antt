@@ -14,5 +14,5 @@ returns-clause-hash g c =
     let komi = komi_long g.row.V c.args.seed c.args.bytes.now c.requires in
     rw (komi, ← c.seed_pair-pair.ensures.pair, ← c.lanes_of-lanes.ensures)
     (rw (← c.absorb_blocks-rest.ensures.lanes, ← c.join.ensures, c.hash_below_eight.ensures.hash)
-    (rw (c.absorb_blocks-rest.ensures.left, c.final_word_of_blocks-last.ensures, c.end_byte.ensures.byte)
+    (rw (c.absorb_blocks-rest.ensures.left, c.final_word_or_end-last.ensures, c.end_byte.ensures.byte)
     refl))

@@ -61,7 +61,7 @@ fn put_few<const FULL: bool>(words: &mut [u64; 8], fill: usize, bytes: &[u8])
 
 // Stores at most one whole word, k words after the partial word.
 #[inline(always)]
-fn move_below_two(words: &mut [u64; 8], fill: usize, bytes: &[u8], k: usize)
+fn store_below_two(words: &mut [u64; 8], fill: usize, bytes: &[u8], k: usize)
     requires room { fill + length bytes.now ≤ 64 }
     requires place { 0 < k }
     requires within { 8 * k ≤ fill % 8 + length bytes.now }
@@ -76,7 +76,7 @@ fn move_below_two(words: &mut [u64; 8], fill: usize, bytes: &[u8], k: usize)
 
 // Stores at most three whole words, from k words after the partial word on.
 #[inline(always)]
-fn move_below_four(words: &mut [u64; 8], fill: usize, bytes: &[u8], k: usize)
+fn store_below_four(words: &mut [u64; 8], fill: usize, bytes: &[u8], k: usize)
     requires room { fill + length bytes.now ≤ 64 }
     requires place { 0 < k }
     requires within { 8 * k ≤ fill % 8 + length bytes.now }
@@ -86,9 +86,9 @@ fn move_below_four(words: &mut [u64; 8], fill: usize, bytes: &[u8], k: usize)
 {
     if fill % 8 + bytes.len() >= 8 * k + 16 {
         set_two(words, fill / 8 + k, bytes, 8 * k - fill % 8);
-        move_below_two(words, fill, bytes, k + 2);
+        store_below_two(words, fill, bytes, k + 2);
     } else {
-        move_below_two(words, fill, bytes, k);
+        store_below_two(words, fill, bytes, k);
     }
 }
 
@@ -97,7 +97,7 @@ fn move_below_four(words: &mut [u64; 8], fill: usize, bytes: &[u8], k: usize)
 // Each index is `fill / 8` plus a constant. In a loop, each turn would wait for the index of the
 // turn before.
 #[inline(always)]
-fn move_words(words: &mut [u64; 8], fill: usize, bytes: &[u8])
+fn store_words(words: &mut [u64; 8], fill: usize, bytes: &[u8])
     requires many { 8 ≤ length bytes.now }
     requires room { fill + length bytes.now ≤ 64 }
     ensures { Extend words.old words.new (fill / 8 + 1) bytes.now (8 - fill % 8)
@@ -106,9 +106,9 @@ fn move_words(words: &mut [u64; 8], fill: usize, bytes: &[u8])
     if fill % 8 + bytes.len() >= 40 {
         set_two(words, fill / 8 + 1, bytes, 8 - fill % 8);
         set_two(words, fill / 8 + 3, bytes, 24 - fill % 8);
-        move_below_four(words, fill, bytes, 5);
+        store_below_four(words, fill, bytes, 5);
     } else {
-        move_below_four(words, fill, bytes, 1);
+        store_below_four(words, fill, bytes, 1);
     }
 }
 
@@ -138,7 +138,7 @@ fn put_many<const FULL: bool>(words: &mut [u64; 8], fill: usize, bytes: &[u8])
     ensures { Store words.new (pending_bytes words.old fill ++ bytes.now) }
 {
     join_word(words, fill, read_word(bytes));
-    move_words(words, fill, bytes);
+    store_words(words, fill, bytes);
     if !FULL {
         put_last(words, fill, bytes);
     }

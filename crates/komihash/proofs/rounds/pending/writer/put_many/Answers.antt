@@ -14,7 +14,7 @@ returns-then-not-this g c =
     (c.join_word.ensures (take 8 bytes) (AreBytes-take 8 bytes (AreBytes-typed bytes c.type_inv.bytes))
     c.read_word.ensures) in
     rw (take_all (length bytes) bytes (omega arith)) at
-    (c.put_last.ensures xs (omega arith) (c.move_words.ensures xs (omega arith) partial))
+    (c.put_last.ensures xs (omega arith) (c.store_words.ensures xs (omega arith) partial))
 
 pub returns-else-not-this : goal.returns-else-not-this
 returns-else-not-this g c =
@@ -26,4 +26,4 @@ returns-else-not-this g c =
     c.read_word.ensures) in
     let full : c.args.fill + length bytes ≡ 64 = c.requires.full (search rules) in
     rw (take_all (length bytes - (c.args.fill + length bytes) % 8) bytes (omega arith)) at
-    (c.move_words.ensures xs (omega arith) partial)
+    (c.store_words.ensures xs (omega arith) partial)
