@@ -16,12 +16,18 @@ use std::marker::Model;
 /// `next` of `specs/Generator.antt` has the rule of each version, with the constants of the
 /// original. In one version, the same pair always gives the same outputs.
 #[derive(Drop)]
-pub struct Komirand<const V: u8> {
+pub struct Komirand<const V: u8>
+where
+    Versions: IsVersion<V>,
+{
     s1: u64,
     s2: u64,
 }
 
-impl<const V: u8> Model for Komirand<V> {
+impl<const V: u8> Model for Komirand<V>
+where
+    Versions: IsVersion<V>,
+{
     ghost use Rattle.std.specs.Prelude.{ℕ};
 
     ghost Value = { ℕ × ℕ };

@@ -14,11 +14,17 @@ use std::marker::Model;
 /// So writes are not joined: the number after two writes is not the hash of all their bytes. A
 /// write of no bytes replaces the number too.
 #[derive(Drop)]
-pub struct KomiHasher<const V: u8> {
+pub struct KomiHasher<const V: u8>
+where
+    Versions: IsVersion<V>,
+{
     number: u64,
 }
 
-impl<const V: u8> Model for KomiHasher<V> {
+impl<const V: u8> Model for KomiHasher<V>
+where
+    Versions: IsVersion<V>,
+{
     ghost Value = { ℕ };
 
     ghost view = { λ h. h.number };

@@ -26,7 +26,10 @@ use std::marker::Model;
 /// copies into the stream the bytes that continue a partial block, and those that begin a new one:
 /// at most 63 of each.
 #[derive(Drop)]
-pub struct StreamedKomihash<const V: u8> {
+pub struct StreamedKomihash<const V: u8>
+where
+    Versions: IsVersion<V>,
+{
     lanes: Lanes,
     pending: Pending,
     // Whether a block was absorbed.
@@ -41,7 +44,10 @@ pub struct StreamedKomihash<const V: u8> {
     }) },
 }
 
-impl<const V: u8> Model for StreamedKomihash<V> {
+impl<const V: u8> Model for StreamedKomihash<V>
+where
+    Versions: IsVersion<V>,
+{
     ghost use Rattle.komihash.specs.Stream.{StateOf};
 
     ghost Value = { StateOf V };
