@@ -11,7 +11,6 @@ struct version {
     const char *name;
     uint64_t (*hash)(const void *, size_t, uint64_t);
     uint64_t (*pieces)(const komihash_piece *, size_t, uint64_t);
-    uint64_t (*chain)(uint64_t, const void *, size_t);
     void (*start)(komihash_stream *, uint64_t);
     bool (*write)(komihash_stream *, const void *, size_t);
     bool (*write_pieces)(komihash_stream *, const komihash_piece *, size_t);
@@ -27,7 +26,6 @@ struct version {
         .name = "version " #v, \
         .hash = komihash_v##v, \
         .pieces = komihash_v##v##_pieces, \
-        .chain = komihash_v##v##_chain, \
         .start = komihash_v##v##_start, \
         .write = komihash_v##v##_write, \
         .write_pieces = komihash_v##v##_write_pieces, \
@@ -67,13 +65,10 @@ static void print_bytes(const uint8_t *bytes, size_t length) {
 }
 
 static void hashes(const struct version *version) {
-    uint64_t number = version->chain(seed, message, 70);
     print_hash("hash", version->hash(message, 100, seed));
     print_hash("hash of no bytes", version->hash(NULL, 0, seed));
     print_hash("pieces", version->pieces(pieces, 4, seed));
     print_hash("pieces, none", version->pieces(NULL, 0, seed));
-    print_hash("chain", number);
-    print_hash("chain, next", version->chain(number, message + 70, 30));
 }
 
 /* Prints a text's length and first four bytes, and what the version's `finish` says of it. */

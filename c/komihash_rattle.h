@@ -35,25 +35,22 @@ typedef struct {
     uint8_t length;
 } komihash_stream;
 
-/* A piece of a message. It is laid out like POSIX's `struct iovec`, so a list of these can be
- * cast. */
+/* A piece of a message. It is laid out like POSIX's `struct iovec`, so a list of these can be cast,
+ * but for an entry {NULL, 0}: no call may be passed it, since the pointer in a piece is never
+ * null. */
 typedef struct {
     const void *bytes;
     size_t length;
 } komihash_piece;
 
-/* Returns the hash of a message. */
+/* Returns the hash of a message. With a hasher's number as the seed, this is the number of that
+ * hasher after a write of these bytes. */
 uint64_t komihash_v4(const void *bytes, size_t length, uint64_t seed);
 uint64_t komihash_v5(const void *bytes, size_t length, uint64_t seed);
 
 /* Returns the hash of pieces, joined in order. */
 uint64_t komihash_v4_pieces(const komihash_piece *pieces, size_t count, uint64_t seed);
 uint64_t komihash_v5_pieces(const komihash_piece *pieces, size_t count, uint64_t seed);
-
-/* Returns the next number of a chain of hashes: the hash of the bytes, with the number before as
- * the seed. */
-uint64_t komihash_v4_chain(uint64_t number, const void *bytes, size_t length);
-uint64_t komihash_v5_chain(uint64_t number, const void *bytes, size_t length);
 
 /* Starts a stream, whatever `stream` holds. */
 void komihash_v4_start(komihash_stream *stream, uint64_t seed);
