@@ -19,26 +19,28 @@ impl Piece {
     }
 }
 
-unsafe extern "C" {
+extern "C" {
     fn komihash_v5(bytes: *const c_void, length: usize, seed: u64) -> u64;
     fn komihash_v5_pieces(pieces: *const Piece, count: usize, seed: u64) -> u64;
-    safe fn komihash_v5_start(stream: &mut Stream, seed: u64);
+    fn komihash_v5_start(stream: &mut Stream, seed: u64);
     fn komihash_v5_write(stream: &mut Stream, bytes: *const c_void, length: usize) -> bool;
-    safe fn komihash_v5_finish(stream: &Stream, hash: &mut u64) -> bool;
+    fn komihash_v5_finish(stream: &Stream, hash: &mut u64) -> bool;
 }
 
 fn main() {
     let message = b"port";
     let pieces = [Piece::of(&message[..1]), Piece::of(&message[1..])];
-    // SAFETY: each pointer and length are those of a slice.
-    let hash = unsafe { komihash_v5(message.as_ptr().cast(), message.len(), 7) };
-    let of_pieces = unsafe { komihash_v5_pieces(pieces.as_ptr(), pieces.len(), 7) };
     let mut stream = Stream { text: [0; 131], length: 0 };
-    komihash_v5_start(&mut stream, 7);
-    for piece in &pieces {
-        assert!(unsafe { komihash_v5_write(&mut stream, piece.bytes, piece.length) });
-    }
     let mut of_stream = 0;
-    assert!(komihash_v5_finish(&stream, &mut of_stream));
-    println!("{hash:016x}\n{of_pieces:016x}\n{of_stream:016x}");
+    // SAFETY: each pointer and length are those of a slice, and what is written overlaps nothing.
+    unsafe {
+        let hash = komihash_v5(message.as_ptr().cast(), message.len(), 7);
+        let of_pieces = komihash_v5_pieces(pieces.as_ptr(), pieces.len(), 7);
+        komihash_v5_start(&mut stream, 7);
+        for piece in &pieces {
+            assert!(komihash_v5_write(&mut stream, piece.bytes, piece.length));
+        }
+        assert!(komihash_v5_finish(&stream, &mut of_stream));
+        println!("{hash:016x}\n{of_pieces:016x}\n{of_stream:016x}");
+    }
 }
