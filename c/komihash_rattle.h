@@ -43,8 +43,8 @@ typedef struct {
     size_t length;
 } komihash_piece;
 
-/* Returns the hash of a message. With a hasher's number as the seed, this is the number of that
- * hasher after a write of these bytes. */
+/* Returns the hash of a message. With the number of a hasher (`KomiHasher` in the Rust crate) as the
+ * seed, this is the hasher's number after a write of the message. */
 uint64_t komihash_v4(const void *bytes, size_t length, uint64_t seed);
 uint64_t komihash_v5(const void *bytes, size_t length, uint64_t seed);
 
