@@ -42,7 +42,7 @@ build_static() (
     make_workspace "$room" "$name" "$folder"
     echo "Proving and building the crate $name. If nothing is proved yet, this takes minutes." >&2
     if ! (cd "$room/crates/$name" && rt lib "${@:4}") > "${file%.a}.log" 2>&1; then
-        tail -n 40 "${file%.a}.log" >&2
+        grep -vE ': proved$|^(checked|so far|statements)' "${file%.a}.log" | tail -n 40 >&2 || true
         stop "the crate $name is not proved or not built; see ${file%.a}.log"
     fi
     cp "$room/crates/$name/out/lib$name.a" "$file"

@@ -202,7 +202,10 @@ cases_in_languages() {
 
 examples() {
     note 'the library is proved and built' build_archive
-    [ "$failed" = 0 ] || counted 1
+    if [ "$failed" != 0 ]; then
+        counted 1
+        return
+    fi
     example > "$out/example.c"
     cases_with 'a C compiler' \
         "$(working 'gcc clang' 'int main(void) { return 0; }' -x c - -o "$out/program")" \
