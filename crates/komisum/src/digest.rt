@@ -8,7 +8,6 @@ ghost use Rattle.komisum.specs.Watched.{Takes};
 
 use crate::ending::Fault;
 use crate::watched::Watched;
-use komihash::laws;
 use komihash::stream::KomiStream;
 use komihash::tally::Tally;
 use std::io::Read;
@@ -48,9 +47,6 @@ pub fn digest<R: Read, S: KomiStream>(
     ensures read_bound { result ≡ Err Fault.Read
         → Takes R.remaining reader.old reader.new (λ taken. taken ≤ most) }
 {
-    laws::cut();
-    laws::empty_write();
-    laws::joined();
     let tally = &mut Tally::new();
     let mut stream = S::start(seed, tally);
     let mut taken = 0u64;

@@ -1,8 +1,9 @@
 -- What the reader gave grows by what a read gives.
-use Rattle.std.proofs.Common.{◌≡◌, ◌↔◌, ℕ, ◌+◌, ◌≤◌, ◌<◌, false, Err, length, arith, refl, rules}
+use Rattle.std.proofs.Common.{◌≡◌, ◌↔◌, ℕ, ◌+◌, ◌≤◌, ◌<◌, ◌++◌, false, Err, length, take, arith, refl, rules, length-append, length-take-le}
 use Rattle.std.specs.declared.result.Result.{Result}
 use Rattle.komisum.specs.declared.ending.Fault.{Fault}
 use Rattle.komisum.specs.declared.ending.Fault.TheVariants.{TooLong}
+use Rattle.std.proofs.KnownBytes.{Consumes-trans}
 use Rattle.komisum.proofs.KnownBytes.{takes_more}
 use Rattle.komisum.proofs.digest.digest.Goals as goal
 
@@ -25,3 +26,20 @@ returns-then-taken-most-clause-bound g c =
     (λ taken. taken ≤ c.args.most + length c.args.chunk.now)
     kept.consumed c.in-Ok.ensures.bytes.0 c.in-Ok.ensures.bound.0
     (omega (arith, kept.count, kept.within, kept.room, c.in-Ok.ensures.bound.0))
+
+pub loop-stream-preserved : goal.loop-stream-preserved
+loop-stream-preserved g c =
+    let before = c.loop-stream.invariant.0 in
+    let kept = c.loop-stream.invariant.1 in
+    let given = take c.in-Ok.count c.read.new.buf in (
+      before ++ given,
+      record {
+        message = c.absorb.ensures.message c.args.seed before kept.message;
+        consumed = Consumes-trans _ _ _ before given kept.consumed c.in-Ok.ensures.bytes.0;
+        count =
+            omega (arith, kept.count, length-append before given, length-take-le c.in-Ok.count c.read.new.buf c.in-Ok.ensures.bound.0);
+        within = search rules;
+        room = search rules;
+        sound = search rules;
+      },
+    )
