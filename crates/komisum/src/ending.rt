@@ -4,8 +4,11 @@ ghost use Rattle.std.specs.Prelude.{◌≡◌, ◌≤◌, length, None, Some, If
 ghost use Rattle.komisum.specs.Ending.{ending_of, fault_text, refusal_status, refusal_text};
 ghost use Rattle.komisum.specs.Ending.{status_of, text_of};
 
+/// The length of the longest message, in bytes.
+pub const LONGEST_MESSAGE: usize = 26;
+
 /// Why the whole line was not written and flushed.
-#[derive(Drop)]
+#[derive(Clone, Copy, Debug, PartialEq, Eq)]
 pub enum Fault {
     /// A read returned an error.
     Read,
@@ -19,7 +22,7 @@ impl Fault {
     /// Returns the message.
     pub fn text(&self) -> &'static str
         ensures text { result.now ≡ fault_text self.now }
-        ensures short { length result.now ≤ 26 }
+        ensures short { length result.now ≤ LONGEST_MESSAGE }
     {
         match self {
             Fault::Read => "read failed",
@@ -30,9 +33,10 @@ impl Fault {
 }
 
 /// Why the program did not begin to read.
-#[derive(Drop)]
+#[derive(Clone, Copy, Debug, PartialEq, Eq)]
 pub enum Refusal {
-    /// The arguments, a list of them or the input's buffer could not be allocated.
+    /// The arguments, a list of them or the input's buffer could not be allocated. All errors in
+    /// place of the arguments count as this, but for an argument that is not UTF-8.
     NoMemory,
     /// There are arguments, but not exactly a version and a seed.
     Usage,
@@ -42,7 +46,7 @@ impl Refusal {
     /// Returns the message.
     pub fn text(&self) -> &'static str
         ensures text { result.now ≡ refusal_text self.now }
-        ensures short { length result.now ≤ 26 }
+        ensures short { length result.now ≤ LONGEST_MESSAGE }
     {
         match self {
             Refusal::NoMemory => "no memory",
@@ -62,7 +66,7 @@ impl Refusal {
 }
 
 /// How the program ends.
-#[derive(Drop)]
+#[derive(Clone, Copy, Debug, PartialEq, Eq)]
 pub enum Ending {
     /// The line was written and flushed.
     Shown,

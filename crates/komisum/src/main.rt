@@ -23,7 +23,7 @@ const BUFFER_LENGTH: usize = 1 << 16;
 
 fn main(rt: HostRuntime) -> ExitCode {
     program::run(
-        settings::settings_given(&rt),
+        settings::settings_from_env(&rt),
         &mut BufReader::with_capacity(rt.alloc(), BUFFER_LENGTH, rt.stdin()).map(Watched::new),
         &mut Watched::new(rt.stdout()),
         &mut Watched::new(rt.stderr()),

@@ -6,17 +6,24 @@ ghost use Rattle.std.specs.Process.{exit_status};
 ghost use Rattle.komisum.specs.Ending.{Reports, said, status_of, text_of};
 ghost use Rattle.komisum.specs.Watched.{AppendsPrefix};
 
-use crate::ending::{Ending, Fault};
+use crate::ending::{Ending, Fault, LONGEST_MESSAGE};
 use crate::watched::{Watched, write_whole};
 use std::io::Write;
 use std::process::ExitCode;
 
-// Writes a line: the program's name, a message of at most 26 bytes, and a newline. If the writer
-// accepts them in one call, no other output can come between them. Returns `Fault::Write` if a
-// write fails.
+// What each line begins with, and how many bytes that takes.
+const NAME: &[u8] = b"komisum: ";
+
+const NAME_LENGTH: usize = 9;
+
+// The length of the longest line, with its newline.
+const LONGEST_LINE: usize = NAME_LENGTH + LONGEST_MESSAGE + 1;
+
+// Writes a line: the program's name, a message and a newline. If the writer accepts them in one
+// call, no other output can come between them. Returns `Fault::Write` if a write fails.
 fn write_message<W: Write>(errors: &mut Watched<W>, text: &str) -> Result<(), Fault>
     requires sound { errors.old.failed ≡ false }
-    requires short { length text.now ≤ 26 }
+    requires short { length text.now ≤ LONGEST_MESSAGE }
     ensures whole { OnOk result (Appends (W.contents errors.old.inner)
         (W.contents errors.new.inner) (said (Some text.now))) }
     ensures partial { AppendsPrefix (W.contents errors.old.inner) (W.contents errors.new.inner)
@@ -24,10 +31,10 @@ fn write_message<W: Write>(errors: &mut Watched<W>, text: &str) -> Result<(), Fa
     ensures failed { IsErr result ↔ (errors.new.failed ≡ true) }
     ensures fault { IfErr result (λ fault. fault ≡ Fault.Write) }
 {
-    let mut line = [0; 36];
-    let end = 9 + text.len();
-    line[..9].copy_from_slice(b"komisum: ");
-    line[9..end].copy_from_slice(text.as_bytes());
+    let mut line = [0; LONGEST_LINE];
+    let end = NAME_LENGTH + text.len();
+    line[..NAME_LENGTH].copy_from_slice(NAME);
+    line[NAME_LENGTH..end].copy_from_slice(text.as_bytes());
     line[end] = b'\n';
     write_whole(errors, &line[..=end])
 }

@@ -15,7 +15,7 @@ use std::rt::Env;
 use std::{env, io};
 
 /// A version of the hash.
-#[derive(Drop)]
+#[derive(Clone, Copy, Debug, PartialEq, Eq)]
 pub enum Version {
     /// Version 4.
     Four,
@@ -139,7 +139,7 @@ fn strs_of<'a, H: AllocGlobal>(
 ///
 /// Returns `Usage` if there are arguments, but not exactly a version and a seed, and `NoMemory` if
 /// a list of them could not be allocated.
-pub fn settings_in<H: AllocGlobal>(
+pub fn settings_from_strings<H: AllocGlobal>(
     host: &H,
     arguments: Result<Vec<String>, Refusal>,
 ) -> Result<(Version, u64), Refusal>
@@ -154,8 +154,8 @@ pub fn settings_in<H: AllocGlobal>(
 }
 
 /// Returns the version and the seed that the arguments after the program's name ask for, or a
-/// refusal, as `arguments_of` and `settings_in` do.
-pub fn settings_given<H: Env + AllocGlobal>(host: &H) -> Result<(Version, u64), Refusal> {
+/// refusal, as `arguments_of` and `settings_from_strings` do.
+pub fn settings_from_env<H: Env + AllocGlobal>(host: &H) -> Result<(Version, u64), Refusal> {
     let given = env::args(&(AfterName(host), host.alloc()));
-    settings_in(host, arguments_of(host, given))
+    settings_from_strings(host, arguments_of(host, given))
 }

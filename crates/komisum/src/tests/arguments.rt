@@ -1,13 +1,18 @@
 //! What the program does for the arguments of an environment that a test makes.
 
+ghost use Rattle.std.specs.Prelude.{◌≤◌};
+
 use super::messages::message;
 use super::program::{LINE_OF_FIVE, LINE_OF_FOUR, Outcome, refuses_usage, shown, writes};
+use crate::ending::Refusal;
 use crate::hex::hex_line;
-use crate::settings::{Version, settings_given};
+use crate::settings::{Version, settings, settings_from_env};
+use komihash::Komirand;
 use std::alloc::Global;
 use std::env::FillError;
 use std::process::Abort;
 use std::rt::Env;
+use std::str;
 
 // An environment of these arguments, and no variables.
 #[derive(Drop)]
@@ -36,7 +41,7 @@ impl Env for FakeArguments<'_> {
 
 // Runs the program over 31 bytes with these arguments, the first of which is the program's name.
 fn with(alloc: Global, arguments: &[&[u8]]) -> Outcome {
-    shown(settings_given(&(FakeArguments(arguments), alloc)))
+    shown(settings_from_env(&(FakeArguments(arguments), alloc)))
 }
 
 // Compares the line for these arguments.
@@ -70,24 +75,60 @@ fn lines_of_seeds(rt: HostRuntime) {
     gives(&rt, rt.alloc(), &[b"komisum", b"5", b"1f"], &five);
 }
 
-// Compares the version and the seed that an environment asks for.
-fn asks(rt: &impl Abort, alloc: Global, digits: &[u8], seed: u64) {
-    let arguments: [&[u8]; 3] = [b"komisum", b"5", digits];
-    let asked = settings_given(&(FakeArguments(&arguments), alloc));
-    let Ok((Version::Five, given)) = asked else {
-        panic!(rt; "the seed {seed:x} is refused");
+// Compares what an environment of two arguments asks for with the settings of these. There is
+// memory for all of it, so it is never short of any.
+fn asks(rt: &impl Abort, alloc: Global, version: &str, seed: &str) {
+    let arguments = [b"komisum".as_slice(), version.as_bytes(), seed.as_bytes()];
+    let asked = settings_from_env(&(FakeArguments(&arguments), alloc));
+    assert_eq!(rt; asked, settings(&[version, seed]).ok_or(Refusal::Usage));
+}
+
+// Does the same for a seed that is held as bytes, which are ASCII.
+fn asks_ascii(rt: &impl Abort, alloc: Global, version: &str, seed: &[u8]) {
+    let Ok(seed) = str::from_utf8(seed) else {
+        panic!(rt; "a seed is not UTF-8");
     };
-    assert!(rt; given == seed, "{given:x} and not {seed:x}");
+    asks(rt, alloc, version, seed);
 }
 
 #[test]
 fn seeds_of_every_length(rt: HostRuntime) {
-    let digits = b"fedcba9876543210";
-    let mut seed = 0xfedc_ba98_7654_3210u64;
-    for length in (1..=16usize).rev() {
-        asks(&rt, rt.alloc(), &digits[..length], seed);
-        asks(&rt, rt.alloc(), &[b'0'; 16][..length], 0);
-        seed >>= 4;
+    for digits in [
+        b"fedcba9876543210",
+        b"0000000000000000",
+        b"0000000000000001",
+    ] {
+        for start in 0..16usize {
+            asks_ascii(&rt, rt.alloc(), "4", &digits[start..]);
+            asks_ascii(&rt, rt.alloc(), "5", &digits[start..]);
+        }
+    }
+}
+
+// Draws 18 characters, most of them digits. Returns how many of them to use.
+fn draw(random: &mut Komirand, characters: &mut [u8; 18]) -> usize
+    ensures { result ≤ 18 }
+{
+    for i in 0..18usize {
+        let alphabet = if random.next() % 40 == 0 {
+            b"gGAF x-+./:@`~\0_"
+        } else {
+            b"0123456789abcdef"
+        };
+        characters[i] = alphabet[(random.next() % 16) as usize];
+    }
+    (random.next() % 19) as usize
+}
+
+#[test]
+fn random_arguments(rt: HostRuntime) {
+    let versions = ["4", "5", "4", "5", "4", "5", "", " 4"];
+    let mut random = Komirand::init(20_261_122);
+    for _ in 0..20_000usize {
+        let version = versions[(random.next() % 8) as usize];
+        let mut characters = [0; 18];
+        let length = draw(&mut random, &mut characters);
+        asks_ascii(&rt, rt.alloc(), version, &characters[..length]);
     }
 }
 

@@ -5,6 +5,7 @@ ghost use Rattle.std.specs.Prelude.{◌<◌, ◌≤◌, ◌^◌};
 use super::fakes::{Calls, FakeReader, Stop};
 use super::messages::{BLOCK_MESSAGE, HASH_OF_BLOCK, HIGH_END, ZERO};
 use crate::digest::digest;
+use crate::ending::Fault;
 use crate::watched::Watched;
 use komihash::stream::{Call, KomiStream, LONGEST_TEXT, run_on};
 use komihash::tally::Tally;
@@ -16,7 +17,7 @@ fn digested<S: KomiStream>(
     reader: FakeReader<'_>,
     most: u64,
     room: usize,
-) -> (Result<u64, &'static str>, usize)
+) -> (Result<u64, Fault>, usize)
     requires room { 0 < room }
     requires fits { room ≤ 96 }
     requires most { most < 2 ^ 63 }
@@ -24,14 +25,11 @@ fn digested<S: KomiStream>(
     let mut chunk = [0xeeu8; 96];
     let mut reader = Watched::new(reader);
     let result = digest::<_, S>(&mut reader, 0, &mut chunk[..room], most);
-    (
-        result.map_err(|fault| fault.text()),
-        reader.into_inner().reads(),
-    )
+    (result, reader.into_inner().reads())
 }
 
 // Digests bytes in version 5, from a reader that gives at most `at_once` of them a read.
-fn in_five(bytes: &[u8], at_once: usize, most: u64, room: usize) -> Result<u64, &'static str>
+fn in_five(bytes: &[u8], at_once: usize, most: u64, room: usize) -> Result<u64, Fault>
     requires room { 0 < room }
     requires fits { room ≤ 96 }
     requires most { most < 2 ^ 63 }
@@ -47,37 +45,34 @@ fn digests(
     at_once: usize,
     most: u64,
     room: usize,
-    wanted: Result<u64, &'static str>,
+    wanted: Result<u64, Fault>,
 )
     requires room { 0 < room }
     requires fits { room ≤ 96 }
     requires most { most < 2 ^ 63 }
 {
     let given = in_five(bytes, at_once, most, room);
-    assert!(rt;
-        given == wanted,
-        "another result with limit {most} and chunk {room}"
-    );
+    assert_eq!(rt; given, wanted, "limit {most} and chunk {room}");
 }
 
 #[test]
 fn any_chunk(rt: HostRuntime) {
     for room in [1, 7, 64, 95, 96] {
         digests(&rt, &ZERO, 96, 16, room, Ok(0));
-        digests(&rt, &ZERO, 96, 15, room, Err("too long"));
+        digests(&rt, &ZERO, 96, 15, room, Err(Fault::TooLong));
         digests(&rt, &BLOCK_MESSAGE, 96, 95, room, Ok(6));
         digests(&rt, &BLOCK_MESSAGE, 1, 95, room, Ok(6));
-        digests(&rt, &BLOCK_MESSAGE, 96, 94, room, Err("too long"));
+        digests(&rt, &BLOCK_MESSAGE, 96, 94, room, Err(Fault::TooLong));
     }
     digests(&rt, b"", 96, 0, 96, Ok(0xb7683ea7430132b4));
-    digests(&rt, b"a", 96, 0, 96, Err("too long"));
+    digests(&rt, b"a", 96, 0, 96, Err(Fault::TooLong));
 }
 
 #[test]
 fn version_four(rt: HostRuntime) {
     let reader = FakeReader::new(&HIGH_END, 7, Calls::endless());
     let (hash, _) = digested::<v4::StreamedKomihash>(reader, 31, 96);
-    assert!(rt; hash == Ok(7));
+    assert_eq!(rt; hash, Ok(7));
 }
 
 // Compares the hash or fault, and how often `digest` reads.
@@ -85,28 +80,28 @@ fn digests_by(
     rt: &impl Abort,
     reader: FakeReader<'_>,
     most: u64,
-    wanted: Result<u64, &'static str>,
+    wanted: Result<u64, Fault>,
     reads: usize,
 )
     requires { most < 2 ^ 63 }
 {
     let (given, made) = digested::<v5::StreamedKomihash>(reader, most, 96);
-    assert!(rt; given == wanted, "another result after {made} reads");
-    assert!(rt; made == reads, "{made} reads and not {reads}");
+    assert_eq!(rt; given, wanted);
+    assert_eq!(rt; made, reads);
 }
 
 #[test]
 fn nothing_is_read_after_a_fault(rt: HostRuntime) {
     for call in 1..=15 {
-        let reader = FakeReader::new(&BLOCK_MESSAGE, 7, Calls::stopping(Stop::Fails, call));
-        digests_by(&rt, reader, 95, Err("read failed"), call);
+        let reader = FakeReader::new(&BLOCK_MESSAGE, 7, Calls::failing(call));
+        digests_by(&rt, reader, 95, Err(Fault::Read), call);
     }
-    let reader = FakeReader::new(&ZERO, 8, Calls::stopping(Stop::Fails, 2));
-    digests_by(&rt, reader, 16, Err("read failed"), 2);
-    let reader = FakeReader::new(&BLOCK_MESSAGE, 7, Calls::stopping(Stop::Fails, 16));
+    let reader = FakeReader::new(&ZERO, 8, Calls::failing(2));
+    digests_by(&rt, reader, 16, Err(Fault::Read), 2);
+    let reader = FakeReader::new(&BLOCK_MESSAGE, 7, Calls::failing(16));
     digests_by(&rt, reader, 95, Ok(6), 15);
     let reader = FakeReader::new(&BLOCK_MESSAGE, 7, Calls::endless());
-    digests_by(&rt, reader, 20, Err("too long"), 3);
+    digests_by(&rt, reader, 20, Err(Fault::TooLong), 3);
 }
 
 #[test]
@@ -137,7 +132,7 @@ fn digested_with_saves<S: KomiStream>(bytes: &[u8], size: usize) -> Option<u64>
 fn saving_changes_nothing(rt: HostRuntime) {
     for size in [1, 7, 63, 64, 95] {
         let hash = digested_with_saves::<v5::StreamedKomihash>(&BLOCK_MESSAGE, size);
-        assert!(rt; hash == Some(6), "pieces of {size}");
+        assert_eq!(rt; hash, Some(6), "pieces of {size}");
         digests(&rt, &BLOCK_MESSAGE, 96, 95, size, Ok(6));
     }
 }

@@ -1,6 +1,6 @@
 //! Messages on standard error, and statuses.
 
-use super::fakes::{Calls, FakeWriter, Stop};
+use super::fakes::{Calls, FakeWriter};
 use crate::ending::{Ending, Fault, Refusal};
 use crate::report::report;
 use crate::watched::Watched;
@@ -17,11 +17,8 @@ fn messages_of_faults(rt: HostRuntime) {
 fn reports(rt: &impl Abort, ending: Ending, line: &[u8], status: u8) {
     let mut errors = Watched::new(FakeWriter::new(7, Calls::endless()));
     report(&mut errors, &ending);
-    assert!(rt;
-        errors.into_inner().taken() == line,
-        "another line at status {status}"
-    );
-    assert!(rt; ending.status() == status, "another status than {status}");
+    assert_eq!(rt; errors.into_inner().taken(), line);
+    assert_eq!(rt; ending.status(), status);
 }
 
 // Compares the line of a fault. Each has status 1.
@@ -55,7 +52,7 @@ fn a_message_is_one_write(rt: HostRuntime) {
 
 #[test]
 fn a_message_that_cannot_be_written(rt: HostRuntime) {
-    let mut errors = Watched::new(FakeWriter::new(7, Calls::stopping(Stop::Fails, 3)));
+    let mut errors = Watched::new(FakeWriter::new(7, Calls::failing(3)));
     report(&mut errors, &Ending::Failed(Fault::TooLong));
     let writer = errors.into_inner();
     assert_eq!(rt; writer.taken(), b"komisum: too l".as_slice());

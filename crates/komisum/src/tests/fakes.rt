@@ -4,16 +4,57 @@ ghost use Rattle.std.specs.Prelude.{◌≤◌};
 
 use std::io::{Error, ErrorKind, Read, Result, Write};
 
-/// The kind of the error that `Stop::FailsOddly` returns.
-pub const ODD: ErrorKind = ErrorKind::StaleNetworkFileHandle;
+/// Every kind that an error can have.
+pub const KINDS: [ErrorKind; 42] = [
+    ErrorKind::NotFound,
+    ErrorKind::PermissionDenied,
+    ErrorKind::ConnectionRefused,
+    ErrorKind::ConnectionReset,
+    ErrorKind::HostUnreachable,
+    ErrorKind::NetworkUnreachable,
+    ErrorKind::ConnectionAborted,
+    ErrorKind::NotConnected,
+    ErrorKind::AddrInUse,
+    ErrorKind::AddrNotAvailable,
+    ErrorKind::NetworkDown,
+    ErrorKind::BrokenPipe,
+    ErrorKind::AlreadyExists,
+    ErrorKind::WouldBlock,
+    ErrorKind::NotADirectory,
+    ErrorKind::IsADirectory,
+    ErrorKind::DirectoryNotEmpty,
+    ErrorKind::ReadOnlyFilesystem,
+    ErrorKind::FilesystemLoop,
+    ErrorKind::StaleNetworkFileHandle,
+    ErrorKind::InvalidInput,
+    ErrorKind::InvalidData,
+    ErrorKind::TimedOut,
+    ErrorKind::WriteZero,
+    ErrorKind::StorageFull,
+    ErrorKind::NotSeekable,
+    ErrorKind::QuotaExceeded,
+    ErrorKind::FileTooLarge,
+    ErrorKind::ResourceBusy,
+    ErrorKind::ExecutableFileBusy,
+    ErrorKind::Deadlock,
+    ErrorKind::CrossesDevices,
+    ErrorKind::TooManyLinks,
+    ErrorKind::InvalidFilename,
+    ErrorKind::ArgumentListTooLong,
+    ErrorKind::Interrupted,
+    ErrorKind::Unsupported,
+    ErrorKind::UnexpectedEof,
+    ErrorKind::OutOfMemory,
+    ErrorKind::InProgress,
+    ErrorKind::Other,
+    ErrorKind::Uncategorized,
+];
 
 /// What a fake returns at the given call.
-#[derive(Drop)]
+#[derive(Clone, Copy)]
 pub enum Stop {
-    /// An error of the kind "interrupted", after which a caller might retry.
-    Fails,
-    /// An error of a kind that no other code here makes.
-    FailsOddly,
+    /// An error of this kind.
+    Fails(ErrorKind),
     /// `Ok(0)`, with no byte moved.
     MovesNone,
 }
@@ -36,9 +77,14 @@ impl Calls {
         }
     }
 
+    /// Fails at one call, with an error after which a caller might try again.
+    pub fn failing(fails_at: usize) -> Self {
+        Calls::stopping(Stop::Fails(ErrorKind::Interrupted), fails_at)
+    }
+
     /// Moves bytes at every call.
     pub fn endless() -> Self {
-        Calls::stopping(Stop::Fails, 0)
+        Calls::stopping(Stop::MovesNone, 0)
     }
 
     // Counts a call. Returns whether it moves bytes.
@@ -48,8 +94,7 @@ impl Calls {
             return Ok(true);
         }
         match self.stop {
-            Stop::Fails => Err(Error::from(ErrorKind::Interrupted)),
-            Stop::FailsOddly => Err(Error::from(ODD)),
+            Stop::Fails(kind) => Err(Error::from(kind)),
             Stop::MovesNone => Ok(false),
         }
     }

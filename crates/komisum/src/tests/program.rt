@@ -1,6 +1,6 @@
 //! The whole program: from its settings and its input to the status and both outputs.
 
-use super::fakes::{Calls, FakeReader, FakeWriter, Stop};
+use super::fakes::{Calls, FakeReader, FakeWriter, KINDS, Stop};
 use super::messages::message;
 use crate::ending::Refusal;
 use crate::program::run;
@@ -69,15 +69,9 @@ fn leaves(
     output: &[u8],
     errors: &[u8],
 ) {
-    assert!(rt;
-        outcome.errors.taken() == errors,
-        "another message at status {status}"
-    );
-    assert!(rt;
-        outcome.output.taken() == output,
-        "other bytes at status {status}"
-    );
-    assert!(rt; outcome.reads == reads, "other reads than {reads}");
+    assert_eq!(rt; outcome.errors.taken(), errors);
+    assert_eq!(rt; outcome.output.taken(), output);
+    assert_eq!(rt; outcome.reads, reads);
     assert!(rt;
         outcome.status == ExitCode::from(status),
         "another status than {status}"
@@ -101,13 +95,13 @@ const WRITE_FAILED: &[u8; 22] = b"komisum: write failed\n";
 /// Compares the line, and checks that no message was written.
 pub fn writes(rt: &impl Abort, outcome: &Outcome, line: &[u8; 17]) {
     leaves(rt, outcome, 0, 6, line, b"");
-    assert!(rt; outcome.errors.calls() == 0);
+    assert_eq!(rt; outcome.errors.calls(), 0);
 }
 
 // Compares a refusal: nothing is read, and the output is not called.
 fn refuses(rt: &impl Abort, outcome: &Outcome, status: u8, line: &[u8]) {
     leaves(rt, outcome, status, 0, b"", line);
-    assert!(rt; outcome.output.calls() == 0);
+    assert_eq!(rt; outcome.output.calls(), 0);
 }
 
 /// Checks that wrong usage was refused.
@@ -150,10 +144,14 @@ fn no_buffer(rt: HostRuntime) {
 #[test]
 fn reads_that_fail(rt: HostRuntime) {
     for call in 1..=6usize {
-        let calls = Calls::stopping(Stop::Fails, call);
-        let outcome = ran(Ok((Version::Five, 0)), calls, sound(), sound());
+        let outcome = ran(
+            Ok((Version::Five, 0)),
+            Calls::failing(call),
+            sound(),
+            sound(),
+        );
         leaves(&rt, &outcome, 1, call, b"", READ_FAILED);
-        assert!(rt; outcome.output.calls() == 0);
+        assert_eq!(rt; outcome.output.calls(), 0);
     }
 }
 
@@ -161,7 +159,7 @@ fn reads_that_fail(rt: HostRuntime) {
 #[test]
 fn writes_that_fail(rt: HostRuntime) {
     for call in 1..=5usize {
-        let output = FakeWriter::new(5, Calls::stopping(Stop::Fails, call));
+        let output = FakeWriter::new(5, Calls::failing(call));
         let outcome = ran(Ok((Version::Five, 0)), Calls::endless(), output, sound());
         let written = 17.min(5 * (call - 1));
         leaves(&rt, &outcome, 1, 6, &LINE_OF_FIVE[..written], WRITE_FAILED);
@@ -171,9 +169,11 @@ fn writes_that_fail(rt: HostRuntime) {
 // A message that can't be written, or only in part, changes no status.
 #[test]
 fn messages_that_cannot_be_written(rt: HostRuntime) {
-    let errors = FakeWriter::new(7, Calls::stopping(Stop::Fails, 1));
-    let none = ran(Err(Refusal::Usage), Calls::endless(), sound(), errors);
-    leaves(&rt, &none, 2, 0, b"", b"");
+    for kind in KINDS {
+        let errors = FakeWriter::new(7, Calls::stopping(Stop::Fails(kind), 1));
+        let none = ran(Err(Refusal::Usage), Calls::endless(), sound(), errors);
+        leaves(&rt, &none, 2, 0, b"", b"");
+    }
     let errors = FakeWriter::new(7, Calls::stopping(Stop::MovesNone, 3));
     let part = ran(Err(Refusal::NoMemory), Calls::endless(), sound(), errors);
     leaves(&rt, &part, 1, 0, b"", b"komisum: no me");

@@ -5,7 +5,7 @@ ghost use Rattle.komisum.specs.Ending.{ending_of};
 ghost use Rattle.komisum.specs.Program.{chunk_length};
 ghost use Rattle.komisum.specs.Watched.{Takes};
 
-use super::fakes::{Calls, FakeReader, FakeWriter, Stop};
+use super::fakes::{Calls, FakeReader, FakeWriter, KINDS, Stop};
 use super::messages::{BLOCK_MESSAGE, HIGH_END, ZERO};
 use crate::ending::{Ending, Fault};
 use crate::hex::hex_line;
@@ -43,62 +43,51 @@ fn show_within_limits<R: Read, W: Write>(
     show(reader, writer, version, seed)
 }
 
-// Returns the message of a fault, or `ok`.
-fn name(shown: Result<(), Fault>) -> &'static str {
-    match shown {
-        Ok(()) => "ok",
-        Err(fault) => fault.text(),
-    }
-}
-
-// Calls `show`. Returns its fault or `ok`, the reader and the writer.
+// Calls `show`. Returns what it returned, the reader and the writer.
 fn shown<'a>(
     reader: FakeReader<'a>,
     writer: FakeWriter,
     version: Version,
     seed: u64,
-) -> (&'static str, FakeReader<'a>, FakeWriter) {
+) -> (Result<(), Fault>, FakeReader<'a>, FakeWriter) {
     let mut reader = Watched::new(reader);
     let mut writer = Watched::new(writer);
     let result = show_within_limits(&mut reader, &mut writer, version, seed);
-    (name(result), reader.into_inner(), writer.into_inner())
+    (result, reader.into_inner(), writer.into_inner())
 }
 
 // Shows the line of some bytes, where nothing fails.
-fn line_of(bytes: &[u8], version: Version, seed: u64) -> (&'static str, FakeWriter) {
+fn line_of(bytes: &[u8], version: Version, seed: u64) -> (Result<(), Fault>, FakeWriter) {
     let reader = FakeReader::new(bytes, usize::MAX, Calls::endless());
     let writer = FakeWriter::new(usize::MAX, Calls::endless());
-    let (name, _, writer) = shown(reader, writer, version, seed);
-    (name, writer)
+    let (result, _, writer) = shown(reader, writer, version, seed);
+    (result, writer)
 }
 
 // Shows the line of some bytes in version 5 with seed 0, to a writer that may fail at a call.
-fn written_by(bytes: &[u8], at_once: usize, calls: Calls) -> (&'static str, FakeWriter) {
+fn written_by(bytes: &[u8], at_once: usize, calls: Calls) -> (Result<(), Fault>, FakeWriter) {
     let reader = FakeReader::new(bytes, usize::MAX, Calls::endless());
-    let (name, _, writer) = shown(reader, FakeWriter::new(at_once, calls), Version::Five, 0);
-    (name, writer)
+    let (result, _, writer) = shown(reader, FakeWriter::new(at_once, calls), Version::Five, 0);
+    (result, writer)
 }
 
-// Compares the fault or `ok`, the bytes that the writer accepted, and the number of its calls.
+// Compares what `show` returned, the bytes that the writer accepted, and the number of its calls.
 fn leaves(
     rt: &impl Abort,
-    left: (&'static str, FakeWriter),
-    name: &str,
+    left: (Result<(), Fault>, FakeWriter),
+    wanted: Result<(), Fault>,
     taken: &[u8],
     calls: usize,
 ) {
-    let (given, writer) = left;
-    assert!(rt; given == name, "{given} and not {name}");
-    assert!(rt; writer.taken() == taken, "other bytes, and {name}");
-    assert!(rt;
-        writer.calls() == calls,
-        "other calls than {calls}, and {name}"
-    );
+    let (result, writer) = left;
+    assert_eq!(rt; result, wanted);
+    assert_eq!(rt; writer.taken(), taken);
+    assert_eq!(rt; writer.calls(), calls);
 }
 
 // Compares the line of some bytes, which is written in one call, and flushed.
 fn writes(rt: &impl Abort, bytes: &[u8], version: Version, seed: u64, line: &[u8; 17]) {
-    leaves(rt, line_of(bytes, version, seed), "ok", line, 2);
+    leaves(rt, line_of(bytes, version, seed), Ok(()), line, 2);
 }
 
 #[test]
@@ -130,25 +119,44 @@ fn reads_of_a_chunk(rt: HostRuntime) {
     let reader = FakeReader::new(&ZEROS, usize::MAX, Calls::endless());
     let writer = FakeWriter::new(usize::MAX, Calls::endless());
     let (_, reader, _) = shown(reader, writer, Version::Five, 0);
-    assert!(rt; reader.reads() == 3);
-    assert!(rt; reader.sizes() == [4096, 904, 0, 0]);
+    assert_eq!(rt; reader.reads(), 3);
+    assert_eq!(rt; reader.sizes(), [4096, 904, 0, 0]);
 }
 
-// Compares what `show` leaves, and how often it reads, where one of the reads of 7 bytes fails.
-fn read_at(rt: &impl Abort, call: usize, name: &str, reads: usize, taken: &[u8], calls: usize) {
-    let reader = FakeReader::new(&BLOCK_MESSAGE, 7, Calls::stopping(Stop::Fails, call));
+// Runs `show` over 95 bytes, 7 per read, of which one may fail. Compares what that leaves, and how
+// often it reads.
+fn read_at(
+    rt: &impl Abort,
+    calls: Calls,
+    wanted: Result<(), Fault>,
+    reads: usize,
+    taken: &[u8],
+    written: usize,
+) {
+    let reader = FakeReader::new(&BLOCK_MESSAGE, 7, calls);
     let writer = FakeWriter::new(usize::MAX, Calls::endless());
-    let (given, reader, writer) = shown(reader, writer, Version::Five, 0);
-    leaves(rt, (given, writer), name, taken, calls);
-    assert!(rt; reader.reads() == reads, "other reads than {reads}");
+    let (result, reader, writer) = shown(reader, writer, Version::Five, 0);
+    leaves(rt, (result, writer), wanted, taken, written);
+    assert_eq!(rt; reader.reads(), reads);
 }
 
+// Each of the 15 reads fails, with errors of every kind. None is tried again.
 #[test]
 fn reads_that_fail(rt: HostRuntime) {
-    for call in 1..=15 {
-        read_at(&rt, call, "read failed", call, b"", 0);
+    for kind in KINDS {
+        for call in 1..=15 {
+            let calls = Calls::stopping(Stop::Fails(kind), call);
+            read_at(&rt, calls, Err(Fault::Read), call, b"", 0);
+        }
     }
-    read_at(&rt, 16, "ok", 15, LINE_OF_BLOCK_MESSAGE, 2);
+    read_at(
+        &rt,
+        Calls::failing(16),
+        Ok(()),
+        15,
+        LINE_OF_BLOCK_MESSAGE,
+        2,
+    );
 }
 
 // Compares what `show` writes of a message's line if one call of the writer fails, which accepts
@@ -163,19 +171,20 @@ fn write_at(
 ) {
     let before = 17.min(at_once.saturating_mul(call.saturating_sub(1)));
     let left = written_by(bytes, at_once, Calls::stopping(stop, call));
-    leaves(rt, left, "write failed", &line[..before], call);
+    leaves(rt, left, Err(Fault::Write), &line[..before], call);
 }
 
-// Each write fails in turn, and then the flush. No call comes after that.
+// Each write fails in turn, and then the flush, with errors of every kind. No call comes after it.
 fn writes_at(rt: &impl Abort, bytes: &[u8], line: &[u8; 17], at_once: usize, writes: usize)
     requires { writes ≤ 17 }
 {
-    for call in 1..=writes + 1 {
-        write_at(rt, bytes, line, at_once, Stop::Fails, call);
+    for kind in KINDS {
+        for call in 1..=writes + 1 {
+            write_at(rt, bytes, line, at_once, Stop::Fails(kind), call);
+        }
     }
-    let calls = Calls::stopping(Stop::Fails, writes + 2);
-    let left = written_by(bytes, at_once, calls);
-    leaves(rt, left, "ok", line, writes + 1);
+    let left = written_by(bytes, at_once, Calls::failing(writes + 2));
+    leaves(rt, left, Ok(()), line, writes + 1);
 }
 
 #[test]

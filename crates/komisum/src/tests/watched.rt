@@ -1,6 +1,6 @@
 //! Calls through a watched reader or writer.
 
-use super::fakes::{Calls, FakeReader, FakeWriter, ODD, Stop};
+use super::fakes::{Calls, FakeReader, FakeWriter, KINDS, Stop};
 use super::messages::ZERO;
 use crate::watched::Watched;
 use std::io::{ErrorKind, Read, Result, Write};
@@ -15,8 +15,8 @@ fn returns(
     failed: bool,
 ) {
     let result = given.0.map_err(|error| error.kind());
-    assert!(rt; result == wanted, "another result");
-    assert!(rt; given.1 == failed, "`failed` is not {failed}");
+    assert_eq!(rt; result, wanted);
+    assert_eq!(rt; given.1, failed);
 }
 
 // Reads. Compares the bytes, and whether the reader has failed.
@@ -52,14 +52,16 @@ fn flushes(
 
 #[test]
 fn reads_through(rt: HostRuntime) {
-    let reader = FakeReader::new(&ZERO, 8, Calls::stopping(Stop::FailsOddly, 3));
-    let mut watched = Watched::new(reader);
-    reads(&rt, &mut watched, &ZERO[..8], false);
-    reads(&rt, &mut watched, &ZERO[8..], false);
-    let result = watched.read(&mut [0u8; 16]);
-    returns(&rt, (result, watched.failed()), Err(ODD), true);
-    reads(&rt, &mut watched, b"", true);
-    assert!(rt; watched.into_inner().reads() == 4);
+    for kind in KINDS {
+        let calls = Calls::stopping(Stop::Fails(kind), 3);
+        let mut watched = Watched::new(FakeReader::new(&ZERO, 8, calls));
+        reads(&rt, &mut watched, &ZERO[..8], false);
+        reads(&rt, &mut watched, &ZERO[8..], false);
+        let result = watched.read(&mut [0u8; 16]);
+        returns(&rt, (result, watched.failed()), Err(kind), true);
+        reads(&rt, &mut watched, b"", true);
+        assert_eq!(rt; watched.into_inner().reads(), 4);
+    }
 }
 
 #[test]
@@ -70,22 +72,30 @@ fn an_end_is_no_failure(rt: HostRuntime) {
 
 #[test]
 fn writes_through(rt: HostRuntime) {
-    let mut watched = Watched::new(FakeWriter::new(3, Calls::stopping(Stop::FailsOddly, 3)));
-    writes(&rt, &mut watched, b"12345", Ok(3), false);
-    writes(&rt, &mut watched, b"45678", Ok(3), false);
-    writes(&rt, &mut watched, b"7", Err(ODD), true);
-    writes(&rt, &mut watched, b"7", Ok(1), true);
-    assert!(rt; watched.into_inner().taken() == b"1234567".as_slice());
+    for kind in KINDS {
+        let calls = Calls::stopping(Stop::Fails(kind), 3);
+        let mut watched = Watched::new(FakeWriter::new(3, calls));
+        writes(&rt, &mut watched, b"12345", Ok(3), false);
+        writes(&rt, &mut watched, b"45678", Ok(3), false);
+        writes(&rt, &mut watched, b"7", Err(kind), true);
+        writes(&rt, &mut watched, b"7", Ok(1), true);
+        let writer = watched.into_inner();
+        assert_eq!(rt; writer.taken(), b"1234567".as_slice());
+        assert_eq!(rt; writer.calls(), 4);
+    }
 }
 
 #[test]
 fn flushes_through(rt: HostRuntime) {
-    let mut watched = Watched::new(FakeWriter::new(3, Calls::stopping(Stop::FailsOddly, 3)));
-    writes(&rt, &mut watched, b"12345", Ok(3), false);
-    writes(&rt, &mut watched, b"45678", Ok(3), false);
-    flushes(&rt, &mut watched, Err(ODD), true);
-    flushes(&rt, &mut watched, Ok(0), true);
-    assert!(rt; watched.into_inner().calls() == 4);
+    for kind in KINDS {
+        let calls = Calls::stopping(Stop::Fails(kind), 3);
+        let mut watched = Watched::new(FakeWriter::new(3, calls));
+        writes(&rt, &mut watched, b"12345", Ok(3), false);
+        writes(&rt, &mut watched, b"45678", Ok(3), false);
+        flushes(&rt, &mut watched, Err(kind), true);
+        flushes(&rt, &mut watched, Ok(0), true);
+        assert_eq!(rt; watched.into_inner().calls(), 4);
+    }
 }
 
 #[test]
