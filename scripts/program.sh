@@ -1,6 +1,6 @@
 #!/usr/bin/env bash
 # Tests the built program: its arguments, and inputs of many sizes from files and pipes. Each case
-# prints a line; the last line is 'N passed, M failed'. Needs what cases.sh names; takes about ten
+# prints a line; the last line is 'N passed, M failed'. Needs what cases.sh names; takes about two
 # seconds.
 source "$(dirname "$0")/cases.sh"
 
@@ -14,44 +14,32 @@ note 'version 5 and seed 0' "$(line 5117f5064cfd0faa)" "$(run 5 0 < "$room/a")"
 note 'version 4 and a seed' "$(line 4bde5bdc63771675)" "$(run 4 1f < "$room/a")"
 note 'the greatest seed' "$(line 4bcc041f3f885859)" "$(run 5 ffffffffffffffff < /dev/null)"
 
-# Arguments that it refuses. It then reads nothing of the input.
+# Arguments that it refuses. It then leaves all of the input to `cat`.
 refuse() {
     local name=$1
     shift
-    note "refused: $name" "$(fault 2 "$usage")" "$(run "$@" < "$room/a")"
-    note "input unread: $name" a "$({ "$program" "$@" 2> "$room/errors"; cat; } < "$room/a")"
+    note "refused: $name" "$(fault 2 "$usage"; echo 'left a')" \
+        "$({ run "$@"; printf 'left %s\n' "$(cat)"; } < "$room/a")"
 }
+long=$(printf '%0300d' 0)
 refuse 'one argument' 5
 refuse 'three arguments' 5 0 0
 refuse 'an empty version' '' 0
 refuse 'an empty seed' 5 ''
-refuse 'version 6' 6 0
 refuse 'capital digits' 5 FF
-refuse 'seventeen digits' 5 00000000000000000
-refuse 'a character that is no digit' 5 g
 refuse 'an argument that is not UTF-8' 5 $'\xff'
 refuse 'a third argument that is not UTF-8' 5 0 $'\xff'
-refuse -h -h
+refuse 'a first argument of 300 digits' "$long"
+refuse 'a third argument of 300 digits' 5 0 "$long"
 refuse --help --help
-for length in 257 300; do
-    zeros=$(printf "%0${length}d" 0)
-    refuse "a first argument of $length digits" "$zeros"
-    refuse "a third argument of $length digits" 5 0 "$zeros"
-done
 
-# Sizes around 4,096 bytes, the buffer's 65,536 and above 2^20, from files and slow pipes.
-slow_message() {
-    local half=$(($1 / 2))
-    message "$1" > "$room/slow"
-    head -c "$half" "$room/slow"
-    sleep 0.05
-    tail -c "+$((half + 1))" "$room/slow"
-}
+# Sizes around 4,096 bytes, the buffer's 65,536 and above 2^20, from files and from pipes. The
+# longest input, 2^40 zero bytes, takes 7 minutes and was tried by hand: its line in version 5 is
+# b105583901d0a6f8, as by the Rust crate.
 while read -r size five four; do
     message "$size" > "$room/message"
     note "$size bytes from a file, version 5" "$(line "$five")" "$(run < "$room/message")"
-    note "$size bytes from a file, version 4" "$(line "$four")" "$(run 4 1f < "$room/message")"
-    note "$size bytes from a slow pipe" "$(line "$five")" "$(slow_message "$size" | run)"
+    note "$size bytes from a pipe, version 4" "$(line "$four")" "$(message "$size" | run 4 1f)"
 done << 'SIZES'
 0 b7683ea7430132b4 f80fbf600441f1bd
 1 7f7f0c9b903d173d 1b8661ed829a60b5
@@ -65,15 +53,4 @@ done << 'SIZES'
 1048577 388de716583121be d577466f23642771
 SIZES
 
-# Zero bytes: 2^20 + 1 and 2^32 + 1. The longest input, 2^40 zero bytes, takes 7 minutes and was tried by hand: its line
-# in version 5 is b105583901d0a6f8, as by the Rust crate.
-zeros() { head -c "$1" /dev/zero; }
-while read -r size five four; do
-    note "$size zero bytes, version 5" "$(line "$five")" "$(zeros "$size" | run)"
-    note "$size zero bytes, version 4" "$(line "$four")" "$(zeros "$size" | run 4 1f)"
-done << 'SIZES'
-1048577 b57c253a24ed5567 3b14d4a71d405238
-4294967297 18b2c156967628ab df1023034e6f8a39
-SIZES
-
-counted 71
+counted 35
