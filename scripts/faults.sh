@@ -1,7 +1,8 @@
 #!/usr/bin/env bash
 # Tests the built program when reads, writes and allocations fail. Each case prints a line, and the
 # last line has the counts. Needs what cases.sh names, mkfifo, strace, which makes system calls
-# fail, and a C compiler for refuse.c. Without one of the last two, its cases are skipped.
+# fail, a C compiler for refuse.c, and the programs of both crates' tests. Without one of the last
+# three, its cases are skipped.
 source "$(dirname "$0")/cases.sh"
 
 whole=$(cat stdout)
@@ -15,13 +16,6 @@ note 'closed input' "$(fault 1 'read failed')" "$(run <&-)"
 note 'closed output' "$(fault 1 'write failed')" \
     "$("$program" < stdin >&- 2> "$room/errors"; told $?)"
 note 'closed standard error' 'status 1' "$("$program" < / 2>&-; printf 'status %s' $?)"
-full_device() {
-    note 'full output' "$(fault 1 'write failed')" \
-        "$("$program" < stdin > /dev/full 2> "$room/errors"; told $?)"
-    note 'full standard error' 'status 1' "$("$program" < / 2> /dev/full; printf 'status %s' $?)"
-}
-has_full_device() { [ -c /dev/full ]; }
-cases_with /dev/full has_full_device 2 full_device
 
 # A pipe that no process reads any more.
 mkfifo "$room/pipe"
@@ -61,11 +55,9 @@ faults_by_strace() {
         note "the message fails with $error" $'status 1\noutput .|\nerrors .|\ncalls 1' \
             "$(injected "$room/errors" write "error=$error:when=1" < /)"
     done
-    note 'there is no read 6 to fail' "$(line "$long"; echo 'calls 5')" \
-        "$(injected "$room/long" read error=EIO:when=6 < "$room/long")"
 }
 traces() { strace -o "$room/trace" true; }
-cases_with strace traces 7 faults_by_strace
+cases_with strace traces 6 faults_by_strace
 
 # Runs the program on a file with one allocation refused. Compares how it ends, what it leaves of
 # the file, and how many allocations it requests. `-` stands for no memory, with nothing read.
@@ -97,14 +89,22 @@ refused_requests() {
 compiles() { "${CC:-cc}" -shared -fPIC -o "$room/refuse.so" ../../scripts/refuse.c; }
 cases_with 'a C compiler' compiles 12 refused_requests
 
-# The tests of `komihash` make every call except the laws, and their program names no allocation
-# function, so none can allocate. `komisum` names two, which refuse.c replaces.
-allocation_functions() {
-    note 'allocation functions of both programs' $'out/komisum:malloc\nout/komisum:realloc' \
+# Of `komisum`, these tests request no memory. Those of `komihash` make every call except the laws,
+# and their program names no function that allocates. `komisum` names two, which refuse.c replaces.
+without_memory() {
+    local test
+    for test in show::lines_of_version_five digest::any_chunk hex::lines_of_numbers \
+        settings::versions_and_seeds settings::wrong_usage; do
+        LD_PRELOAD=$room/refuse.so out/komisum_tests "tests::$test" \
+            > "$room/output" 9> "$room/requests"
+        note "no allocation: $test" 'status 0, requests 0' \
+            "status $?, requests $(cat "$room/requests")"
+    done
+    note 'functions that allocate' $'out/komisum:malloc\nout/komisum:realloc' \
         "$(grep -aHoE '\b(malloc|calloc|realloc|aligned_alloc|posix_memalign|mmap|s?brk)\b' \
             out/komisum ../komihash/out/komihash_tests | sort -u)"
 }
-has_built_tests() { [ -r ../komihash/out/komihash_tests ]; }
-cases_with "the program of komihash's tests" has_built_tests 1 allocation_functions
+has_tests() { compiles && [ -x out/komisum_tests ] && [ -x ../komihash/out/komihash_tests ]; }
+cases_with 'a C compiler and the programs of the tests' has_tests 6 without_memory
 
-counted 31
+counted 33
