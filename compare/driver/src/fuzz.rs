@@ -69,10 +69,7 @@ fn streams<P: Port, O: Side>(input: &Input) -> Found {
 
 fn chains<P: Port, O: Side>(input: &Input) -> Found {
     let wanted = O::chain(input.bytes(), &input.pieces, input.seed);
-    same("chain", wanted, P::chain(input.bytes(), &input.pieces, input.seed))?;
-    let parts = input.parts();
-    let number = parts[..input.pieces.len()].iter().fold(input.seed, |number, part| P::next_in_chain(number, part));
-    same("chain, step by step", wanted, number)
+    same("chain", wanted, P::chain(input.bytes(), &input.pieces, input.seed))
 }
 
 fn outputs<P: Port, O: Side>(input: &Input, count: usize) -> Found {

@@ -9,8 +9,6 @@ macro_rules! port {
             unsafe extern "C" {
                 #[link_name = concat!("komihash_v", $version)]
                 pub fn hash(bytes: *const u8, length: usize, seed: u64) -> u64;
-                #[link_name = concat!("komihash_v", $version, "_chain")]
-                pub fn next_in_chain(number: u64, bytes: *const u8, length: usize) -> u64;
                 #[link_name = concat!("komihash_v", $version, "_start")]
                 pub fn start(stream: *mut Stream, seed: u64);
                 #[link_name = concat!("komihash_v", $version, "_write")]
@@ -150,9 +148,6 @@ macro_rules! port {
                 let mut once = Once::default();
                 unsafe { $module::once(bytes.as_ptr(), bytes.len(), seed, &mut once) }
                 once
-            }
-            fn next_in_chain(number: u64, bytes: &[u8]) -> u64 {
-                unsafe { $module::next_in_chain(number, bytes.as_ptr(), bytes.len()) }
             }
             fn fill(out: &mut [u8], s1: u64, s2: u64) {
                 unsafe { $module::fill(out.as_mut_ptr(), out.len(), s1, s2) }

@@ -33,7 +33,6 @@ pub trait Port: Side + FromC<Stream = Stream> {
     /// `Side::stream` by lists of calls.
     fn calls(bytes: &[u8], pieces: &[usize], answers: &mut [u64], seed: u64) -> u64;
     fn once(bytes: &[u8], seed: u64) -> Once;
-    fn next_in_chain(number: u64, bytes: &[u8]) -> u64;
     fn fill(out: &mut [u8], s1: u64, s2: u64);
     fn fill_seeded(out: &mut [u8], seed: u64, extra_seed: u64);
     fn pad(bytes: &[u8], out: &mut [u64]) -> usize;
