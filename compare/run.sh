@@ -2,6 +2,7 @@
 # The port beside the Rust crate `komihash` 0.5.0. README.md says more.
 #
 #   run.sh answers                  prints the table of reference hashes by the Rust crate
+#   run.sh edges                    compares hashes and streams on every input of some small sets
 #   run.sh fuzz SEED N              compares every call on N random inputs
 #   run.sh bench [REPEATS [WORD]]   times the calls; prints all rows, or those whose group and name contain WORD
 #
@@ -55,8 +56,8 @@ bench() {
 }
 
 case "$*" in
-    answers | bench | 'bench '* | 'fuzz '*' '*) build_libraries ;;
-    *) sed -n '3,10s/^# \?//p' run.sh >&2 && exit 2 ;;
+    answers | edges | bench | 'bench '* | 'fuzz '*' '*) build_libraries ;;
+    *) sed -n '3,11s/^# \?//p' run.sh >&2 && exit 2 ;;
 esac
 case $1 in
     bench) bench "${2:-61}" "${3:-}" ;;

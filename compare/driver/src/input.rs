@@ -83,6 +83,11 @@ impl Random {
     }
 }
 
+/// The bytes as two hexadecimal digits each.
+pub fn hex(bytes: &[u8]) -> String {
+    bytes.iter().map(|byte| format!("{byte:02x}")).collect()
+}
+
 /// What a case is about.
 pub struct Input {
     pub seed: u64,
@@ -131,7 +136,6 @@ impl Input {
 impl fmt::Display for Input {
     fn fmt(&self, f: &mut fmt::Formatter) -> fmt::Result {
         write!(f, "seed {:#x}, pieces {:?}, answers {}", self.seed, self.pieces, self.answers)?;
-        write!(f, ", generator ({:#x}, {:#x}) start {}, message ", self.s1, self.s2, self.start)?;
-        self.bytes().iter().try_for_each(|byte| write!(f, "{byte:02x}"))
+        write!(f, ", generator ({:#x}, {:#x}) start {}, message {}", self.s1, self.s2, self.start, hex(self.bytes()))
     }
 }

@@ -1,6 +1,7 @@
 //! The port beside the Rust crate: see ../README.md.
 mod answers;
 mod bench;
+mod edges;
 mod fuzz;
 mod input;
 mod original;
@@ -17,7 +18,7 @@ fn main() -> ExitCode {
         Some(true) => ExitCode::SUCCESS,
         Some(false) => ExitCode::FAILURE,
         None => {
-            eprintln!("usage: answers | fuzz SEED N | bench REPEATS WORD");
+            eprintln!("usage: answers | edges | fuzz SEED N | bench REPEATS WORD");
             ExitCode::from(2)
         }
     }
@@ -28,6 +29,7 @@ fn run(arguments: &[&str]) -> Option<bool> {
     match *arguments {
         ["answers"] => answers::print(),
         ["bench", repeats, word] => bench::run(repeats.parse().ok().filter(|it| *it > 0)?, word),
+        ["edges"] => return Some(edges::run()),
         ["fuzz", seed, count] => return Some(fuzz::run(seed.parse().ok()?, count.parse().ok()?)),
         _ => return None,
     }
