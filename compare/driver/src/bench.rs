@@ -1,6 +1,7 @@
 //! Times the Rust crate and the port in turn. Each row that is printed has a group, a name, and the least time of
 //! each side in nanoseconds, with tabs between; ../table.py makes the table.
 use crate::original::{OriginalFive, OriginalFour};
+use crate::parts;
 use crate::port::{PortFive, PortFour};
 use crate::side::{FromC, Piece, Port, Side};
 use std::hint::black_box;
@@ -32,6 +33,16 @@ fn scattered(i: u64) -> usize {
     ((i + 1).wrapping_mul(0x9e37_79b9_7f4a_7c15) >> 33) as usize
 }
 
+/// A length with its unit.
+fn size(length: usize) -> String {
+    match length {
+        1 => "1 byte".to_string(),
+        ..0x1_0000 => format!("{length} bytes"),
+        0x1_0000..0x10_0000 => format!("{} KiB", length / 1024),
+        _ => format!("{} MiB", length / 0x10_0000),
+    }
+}
+
 /// Lengths from 1 to `greatest`, 65,536 in sum.
 fn mixed_pieces(greatest: usize) -> Vec<usize> {
     let (mut pieces, mut left) = (Vec::new(), 65536);
@@ -61,6 +72,7 @@ impl Bench<'_> {
         self.streams_from_c::<P, O>();
         self.lists_from_c::<P, O>();
         self.generators::<P, O>();
+        self.saves::<P>();
         self.words::<P>();
     }
 
@@ -86,14 +98,9 @@ impl Bench<'_> {
     fn hashes<P: Port, O: Side>(&self) {
         for length in LENGTHS {
             let bytes = &self.bytes[..length];
-            let group = match length {
-                ..64 => "hash short",
-                64..4096 => "hash middle",
-                _ => "hash long",
-            };
             let original = |i| O::hash(black_box(bytes), i);
             let port = |i| P::hash(black_box(bytes), i);
-            self.row(group, &length.to_string(), original, port);
+            self.row("hash", &size(length), original, port);
         }
     }
 
@@ -110,7 +117,7 @@ impl Bench<'_> {
                 y = P::hash(black_box(bytes), y);
                 y
             };
-            self.row("hash chained", &length.to_string(), original, port);
+            self.row("hash chained", &size(length), original, port);
         }
     }
 
@@ -120,20 +127,20 @@ impl Bench<'_> {
             let lengths: Vec<usize> = (0..4096).map(|i| scattered(i) % limit).collect();
             let bytes = |i: u64| black_box(&self.bytes[..lengths[i as usize % 4096]]);
             let (original, port) = (|i| O::hash(bytes(i), i), |i| P::hash(bytes(i), i));
-            self.row("hash mixed", &format!("below {limit}"), original, port);
+            self.row("hash mixed", &format!("below {limit} bytes"), original, port);
         }
     }
 
     /// 65,536 bytes in pieces of one length and of mixed lengths, and short messages in one piece.
     fn streams<P: Port, O: Side>(&self) {
         for piece in [1, 3, 7, 8, 13, 16, 24, 32, 40, 64, 100, 250, 4096] {
-            self.stream::<P, O>("stream", &format!("by {piece}"), 65536, &vec![piece; 65536 / piece]);
+            self.stream::<P, O>("stream", &format!("64 KiB by {piece}"), 65536, &vec![piece; 65536 / piece]);
         }
         for greatest in [8, 32, 64, 300] {
-            self.stream::<P, O>("stream mixed", &format!("to {greatest}"), 65536, &mixed_pieces(greatest));
+            self.stream::<P, O>("stream mixed", &format!("64 KiB by 1 to {greatest}"), 65536, &mixed_pieces(greatest));
         }
         for length in [0, 5, 13, 40, 64, 100, 200] {
-            self.stream::<P, O>("stream short", &length.to_string(), length, &[]);
+            self.stream::<P, O>("stream short", &size(length), length, &[]);
         }
     }
 
@@ -151,7 +158,7 @@ impl Bench<'_> {
             let (mut x, mut y) = (O::start(1), P::start(1));
             let original = |_| O::write(black_box(&mut x), black_box(bytes));
             let port = |_| P::write(black_box(&mut y), black_box(bytes));
-            self.row("c write", &length.to_string(), original, port);
+            self.row("c write", &size(length), original, port);
         }
         for pending in [0, 16, 63] {
             let (mut x, mut y) = (O::start(1), P::start(1));
@@ -161,7 +168,7 @@ impl Bench<'_> {
             self.row("c finish", &format!("{pending} pending"), original, port);
         }
         let (original, port) = (|i| self.from_start::<O>(i), |i| self.from_start::<P>(i));
-        self.row("c start to finish", "16", original, port);
+        self.row("c start to finish", "16 bytes", original, port);
     }
 
     fn from_start<S: FromC>(&self, seed: u64) -> Option<u64> {
@@ -189,13 +196,26 @@ impl Bench<'_> {
         let (mut x, mut y) = ([0; 1000], [0; 1000]);
         let original = |i| O::outputs(black_box(&mut x), i, 7, 0);
         let port = |i| P::outputs(black_box(&mut y), i, 7, 0);
-        self.row("generator", "1000 outputs", original, port);
+        self.row("generator", "1000 calls of next", original, port);
         for piece in [7, 64, 4096] {
             let pieces = vec![piece; 8192 / piece];
             let (mut x, mut y) = ([0; 8192], [0; 8192]);
             let original = |i| O::fills(black_box(&mut x), &pieces, i, 7, 0);
             let port = |i| P::fills(black_box(&mut y), &pieces, i, 7, 0);
-            self.row("generator", &format!("fills of {piece}"), original, port);
+            self.row("generator", &format!("8 KiB by fills of {piece}"), original, port);
+        }
+    }
+
+    /// Streams that are saved and resumed 100 times, beside plain Rust that does so with the same parts.
+    fn saves<P: Port>(&self) {
+        for pending in [0, 16, 63] {
+            let bytes = &self.bytes[..64 + pending];
+            let mut stream = P::start(1);
+            P::write(&mut stream, bytes);
+            let (mut x, mut y) = ([0; 131], [0; 131]);
+            let original = |_| parts::saves(P::VERSION, black_box(stream.text()), &mut x, 100);
+            let port = |i| P::saves(black_box(bytes), &mut y, 100, i);
+            self.row("save and resume", &format!("100 times at {pending} pending"), original, port);
         }
     }
 
@@ -205,11 +225,11 @@ impl Bench<'_> {
             let bytes = &self.bytes[..length];
             let (mut copy, mut words, mut back) = (vec![0; length], vec![0; length / 8 + 1], vec![0; length + 8]);
             let mut copied = |_| black_box(&mut copy[..]).copy_from_slice(black_box(bytes));
-            let name = length.to_string();
+            let name = size(length);
             let pad = |_| P::pad(black_box(bytes), black_box(&mut words));
-            self.row("pad, to a copy", &name, &mut copied, pad);
+            self.row("pad", &name, &mut copied, pad);
             let unpad = |_| P::unpad(black_box(&words), black_box(&mut back));
-            self.row("unpad, to a copy", &name, &mut copied, unpad);
+            self.row("unpad", &name, &mut copied, unpad);
         }
     }
 }

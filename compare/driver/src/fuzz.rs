@@ -2,6 +2,7 @@
 //! are compared with rules.rs.
 use crate::input::{Input, Random};
 use crate::original::{OriginalFive, OriginalFour};
+use crate::parts;
 use crate::port::{PortFive, PortFour};
 use crate::rules::{is_text, padded, text_without_lanes, unpadded};
 use crate::side::{Piece, Port, Side, Stream};
@@ -143,7 +144,11 @@ fn saves<P: Port, O: Side>(input: &Input) -> Found {
     same("answer of a saved stream", Some(wanted), P::finish(&stream))?;
     same("length of a saved text", 68 + input.bytes().len() % 64, stream.length.into())?;
     let shown = [&stream.text()[..4], &stream.text()[68..]].concat();
-    same("saved text but its lanes", text_without_lanes(P::VERSION, input.bytes()), shown)
+    same("saved text but its lanes", text_without_lanes(P::VERSION, input.bytes()), shown)?;
+    let mut text = [0; 131];
+    same("answer after two texts", wanted, P::saves(input.bytes(), &mut text, 2, input.seed))?;
+    let length = parts::saves(P::VERSION, stream.text(), &mut text, 2);
+    same("text by plain Rust", Some(stream.text()), length.map(|length| &text[..length]))
 }
 
 /// Lists of pieces, beside the message at once and the calls for one piece.

@@ -5,6 +5,7 @@ mod edges;
 mod fuzz;
 mod input;
 mod original;
+mod parts;
 mod port;
 mod rules;
 mod side;

@@ -47,6 +47,8 @@ macro_rules! port {
                     room: usize,
                     seed: u64,
                 ) -> u64;
+                #[link_name = concat!("loop_v", $version, "_saves")]
+                pub fn saves(bytes: *const u8, length: usize, text: *mut [u8; 131], count: usize, seed: u64) -> u64;
                 #[link_name = concat!("loop_v", $version, "_chain")]
                 pub fn chain(bytes: *const u8, length: usize, pieces: *const usize, count: usize, seed: u64) -> u64;
                 #[link_name = concat!("loop_v", $version, "_outputs")]
@@ -148,6 +150,9 @@ macro_rules! port {
                 let mut once = Once::default();
                 unsafe { $module::once(bytes.as_ptr(), bytes.len(), seed, &mut once) }
                 once
+            }
+            fn saves(bytes: &[u8], text: &mut [u8; 131], count: usize, seed: u64) -> u64 {
+                unsafe { $module::saves(bytes.as_ptr(), bytes.len(), text, count, seed) }
             }
             fn fill(out: &mut [u8], s1: u64, s2: u64) {
                 unsafe { $module::fill(out.as_mut_ptr(), out.len(), s1, s2) }

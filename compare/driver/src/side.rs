@@ -33,6 +33,8 @@ pub trait Port: Side + FromC<Stream = Stream> {
     /// `Side::stream` by lists of calls.
     fn calls(bytes: &[u8], pieces: &[usize], answers: &mut [u64], seed: u64) -> u64;
     fn once(bytes: &[u8], seed: u64) -> Once;
+    /// The hash by a stream that is saved and resumed `count` times after the message.
+    fn saves(bytes: &[u8], text: &mut [u8; 131], count: usize, seed: u64) -> u64;
     fn fill(out: &mut [u8], s1: u64, s2: u64);
     fn fill_seeded(out: &mut [u8], seed: u64, extra_seed: u64);
     fn pad(bytes: &[u8], out: &mut [u64]) -> usize;
