@@ -51,6 +51,7 @@ bench() {
     need ld.lld 'lays the functions out in random order'
     need python3 'makes the tables'
     need lscpu 'names the processor'
+    need git 'names the commit'
     for layout in $(seq "${LAYOUTS:-8}"); do
         for build in ${BUILDS:-release lto}; do
             echo "Layout $layout of ${LAYOUTS:-8}, build $build" >&2

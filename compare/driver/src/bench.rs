@@ -1,5 +1,5 @@
 //! Times the Rust crate and the port in turn. Each row that is printed has a group, a name, and the least time of
-//! each side in nanoseconds, with tabs between; ../table.py makes the table.
+//! each side in nanoseconds, with tabs between; ../table.py makes the tables.
 use crate::original::{OriginalFive, OriginalFour};
 use crate::parts;
 use crate::port::{PortFive, PortFour};
