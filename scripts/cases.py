@@ -1,32 +1,36 @@
-"""Shared by the scripts that check files of the repository: they read the files here, and try their rules on planted
-edits."""
+#!/usr/bin/env python3
+"""Counts the cases of the scripts. A case prints a line `ok: NAME`, or `FAILED: NAME` and its faults. The last line of a
+script is 'N passed, M failed', with ', K skipped' if a tool is missing.
+
+To add a case: put a rule into the `findings` of a script in Python, a planted edit into planted/SCRIPT/RULE/, or a
+`note` into a script in bash. Then renew the list of names, in which a dropped case shows: surface.txt for edits
+(`python3 scripts/surface.py renew`), program.txt or faults.txt for bash (`bash scripts/NAME.sh renew`, with all tools).
+
+A planted edit has a line `file: NAME` and pairs of lines `old: TEXT`, `new: TEXT`. Each old text stands once in the
+file. Without pairs, the edit drops the file. It is found if the rule that its folder is named after, and no other,
+finds something new.
+
+Run alone, this script tries what must fail. With `count`, it counts the lines of its input.
+"""
 
 import contextlib
 import io
 import sys
-from pathlib import Path
+from collections import Counter
 
-SCRIPTS = Path(__file__).resolve().parent
-TOP = SCRIPTS.parent
-
-# What is read: not what Python leaves beside the scripts.
-TEXTS = {".rt", ".in", ".antt", ".md", ".sh", ".py", ".edit", ".txt", ".c"}
-
-
-def texts_of(*patterns):
-    """The texts of the repository's files that match a pattern, by name, in the order of the patterns."""
-    paths = [path for pattern in patterns for path in sorted(TOP.glob(pattern)) if path.suffix in TEXTS]
-    return {path.relative_to(TOP).as_posix(): path.read_text(encoding="utf-8") for path in paths}
+from sources import SCRIPTS
 
 
 def planted(files, edit):
-    """The files after an edit: a line `file: NAME`, then pairs `old: TEXT`, `new: TEXT`, each old text found once."""
+    """The files after an edit."""
     lines = [line.partition(": ")[::2] for line in edit.read_text(encoding="utf-8").splitlines() if line]
-    if [name for name, _ in lines] != ["file"] + ["old", "new"] * max(1, len(lines) // 2):
+    if [name for name, _ in lines] != ["file"] + ["old", "new"] * (len(lines) // 2):
         raise ValueError("it is not a line `file:` and pairs of lines `old:`, `new:`")
     file, *texts = [text for _, text in lines]
     if file not in files:
         raise ValueError(f"there is no file {file}")
+    if not texts:
+        return {name: text for name, text in files.items() if name != file}
     text = files[file]
     for old, new in zip(texts[::2], texts[1::2]):
         if text.count(old) != 1:
@@ -36,51 +40,54 @@ def planted(files, edit):
 
 
 def trial(findings, before, files, edit):
-    """The case of an edit: only the rule that its folder is named after, or all that `+` joins, find something new."""
+    """The case of an edit: the name of its rule and the edit, and what is wrong."""
     try:
         found = findings(planted(files, edit))
     except ValueError as fault:
-        return edit.name, [str(fault)]
-    new = [(rule, text) for rule, texts in found.items() for text in texts if text not in before[rule]]
-    shown = [f"{rule} finds {edit.stem}: {text}" for rule, text in new]
-    is_found = {rule for rule, _ in new} == {*edit.parent.name.split("+")}
-    return (shown[0], []) if is_found else (f"only {edit.parent.name} finds {edit.stem}", shown or ["no rule does"])
+        return f"{edit.parent.name}/{edit.stem}", [str(fault)]
+    new = {rule: [text for text in texts if text not in before[rule]] for rule, texts in found.items()}
+    rules = [rule for rule, texts in new.items() if texts]
+    shown = f"{edit.parent.name}/{edit.stem} is found: " + " ".join(new.get(edit.parent.name, [])[:1])
+    return shown, [] if rules == [edit.parent.name] else [f"only this rule has to find it, not {rules}"]
 
 
-def cases_of(subject, findings, files, folder, count):
-    """Each case: its name, and its faults. `findings` gives what each rule finds in files, by the rule's name.
-
-    In the files themselves nothing may be found. Each edit in a folder of `folder` has to be found by the rule of that
-    name alone, or by just those that `+` joins. Each rule needs an edit that it finds alone. `count` is the number of
-    all cases.
-    """
+def cases_of(subject, findings, files, folder):
+    """Each case: its name, and its faults. `findings` gives what each rule finds in files, by the rule's name. In the
+    files themselves nothing may be found. Each rule needs an edit in `folder` that is found."""
     before = findings(files)
-    edits = sorted(folder.glob("*/*.edit"))
+    trials = [trial(findings, before, files, edit) for edit in sorted(folder.glob("*/*.edit"))]
+    found = {name.partition("/")[0] for name, faults in trials if not faults}
     cases = [(f"{subject}, {rule}", texts) for rule, texts in before.items()]
-    cases += [trial(findings, before, files, edit) for edit in edits]
-    cases += [("each rule finds an edit alone", sorted(before.keys() - {edit.parent.name for edit in edits}))]
-    wrong = [] if len(cases) + 1 == count else [f"there are {len(cases) + 1}"]
-    return [*cases, (f"there are {count} cases", wrong)]
+    return [*cases, *trials, ("an edit of each rule is found", sorted(before.keys() - found))]
 
 
-def report(cases):
-    """Prints a line for each case, a name and its faults, and then the counts. Returns the status to end with."""
-    passed = failed = 0
+def report(cases, passed=0, failed=0, skipped=0):
+    """Prints a line for each case, a name and its faults, and then the counts, to which it adds those given. Returns the
+    status to end with."""
     for name, faults in cases:
         print(f"{'FAILED' if faults else 'ok'}: {name}", *faults, sep="\n    ")
         failed += bool(faults)
         passed += not faults
-    print(f"{passed} passed, {failed} failed")
+    print(f"{passed} passed, {failed} failed{f', {skipped} skipped' if skipped else ''}")
     return int(failed > 0)
 
 
+def count(lines):
+    kinds = Counter(line.partition(":")[0] for line in lines)
+    return report([], kinds["ok"], kinds["FAILED"], kinds["skipped"])
+
+
 def must_fail():
-    """Ends the script if one of five cases that have to fail does not, or is not counted as failed."""
+    """The case of what must fail: a fault, an edit that nothing or another rule finds or whose text is gone, and a rule
+    without an edit."""
     with contextlib.redirect_stdout(io.StringIO()) as told:
-        folder = SCRIPTS / "planted/cases"
-        status = report(cases_of("a fake", lambda files: {"fake": files["fake"].split()}, {"fake": "fault"}, folder, 0))
-    if status != 1 or told.getvalue().splitlines()[-1] != "0 passed, 5 failed":
-        sys.exit(f"{told.getvalue()}FAILED: cases.py has to count five failed cases above")
+        fake = {"fake": "fault"}
+        report(cases_of("a fake", lambda files: {"fake": files["fake"].split()}, fake, SCRIPTS / "planted/cases"))
+        count(["ok: a", "FAILED: b", "skipped: c"])
+    lines = told.getvalue().splitlines()
+    counts = [line for line in lines if line[0].isdigit()]
+    return "what must fail", [] if counts == ["0 passed, 5 failed", "1 passed, 1 failed, 1 skipped"] else lines
 
 
-must_fail()
+if __name__ == "__main__":
+    sys.exit(count(sys.stdin) if sys.argv[1:] == ["count"] else report([must_fail()]))

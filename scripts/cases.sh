@@ -1,75 +1,62 @@
-# Shared by the tests of the built program, which source this file. They need bash, the coreutils
-# and the program: `rt ci` leaves it, otherwise `rt run` builds it here. Each case prints a line,
-# and `counted` prints the last one.
+# Shared by the tests of the built program, which source this file. They need bash, the coreutils,
+# find, grep, sed, python3 and the program: `rt ci` leaves it, otherwise `rt run` builds it here.
+# cases.py says how to add a case.
 set -uo pipefail
-shopt -s globstar
-cd "$(dirname "${BASH_SOURCE[0]}")/../crates/komisum" || exit 1
+scripts=$(realpath "$(dirname "${BASH_SOURCE[0]}")")
+list=$scripts/$(basename "$0" .sh).txt
+renew=${1:-}
+cd "$scripts/../crates/komisum" || exit 1
 
 room=$(realpath "$(mktemp -d)")
 trap 'rm -rf "$room"' EXIT
 program=$PWD/out/komisum
+need=
+touch "$room/cases" "$room/skipped"
 
-# Succeeds if the program exists and no source is newer.
-is_built() {
-    local source
-    [ -x "$program" ] || return 1
-    for source in {.,../komihash}/{src,specs,proofs}/**; do
-        [ ! "$source" -nt "$program" ] || return 1
-    done
-}
-
-if ! is_built && ! rt run < stdin > "$room/built" 2>&1; then
-    cat "$room/built"
-    echo 'FAILED: `rt run < stdin` in crates/komisum, which builds the program'
-    echo '0 passed, 1 failed'
-    exit 1
+# Builds the program if there is none, or a source is newer.
+if ! [ -x "$program" ] || [ -n "$(find {.,../komihash}/{src,specs,proofs} -newer "$program" -print -quit)" ]; then
+    if ! rt run < stdin > "$room/built" 2>&1; then
+        cat "$room/built"
+        printf '%s\n' 'FAILED: `rt run < stdin` in crates/komisum, which builds the program' '0 passed, 1 failed'
+        exit 1
+    fi
 fi
-passed=0
-failed=0
-skipped=0
 
-# Counts a case, which passes if the output is the expected one. An empty expectation always fails,
+# Notes a case, which passes if the output is the expected one. An empty expectation always fails,
 # since a command that doesn't run prints nothing too.
 note() {
-    local name=$1 wanted=$2 came=$3
-    if [ -n "$wanted" ] && [ "$wanted" = "$came" ]; then
-        passed=$((passed + 1))
-        echo "ok: $name"
-    else
-        failed=$((failed + 1))
-        echo "FAILED: $name"
-        printf 'expected:\n%s\ngot:\n%s\n' "$wanted" "$came"
-    fi
+    local name=$1 wanted=$2 came=$3 result=FAILED
+    if [ -n "$wanted" ] && [ "$wanted" = "$came" ]; then result=ok; fi
+    echo "$result: $need$name" | tee -a "$room/cases"
+    [ "$result" = ok ] || printf 'expected:\n%s\ngot:\n%s\n' "$wanted" "$came"
 }
 
-# Runs a function of `count` cases that need a tool, if the command `works` shows that the tool
-# works here. Otherwise skips them.
+# Runs a function, the last argument, of cases that need a tool, if the command `works` shows that
+# the tool works here. Otherwise skips them.
 cases_with() {
-    local tool=$1 works=$2 count=$3 cases=$4
+    local need="with $1: " works=$2
     if "$works" > "$room/tried" 2>&1; then
-        "$cases"
+        "${!#}"
     else
-        skipped=$((skipped + count))
         cat "$room/tried"
-        echo "skipped: $count cases that need $tool, which is missing or does not work here"
+        echo "skipped: cases that need $1, which is missing or does not work here"
+        echo "^$need" >> "$room/skipped"
     fi
 }
 
-# Notes whether this many cases came before, and prints the counts. Succeeds if no case failed.
+# Prints the counts. Succeeds if no case failed, and the cases are those listed, but for the skipped.
 counted() {
-    local skips=", $skipped skipped"
-    [ "$skipped" != 0 ] || skips=
-    note 'the number of cases' "$1" $((passed + failed + skipped))
-    echo "$passed passed, $failed failed$skips"
-    [ "$failed" = 0 ]
+    sed -E 's/^\w+: //' "$room/cases" > "$room/names"
+    if [ "$renew" = renew ] && [ ! -s "$room/skipped" ]; then cp "$room/names" "$list"; fi
+    note 'the listed cases, and no other' "$(grep -vf "$room/skipped" "$list")" "$(cat "$room/names")"
+    grep -f "$room/skipped" "$list" | sed 's/^/skipped: /' >> "$room/cases"
+    python3 "$scripts/cases.py" count < "$room/cases"
 }
 
-# Three cases that have to fail: two texts that differ, nothing wanted, another number of cases.
-if must_fail=$(note differing a b; note empty '' ''; counted 1) ||
-    [ "${must_fail##*$'\n'}" != '0 passed, 3 failed' ]; then
-    printf '%s\n' "$must_fail" 'FAILED: cases.sh has to count three failed cases above'
-    exit 1
-fi
+# What has to fail: two texts that differ, and nothing wanted.
+[ "$(note x a b; note x '' '')" = $'FAILED: x\nexpected:\na\ngot:\nb\nFAILED: x\nexpected:\n\ngot:' ] ||
+    { echo 'FAILED: cases.sh does not notice a difference'; exit 1; }
+: > "$room/cases"
 
 # Runs a command, and prints its status, standard output and standard error, each after its name.
 ran() {

@@ -1,67 +1,64 @@
 #!/usr/bin/env python3
-"""Checks the rules of the sources that no contract shows: of counting, of `main`, and of imports.
+"""Checks the rules of the sources that no contract shows. The first three read `komihash` alone.
 
-A contract counts products and kept bytes in the tally that a call is passed. What is done outside that tally it can't
-see: a product of words, a hash whose result is dropped, a copy of the message, a pass over it. And `main` and a few
-functions beside it have no contract. So what a function does is read off its source:
+  products  Only `multiply128` multiplies: no other code has `*`, `*=`, a name with `mul` or `pow`, or a 128-bit type.
+            Its own product is one. The product of the number 8 and an index is allowed, written `8 * INDEX`.
+  tallies   A function that is passed a tally makes none, and names no function that makes one, itself or through
+            others. A function that makes one is one call of its counted form, or is in OWN_TALLY.
+  imports   Modules import in one direction: none imports a module that leads back to it.
+  hidden    No source has what hides code from these rules: an import by another name, a type of functions, a macro, a
+            raw name, a block comment, or in a clause a comment, a string or a `'`. While there is some, the other
+            rules read nothing.
 
-  operations  operations.txt lists what each function of `komihash` does, and each one of `komisum` without a contract:
-              its calls, products, comparisons, loops, assignments, arrays and copies. Any difference is a fault.
-  tallies     A function that is passed a tally makes none. As there is no other in reach, it passes this one on.
-  imports     Modules of `komihash` import in one direction: none imports a module that leads back to it.
+A contract can't see these, since it counts products in the tally that a call is passed. Who can make or change a tally
+is in surface.txt. Tests and examples are not read.
 
-The other rules are patterns that no source may have. Tests are not read: they are not part of the library. surface.py
-checks who can make or change a tally.
+The script reads names, not meanings. It can't see a product that is made of sums or shifts, what the standard library
+does inside, or a function that an operator, a loop or a drop calls.
 
-The script reads names, not meanings. It can't see a product that is made of sums or shifts, a copy that is made by
-naming values anew (`let first = words[0];`), or what the standard library does inside.
-
-Each edit of planted/rules/RULE/ is found by that rule alone, and one of RULE+RULE/ by these two. The last line is
-'N passed, M failed'.
+Each edit of planted/rules/RULE/ is found by that rule alone. The last line is 'N passed, M failed'.
 """
 
 import re
 import sys
 from collections import Counter
-from functools import cached_property, lru_cache
+from functools import lru_cache
 from graphlib import CycleError, TopologicalSorter
 
-from cases import SCRIPTS, cases_of, report, texts_of
+from cases import cases_of, report
+from sources import SCRIPTS, SOURCE, code_of, marked, texts_of
 
-# What is refused anywhere in a source: what could call a function by another name, or hide code from this script.
-REFUSED = {
-    "aliases": r"(?<!ghost )\buse\b[^;]*\bas\b",
-    "function_types": r"\bfn\s*\(|\bFn(?:Mut|Once)?\b",
-    "macros": r"\bmacro_rules\b",
-    "block_comments": r"/\*",
-    "raw_names": r"#(?!\s*!?\s*\[)",
+LIBRARY = "crates/komihash/src/"
+
+# Functions that make a tally otherwise than for their counted form, and the one call that it is for.
+OWN_TALLY = {
+    # Contracts of the generator count nothing.
+    "generator.rt Komirand::next": "multiply128(self.s1,self.s2,&mut Tally::new())",
+    # The bytes of a saved text were counted when they were written.
+    "stream/saved.rt read_pending": "pending.append(&bytes[PENDING_AT..],&mut Tally::new())",
+    # The tally that all others call.
+    "tally.rt Tally::new": "Tally{marker:PhantomData,}",
+    # A proof that a tally takes no memory.
+    "tally.rt _": "prove!(size_of::<Tally>()==0)",
 }
+COUNTED_FORM = re.compile(r"[\w:]+(?:\.\w+)?(?:::<\w+>)?\((?:\w+,)*&mut Tally::new\(\)\);?")
 
-# Sources but for the tests.
-SOURCE = re.compile(r"(?:crates/komisum/)?src/(?!tests\b).*\.rt")
+# The one product, in the one function that may have it.
+PRODUCT = Counter(f"utils.rt multiply128: {token}" for token in ("u128", "*", "u128"))
+MULTIPLIES = re.compile(r"\*=|\w*(?:[mM]ul(?!tiply128\b)|pow|[iu]128)\w*")
 
-# Comments, which are dropped; and strings and characters, each of which becomes the number 0. `rt fmt` puts spaces
-# around `<`, `>`, `>>` only where they are no brackets.
-UNREAD = re.compile(r"""(//.*)|(?:\b[bc])?(?:\br"[^"]*"|"(?:\\[\s\S]|[^"\\])*"|'(?:\\.[^']*|[^'\\])')""")
+HIDDEN = re.compile(
+    r"(?<!ghost )\buse\b[^;]*\bas\b|\bfn\s*\(|\bFn(?:Mut|Once)?\b|\bmacro_rules\b|/\*|--|\{-|#(?!\s*!?\s*\[)"
+)
+HIDDEN_IN_CLAUSE = re.compile(r"\b(?:requires|ensures|ghost)\b[^;{}]*\{(?:[^{}]|\{[^{}]*\})*?(?:\{[^{}]*?)?[\0'\"]")
+
+# `rt fmt` puts spaces around `<` and `>` only where they are no brackets.
 ORDER = re.compile(r"(?<=\s)[<>](?=\s)")
 TOKEN = re.compile(r"\w+|::|\.\.=?|->|=>|[=!<>]=|<>|&&|\|\||<<=?|>>=|(?<=\s)>>(?=\s)|[-+*/%^|&]=|\S")
 PATH = re.compile(r"\w+(?:::\w+)+")
 GROUP = re.compile(r"((?:\w+::)+)\{([^{}]*)\}")
-SETS = re.compile(r"(?:<<|>>|[-+*/%^|&])?=")
-COMPARISONS = ("==", "!=", "<=", ">=", "<>")
-LOOPS = ("for", "while", "loop")
 CONTRACT = ("requires", "ensures", "ghost")
-BINDINGS = ("let", "const", "static")
-KEYWORDS = {*LOOPS, *BINDINGS, *"as break continue else if in match move mut ref return unsafe".split()}
-# Where the target of an assignment, and the operands of a product or a comparison, begin or end.
-BEFORE_TARGET = {*BINDINGS, *", ; = => ( { }".split()}
-AROUND_OPERATOR = set("( ) [ ] { } , ; = + - | & ^ << >> <= >= == != <> && || .. ..= => if while match return".split())
-
-
-def codes_of(files):
-    """The sources among the files, without comments."""
-    sources = {file: text for file, text in files.items() if SOURCE.fullmatch(file)}
-    return {file: UNREAD.sub(lambda found: "" if found[1] else "0", text) for file, text in sources.items()}
+KEYWORDS = set("as break continue else if in let match move mut ref return unsafe while".split())
 
 
 def end_of(tokens, index):
@@ -74,29 +71,12 @@ def end_of(tokens, index):
             return index
 
 
-def start_of(tokens, index, stops):
-    """The index after the last stop before a token, with at least one token between. Stops in brackets don't count."""
-    depth = 0
-    while True:
-        index -= 1
-        depth += (tokens[index] in ")]}>") - (tokens[index] in "([{<")
-        if depth <= 0 and tokens[index - 1] in stops:
-            return index
-
-
-def up_to(tokens, index, stops):
-    """The tokens from an index to the next stop. Stops in brackets don't count."""
-    end = index
-    while tokens[end] not in stops:
-        end = end_of(tokens, end)
-    return tokens[index:end]
-
-
 def spelled(tokens):
     """Tokens as a text, with spaces only between words."""
     return re.sub(r" (?!\w)|(?<!\w) ", "", " ".join(tokens))
 
 
+@lru_cache(maxsize=None)
 def tokens_of(code):
     """The tokens of a source without its attributes."""
     tokens = TOKEN.findall(ORDER.sub("<>", code))
@@ -107,102 +87,63 @@ def tokens_of(code):
     return tokens
 
 
-def copied(pattern):
-    """A pattern that copies what is behind a reference. An empty text for other patterns."""
-    return spelled(pattern) if {"&", "&&"} & set(pattern) else ""
+def owner_of(tokens, index):
+    """The type of an impl, or the name of a trait, that begins at an index."""
+    start = end_of(tokens, index + 1) if tokens[index + 1] == "<" else index + 1
+    head = tokens[start : tokens.index("{", start)]
+    head = head[head.index("for") + 1 :] if "for" in head else head
+    return next((token for token in head if token[0].isupper()), "")
 
 
 class Function:
-    """A function with a body, or a constant."""
+    """A function with a body, or a constant: its name with the file and the type, its head, and its body."""
 
-    def __init__(self, file, head, body):
-        self.file = file
-        self.name = head[1]
-        self.head = head
-        # With brackets around, so that each token of the body has neighbours.
-        self.tokens = ["{", "{", *body, "}", "}"]
+    def __init__(self, place, head, body):
+        self.place, self.name, self.head, self.body = place, place.split()[1], head, body
+        self.is_passed_tally = "Tally" in head or self.name.startswith("Tally::") and "self" in head
 
-    @cached_property
-    def operations(self):
-        """All that it does, in source order."""
-        found = (self.operation(index) for index in range(2, len(self.tokens) - 2))
-        return [operation for operation in found if operation]
+    def products(self):
+        tokens = ["{", "{", *self.body]
+        for two_before, before, token in zip(tokens, tokens[1:], tokens[2:]):
+            has_left_operand = re.fullmatch(r"\w+|[)\]}?]", before) and before not in KEYWORDS
+            is_of_eight = before == "8" and two_before not in (".", "*", "/", "%")
+            if MULTIPLIES.fullmatch(token) or token == "*" and has_left_operand and not is_of_eight:
+                yield f"{self.place}: {token}"
 
-    def operation(self, index):
-        """What the token at an index does, or an empty text."""
-        before, token, after = self.tokens[index - 1 : index + 2]
-        has_left_operand = re.fullmatch(r"\w+|[)\]}]", before) and before not in KEYWORDS
-        if token == "*" and not has_left_operand:
-            return f"*{after}"
-        if token == "*" or token in COMPARISONS and not after[0].isdigit():
-            return self.with_operands(index)
-        if SETS.fullmatch(token):
-            return self.assignment(index)
-        if token == "=>":
-            return copied(self.tokens[start_of(self.tokens, index, {",", "{", "}"}) : index])
-        if token == "[":
-            array = self.tokens[index : end_of(self.tokens, index)]
-            return spelled(array) if ";" in array else ""
-        if token in LOOPS:
-            return spelled(up_to(self.tokens, index, "{"))
-        if token in ("|", "||") and not has_left_operand:
-            return "closure"
-        is_name = re.match(r"[^\W\d]", token) and token not in KEYWORDS
-        return self.name_used(index) if is_name else ""
-
-    def with_operands(self, index):
-        """A product or a comparison, with both its operands."""
-        start = start_of(self.tokens, index, AROUND_OPERATOR)
-        return spelled(self.tokens[start : index + 1] + up_to(self.tokens, index + 1, AROUND_OPERATOR - {"(", "["}))
-
-    def assignment(self, index):
-        """An assignment with its target. Of a `let` only the pattern, if it copies."""
-        start = start_of(self.tokens, index, BEFORE_TARGET)
-        if self.tokens[start - 1] in BINDINGS:
-            return copied(up_to(self.tokens, start, ":="))
-        return f"{spelled(self.tokens[start:index])} {self.tokens[index]}"
-
-    def name_used(self, index):
-        """A function, a variant or a struct, or the words of the pending bytes."""
-        owner, before, token, after, bracket = self.tokens[index - 2 : index + 3]
-        if (after, bracket) == ("::", "<"):
-            after = self.tokens[end_of(self.tokens, index + 2)]
-        is_type = token[0].isupper()
-        name = f"{owner}::{token}" if before == "::" and owner[0].isupper() else token
-        if after in ("(", "!"):
-            return name
-        if after == "{" and is_type and not token.isupper():
-            return f"{name} {{"
-        if before == "::" and after != "::":
-            return name if is_type else f"{name} (not called)"
-        return ".words" if (before, token) == (".", "words") else ""
+    def names(self, owners):
+        """The functions that the body names, with the type if one of this crate stands before."""
+        for owner, colons, name in zip(["", "", *self.body], ["", *self.body], self.body):
+            yield f"{owner}::{name}" if colons == "::" and owner in owners else name
 
 
 @lru_cache(maxsize=None)
 def functions_of(file, code):
     """The functions of a source that have a body, and its constants."""
-    tokens, functions = tokens_of(code), []
-    for index, token in enumerate(tokens):
-        end = index + 2
-        if token == "fn":
-            while tokens[end] not in ("{", ";"):
+    functions = []
+    tokens, owners = tokens_of(code), []
+    for index, token in enumerate(tokens[:-2]):
+        if token in ("impl", "trait") and tokens[index - 1] not in (":", "->", "&", "<", ","):
+            owners.append((end_of(tokens, tokens.index("{", index)), owner_of(tokens, index)))
+        is_constant = token in ("const", "static") and tokens[index + 2] == ":" and tokens[index - 1] not in ("<", ",")
+        if token == "fn" or is_constant:
+            end = index + 2
+            while tokens[end] not in (";" if is_constant else "{;"):
                 end = end_of(tokens, tokens.index("{", end) if tokens[end] in CONTRACT else end)
-            if tokens[end] == "{":
-                functions.append(Function(file, tokens[index:end], tokens[end + 1 : end_of(tokens, end) - 1]))
-        elif token in ("const", "static") and tokens[end] == ":" and tokens[index - 1] not in ("<", ","):
-            functions.append(Function(file, tokens[index:end], up_to(tokens, index, ";")))
+            owner = [name + "::" for last, name in owners if index < last and name][-1:]
+            head = tokens[index:end]
+            body = head if is_constant else tokens[end : end_of(tokens, end)]
+            functions.append(Function(f"{file} {''.join(owner)}{head[1]}", head, body))
     return functions
 
 
 def imports_of(codes):
     """Which other modules each module of `komihash` names in its code. `mod NAME;` alone names none."""
-    graph = {file[4:-3]: set() for file in codes if file.startswith("src/")}
+    graph = {file[:-3]: set() for file in codes}
     for module, imported in graph.items():
-        code = codes[f"src/{module}.rt"]
         home = [] if module == "lib" else module.split("/")
         scope = {"crate": [], "self": home, "super": home[:-1]}
-        scope.update({name: [*home, name] for name in re.findall(r"\bmod (\w+);", code)})
-        text = spelled(tokens_of(code))
+        scope.update({name: [*home, name] for name in re.findall(r"\bmod (\w+);", codes[module + ".rt"])})
+        text = spelled(tokens_of(codes[module + ".rt"]))
         while GROUP.search(text):
             text = GROUP.sub(lambda group: " ".join(group[1] + name for name in group[2].split(",")), text)
         for first, *names in (path.split("::") for path in PATH.findall(text)):
@@ -219,20 +160,35 @@ def imports_of(codes):
     return graph
 
 
-def operations(functions):
-    """Where the table isn't what the functions do."""
-    done = [(f"{function.file} {function.name}", function.operations) for function in functions]
-    lines = Counter(f"{name}: {', '.join(found)}" for name, found in done if found)
-    table = (SCRIPTS / "operations.txt").read_text(encoding="utf-8").splitlines()
-    listed = Counter(line for line in table if line and line[0] != "#")
-    yield from (f"not in operations.txt: {line}" for line in (lines - listed).elements())
-    yield from (f"only in operations.txt: {line}" for line in (listed - lines).elements())
+def products(functions):
+    found = Counter(product for function in functions for product in function.products())
+    return (found - PRODUCT).elements()
+
+
+def makers_of(functions, owners):
+    """The names of the functions that make a tally, themselves or through others that they name."""
+    makers, names = [function for function in functions if "Tally" in function.body], set()
+    while makers:
+        names |= {name for maker in makers for name in (maker.name, maker.name.rpartition("::")[2]) if name != "_"}
+        others = [function for function in functions if not function.is_passed_tally and function.name not in names]
+        makers = [function for function in others if names.intersection(function.names(owners))]
+    return names
 
 
 def tallies(functions):
+    owners = {function.name.partition("::")[0] for function in functions if "::" in function.name}
+    makers = makers_of(functions, owners)
+    yield from (f"there is no {place}" for place in OWN_TALLY.keys() - {function.place for function in functions})
     for function in functions:
-        if "& mut Tally" in " ".join(function.head) and "Tally" in function.tokens:
-            yield f"{function.file} {function.name}: it is passed a tally, and makes one"
+        body = spelled(function.body)
+        named = sorted({"Tally", *makers}.intersection(function.names(owners)))
+        if function.place in OWN_TALLY:
+            if OWN_TALLY[function.place] not in body or body.count("Tally") != 1:
+                yield f"{function.place}: its tally is for other than {OWN_TALLY[function.place]}"
+        elif function.is_passed_tally and named:
+            yield f"{function.place}: it is passed a tally, and names {', '.join(named)}"
+        elif "Tally" in function.body and not COUNTED_FORM.fullmatch(body[1:-1]):
+            yield f"{function.place}: it makes a tally, and is not one call of its counted form"
 
 
 def imports(codes):
@@ -242,18 +198,25 @@ def imports(codes):
         yield " is imported by ".join(fault.args[1])
 
 
+def hidden(file, text):
+    for found in [*HIDDEN.finditer(code_of(text)), *HIDDEN_IN_CLAUSE.finditer(marked(text))]:
+        yield f"{file}: {found[0]!r}"
+
+
 def findings(files):
     """What each rule finds, by the rule's name."""
-    codes = codes_of(files)
-    functions = [function for file, code in codes.items() for function in functions_of(file, code)]
-    functions = [each for each in functions if each.file[:3] == "src" or "ensures" not in each.head]
-    found = {"operations": operations(functions), "tallies": tallies(functions), "imports": imports(codes)}
-    for rule, pattern in REFUSED.items():
-        found[rule] = [f"{file}: {match[0]}" for file in codes for match in re.finditer(pattern, codes[file])]
-    return {rule: list(texts) for rule, texts in found.items()}
+    sources = {file: text for file, text in files.items() if SOURCE.fullmatch(file)}
+    unread = [found for file, text in sources.items() for found in hidden(file, text)]
+    library = {} if unread else {file[len(LIBRARY) :]: code_of(text) for file, text in sources.items() if LIBRARY in file}
+    functions = [function for file, code in library.items() for function in functions_of(file, code)]
+    return {
+        "hidden": unread,
+        "products": list(products(functions)),
+        "tallies": list(tallies(functions)) if functions else [],
+        "imports": list(imports(library)),
+    }
 
 
 if __name__ == "__main__":
-    # Files of `komihash` are named relative to its folder.
-    FILES = {name.removeprefix("crates/komihash/"): text for name, text in texts_of("crates/*/src/**/*").items()}
-    sys.exit(report(cases_of("the sources", findings, FILES, SCRIPTS / "planted/rules", 98)))
+    FILES = texts_of("crates/*/src/**/*.rt", "c/*.rt.in")
+    sys.exit(report(cases_of("the sources", findings, FILES, SCRIPTS / "planted/rules")))
