@@ -7,11 +7,6 @@ use super::known::pattern;
 use crate::{v4, v5};
 use std::process::Abort;
 
-// Seven bytes whose last is at least 128, and eight whose last is less.
-const HIGH: [u8; 7] = [0, 0, 0, 0, 0, 0, 0x80];
-
-const LOW_END: [u8; 8] = [0xff, 0xff, 0xff, 0xff, 0xff, 0xff, 0xff, 0x7f];
-
 // Calls `pad` of a version.
 fn pad(version: u8, bytes: &[u8], out: &mut [u64]) -> usize
     requires { length bytes.now / 8 + 1 ≤ length out.old }
@@ -49,80 +44,64 @@ fn pads(rt: &impl Abort, version: u8, message: &[u8], words: &[u64])
 
 #[test]
 fn pads_known_messages(rt: HostRuntime) {
-    pads(&rt, 4, &[], &[0]);
-    pads(&rt, 5, &[], &[0]);
-    pads(&rt, 4, b"abc", &[0x0163_6261]);
-    pads(&rt, 5, b"abc", &[0x0163_6261]);
+    for version in [4u8, 5u8] {
+        pads(&rt, version, &[], &[0]);
+        pads(&rt, version, b"abc", &[0x0163_6261]);
+    }
     pads(&rt, 4, &[0x80], &[0x0280]);
     pads(&rt, 5, &[0x80], &[0x0180]);
     pads(&rt, 4, &[0xff; 8], &[u64::MAX, 2]);
     pads(&rt, 5, &[0xff; 8], &[u64::MAX, 1]);
 }
 
-// Unpads words and compares the message. Nothing is written after it.
-fn unpads(rt: &impl Abort, version: u8, words: &[u64], message: &[u8])
-    requires words { length words.now ≤ 3 }
-    requires message { length message.now ≤ 25 }
+// Unpads words and compares the message, or None. Nothing else is written.
+fn unpads(rt: &impl Abort, version: u8, words: &[u64], message: Option<&[u8]>)
+    requires { length words.now ≤ 3 }
 {
-    let mut out = [0xee; 25];
+    let bytes = message.unwrap_or(&[]);
+    assert!(rt; bytes.len() <= 25);
     let mut wanted = [0xee; 25];
-    wanted[..message.len()].copy_from_slice(message);
-    let given = unpad(version, words, &mut out);
-    same_length(rt, given, Some(message.len()), words.len());
+    wanted[..bytes.len()].copy_from_slice(bytes);
+    let mut out = [0xee; 25];
+    let length = unpad(version, words, &mut out);
+    same_length(rt, length, message.map(|bytes| bytes.len()), words.len());
     same_bytes(rt, &out, &wanted, words.len());
 }
 
-// Unpads words that no message has: the result is None, and nothing is written.
-fn refuses(rt: &impl Abort, version: u8, words: &[u64])
-    requires { length words.now ≤ 3 }
-{
-    let mut out = [0xee; 25];
-    same_length(rt, unpad(version, words, &mut out), None, words.len());
-    same_bytes(rt, &out, &[0xee; 25], words.len());
-}
-
-// Unpads known words that have the same message in both versions.
-fn unpads_alike(rt: &impl Abort, version: u8) {
-    unpads(rt, version, &[0], &[]);
-    unpads(rt, version, &[0x7fff_ffff_ffff_ffff, 1], &LOW_END);
-    unpads(rt, version, &[0x0100], &[0]);
-    unpads(rt, version, &[0x0100_0000_0000_0000], &[0; 7]);
-    unpads(rt, version, &[2, 1], &[2, 0, 0, 0, 0, 0, 0, 0]);
-}
-
-// Unpads known words that have no message in either version.
-fn refuses_alike(rt: &impl Abort, version: u8) {
-    refuses(rt, version, &[]);
-    refuses(rt, version, &[0x0201]);
-    refuses(rt, version, &[1]);
-    refuses(rt, version, &[2]);
-    refuses(rt, version, &[0, 0]);
-    refuses(rt, version, &[0x7fff_ffff_ffff_ffff, 2]);
-    refuses(rt, version, &[0x0200]);
-    refuses(rt, version, &[u64::MAX, 2, 0]);
-    refuses(rt, version, &[u64::MAX]);
-}
-
-// Unpads the words of messages whose last byte is at least 128, with the padding byte of a version,
-// and with that of the other one.
-fn unpads_high_ends(rt: &impl Abort, version: u8, padding: u8, other: u8) {
-    let [padding, other] = [u64::from(padding), u64::from(other)];
-    unpads(rt, version, &[padding << 8 | 0x80], &[0x80]);
-    refuses(rt, version, &[other << 8 | 0x80]);
-    unpads(rt, version, &[u64::MAX, padding], &[0xff; 8]);
-    refuses(rt, version, &[u64::MAX, other]);
-    unpads(rt, version, &[padding << 56 | 0x80 << 48], &HIGH);
-    refuses(rt, version, &[other << 56 | 0x80 << 48]);
-}
-
+// Unpads words that have the same message in both versions, or in neither one.
 #[test]
-fn unpads_known_words(rt: HostRuntime) {
+fn unpads_alike_in_both_versions(rt: HostRuntime) {
+    let low_end = [0xff, 0xff, 0xff, 0xff, 0xff, 0xff, 0xff, 0x7f];
     for version in [4u8, 5u8] {
-        unpads_alike(&rt, version);
-        refuses_alike(&rt, version);
+        unpads(&rt, version, &[0], Some(&[]));
+        unpads(&rt, version, &[0x7fff_ffff_ffff_ffff, 1], Some(&low_end));
+        unpads(&rt, version, &[0x0100], Some(&[0]));
+        unpads(&rt, version, &[0x0100_0000_0000_0000], Some(&[0; 7]));
+        unpads(&rt, version, &[2, 1], Some(&[2, 0, 0, 0, 0, 0, 0, 0]));
+        unpads(&rt, version, &[], None);
+        unpads(&rt, version, &[0x0201], None);
+        unpads(&rt, version, &[1], None);
+        unpads(&rt, version, &[2], None);
+        unpads(&rt, version, &[0, 0], None);
+        unpads(&rt, version, &[0x7fff_ffff_ffff_ffff, 2], None);
+        unpads(&rt, version, &[0x0200], None);
+        unpads(&rt, version, &[u64::MAX, 2, 0], None);
+        unpads(&rt, version, &[u64::MAX], None);
     }
-    unpads_high_ends(&rt, 4, 2, 1);
-    unpads_high_ends(&rt, 5, 1, 2);
+}
+
+// Unpads words of messages that end in a byte of at least 128. Only one version pads them so.
+#[test]
+fn unpads_in_one_version(rt: HostRuntime) {
+    let high_end = [0, 0, 0, 0, 0, 0, 0x80];
+    for (version, other, padding) in [(4u8, 5u8, 2u64), (5u8, 4u8, 1u64)] {
+        unpads(&rt, version, &[padding << 8 | 0x80], Some(&[0x80]));
+        unpads(&rt, other, &[padding << 8 | 0x80], None);
+        unpads(&rt, version, &[u64::MAX, padding], Some(&[0xff; 8]));
+        unpads(&rt, other, &[u64::MAX, padding], None);
+        unpads(&rt, version, &[padding << 56 | 0x80 << 48], Some(&high_end));
+        unpads(&rt, other, &[padding << 56 | 0x80 << 48], None);
+    }
 }
 
 // Unpads what was padded. Nothing is written after it.
@@ -155,11 +134,11 @@ fn unpads_two_bytes(rt: &impl Abort, version: u8, x: u8, y: u8) {
     let padding = if version == 4 && y >= 128 { 2 } else { 1 };
     let word = [256 * u64::from(x) + u64::from(y)];
     if x == 0 && y == 0 {
-        unpads(rt, version, &word, &[]);
+        unpads(rt, version, &word, Some(&[]));
     } else if x == padding {
-        unpads(rt, version, &word, &[y]);
+        unpads(rt, version, &word, Some(&[y]));
     } else {
-        refuses(rt, version, &word);
+        unpads(rt, version, &word, None);
     }
 }
 
@@ -176,8 +155,7 @@ fn unpads_every_word_of_two_bytes(rt: HostRuntime) {
 #[test]
 fn unpads_into_the_smallest_out(rt: HostRuntime) {
     for version in [4u8, 5u8] {
-        let mut none: [u8; 0] = [];
-        same_length(&rt, unpad(version, &[], &mut none), None, 0);
+        same_length(&rt, unpad(version, &[], &mut []), None, 0);
         let mut out = [0xee; 8];
         same_length(&rt, unpad(version, &[0], &mut out), Some(0), 1);
         same_bytes(&rt, &out, &[0xee; 8], 1);
