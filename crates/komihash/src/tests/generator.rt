@@ -1,141 +1,156 @@
-//! The generators of both versions: known outputs, and fill_bytes against `next`.
+//! The generators of both versions: known outputs and bytes, and fill_bytes against `next`.
 
-use super::assertions::{same, same_bytes};
-use crate::generator::Komirand;
+use super::assertions::{same, same_bytes, same_words};
 use crate::{v4, v5};
 use std::process::Abort;
 
-// Compares the next outputs of a generator.
-fn gives<const V: u8>(rt: &impl Abort, mut generator: Komirand<V>, outputs: &[u64]) {
-    for output in outputs {
-        same(rt, generator.next(), *output, 0);
+fn generators(number: usize) -> (v4::Komirand, v5::Komirand) {
+    const SEED: u64 = 0x1234_5678_90ab_cdef;
+    match number {
+        0 => (v4::Komirand::new(0, 0), v5::Komirand::new(0, 0)),
+        1 => (v4::Komirand::new(42, 42), v5::Komirand::new(42, 42)),
+        2 => (v4::Komirand::init(0), v5::Komirand::init(0)),
+        _ => (v4::Komirand::init(SEED), v5::Komirand::init(SEED)),
     }
 }
 
-// Compares the first outputs of a generator whose two words are the same.
-fn gives_from<const V: u8>(rt: &impl Abort, word: u64, outputs: &[u64]) {
-    gives(rt, Komirand::<V>::new(word, word), outputs);
+// Returns the next 13 outputs of one of the four generators, in each version.
+fn outputs(number: usize) -> ([u64; 13], [u64; 13]) {
+    let (mut four, mut five) = generators(number);
+    let (mut of_four, mut of_five) = ([0; 13], [0; 13]);
+    for i in 0..13usize {
+        of_four[i] = four.next();
+        of_five[i] = five.next();
+    }
+    (of_four, of_five)
 }
 
 #[test]
 fn steps_from_known_pairs(rt: HostRuntime) {
-    const LARGE: u64 = 0x1_0000_0000;
-    gives_from::<4>(&rt, 0, &[0xaaaa_aaaa_aaaa_aaaa, 0xffff_ffff_ffff_fffe]);
-    gives_from::<4>(&rt, LARGE, &[0xaaaa_aaab_aaaa_aaab]);
-    gives_from::<4>(&rt, u64::MAX, &[0xaaaa_aaaa_aaaa_aaa6]);
-    gives_from::<5>(&rt, 0, &[0x5555_5555_5555_5555, 0x79e7_9e79_e79e_79e6]);
-    gives_from::<5>(&rt, LARGE, &[0x5555_5555_5555_5556]);
-    gives_from::<5>(&rt, u64::MAX, &[0x5555_5555_5555_5554]);
-}
-
-#[test]
-fn init_takes_four_steps(rt: HostRuntime) {
-    const SEED: u64 = 0x1234_5678_90ab_cdef;
-    gives(
-        &rt,
-        v4::Komirand::init(SEED),
-        &[0x2264_0def_aa9a_f646, 0x76f7_6cc6_c889_7b4a],
-    );
-    gives(&rt, v4::Komirand::init(0), &[0x400c_62cc_4727_496b]);
-    let extra = v4::Komirand::init_with_extra_seed(3, 5);
-    gives(&rt, extra, &[0xa0b0_1c26_bba9_307a]);
-    gives(
-        &rt,
-        v5::Komirand::init(SEED),
-        &[
-            0xb1b3_fa0c_e9e8_fc12,
-            0x873b_3a41_c1b9_ada4,
-            0x90ad_e4d9_d482_8c88,
-            0x4887_cba6_4ef5_5ec4,
-        ],
-    );
-    gives(&rt, v5::Komirand::init(0), &[0x1c42_877a_440a_e8ee]);
-    let extra = v5::Komirand::init_with_extra_seed(3, 5);
-    gives(&rt, extra, &[0x0d2f_8edd_6aff_b42b]);
-}
-
-// Compares the bytes that fill_bytes writes, call by call, and returns the generator after them.
-fn fills<const V: u8>(rt: &impl Abort, mut generator: Komirand<V>, fills: &[&[u8]]) -> Komirand<V> {
-    for fill in fills {
-        let mut bytes = [0xee; 16];
-        assert!(rt; fill.len() <= 16);
-        generator.fill_bytes(&mut bytes[..fill.len()]);
-        assert!(rt; bytes.starts_with(fill));
-    }
-    generator
-}
-
-// Compares the bytes that fill_bytes writes from the pair (0, 0), and the outputs after them;
-// also after a call on no bytes, which changes nothing.
-fn fills_from_zero<const V: u8>(rt: &impl Abort, bytes: &[&[u8]], outputs: &[u64]) {
-    let generator = Komirand::<V>::new(0, 0);
-    gives(rt, fills(rt, generator, bytes), outputs);
-    let generator = fills(rt, Komirand::<V>::new(0, 0), &[&[]]);
-    gives(rt, fills(rt, generator, bytes), outputs);
-}
-
-#[test]
-fn fill_bytes_discards_unused_bytes(rt: HostRuntime) {
-    let nine = [0xaa, 0xaa, 0xaa, 0xaa, 0xaa, 0xaa, 0xaa, 0xaa, 0xfe];
-    fills_from_zero::<4>(&rt, &[&nine], &[]);
-    fills_from_zero::<4>(&rt, &[&[0xaa, 0xaa, 0xaa], &[0xfe, 0xff, 0xff]], &[]);
-    let eleven = [
-        0x55, 0x55, 0x55, 0x55, 0x55, 0x55, 0x55, 0x55, 0xe6, 0x79, 0x9e,
+    let cases = [
+        (0x1_0000_0000, 0xaaaa_aaab_aaaa_aaab, 0x5555_5555_5555_5556),
+        (u64::MAX, 0xaaaa_aaaa_aaaa_aaa6, 0x5555_5555_5555_5554),
     ];
-    fills_from_zero::<5>(&rt, &[&eleven], &[]);
-    fills_from_zero::<5>(&rt, &[&[0x55, 0x55, 0x55], &[0xe6, 0x79, 0x9e]], &[]);
-    fills_from_zero::<5>(&rt, &[&[0x55, 0x55, 0x55]], &[0x79e7_9e79_e79e_79e6]);
+    for (word, four, five) in cases {
+        same(&rt, v4::Komirand::new(word, word).next(), four, 4);
+        same(&rt, v5::Komirand::new(word, word).next(), five, 5);
+    }
+    let extra = v4::Komirand::init_with_extra_seed(3, 5).next();
+    same(&rt, extra, 0xa0b0_1c26_bba9_307a, 4);
+    let extra = v5::Komirand::init_with_extra_seed(3, 5).next();
+    same(&rt, extra, 0x0d2f_8edd_6aff_b42b, 5);
 }
 
-// Fills 16 bytes at once, and as 8 and 8. A fill of no bytes takes no step.
-fn continues<const V: u8>(rt: &impl Abort, seed: u64) {
-    let mut whole = [0; 16];
-    Komirand::<V>::new(seed, seed).fill_bytes(&mut whole);
-    let parts: [&[u8]; 2] = [&whole[..8], &whole[8..]];
-    fills(rt, Komirand::<V>::new(seed, seed), &parts);
-    let after = fills(rt, Komirand::<V>::new(seed, seed), &[&[], &[]]);
-    gives(rt, after, &[Komirand::<V>::new(seed, seed).next()]);
+#[test]
+fn gives_known_outputs(rt: HostRuntime) {
+    let (four, five) = outputs(0);
+    let wanted = [0xaaaa_aaaa_aaaa_aaaa, 0xffff_ffff_ffff_fffe];
+    same_words(&rt, &four[..2], &wanted, 4);
+    let wanted = [0x5555_5555_5555_5555, 0x79e7_9e79_e79e_79e6];
+    same_words(&rt, &five[..2], &wanted, 5);
+    let (four, five) = outputs(2);
+    same(&rt, four[0], 0x400c_62cc_4727_496b, 4);
+    same(&rt, five[0], 0x1c42_877a_440a_e8ee, 5);
+    let (four, five) = outputs(3);
+    let wanted = [0x2264_0def_aa9a_f646, 0x76f7_6cc6_c889_7b4a];
+    same_words(&rt, &four[..2], &wanted, 4);
+    let wanted = [0xb1b3_fa0c_e9e8_fc12, 0x873b_3a41_c1b9_ada4];
+    same_words(&rt, &five[..2], &wanted, 5);
+    let wanted = [0x90ad_e4d9_d482_8c88, 0x4887_cba6_4ef5_5ec4];
+    same_words(&rt, &five[2..4], &wanted, 5);
 }
 
+// Makes fills of these sizes from a pair of equal words in each version. Compares all their bytes,
+// and the next output.
+fn fills(rt: &impl Abort, word: u64, sizes: &[usize], bytes: [&[u8]; 2], next: [u64; 2]) {
+    let mut four = v4::Komirand::new(word, word);
+    let mut five = v5::Komirand::new(word, word);
+    let mut given = ([0xee; 16], [0xee; 16]);
+    let mut end = 0;
+    for size in sizes {
+        assert!(rt; end <= 16 && *size <= 16 - end);
+        four.fill_bytes(&mut given.0[end..end + size]);
+        five.fill_bytes(&mut given.1[end..end + size]);
+        end += size;
+    }
+    assert!(rt; end <= 16);
+    same_bytes(rt, &given.0[..end], bytes[0], end);
+    same_bytes(rt, &given.1[..end], bytes[1], end);
+    same_words(rt, &[four.next(), five.next()], &next, end);
+}
+
+// Fills from the pair (0, 0), and the same after a fill of no bytes, which changes nothing. The next
+// output takes up none of the bytes that a fill has left.
+#[test]
+fn fill_bytes_drops_unused_bytes(rt: HostRuntime) {
+    let second = [0xffff_ffff_ffff_fffe, 0x79e7_9e79_e79e_79e6];
+    let third = [0x4924_9249_2492_4910, 0xaf5b_2bd6_caf5_b2bc];
+    let four = [0xaa, 0xaa, 0xaa, 0xfe, 0xff, 0xff];
+    let five = [0x55, 0x55, 0x55, 0xe6, 0x79, 0x9e];
+    fills(&rt, 0, &[3], [&four[..3], &five[..3]], second);
+    fills(&rt, 0, &[0, 3], [&four[..3], &five[..3]], second);
+    fills(&rt, 0, &[3, 3], [&four, &five], third);
+    fills(&rt, 0, &[0, 3, 3], [&four, &five], third);
+    let mut four = [0xaa; 11];
+    four[8..].copy_from_slice(&[0xfe, 0xff, 0xff]);
+    let mut five = [0x55; 11];
+    five[8..].copy_from_slice(&[0xe6, 0x79, 0x9e]);
+    fills(&rt, 0, &[9], [&four[..9], &five[..9]], third);
+    fills(&rt, 0, &[0, 9], [&four[..9], &five[..9]], third);
+    fills(&rt, 0, &[11], [&four, &five], third);
+    fills(&rt, 0, &[0, 11], [&four, &five], third);
+}
+
+// One fill of 16 bytes is two of 8, from a second generator of the same pair.
 #[test]
 fn continues_after_fill_bytes(rt: HostRuntime) {
-    continues::<4>(&rt, 0);
-    continues::<5>(&rt, 42);
-}
-
-// Returns one of four generators.
-fn kind<const V: u8>(number: usize) -> Komirand<V> {
-    match number {
-        0 => Komirand::new(0, 0),
-        1 => Komirand::new(42, 42),
-        2 => Komirand::init(0),
-        _ => Komirand::init(0x1234_5678_90ab_cdef),
+    for (word, number) in [(0, 0), (42, 1)] {
+        let (mut four, mut five) = generators(number);
+        let mut whole = ([0; 16], [0; 16]);
+        four.fill_bytes(&mut whole.0);
+        five.fill_bytes(&mut whole.1);
+        let next = [four.next(), five.next()];
+        fills(&rt, word, &[8, 8], [&whole.0, &whole.1], next);
     }
+    let mut four = v4::Komirand::new(0, 0);
+    four.fill_bytes(&mut []);
+    four.fill_bytes(&mut []);
+    same(&rt, four.next(), 0xaaaa_aaaa_aaaa_aaaa, 4);
+    let mut five = v5::Komirand::new(42, 42);
+    five.fill_bytes(&mut []);
+    same(&rt, five.next(), v5::Komirand::new(42, 42).next(), 5);
 }
 
-// Compares fill_bytes of every length up to 95 with the bytes of the outputs, and the next output
-// with the first that the call did not use.
-fn fills_as_next<const V: u8>(rt: &impl Abort) {
-    for number in 0..4usize {
-        let mut outputs = kind::<V>(number);
-        let mut words = [0; 13];
-        let mut bytes = [0; 104];
-        for i in 0..13usize {
-            words[i] = outputs.next();
-            bytes[8 * i..8 * i + 8].copy_from_slice(&words[i].to_le_bytes());
-        }
-        for n in 0..96usize {
-            let mut generator = kind::<V>(number);
-            let mut given = [0xee; 96];
-            generator.fill_bytes(&mut given[..n]);
-            same_bytes(rt, &given[..n], &bytes[..n], n);
-            same(rt, generator.next(), words[(n + 7) / 8], n);
-        }
+// Compares bytes with those of outputs, and the next output with the first that no byte is from.
+fn filled_from(rt: &impl Abort, bytes: &[u8], next: u64, outputs: &[u64; 13]) {
+    let n = bytes.len();
+    assert!(rt; n < 96);
+    for i in 0..n {
+        let byte = outputs[i / 8] >> (8 * (i % 8)) & 0xff;
+        same(rt, u64::from(bytes[i]), byte, n);
     }
+    same(rt, next, outputs[(n + 7) / 8], n);
 }
 
+// Fills of every length up to 95. The last of the outputs are from the Rust crate.
 #[test]
 fn fills_every_length(rt: HostRuntime) {
-    fills_as_next::<4>(&rt);
-    fills_as_next::<5>(&rt);
+    let last = [
+        [0xc098_c63d_dece_b945, 0x1bf6_3987_675b_472f],
+        [0x6fb6_9a99_0fc7_2d29, 0x1533_201f_bb9a_7d94],
+        [0x0930_4b56_5053_b58f, 0xa307_c12f_8a24_9bfd],
+        [0x67a9_ad18_e63a_4364, 0xb43e_eae3_6e59_939e],
+    ];
+    for number in 0..4usize {
+        let (of_four, of_five) = outputs(number);
+        same_words(&rt, &[of_four[12], of_five[12]], &last[number], 12);
+        for n in 0..96usize {
+            let (mut four, mut five) = generators(number);
+            let mut bytes = [0xee; 96];
+            four.fill_bytes(&mut bytes[..n]);
+            filled_from(&rt, &bytes[..n], four.next(), &of_four);
+            five.fill_bytes(&mut bytes[..n]);
+            filled_from(&rt, &bytes[..n], five.next(), &of_five);
+        }
+    }
 }
