@@ -115,18 +115,13 @@ pub(crate) fn at_cuts(message: &[u8; 95]) -> [Call<'_>; 9]
     ]
 }
 
-/// What a buffer of nine 9s holds after `at_cuts` on `block_message` in version 5 with seed 0: the
-/// five answers, and four 9s.
-pub(crate) const CUT_ANSWERS: [u64; 9] = [
+/// The answers to `at_cuts` on `block_message` in version 5 with seed 0.
+pub(crate) const CUT_ANSWERS: [u64; 5] = [
     0xb768_3ea7_4301_32b4,
     0xfd45_482d_180d_0441,
     0x2a2f_07ac_9381_0128,
     0x2a2f_07ac_9381_0128,
     6,
-    9,
-    9,
-    9,
-    9,
 ];
 
 /// Returns an Absorb of each byte of a message, and one Answer at the end.

