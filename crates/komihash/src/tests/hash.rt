@@ -1,10 +1,8 @@
 //! The hash of known messages in both versions: worked out by hand, and from the Rust crate.
 
-use super::assertions::same;
+use super::assertions::{add, same, same_words};
 use super::known::{HIGH_END, LONGEST, SIX, ZERO, block_message, pattern};
-use crate::hash::hash_message;
 use crate::{v4, v5};
-use std::process::Abort;
 
 // Seeds, of which the last four change if their bits or bytes are rotated or reversed.
 const RUST_CRATE_SEEDS: [u64; 6] = [
@@ -137,11 +135,15 @@ const RUST_CRATE: [(usize, usize, u64, u64); 116] = [
     (5, 300, 0xe111_0bdb_6699_e365, 0xc640_7df9_7852_8987),
 ];
 
+/// Returns the hash of a message in each version.
+pub(crate) fn hashes(message: &[u8], seed: u64) -> [u64; 2] {
+    [v4::komihash(message, seed), v5::komihash(message, seed)]
+}
+
 #[test]
 fn hashes_known_messages(rt: HostRuntime) {
     same(&rt, v5::komihash(&[0xdc], 0), 0xfd45_482d_180d_0441, 1);
-    same(&rt, v4::komihash(&HIGH_END, 0), 7, 31);
-    same(&rt, v5::komihash(&HIGH_END, 0), 0x8000_0000_0000_0000, 31);
+    same_words(&rt, &hashes(&HIGH_END, 0), &[7, 0x8000_0000_0000_0000], 31);
     let block = 0x2a2f_07ac_9381_0128;
     let four: &[u8; 95] = &block_message(4);
     same(&rt, v4::komihash(&four[..64], 0), block, 64);
@@ -153,33 +155,23 @@ fn hashes_known_messages(rt: HostRuntime) {
 
 #[test]
 fn hashes_alike_in_both_versions(rt: HostRuntime) {
-    let none: [u8; 0] = [];
-    let cases: [(&[u8], u64, u64); 5] = [
-        (&none, 0, 0xb768_3ea7_4301_32b4),
-        (&none, u64::MAX, 0x4bcc_041f_3f88_5859),
-        (b"a", 0, 0x5117_f506_4cfd_0faa),
-        (&ZERO, 0, 0),
-        (&SIX, 0, 6),
-    ];
-    for (message, seed, hash) in cases {
-        same(&rt, v4::komihash(message, seed), hash, message.len());
-        same(&rt, v5::komihash(message, seed), hash, message.len());
-    }
-}
-
-// Hashes each proper prefix of at least `from` bytes. Each hash is 0.
-fn stays_at_zero<const V: u8>(rt: &impl Abort, message: &[u8], from: usize) {
-    for n in from..message.len() {
-        same(rt, hash_message::<V>(&message[..n], 0), 0, n);
-    }
+    same_words(&rt, &hashes(&[], 0), &[0xb768_3ea7_4301_32b4; 2], 0);
+    same_words(&rt, &hashes(&[], u64::MAX), &[0x4bcc_041f_3f88_5859; 2], 0);
+    same_words(&rt, &hashes(b"a", 0), &[0x5117_f506_4cfd_0faa; 2], 1);
+    same_words(&rt, &hashes(&ZERO, 0), &[0; 2], 16);
+    same_words(&rt, &hashes(&SIX, 0), &[6; 2], 31);
 }
 
 #[test]
 fn stays_at_zero_until_the_last_byte(rt: HostRuntime) {
-    stays_at_zero::<4>(&rt, &SIX, 16);
-    stays_at_zero::<5>(&rt, &SIX, 16);
-    stays_at_zero::<4>(&rt, &block_message(4), 80);
-    stays_at_zero::<5>(&rt, &block_message(5), 80);
+    for n in 16..31usize {
+        same_words(&rt, &hashes(&SIX[..n], 0), &[0, 0], n);
+    }
+    let (four, five) = (block_message(4), block_message(5));
+    for n in 80..95usize {
+        same(&rt, v4::komihash(&four[..n], 0), 0, n);
+        same(&rt, v5::komihash(&five[..n], 0), 0, n);
+    }
 }
 
 #[test]
@@ -199,8 +191,21 @@ fn hashes_as_the_rust_crate_does(rt: HostRuntime) {
     for &(index, n, four, five) in &RUST_CRATE {
         assert!(rt; index < 6 && n <= LONGEST);
         let seed = RUST_CRATE_SEEDS[index];
-        let prefix = &message[..n];
-        same(&rt, v4::komihash(prefix, seed), four, n);
-        same(&rt, v5::komihash(prefix, seed), five, n);
+        same_words(&rt, &hashes(&message[..n], seed), &[four, five], n);
+    }
+}
+
+// Tests of streams compare with these hashes.
+#[test]
+fn hashes_every_length_as_the_rust_crate_does(rt: HostRuntime) {
+    let message = pattern();
+    let zero = [0xc761_e2fb_2ab7_2cce, 0x209a_11db_4b56_10a5];
+    let greatest = [0x36a1_5401_f459_b836, 0x2b42_7819_8267_30bd];
+    for (seed, wanted) in [(0, zero), (u64::MAX, greatest)] {
+        let mut sums = [0; 2];
+        for n in 0..=LONGEST {
+            add(&mut sums, hashes(&message[..n], seed));
+        }
+        same_words(&rt, &sums, &wanted, 0);
     }
 }

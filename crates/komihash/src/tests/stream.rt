@@ -1,189 +1,201 @@
-//! Streams against the one-shot hash: writes of all sizes, and answers between them.
+//! Streams of both versions in pieces of many sizes: `finish` against `komihash` of all bytes.
+//!
+//! `hash.rt` compares most of these hashes with the Rust crate; the other numbers here are its too.
 
 ghost use Rattle.std.specs.Prelude.{◌≢◌};
 
-use super::assertions::same;
-use super::known::{LONGEST, ZERO, pattern};
-use crate::hash::hash_message;
-use crate::stream::streamed::StreamedKomihash;
-use crate::stream::{Call, KomiStream};
-use crate::tally::Tally;
+use super::assertions::{add, same, same_words};
+use super::hash::hashes;
+use super::known::{HIGH_END, LONGEST, SIX, block_message, pattern};
 use crate::{v4, v5};
-use std::alloc::AllocError;
 use std::process::Abort;
 
-const SEEDS: [u64; 2] = [0, u64::MAX];
+/// A stream of each version. Both get the same calls.
+#[derive(Drop)]
+pub(crate) struct Streams {
+    pub(crate) four: v4::StreamedKomihash,
+    pub(crate) five: v5::StreamedKomihash,
+}
 
-/// Returns the one-shot hash of a message.
-pub(crate) fn hash<S: KomiStream>(message: &[u8], seed: u64) -> u64 {
-    if S::VERSION == 4 {
-        v4::komihash(message, seed)
-    } else {
-        v5::komihash(message, seed)
+impl Streams {
+    pub(crate) fn new() -> Self {
+        Streams {
+            four: v4::StreamedKomihash::new(),
+            five: v5::StreamedKomihash::new(),
+        }
+    }
+
+    pub(crate) fn new_with_seed(seed: u64) -> Self {
+        Streams {
+            four: v4::StreamedKomihash::new_with_seed(seed),
+            five: v5::StreamedKomihash::new_with_seed(seed),
+        }
+    }
+
+    pub(crate) fn write(&mut self, bytes: &[u8]) {
+        self.four.write(bytes);
+        self.five.write(bytes);
+    }
+
+    pub(crate) fn finish(&self) -> [u64; 2] {
+        [self.four.finish(), self.five.finish()]
+    }
+
+    // Compares what `finish` returns with the hash of a message.
+    fn finishes(&self, rt: &impl Abort, message: &[u8], seed: u64) {
+        same_words(rt, &self.finish(), &hashes(message, seed), message.len());
+    }
+
+    // Compares what `finish` returns with a hash of version 4 and one of version 5.
+    fn gives(&self, rt: &impl Abort, four: u64, five: u64) {
+        same(rt, self.four.finish(), four, 4);
+        same(rt, self.five.finish(), five, 5);
     }
 }
 
-/// Compares a stream's answer with the hash of a message.
-pub(crate) fn answers<S: KomiStream>(rt: &impl Abort, stream: &S, message: &[u8], seed: u64) {
-    let answer = stream.answer(&mut Tally::new());
-    same(rt, answer, hash::<S>(message, seed), message.len());
-}
-
-/// Compares what `finish` returns with the hash of a message.
-pub(crate) fn finishes<const V: u8>(
-    rt: &impl Abort,
-    stream: &StreamedKomihash<V>,
-    message: &[u8],
-    seed: u64,
-) {
-    let hash = hash_message::<V>(message, seed);
-    same(rt, stream.finish(), hash, message.len());
-}
-
-// Absorbs a message in pieces of one size.
-fn agrees_in_pieces_of<S: KomiStream>(rt: &impl Abort, message: &[u8], size: usize, seed: u64)
+// Writes a message in pieces of one size.
+fn writes_pieces(rt: &impl Abort, message: &[u8], size: usize, seed: u64)
     requires { size ≢ 0 }
 {
-    let mut tally = Tally::new();
-    let mut stream = S::start(seed, &mut tally);
+    let mut streams = Streams::new_with_seed(seed);
     for piece in message.chunks(size) {
-        stream.absorb(piece, &mut tally);
+        streams.write(piece);
     }
-    answers(rt, &stream, message, seed);
+    streams.finishes(rt, message, seed);
 }
 
-// Absorbs every prefix of the pattern of up to 200 bytes, in pieces of every size up to `greatest`.
-fn agrees_in_pieces<S: KomiStream>(rt: &impl Abort, greatest: usize) {
+#[test]
+fn finishes_alike_after_pieces_of_every_size(rt: HostRuntime) {
     let message = pattern();
     for n in 0..=200usize {
-        for seed in SEEDS {
-            for size in 1..=greatest {
-                agrees_in_pieces_of::<S>(rt, &message[..n], size, seed);
-            }
+        for size in 1..=126usize {
+            writes_pieces(&rt, &message[..n], size, 0);
+            writes_pieces(&rt, &message[..n], size, u64::MAX);
         }
     }
 }
 
 #[test]
-fn answers_alike_however_a_message_is_cut(rt: HostRuntime) {
-    agrees_in_pieces::<v4::StreamedKomihash>(&rt, 126);
-    agrees_in_pieces::<v5::StreamedKomihash>(&rt, 62);
-}
-
-// Absorbs a message in two pieces.
-fn agrees_in_two<S: KomiStream>(rt: &impl Abort, first: &[u8], second: &[u8], whole: &[u8]) {
-    let mut tally = Tally::new();
-    let mut stream = S::start(0, &mut tally);
-    stream.absorb(first, &mut tally);
-    stream.absorb(second, &mut tally);
-    answers(rt, &stream, whole, 0);
-}
-
-// Absorbs zeros at once after every number of pending bytes.
-fn agrees_after_pending_bytes<S: KomiStream>(rt: &impl Abort) {
-    let pending = pattern();
-    for fill in 0..64usize {
-        let mut message = [0; 193];
-        message[..fill].copy_from_slice(&pending[..fill]);
-        for end in fill..=fill + 130 {
-            agrees_in_two::<S>(rt, &message[..fill], &message[fill..end], &message[..end]);
+fn finishes_alike_after_one_write(rt: HostRuntime) {
+    let message = pattern();
+    for n in 0..=LONGEST {
+        for seed in [0, u64::MAX] {
+            let mut streams = Streams::new_with_seed(seed);
+            streams.write(&message[..n]);
+            streams.finishes(&rt, &message[..n], seed);
         }
     }
 }
 
+// Writes zeros at once after every number of pending bytes.
 #[test]
 fn completes_a_partial_block(rt: HostRuntime) {
-    agrees_after_pending_bytes::<v4::StreamedKomihash>(&rt);
-    agrees_after_pending_bytes::<v5::StreamedKomihash>(&rt);
-}
-
-/// Writes pieces that end at these indices, and calls `finish` twice after each.
-pub(crate) fn agrees_between<const V: u8>(
-    rt: &impl Abort,
-    message: &[u8],
-    ends: &[usize],
-    seed: u64,
-) {
-    let mut stream = StreamedKomihash::<V>::new_with_seed(seed);
-    let mut from = 0;
-    for end in ends {
-        assert!(rt; from <= *end && *end <= message.len());
-        stream.write(&message[from..*end]);
-        from = *end;
-        finishes(rt, &stream, &message[..from], seed);
-        finishes(rt, &stream, &message[..from], seed);
+    let mut sums = [0; 2];
+    for fill in 0..64usize {
+        let mut message = [0; 193];
+        message[..fill].copy_from_slice(&pattern()[..fill]);
+        for end in fill..=fill + 130 {
+            let mut streams = Streams::new();
+            streams.write(&message[..fill]);
+            streams.write(&message[fill..end]);
+            streams.finishes(&rt, &message[..end], 0);
+            add(&mut sums, streams.finish());
+        }
     }
+    let wanted = [0xcf1e_c428_eada_9c28, 0x9a29_c80f_c1e5_f583];
+    same_words(&rt, &sums, &wanted, 0);
 }
 
-// Writes up to one byte before a block's end, to the end, and past it; and pieces of 13 bytes.
-fn continues<const V: u8>(rt: &impl Abort) {
+// Old bytes of the buffer don't show in the next block.
+#[test]
+fn continues_after_finish(rt: HostRuntime) {
     let mut message = [0xff; 65];
     message[64] = 0;
-    agrees_between::<V>(rt, &message, &[64, 65], 0);
+    let mut streams = Streams::new();
+    streams.write(&message[..64]);
+    streams.finishes(&rt, &message[..64], 0);
+    streams.gives(&rt, 0x3cdf_2245_3ba2_66d3, 0xe63d_3744_e743_bf0b);
+    streams.write(&message[64..]);
+    streams.finishes(&rt, &message, 0);
+    streams.gives(&rt, 0x0385_1a85_0fc1_8735, 0x0385_1a85_0fc1_8735);
+
     let mut message = [0xaa; 65];
     message[63] = 0xbb;
     message[64] = 0xcc;
-    agrees_between::<V>(rt, &message, &[63, 64, 65], 0);
-    let mut ends = [0; 15];
-    for i in 0..15usize {
-        ends[i] = 13 * i + 13;
+    let mut streams = Streams::new();
+    for (from, end) in [(0, 63), (63, 64), (64, 65)] {
+        streams.write(&message[from..end]);
+        streams.finishes(&rt, &message[..end], 0);
     }
-    agrees_between::<V>(rt, &pattern(), &ends, 0);
-    agrees_between::<V>(rt, &pattern(), &ends, u64::MAX);
-}
-
-#[test]
-fn continues_after_finish(rt: HostRuntime) {
-    continues::<4>(&rt);
-    continues::<5>(&rt);
-}
-
-#[test]
-fn clones_a_call(rt: HostRuntime) {
-    let call = Call::Absorb(&ZERO);
-    let again: Result<Call, AllocError> = call.clone();
-    assert!(rt; matches!(again, Ok(Call::Absorb(bytes)) if bytes == ZERO.as_slice()));
-    let answer = Call::Answer;
-    let again: Result<Call, AllocError> = answer.clone();
-    assert!(rt; matches!(again, Ok(Call::Answer)));
+    streams.gives(&rt, 0xb7de_9564_d11b_9092, 0xabc1_a243_da38_7f1f);
 }
 
 #[test]
 fn keeps_the_top_bit_of_a_block_in_version_four(rt: HostRuntime) {
-    for last in [0x80, 0x7f] {
+    let low = 0x29cf_df65_37ef_5947;
+    let high = (0x80, 0x7f89_6b04_1966_f49f, 0x9ea1_c5b0_686c_a1ad);
+    for (last, four, five) in [high, (0x7f, low, low)] {
         let mut message = [0; 64];
         message[63] = last;
-        agrees_between::<4>(&rt, &message, &[64], 0);
+        let mut streams = Streams::new();
+        streams.write(&message);
+        streams.finishes(&rt, &message, 0);
+        streams.gives(&rt, four, five);
     }
 }
 
-// Writes every prefix of the pattern at once.
-fn agrees_in_one_write<const V: u8>(rt: &impl Abort) {
-    let message = pattern();
-    for n in 0..=LONGEST {
-        for seed in SEEDS {
-            agrees_between::<V>(rt, &message, &[n], seed);
+// Writes a message cut in two at every index, with an empty write between.
+fn cut_in_two(rt: &impl Abort, message: &[u8], four: u64, five: u64) {
+    for cut in 0..=message.len() {
+        let mut streams = Streams::new();
+        streams.write(&message[..cut]);
+        streams.finishes(rt, &message[..cut], 0);
+        streams.write(&[]);
+        streams.finishes(rt, &message[..cut], 0);
+        streams.write(&message[cut..]);
+        streams.finishes(rt, message, 0);
+        streams.gives(rt, four, five);
+    }
+}
+
+// Writes a message byte by byte, and calls `finish` twice after each. In each version, the hash is
+// 0 from a number of bytes on, until the last byte.
+fn byte_by_byte(rt: &impl Abort, message: &[u8], last: [u64; 2], zero_from: [usize; 2]) {
+    let mut streams = Streams::new();
+    for n in 1..=message.len() {
+        streams.write(&message[n - 1..n]);
+        let first = streams.finish();
+        same_words(rt, &first, &hashes(&message[..n], 0), n);
+        same_words(rt, &streams.finish(), &first, n);
+        for i in 0..2usize {
+            assert!(rt; n < zero_from[i] || n == message.len() || first[i] == 0);
         }
     }
+    same_words(rt, &streams.finish(), &last, message.len());
 }
 
 #[test]
-fn finishes_with_the_one_shot_hash(rt: HostRuntime) {
-    agrees_in_one_write::<4>(&rt);
-    agrees_in_one_write::<5>(&rt);
-}
-
-// Makes a new stream by each of `new`, `new_with_seed` and `default`.
-fn starts_empty<const V: u8>(rt: &impl Abort) {
-    let empty = 0xb768_3ea7_4301_32b4;
-    same(rt, StreamedKomihash::<V>::new().finish(), empty, 0);
-    let seeded = StreamedKomihash::<V>::new_with_seed(0);
-    same(rt, seeded.finish(), empty, 1);
-    same(rt, StreamedKomihash::<V>::default().finish(), empty, 2);
+fn finishes_alike_however_known_messages_are_cut(rt: HostRuntime) {
+    cut_in_two(&rt, &HIGH_END, 7, 0x8000_0000_0000_0000);
+    byte_by_byte(&rt, &HIGH_END, [7, 0x8000_0000_0000_0000], [31, 31]);
+    cut_in_two(&rt, &SIX, 6, 6);
+    byte_by_byte(&rt, &SIX, [6, 6], [16, 16]);
+    let (four, five) = (block_message(4), block_message(5));
+    cut_in_two(&rt, &four, 6, 0x2073_08aa_ff8b_afbd);
+    byte_by_byte(&rt, &four, [6, 0x2073_08aa_ff8b_afbd], [80, 95]);
+    cut_in_two(&rt, &five, 0x3d7d_a009_d026_8f13, 6);
+    byte_by_byte(&rt, &five, [0x3d7d_a009_d026_8f13, 6], [95, 80]);
 }
 
 #[test]
-fn starts_with_seed_zero(rt: HostRuntime) {
-    starts_empty::<4>(&rt);
-    starts_empty::<5>(&rt);
+fn a_thousand_empty_writes_change_nothing(rt: HostRuntime) {
+    let message: &[u8; 95] = &block_message(5);
+    let (mut empty, mut block) = (Streams::new(), Streams::new());
+    block.write(&message[..64]);
+    for _ in 0..1000usize {
+        empty.write(&[]);
+        block.write(&[]);
+    }
+    empty.gives(&rt, 0xb768_3ea7_4301_32b4, 0xb768_3ea7_4301_32b4);
+    block.gives(&rt, 0x960d_596d_aa68_e0ca, 0x2a2f_07ac_9381_0128);
 }
