@@ -14,3 +14,4 @@ mod runs;
 mod saved;
 mod stream;
 mod tally;
+mod values;
