@@ -5,6 +5,7 @@
                first line, is a whole file of the crate `uses`, which is proved and tested
   definitions  docs/DEFINITIONS.md names every public definition of specs/
   names        each name with `_` or `-` in docs/DEFINITIONS.md stands in specs/, proofs/ or src/
+  values       the table of values in docs/DEFINITIONS.md is that of tests/values.rt
   files_named  each file that a document names is there
 
 Each edit of planted/documents/RULE/ is found by that rule alone. The last line is 'N passed, M failed'.
@@ -18,6 +19,7 @@ from sources import SCRIPTS, texts_of
 
 FILES = ("*.md", "docs/*.md", "scripts/**/*", "crates/*/[smp]*/**/*", "c/**/*")
 DEFINITIONS = "docs/DEFINITIONS.md"
+VALUES = "crates/komihash/src/tests/values.rt"
 
 # Definitions that no rule of the hash needs: those of the tally's seal, and those that follow the code.
 PRIVATE = {f"crates/komihash/specs/{name}.antt" for name in ("Sealed", "Tallies", "Tails", "Halves", "Pending")}
@@ -29,10 +31,22 @@ CODE = re.compile(r"^```(?:(?:rust|antt)\n|\w*\n(?=//!))(.*?)^```", re.DOTALL | 
 NAMED_FILE = re.compile(r"[\w./*{},-]+\.(?:rt|antt|md|sh|py|edit|h|c)")
 PUBLIC = re.compile(r"^(?:(?:abbrev|unfoldable) )?pub (?:record )?([\w-]+)", re.MULTILINE)
 
+# A row of values: on the page, and in the tests, where two of these values end it.
+ROW = re.compile(r"^\| (.+) \| (none|[\da-f]+) \| (none|[\da-f]+) \|$", re.MULTILINE)
+TESTED_ROW = re.compile(r'"([^"{}]+)",(.*?)\),\n(?=\s*(?:\(|\)?\]))', re.DOTALL)
+TESTED_VALUE = re.compile(r"None|0x\w+|\[[^][]*\]")
+
 
 def code_spans(text):
     """What stands between single backticks, outside of blocks."""
     return re.findall(r"`([^`\n]+)`", re.sub(r"```.*?```", "", text, flags=re.DOTALL))
+
+
+def tested_rows(text):
+    """The rows of values in a file of tests, each as the page shows it."""
+    for words, row in TESTED_ROW.findall(text):
+        values = TESTED_VALUE.findall(row)[-2:]
+        yield (words, *("none" if value == "None" else re.sub(r"0x|[^\da-f]", "", value) for value in values))
 
 
 class Documents:
@@ -67,6 +81,10 @@ class Documents:
             if re.fullmatch(r"[A-Za-z]+(?:[_-]\w+)+", span) and span not in known:
                 yield f"{DEFINITIONS}: {span} stands in no source"
 
+    def values(self):
+        for row in sorted({*ROW.findall(self.files[DEFINITIONS])} ^ {*tested_rows(self.files[VALUES])}):
+            yield f"{DEFINITIONS} or {VALUES} lacks the row {' | '.join(row)}"
+
     def files_named(self):
         for document, text in self.texts(r"(?:docs/)?[A-Z]+\.md").items():
             for span in code_spans(text):
@@ -82,7 +100,7 @@ class Documents:
         return name in NOT_COMMITTED or bool(self.texts(pattern))
 
 
-RULES = (Documents.callers, Documents.definitions, Documents.names, Documents.files_named)
+RULES = (Documents.callers, Documents.definitions, Documents.names, Documents.values, Documents.files_named)
 
 
 def findings(files):
