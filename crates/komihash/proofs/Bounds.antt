@@ -1,7 +1,6 @@
--- Bounds of hashes, and the numbers of a hasher after more writes.
-use Rattle.std.proofs.Common.{◌≡◌, ℕ, ◌^◌, ◌<◌, Bool, true, List, [], ◌∷◌, ◌++◌, refl, arith}
+-- Bounds of hashes.
+use Rattle.std.proofs.Common.{ℕ, ◌^◌, ◌<◌, Bool, true, List, [], ◌∷◌, arith}
 use Rattle.komihash.specs.Hash.{hash_from_pair, hash_from_lanes, komi}
-use Rattle.komihash.specs.Hasher.{number_after}
 use Rattle.komihash.specs.Padding.{padded_words}
 use Rattle.komihash.specs.Rounds.{Lanes, seed_pair, lanes, mix}
 use Rattle.komihash.specs.Rounds.{block_round, join, pair_round, closing}
@@ -27,8 +26,3 @@ hash_from_lanes-lt v s absorbed ws = hash_from_pair-lt (join absorbed s) ws
 pub komi-lt : (v seed : ℕ) (m : List ℕ) → komi v seed m < 2 ^ 64
 unfolding komi
 komi-lt v seed m = hash_from_lanes-lt v (lanes (seed_pair seed)) _ (padded_words v m)
-
-pub number_after-append : (v s : ℕ) (xs ys : List (List ℕ))
-    → number_after v s (xs ++ ys) ≡ number_after v (number_after v s xs) ys
-number_after-append v s [] ys = refl
-number_after-append v s (m ∷ xs) ys = number_after-append v (komi v s m) xs ys

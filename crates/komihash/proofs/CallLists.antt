@@ -30,6 +30,14 @@ pending-absorb v s bytes few =
       | inr le ↦ rw (absorb-blocks v s bytes few le) (omega arith)
     ]
 
+-- how many bytes are pending after a message
+pub HasAbsorbed-pending : (v seed : ℕ) (s : State) (m : List ℕ) → HasAbsorbed v seed s m
+    → length s.pending ≡ length m % 64
+unfolding HasAbsorbed
+HasAbsorbed-pending v seed s m is =
+    let pending = pending-absorb v (start seed) m (omega arith) in
+    rw is (omega arith)
+
 -- the later calls have the answers of g, if f agrees with g on all that may come after the first
 answers_after-then : (f g : List ℕ → ℕ) (m n : List ℕ) (xs ys : List Call)
     → ((x : List ℕ) → f (m ++ (bytes_of_calls xs ++ x)) ≡ g (n ++ x))

@@ -12,7 +12,7 @@ ghost use Rattle.komihash.specs.Generator.{next, after_steps, outputs, fill, aft
 ghost use Rattle.komihash.specs.Hash.{komi};
 ghost use Rattle.komihash.specs.Rounds.{seed_words, constant};
 ghost use Rattle.komihash.specs.Saved.{text, IsTextAfter};
-ghost use Rattle.komihash.specs.Stream.{State, IsState, start, absorb, answer};
+ghost use Rattle.komihash.specs.Stream.{State, IsState, HasAbsorbed, start, absorb, answer};
 ghost use Rattle.komihash.specs.Padding.{padded_words};
 ghost use Rattle.komihash.specs.Words.{AreBytes};
 ghost use Rattle.komihash.specs.declared.stream.Call.{Call};
@@ -56,6 +56,13 @@ pub fn empty_write()
 pub fn cost_of_pieces()
     ensures { (pieces : List Call) → AreAbsorbs pieces →
         run_products (pieces ++ Answer ∷ []) ≡ hash_products (length (bytes_of_calls pieces)) }
+{}
+
+/// Proves that a stream that has absorbed n bytes has n modulo 64 of them pending. What its calls
+/// cost depends on this number alone, so a loop of writes has a cost that its caller can state.
+pub fn pending_remainder()
+    ensures { (v seed : ℕ) (s : State) (m : List ℕ) → HasAbsorbed v seed s m →
+        length s.pending ≡ length m % 64 }
 {}
 
 /// Proves that a fill of x bytes and then one of y bytes write what one fill of x + y bytes writes,
