@@ -1,7 +1,7 @@
 use Rattle.std.proofs.Common.{◌≡◌, take}
 use Rattle.std.specs.Prelude.{map}
 use Rattle.komihash.specs.Hasher.{number_after}
-use Rattle.komisum.proofs.tests.keys.hash_of_fields.Given as goal
+use Rattle.uses.proofs.keys.hash_of_fields.Given as goal
 
 -- the hasher has taken the fields so far
 abbrev pub invariant-loop-field : goal.invariant-loop-field

@@ -1,6 +1,6 @@
 use Rattle.std.proofs.Common.{◌≡◌, take}
 use Rattle.komihash.specs.Generator.{after_steps, outputs}
-use Rattle.komisum.proofs.tests.samples.draw.Given as goal
+use Rattle.uses.proofs.samples.draw.Given as goal
 
 -- the numbers so far are outputs, and the generator has taken as many steps
 abbrev pub invariant-loop-number : goal.invariant-loop-number

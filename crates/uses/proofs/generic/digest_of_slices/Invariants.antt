@@ -1,7 +1,7 @@
 use Rattle.std.proofs.Common.{take}
 use Rattle.std.specs.List.{flat_map}
 use Rattle.komihash.specs.Stream.{HasAbsorbed}
-use Rattle.komisum.proofs.tests.generic.digest_of_slices.Given as goal
+use Rattle.uses.proofs.generic.digest_of_slices.Given as goal
 
 -- the stream has absorbed the slices so far
 abbrev pub invariant-loop-slice : goal.invariant-loop-slice

@@ -1,67 +1,42 @@
-//! Tests of the callers in the files beside this one, and callers of more laws.
+//! Calls of the callers. The hashes are those that the Rust crate `komihash` 0.5.0 gives.
 
-ghost use Rattle.std.specs.Prelude.{◌≡◌, ◌<◌, ◌≤◌, ◌+◌, ◌^◌, ℕ, List, ◌++◌, length};
-ghost use Rattle.komihash.specs.Generator.{after_steps, fill, outputs};
-ghost use Rattle.komihash.specs.Hash.{komi};
-ghost use Rattle.komihash.specs.Saved.{IsTextAfter};
-
-use super::checkpoints::upload;
-use super::generic::digest_of_slices;
-use super::keys::{
+use crate::bounds::bounds;
+use crate::checkpoints::upload;
+use crate::generic::digest_of_slices;
+use crate::keys::{
     hash_of_fields, hash_of_key, hash_of_name, hash_of_number, key_read_back, may_be_equal,
 };
-use super::lists::hash_of_numbers;
-use super::messages::{HASH_OF_16, HASH_OF_31, HASH_OF_31_IN_FOUR, HASH_OF_95, message};
-use super::numbers::parent;
-use super::pieces::digest_of_pieces;
-use super::samples::draw;
-use super::shards::{shard_of, shard_of_fields};
+use crate::lists::hash_of_numbers;
+use crate::numbers::parent;
+use crate::pieces::digest_of_pieces;
+use crate::samples::{draw_in_two, sample, sample_in_two};
+use crate::shards::{shard_of, shard_of_fields};
 use komihash::stream::LONGEST_TEXT;
 use komihash::tally::Tally;
-use komihash::{Komirand, komihash, laws, v4, v5};
+use komihash::{Komirand, komihash, v4, v5};
 
-// Writes a sample of bytes.
-fn sample(seed: u64, out: &mut [u8])
-    ensures { out.new ≡ fill 5 (after_steps 5 4 (seed, seed)) (length out.old) }
-{
-    Komirand::init(seed).fill_bytes(out);
+// Returns a message of N bytes: byte i is `(7*i + 3) mod 256`.
+fn message<const N: usize>() -> [u8; N] {
+    let mut bytes = [0; N];
+    let mut next = 3u8;
+    for byte in &mut bytes {
+        *byte = next;
+        next = next.wrapping_add(7);
+    }
+    bytes
 }
 
-// Writes the same sample in two parts, the first of 32 bytes.
-fn sample_in_two(seed: u64, first: &mut [u8; 32], second: &mut [u8])
-    ensures { first.new ++ second.new
-        ≡ fill 5 (after_steps 5 4 (seed, seed)) (32 + length second.old) }
-{
-    laws::fill_cut();
-    let mut generator = Komirand::init(seed);
-    generator.fill_bytes(first);
-    generator.fill_bytes(second);
-}
+// The hash of `message::<16>()`, in both versions.
+const HASH_OF_16: u64 = 0x05d5_39f6_f9c4_1083;
 
-// Draws numbers in two parts.
-fn draw_in_two(generator: &mut Komirand, first: &mut [u64], second: &mut [u64])
-    ensures { first.new ++ second.new
-        ≡ outputs 5 (length first.old + length second.old) generator.old }
-{
-    laws::steps_cut();
-    draw(generator, first);
-    draw(generator, second);
-}
+// The hash of `message::<31>()` in version 4.
+const HASH_OF_31_IN_FOUR: u64 = 0x0f7d_f405_2fe2_26f9;
 
-// Hashes, a hasher's number, a generator's pair and the length of a saved text are bounded.
-fn bounds(hasher: &v4::KomiHasher, generator: &v5::Komirand)
-    ensures hash { (m : List ℕ) → komi 4 hasher.now m < 2 ^ 64 }
-    ensures number { hasher.now < 2 ^ 64 }
-    ensures first { generator.now.0 < 2 ^ 64 }
-    ensures second { generator.now.1 < 2 ^ 64 }
-    ensures text { (seed : ℕ) (m bytes : List ℕ) → IsTextAfter 4 seed m bytes
-        → length bytes ≤ LONGEST_TEXT }
-{
-    laws::hash_bound();
-    laws::hasher_bound(hasher);
-    laws::generator_bound(generator);
-    laws::text_bound();
-}
+// The hash of `message::<31>()` in version 5.
+const HASH_OF_31: u64 = 0xb185_b589_82d5_2180;
+
+// The hash of `message::<95>()` in version 5.
+const HASH_OF_95: u64 = 0x33d5_bc38_d719_9825;
 
 #[test]
 fn callers_answer(rt: HostRuntime) {
