@@ -1,4 +1,4 @@
-//! More calls on keys than CALLING.md shows.
+//! Hashes of keys, and keys as padded words.
 
 ghost use Rattle.std.specs.Prelude.{◌≡◌, ◌≢◌, ◌+◌, ◌*◌, ◌/◌, ◌++◌, ◌≤◌, false};
 ghost use Rattle.std.specs.Prelude.{length, map, take, IsSomeAnd};
@@ -9,13 +9,6 @@ ghost use Rattle.komihash.specs.Hasher.{number_after};
 use komihash::tally::Tally;
 use komihash::{KomiHasher, StreamedKomihash, komihash, laws, v5};
 use std::hash::Hasher;
-
-/// Hashes a number.
-pub fn hash_of_number(number: u64) -> u64
-    ensures { result ≡ komi 5 0 (to_le_bytes w64 number) }
-{
-    komihash(&number.to_le_bytes(), 0)
-}
 
 /// Hashes a name, preceded by its length.
 pub fn hash_of_name(name: &[u8]) -> u64

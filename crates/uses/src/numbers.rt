@@ -1,17 +1,25 @@
 //! Hashes of numbers.
 
-ghost use Rattle.std.specs.Prelude.{◌≡◌, ◌++◌};
-ghost use Rattle.std.specs.Int.{to_le_bytes, w64};
+ghost use Rattle.std.specs.Prelude.{◌≡◌, [], ◌∷◌, ◌++◌, if◌then◌else◌};
+ghost use Rattle.std.specs.Int.{cast_unsigned, to_le_bytes, w64};
 ghost use Rattle.komihash.specs.Hash.{komi};
 
-use komihash::StreamedKomihash;
+use komihash::{StreamedKomihash, komihash};
 
-/// Hashes two hashes, as for the parent of two nodes in a Merkle tree.
-pub fn parent(left: u64, right: u64) -> u64
-    ensures { result ≡ komi 5 0 (to_le_bytes w64 left ++ to_le_bytes w64 right) }
+/// Hashes a number.
+pub fn hash_of_number(number: u64) -> u64
+    ensures { result ≡ komi 5 0 (to_le_bytes w64 number) }
+{
+    komihash(&number.to_le_bytes(), 0)
+}
+
+/// Hashes a signed number and a flag.
+pub fn hash_of_offset(offset: i64, absolute: bool) -> u64
+    ensures { result ≡ komi 5 0 (to_le_bytes w64 (cast_unsigned w64 offset)
+        ++ (if absolute then 1 else 0) ∷ []) }
 {
     let mut stream = StreamedKomihash::new();
-    stream.write(&left.to_le_bytes());
-    stream.write(&right.to_le_bytes());
+    stream.write(&offset.to_le_bytes());
+    stream.write(&[u8::from(absolute)]);
     stream.finish()
 }

@@ -1,19 +1,25 @@
 //! Calls of the callers. The hashes are those that the Rust crate `komihash` 0.5.0 gives.
 
 use crate::bounds::bounds;
-use crate::checkpoints::upload;
+use crate::checkpoints::{upload, upload_in_one};
+use crate::costs::counted_digest;
 use crate::generic::digest_of_slices;
-use crate::keys::{
-    hash_of_fields, hash_of_key, hash_of_name, hash_of_number, key_read_back, may_be_equal,
-};
+use crate::hashed::{hash_of, hash_of_all};
+use crate::keys::{hash_of_fields, hash_of_key, hash_of_name, key_read_back, may_be_equal};
 use crate::lists::hash_of_numbers;
-use crate::numbers::parent;
+use crate::maps::put_and_get;
+use crate::numbers::{hash_of_number, hash_of_offset};
 use crate::pieces::digest_of_pieces;
+use crate::readers::digest_of_reader;
+use crate::records::{Entry, hash_of_entries};
 use crate::samples::{draw_in_two, sample, sample_in_two};
 use crate::shards::{shard_of, shard_of_fields};
+use crate::trees::{parent, root_of_four};
 use komihash::stream::LONGEST_TEXT;
 use komihash::tally::Tally;
 use komihash::{Komirand, komihash, v4, v5};
+use std::alloc::AllocFailed;
+use std::io;
 
 // Returns a message of N bytes: byte i is `(7*i + 3) mod 256`.
 fn message<const N: usize>() -> [u8; N] {
@@ -71,6 +77,16 @@ fn numbers_are_hashed_by_their_bytes(rt: HostRuntime) {
     assert_eq!(rt; hash_of_number(low), komihash(&message::<8>(), 0));
     assert_eq!(rt; parent(low, high), HASH_OF_16);
     assert_eq!(rt; hash_of_numbers(&[low, high]), HASH_OF_16);
+    assert_eq!(rt; hash_of_offset(-2, true), 0x1f92_64a6_7bc0_fd0d);
+    assert_eq!(rt; root_of_four(1, 2, 3, 4), 0xc485_a101_c616_f71c);
+    let entries = [
+        Entry { id: 1, amount: 2 },
+        Entry {
+            id: 0x0403_0201,
+            amount: 0x0c0b_0a09_0807_0605,
+        },
+    ];
+    assert_eq!(rt; hash_of_entries(&entries), 0x0940_5901_ac9e_4402);
     assert_eq!(rt; hash_of_name(&[]), komihash(&[0; 8], 0));
     assert_eq!(rt;
         hash_of_name(&[7]),
@@ -110,7 +126,49 @@ fn goes_on_from_checkpoints(rt: HostRuntime) {
     let mut checkpoint = [0; LONGEST_TEXT];
     for cut in 0..=95usize {
         let (first, next) = message.split_at(cut);
-        let hash = upload(&[first, &[], next], 0, &mut checkpoint);
+        let parts = [first, &[], next];
+        let hash = upload(&parts, 0, &mut checkpoint);
         assert!(rt; hash == Some(HASH_OF_95), "another hash, cut at {cut}");
+        let hash = upload_in_one(&parts, 0, &mut checkpoint);
+        assert!(rt;
+            hash == Some(HASH_OF_95),
+            "another hash in one function, cut at {cut}"
+        );
     }
+}
+
+#[test]
+fn values_are_hashed(rt: HostRuntime) -> Result<(), AllocFailed<(u64, u64)>> {
+    assert_eq!(rt; hash_of(&(7u64, 8u16)), 0x5942_ccfb_962e_fb40);
+    assert_eq!(rt; hash_of_all(&[7u64, 8]), 0xea85_13d6_34bf_39f8);
+    assert_eq!(rt; put_and_get(rt.alloc(), 7, 1, 2)?, Some(2));
+    Ok(())
+}
+
+#[test]
+fn readers_are_hashed_to_their_end(rt: HostRuntime) -> io::Result<()> {
+    let message = message::<95>();
+    for length in 1..=96usize {
+        let hash = digest_of_reader(&mut &message[..], &mut [0; 96][..length])?;
+        assert!(rt;
+            hash == HASH_OF_95,
+            "another hash, read {length} bytes at a time"
+        );
+    }
+    Ok(())
+}
+
+#[test]
+fn costs_are_counted(rt: HostRuntime) {
+    let short = message::<31>();
+    let slices: [&[u8]; 3] = [&short[..1], &[], &short[1..]];
+    let tally = &mut Tally::new();
+    assert_eq!(rt;
+        counted_digest::<v4::StreamedKomihash>(&slices, 0, tally),
+        HASH_OF_31_IN_FOUR
+    );
+    assert_eq!(rt;
+        counted_digest::<v5::StreamedKomihash>(&slices, 0, tally),
+        HASH_OF_31
+    );
 }
