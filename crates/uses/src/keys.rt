@@ -1,6 +1,6 @@
 //! Hashes of keys, and keys as padded words.
 
-ghost use Rattle.std.specs.Prelude.{◌≡◌, ◌≢◌, ◌+◌, ◌*◌, ◌/◌, ◌++◌, ◌≤◌, false};
+ghost use Rattle.std.specs.Prelude.{◌≡◌, ◌≢◌, ◌+◌, ◌*◌, ◌/◌, ◌%◌, ◌++◌, ◌<◌, ◌≤◌, false};
 ghost use Rattle.std.specs.Prelude.{length, map, take, IsSomeAnd};
 ghost use Rattle.std.specs.Int.{to_le_bytes, w64};
 ghost use Rattle.komihash.specs.Hash.{komi};
@@ -35,7 +35,20 @@ pub fn hash_of_key(key: &[u8; 16], tally: &mut Tally) -> u64
     v5::komihash_counted(key, 0, tally)
 }
 
-/// Hashes a list of fields. The hash depends on where each field ends.
+/// Returns the shard of a key of two fields. A hasher's hash, unlike a stream's, depends on where
+/// each field ends.
+pub fn shard_of_fields(first: &[u8], second: &[u8], shards: u64) -> u64
+    requires { 0 < shards }
+    ensures shard { result ≡ komi 5 (komi 5 0 first.now) second.now % shards }
+    ensures within { result < shards }
+{
+    let mut hasher = KomiHasher::default();
+    hasher.write(first);
+    hasher.write(second);
+    hasher.finish() % shards
+}
+
+/// Hashes a list of fields, likewise.
 pub fn hash_of_fields(fields: &[&[u8]]) -> u64
     ensures { result ≡ number_after 5 0 (map (λ field. field.now) fields.now) }
 {

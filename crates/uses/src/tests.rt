@@ -5,7 +5,9 @@ use crate::checkpoints::{upload, upload_in_one};
 use crate::costs::counted_digest;
 use crate::generic::digest_of_slices;
 use crate::hashed::{hash_of, hash_of_all};
-use crate::keys::{hash_of_fields, hash_of_key, hash_of_name, key_read_back, may_be_equal};
+use crate::keys::{
+    hash_of_fields, hash_of_key, hash_of_name, key_read_back, may_be_equal, shard_of_fields,
+};
 use crate::lists::hash_of_numbers;
 use crate::maps::put_and_get;
 use crate::numbers::{hash_of_number, hash_of_offset};
@@ -13,7 +15,7 @@ use crate::pieces::digest_of_pieces;
 use crate::readers::digest_of_reader;
 use crate::records::{Entry, hash_of_entries};
 use crate::samples::{draw_in_two, sample, sample_in_two};
-use crate::shards::{shard_of, shard_of_fields};
+use crate::shards::shard_of;
 use crate::trees::{parent, root_of_four};
 use komihash::stream::LONGEST_TEXT;
 use komihash::tally::Tally;
