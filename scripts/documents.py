@@ -1,9 +1,8 @@
 #!/usr/bin/env python3
 """Compares the documents with the sources that they show and name.
 
-  callers      each block of code of README and CALLING.md, with `rust` or `antt` after its backticks or `//!` in its
-               first line, is a whole file of the crate `uses`, which is proved and tested
-  definitions  docs/DEFINITIONS.md names every public definition of specs/
+  callers      each block of code of README and CALLING.md, marked `rust` or `antt` or with `//!` in its first line,
+               is a whole file of the crate `uses`, which is proved and tested
   names        each name with `_` or `-` in docs/DEFINITIONS.md stands in specs/, proofs/ or src/
   values       the table of values in docs/DEFINITIONS.md is that of tests/values.rt
   files_named  each file that a document names is there
@@ -21,15 +20,11 @@ FILES = ("*.md", "docs/*.md", "scripts/**/*", "crates/*/[smp]*/**/*", "c/**/*")
 DEFINITIONS = "docs/DEFINITIONS.md"
 VALUES = "crates/komihash/src/tests/values.rt"
 
-# Definitions that no rule of the hash needs: those of the tally's seal, and those that follow the code.
-PRIVATE = {f"crates/komihash/specs/{name}.antt" for name in ("Sealed", "Tallies", "Tails", "Halves", "Pending")}
-
 # Files that a document names and that are not committed: what builds leave, and what a reader would write.
 NOT_COMMITTED = {"out/komisum", "Answers.antt", "Invariants.antt", "specs/Tree.antt"}
 
 CODE = re.compile(r"^```(?:(?:rust|antt)\n|\w*\n(?=//!))(.*?)^```", re.DOTALL | re.MULTILINE)
 NAMED_FILE = re.compile(r"[\w./*{},-]+\.(?:rt|antt|md|sh|py|edit|h|c)")
-PUBLIC = re.compile(r"^(?:(?:abbrev|unfoldable) )?pub (?:record )?([\w-]+)", re.MULTILINE)
 
 # A row of values: on the page, and in the tests, where two of these values end it.
 ROW = re.compile(r"^\| (.+) \| (none|[\da-f]+) \| (none|[\da-f]+) \|$", re.MULTILINE)
@@ -65,15 +60,6 @@ class Documents:
                 if code not in uses:
                     yield f"{document}: no file of `uses` is this block: {code.splitlines()[0]}"
 
-    def definitions(self):
-        text = self.files[DEFINITIONS]
-        shown = code_spans(text) + re.findall(r"```text\n(.*?)```", text, re.DOTALL)
-        named = {name for span in shown for name in re.findall(r"[\w-]+", span)}
-        for file, text in self.texts(r"crates/\w+/specs/\w+\.antt").items():
-            for name in PUBLIC.findall(text):
-                if file not in PRIVATE and name not in named | {"mod", "use"}:
-                    yield f"{DEFINITIONS}: {name} of {file} is not named"
-
     def names(self):
         sources = self.texts(r"crates/\w+/(?:specs|proofs|src)/.*\.(?:antt|rt)").values()
         known = {name for text in sources for name in re.findall(r"[A-Za-z_][\w-]*", text)}
@@ -100,7 +86,7 @@ class Documents:
         return name in NOT_COMMITTED or bool(self.texts(pattern))
 
 
-RULES = (Documents.callers, Documents.definitions, Documents.names, Documents.values, Documents.files_named)
+RULES = (Documents.callers, Documents.names, Documents.values, Documents.files_named)
 
 
 def findings(files):

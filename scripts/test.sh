@@ -26,18 +26,18 @@ sum_up() {
 
 # Runs a part, and adds the counts in its last line. Ends the run if it fails.
 part() {
-    local status counts='^([0-9]+) passed, ([0-9]+) failed(, ([0-9]+) skipped)?$'
+    local status skips counts='^([0-9]+) passed, ([0-9]+) failed(, ([0-9]+) skipped)?$'
     echo "== $*"
     "$@" 2>&1 | tee -a "$room/told"
     status=$?
     if [[ $(tail -n 1 "$room/told") =~ $counts ]]; then
         passed=$((passed + BASH_REMATCH[1]))
         failed=$((failed + BASH_REMATCH[2]))
-        skipped=$((skipped + ${BASH_REMATCH[4]:-0}))
+        skips=${BASH_REMATCH[4]:-0}
+        if [ "${REQUIRE_ALL:-}" = 1 ]; then ((failed += skips)); else ((skipped += skips)); fi
     else
         status=1
     fi
-    if [ "${REQUIRE_ALL:-}" = 1 ]; then failed=$((failed + skipped)); fi
     if [ "$status" != 0 ] && [ "$failed" = 0 ]; then failed=1; fi
     [ "$failed" = 0 ] || { echo "FAILED: $*; later parts, if any, were not run"; sum_up; }
 }
@@ -55,11 +55,12 @@ ci_in_copies() {
         runs[i]=$!
     done
     for ((i = COPIES; i >= 0; i--)); do
-        wait "${runs[i]}" || bad=$((bad + 1))
+        wait "${runs[i]}" || [ "$i" = 0 ] || ((bad += 1))
         cat "$room/$i.log"
     done
     for copy in crates/*; do rm -rf "$copy/out" && cp -a "$room/0/$copy/out" "$copy/"; done
-    echo "$(($(tail -n 1 "$room/0.log" | cut -d ' ' -f 1) + $(ls crates/*/must-fail/*.edit | wc -l))) passed, $bad failed"
+    [[ $(tail -n 1 "$room/0.log") =~ ^([0-9]+)' passed, '([0-9]+)' failed'$ ]] || return 1
+    echo "$((BASH_REMATCH[1] + $(ls crates/*/must-fail/*.edit | wc -l) - bad)) passed, $((BASH_REMATCH[2] + bad)) failed"
 }
 
 part python3 scripts/cases.py
