@@ -7,7 +7,7 @@
   values       the table of values in docs/DEFINITIONS.md is that of tests/values.rt
   files_named  each file that a document names is there
 
-Each edit of planted/documents/RULE/ is found by that rule alone. The last line is 'N passed, M failed'.
+The last line is 'N passed, M failed'.
 """
 
 import re
@@ -17,8 +17,6 @@ from cases import cases_of, report
 from sources import SCRIPTS, texts_of
 
 FILES = ("*.md", "docs/*.md", "scripts/**/*", "crates/*/[smp]*/**/*", "c/**/*")
-DEFINITIONS = "docs/DEFINITIONS.md"
-VALUES = "crates/komihash/src/tests/values.rt"
 
 # Files that a document names and that are not committed: what builds leave, and what a reader would write.
 NOT_COMMITTED = {"out/komisum", "Answers.antt", "Invariants.antt", "specs/Tree.antt"}
@@ -37,6 +35,10 @@ def code_spans(text):
     return re.findall(r"`([^`\n]+)`", re.sub(r"```.*?```", "", text, flags=re.DOTALL))
 
 
+def texts(files, pattern):
+    return {name: text for name, text in files.items() if re.fullmatch(pattern, name)}
+
+
 def tested_rows(text):
     """The rows of values in a file of tests, each as the page shows it."""
     for words, row in TESTED_ROW.findall(text):
@@ -44,55 +46,47 @@ def tested_rows(text):
         yield (words, *("none" if value == "None" else re.sub(r"0x|[^\da-f]", "", value) for value in values))
 
 
-class Documents:
-    """The files, and what each rule finds in them."""
-
-    def __init__(self, files):
-        self.files = files
-
-    def texts(self, pattern):
-        return {name: text for name, text in self.files.items() if re.fullmatch(pattern, name)}
-
-    def callers(self):
-        uses = self.texts(r"crates/uses/(?:src|proofs)/.*").values()
-        for document in ("README.md", "CALLING.md"):
-            for code in CODE.findall(self.files[document]):
-                if code not in uses:
-                    yield f"{document}: no file of `uses` is this block: {code.splitlines()[0]}"
-
-    def names(self):
-        sources = self.texts(r"crates/\w+/(?:specs|proofs|src)/.*\.(?:antt|rt)").values()
-        known = {name for text in sources for name in re.findall(r"[A-Za-z_][\w-]*", text)}
-        for span in code_spans(self.files[DEFINITIONS]):
-            if re.fullmatch(r"[A-Za-z]+(?:[_-]\w+)+", span) and span not in known:
-                yield f"{DEFINITIONS}: {span} stands in no source"
-
-    def values(self):
-        for row in sorted({*ROW.findall(self.files[DEFINITIONS])} ^ {*tested_rows(self.files[VALUES])}):
-            yield f"{DEFINITIONS} or {VALUES} lacks the row {' | '.join(row)}"
-
-    def files_named(self):
-        for document, text in self.texts(r"(?:docs/)?[A-Z]+\.md").items():
-            for span in code_spans(text):
-                if NAMED_FILE.fullmatch(span) and not self.is_there(span):
-                    yield f"{document}: there is no {span}"
-
-    def is_there(self, name):
-        """Whether a file has this name, which may leave out its first folders, and list several in braces."""
-        listed = re.search(r"\{([^}]*)\}", name)
-        if listed:
-            return all(self.is_there(name.replace(listed[0], one)) for one in listed[1].split(","))
-        pattern = "(?:.*/)?" + re.escape(name).replace(r"\*", "[^/]*")
-        return name in NOT_COMMITTED or bool(self.texts(pattern))
+def callers(files):
+    uses = texts(files, r"crates/uses/(?:src|specs|proofs)/.*").values()
+    for document in ("README.md", "CALLING.md"):
+        for code in CODE.findall(files[document]):
+            if code not in uses:
+                yield f"{document}: no file of `uses` is this block: {code.splitlines()[0]}"
 
 
-RULES = (Documents.callers, Documents.names, Documents.values, Documents.files_named)
+def names(files):
+    sources = texts(files, r"crates/\w+/(?:specs|proofs|src)/.*\.(?:antt|rt)").values()
+    known = {name for text in sources for name in re.findall(r"[A-Za-z_][\w-]*", text)}
+    for span in code_spans(files["docs/DEFINITIONS.md"]):
+        if re.fullmatch(r"[A-Za-z]+(?:[_-]\w+)+", span) and span not in known:
+            yield f"docs/DEFINITIONS.md: {span} stands in no source"
+
+
+def values(files):
+    shown, tested = files["docs/DEFINITIONS.md"], files["crates/komihash/src/tests/values.rt"]
+    for row in sorted({*ROW.findall(shown)} ^ {*tested_rows(tested)}):
+        yield f"docs/DEFINITIONS.md or tests/values.rt lacks the row {' | '.join(row)}"
+
+
+def files_named(files):
+    for document, text in texts(files, r"(?:docs/)?[A-Z]+\.md").items():
+        for span in code_spans(text):
+            if NAMED_FILE.fullmatch(span) and not is_there(files, span):
+                yield f"{document}: there is no {span}"
+
+
+def is_there(files, name):
+    """Whether a file has this name, which may leave out its first folders, and list several in braces."""
+    listed = re.search(r"\{([^}]*)\}", name)
+    if listed:
+        return all(is_there(files, name.replace(listed[0], one)) for one in listed[1].split(","))
+    pattern = "(?:.*/)?" + re.escape(name).replace(r"\*", "[^/]*")
+    return name in NOT_COMMITTED or bool(texts(files, pattern))
 
 
 def findings(files):
     """What each rule finds, by the rule's name."""
-    documents = Documents(files)
-    return {rule.__name__: list(rule(documents)) for rule in RULES}
+    return {rule.__name__: list(rule(files)) for rule in (callers, names, values, files_named)}
 
 
 if __name__ == "__main__":

@@ -1,5 +1,5 @@
 #!/usr/bin/env python3
-"""Checks the rules of the sources that no contract shows. The first three read `komihash` alone.
+"""Checks the rules of the sources that no contract shows. The first three read `komihash` alone, and none reads tests.
 
   products  Only `multiply128` multiplies: no other code has `*`, `*=`, a name with `mul` or `pow`, or a 128-bit type.
             Its own product is one. The product of the number 8 and an index is allowed, written `8 * INDEX`.
@@ -10,13 +10,8 @@
             raw name, a block comment, or in a clause a comment, a string or a `'`. While there is some, the other
             rules read nothing.
 
-A contract can't see these, since it counts products in the tally that a call is passed. Who can make or change a tally
-is in surface.txt. Tests and examples are not read.
-
 The script reads names, not meanings. It can't see a product that is made of sums or shifts, what the standard library
-does inside, or a function that an operator, a loop or a drop calls.
-
-Each edit of planted/rules/RULE/ is found by that rule alone. The last line is 'N passed, M failed'.
+does inside, or a function that an operator, a loop or a drop calls. The last line is 'N passed, M failed'.
 """
 
 import re
@@ -52,6 +47,8 @@ HIDDEN = re.compile(
 )
 HIDDEN_IN_CLAUSE = re.compile(r"\b(?:requires|ensures|ghost)\b[^;{}]*\{(?:[^{}]|\{[^{}]*\})*?(?:\{[^{}]*?)?[\0'\"]")
 
+ATTRIBUTE = re.compile(r"#\s*!?\s*\[(?:[^\[\]]|\[[^\[\]]*\])*\]")
+
 # `rt fmt` puts spaces around `<` and `>` only where they are no brackets.
 ORDER = re.compile(r"(?<=\s)[<>](?=\s)")
 TOKEN = re.compile(r"\w+|::|\.\.=?|->|=>|[=!<>]=|<>|&&|\|\||<<=?|>>=|(?<=\s)>>(?=\s)|[-+*/%^|&]=|\S")
@@ -76,15 +73,9 @@ def spelled(tokens):
     return re.sub(r" (?!\w)|(?<!\w) ", "", " ".join(tokens))
 
 
-@lru_cache(maxsize=None)
 def tokens_of(code):
     """The tokens of a source without its attributes."""
-    tokens = TOKEN.findall(ORDER.sub("<>", code))
-    while "#" in tokens:
-        start = tokens.index("#")
-        end = end_of(tokens, tokens.index("[", start)) if tokens[start + 1] in ("[", "!") else start + 1
-        del tokens[start:end]
-    return tokens
+    return TOKEN.findall(ORDER.sub("<>", ATTRIBUTE.sub("", code)))
 
 
 def owner_of(tokens, index):
@@ -96,11 +87,11 @@ def owner_of(tokens, index):
 
 
 class Function:
-    """A function with a body, or a constant: its name with the file and the type, its head, and its body."""
+    """A function with a body, or a constant: its file, its name with the type, its head, and its body."""
 
-    def __init__(self, place, head, body):
-        self.place, self.name, self.head, self.body = place, place.split()[1], head, body
-        self.is_passed_tally = "Tally" in head or self.name.startswith("Tally::") and "self" in head
+    def __init__(self, file, name, head, body):
+        self.place, self.name, self.body = f"{file} {name}", name, body
+        self.is_passed_tally = "Tally" in head or name.startswith("Tally::") and "self" in head
 
     def products(self):
         tokens = ["{", "{", *self.body]
@@ -119,8 +110,7 @@ class Function:
 @lru_cache(maxsize=None)
 def functions_of(file, code):
     """The functions of a source that have a body, and its constants."""
-    functions = []
-    tokens, owners = tokens_of(code), []
+    tokens, owners, functions = tokens_of(code), [], []
     for index, token in enumerate(tokens[:-2]):
         if token in ("impl", "trait") and tokens[index - 1] not in (":", "->", "&", "<", ","):
             owners.append((end_of(tokens, tokens.index("{", index)), owner_of(tokens, index)))
@@ -130,9 +120,8 @@ def functions_of(file, code):
             while tokens[end] not in (";" if is_constant else "{;"):
                 end = end_of(tokens, tokens.index("{", end) if tokens[end] in CONTRACT else end)
             owner = [name + "::" for last, name in owners if index < last and name][-1:]
-            head = tokens[index:end]
-            body = head if is_constant else tokens[end : end_of(tokens, end)]
-            functions.append(Function(f"{file} {''.join(owner)}{head[1]}", head, body))
+            body = tokens[index:end] if is_constant else tokens[end : end_of(tokens, end)]
+            functions.append(Function(file, "".join([*owner, tokens[index + 1]]), tokens[index:end], body))
     return functions
 
 

@@ -1,8 +1,4 @@
-"""Reads the files of the repository, and the code in them, for all scripts: what the compiler reads, and nothing else.
-
-A source of Rattle has comments after `//`, strings and characters. A clause in braces is read by other rules: there,
-`--` and `{-` begin comments, `//` doesn't, and a name may end in `'`. So rules.py refuses all of these in clauses.
-"""
+"""Reads the files of the repository, and the code in them, for all scripts."""
 
 import hashlib
 import re
@@ -18,7 +14,8 @@ TEXTS = {".rt", ".in", ".antt", ".md", ".sh", ".py", ".edit", ".txt", ".c", ".h"
 # Sources but for the tests, which are not part of the crates, and for the examples.
 SOURCE = re.compile(r"crates/komi\w+/src/(?!tests\b).*\.rt|c/.*\.rt\.in")
 
-# Comments, which are dropped; and strings and characters, each of which becomes a number.
+# Comments, which are dropped; and strings and characters, each of which becomes a number. The prover reads clauses
+# differently: there `--` and `{-` begin a comment, `//` doesn't, and a name may end in `'`. rules.py refuses all these.
 UNREAD = re.compile(
     r"""(//.*)|\b[bc]?r"[^"]*"|(?:\b[bc])?"(?:\\[\s\S]|[^"\\])*"|(?<![\w'])b?'(?:\\.[^']*|[^'\\])'"""
 )
