@@ -79,8 +79,8 @@ fn fills(rt: &impl Abort, word: u64, sizes: &[usize], bytes: [&[u8]; 2], next: [
     same_words(rt, &[four.next(), five.next()], &next, end);
 }
 
-// Fills from the pair (0, 0), and the same after a fill of no bytes, which changes nothing. The next
-// output takes up none of the bytes that a fill has left.
+// Fills from the pair (0, 0), also after a fill of no bytes, which changes nothing. A fill and the
+// next output don't use the bytes that the fill before has dropped.
 #[test]
 fn fill_bytes_drops_unused_bytes(rt: HostRuntime) {
     let second = [0xffff_ffff_ffff_fffe, 0x79e7_9e79_e79e_79e6];
@@ -121,7 +121,7 @@ fn continues_after_fill_bytes(rt: HostRuntime) {
     same(&rt, five.next(), v5::Komirand::new(42, 42).next(), 5);
 }
 
-// Compares bytes with those of outputs, and the next output with the first that no byte is from.
+// Compares the bytes of a fill with outputs, and the next output with the first that it didn't use.
 fn filled_from(rt: &impl Abort, bytes: &[u8], next: u64, outputs: &[u64; 13]) {
     let n = bytes.len();
     assert!(rt; n < 96);
@@ -132,7 +132,7 @@ fn filled_from(rt: &impl Abort, bytes: &[u8], next: u64, outputs: &[u64; 13]) {
     same(rt, next, outputs[(n + 7) / 8], n);
 }
 
-// Fills of every length up to 95. The last of the outputs are from the Rust crate.
+// Fills of every length up to 95. The last outputs that they use are from the Rust crate.
 #[test]
 fn fills_every_length(rt: HostRuntime) {
     let last = [

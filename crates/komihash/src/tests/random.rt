@@ -1,7 +1,7 @@
 //! Streams at 5,000 random messages, cut at random, and saved and resumed between writes.
 //!
-//! No clause could be wrong and pass here unseen: the test looks for a fault of the compiler. The
-//! generator's seed is fixed, so the Rust crate draws the same, and gives the same sums of hashes.
+//! Contracts prove what the code does, so this looks for a fault of the compiler. The generator's
+//! seed is fixed, so the Rust crate draws the same messages. It gave the sums of their hashes.
 
 use super::assertions::{add, same_words};
 use super::stream::Streams;

@@ -1,6 +1,6 @@
 //! Streams of both versions in pieces of many sizes: `finish` against `komihash` of all bytes.
 //!
-//! `hash.rt` compares most of these hashes with the Rust crate; the other numbers here are its too.
+//! `hash.rt` compares most of these hashes with the Rust crate, which also gave the numbers here.
 
 ghost use Rattle.std.specs.Prelude.{◌≢◌};
 
