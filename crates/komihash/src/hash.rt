@@ -4,7 +4,7 @@ ghost use Rattle.std.specs.Prelude.{◌≡◌, ◌+◌, ◌≤◌, length};
 ghost use Rattle.komihash.specs.Counts.{hash_products};
 ghost use Rattle.komihash.specs.Hash.{komi};
 
-use crate::padding::final_word::{end_byte, final_word_or_end, final_word_of_many};
+use crate::padding::final_word::{end_byte, final_word_of_many, final_word_or_end};
 use crate::rounds::blocks::absorb_blocks;
 use crate::rounds::{close_one, close_two, join, lanes_of, seed_pair};
 use crate::tails::hash_below_eight;

@@ -8,8 +8,8 @@ ghost use Rattle.komihash.specs.Tails.{whole_words};
 ghost use Rattle.komihash.specs.Words.{all_bytes};
 
 use super::LONGEST_TEXT;
-use crate::rounds::{Lanes, from_order, in_order};
 use crate::rounds::pending::Pending;
+use crate::rounds::{Lanes, from_order, in_order};
 use crate::tally::Tally;
 use crate::utils::copies::{write_bytes, write_words};
 

@@ -7,8 +7,9 @@ ghost use Rattle.komihash.specs.Hash.{komi};
 ghost use Rattle.komihash.specs.Saved.{text, IsText, IsTextAfter};
 ghost use Rattle.komihash.specs.Stream.{State, IsState, HasAbsorbed, start, absorb, answer};
 
-use super::saved::{is_text, read_head, read_lanes, read_pending};
-use super::saved::{write_head, write_lanes, write_pending};
+use super::saved::{
+    is_text, read_head, read_lanes, read_pending, write_head, write_lanes, write_pending,
+};
 use super::{KomiStream, LONGEST_TEXT};
 use crate::padding::final_word::end_after_blocks;
 use crate::rounds::pending::Pending;

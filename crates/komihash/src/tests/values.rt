@@ -8,6 +8,7 @@ use crate::generator::Komirand;
 use crate::hasher::KomiHasher;
 use crate::stream::LONGEST_TEXT;
 use crate::stream::streamed::StreamedKomihash;
+use crate::version::{IsVersion, Versions};
 use crate::{v4, v5};
 use std::hash::Hasher;
 use std::process::Abort;
@@ -84,7 +85,10 @@ fn hash<const V: u8>(message: &[u8], seed: u64) -> u64 {
 }
 
 // Returns the last answer of a stream that answers before each byte of a message and after it.
-fn answer<const V: u8>(message: &[u8], seed: u64) -> u64 {
+fn answer<const V: u8>(message: &[u8], seed: u64) -> u64
+where
+    Versions: IsVersion<V>,
+{
     let mut stream = StreamedKomihash::<V>::new_with_seed(seed);
     for byte in message.chunks(1) {
         let _ = stream.finish();
@@ -99,13 +103,19 @@ fn gives_hash<const V: u8>(
     message: &[u8],
     seed: u64,
     hashes: [u64; 2],
-) {
+)
+where
+    Versions: IsVersion<V>,
+{
     let [four, five] = hashes;
     gives::<V>(rt, words, hash::<V>(message, seed), four, five);
     gives::<V>(rt, words, answer::<V>(message, seed), four, five);
 }
 
-fn hashes<const V: u8>(rt: &impl Abort) {
+fn hashes<const V: u8>(rt: &impl Abort)
+where
+    Versions: IsVersion<V>,
+{
     let message = pattern();
     for (words, (n, seed, four, five)) in HASHES {
         assert!(rt; n <= LONGEST);
@@ -134,6 +144,8 @@ fn hashes_known_messages(rt: HostRuntime) {
 
 // Returns the text of a stream.
 fn text_of<const V: u8>(stream: &StreamedKomihash<V>) -> ([u8; LONGEST_TEXT], usize)
+where
+    Versions: IsVersion<V>,
     ensures { result.1 ≤ LONGEST_TEXT }
 {
     let mut text = [0; LONGEST_TEXT];
@@ -141,7 +153,10 @@ fn text_of<const V: u8>(stream: &StreamedKomihash<V>) -> ([u8; LONGEST_TEXT], us
     (text, end)
 }
 
-fn texts<const V: u8>(rt: &impl Abort) {
+fn texts<const V: u8>(rt: &impl Abort)
+where
+    Versions: IsVersion<V>,
+{
     let message = pattern();
     for (words, (n, four, five)) in TEXTS {
         assert!(rt; n <= LONGEST);
@@ -153,7 +168,10 @@ fn texts<const V: u8>(rt: &impl Abort) {
 }
 
 // Returns the answer of the stream that is resumed from a head and B(n).
-fn resumed<const V: u8>(rt: &impl Abort, head: [u8; 4], n: usize) -> Option<u64> {
+fn resumed<const V: u8>(rt: &impl Abort, head: [u8; 4], n: usize) -> Option<u64>
+where
+    Versions: IsVersion<V>,
+{
     assert!(rt; n <= 128);
     let mut text = [0; 132];
     text[..4].copy_from_slice(&head);
@@ -161,7 +179,10 @@ fn resumed<const V: u8>(rt: &impl Abort, head: [u8; 4], n: usize) -> Option<u64>
     Some(StreamedKomihash::<V>::resume(&text[..4 + n])?.finish())
 }
 
-fn resumes<const V: u8>(rt: &impl Abort) {
+fn resumes<const V: u8>(rt: &impl Abort)
+where
+    Versions: IsVersion<V>,
+{
     let rows: [(&str, (&[[u8; 4]], usize, Option<u64>, Option<u64>)); 6] = [
         (
             "`resume` of `v 01 01 00`, B(64)",
@@ -260,7 +281,10 @@ fn unpads_known_words(rt: HostRuntime) {
 // The seed of the generators.
 const SEED: u64 = 0x1234_5678_90ab_cdef;
 
-fn outputs<const V: u8>(rt: &impl Abort) {
+fn outputs<const V: u8>(rt: &impl Abort)
+where
+    Versions: IsVersion<V>,
+{
     let rows: [(&str, (Komirand<V>, u64, u64)); 2] = [
         (
             "first output after `init` of 1234567890abcdef",
@@ -284,7 +308,10 @@ fn outputs<const V: u8>(rt: &impl Abort) {
     }
 }
 
-fn fills<const V: u8>(rt: &impl Abort) {
+fn fills<const V: u8>(rt: &impl Abort)
+where
+    Versions: IsVersion<V>,
+{
     let mut bytes = [0; 11];
     Komirand::<V>::init(SEED).fill_bytes(&mut bytes);
     let rows = [(
@@ -304,7 +331,10 @@ fn fills<const V: u8>(rt: &impl Abort) {
 }
 
 // Returns the bytes of a fill of 27 bytes, and the eight of the next output.
-fn fill_and_next<const V: u8>() -> [u8; 35] {
+fn fill_and_next<const V: u8>() -> [u8; 35]
+where
+    Versions: IsVersion<V>,
+{
     let mut bytes = [0; 35];
     let mut generator = Komirand::<V>::init(SEED);
     generator.fill_bytes(&mut bytes[..27]);
@@ -313,7 +343,10 @@ fn fill_and_next<const V: u8>() -> [u8; 35] {
 }
 
 // Returns the number of a hasher after three writes.
-fn number<const V: u8>() -> u64 {
+fn number<const V: u8>() -> u64
+where
+    Versions: IsVersion<V>,
+{
     let message = pattern();
     let writes: [&[u8]; 3] = [&[], &message[..5], &message[..64]];
     let mut hasher = KomiHasher::<V>::new(7);
@@ -323,7 +356,10 @@ fn number<const V: u8>() -> u64 {
     hasher.finish()
 }
 
-fn numbers<const V: u8>(rt: &impl Abort) {
+fn numbers<const V: u8>(rt: &impl Abort)
+where
+    Versions: IsVersion<V>,
+{
     let rows = [
         (
             "hash of 27 bytes of that fill and eight of the next output",

@@ -7,9 +7,11 @@ use Rattle.komihash.proofs.stream.streamed.StreamedKomihashKomiStream.restore.Go
 pub invariant_of-result : goal.invariant_of-result
 invariant_of-result g c =
     let (s, is, same) = c.is_text.ensures.text.0 c.if-not-is_text.false in
-    let back = read_back g.row.V c.args.bytes.now c.read_lanes.result s is same c.read_lanes.ensures in
-    (rw (c.read_pending.ensures, c.read_head-absorbed.ensures.absorbed, c.read_head-absorbed.ensures.top_bit)
-    (subst (IsState g.row.V) (sym back) is), tt)
+    let back = read_back g.row.V c.args.bytes.now c.read_lanes.result s is same c.read_lanes.ensures in (
+      rw (c.read_pending.ensures, c.read_head-absorbed.ensures.absorbed, c.read_head-absorbed.ensures.top_bit)
+          (subst (IsState g.row.V) (sym back) is),
+      tt,
+    )
 
 pub returns-clause-same : goal.returns-clause-same
 returns-clause-same g c s is same =
