@@ -4,8 +4,8 @@
   callers      each block of code of README and CALLING.md, marked `rust` or `antt` or with `//!` in its first line,
                is a whole file of the crate `uses`, which is proved and tested
   names        each name with `_` or `-` in docs/DEFINITIONS.md stands in specs/, proofs/ or src/
-  values       the table of values in docs/DEFINITIONS.md is that of tests/values.rt
   files_named  each file that a document names is there
+  values       the table of values in docs/DEFINITIONS.md is that of tests/values.rt
 
 The last line is 'N passed, M failed'.
 """
@@ -25,6 +25,7 @@ CODE = re.compile(r"^```(?:(?:rust|antt)\n|\w*\n(?=//!))(.*?)^```", re.DOTALL | 
 NAMED_FILE = re.compile(r"[\w./*{},-]+\.(?:rt|antt|md|sh|py|edit|h|c)")
 
 # A row of values: on the page, and in the tests, where two of these values end it.
+VALUES = "crates/komihash/src/tests/values.rt"
 ROW = re.compile(r"^\| (.+) \| (none|[\da-f]+) \| (none|[\da-f]+) \|$", re.MULTILINE)
 TESTED_ROW = re.compile(r'"([^"{}]+)",(.*?)\),\n(?=\s*(?:\(|\)?\]))', re.DOTALL)
 TESTED_VALUE = re.compile(r"None|0x\w+|\[[^][]*\]")
@@ -37,13 +38,6 @@ def code_spans(text):
 
 def texts(files, pattern):
     return {name: text for name, text in files.items() if re.fullmatch(pattern, name)}
-
-
-def tested_rows(text):
-    """The rows of values in a file of tests, each as the page shows it."""
-    for words, row in TESTED_ROW.findall(text):
-        values = TESTED_VALUE.findall(row)[-2:]
-        yield (words, *("none" if value == "None" else re.sub(r"0x|[^\da-f]", "", value) for value in values))
 
 
 def callers(files):
@@ -62,12 +56,6 @@ def names(files):
             yield f"docs/DEFINITIONS.md: {span} stands in no source"
 
 
-def values(files):
-    shown, tested = files["docs/DEFINITIONS.md"], files["crates/komihash/src/tests/values.rt"]
-    for row in sorted({*ROW.findall(shown)} ^ {*tested_rows(tested)}):
-        yield f"docs/DEFINITIONS.md or tests/values.rt lacks the row {' | '.join(row)}"
-
-
 def files_named(files):
     for document, text in texts(files, r"(?:docs/)?[A-Z]+\.md").items():
         for span in code_spans(text):
@@ -84,9 +72,18 @@ def is_there(files, name):
     return name in NOT_COMMITTED or bool(texts(files, pattern))
 
 
+def values(files):
+    tested = set()
+    for words, row in TESTED_ROW.findall(files[VALUES]):
+        last = TESTED_VALUE.findall(row)[-2:]
+        tested.add((words, *("none" if value == "None" else re.sub(r"0x|[^\da-f]", "", value) for value in last)))
+    for row in sorted(tested.symmetric_difference(ROW.findall(files["docs/DEFINITIONS.md"]))):
+        yield f"docs/DEFINITIONS.md or {VALUES} lacks the row {' | '.join(row)}"
+
+
 def findings(files):
     """What each rule finds, by the rule's name."""
-    return {rule.__name__: list(rule(files)) for rule in (callers, names, values, files_named)}
+    return {rule.__name__: list(rule(files)) for rule in (callers, names, files_named, values)}
 
 
 if __name__ == "__main__":
