@@ -34,15 +34,3 @@ pub fn message<const N: usize>() -> [u8; N] {
     }
     bytes
 }
-
-/// The hash of `message::<16>()`, in both versions.
-pub const HASH_OF_16: u64 = 0x05d5_39f6_f9c4_1083;
-
-/// The hash of `message::<31>()` in version 4.
-pub const HASH_OF_31_IN_FOUR: u64 = 0x0f7d_f405_2fe2_26f9;
-
-/// The hash of `message::<31>()` in version 5.
-pub const HASH_OF_31: u64 = 0xb185_b589_82d5_2180;
-
-/// The hash of `message::<95>()` in version 5.
-pub const HASH_OF_95: u64 = 0x33d5_bc38_d719_9825;
