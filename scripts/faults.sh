@@ -107,4 +107,4 @@ without_memory() {
 has_tests() { compiles && [ -x out/komisum_tests ] && [ -x ../komihash/out/komihash_tests ]; }
 cases_with 'a C compiler and the programs of the tests' has_tests 6 without_memory
 
-counted 33
+counted

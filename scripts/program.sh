@@ -53,4 +53,4 @@ done << 'SIZES'
 1048577 388de716583121be d577466f23642771
 SIZES
 
-counted 35
+counted
