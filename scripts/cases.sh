@@ -31,12 +31,12 @@ note() {
     [ "$result" = ok ] || printf 'expected:\n%s\ngot:\n%s\n' "$wanted" "$came"
 }
 
-# Runs a function, the last argument, of cases that need a tool, if the command `works` shows that
+# Runs a function of cases that need a tool, if the command `works` shows that
 # the tool works here. Otherwise skips them.
 cases_with() {
-    local need="with $1: " works=$2
+    local need="with $1: " works=$2 cases=$3
     if "$works" > "$room/tried" 2>&1; then
-        "${!#}"
+        "$cases"
     else
         cat "$room/tried"
         echo "skipped: cases that need $1, which is missing or does not work here"

@@ -57,7 +57,7 @@ faults_by_strace() {
     done
 }
 traces() { strace -o "$room/trace" true; }
-cases_with strace traces 6 faults_by_strace
+cases_with strace traces faults_by_strace
 
 # Runs the program on a file with one allocation refused. Compares how it ends, what it leaves of
 # the file, and how many allocations it requests. `-` stands for no memory, with nothing read.
@@ -87,7 +87,7 @@ refused_requests() {
     refuse 8 stdin 4bde5bdc63771675 7 4 1f
 }
 compiles() { "${CC:-cc}" -shared -fPIC -o "$room/refuse.so" ../../scripts/refuse.c; }
-cases_with 'a C compiler' compiles 12 refused_requests
+cases_with 'a C compiler' compiles refused_requests
 
 # Of `komisum`, these tests request no memory. Those of `komihash` make every call except the laws,
 # and their program names no function that allocates. `komisum` names two, which refuse.c replaces.
@@ -105,6 +105,6 @@ without_memory() {
             out/komisum ../komihash/out/komihash_tests | sort -u)"
 }
 has_tests() { compiles && [ -x out/komisum_tests ] && [ -x ../komihash/out/komihash_tests ]; }
-cases_with 'a C compiler and the programs of the tests' has_tests 6 without_memory
+cases_with 'a C compiler and the programs of the tests' has_tests without_memory
 
 counted
