@@ -1,44 +1,6 @@
-# Compiles and runs programs that call the library, for run.sh. Each case prints a line, and the
-# last line is 'N passed, M failed', with ', K skipped' if a tool is missing that some cases need.
-# A case in C or C++ is run with each of the compilers that work here.
-
-passed=0
-failed=0
-skipped=0
-
-# Counts a case, which passes if the command succeeds.
-note() {
-    local name=$1
-    shift
-    if ("$@") > "$out/case"; then
-        passed=$((passed + 1))
-        echo "ok: $name"
-    else
-        failed=$((failed + 1))
-        echo "FAILED: $name"
-        cat "$out/case"
-    fi
-}
-
-# Runs a function of `count` cases with the tools that work here. Skips it if there is none.
-cases_with() {
-    local tool=$1 tools=$2 count=$3 cases=$4
-    if [ -n "$tools" ]; then
-        "$cases" "$tools"
-    else
-        skipped=$((skipped + count))
-        echo "skipped: $count cases that need $tool, which is missing or does not work here"
-    fi
-}
-
-# Notes whether this many cases came before, and prints the counts. Succeeds if no case failed.
-counted() {
-    local skips=", $skipped skipped"
-    [ "$skipped" != 0 ] || skips=
-    note 'the number of cases' test "$1" = $((passed + failed + skipped))
-    echo "$passed passed, $failed failed$skips"
-    [ "$failed" = 0 ]
-}
+# Compiles and runs programs that call the library, for run.sh. A case in C or C++ is run with each
+# of the compilers that work here.
+. ../scripts/cases.sh
 
 # Prints which of the commands succeed with these arguments on a program.
 working() {
@@ -150,7 +112,7 @@ cases_in_c() {
     note "the example of README.md ($compilers)" \
         with_each "$compilers" runs c11 "$out/example.c" examples/printed.txt
     note 'the shared object is linked' link_shared
-    cases_with pkg-config "$(working pkg-config '' --version)" 2 cases_by_package
+    cases_with pkg-config "$(working pkg-config '' --version)" cases_by_package
 }
 
 # Compiles the example by what pkg-config prints for the installed library, and runs it.
@@ -195,20 +157,20 @@ cases_in_languages() {
     cases_in_c "$1"
     cases_with 'a C++ compiler' \
         "$(working 'g++ clang++' $'#include <vector>\nint main() {}' -x c++ - -o "$out/program")" \
-        1 cases_in_cpp
-    cases_with rustc "$(working rustc 'fn main() {}' - -o "$out/program")" 1 cases_in_rust
-    cases_with python3 "$(working python3 'import ctypes')" 1 cases_in_python
+        cases_in_cpp
+    cases_with rustc "$(working rustc 'fn main() {}' - -o "$out/program")" cases_in_rust
+    cases_with python3 "$(working python3 'import ctypes')" cases_in_python
 }
 
 examples() {
     note 'the library is proved and built' build_archive
     if [ "$failed" != 0 ]; then
-        counted 1
+        counted
         return
     fi
     example > "$out/example.c"
     cases_with 'a C compiler' \
         "$(working 'gcc clang' 'int main(void) { return 0; }' -x c - -o "$out/program")" \
-        12 cases_in_languages
-    counted 13
+        cases_in_languages
+    counted
 }

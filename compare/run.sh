@@ -1,7 +1,7 @@
 #!/usr/bin/env bash
 # The port beside the Rust crate `komihash` 0.5.0. README.md says more.
 #
-#   run.sh answers                  prints the table of reference hashes by the Rust crate
+#   run.sh answers                  prints sums of reference hashes, by the Rust crate
 #   run.sh edges                    compares hashes and streams on every input of some small sets
 #   run.sh fuzz SEED N              compares every call on N random inputs
 #   run.sh bench [REPEATS [WORD]]   times the calls; prints all rows, or those whose group and name contain WORD

@@ -13,7 +13,7 @@ The last line is 'N passed, M failed'.
 import re
 import sys
 
-from cases import cases_of, report
+from cases import report
 from sources import SCRIPTS, texts_of
 
 FILES = ("*.md", "docs/*.md", "scripts/**/*", "crates/*/[smp]*/**/*", "c/**/*")
@@ -24,10 +24,10 @@ NOT_COMMITTED = {"out/komisum", "Answers.antt", "Invariants.antt", "specs/Tree.a
 CODE = re.compile(r"^```(?:(?:rust|antt)\n|\w*\n(?=//!))(.*?)^```", re.DOTALL | re.MULTILINE)
 NAMED_FILE = re.compile(r"[\w./*{},-]+\.(?:rt|antt|md|sh|py|edit|h|c)")
 
-# A row of values: on the page, and in the tests, where two of these values end it.
+# A row of values: on the page, and in the tests.
 VALUES = "crates/komihash/src/tests/values.rt"
 ROW = re.compile(r"^\| (.+) \| (none|[\da-f]+) \| (none|[\da-f]+) \|$", re.MULTILINE)
-TESTED_ROW = re.compile(r'"([^"{}]+)",(.*?)\),\n(?=\s*(?:\(|\)?\]))', re.DOTALL)
+TESTED_ROW = re.compile(r"^ +// ([^\n]+)\n +let wanted\b[^=]*= \[(.*?)\];$", re.DOTALL | re.MULTILINE)
 TESTED_VALUE = re.compile(r"None|0x\w+|\[[^][]*\]")
 
 
@@ -73,11 +73,11 @@ def is_there(files, name):
 
 
 def values(files):
-    tested = set()
+    rows = set(ROW.findall(files["docs/DEFINITIONS.md"]))
     for words, row in TESTED_ROW.findall(files[VALUES]):
-        last = TESTED_VALUE.findall(row)[-2:]
-        tested.add((words, *("none" if value == "None" else re.sub(r"0x|[^\da-f]", "", value) for value in last)))
-    for row in sorted(tested.symmetric_difference(ROW.findall(files["docs/DEFINITIONS.md"]))):
+        values = ("none" if value == "None" else re.sub(r"0x|[^\da-f]", "", value) for value in TESTED_VALUE.findall(row))
+        rows ^= {(words, *values)}
+    for row in sorted(rows):
         yield f"docs/DEFINITIONS.md or {VALUES} lacks the row {' | '.join(row)}"
 
 
@@ -87,4 +87,4 @@ def findings(files):
 
 
 if __name__ == "__main__":
-    sys.exit(report(cases_of("the documents", findings, texts_of(*FILES), SCRIPTS / "planted/documents")))
+    sys.exit(report("the documents", findings, texts_of(*FILES), SCRIPTS / "planted/documents"))

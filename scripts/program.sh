@@ -1,24 +1,50 @@
 #!/usr/bin/env bash
-# Tests the built program: its arguments, and inputs of many sizes from files and pipes. Each case
-# prints a line; the last line is 'N passed, M failed'. Needs what cases.sh names; takes about two
-# seconds.
-source "$(dirname "$0")/cases.sh"
+# Tests the program as `rt ci` or `rt run` built it: its arguments, inputs of many sizes from files
+# and pipes, and what it does if reads, writes and allocations fail. Needs a C compiler for refuse.c,
+# and the programs of both crates' tests, which `rt ci` or `rt test` built. Takes seconds.
+set -uo pipefail
+cd "$(dirname "$0")/../crates/komisum" || exit 1
+. ../../scripts/cases.sh
 
+program=out/komisum
 usage='usage: komisum [4|5 SEED]'
+whole=$(cat stdout)
 printf a > "$room/a"
 
+# Runs a command, and prints its status, standard output and standard error, each after its name.
+ran() {
+    "$@" > "$room/output" 2> "$room/errors"
+    printf 'status %s\n' $?
+    printf 'output %s|\n' "$(cat "$room/output"; printf .)"
+    printf 'errors %s|\n' "$(cat "$room/errors"; printf .)"
+}
+
+# Does the same for the program with these arguments.
+run() { ran "$program" "$@"; }
+
+# Print what `ran` prints for a line and for a fault.
+line() { printf 'status 0\noutput %s\n.|\nerrors .|\n' "$1"; }
+fault() { printf 'status %s\noutput .|\nerrors komisum: %s\n.|\n' "$1" "$2"; }
+
+# Whether the output is the expected one. A command that doesn't run prints nothing, so an empty
+# expectation always fails.
+equal() { [ -n "$1" ] && diff <(echo "$1") <(echo "$2"); }
+
+# Prints a message of this many bytes.
+message() { seq 1 1000000 | head -c "$1"; }
+
 # Arguments that it accepts. The hashes are those of the Rust crate.
-note 'the stored run' "$(line "$(cat stdout)")" "$(run < stdin)"
-note 'no arguments' "$(line 5117f5064cfd0faa)" "$(run < "$room/a")"
-note 'version 5 and seed 0' "$(line 5117f5064cfd0faa)" "$(run 5 0 < "$room/a")"
-note 'version 4 and a seed' "$(line 4bde5bdc63771675)" "$(run 4 1f < "$room/a")"
-note 'the greatest seed' "$(line 4bcc041f3f885859)" "$(run 5 ffffffffffffffff < /dev/null)"
+note 'the stored run' equal "$(line "$whole")" "$(run < stdin)"
+note 'no arguments' equal "$(line 5117f5064cfd0faa)" "$(run < "$room/a")"
+note 'version 5 and seed 0' equal "$(line 5117f5064cfd0faa)" "$(run 5 0 < "$room/a")"
+note 'version 4 and a seed' equal "$(line 4bde5bdc63771675)" "$(run 4 1f < "$room/a")"
+note 'the greatest seed' equal "$(line 4bcc041f3f885859)" "$(run 5 ffffffffffffffff < /dev/null)"
 
 # Arguments that it refuses. It then leaves all of the input to `cat`.
 refuse() {
     local name=$1
     shift
-    note "refused: $name" "$(fault 2 "$usage"; echo 'left a')" \
+    note "refused: $name" equal "$(fault 2 "$usage"; echo 'left a')" \
         "$({ run "$@"; printf 'left %s\n' "$(cat)"; } < "$room/a")"
 }
 long=$(printf '%0300d' 0)
@@ -38,8 +64,8 @@ refuse --help --help
 # b105583901d0a6f8, as by the Rust crate.
 while read -r size five four; do
     message "$size" > "$room/message"
-    note "$size bytes from a file, version 5" "$(line "$five")" "$(run < "$room/message")"
-    note "$size bytes from a pipe, version 4" "$(line "$four")" "$(message "$size" | run 4 1f)"
+    note "$size bytes from a file" equal "$(line "$five")" "$(run < "$room/message")"
+    note "$size bytes from a pipe" equal "$(line "$four")" "$(message "$size" | run 4 1f)"
 done << 'SIZES'
 0 b7683ea7430132b4 f80fbf600441f1bd
 1 7f7f0c9b903d173d 1b8661ed829a60b5
@@ -52,5 +78,39 @@ done << 'SIZES'
 200000 f1226606918aa970 5fcaf5a4c1809abc
 1048577 388de716583121be d577466f23642771
 SIZES
+
+# Files that can't be read or written.
+note 'the input is a folder' equal "$(fault 1 'read failed')" "$(run < /)"
+note 'a closed input' equal "$(fault 1 'read failed')" "$(run <&-)"
+note 'a full output' equal $'status 1\nkomisum: write failed' \
+    "$("$program" < stdin 2>&1 > /dev/full; echo "status $?")"
+
+# Refuses all allocations of a command, from the one of this number on.
+refusing() { REFUSE_FROM=$1 LD_PRELOAD=$room/refuse.so "${@:2}"; }
+
+# The program allocates its arguments and the buffer of its input, and nothing after it has read.
+refuse_memory() {
+    local count=$1 line=$2 request
+    shift 2
+    for ((request = 1; request <= count; request++)); do
+        note "no memory from allocation $request on: ${*:-no arguments}" \
+            equal "$(fault 1 'no memory')" "$(ran refusing "$request" "$program" "$@" < stdin)"
+    done
+    note "memory for $count allocations: ${*:-no arguments}" \
+        equal "$(line "$line")" "$(ran refusing "$request" "$program" "$@" < stdin)"
+}
+note 'refuse.c compiles' "${CC:-cc}" -shared -fPIC -o "$room/refuse.so" ../../scripts/refuse.c
+refuse_memory 2 "$whole"
+refuse_memory 7 4bde5bdc63771675 4 1f
+
+# These tests make calls that allocate nothing.
+without_memory() {
+    for test in "${@:2}"; do
+        note "no allocation: $test" refusing 1 "../$1/out/$1_tests" "tests::$test"
+    done
+}
+without_memory komihash runs::runs_calls_in_order generator::fills_every_length
+without_memory komisum show::lines_of_version_five digest::any_chunk hex::lines_of_numbers \
+    settings::versions_and_seeds settings::wrong_usage
 
 counted

@@ -20,7 +20,7 @@ from collections import Counter
 from functools import lru_cache
 from graphlib import CycleError, TopologicalSorter
 
-from cases import cases_of, report
+from cases import report
 from sources import SCRIPTS, SOURCE, code_of, marked, texts_of
 
 LIBRARY = "crates/komihash/src/"
@@ -208,4 +208,4 @@ def findings(files):
 
 if __name__ == "__main__":
     FILES = texts_of("crates/*/src/**/*.rt", "c/*.rt.in")
-    sys.exit(report(cases_of("the sources", findings, FILES, SCRIPTS / "planted/rules")))
+    sys.exit(report("the sources", findings, FILES, SCRIPTS / "planted/rules"))

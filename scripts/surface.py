@@ -9,7 +9,7 @@ the standard library by the same name; and whole, the functions of komisum that 
 also has a checksum of each file of definitions and of the proofs that open the seal of a tally, the
 modules of specs/ and proofs/, and all lines that name a part of that seal (docs/DECISIONS.md). At its end are the names
 of all tests, of their functions with clauses and of their tables, of all must-fail edits and planted edits, and the
-parts of test.sh.
+lines of scripts in bash that begin a part or a case.
 
 The seal is closed as long as the following holds, and no edit can break it without a change of the list: `TallyKey`,
 `raise`, `Sealed`, `Raised` and `Facts` are private; no other type holds `TallyKey`; `counted` and `Key` are neither
@@ -26,12 +26,12 @@ import re
 import sys
 from functools import lru_cache
 
-from cases import cases_of, report
+from cases import report
 from sources import SCRIPTS, SOURCE, code_of, digest_of, texts_of
 
 LIST = SCRIPTS / "surface.txt"
 READ = ("crates/*/src/**/*.rt", "c/**/*.rt.in", "crates/*/specs/**/*.antt", "crates/*/proofs/**/*.antt")
-EDITS = ("crates/*/must-fail/**/*.edit", "scripts/planted/*/*/*.edit", "scripts/test.sh")
+EDITS = ("crates/*/must-fail/**/*.edit", "scripts/planted/*/*/*.edit", "scripts/*.sh", "c/examples.sh")
 
 # What is not listed: how a function is compiled and proved.
 INTERNAL = re.compile(r"#!?\[(?:inline|tactic)\b[^\]]*\]\s*")
@@ -44,7 +44,8 @@ FIELD = re.compile(r"\bpub\s+(?:\{[^}]*\}|[^,{(])+")
 IMPORT = re.compile(r"(?:ghost )?use [\w:.]*?(?:\{([^{}]*)\}|(\w+));")
 PRELUDE = re.compile(r"ghost use Rattle\.std\.specs\.Prelude\.\{((?!\bas\b)[^{}])*\};")
 
-# Files of tests, and the files that open the seal of a tally, and the lines that name a part of it.
+# Cases in bash, files of tests, the files that open the seal of a tally, and the lines that name a part of it.
+CASE = re.compile(r"\s*(?:(?:part|note|refuse|refuse_memory|without_memory|cases_with|with_each) |\d+( [\da-f]{16}){2}$)")
 TESTS = re.compile(r"crates/\w+/src/tests\b.*\.rt")
 OPENERS = re.compile(r"crates/komihash/proofs/(?:Raised|Facts|tally/.*)\.antt")
 MODULES = re.compile(r"crates/\w+/(?:specs|proofs)/Lib\.antt")
@@ -121,7 +122,7 @@ def names_of(name, text):
     if name.endswith(".edit"):
         return [name]
     if name.endswith(".sh"):
-        return [f"{name}: {line}" for line in text.splitlines() if line.startswith("part ")]
+        return [f"{name}: {line.strip()}" for line in text.splitlines() if CASE.match(line)]
     if not TESTS.fullmatch(name):
         return []
     listed = r"#\[[\s\S]*\bfn \w+|\bfn \w+(?=[\s\S]*\bensures\b)|\bconst \w+: \[[^=]*"
@@ -152,4 +153,4 @@ if __name__ == "__main__":
     if sys.argv[1:] == ["renew"]:
         LIST.write_text("\n".join(listed(FILES)) + "\n", encoding="utf-8")
     else:
-        sys.exit(report(cases_of("the sources", findings, FILES, SCRIPTS / "planted/surface")))
+        sys.exit(report("the sources", findings, FILES, SCRIPTS / "planted/surface"))

@@ -7,8 +7,6 @@ mod hash;
 mod hasher;
 mod known;
 mod padding;
-mod random;
-mod resumed_runs;
 mod rounds;
 mod runs;
 mod saved;

@@ -4,10 +4,7 @@ use std::process::Abort;
 
 /// Asserts that two words are the same.
 pub(crate) fn same(rt: &impl Abort, given: u64, wanted: u64, at: usize) {
-    assert!(rt;
-        given == wanted,
-        "{given:#x}, expected {wanted:#x}, at {at}"
-    );
+    assert!(rt; given == wanted, "{given:#x}, not {wanted:#x}, at {at}");
 }
 
 /// Asserts that two lengths or counts are the same.
@@ -23,11 +20,6 @@ pub(crate) fn same_bytes(rt: &impl Abort, given: &[u8], wanted: &[u8], at: usize
 /// Asserts that words are the same.
 pub(crate) fn same_words(rt: &impl Abort, given: &[u64], wanted: &[u64], at: usize) {
     assert!(rt; given == wanted, "different words at {at}");
-}
-
-/// Asserts that two lengths are the same, or both `None`.
-pub(crate) fn same_length(rt: &impl Abort, given: Option<usize>, wanted: Option<usize>, at: usize) {
-    assert!(rt; given == wanted, "different lengths at {at}");
 }
 
 /// Adds a number of version 4 and one of version 5 to sums, which depend on the order.

@@ -1,7 +1,7 @@
 //! The hashers of both versions: their numbers when they are new, and after each write.
 
 use super::assertions::same;
-use super::known::{HIGH_END, ZERO};
+use super::known::ZERO;
 use crate::{v4, v5};
 use std::hash::Hasher;
 use std::process::Abort;
@@ -21,13 +21,9 @@ fn writes_known_messages(rt: HostRuntime) {
     let empty: [(&[u8], u64); 1] = [(&[], 0xb768_3ea7_4301_32b4)];
     writes(&rt, v4::KomiHasher::default(), &empty);
     writes(&rt, v5::KomiHasher::default(), &empty);
-    let empty: [(&[u8], u64); 1] = [(&[], 0x4bcc_041f_3f88_5859)];
-    writes(&rt, v4::KomiHasher::new(u64::MAX), &empty);
-    writes(&rt, v5::KomiHasher::new(u64::MAX), &empty);
-    let four: [(&[u8], u64); 3] = [(&ZERO, 0), (&ZERO, 0), (&HIGH_END, 7)];
-    writes(&rt, v4::KomiHasher::default(), &four);
-    let five: [(&[u8], u64); 3] = [(&ZERO, 0), (&ZERO, 0), (&HIGH_END, 0x8000_0000_0000_0000)];
-    writes(&rt, v5::KomiHasher::default(), &five);
+    let zeros: [(&[u8], u64); 2] = [(&ZERO, 0), (&ZERO, 0)];
+    writes(&rt, v4::KomiHasher::default(), &zeros);
+    writes(&rt, v5::KomiHasher::default(), &zeros);
 }
 
 // Each hash is the seed of the next. The second is from the Rust crate.

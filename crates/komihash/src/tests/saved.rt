@@ -2,30 +2,21 @@
 
 use super::assertions::{same, same_bytes, same_count};
 use super::known::{LANES, block_message, lanes_after_block, new_text, text_of, text_of_zeros};
+use crate::stream::streamed::StreamedKomihash;
+use crate::version::{IsVersion, Versions};
 use crate::{v4, v5};
 use std::process::Abort;
 
-// Compares what a save has written into 140 bytes 0xee. Nothing is written after the text.
-fn holds(rt: &impl Abort, out: &[u8; 140], length: usize, text: &[u8]) {
+// Saves a stream into 140 bytes 0xee, and compares them. Nothing is written after the text.
+fn saves<const V: u8>(rt: &impl Abort, stream: &StreamedKomihash<V>, text: &[u8])
+where
+    Versions: IsVersion<V>,
+{
     assert!(rt; text.len() <= 140);
-    let mut wanted = [0xee; 140];
+    let (mut out, mut wanted) = ([0xee; 140], [0xee; 140]);
     wanted[..text.len()].copy_from_slice(text);
-    same_count(rt, length, text.len(), 0);
-    same_bytes(rt, out, &wanted, length);
-}
-
-// Saves a stream of version 4, and compares its text.
-fn saves_four(rt: &impl Abort, stream: &v4::StreamedKomihash, text: &[u8]) {
-    let mut out = [0xee; 140];
-    let length = stream.save(&mut out);
-    holds(rt, &out, length, text);
-}
-
-// Saves a stream of version 5, and compares its text.
-fn saves_five(rt: &impl Abort, stream: &v5::StreamedKomihash, text: &[u8]) {
-    let mut out = [0xee; 140];
-    let length = stream.save(&mut out);
-    holds(rt, &out, length, text);
+    same_count(rt, stream.save(&mut out), text.len(), 0);
+    same_bytes(rt, &out, &wanted, text.len());
 }
 
 // Returns the text of a stream of seed 0 after the bytes `abc`.
@@ -39,24 +30,23 @@ fn letters_text(version: u8) -> [u8; 71] {
 #[test]
 fn saves_streams_of_seed_zero(rt: HostRuntime) {
     let (mut four, mut five) = (v4::StreamedKomihash::new(), v5::StreamedKomihash::new());
-    saves_four(&rt, &four, &new_text(4));
-    saves_five(&rt, &five, &new_text(5));
+    saves(&rt, &four, &new_text(4));
+    saves(&rt, &five, &new_text(5));
     four.write(b"abc");
     five.write(b"abc");
-    saves_four(&rt, &four, &letters_text(4));
-    saves_five(&rt, &five, &letters_text(5));
+    saves(&rt, &four, &letters_text(4));
+    saves(&rt, &five, &letters_text(5));
 }
 
 #[test]
 fn saves_the_top_bit_in_version_four(rt: HostRuntime) {
     let mut out = [0xee; 140];
-    let mut stream = v4::StreamedKomihash::new();
-    stream.write(&[0xff; 64]);
-    same_count(&rt, stream.save(&mut out), 68, 4);
+    let (mut four, mut five) = (v4::StreamedKomihash::new(), v5::StreamedKomihash::new());
+    four.write(&[0xff; 64]);
+    same_count(&rt, four.save(&mut out), 68, 4);
     same_bytes(&rt, &out[..4], &[4, 1, 1, 0], 4);
-    let mut stream = v5::StreamedKomihash::new();
-    stream.write(&[0xff; 64]);
-    same_count(&rt, stream.save(&mut out), 68, 5);
+    five.write(&[0xff; 64]);
+    same_count(&rt, five.save(&mut out), 68, 5);
     same_bytes(&rt, &out[..4], &[5, 1, 0, 0], 5);
 }
 
@@ -66,7 +56,7 @@ fn resumes_in_mid_message(rt: HostRuntime) {
     let mut stream = v5::StreamedKomihash::new();
     stream.write(&message[..64]);
     let text = text_of([5, 1, 0, 0], &lanes_after_block());
-    saves_five(&rt, &stream, &text);
+    saves(&rt, &stream, &text);
     let mut resumed = v5::StreamedKomihash::resume(&text).expect(&rt, "a stream");
     resumed.write(&message[64..]);
     same(&rt, resumed.finish(), 6, 95);
@@ -79,21 +69,22 @@ fn resumes_lanes_of_zeros(rt: HostRuntime) {
         let text = text_of_zeros([4, 1, bit, 0], 0x80);
         let stream = v4::StreamedKomihash::resume(&text).expect(&rt, "a stream");
         same(&rt, stream.finish(), hash, 68);
-        saves_four(&rt, &stream, &text);
+        saves(&rt, &stream, &text);
+    }
+}
+
+/// Returns the answer of the stream of a version that has this text.
+pub(crate) fn resumed(version: u8, text: &[u8]) -> Option<u64> {
+    if version == 4 {
+        Some(v4::StreamedKomihash::resume(text)?.finish())
+    } else {
+        Some(v5::StreamedKomihash::resume(text)?.finish())
     }
 }
 
 // Refuses bytes that are the text of no stream of a version.
 fn refuses(rt: &impl Abort, version: u8, text: &[u8]) {
-    let is_none = if version == 4 {
-        v4::StreamedKomihash::resume(text).is_none()
-    } else {
-        v5::StreamedKomihash::resume(text).is_none()
-    };
-    assert!(rt;
-        is_none,
-        "a stream of version {version} has the text {text:?}"
-    );
+    assert!(rt; resumed(version, text).is_none(), "{version}: {text:?}");
 }
 
 // The lanes are 0. With 63 pending bytes the text has its greatest length.
@@ -103,7 +94,7 @@ fn resumes_63_pending_bytes(rt: HostRuntime) {
     text[..68].copy_from_slice(&text_of_zeros([5, 0, 0, 63], 0));
     let text: &[u8; 132] = &text;
     let stream = v5::StreamedKomihash::resume(&text[..131]).expect(&rt, "a stream");
-    saves_five(&rt, &stream, &text[..131]);
+    saves(&rt, &stream, &text[..131]);
     refuses(&rt, 5, &text[..130]);
     refuses(&rt, 5, text);
 }

@@ -4,10 +4,11 @@
 
 ghost use Rattle.std.specs.Prelude.{◌≢◌};
 
-use super::assertions::{add, same, same_words};
+use super::assertions::{add, same_words};
 use super::hash::hashes;
 use super::known::{HIGH_END, LONGEST, SIX, block_message, pattern};
-use crate::{v4, v5};
+use crate::stream::LONGEST_TEXT;
+use crate::{Komirand, v4, v5};
 use std::process::Abort;
 
 /// A stream of each version. Both get the same calls.
@@ -48,8 +49,7 @@ impl Streams {
 
     // Compares what `finish` returns with a hash of version 4 and one of version 5.
     fn gives(&self, rt: &impl Abort, four: u64, five: u64) {
-        same(rt, self.four.finish(), four, 4);
-        same(rt, self.five.finish(), five, 5);
+        same_words(rt, &self.finish(), &[four, five], 0);
     }
 }
 
@@ -198,4 +198,43 @@ fn a_thousand_empty_writes_change_nothing(rt: HostRuntime) {
     }
     empty.gives(&rt, 0xb768_3ea7_4301_32b4, 0xb768_3ea7_4301_32b4);
     block.gives(&rt, 0x960d_596d_aa68_e0ca, 0x2a2f_07ac_9381_0128);
+}
+
+// Saves both streams, and returns those that are resumed from their texts.
+fn resumed(rt: &impl Abort, streams: &Streams) -> Streams {
+    let mut text = [0; LONGEST_TEXT];
+    let end = streams.four.save(&mut text);
+    let four = v4::StreamedKomihash::resume(&text[..end]).expect(rt, "a stream of version 4");
+    let end = streams.five.save(&mut text);
+    let five = v5::StreamedKomihash::resume(&text[..end]).expect(rt, "a stream of version 5");
+    Streams { four, five }
+}
+
+// Writes a message in twelve pieces, and adds the hash after each to the sums.
+fn adds_hashes(rt: &impl Abort, random: &mut Komirand, sums: &mut [u64; 2]) {
+    let mut message = [0; 600];
+    random.fill_bytes(&mut message);
+    let mut streams = Streams::new_with_seed(random.next());
+    let mut rest: &[u8] = &message;
+    for _ in 0..12usize {
+        let size = (random.next() % 130) as usize;
+        let (piece, after) = rest.split_at(size.min(rest.len()));
+        streams.write(piece);
+        rest = after;
+        streams = resumed(rt, &streams);
+        add(sums, streams.finish());
+    }
+}
+
+// Contracts prove what the code does, so this looks for a fault of the compiler. The generator's
+// seed is fixed, so the Rust crate draws the same messages. It gave the sums of their hashes.
+#[test]
+fn hashes_random_messages_as_the_rust_crate_does(rt: HostRuntime) {
+    let mut random = Komirand::init(20_261_124);
+    let mut sums = [0; 2];
+    for _ in 0..5000usize {
+        adds_hashes(&rt, &mut random, &mut sums);
+    }
+    let wanted = [0x9a4e_763e_078f_c5a7, 0xeb6f_8b22_d312_9868];
+    same_words(&rt, &sums, &wanted, 0);
 }
