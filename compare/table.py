@@ -7,8 +7,7 @@ First each row in each build of the Rust crate, and the geometric means of each 
   best         the ratio of those two, crate / port: each side in the layout that suits it best
   median       the median of the layouts' own ratios; in brackets the least and the greatest of them
 
-A ratio above 1 means that the port is faster. If no WORD chose rows, two tables in markdown come last: all rows, and a
-dozen rows with all others in which the port is slower than the Rust crate, by groups.
+A ratio above 1 means that the port is faster. If no WORD chose rows, the table of speed.md comes last.
 """
 import collections
 import datetime
@@ -21,16 +20,6 @@ BUILDS = {
     "release": "(`cargo build --release`)",
     "lto": "(the same with fat LTO and for x86-64-v2, as the port is)",
 }
-
-FEW = [
-    *(("hash", size) for size in ("8 bytes", "16 bytes", "64 bytes", "1024 bytes", "64 KiB")),
-    *(("stream", f"64 KiB by {piece}") for piece in (16, 250)),
-    *(("generator", name) for name in ("1000 calls of next", "8 KiB by fills of 7", "8 KiB by fills of 4096")),
-    *(("save and resume", f"100 times at {count} pending") for count in (0, 63)),
-]
-
-# Not in the Rust crate, and compared with a plain copy.
-BESIDE_A_COPY = ("pad", "unpad")
 
 Times = collections.namedtuple("Times", "crate port best median least most")
 
@@ -71,44 +60,21 @@ def print_columns(rows, version, build):
         print(f"mean of {group:<17} best {best:.3f}  median {median:.3f}")
 
 
-def slower(rows):
-    """Returns the rows in which the port is slower than the Rust crate, but for the few, by group and name."""
-    groups = collections.defaultdict(dict)
-    for (group, name), columns in rows.items():
-        if any(round(it.median, 2) < 1 for it in columns.values()):
-            if (group, name) not in FEW and group not in BESIDE_A_COPY:
-                groups[group][name] = columns
-    return groups
-
-
 def three_digits(number):
     """Writes a number with three digits that count, or as a whole number."""
     return f"{number:,.{0 if number >= 100 else 1 if number >= 10 else 2}f}"
 
 
-def span(numbers):
-    """Writes the least and the greatest number, or both as one if they are written alike."""
-    least, most = three_digits(min(numbers)), three_digits(max(numbers))
-    return least if least == most else f"{least} to {most}"
-
-
-def print_line(label, all_columns, versions, builds):
-    """Prints a line of a table in markdown: the port's times, and the median ratios."""
-    cells = []
-    for version in versions:
-        cells.append(span([min(them[version, build].port for build in builds) for them in all_columns]))
-        cells.extend(span([them[version, build].median for them in all_columns]) for build in builds)
-    print(f"| {label} |", " | ".join(cells), "|")
-
-
-def print_markdown(rows, groups, versions, builds):
-    """Prints a table in markdown, of rows and of groups of rows."""
+def print_markdown(rows, versions, builds):
+    """Prints a table in markdown: the port's least times, and the median ratios."""
     heads = [head for version in versions for head in (f"{version}: ns", *builds)]
     print("\n| Call |", " | ".join(heads), "|\n|---|" + "---:|" * len(heads))
     for (group, name), columns in rows.items():
-        print_line(f"{group}, {name}", [columns], versions, builds)
-    for group, members in groups.items():
-        print_line(f"{group}, slower: {', '.join(members)}", members.values(), versions, builds)
+        cells = []
+        for version in versions:
+            them = [columns[version, build] for build in builds]
+            cells += map(three_digits, (min(it.port for it in them), *(it.median for it in them)))
+        print(f"| {group}, {name} |", " | ".join(cells), "|")
 
 
 def asked(*command):
@@ -138,11 +104,8 @@ def main():
     for version, build in columns:
         print_columns(rows, version, build)
     if not word:
-        for table, groups in ((rows, {}), ({row: rows[row] for row in FEW}, slower(rows))):
-            print_markdown(table, groups, versions, builds)
-            names = " and ".join(f"`{build}` {BUILDS[build]}" for build in builds)
-            print(f"\n{measured}. `ns`: nanoseconds of the port. {names}: how many times as long the Rust crate takes,")
-            print("if it is built so. `save and resume` is measured beside plain Rust, since the crate has neither.")
+        print_markdown(rows, versions, builds)
+        print(f"\n{measured}.")
 
 
 main()

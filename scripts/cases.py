@@ -1,8 +1,9 @@
-"""Counts the cases of the scripts in Python. A case prints a line `ok: NAME`, or `FAILED: NAME` and its faults. The last
-line of a script is 'N passed, M failed'.
+"""Counts the cases of the scripts in Python. A case prints a line `ok: NAME`, or `FAILED: NAME` and its faults. The
+last line of a script is 'N passed, M failed'.
 
-To add a case: put a rule into the `findings` of a script in Python, a planted edit into planted/SCRIPT/RULE/, or a `note`
-into a script in bash. Then renew the list of names, in which a dropped case shows: `python3 scripts/surface.py renew`.
+To add a case: put a rule into the `findings` of a script in Python, a planted edit into planted/SCRIPT/RULE/, or a
+`note` into a script in bash. Then renew the list of names, in which a dropped case shows: `python3 scripts/surface.py
+renew`.
 
 A planted edit has a line `file: NAME` and pairs of lines `old: TEXT`, `new: TEXT`. Each old text stands once in the
 file. Without pairs, the edit drops the file. It is found if the rule that its folder is named after, and no other,

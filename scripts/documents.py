@@ -16,7 +16,7 @@ import sys
 from cases import report
 from sources import SCRIPTS, texts_of
 
-FILES = ("*.md", "docs/*.md", "scripts/**/*", "crates/*/[smp]*/**/*", "c/**/*")
+FILES = ("*.md", "*/*.md", "scripts/**/*", "crates/*/[smp]*/**/*", "c/**/*")
 
 # Files that a document names and that are not committed: what builds leave, and what a reader would write.
 NOT_COMMITTED = {"out/komisum", "Answers.antt", "Invariants.antt", "specs/Tree.antt"}
@@ -75,8 +75,8 @@ def is_there(files, name):
 def values(files):
     rows = set(ROW.findall(files["docs/DEFINITIONS.md"]))
     for words, row in TESTED_ROW.findall(files[VALUES]):
-        values = ("none" if value == "None" else re.sub(r"0x|[^\da-f]", "", value) for value in TESTED_VALUE.findall(row))
-        rows ^= {(words, *values)}
+        values = TESTED_VALUE.findall(row)
+        rows ^= {(words, *("none" if value == "None" else re.sub(r"0x|[^\da-f]", "", value) for value in values))}
     for row in sorted(rows):
         yield f"docs/DEFINITIONS.md or {VALUES} lacks the row {' | '.join(row)}"
 

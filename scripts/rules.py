@@ -1,8 +1,8 @@
 #!/usr/bin/env python3
 """Checks the rules of the sources that no contract shows. The first three read `komihash` alone, and none reads tests.
 
-  products  Only `multiply128` multiplies: no other code has `*`, `*=`, a name with `mul` or `pow`, or a 128-bit type.
-            Its own product is one. The product of the number 8 and an index is allowed, written `8 * INDEX`.
+  products  Only `multiply128` multiplies: no other code has `*`, `*=`, a name with `mul` or `pow`, a call of `product`,
+            or a 128-bit type. Its own product is one. `8 * INDEX` is allowed.
   tallies   A function that is passed a tally makes none, and names no function that makes one, itself or through
             others. A function that makes one is one call of its counted form, or is in OWN_TALLY.
   imports   Modules import in one direction: none imports a module that leads back to it.
@@ -98,7 +98,8 @@ class Function:
         for two_before, before, token in zip(tokens, tokens[1:], tokens[2:]):
             has_left_operand = re.fullmatch(r"\w+|[)\]}?]", before) and before not in KEYWORDS
             is_of_eight = before == "8" and two_before not in (".", "*", "/", "%")
-            if MULTIPLIES.fullmatch(token) or token == "*" and has_left_operand and not is_of_eight:
+            is_of_items = token == "product" and before in (".", "::")
+            if MULTIPLIES.fullmatch(token) or is_of_items or token == "*" and has_left_operand and not is_of_eight:
                 yield f"{self.place}: {token}"
 
     def names(self, owners):

@@ -45,7 +45,7 @@ IMPORT = re.compile(r"(?:ghost )?use [\w:.]*?(?:\{([^{}]*)\}|(\w+));")
 PRELUDE = re.compile(r"ghost use Rattle\.std\.specs\.Prelude\.\{((?!\bas\b)[^{}])*\};")
 
 # Cases in bash, files of tests, the files that open the seal of a tally, and the lines that name a part of it.
-CASE = re.compile(r"\s*(?:(?:part|note|refuse|refuse_memory|without_memory|cases_with|with_each) |\d+( [\da-f]{16}){2}$)")
+CASE = re.compile(r"\s*(?:(?:part|note|refuse|refuse_memory|without_memory|cases_with) |\d+( [\da-f]{16}){2}$)")
 TESTS = re.compile(r"crates/\w+/src/tests\b.*\.rt")
 OPENERS = re.compile(r"crates/komihash/proofs/(?:Raised|Facts|tally/.*)\.antt")
 MODULES = re.compile(r"crates/\w+/(?:specs|proofs)/Lib\.antt")

@@ -32,18 +32,3 @@ pub fn upload(parts: &[&[u8]], seed: u64, checkpoint: &mut [u8; LONGEST_TEXT]) -
     let stream = StreamedKomihash::resume(&checkpoint[..count])?;
     Some(stream.finish())
 }
-
-/// Does what `upload` does, without `go_on`. One step of its proof is written by hand.
-pub fn upload_in_one(parts: &[&[u8]], seed: u64, checkpoint: &mut [u8; LONGEST_TEXT]) -> Option<u64>
-    ensures { IsSomeAnd result (λ hash.
-        hash ≡ komi 5 seed (flat_map (λ part. part.now) parts.now)) }
-{
-    let mut count = StreamedKomihash::new_with_seed(seed).save(checkpoint);
-    for part in parts {
-        let mut stream = StreamedKomihash::resume(&checkpoint[..count])?;
-        stream.write(part);
-        count = stream.save(checkpoint);
-    }
-    let stream = StreamedKomihash::resume(&checkpoint[..count])?;
-    Some(stream.finish())
-}

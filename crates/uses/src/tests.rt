@@ -1,7 +1,7 @@
 //! Calls of the callers. The hashes are those that the Rust crate `komihash` 0.5.0 gives.
 
 use crate::bounds::bounds;
-use crate::checkpoints::{upload, upload_in_one};
+use crate::checkpoints::upload;
 use crate::costs::counted_digest;
 use crate::generic::digest_of_slices;
 use crate::hashed::{hash_of, hash_of_all};
@@ -131,11 +131,6 @@ fn goes_on_from_checkpoints(rt: HostRuntime) {
         let parts = [first, &[], next];
         let hash = upload(&parts, 0, &mut checkpoint);
         assert!(rt; hash == Some(HASH_OF_95), "another hash, cut at {cut}");
-        let hash = upload_in_one(&parts, 0, &mut checkpoint);
-        assert!(rt;
-            hash == Some(HASH_OF_95),
-            "another hash in one function, cut at {cut}"
-        );
     }
 }
 
