@@ -103,7 +103,6 @@ fn run_resumed<S: KomiStream>(calls: &[Call<'_>], out: &mut [u64], tally: &mut T
     (stream, count)
 }
 
-// Makes the calls of `at_cuts`.
 fn cuts_cost<S: KomiStream>(message: &[u8; 95], out: &mut [u64; 9], tally: &mut Tally) -> (S, usize)
     ensures products { tally.new.products ≡ tally.old.products + 16 }
     ensures kept { tally.new.kept ≡ tally.old.kept + 95 }
@@ -111,7 +110,6 @@ fn cuts_cost<S: KomiStream>(message: &[u8; 95], out: &mut [u64; 9], tally: &mut 
     run_resumed::<S>(&at_cuts(message), out, tally)
 }
 
-// Makes the calls of `byte_by_byte`.
 fn bytes_cost<S: KomiStream>(message: &[u8; 95], out: &mut [u64; 96], tally: &mut Tally) -> usize
     ensures products { tally.new.products ≡ tally.old.products + 8 }
     ensures kept { tally.new.kept ≡ tally.old.kept + 95 }
@@ -129,8 +127,8 @@ fn saving_and_resuming_changes_nothing(rt: HostRuntime) {
     same_words(&rt, &out[..5], &CUT_ANSWERS, 0);
     same_words(&rt, &out[5..], &[9; 4], 5);
     same_count(&rt, stream.store(&mut text), 99, 1);
-    let lanes = text_of([5, 1, 0, 31], &lanes_after_block());
-    same_bytes(&rt, &text[..68], &lanes, 0);
+    same_bytes(&rt, &text[..4], &[5, 1, 0, 31], 0);
+    same_bytes(&rt, &text[4..68], &lanes_after_block(), 4);
     same_bytes(&rt, &text[68..99], &message[64..], 68);
 
     let mut out = [9; 96];

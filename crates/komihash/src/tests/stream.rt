@@ -1,6 +1,5 @@
-//! Streams of both versions in pieces of many sizes: `finish` against `komihash` of all bytes.
-//!
-//! `hash.rt` compares most of these hashes with the Rust crate, which also gave the numbers here.
+//! Streams of both versions in pieces of many sizes: `finish` against `komihash` of all bytes, which
+//! `hash.rt` compares with the Rust crate. The numbers here are from it too.
 
 ghost use Rattle.std.specs.Prelude.{◌≢◌};
 

@@ -38,7 +38,6 @@ fn hashes_cost<const V: u8>(bytes: &[u8; 100], tally: &mut Tally) -> [u64; 5]
     ]
 }
 
-// Runs the calls of `at_cuts`.
 fn cuts_cost<S: KomiStream>(message: &[u8; 95], out: &mut [u64; 96], tally: &mut Tally) -> usize
     ensures products { tally.new.products ≡ tally.old.products + 16 }
     ensures kept { tally.new.kept ≡ tally.old.kept + 95 }
@@ -46,7 +45,6 @@ fn cuts_cost<S: KomiStream>(message: &[u8; 95], out: &mut [u64; 96], tally: &mut
     run::<S>(0, &at_cuts(message), out, tally)
 }
 
-// Runs an Absorb of 95 bytes, and an Answer.
 fn piece_costs<S: KomiStream>(message: &[u8; 95], out: &mut [u64; 96], tally: &mut Tally) -> usize
     ensures products { tally.new.products ≡ tally.old.products + 8 }
     ensures kept { tally.new.kept ≡ tally.old.kept + 31 }
@@ -55,7 +53,6 @@ fn piece_costs<S: KomiStream>(message: &[u8; 95], out: &mut [u64; 96], tally: &m
     run::<S>(0, &calls, out, tally)
 }
 
-// Runs the calls of `byte_by_byte`.
 fn bytes_cost<S: KomiStream>(message: &[u8; 95], out: &mut [u64; 96], tally: &mut Tally) -> usize
     ensures products { tally.new.products ≡ tally.old.products + 8 }
     ensures kept { tally.new.kept ≡ tally.old.kept + 95 }
@@ -63,7 +60,6 @@ fn bytes_cost<S: KomiStream>(message: &[u8; 95], out: &mut [u64; 96], tally: &mu
     run::<S>(0, &byte_by_byte(message), out, tally)
 }
 
-// Runs no calls.
 fn nothing_costs<S: KomiStream>(out: &mut [u64; 96], tally: &mut Tally) -> usize
     ensures products { tally.new.products ≡ tally.old.products + 1 }
     ensures kept { tally.new.kept ≡ tally.old.kept }

@@ -78,15 +78,22 @@ fn text(message: &[u8]) -> [u64; 2] {
     [four, v5::komihash(&text[..end], 0)]
 }
 
+// Returns a head and B(128).
+fn text_of(head: [u8; 4]) -> [u8; 132] {
+    let mut text = [0; 132];
+    let b: &[u8; LONGEST] = &pattern();
+    text[4..].copy_from_slice(&b[..128]);
+    text[..4].copy_from_slice(&head);
+    text
+}
+
 // Compares the answers of the streams that are resumed from a head and B(n).
-fn resumes(rt: &impl Abort, heads: [[u8; 4]; 2], n: usize, wanted: [Option<u64>; 2]) {
-    for (version, i) in [(4u8, 0usize), (5u8, 1usize)] {
-        let mut text = [0; 132];
-        text[..4].copy_from_slice(&heads[i]);
-        text[4..].copy_from_slice(&pattern()[..128]);
-        let answer = resumed(version, &text[..n.min(128) + 4]);
-        assert!(rt; answer == wanted[i], "{:?} in {version}", heads[i]);
-    }
+fn resumes(rt: &impl Abort, heads: [[u8; 4]; 2], n: usize, wanted: [Option<u64>; 2])
+    requires { n ≤ 128 }
+{
+    let four = resumed(4, &text_of(heads[0])[..n + 4]);
+    let five = resumed(5, &text_of(heads[1])[..n + 4]);
+    assert!(rt; [four, five] == wanted, "{heads:?}");
 }
 
 #[test]
