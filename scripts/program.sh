@@ -82,7 +82,7 @@ SIZES
 # Files that can't be read or written.
 note 'the input is a folder' equal "$(fault 1 'read failed')" "$(run < /)"
 note 'a closed input' equal "$(fault 1 'read failed')" "$(run <&-)"
-note 'a full output' equal $'status 1\nkomisum: write failed' \
+note 'a full output' equal $'komisum: write failed\nstatus 1' \
     "$("$program" < stdin 2>&1 > /dev/full; echo "status $?")"
 
 # Refuses all allocations of a command, from the one of this number on.

@@ -5,7 +5,7 @@ ghost use Rattle.komisum.specs.Ending.{ending_of, fault_text, refusal_status, re
 ghost use Rattle.komisum.specs.Ending.{status_of, text_of};
 
 /// The length of the longest message, in bytes.
-pub const LONGEST_MESSAGE: usize = 26;
+pub const LONGEST_MESSAGE: usize = 25;
 
 /// Why the whole line was not written and flushed.
 #[derive(Clone, Copy, Debug, PartialEq, Eq)]
