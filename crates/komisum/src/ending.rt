@@ -91,7 +91,7 @@ impl Ending {
     pub fn text(&self) -> Option<&'static str>
         ensures text { MatchOption result (text_of self.now ≡ None)
             (λ text. text_of self.now ≡ Some text.now) }
-        ensures short { IfSome result (λ text. length text.now ≤ 26) }
+        ensures short { IfSome result (λ text. length text.now ≤ LONGEST_MESSAGE) }
     {
         match self {
             Ending::Shown => None,

@@ -20,12 +20,12 @@ line_at a k n xs ys size end room =
 
 -- the name, copied into zeros, then the message
 line : (k n : ℕ) (name text copied : List ℕ) → name ≡ codes "komisum: " → copied ≡ text → k ≡ length text
-    → n ≡ 9 + k → length text < 27
-    → take (n + 1) (set (put_mid 9 k (name ++ replicate 27 0) copied) n 10) ≡ codes "komisum: " ++ text ++ 10 ∷ []
+    → n ≡ 9 + k → length text < 26
+    → take (n + 1) (set (put_mid 9 k (name ++ replicate 26 0) copied) n 10) ≡ codes "komisum: " ++ text ++ 10 ∷ []
 line k n name text copied is_name is_text size end short =
-    line_at 9 k n (name ++ replicate 27 0) copied (omega (arith, size, ap length is_text)) end
-    (omega (arith, length-append name (replicate 27 0), ap length is_name))
-    ∙ ap (λ name. take 9 (name ++ replicate 27 0) ++ (copied ++ 10 ∷ [])) is_name
+    line_at 9 k n (name ++ replicate 26 0) copied (omega (arith, size, ap length is_text)) end
+    (omega (arith, length-append name (replicate 26 0), ap length is_name))
+    ∙ ap (λ name. take 9 (name ++ replicate 26 0) ++ (copied ++ 10 ∷ [])) is_name
     ∙ ap (λ text. codes "komisum: " ++ text ++ 10 ∷ []) is_text
 
 pub returns-clause-whole : goal.returns-clause-whole
