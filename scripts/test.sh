@@ -42,10 +42,18 @@ part() {
     [ "$failed" = 0 ] || { echo "FAILED: $*; later parts, if any, were not run"; sum_up; }
 }
 
+# Whether `rt ci` refused each edit that must fail. It passes over those that don't apply or compile.
+each_edit_is_refused() {
+    local edits=(crates/*/must-fail/*.edit)
+    grep -q "must-fail edits: ${#edits[@]} refused" "$told" || { echo '0 passed, 1 failed'; return; }
+    echo '1 passed, 0 failed'
+}
+
 part python3 scripts/rules.py
 part python3 scripts/surface.py
 part python3 scripts/documents.py
 part rt ci
+part each_edit_is_refused
 part bash scripts/program.sh
 part bash c/run.sh examples
 sum_up
