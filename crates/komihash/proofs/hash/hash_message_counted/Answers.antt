@@ -1,3 +1,5 @@
+-- Each path is a form of the definition for some lengths: `komi_empty`, `komi_few`, `komi_two`,
+-- `komi_short`.
 use Rattle.std.proofs.Common.{arith, refl, sym}
 use Rattle.std.proofs.lemmas.Bool.{eqb-true}
 use Rattle.komihash.proofs.WholeWords.{length-whole_words}

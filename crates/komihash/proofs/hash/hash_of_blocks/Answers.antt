@@ -1,3 +1,4 @@
+-- `komi_long`: block rounds on the whole blocks, and then the hash from the joined pair.
 use Rattle.std.proofs.Common.{arith, refl}
 use Rattle.komihash.proofs.WholeWords.{length-whole_words}
 use Rattle.komihash.proofs.HashSteps.{komi_long}

@@ -1,3 +1,4 @@
+-- The invariant says what the calls so far did, and `goes_on` adds one call to it.
 use Rattle.std.proofs.Common.{◌≡◌, ℕ, ◌<◌, List, refl, sym, slice_set, ◌+◌, ◌%◌, ◌++◌, length, get_or, take, drop, ap, arith, ◌∙◌, [], ◌∷◌}
 use Rattle.std.proofs.lemmas.List.{append_assoc, append-nil, take_more, drop_more, length-append, take_all}
 use Rattle.std.proofs.Math.Seq.{set-append_seam}

@@ -1,3 +1,4 @@
+-- Two pieces, which may overlap, cover all bytes.
 use Rattle.std.proofs.Common.{◌∙◌, refl, length, set, get_or, arith, ap}
 use Rattle.komihash.proofs.BytesOfWords.{to_le_bytes-word, one_byte, length-bytes_of}
 use Rattle.komihash.proofs.Lists.{two_pieces}

@@ -1,3 +1,4 @@
+-- `Filled-more` adds an output to the bytes filled so far: eight bytes, or at the end fewer.
 use Rattle.std.proofs.Common.{◌≡◌, ◌-◌, ◌*◌, ◌/◌, ◌∙◌, length, take, drop, arith, refl, rules, sym}
 use Rattle.std.proofs.lemmas.List.{take_all}
 use Rattle.std.proofs.lemmas.Slice.{overwrites}

@@ -1,3 +1,5 @@
+-- Only the last byte that is not 0 can be the padding byte (`one_place`). If it has the value of
+-- one, the words are padded words (`unpadded`).
 use Rattle.std.proofs.Common.{arith}
 use Rattle.std.proofs.lemmas.Bool.{iff_false}
 use Rattle.komihash.proofs.PaddingBack.{padded_zero, unpadded, one_place}

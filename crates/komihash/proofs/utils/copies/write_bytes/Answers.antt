@@ -1,3 +1,4 @@
+-- Each turn covers eight more bytes of `out`; fewer than eight may be left after the loop.
 use Rattle.std.proofs.Common.{◌≡◌, ◌+◌, ◌-◌, ◌*◌, ◌/◌, ◌%◌, length, take, drop, get_or, ap, arith, sym, ◌∙◌}
 use Rattle.std.proofs.lemmas.List.{length-take-le, length-drop, take_all}
 use Rattle.komihash.specs.Words.{bytes_of, all_bytes}

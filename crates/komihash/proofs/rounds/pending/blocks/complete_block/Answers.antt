@@ -1,3 +1,4 @@
+-- The pending bytes and the first of the write are the block; the others are left.
 use Rattle.std.proofs.Common.{arith, refl}
 use Rattle.komihash.specs.Pending.{pending_bytes}
 use Rattle.komihash.proofs.PendingBlocks.{completed_lanes, completed_left}

@@ -1,3 +1,4 @@
+-- The word of the bytes fills up the partial word. What does not fit comes into the next word.
 use Rattle.std.proofs.Common.{◌≡◌, ◌∙◌, ◌-◌, ◌+◌, ◌*◌, ◌%◌, ◌/◌, ◌^◌, ◌≤◌, rules, length, take, drop, arith}
 use Rattle.std.proofs.lemmas.List.{take_all, length-drop}
 use Rattle.komihash.specs.Pending.{pending_bytes}

@@ -1,3 +1,4 @@
+-- Some bytes complete the partial word, then whole words follow, then what is left.
 use Rattle.std.proofs.Common.{rules, ◌≡◌, ◌+◌, ◌-◌, ◌%◌, length, take, arith}
 use Rattle.std.proofs.lemmas.List.{take-take, take_all}
 use Rattle.komihash.specs.Pending.{pending_bytes}

@@ -1,3 +1,4 @@
+-- A write that fits is `absorb-few`; any other completes blocks, and is `absorb-blocks`.
 use Rattle.std.proofs.Common.{◌∙◌, ap, arith, subst, sym}
 use Rattle.komihash.specs.Stream.{StateOf, HasAbsorbed, absorb}
 use Rattle.komihash.proofs.BytesInWords.{AreBytes-typed}

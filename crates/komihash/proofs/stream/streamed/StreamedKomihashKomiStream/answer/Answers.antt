@@ -1,3 +1,5 @@
+-- With no pending bytes, one word is left. Otherwise the tail is read as its whole words and a
+-- final word, which is `answer-by_pair`.
 use Rattle.std.proofs.Common.{◌++◌, [], ◌∷◌, ◌∙◌, ap, arith, length, sym}
 use Rattle.std.proofs.lemmas.List.{nil_from_length}
 use Rattle.komihash.specs.Hash.{hash_from_pair}

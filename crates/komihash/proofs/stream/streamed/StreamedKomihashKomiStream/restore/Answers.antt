@@ -1,3 +1,4 @@
+-- `read_back`: the state that has a text is made of the values read from it.
 use Rattle.std.proofs.Common.{◌∙◌, sym, ap, subst}
 use Rattle.komihash.specs.Saved.{text, IsTextAfter}
 use Rattle.komihash.specs.Stream.{IsState, HasAbsorbed}
