@@ -19,7 +19,7 @@ from sources import SCRIPTS, texts_of
 FILES = ("*.md", "*/*.md", "scripts/**/*", "crates/*/[smp]*/**/*", "c/**/*")
 
 # Files that a document names and that are not committed: what builds leave, and what a reader would write.
-NOT_COMMITTED = {"out/komisum", "Answers.antt", "Invariants.antt", "specs/Tree.antt"}
+NOT_COMMITTED = {"out/komisum", "Answers.antt", "Invariants.antt"}
 
 CODE = re.compile(r"^```(?:(?:rust|antt)\n|\w*\n(?=//!))(.*?)^```", re.DOTALL | re.MULTILINE)
 NAMED_FILE = re.compile(r"[\w./*{},-]+\.(?:rt|antt|md|sh|py|edit|h|c)")
