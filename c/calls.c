@@ -6,30 +6,61 @@
 #include <stdio.h>
 #include <string.h>
 
+/* A stream of either version. */
+union stream {
+    komihash_v4_stream v4;
+    komihash_v5_stream v5;
+};
+
 /* The functions of one version. */
 struct version {
     const char *name;
     uint64_t (*hash)(const void *, size_t, uint64_t);
     uint64_t (*pieces)(const komihash_piece *, size_t, uint64_t);
-    void (*start)(komihash_stream *, uint64_t);
-    bool (*write)(komihash_stream *, const void *, size_t);
-    bool (*write_pieces)(komihash_stream *, const komihash_piece *, size_t);
-    bool (*finish)(const komihash_stream *, uint64_t *);
+    void (*start)(union stream *, uint64_t);
+    void (*write)(union stream *, const void *, size_t);
+    void (*write_pieces)(union stream *, const komihash_piece *, size_t);
+    uint64_t (*finish)(const union stream *);
+    size_t (*save)(const union stream *, void *, size_t);
+    bool (*resume)(union stream *, const void *, size_t);
     void (*fill)(void *, size_t, uint64_t, uint64_t);
     void (*fill_seeded)(void *, size_t, uint64_t, uint64_t);
     size_t (*pad)(const void *, size_t, uint64_t *, size_t);
     size_t (*unpad)(const uint64_t *, size_t, void *, size_t);
 };
 
+#define STREAM(v) \
+    static void start_##v(union stream *stream, uint64_t seed) { \
+        stream->v = komihash_##v##_start(seed); \
+    } \
+    static void write_##v(union stream *stream, const void *bytes, size_t length) { \
+        komihash_##v##_write(&stream->v, bytes, length); \
+    } \
+    static void write_pieces_##v(union stream *stream, const komihash_piece *pieces, size_t count) { \
+        komihash_##v##_write_pieces(&stream->v, pieces, count); \
+    } \
+    static uint64_t finish_##v(const union stream *stream) { return komihash_##v##_finish(&stream->v); } \
+    static size_t save_##v(const union stream *stream, void *out, size_t room) { \
+        return komihash_##v##_save(&stream->v, out, room); \
+    } \
+    static bool resume_##v(union stream *stream, const void *text, size_t length) { \
+        return komihash_##v##_resume(&stream->v, text, length); \
+    }
+
+STREAM(v4)
+STREAM(v5)
+
 #define VERSION(v) \
     { \
         .name = "version " #v, \
         .hash = komihash_v##v, \
         .pieces = komihash_v##v##_pieces, \
-        .start = komihash_v##v##_start, \
-        .write = komihash_v##v##_write, \
-        .write_pieces = komihash_v##v##_write_pieces, \
-        .finish = komihash_v##v##_finish, \
+        .start = start_v##v, \
+        .write = write_v##v, \
+        .write_pieces = write_pieces_v##v, \
+        .finish = finish_v##v, \
+        .save = save_v##v, \
+        .resume = resume_v##v, \
         .fill = komihash_v##v##_fill, \
         .fill_seeded = komihash_v##v##_fill_seeded, \
         .pad = komihash_v##v##_pad, \
@@ -71,37 +102,57 @@ static void hashes(const struct version *version) {
     print_hash("pieces, none", version->pieces(NULL, 0, seed));
 }
 
-/* Prints a text's length and first four bytes, and what the version's `finish` says of it. */
-static void print_stream(const struct version *version, const komihash_stream *stream) {
-    uint64_t hash = 0x5a5a5a5a5a5a5a5a;
-    bool accepted = version->finish(stream, &hash);
-    print_length("  text", stream->length);
-    print_bytes(stream->text, 4);
-    print_hash(accepted ? "  finish" : "  finish, refused", hash);
+/* Prints the length and the first four bytes of a stream's text, and its hash. */
+static void print_stream(const struct version *version, const union stream *stream) {
+    uint8_t text[KOMIHASH_LONGEST_TEXT];
+    print_length("  text", version->save(stream, text, sizeof text));
+    print_bytes(text, 4);
+    print_hash("  finish", version->finish(stream));
 }
 
-static void streams(const struct version *version, const struct version *other) {
-    komihash_stream stream;
-    memset(&stream, 0x5a, sizeof stream);
+static void streams(const struct version *version) {
+    union stream stream;
     version->start(&stream, seed);
     printf("start\n");
     print_stream(version, &stream);
-    printf("write %d\n", version->write(&stream, message, 20));
+    version->write(&stream, message, 20);
+    printf("write\n");
     print_stream(version, &stream);
-    printf("write %d\n", version->write(&stream, message + 20, 80));
+    version->write(&stream, message + 20, 80);
+    printf("write\n");
     print_stream(version, &stream);
-    printf("write %d, no bytes\n", version->write(&stream, NULL, 0));
+    version->write(&stream, NULL, 0);
+    printf("write, no bytes\n");
     print_stream(version, &stream);
     version->start(&stream, seed);
-    printf("write_pieces %d\n", version->write_pieces(&stream, pieces, 4));
+    version->write_pieces(&stream, pieces, 4);
+    printf("write_pieces\n");
     print_stream(version, &stream);
-    printf("write_pieces %d, no pieces\n", version->write_pieces(&stream, NULL, 0));
+    version->write_pieces(&stream, NULL, 0);
+    printf("write_pieces, no pieces\n");
     print_stream(version, &stream);
+}
+
+static void saves(const struct version *version, const struct version *other) {
+    uint8_t text[KOMIHASH_LONGEST_TEXT];
+    union stream stream, resumed;
+    memset(text, 0x5a, sizeof text);
+    version->start(&stream, seed);
+    version->write(&stream, message, 100);
+    print_length("save, no room", version->save(&stream, text, sizeof text - 1));
+    print_bytes(text, 4);
+    size_t length = version->save(&stream, text, sizeof text);
+    print_length("save", length);
+    print_bytes(text, 4);
+    version->start(&resumed, seed);
+    printf("resume %d, a byte too many\n", version->resume(&resumed, text, length + 1));
+    print_stream(version, &resumed);
+    printf("resume %d\n", version->resume(&resumed, text, length));
+    print_stream(version, &resumed);
     other->start(&stream, seed);
-    printf("write %d, text of the other version\n", version->write(&stream, message, 20));
-    printf("write_pieces %d, text of the other version\n",
-           version->write_pieces(&stream, pieces, 4));
-    print_stream(version, &stream);
+    length = other->save(&stream, text, sizeof text);
+    printf("resume %d, text of the other version\n", version->resume(&resumed, text, length));
+    print_stream(version, &resumed);
 }
 
 static void fills(const struct version *version) {
@@ -134,7 +185,8 @@ static void unpads(const struct version *version, const char *name, uint64_t las
 static void calls(const struct version *version, const struct version *other) {
     printf("%s\n", version->name);
     hashes(version);
-    streams(version, other);
+    streams(version);
+    saves(version, other);
     fills(version);
     pads(version, "pad", 9, 3);
     pads(version, "pad, no room", 9, 1);

@@ -41,46 +41,33 @@ example() { sed -n '/^```c$/,/^```$/{/^```/!p}' README.md; }
 # Prints the functions that the header declares.
 declared() { grep -o 'komihash_v[a-z0-9_]*(' komihash_rattle.h | tr -d '(' | sort; }
 
-# Prints the checks of the layouts of a stream and a piece in C, for the types of the given names.
-layouts() {
-    printf '_Static_assert(%s, "a layout");\n' "sizeof($1) == LONGEST_TEXT + 1" \
-        "offsetof($1, text) == 0" "offsetof($1, length) == LONGEST_TEXT" \
-        "sizeof($2) == sizeof(struct iovec)" \
-        "offsetof($2, bytes) == offsetof(struct iovec, iov_base)" \
-        "offsetof($2, length) == offsetof(struct iovec, iov_len)"
-}
-
-# Prints the library's structs and functions as C, and the checks of both layouts, the library's own
-# and the header's.
+# Prints the library's functions as C, with the header's types, and checks of these types.
 declarations() {
-    printf '%s\n' '#include "komihash_rattle.h"' '#include <sys/uio.h>' 'typedef uint8_t u8;' \
-        'typedef uint64_t u64;' 'typedef size_t usize;' 'typedef komihash_stream SavedStream;' \
-        'typedef komihash_piece Piece;'
-    sed -nE 's/^pub const (LONGEST_TEXT): usize = (.*);/#define \1 \2/p' \
-        ../crates/komihash/src/stream.rt
-    sed -nE '/^pub struct /,/^\}/{
-        s/^pub (struct \w+).*/\1 {/
-        s/\w+: \&.a \[u8\],/const void *bytes; usize length;/
-        s/(\w+): \[(\w+); (\w+)\],/\2 \1[\3];/
-        s/(\w+): (\w+),/\2 \1;/
-        s/^\}/};/
-        p
-    }' lib.rt.in
-    layouts komihash_stream komihash_piece
-    layouts 'struct SavedStream' 'struct Piece'
-    tr -s ' \n' ' ' < version.rt.in | grep -o 'pub extern "C" fn [^{]*' | sed -E '
-        s/ ensures .*| $//
-        s/^pub extern "C" fn (.*) -> (\w+)$/\2 \1;/
-        s/^pub extern "C" fn (.*)$/void \1;/
-        s/, \)/)/
-        s/\w+: &mut \[u8\]/void *, usize/g
-        s/\w+: &\[u8\]/const void *, usize/g
-        s/\w+: &mut \[(\w+)\]/\1 *, usize/g
-        s/\w+: &\[(\w+)[^]]*\]/const \1 *, usize/g
-        s/\w+: &mut (\w+)/\1 */g
-        s/\w+: &(\w+)/const \1 */g
-        s/\w+: (\w+)/\1/g
-        h; s/VERSION/4/p; g; s/VERSION/5/'
+    printf '%s\n' '#include "komihash_rattle.h"' '#include <sys/uio.h>' 'typedef uint64_t u64;' \
+        'typedef size_t usize;' 'typedef komihash_piece Piece;'
+    printf '_Static_assert(%s, "a layout");\n' "sizeof(komihash_piece) == sizeof(struct iovec)" \
+        "offsetof(komihash_piece, bytes) == offsetof(struct iovec, iov_base)" \
+        "offsetof(komihash_piece, length) == offsetof(struct iovec, iov_len)" \
+        "KOMIHASH_LONGEST_TEXT == $(sed -nE 's/^pub const LONGEST_TEXT: usize = (.*);/\1/p' \
+            ../crates/komihash/src/stream.rt)"
+    for version in 4 5; do
+        sed -nE "s/^const _: \(\) = prove!\(size_of::<Stream>\(\) == (.*)\);/\1/p" \
+            "../crates/komihash_c/src/v$version.rt" |
+            sed "s/.*/_Static_assert(sizeof(komihash_v${version}_stream) == &, \"a layout\");/"
+        tr -s ' \n' ' ' < "../crates/komihash_c/src/v$version.rt" | grep -o 'pub extern "C" fn [^{]*' | sed -E "
+            s/ ensures .*| \$//
+            s/\bStream\b/komihash_v${version}_stream/g
+            s/^pub extern \"C\" fn (.*) -> (\w+)$/\2 \1;/
+            s/^pub extern \"C\" fn (.*)$/void \1;/
+            s/, \)/)/
+            s/\w+: &mut \[u8\]/void *, usize/g
+            s/\w+: &\[u8\]/const void *, usize/g
+            s/\w+: &mut \[(\w+)\]/\1 *, usize/g
+            s/\w+: &\[(\w+)[^]]*\]/const \1 *, usize/g
+            s/\w+: &mut (\w+)/\1 */g
+            s/\w+: &(\w+)/const \1 */g
+            s/\w+: (\w+)/\1/g"
+    done
 }
 
 declarations_fit() {
@@ -93,7 +80,7 @@ symbols() { nm "$2" | awk -v letter="$1" 'NF > 1 && $(NF - 1) == letter { print 
 
 has_declared() { symbols T "$library.a" | diff <(declared) -; }
 
-needs_libc_copies() { symbols U "$library.a" | diff <(printf '%s\n' memcpy memmove) -; }
+needs_nothing() { [ -z "$(symbols U "$library.a")" ]; }
 
 calls_declared() {
     compile c11 -c calls.c -o "$out/calls.o" "$1" &&
@@ -103,12 +90,14 @@ calls_declared() {
 cases_in_c() {
     local compilers=$1
     note 'the library has the functions of the header, and no more' has_declared
-    note 'the library calls memcpy and memmove of libc, and no more' needs_libc_copies
-    note "the header declares the library's types and functions ($compilers)" \
+    note 'the library calls nothing else' needs_nothing
+    note "the header declares the library's functions ($compilers)" \
         with_each "$compilers" declarations_fit
     note "calls.c calls every function ($compilers)" with_each "$compilers" calls_declared
     note "calls.c prints what calls.txt has ($compilers)" \
         with_each "$compilers" runs c11 calls.c calls.txt
+    note "calls on overwritten streams stay within what they are passed ($compilers)" \
+        with_each "$compilers" runs c11 overwritten.c /dev/null
     note "the example of README.md ($compilers)" \
         with_each "$compilers" runs c11 "$out/example.c" examples/printed.txt
     note 'the shared object is linked' link_shared

@@ -5,8 +5,8 @@
  * For every call:
  * - A length or `room` counts items: bytes, or words of eight bytes; `count` counts pieces. All
  *   items that a pointer leads to take at most PTRDIFF_MAX bytes.
- * - A pointer may be null only if the length, room or count after it is 0. Three pointers may never
- *   be null: `stream`, `hash`, and the one in a piece, even in an empty one.
+ * - A pointer may be null only if the length, room or count after it is 0. Two pointers may never be
+ *   null: `stream`, and the one in a piece, even in an empty one.
  * - A pointer to words or pieces is aligned to eight bytes. One to bytes needs no alignment.
  * - What a call writes must not overlap anything else that the call is passed.
  * - No call allocates, or keeps anything for the next. Calls on different data may run at the same
@@ -26,14 +26,18 @@ extern "C" {
 /* What `unpad` returns instead of a length. */
 #define KOMIHASH_NONE SIZE_MAX
 
-/* A stream between two calls: its saved text, which is the first `length` bytes of `text`. These
- * 68 to 131 bytes can be stored and sent; put them and their length back to resume the stream. A
- * length above 131 counts as 131. The text has no checksum: each call refuses bytes that are the
- * text of no stream, but cannot notice a text that was changed into that of another stream. */
+/* The room that `save` needs: the length of the longest saved text. */
+#define KOMIHASH_LONGEST_TEXT 131
+
+/* A stream of each version, as `start` returns it. Only the calls here change it. No call checks it:
+ * one that was changed otherwise has a meaningless hash. It may be copied, and each copy then goes on
+ * by itself. What is stored or sent is its saved text, since `resume` checks that. */
 typedef struct {
-    uint8_t text[131];
-    uint8_t length;
-} komihash_stream;
+    uint64_t state[18];
+} komihash_v4_stream;
+typedef struct {
+    uint64_t state[18];
+} komihash_v5_stream;
 
 /* A piece of a message. It is laid out like POSIX's `struct iovec`, so a list of these can be cast,
  * but for an entry {NULL, 0}: no call may be passed it, since the pointer in a piece is never
@@ -52,25 +56,32 @@ uint64_t komihash_v5(const void *bytes, size_t length, uint64_t seed);
 uint64_t komihash_v4_pieces(const komihash_piece *pieces, size_t count, uint64_t seed);
 uint64_t komihash_v5_pieces(const komihash_piece *pieces, size_t count, uint64_t seed);
 
-/* Starts a stream, whatever `stream` holds. */
-void komihash_v4_start(komihash_stream *stream, uint64_t seed);
-void komihash_v5_start(komihash_stream *stream, uint64_t seed);
+/* Returns the new stream of a seed. */
+komihash_v4_stream komihash_v4_start(uint64_t seed);
+komihash_v5_stream komihash_v5_start(uint64_t seed);
 
-/* Absorbs bytes. However a message is cut, its hash is the same. Returns false, and changes
- * nothing, if `stream` is not the text of a stream of this version. A call that completes no block
- * of 64 bytes only appends to the text; any other takes the stream out of its text and saves it
- * again. So write a list of pieces by one call, or large pieces. */
-bool komihash_v4_write(komihash_stream *stream, const void *bytes, size_t length);
-bool komihash_v5_write(komihash_stream *stream, const void *bytes, size_t length);
+/* Absorbs bytes. However a message is cut, its hash is the same. */
+void komihash_v4_write(komihash_v4_stream *stream, const void *bytes, size_t length);
+void komihash_v5_write(komihash_v5_stream *stream, const void *bytes, size_t length);
 
-/* Absorbs pieces in order, and returns false as the call for one piece does. */
-bool komihash_v4_write_pieces(komihash_stream *stream, const komihash_piece *pieces, size_t count);
-bool komihash_v5_write_pieces(komihash_stream *stream, const komihash_piece *pieces, size_t count);
+/* Absorbs pieces in order. */
+void komihash_v4_write_pieces(komihash_v4_stream *stream, const komihash_piece *pieces, size_t count);
+void komihash_v5_write_pieces(komihash_v5_stream *stream, const komihash_piece *pieces, size_t count);
 
-/* Sets `hash` to the hash of all bytes so far. The stream may go on. Returns false, and changes
- * nothing, if `stream` is not the text of a stream of this version. */
-bool komihash_v4_finish(const komihash_stream *stream, uint64_t *hash);
-bool komihash_v5_finish(const komihash_stream *stream, uint64_t *hash);
+/* Returns the hash of all bytes so far. The stream may go on. */
+uint64_t komihash_v4_finish(const komihash_v4_stream *stream);
+uint64_t komihash_v5_finish(const komihash_v5_stream *stream);
+
+/* Writes the saved text of the stream to the front of `out`, and returns its length, 68 to 131. This
+ * text can be stored and sent. Returns 0, and writes nothing, if `room` is less than 131. */
+size_t komihash_v4_save(const komihash_v4_stream *stream, void *out, size_t room);
+size_t komihash_v5_save(const komihash_v5_stream *stream, void *out, size_t room);
+
+/* Sets the stream to the one with this saved text. Returns false, and changes nothing, if no stream
+ * of this version has it. The text has no checksum: one that was changed into that of another stream
+ * is not noticed. */
+bool komihash_v4_resume(komihash_v4_stream *stream, const void *text, size_t length);
+bool komihash_v5_resume(komihash_v5_stream *stream, const void *text, size_t length);
 
 /* Fills `out` with the outputs of the generator Komirand from the pair (s1, s2), each output with
  * its lowest byte first. A generator is not kept between calls: the same pair gives the same

@@ -29,18 +29,13 @@ library=$out/libkomihash_rattle
 # The version of the Rust crate whose port this is, and the soname. The number in the soname is
 # raised when a program that is linked to an older library can't run with the new one.
 version=0.5.0
-soname=libkomihash_rattle.so.0
+soname=libkomihash_rattle.so.1
 mkdir -p "$out"
-. ./build.sh
-
-# Whether the library is there for a processor, and no source is newer.
-is_built() { is_newest "$out/cpu" *.in proofs && [ "$(cat "$out/cpu")" = "$1" ]; }
+. ../scripts/build.sh
 
 build_archive() {
     cp komihash_rattle.h "$out/" || return
-    ! is_built "$cpu" || return 0
-    rm -f "$out/cpu"
-    build_static library . "$library.a" --cpu "$cpu" && echo "$cpu" > "$out/cpu"
+    build_static komihash_c "$library.a" --cpu "$cpu"
 }
 
 # Links the shared object. Programs are linked to it by the name in `.so`, and run with the soname.

@@ -14,13 +14,13 @@ original=${KOMIHASH_CRATE:+$(realpath -m "$KOMIHASH_CRATE")}
 cd "$(dirname "${BASH_SOURCE[0]}")"
 out=$PWD/out
 mkdir -p "$out"
-. ../c/build.sh
+. ../scripts/build.sh
 
 # Builds the loops, and the library for C.
 build_libraries() {
     ../c/run.sh library >&2
     cp ../c/out/libkomihash_rattle.a "$out/"
-    is_newest "$out/libloops.a" loops || build_static loops loops "$out/libloops.a"
+    build_static komihash_loops "$out/libloops.a"
 }
 
 # Builds the driver with the Rust crate in one of its builds, as the file that is named, with flags for rustc.

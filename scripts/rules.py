@@ -208,5 +208,5 @@ def findings(files):
 
 
 if __name__ == "__main__":
-    FILES = texts_of("crates/*/src/**/*.rt", "c/*.rt.in")
+    FILES = texts_of("crates/*/src/**/*.rt")
     sys.exit(report("the sources", findings, FILES, SCRIPTS / "planted/rules"))

@@ -9,10 +9,10 @@ SCRIPTS = Path(__file__).resolve().parent
 TOP = SCRIPTS.parent
 
 # What is read: not what Python leaves beside the scripts.
-TEXTS = {".rt", ".in", ".antt", ".md", ".sh", ".py", ".edit", ".txt", ".c", ".h"}
+TEXTS = {".rt", ".antt", ".md", ".sh", ".py", ".edit", ".txt", ".c", ".h"}
 
 # Sources but for the tests, which are not part of the crates, and for the examples.
-SOURCE = re.compile(r"crates/komi\w+/src/(?!tests\b).*\.rt|c/.*\.rt\.in")
+SOURCE = re.compile(r"crates/komi\w+/src/(?!tests\b).*\.rt")
 
 # Comments, which are dropped; and strings and characters, each of which becomes a number. The prover reads clauses
 # differently: there `--` and `{-` begin a comment, `//` doesn't, and a name may end in `'`. rules.py refuses all these.

@@ -30,7 +30,7 @@ from cases import report
 from sources import SCRIPTS, SOURCE, code_of, digest_of, texts_of
 
 LIST = SCRIPTS / "surface.txt"
-READ = ("crates/*/src/**/*.rt", "c/**/*.rt.in", "crates/*/specs/**/*.antt", "crates/*/proofs/**/*.antt")
+READ = ("crates/*/src/**/*.rt", "crates/*/specs/**/*.antt", "crates/*/proofs/**/*.antt")
 EDITS = ("crates/*/must-fail/**/*.edit", "scripts/planted/*/*/*.edit", "scripts/*.sh", "c/examples.sh")
 
 # What is not listed: how a function is compiled and proved.

@@ -8,19 +8,14 @@
 // A stream that takes the pieces of a message.
 class Stream {
   public:
-    explicit Stream(std::uint64_t seed) { komihash_v5_start(&stream, seed); }
+    explicit Stream(std::uint64_t seed) : stream(komihash_v5_start(seed)) {}
 
-    // Both calls refuse only what is no stream, and this one is.
     void write(std::string_view bytes) { komihash_v5_write(&stream, bytes.data(), bytes.size()); }
 
-    std::uint64_t finish() const {
-        std::uint64_t hash = 0;
-        komihash_v5_finish(&stream, &hash);
-        return hash;
-    }
+    std::uint64_t finish() const { return komihash_v5_finish(&stream); }
 
   private:
-    komihash_stream stream;
+    komihash_v5_stream stream;
 };
 
 int main() {

@@ -1,11 +1,11 @@
 """Hashes a message at once, as a list of pieces, and in a stream: example.py LIBRARY."""
 import ctypes
 import sys
-from ctypes import POINTER, Structure, byref, c_bool, c_size_t, c_uint8, c_uint64, c_void_p
+from ctypes import POINTER, Structure, byref, c_size_t, c_uint64, c_void_p
 
 
 class Stream(Structure):
-    _fields_ = [("text", c_uint8 * 131), ("length", c_uint8)]
+    _fields_ = [("state", c_uint64 * 18)]
 
 
 class Piece(Structure):
@@ -22,16 +22,15 @@ def function(name, result, *arguments):
 library = ctypes.CDLL(sys.argv[1])
 komihash = function("", c_uint64, c_void_p, c_size_t, c_uint64)
 hash_pieces = function("_pieces", c_uint64, POINTER(Piece), c_size_t, c_uint64)
-start = function("_start", None, POINTER(Stream), c_uint64)
-write = function("_write", c_bool, POINTER(Stream), c_void_p, c_size_t)
-finish = function("_finish", c_bool, POINTER(Stream), POINTER(c_uint64))
+start = function("_start", Stream, c_uint64)
+write = function("_write", None, POINTER(Stream), c_void_p, c_size_t)
+finish = function("_finish", c_uint64, POINTER(Stream))
 
 message = b"port"
 parts = [message[:1], message[1:]]
 pieces = (Piece * 2)(*((part, len(part)) for part in parts))
-stream, answer = Stream(), c_uint64()
-start(byref(stream), 7)
-if not all(write(byref(stream), part, len(part)) for part in parts) or not finish(byref(stream), byref(answer)):
-    sys.exit("the stream was refused")
-for value in (komihash(message, len(message), 7), hash_pieces(pieces, 2, 7), answer.value):
+stream = start(7)
+for part in parts:
+    write(byref(stream), part, len(part))
+for value in (komihash(message, len(message), 7), hash_pieces(pieces, 2, 7), finish(byref(stream))):
     print(f"{value:016x}")

@@ -171,7 +171,7 @@ impl Bench<'_> {
         self.row("c start to finish", "16 bytes", original, port);
     }
 
-    fn from_start<S: FromC>(&self, seed: u64) -> Option<u64> {
+    fn from_start<S: FromC>(&self, seed: u64) -> u64 {
         let mut stream = S::start(seed);
         S::write(black_box(&mut stream), black_box(&self.bytes[..16]));
         S::finish(black_box(&stream))
@@ -212,8 +212,9 @@ impl Bench<'_> {
             let bytes = &self.bytes[..64 + pending];
             let mut stream = P::start(1);
             P::write(&mut stream, bytes);
+            let text = P::save(&stream);
             let (mut x, mut y) = ([0; 131], [0; 131]);
-            let original = |_| parts::saves(P::VERSION, black_box(stream.text()), &mut x, 100);
+            let original = |_| parts::saves(P::VERSION, black_box(&text), &mut x, 100);
             let port = |i| P::saves(black_box(bytes), &mut y, 100, i);
             self.row("save and resume", &format!("100 times at {pending} pending"), original, port);
         }

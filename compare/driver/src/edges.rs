@@ -31,10 +31,14 @@ fn message(length: usize) -> Vec<u8> {
     (0..length).map(|i| (7 * i + 3) as u8).collect()
 }
 
-/// The hash by a stream that lies in memory as its saved text between the writes.
+/// The hash by a stream that is saved and resumed between the writes.
 fn saved<P: Port>(parts: [&[u8]; 3], seed: u64) -> Option<u64> {
     let mut stream = P::start(seed);
-    parts.iter().all(|part| P::write(&mut stream, part)).then(|| P::finish(&stream)).flatten()
+    for part in parts {
+        P::write(&mut stream, part);
+        stream = P::resume(&P::save(&stream))?;
+    }
+    Some(P::finish(&stream))
 }
 
 impl Edges {

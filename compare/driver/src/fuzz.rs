@@ -5,7 +5,7 @@ use crate::original::{OriginalFive, OriginalFour};
 use crate::parts;
 use crate::port::{PortFive, PortFour};
 use crate::rules::{is_text, padded, text_without_lanes, unpadded};
-use crate::side::{Piece, Port, Side, Stream};
+use crate::side::{Piece, Port, Side};
 use std::fmt::Debug;
 
 type Found = Result<(), String>;
@@ -129,26 +129,26 @@ fn unpads<P: Port>(input: &Input, random: &mut Random) -> Found {
     same(&format!("unpad {words:x?}, length and bytes"), (message.map(|it| it.len()), wanted), (got, out))
 }
 
-/// The stream after the whole message, saved and resumed at each piece.
-fn saved<P: Port>(input: &Input) -> Result<Stream, String> {
+/// The saved text of the stream after the whole message, piece by piece.
+fn saved<P: Port>(input: &Input) -> Vec<u8> {
     let mut stream = P::start(input.seed);
     for part in input.parts() {
-        same("a saved stream takes a piece", true, P::write(&mut stream, part))?;
+        P::write(&mut stream, part);
     }
-    Ok(stream)
+    P::save(&stream)
 }
 
 fn saves<P: Port, O: Side>(input: &Input) -> Found {
-    let stream = saved::<P>(input)?;
+    let saved = saved::<P>(input);
     let wanted = O::hash(input.bytes(), input.seed);
-    same("answer of a saved stream", Some(wanted), P::finish(&stream))?;
-    same("length of a saved text", 68 + input.bytes().len() % 64, stream.length.into())?;
-    let shown = [&stream.text()[..4], &stream.text()[68..]].concat();
+    same("answer of a resumed stream", Some(wanted), P::resume(&saved).as_ref().map(P::finish))?;
+    same("length of a saved text", 68 + input.bytes().len() % 64, saved.len())?;
+    let shown = [&saved[..4], &saved[68..]].concat();
     same("saved text but its lanes", text_without_lanes(P::VERSION, input.bytes()), shown)?;
     let mut text = [0; 131];
     same("answer after two texts", wanted, P::saves(input.bytes(), &mut text, 2, input.seed))?;
-    let length = parts::saves(P::VERSION, stream.text(), &mut text, 2);
-    same("text by plain Rust", Some(stream.text()), length.map(|length| &text[..length]))
+    let length = parts::saves(P::VERSION, &saved, &mut text, 2);
+    same("text by plain Rust", Some(&saved[..]), length.map(|length| &text[..length]))
 }
 
 /// Lists of pieces, beside the message at once and the calls for one piece.
@@ -157,25 +157,27 @@ fn lists<P: Port, O: Side>(input: &Input, random: &mut Random) -> Found {
     same("hash of pieces", O::hash(input.bytes(), input.seed), P::pieces(&pieces, input.seed))?;
     let mut stream = P::start(input.seed);
     for list in pieces.chunks(1 + random.below(8)) {
-        same("a saved stream takes a list of pieces", true, P::write_pieces(&mut stream, list))?;
+        P::write_pieces(&mut stream, list);
     }
-    same("text after lists of pieces", saved::<P>(input)?.text(), stream.text())
+    same("text after lists of pieces", saved::<P>(input), P::save(&stream))
 }
 
 fn resumes<P: Port>(input: &Input, random: &mut Random) -> Found {
-    let mut stream = saved::<P>(input)?;
-    match random.below(5) {
-        0 => stream.length = random.below(132) as u8,
-        1 => stream.length = stream.length.saturating_add_signed(random.one_of(&[-1, 1])).min(131),
-        2 => stream.text[random.below(4)] = random.one_of(&[0, 1, 2, 4, 5, 6, 63, 64, 128, 255]),
-        3 => stream.text[random.below(131)] = random.word() as u8,
+    let mut text = saved::<P>(input);
+    let at = random.below(text.len());
+    match random.below(6) {
+        0 => text.truncate(random.below(132)),
+        1 => text.push(random.word() as u8),
+        2 => drop(text.pop()),
+        3 => text[random.below(4)] = random.one_of(&[0, 1, 2, 4, 5, 6, 63, 64, 128, 255]),
+        4 => text[at] = random.word() as u8,
         _ => {}
     }
-    let is_text = is_text(P::VERSION, stream.text());
-    same(&format!("resume {:x?}", stream.text()), is_text, P::finish(&stream).is_some())?;
-    let text = stream.text().to_vec();
-    same("a write of no pieces is taken", is_text, P::write_pieces(&mut stream, &[]))?;
-    same("text after a write of no pieces", &text[..], stream.text())?;
-    same("a write of no bytes is taken", is_text, P::write(&mut stream, &[]))?;
-    same("text after a write of no bytes", text, stream.text().to_vec())
+    let Some(mut stream) = P::resume(&text) else {
+        return same(&format!("resume {text:x?}"), is_text(P::VERSION, &text), false);
+    };
+    same(&format!("resume {text:x?}"), is_text(P::VERSION, &text), true)?;
+    P::write_pieces(&mut stream, &[]);
+    P::write(&mut stream, &[]);
+    same("text after writes of nothing", text, P::save(&stream))
 }

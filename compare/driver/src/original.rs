@@ -135,18 +135,16 @@ macro_rules! original {
                 $module::Stream(Some($module::start(seed)))
             }
             #[inline(always)]
-            fn write(stream: &mut Self::Stream, bytes: &[u8]) -> bool {
+            fn write(stream: &mut Self::Stream, bytes: &[u8]) {
                 $module::write(stream.0.as_mut().unwrap(), bytes.as_ptr(), bytes.len());
-                true
             }
             #[inline(always)]
-            fn write_pieces(stream: &mut Self::Stream, pieces: &[Piece]) -> bool {
+            fn write_pieces(stream: &mut Self::Stream, pieces: &[Piece]) {
                 $module::write_pieces(stream.0.as_mut().unwrap(), pieces.as_ptr(), pieces.len());
-                true
             }
             #[inline(always)]
-            fn finish(stream: &Self::Stream) -> Option<u64> {
-                Some($module::finish(stream.0.as_ref().unwrap()))
+            fn finish(stream: &Self::Stream) -> u64 {
+                $module::finish(stream.0.as_ref().unwrap())
             }
             #[inline(always)]
             fn pieces(pieces: &[Piece], seed: u64) -> u64 {

@@ -10,15 +10,19 @@ macro_rules! port {
                 #[link_name = concat!("komihash_v", $version)]
                 pub fn hash(bytes: *const u8, length: usize, seed: u64) -> u64;
                 #[link_name = concat!("komihash_v", $version, "_start")]
-                pub fn start(stream: *mut Stream, seed: u64);
+                pub fn start(seed: u64) -> Stream;
                 #[link_name = concat!("komihash_v", $version, "_write")]
-                pub fn write(stream: *mut Stream, bytes: *const u8, length: usize) -> bool;
+                pub fn write(stream: *mut Stream, bytes: *const u8, length: usize);
                 #[link_name = concat!("komihash_v", $version, "_write_pieces")]
-                pub fn write_pieces(stream: *mut Stream, pieces: *const Piece, count: usize) -> bool;
+                pub fn write_pieces(stream: *mut Stream, pieces: *const Piece, count: usize);
                 #[link_name = concat!("komihash_v", $version, "_pieces")]
                 pub fn pieces(pieces: *const Piece, count: usize, seed: u64) -> u64;
                 #[link_name = concat!("komihash_v", $version, "_finish")]
-                pub fn finish(stream: *const Stream, hash: *mut u64) -> bool;
+                pub fn finish(stream: *const Stream) -> u64;
+                #[link_name = concat!("komihash_v", $version, "_save")]
+                pub fn save(stream: *const Stream, text: *mut u8, room: usize) -> usize;
+                #[link_name = concat!("komihash_v", $version, "_resume")]
+                pub fn resume(stream: *mut Stream, text: *const u8, length: usize) -> bool;
                 #[link_name = concat!("komihash_v", $version, "_fill")]
                 pub fn fill(out: *mut u8, length: usize, s1: u64, s2: u64);
                 #[link_name = concat!("komihash_v", $version, "_fill_seeded")]
@@ -107,22 +111,19 @@ macro_rules! port {
 
             #[inline(always)]
             fn start(seed: u64) -> Stream {
-                let mut stream = Stream { text: [0; 131], length: 0 };
-                unsafe { $module::start(&mut stream, seed) }
-                stream
+                unsafe { $module::start(seed) }
             }
             #[inline(always)]
-            fn write(stream: &mut Stream, bytes: &[u8]) -> bool {
+            fn write(stream: &mut Stream, bytes: &[u8]) {
                 unsafe { $module::write(stream, bytes.as_ptr(), bytes.len()) }
             }
             #[inline(always)]
-            fn write_pieces(stream: &mut Stream, pieces: &[Piece]) -> bool {
+            fn write_pieces(stream: &mut Stream, pieces: &[Piece]) {
                 unsafe { $module::write_pieces(stream, pieces.as_ptr(), pieces.len()) }
             }
             #[inline(always)]
-            fn finish(stream: &Stream) -> Option<u64> {
-                let mut hash = 0;
-                unsafe { $module::finish(stream, &mut hash) }.then_some(hash)
+            fn finish(stream: &Stream) -> u64 {
+                unsafe { $module::finish(stream) }
             }
             #[inline(always)]
             fn pieces(pieces: &[Piece], seed: u64) -> u64 {
@@ -150,6 +151,16 @@ macro_rules! port {
                 let mut once = Once::default();
                 unsafe { $module::once(bytes.as_ptr(), bytes.len(), seed, &mut once) }
                 once
+            }
+            fn save(stream: &Stream) -> Vec<u8> {
+                let mut text = vec![0; 131];
+                let length = unsafe { $module::save(stream, text.as_mut_ptr(), text.len()) };
+                text.truncate(length);
+                text
+            }
+            fn resume(text: &[u8]) -> Option<Stream> {
+                let mut stream = Self::start(0);
+                unsafe { $module::resume(&mut stream, text.as_ptr(), text.len()) }.then_some(stream)
             }
             fn saves(bytes: &[u8], text: &mut [u8; 131], count: usize, seed: u64) -> u64 {
                 unsafe { $module::saves(bytes.as_ptr(), bytes.len(), text, count, seed) }

@@ -16,14 +16,13 @@ pub trait Side {
     fn fills(out: &mut [u8], pieces: &[usize], s1: u64, s2: u64, start: u32) -> u64;
 }
 
-/// Streams and lists of pieces, as C calls them: a stream lies in memory between its calls. Writes of the port return
-/// false, and `finish` returns `None`, if `stream` is not the text of a stream.
+/// Streams and lists of pieces, as C calls them: a stream lies in memory between its calls.
 pub trait FromC {
     type Stream;
     fn start(seed: u64) -> Self::Stream;
-    fn write(stream: &mut Self::Stream, bytes: &[u8]) -> bool;
-    fn write_pieces(stream: &mut Self::Stream, pieces: &[Piece]) -> bool;
-    fn finish(stream: &Self::Stream) -> Option<u64>;
+    fn write(stream: &mut Self::Stream, bytes: &[u8]);
+    fn write_pieces(stream: &mut Self::Stream, pieces: &[Piece]);
+    fn finish(stream: &Self::Stream) -> u64;
     fn pieces(pieces: &[Piece], seed: u64) -> u64;
 }
 
@@ -33,6 +32,10 @@ pub trait Port: Side + FromC<Stream = Stream> {
     /// `Side::stream` by lists of calls.
     fn calls(bytes: &[u8], pieces: &[usize], answers: &mut [u64], seed: u64) -> u64;
     fn once(bytes: &[u8], seed: u64) -> Once;
+    /// The saved text of a stream.
+    fn save(stream: &Stream) -> Vec<u8>;
+    /// The stream of a saved text.
+    fn resume(text: &[u8]) -> Option<Stream>;
     /// The hash by a stream that is saved and resumed `count` times after the message.
     fn saves(bytes: &[u8], text: &mut [u8; 131], count: usize, seed: u64) -> u64;
     fn fill(out: &mut [u8], s1: u64, s2: u64);
@@ -41,7 +44,7 @@ pub trait Port: Side + FromC<Stream = Stream> {
     fn unpad(words: &[u64], out: &mut [u8]) -> Option<usize>;
 }
 
-/// What the port's loops fill in: loops/lib.rt.in says what the fields are.
+/// What the port's loops fill in: the crate komihash_loops says what the fields are.
 #[repr(C)]
 #[derive(Default)]
 pub struct Once {
@@ -74,16 +77,6 @@ impl<'a> Piece<'a> {
     }
 }
 
-/// A saved stream, as `komihash_rattle.h` has it.
+/// A stream, as `komihash_rattle.h` has it.
 #[repr(C)]
-#[derive(Clone, Debug, PartialEq)]
-pub struct Stream {
-    pub text: [u8; 131],
-    pub length: u8,
-}
-
-impl Stream {
-    pub fn text(&self) -> &[u8] {
-        &self.text[..self.length.into()]
-    }
-}
+pub struct Stream([u64; 18]);

@@ -10,7 +10,7 @@ use Rattle.komihash.specs.Saved.{flag_byte, in_order, text, IsText, IsTextAfter}
 use Rattle.komihash.specs.Stream.{AreWords, State, IsState}
 use Rattle.komihash.specs.Tails.{whole_words}
 use Rattle.komihash.specs.Words.{AreBytes, all_bytes}
-use Rattle.komihash.proofs.Xor.{xor_again}
+use Rattle.komihash.specs.Inverses.{xor_again}
 use Rattle.komihash.proofs.WholeWords.{length-whole_words}
 use Rattle.komihash.proofs.BytesOfWords.{length-all_bytes}
 use Rattle.komihash.proofs.PaddingBack.{bytes_of-word_of_append, whole_words-all_bytes}
@@ -93,6 +93,9 @@ length-text v s =
 
 pub text-most : (v : ℕ) (s : State) (bytes : List ℕ) → IsState v s → text v s ≡ bytes → length bytes ≤ 131
 text-most v s bytes is same = omega (arith, is.few, length-text v s, ap length same)
+
+pub text-least : (v : ℕ) (s : State) (bytes : List ℕ) → text v s ≡ bytes → 68 ≤ length bytes
+text-least v s bytes same = omega (arith, length-text v s, ap length same)
 
 pub IsTextAfter-most : (v seed : ℕ) (m bytes : List ℕ) → IsTextAfter v seed m bytes → length bytes ≤ 131
 unfolding IsTextAfter

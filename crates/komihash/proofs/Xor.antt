@@ -3,7 +3,8 @@ use Rattle.std.proofs.Common.{◌≡◌, ℕ, ◌+◌, ◌*◌, ◌^◌, ◌<◌
 use Rattle.std.proofs.Math.Nat.{mul_comm}
 use Rattle.std.proofs.lemmas.Nat.{and_comm, and_assoc, and-not}
 use Rattle.std.specs.Prelude.{bit_xor, bit_and}
-use Rattle.std.specs.Int.Bits.{xor_assoc, xor_comm, xor_self, xor_zero_l, xor_disjoint}
+use Rattle.std.specs.Int.Bits.{xor_assoc, xor_comm, xor_disjoint}
+use Rattle.komihash.specs.Inverses.{xor_again}
 
 -- a word is xored with a low half first, and then with the word that the half belongs to
 pub xor_late : (w low e : ℕ) → bit_xor (bit_xor w low) e ≡ bit_xor w (bit_xor e low)
@@ -35,10 +36,7 @@ pub xor_turn : (a b c d : ℕ)
 xor_turn a b c d =
     rw (xor_assoc a b c, xor_assoc a (bit_xor b c) d) (xor_comm a (bit_xor (bit_xor b c) d))
 
--- xor with the same word twice cancels
-pub xor_again : (c x : ℕ) → bit_xor c (bit_xor c x) ≡ x
-xor_again c x = sym (xor_assoc c c x) ∙ ap (λ n. bit_xor n x) (xor_self c) ∙ xor_zero_l x
-
+-- xor with the same word twice cancels (`xor_again`), also in other orders
 pub xor_back : (c x : ℕ) → bit_xor (bit_xor c x) c ≡ x
 xor_back c x = xor_comm (bit_xor c x) c ∙ xor_again c x
 

@@ -4,6 +4,7 @@ pub mod Generator
 pub mod Halves
 pub mod Hash
 pub mod Hasher
+pub mod Inverses
 pub mod Padding
 pub mod Pending
 pub mod Rounds

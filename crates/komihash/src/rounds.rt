@@ -41,29 +41,50 @@ pub(crate) type Pair = (u64, u64);
 /// s5 to s8 are the second words of the pairs. s1 to s4 are the first words, each xor the second
 /// word of the pair before it. The fourth pair comes before the first, so it stands there.
 #[derive(Drop)]
+#[repr(C)]
 pub(crate) struct Lanes {
-    fourth: Pair,
-    first: Pair,
-    second: Pair,
-    third: Pair,
+    low4: u64,
+    e4: u64,
+    low1: u64,
+    e1: u64,
+    low2: u64,
+    e2: u64,
+    low3: u64,
+    e3: u64,
 }
 
 impl Model for Lanes {
     ghost use Rattle.std.specs.Prelude.{bit_xor};
+    ghost use Rattle.std.proofs.Common.{refl};
     ghost use Rattle.komihash.specs.Rounds.{Lanes};
+    ghost use Rattle.komihash.specs.Inverses.{xor_again};
 
     ghost Value = { Lanes };
 
     ghost view = { λ l. record {
-      s1 = bit_xor l.fourth.1 l.first.0;
-      s2 = bit_xor l.first.1 l.second.0;
-      s3 = bit_xor l.second.1 l.third.0;
-      s4 = bit_xor l.third.1 l.fourth.0;
-      s5 = l.first.1;
-      s6 = l.second.1;
-      s7 = l.third.1;
-      s8 = l.fourth.1;
+      s1 = bit_xor l.e4 l.low1;
+      s2 = bit_xor l.e1 l.low2;
+      s3 = bit_xor l.e2 l.low3;
+      s4 = bit_xor l.e3 l.low4;
+      s5 = l.e1;
+      s6 = l.e2;
+      s7 = l.e3;
+      s8 = l.e4;
     } };
+
+    ghost inverse = { λ s. record {
+      low4 = bit_xor s.s7 s.s4;
+      e4 = s.s8;
+      low1 = bit_xor s.s8 s.s1;
+      e1 = s.s5;
+      low2 = bit_xor s.s5 s.s2;
+      e2 = s.s6;
+      low3 = bit_xor s.s6 s.s3;
+      e3 = s.s7;
+    } };
+
+    ghost inverse_ok = { λ l _.
+        rw (xor_again l.e3 l.low4, xor_again l.e4 l.low1, xor_again l.e1 l.low2, xor_again l.e2 l.low3) refl };
 }
 
 /// Mixes the product of `x` and `y` into the word `e`, and returns the pair.
@@ -109,10 +130,14 @@ pub(crate) fn lanes_of(pair: Pair) -> Lanes
 {
     let (low, e) = pair;
     Lanes {
-        first: (C8 ^ low, e),
-        second: (C2 ^ low, C6 ^ e),
-        third: ((C3 ^ C6) ^ low, C7 ^ e),
-        fourth: ((C4 ^ C7) ^ low, C8 ^ e),
+        low1: C8 ^ low,
+        e1: e,
+        low2: C2 ^ low,
+        e2: C6 ^ e,
+        low3: (C3 ^ C6) ^ low,
+        e3: C7 ^ e,
+        low4: (C4 ^ C7) ^ low,
+        e4: C8 ^ e,
     }
 }
 
@@ -121,8 +146,16 @@ pub(crate) fn lanes_of(pair: Pair) -> Lanes
 pub(crate) fn in_order(lanes: &Lanes) -> [u64; 8]
     ensures { result ≡ in_order lanes.now }
 {
-    let ((low1, e1), (low2, e2)) = (lanes.first, lanes.second);
-    let ((low3, e3), (low4, e4)) = (lanes.third, lanes.fourth);
+    let Lanes {
+        low4,
+        e4,
+        low1,
+        e1,
+        low2,
+        e2,
+        low3,
+        e3,
+    } = *lanes;
     [e4 ^ low1, e1 ^ low2, e2 ^ low3, e3 ^ low4, e1, e2, e3, e4]
 }
 
@@ -134,10 +167,14 @@ pub(crate) fn from_order(lanes: &[u64; 8]) -> Lanes
 {
     let [s1, s2, s3, s4, s5, s6, s7, s8] = *lanes;
     Lanes {
-        first: (s8 ^ s1, s5),
-        second: (s5 ^ s2, s6),
-        third: (s6 ^ s3, s7),
-        fourth: (s7 ^ s4, s8),
+        low1: s8 ^ s1,
+        e1: s5,
+        low2: s5 ^ s2,
+        e2: s6,
+        low3: s6 ^ s3,
+        e3: s7,
+        low4: s7 ^ s4,
+        e4: s8,
     }
 }
 
@@ -168,8 +205,16 @@ pub(crate) fn block_round(
     ensures products { tally.new.products ≡ tally.old.products + 4 }
     ensures kept { tally.new.kept ≡ tally.old.kept }
 {
-    let ((low1, e1), (low2, e2)) = (lanes.first, lanes.second);
-    let ((low3, e3), (low4, e4)) = (lanes.third, lanes.fourth);
+    let Lanes {
+        low4,
+        e4,
+        low1,
+        e1,
+        low2,
+        e2,
+        low3,
+        e3,
+    } = *lanes;
     let [p0, p1, p2, p3, p4, p5, p6, p7] = places;
     // These factors are made before the first product, so that no word e is needed after its own
     // sum. Each takes the low half of a product first, which is ready before the sum that follows.
@@ -178,15 +223,19 @@ pub(crate) fn block_round(
     let x3 = (words[p4] ^ low3) ^ e2;
     let x1 = (words[p0] ^ low1) ^ e4;
     let x4 = (words[p6] ^ low4) ^ e3;
-    let second = mix(words[p3] ^ e2, x2, e2, tally);
-    let third = mix(words[p5] ^ e3, x3, e3, tally);
-    let first = mix(words[p1] ^ e1, x1, e1, tally);
-    let fourth = mix(words[p7] ^ e4, x4, e4, tally);
+    let (low2, e2) = mix(words[p3] ^ e2, x2, e2, tally);
+    let (low3, e3) = mix(words[p5] ^ e3, x3, e3, tally);
+    let (low1, e1) = mix(words[p1] ^ e1, x1, e1, tally);
+    let (low4, e4) = mix(words[p7] ^ e4, x4, e4, tally);
     *lanes = Lanes {
-        first,
-        second,
-        third,
-        fourth,
+        low4,
+        e4,
+        low1,
+        e1,
+        low2,
+        e2,
+        low3,
+        e3,
     };
 }
 
@@ -196,10 +245,14 @@ pub(crate) fn copied(lanes: &Lanes) -> Lanes
     ensures { result ≡ lanes.now }
 {
     Lanes {
-        first: lanes.first,
-        second: lanes.second,
-        third: lanes.third,
-        fourth: lanes.fourth,
+        low4: lanes.low4,
+        e4: lanes.e4,
+        low1: lanes.low1,
+        e1: lanes.e1,
+        low2: lanes.low2,
+        e2: lanes.e2,
+        low3: lanes.low3,
+        e3: lanes.e3,
     }
 }
 
@@ -210,8 +263,16 @@ pub(crate) fn copied(lanes: &Lanes) -> Lanes
 pub(crate) fn join(lanes: &Lanes, absorbed: bool) -> Pair
     ensures { pair_of result ≡ join absorbed lanes.now }
 {
-    let ((low1, e1), (low2, e2)) = (lanes.first, lanes.second);
-    let ((low3, e3), (low4, e4)) = (lanes.third, lanes.fourth);
+    let Lanes {
+        low4,
+        e4,
+        low1,
+        e1,
+        low2,
+        e2,
+        low3,
+        e3,
+    } = *lanes;
     if absorbed {
         (low1 ^ low2 ^ low3 ^ low4, e1 ^ e2 ^ e3 ^ e4)
     } else {

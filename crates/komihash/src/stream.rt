@@ -9,6 +9,8 @@ ghost use Rattle.komihash.specs.Hash.{komi};
 ghost use Rattle.komihash.specs.Saved.{text, IsText, IsTextAfter};
 ghost use Rattle.komihash.specs.Stream.{State, IsState, HasAbsorbed, start, absorb, answer};
 
+#[doc(hidden)]
+pub mod raw;
 mod saved;
 pub(crate) mod streamed;
 

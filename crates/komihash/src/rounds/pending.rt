@@ -20,20 +20,33 @@ use std::marker::Model;
 
 /// Fewer than 64 bytes, stored in eight words, with zeros after the last byte.
 #[derive(Drop)]
+#[repr(C)]
 pub(crate) struct Pending {
     words: [u64; 8],
     fill: usize,
 }
 
 impl Model for Pending {
-    ghost use Rattle.std.specs.Prelude.{ℕ, List};
-    ghost use Rattle.komihash.specs.Pending.{pending_bytes, ArePending};
+    ghost use Rattle.std.specs.Prelude.{ℕ, List, length};
+    ghost use Rattle.std.proofs.Common.{arith, sym};
+    ghost use Rattle.komihash.specs.Pending.{pending_words, pending_bytes, ArePending};
+    ghost use Rattle.komihash.specs.Inverses.{length-store, length-pending_bytes};
 
     ghost Value = { List ℕ };
 
     ghost view = { λ p. pending_bytes p.words p.fill };
 
     ghost invariant = { λ p. ArePending p.words p.fill };
+
+    ghost inverse = { λ bytes. record {
+      words = pending_words 8 bytes;
+      fill = length bytes;
+    } };
+
+    ghost inverse_ok = { λ p are i. record {
+      words = sym are.words i;
+      fill = length-pending_bytes p.words p.fill (omega (arith, are.few, length-store p.words _ are.words)) i;
+    } };
 }
 
 impl Pending {
@@ -49,12 +62,14 @@ impl Pending {
     }
 
     /// Returns the number of bytes.
+    // The remainder changes nothing where the invariant holds. Where C has overwritten the stream, it
+    // keeps each access within the words.
     #[inline(always)]
     pub(crate) fn len(&self) -> usize
         ensures length { result ≡ length self.now }
         ensures few { result < 64 }
     {
-        self.fill
+        self.fill % 64
     }
 
     // Returns the last byte. Its word has zeros above it.
@@ -63,7 +78,7 @@ impl Pending {
         requires { 0 < length self.now }
         ensures { result ≡ slice_index self.now (length self.now - 1) }
     {
-        let at = self.fill - 1;
+        let at = self.len() - 1;
         (self.words[at / 8] >> (8 * (at % 8))) as u8
     }
 
@@ -75,7 +90,7 @@ impl Pending {
         ensures products { tally.new.products ≡ tally.old.products }
         ensures kept { tally.new.kept ≡ tally.old.kept + length bytes.now }
     {
-        let fill = self.fill;
+        let fill = self.len();
         writer::put::<false>(&mut self.words, fill, bytes, tally);
         self.fill = fill + bytes.len();
     }
@@ -99,7 +114,8 @@ impl Pending {
         ensures kept { tally.new.kept
             ≡ tally.old.kept + kept_bytes (length self.old) (length bytes.now) }
     {
-        let fill = blocks::absorb_and_keep::<V>(lanes, &mut self.words, self.fill, bytes, tally);
+        let before = self.len();
+        let fill = blocks::absorb_and_keep::<V>(lanes, &mut self.words, before, bytes, tally);
         self.fill = fill;
         has_top_bit::<V>(bytes[bytes.len() - fill - 1])
     }
@@ -112,7 +128,8 @@ impl Pending {
         ensures { result ≡ final_word self.now (padding_byte V self.now) }
     {
         let end = padding_after(has_top_bit::<V>(self.last_byte()));
-        self.words[self.fill / 8] | end << (8 * (self.fill % 8))
+        let fill = self.len();
+        self.words[fill / 8] | end << (8 * (fill % 8))
     }
 
     /// Writes the bytes to the front of `out`, whose rest is unchanged.
@@ -122,7 +139,7 @@ impl Pending {
         ensures bytes { take (length self.now) out.new ≡ self.now }
         ensures rest { drop (length self.now) out.new ≡ drop (length self.now) out.old }
     {
-        write_bytes(&self.words, self.fill, out);
+        write_bytes(&self.words, self.len(), out);
     }
 }
 

@@ -7,14 +7,8 @@ ghost use Rattle.komihash.specs.Hash.{komi};
 ghost use Rattle.komihash.specs.Saved.{text, IsText, IsTextAfter};
 ghost use Rattle.komihash.specs.Stream.{State, IsState, HasAbsorbed, start, absorb, answer};
 
-use super::saved::{
-    is_text, read_head, read_lanes, read_pending, write_head, write_lanes, write_pending,
-};
+use super::raw::RawStream;
 use super::{KomiStream, LONGEST_TEXT};
-use crate::padding::final_word::end_after_blocks;
-use crate::rounds::pending::Pending;
-use crate::rounds::{Lanes, close_one, join, lanes_of, seed_pair};
-use crate::tails::hash_below_eight;
 use crate::tally::Tally;
 use crate::version::{IsVersion, Versions};
 use std::marker::Model;
@@ -31,18 +25,8 @@ pub struct StreamedKomihash<const V: u8>
 where
     Versions: IsVersion<V>,
 {
-    lanes: Lanes,
-    pending: Pending,
-    // Whether a block was absorbed.
-    absorbed: bool,
-    // In version 4, whether the last byte of the last block is at least 128.
-    top_bit: bool,
-    ghost is_state: { IsState V (record {
-      lanes = lanes;
-      pending = pending;
-      absorbed = absorbed;
-      top_bit = top_bit;
-    }) },
+    raw: RawStream,
+    ghost is_state: { IsState V raw },
 }
 
 impl<const V: u8> Model for StreamedKomihash<V>
@@ -54,12 +38,7 @@ where
     ghost Value = { StateOf V };
 
     ghost view = { λ s. record {
-      state = record {
-        lanes = s.lanes;
-        pending = s.pending;
-        absorbed = s.absorbed;
-        top_bit = s.top_bit;
-      };
+      state = s.raw;
       is_state = s.is_state;
     } };
 }
@@ -169,58 +148,35 @@ where
     ghost state = { λ s. s.state };
 
     #[inline(always)]
-    #[tactic(auto, unfolding(crate::specs::Stream::absorb, crate::specs::Stream::HasAbsorbed))]
     fn start(seed: u64, tally: &mut Tally) -> Self {
         StreamedKomihash {
-            lanes: lanes_of(seed_pair(seed, tally)),
-            pending: Pending::new(),
-            absorbed: false,
-            top_bit: false,
+            raw: RawStream::start::<V>(seed, tally),
         }
     }
 
     #[inline(always)]
     fn absorb(&mut self, bytes: &[u8], tally: &mut Tally) {
-        if bytes.len() < 64 - self.pending.len() {
-            self.pending.append(bytes, tally);
-        } else {
-            self.top_bit = self
-                .pending
-                .append_and_absorb::<V>(&mut self.lanes, bytes, tally);
-            self.absorbed = true;
-        }
+        self.raw.absorb::<V>(bytes, tally);
     }
 
     #[inline(always)]
     fn answer(&self, tally: &mut Tally) -> u64 {
-        let pair = join(&self.lanes, self.absorbed);
-        if self.pending.len() == 0 {
-            let end = end_after_blocks(self.absorbed, self.top_bit);
-            return close_one(pair, end, tally);
-        }
-        let last = self.pending.final_word::<V>();
-        hash_below_eight(pair, &self.pending, last, tally)
+        self.raw.answer::<V>(tally)
     }
 
     #[inline(always)]
     fn store(&self, out: &mut [u8]) -> usize {
-        write_head::<V>(self.absorbed, self.top_bit, self.pending.len(), out);
-        write_lanes(&self.lanes, out);
-        write_pending(&self.pending, out)
+        self.raw.store::<V>(out)
     }
 
     #[inline(always)]
     #[tactic(auto, unfolding(crate::specs::Saved::IsTextAfter))]
     fn restore(bytes: &[u8]) -> Option<Self> {
-        if !is_text::<V>(bytes) {
+        if !RawStream::is_text::<V>(bytes) {
             return None;
         }
-        let (absorbed, top_bit) = read_head(bytes);
         Some(StreamedKomihash {
-            lanes: read_lanes(bytes),
-            pending: read_pending(bytes),
-            absorbed,
-            top_bit,
+            raw: RawStream::of_text::<V>(bytes),
         })
     }
 

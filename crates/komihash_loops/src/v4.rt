@@ -1,16 +1,16 @@
-//! The loops of version VERSION. Each is proved safe, and has no contract: the driver compares what
+//! The loops of version 4. Each is proved safe, and has no contract: the driver compares what
 //! it returns.
 
 use super::{Once, Text, split};
 use komihash::stream::{Call, KomiStream, run, run_on};
 use komihash::tally::Tally;
-use komihash::vVERSION::{KomiHasher, Komirand, StreamedKomihash, komihash_counted};
+use komihash::v4::{KomiHasher, Komirand, StreamedKomihash, komihash_counted};
 use std::hash::Hasher;
 
 /// The hash by a stream that takes pieces of these lengths, and then what is left. `answers` takes
 /// the answers after as many pieces as it has room for.
 #[unsafe(no_mangle)]
-pub extern "C" fn loop_vVERSION_stream(
+pub extern "C" fn loop_v4_stream(
     bytes: &[u8],
     pieces: &[usize],
     answers: &mut [u64],
@@ -32,7 +32,7 @@ pub extern "C" fn loop_vVERSION_stream(
 
 /// The same by lists of calls.
 #[unsafe(no_mangle)]
-pub extern "C" fn loop_vVERSION_calls(
+pub extern "C" fn loop_v4_calls(
     bytes: &[u8],
     pieces: &[usize],
     answers: &mut [u64],
@@ -59,12 +59,7 @@ pub extern "C" fn loop_vVERSION_calls(
 /// The hash by a stream that is saved and resumed `count` times after the message. Returns 0 if it
 /// isn't resumed.
 #[unsafe(no_mangle)]
-pub extern "C" fn loop_vVERSION_saves(
-    bytes: &[u8],
-    text: &mut Text,
-    count: usize,
-    seed: u64,
-) -> u64 {
+pub extern "C" fn loop_v4_saves(bytes: &[u8], text: &mut Text, count: usize, seed: u64) -> u64 {
     let mut stream = StreamedKomihash::new_with_seed(seed);
     stream.write(bytes);
     for _ in 0..count {
@@ -79,7 +74,7 @@ pub extern "C" fn loop_vVERSION_saves(
 
 /// The number of a hasher that takes pieces of these lengths.
 #[unsafe(no_mangle)]
-pub extern "C" fn loop_vVERSION_chain(bytes: &[u8], pieces: &[usize], seed: u64) -> u64 {
+pub extern "C" fn loop_v4_chain(bytes: &[u8], pieces: &[usize], seed: u64) -> u64 {
     let mut hasher = KomiHasher::new(seed);
     let mut left = bytes;
     for piece in pieces {
@@ -92,7 +87,7 @@ pub extern "C" fn loop_vVERSION_chain(bytes: &[u8], pieces: &[usize], seed: u64)
 
 /// Writes a generator's outputs.
 #[unsafe(no_mangle)]
-pub extern "C" fn loop_vVERSION_outputs(out: &mut [u64], s1: u64, s2: u64, start: u32) {
+pub extern "C" fn loop_v4_outputs(out: &mut [u64], s1: u64, s2: u64, start: u32) {
     let mut generator = generator(s1, s2, start);
     for word in out {
         *word = generator.next();
@@ -101,7 +96,7 @@ pub extern "C" fn loop_vVERSION_outputs(out: &mut [u64], s1: u64, s2: u64, start
 
 /// Fills pieces of these lengths by one generator, and returns the output after them.
 #[unsafe(no_mangle)]
-pub extern "C" fn loop_vVERSION_fills(
+pub extern "C" fn loop_v4_fills(
     out: &mut [u8],
     pieces: &[usize],
     s1: u64,
@@ -121,7 +116,7 @@ pub extern "C" fn loop_vVERSION_fills(
 
 /// Takes the hash of a message by each call that `Once` names.
 #[unsafe(no_mangle)]
-pub extern "C" fn loop_vVERSION_once(bytes: &[u8], seed: u64, once: &mut Once) {
+pub extern "C" fn loop_v4_once(bytes: &[u8], seed: u64, once: &mut Once) {
     let mut tally = Tally::new();
     once.counted = komihash_counted(bytes, seed, &mut tally);
     let mut out = [0; 2];

@@ -4,12 +4,12 @@ use Rattle.std.proofs.Common.{◌++◌, [], ◌∷◌, ◌∙◌, ap, arith, len
 use Rattle.std.proofs.lemmas.List.{nil_from_length}
 use Rattle.komihash.specs.Hash.{hash_from_pair}
 use Rattle.komihash.specs.Rounds.{join, closing}
-use Rattle.komihash.specs.Stream.{StateOf, answer}
+use Rattle.komihash.specs.Stream.{State, answer}
 use Rattle.komihash.specs.Tails.{whole_words, final_word}
 use Rattle.komihash.proofs.StreamAnswers.{answer-by_pair, answer-none, tail_end-pending}
 use Rattle.komihash.proofs.StreamSteps.{komi-answer}
 use Rattle.komihash.proofs.WholeWords.{length-whole_words}
-use Rattle.komihash.proofs.stream.streamed.StreamedKomihashKomiStream.answer.Goals as goal
+use Rattle.komihash.proofs.stream.raw.RawStream.answer.Goals as goal
 
 pub returns-then-len-eq0-clause-answer : goal.returns-then-len-eq0-clause-answer
 returns-then-len-eq0-clause-answer g c =
@@ -19,7 +19,7 @@ returns-then-len-eq0-clause-answer g c =
     ∙ ap (λ p. closing p (c.end_after_blocks-end.result ∷ [])) c.join-pair.ensures
     ∙ ap (λ b. closing (join s.absorbed s.lanes) (b ∷ [])) c.end_after_blocks-end.ensures
     ∙ sym (answer-none g.row.V _ none)
-    ∙ ap (λ (t : StateOf g.row.V). answer g.row.V t.state) c.self.view_is
+    ∙ ap (answer g.row.V) c.self.view_is
 
 pub returns-then-len-eq0-clause-hash : goal.returns-then-len-eq0-clause-hash
 returns-then-len-eq0-clause-hash g c seed m is =
@@ -30,7 +30,7 @@ hash_below_eight-requires g c = omega (arith, length-whole_words c.self.inside.p
 
 pub returns-clause-products : goal.returns-clause-products
 returns-clause-products g c =
-    let same = ap (λ (t : StateOf g.row.V). length t.state.pending) c.self.view_is in
+    let same = ap (λ (s : State). length s.pending) c.self.view_is in
     omega (arith, length-whole_words c.self.inside.pending)
 
 pub returns-clause-answer : goal.returns-clause-answer
@@ -45,7 +45,7 @@ returns-clause-answer g c =
     (λ w. hash_from_pair (join s.absorbed s.lanes) (whole_words s.pending ++ w ∷ []))
     word
     ∙ sym (answer-by_pair g.row.V _)
-    ∙ ap (λ (t : StateOf g.row.V). answer g.row.V t.state) c.self.view_is
+    ∙ ap (answer g.row.V) c.self.view_is
 
 pub returns-clause-hash : goal.returns-clause-hash
 returns-clause-hash g c seed m is =

@@ -2,7 +2,7 @@
 use Rattle.std.proofs.Common.{◌≡◌, take}
 use Rattle.std.specs.List.{flat_map}
 use Rattle.komihash.specs.Stream.{absorb}
-use Rattle.library.proofs.streams.absorb_pieces.Given as goal
+use Rattle.komihash_c.proofs.pieces.absorb_pieces.Given as goal
 
 abbrev pub invariant-loop-piece : goal.invariant-loop-piece
 invariant-loop-piece g l =

@@ -2,10 +2,10 @@ use Rattle.std.proofs.Common.{◌∙◌, sym, ap}
 use Rattle.std.proofs.lemmas.List.{take_all}
 use Rattle.std.specs.List.{flat_map}
 use Rattle.komihash.specs.Stream.{absorb}
-use Rattle.library.proofs.SavedBytes.{absorb-more}
+use Rattle.komihash_c.proofs.PieceLists.{absorb-more}
 use Rattle.komihash.proofs.StreamAbsorbs.{absorb-nothing}
 use Rattle.komihash.proofs.CallLists.{HasAbsorbed-more}
-use Rattle.library.proofs.streams.absorb_pieces.Goals as goal
+use Rattle.komihash_c.proofs.pieces.absorb_pieces.Goals as goal
 
 pub loop-piece-init : goal.loop-piece-init
 loop-piece-init g c = sym (absorb-nothing g.S.KomiStream.VERSION _)

@@ -1,0 +1,177 @@
+//! A stream whose type does not name its version, which is how C keeps one.
+
+ghost use Rattle.std.specs.Prelude.{◌≡◌, ◌+◌, ◌<◌, ◌≤◌, ◌↔◌, ℕ, IsTrue};
+ghost use Rattle.std.specs.Prelude.{List, [], ◌++◌, length, take, drop};
+ghost use Rattle.komihash.specs.Counts.{write_products, answer_products, kept_bytes};
+ghost use Rattle.komihash.specs.Hash.{komi};
+ghost use Rattle.komihash.specs.Saved.{text, IsText, IsTextAfter};
+ghost use Rattle.komihash.specs.Stream.{State, IsState, HasAbsorbed, start, absorb, answer};
+
+use super::LONGEST_TEXT;
+use super::saved::{
+    is_text, read_head, read_lanes, read_pending, write_head, write_lanes, write_pending,
+};
+use crate::padding::final_word::end_after_blocks;
+use crate::rounds::pending::Pending;
+use crate::rounds::{Lanes, close_one, join, lanes_of, seed_pair};
+use crate::tails::hash_below_eight;
+use crate::tally::Tally;
+use crate::version::{IsVersion, Versions};
+use std::marker::Model;
+
+/// A stream as C keeps it: its type does not name its version, so each call does, and its fields lie
+/// in their order. Rust callers use `StreamedKomihash`.
+#[derive(Drop)]
+#[repr(C)]
+pub struct RawStream {
+    lanes: Lanes,
+    pending: Pending,
+    // Whether a block was absorbed.
+    absorbed: bool,
+    // In version 4, whether the last byte of the last block is at least 128.
+    top_bit: bool,
+}
+
+impl Model for RawStream {
+    ghost use Rattle.komihash.specs.Stream.{State};
+
+    ghost Value = { State };
+
+    ghost view = { λ s. record {
+      lanes = s.lanes;
+      pending = s.pending;
+      absorbed = s.absorbed;
+      top_bit = s.top_bit;
+    } };
+
+    ghost inverse = { λ s. record {
+      lanes = s.lanes;
+      pending = s.pending;
+      absorbed = s.absorbed;
+      top_bit = s.top_bit;
+    } };
+}
+
+impl RawStream {
+    /// Returns the new stream of a seed. Counts one product.
+    #[inline(always)]
+    #[tactic(auto, unfolding(crate::specs::Stream::absorb, crate::specs::Stream::HasAbsorbed))]
+    pub fn start<const V: u8>(seed: u64, tally: &mut Tally) -> RawStream
+    where
+        Versions: IsVersion<V>,
+        ensures state { result ≡ start seed }
+        ensures is_state { IsState V result }
+        ensures message { HasAbsorbed V seed result [] }
+        ensures products { tally.new.products ≡ tally.old.products + 1 }
+        ensures kept { tally.new.kept ≡ tally.old.kept }
+    {
+        RawStream {
+            lanes: lanes_of(seed_pair(seed, tally)),
+            pending: Pending::new(),
+            absorbed: false,
+            top_bit: false,
+        }
+    }
+
+    /// Absorbs bytes. Counts four products for each block of 64 bytes that they complete, and the
+    /// bytes that are copied.
+    #[inline(always)]
+    pub fn absorb<const V: u8>(&mut self, bytes: &[u8], tally: &mut Tally)
+    where
+        Versions: IsVersion<V>,
+        ensures state { self.new ≡ absorb V self.old bytes.now }
+        ensures is_state { IsState V self.old → IsState V self.new }
+        ensures message { (seed : ℕ) (m : List ℕ) → HasAbsorbed V seed self.old m
+            → HasAbsorbed V seed self.new (m ++ bytes.now) }
+        ensures joined { (seed : ℕ) (m all : List ℕ) → HasAbsorbed V seed self.old m
+            → m ++ bytes.now ≡ all → HasAbsorbed V seed self.new all }
+        ensures products { tally.new.products ≡ tally.old.products
+            + write_products (length self.old.pending) (length bytes.now) }
+        ensures kept { tally.new.kept ≡ tally.old.kept
+            + kept_bytes (length self.old.pending) (length bytes.now) }
+    {
+        if bytes.len() < 64 - self.pending.len() {
+            self.pending.append(bytes, tally);
+        } else {
+            self.top_bit = self
+                .pending
+                .append_and_absorb::<V>(&mut self.lanes, bytes, tally);
+            self.absorbed = true;
+        }
+    }
+
+    /// Returns the hash of all bytes so far. The stream is unchanged. Counts two products, and one
+    /// for each 16 pending bytes.
+    #[inline(always)]
+    pub fn answer<const V: u8>(&self, tally: &mut Tally) -> u64
+    where
+        Versions: IsVersion<V>,
+        ensures answer { result ≡ answer V self.now }
+        ensures hash { (seed : ℕ) (m : List ℕ) → HasAbsorbed V seed self.now m
+            → result ≡ komi V seed m }
+        ensures products { tally.new.products
+            ≡ tally.old.products + answer_products (length self.now.pending) }
+        ensures kept { tally.new.kept ≡ tally.old.kept }
+    {
+        let pair = join(&self.lanes, self.absorbed);
+        if self.pending.len() == 0 {
+            let end = end_after_blocks(self.absorbed, self.top_bit);
+            return close_one(pair, end, tally);
+        }
+        let last = self.pending.final_word::<V>();
+        hash_below_eight(pair, &self.pending, last, tally)
+    }
+
+    /// Writes the saved text of the stream to the front of `out`, whose rest is unchanged. Returns
+    /// the text's length in bytes.
+    ///
+    /// `out` needs room for `LONGEST_TEXT` bytes, whatever is pending.
+    #[inline(always)]
+    pub fn store<const V: u8>(&self, out: &mut [u8]) -> usize
+    where
+        Versions: IsVersion<V>,
+        requires { LONGEST_TEXT ≤ length out.old }
+        ensures length { result ≡ length (text V self.now) }
+        ensures most { result ≤ LONGEST_TEXT }
+        ensures text { take result out.new ≡ text V self.now }
+        ensures message { IsState V self.now → (seed : ℕ) (m : List ℕ) → HasAbsorbed V seed self.now m
+            → IsTextAfter V seed m (take result out.new) }
+        ensures rest { drop result out.new ≡ drop result out.old }
+    {
+        write_head::<V>(self.absorbed, self.top_bit, self.pending.len(), out);
+        write_lanes(&self.lanes, out);
+        write_pending(&self.pending, out)
+    }
+
+    /// Returns whether bytes are the saved text of a stream of version V.
+    #[inline(always)]
+    pub fn is_text<const V: u8>(bytes: &[u8]) -> bool
+    where
+        Versions: IsVersion<V>,
+        ensures text { IsTrue result ↔ IsText V bytes.now }
+        ensures most { IsTrue result → length bytes.now ≤ LONGEST_TEXT }
+    {
+        is_text::<V>(bytes)
+    }
+
+    /// Returns the stream that has these bytes as its saved text.
+    #[inline(always)]
+    pub fn of_text<const V: u8>(bytes: &[u8]) -> RawStream
+    where
+        Versions: IsVersion<V>,
+        requires { IsText V bytes.now }
+        ensures is_state { IsState V result }
+        ensures text { text V result ≡ bytes.now }
+        ensures same { (s : State) → IsState V s → text V s ≡ bytes.now → result ≡ s }
+        ensures message { (seed : ℕ) (m : List ℕ) → IsTextAfter V seed m bytes.now
+            → HasAbsorbed V seed result m }
+    {
+        let (absorbed, top_bit) = read_head(bytes);
+        RawStream {
+            lanes: read_lanes(bytes),
+            pending: read_pending(bytes),
+            absorbed,
+            top_bit,
+        }
+    }
+}

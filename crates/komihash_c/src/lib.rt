@@ -1,0 +1,7 @@
+//! The crate `komihash` for C, and for every language that calls C. `komihash_rattle.h` says what a
+//! caller must observe.
+#![tactic(auto)]
+
+mod pieces;
+mod v4;
+mod v5;

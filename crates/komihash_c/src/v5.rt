@@ -1,0 +1,230 @@
+//! The functions of version 5, as C calls them. `komihash_rattle.h` declares them.
+
+ghost use Rattle.std.specs.Prelude.{◌≡◌, ◌+◌, ◌-◌, ◌*◌, ◌/◌, ◌<◌, ◌≤◌, ◌^◌, ◌++◌, ◌↔◌, true, false};
+ghost use Rattle.std.specs.Prelude.{ℕ, List, [], length, take, drop};
+ghost use Rattle.std.specs.List.{flat_map};
+ghost use Rattle.komihash.specs.Generator.{after_steps, fill};
+ghost use Rattle.komihash.specs.Hash.{komi};
+ghost use Rattle.komihash.specs.Padding.{ArePadded, padded_words};
+ghost use Rattle.komihash.specs.Saved.{text, IsText, IsTextAfter};
+ghost use Rattle.komihash.specs.Stream.{State, IsState, HasAbsorbed, start, absorb, answer};
+ghost use Rattle.komihash.specs.Words.{AreBytes};
+
+use super::pieces::{Piece, absorb_pieces};
+use komihash::stream::raw::RawStream;
+use komihash::stream::{KomiStream, LONGEST_TEXT};
+use komihash::tally::Tally;
+use komihash::v5::{self, Komirand};
+
+/// A stream of version 5.
+#[derive(Drop)]
+#[repr(C)]
+pub struct Stream {
+    raw: RawStream,
+    ghost is_state: { IsState 5 raw },
+}
+
+const _: () = prove!(size_of::<Stream>() == 144);
+
+impl KomiStream for Stream {
+    ghost use Rattle.std.proofs.Common.{inr, refl};
+
+    const VERSION: u8 = 5;
+
+    ghost VERSION = { 5 };
+
+    ghost state = { λ s. s.raw };
+
+    #[inline(always)]
+    fn start(seed: u64, tally: &mut Tally) -> Self {
+        Stream {
+            raw: RawStream::start::<5>(seed, tally),
+        }
+    }
+
+    #[inline(always)]
+    fn absorb(&mut self, bytes: &[u8], tally: &mut Tally) {
+        self.raw.absorb::<5>(bytes, tally);
+    }
+
+    #[inline(always)]
+    fn answer(&self, tally: &mut Tally) -> u64 {
+        self.raw.answer::<5>(tally)
+    }
+
+    #[inline(always)]
+    fn store(&self, out: &mut [u8]) -> usize {
+        self.raw.store::<5>(out)
+    }
+
+    #[inline(always)]
+    #[tactic(auto, unfolding(komihash::specs::Saved::IsTextAfter))]
+    fn restore(bytes: &[u8]) -> Option<Self> {
+        if !RawStream::is_text::<5>(bytes) {
+            return None;
+        }
+        Some(Stream {
+            raw: RawStream::of_text::<5>(bytes),
+        })
+    }
+
+    ghost versions = { inr refl };
+
+    ghost is_state = { λ s. s.is_state };
+}
+
+/// Returns the hash of a message with a seed.
+#[unsafe(no_mangle)]
+pub extern "C" fn komihash_v5(bytes: &[u8], seed: u64) -> u64
+    ensures { result ≡ komi 5 seed bytes.now }
+{
+    v5::komihash(bytes, seed)
+}
+
+/// Returns the hash of pieces, joined.
+#[unsafe(no_mangle)]
+pub extern "C" fn komihash_v5_pieces(pieces: &[Piece<'_>], seed: u64) -> u64
+    ensures { result ≡ komi 5 seed (flat_map (λ piece. piece.bytes.now) pieces.now) }
+{
+    let mut stream = Stream::start(seed, &mut Tally::new());
+    absorb_pieces(&mut stream, pieces);
+    stream.answer(&mut Tally::new())
+}
+
+/// Fills the buffer from the generator of this pair.
+#[unsafe(no_mangle)]
+pub extern "C" fn komihash_v5_fill(out: &mut [u8], s1: u64, s2: u64)
+    ensures { out.new ≡ fill 5 (s1, s2) (length out.old) }
+{
+    Komirand::new(s1, s2).fill_bytes(out);
+}
+
+/// Fills the buffer from the generator of these seeds, which has taken four steps.
+#[unsafe(no_mangle)]
+pub extern "C" fn komihash_v5_fill_seeded(out: &mut [u8], seed: u64, extra_seed: u64)
+    ensures { out.new ≡ fill 5 (after_steps 5 4 (seed, extra_seed)) (length out.old) }
+{
+    Komirand::init_with_extra_seed(seed, extra_seed).fill_bytes(out);
+}
+
+/// Writes the padded words of a message to the front of `out`, and returns their number. Returns 0
+/// if `out` has no room for them.
+#[unsafe(no_mangle)]
+pub extern "C" fn komihash_v5_pad(bytes: &[u8], out: &mut [u64]) -> usize
+    ensures padded { length bytes.now / 8 < length out.old
+        → take result out.new ≡ padded_words 5 bytes.now }
+    ensures count { length bytes.now / 8 < length out.old → result ≡ length bytes.now / 8 + 1 }
+    ensures rest { drop result out.new ≡ drop result out.old }
+    ensures no_room { length out.old ≤ length bytes.now / 8 → result ≡ 0 }
+{
+    if out.len() <= bytes.len() / 8 {
+        return 0;
+    }
+    v5::pad(bytes, out)
+}
+
+/// Writes the message that has these padded words to the front of `out`, and returns its length.
+/// Returns `usize::MAX` if no message has them, or if `out` has fewer than eight bytes for each
+/// word.
+#[unsafe(no_mangle)]
+pub extern "C" fn komihash_v5_unpad(words: &[u64], out: &mut [u8]) -> usize
+    ensures length { result < 2 ^ 64 - 1 → result / 8 + 1 ≡ length words.now }
+    ensures message { result < 2 ^ 64 - 1 → padded_words 5 (take result out.new) ≡ words.now }
+    ensures same { (m : List ℕ) → AreBytes m → padded_words 5 m ≡ words.now
+        → result < 2 ^ 64 - 1 → take result out.new ≡ m }
+    ensures rest { drop result out.new ≡ drop result out.old }
+    ensures unchanged { result ≡ 2 ^ 64 - 1 → out.new ≡ out.old }
+    ensures no_room { length out.old < 8 * length words.now → result ≡ 2 ^ 64 - 1 }
+    ensures none { ¬ ArePadded 5 words.now → result ≡ 2 ^ 64 - 1 }
+    ensures found { 8 * length words.now ≤ length out.old → ArePadded 5 words.now
+        → result < 2 ^ 64 - 1 }
+{
+    if out.len() / 8 < words.len() {
+        return usize::MAX;
+    }
+    match v5::unpad(words, out) {
+        Some(length) => length,
+        None => usize::MAX,
+    }
+}
+
+/// Returns the new stream of a seed.
+#[unsafe(no_mangle)]
+pub extern "C" fn komihash_v5_start(seed: u64) -> Stream
+    ensures state { result.raw ≡ start seed }
+    ensures message { HasAbsorbed 5 seed result.raw [] }
+{
+    Stream::start(seed, &mut Tally::new())
+}
+
+/// Absorbs bytes.
+#[unsafe(no_mangle)]
+pub extern "C" fn komihash_v5_write(stream: &mut Stream, bytes: &[u8])
+    ensures state { stream.new.raw ≡ absorb 5 stream.old.raw bytes.now }
+    ensures message { (seed : ℕ) (m : List ℕ) → HasAbsorbed 5 seed stream.old.raw m
+        → HasAbsorbed 5 seed stream.new.raw (m ++ bytes.now) }
+{
+    stream.absorb(bytes, &mut Tally::new());
+}
+
+/// Absorbs pieces in order.
+#[unsafe(no_mangle)]
+pub extern "C" fn komihash_v5_write_pieces(stream: &mut Stream, pieces: &[Piece<'_>])
+    ensures state { stream.new.raw ≡ absorb 5 stream.old.raw
+        (flat_map (λ piece. piece.bytes.now) pieces.now) }
+    ensures message { (seed : ℕ) (m : List ℕ) → HasAbsorbed 5 seed stream.old.raw m
+        → HasAbsorbed 5 seed stream.new.raw
+        (m ++ flat_map (λ piece. piece.bytes.now) pieces.now) }
+{
+    absorb_pieces(stream, pieces);
+}
+
+/// Returns the hash of all bytes so far. The stream is unchanged.
+#[unsafe(no_mangle)]
+pub extern "C" fn komihash_v5_finish(stream: &Stream) -> u64
+    ensures answer { result ≡ answer 5 stream.now.raw }
+    ensures hash { (seed : ℕ) (m : List ℕ) → HasAbsorbed 5 seed stream.now.raw m
+        → result ≡ komi 5 seed m }
+{
+    stream.answer(&mut Tally::new())
+}
+
+/// Writes the saved text of the stream to the front of `out`, and returns its length. Returns 0 if
+/// `out` has no room for the longest text.
+#[unsafe(no_mangle)]
+pub extern "C" fn komihash_v5_save(stream: &Stream, out: &mut [u8]) -> usize
+    ensures text { LONGEST_TEXT ≤ length out.old
+        → take result out.new ≡ text 5 stream.now.raw }
+    ensures message { LONGEST_TEXT ≤ length out.old
+        → (seed : ℕ) (m : List ℕ) → HasAbsorbed 5 seed stream.now.raw m
+        → IsTextAfter 5 seed m (take result out.new) }
+    ensures length { LONGEST_TEXT ≤ length out.old → result ≡ length (text 5 stream.now.raw) }
+    ensures most { result ≤ LONGEST_TEXT }
+    ensures rest { drop result out.new ≡ drop result out.old }
+    ensures no_room { length out.old < LONGEST_TEXT → result ≡ 0 }
+{
+    if out.len() < LONGEST_TEXT {
+        return 0;
+    }
+    stream.store(out)
+}
+
+/// Sets the stream to the one that has these bytes as its saved text, and returns true. Changes
+/// nothing, and returns false, if no stream of this version has.
+#[unsafe(no_mangle)]
+pub extern "C" fn komihash_v5_resume(stream: &mut Stream, bytes: &[u8]) -> bool
+    ensures text { result ≡ true → text 5 stream.new.raw ≡ bytes.now }
+    ensures state { (s : State) → IsState 5 s → text 5 s ≡ bytes.now → stream.new.raw ≡ s }
+    ensures message { (seed : ℕ) (m : List ℕ) → IsTextAfter 5 seed m bytes.now
+        → HasAbsorbed 5 seed stream.new.raw m }
+    ensures refused { result ≡ false ↔ ¬ IsText 5 bytes.now }
+    ensures same { result ≡ false → stream.new ≡ stream.old }
+{
+    match Stream::restore(bytes) {
+        Some(resumed) => {
+            *stream = resumed;
+            true
+        }
+        None => false,
+    }
+}

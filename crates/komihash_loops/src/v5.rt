@@ -1,0 +1,144 @@
+//! The loops of version 5. Each is proved safe, and has no contract: the driver compares what
+//! it returns.
+
+use super::{Once, Text, split};
+use komihash::stream::{Call, KomiStream, run, run_on};
+use komihash::tally::Tally;
+use komihash::v5::{KomiHasher, Komirand, StreamedKomihash, komihash_counted};
+use std::hash::Hasher;
+
+/// The hash by a stream that takes pieces of these lengths, and then what is left. `answers` takes
+/// the answers after as many pieces as it has room for.
+#[unsafe(no_mangle)]
+pub extern "C" fn loop_v5_stream(
+    bytes: &[u8],
+    pieces: &[usize],
+    answers: &mut [u64],
+    seed: u64,
+) -> u64 {
+    let mut stream = StreamedKomihash::new_with_seed(seed);
+    let mut left = bytes;
+    for (i, piece) in pieces.iter().enumerate() {
+        let (next, others) = split(left, *piece);
+        stream.write(next);
+        left = others;
+        if i < answers.len() {
+            answers[i] = stream.finish();
+        }
+    }
+    stream.write(left);
+    stream.finish()
+}
+
+/// The same by lists of calls.
+#[unsafe(no_mangle)]
+pub extern "C" fn loop_v5_calls(
+    bytes: &[u8],
+    pieces: &[usize],
+    answers: &mut [u64],
+    seed: u64,
+) -> u64 {
+    let mut tally = Tally::new();
+    let mut out = [0; 2];
+    let mut stream = StreamedKomihash::start(seed, &mut tally);
+    let mut left = bytes;
+    for (i, piece) in pieces.iter().enumerate() {
+        let (next, others) = split(left, *piece);
+        let calls = [Call::Absorb(next), Call::Answer];
+        run_on(&mut stream, &calls, &mut out, &mut tally);
+        left = others;
+        if i < answers.len() {
+            answers[i] = out[0];
+        }
+    }
+    let calls = [Call::Absorb(left), Call::Answer];
+    run_on(&mut stream, &calls, &mut out, &mut tally);
+    out[0]
+}
+
+/// The hash by a stream that is saved and resumed `count` times after the message. Returns 0 if it
+/// isn't resumed.
+#[unsafe(no_mangle)]
+pub extern "C" fn loop_v5_saves(bytes: &[u8], text: &mut Text, count: usize, seed: u64) -> u64 {
+    let mut stream = StreamedKomihash::new_with_seed(seed);
+    stream.write(bytes);
+    for _ in 0..count {
+        let length = stream.save(&mut text.bytes);
+        match StreamedKomihash::resume(&text.bytes[..length]) {
+            Some(resumed) => stream = resumed,
+            None => return 0,
+        }
+    }
+    stream.finish()
+}
+
+/// The number of a hasher that takes pieces of these lengths.
+#[unsafe(no_mangle)]
+pub extern "C" fn loop_v5_chain(bytes: &[u8], pieces: &[usize], seed: u64) -> u64 {
+    let mut hasher = KomiHasher::new(seed);
+    let mut left = bytes;
+    for piece in pieces {
+        let (next, others) = split(left, *piece);
+        hasher.write(next);
+        left = others;
+    }
+    hasher.finish()
+}
+
+/// Writes a generator's outputs.
+#[unsafe(no_mangle)]
+pub extern "C" fn loop_v5_outputs(out: &mut [u64], s1: u64, s2: u64, start: u32) {
+    let mut generator = generator(s1, s2, start);
+    for word in out {
+        *word = generator.next();
+    }
+}
+
+/// Fills pieces of these lengths by one generator, and returns the output after them.
+#[unsafe(no_mangle)]
+pub extern "C" fn loop_v5_fills(
+    out: &mut [u8],
+    pieces: &[usize],
+    s1: u64,
+    s2: u64,
+    start: u32,
+) -> u64 {
+    let mut generator = generator(s1, s2, start);
+    let mut left = out;
+    for piece in pieces {
+        let length = left.len().min(*piece);
+        let (next, others) = left.split_at_mut(length);
+        generator.fill_bytes(next);
+        left = others;
+    }
+    generator.next()
+}
+
+/// Takes the hash of a message by each call that `Once` names.
+#[unsafe(no_mangle)]
+pub extern "C" fn loop_v5_once(bytes: &[u8], seed: u64, once: &mut Once) {
+    let mut tally = Tally::new();
+    once.counted = komihash_counted(bytes, seed, &mut tally);
+    let mut out = [0; 2];
+    let calls = [Call::Absorb(bytes), Call::Answer];
+    run::<StreamedKomihash>(seed, &calls, &mut out, &mut tally);
+    once.run = out[0];
+    let mut stream = StreamedKomihash::new();
+    stream.write(bytes);
+    once.new_stream = stream.finish();
+    let mut stream = StreamedKomihash::default();
+    stream.write(bytes);
+    once.default_stream = stream.finish();
+    let mut hasher = KomiHasher::default();
+    hasher.write(bytes);
+    once.default_hasher = hasher.finish();
+}
+
+// The generator of a pair: as it is, from the first number as a seed, or from both as seeds.
+fn generator(s1: u64, s2: u64, start: u32) -> Komirand {
+    match start {
+        0 => Komirand::new(s1, s2),
+        1 => Komirand::init(s1),
+        _ => Komirand::init_with_extra_seed(s1, s2),
+    }
+}
