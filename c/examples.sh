@@ -96,8 +96,6 @@ cases_in_c() {
     note "calls.c calls every function ($compilers)" with_each "$compilers" calls_declared
     note "calls.c prints what calls.txt has ($compilers)" \
         with_each "$compilers" runs c11 calls.c calls.txt
-    note "calls on overwritten streams stay within what they are passed ($compilers)" \
-        with_each "$compilers" runs c11 overwritten.c /dev/null
     note "the example of README.md ($compilers)" \
         with_each "$compilers" runs c11 "$out/example.c" examples/printed.txt
     note 'the shared object is linked' link_shared

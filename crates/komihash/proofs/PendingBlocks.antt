@@ -1,9 +1,8 @@
 -- The partial block, completed by the first bytes of a write, is the first block of all bytes.
 use Rattle.std.proofs.Common.{◌≡◌, ℕ, ◌+◌, ◌-◌, ◌<◌, ◌≤◌, List, ◌++◌, length, take, drop, ap, arith, ◌∙◌, sym}
-use Rattle.std.proofs.lemmas.List.{append_assoc, length-append, length-take-le, take-append-drop, drop_at, nil_from_length}
+use Rattle.std.proofs.lemmas.List.{append_assoc, length-append, length-take-le, take-append-drop, drop_at}
 use Rattle.komihash.specs.Rounds.{Lanes, block_round}
 use Rattle.komihash.specs.Tails.{whole_words, block_lanes, after_blocks}
-use Rattle.komihash.proofs.PendingBytes.{put_laws, pending_bytes_none, ArePending_none}
 use Rattle.komihash.proofs.Blocks.{block_lanes-bytes, after_blocks_more}
 
 module _ (xs bytes : List ℕ) (few : length xs < 64) (many : 64 ≤ length xs + length bytes) where
@@ -31,6 +30,3 @@ module _ (xs bytes : List ℕ) (few : length xs < 64) (many : 64 ≤ length xs +
   completed_left =
       rw all_bytes (after_blocks_more (block ++ rest) (omega (arith, length-append block rest, length_block))
       ∙ ap after_blocks (drop_at block rest 64 length_block))
-
--- what the functions on blocks and pending bytes are proved by
-pub ruleset block_laws = (put_laws, pending_bytes_none, ArePending_none, nil_from_length)

@@ -4,14 +4,12 @@
 
 ghost use Rattle.std.specs.Prelude.{◌≡◌, ◌+◌, ◌-◌, ◌<◌, ◌≤◌, [], ◌++◌};
 ghost use Rattle.std.specs.Prelude.{length, take, drop, slice_index};
-ghost use Rattle.komihash.specs.Counts.{write_products, kept_bytes};
-ghost use Rattle.komihash.specs.Tails.{whole_words, final_word, block_lanes, after_blocks};
+ghost use Rattle.komihash.specs.Tails.{whole_words, final_word};
 ghost use Rattle.komihash.specs.Padding.{has_top_bit, padding_byte};
 
-mod blocks;
 mod writer;
 
-use super::Lanes;
+use self::writer::put;
 use crate::padding::final_word::{has_top_bit, padding_after};
 use crate::tally::Tally;
 use crate::utils::Words;
@@ -62,14 +60,12 @@ impl Pending {
     }
 
     /// Returns the number of bytes.
-    // The remainder changes nothing where the invariant holds. Where C has overwritten the stream, it
-    // keeps each access within the words.
     #[inline(always)]
     pub(crate) fn len(&self) -> usize
         ensures length { result ≡ length self.now }
         ensures few { result < 64 }
     {
-        self.fill % 64
+        self.fill
     }
 
     // Returns the last byte. Its word has zeros above it.
@@ -78,7 +74,7 @@ impl Pending {
         requires { 0 < length self.now }
         ensures { result ≡ slice_index self.now (length self.now - 1) }
     {
-        let at = self.len() - 1;
+        let at = self.fill - 1;
         (self.words[at / 8] >> (8 * (at % 8))) as u8
     }
 
@@ -90,34 +86,39 @@ impl Pending {
         ensures products { tally.new.products ≡ tally.old.products }
         ensures kept { tally.new.kept ≡ tally.old.kept + length bytes.now }
     {
-        let fill = self.len();
-        writer::put::<false>(&mut self.words, fill, bytes, tally);
-        self.fill = fill + bytes.len();
+        put::<false>(&mut self.words, self.fill, bytes, tally);
+        self.fill += bytes.len();
     }
 
-    /// Appends bytes that complete a block or more, and absorbs each whole block. Returns whether
-    /// `has_top_bit` holds of the last byte of the last block.
+    /// Stores bytes where none are stored, and counts them as kept.
     #[inline(always)]
-    pub(crate) fn append_and_absorb<const V: u8>(
-        &mut self,
-        lanes: &mut Lanes,
-        bytes: &[u8],
-        tally: &mut Tally,
-    ) -> bool
-        requires { 64 ≤ length self.old + length bytes.now }
-        ensures lanes { lanes.new ≡ block_lanes V lanes.old (whole_words (self.old ++ bytes.now)) }
-        ensures bytes { self.new ≡ after_blocks (self.old ++ bytes.now) }
-        ensures top_bit { result
-            ≡ has_top_bit V (slice_index bytes.now (length bytes.now - length self.new - 1)) }
-        ensures products { tally.new.products
-            ≡ tally.old.products + write_products (length self.old) (length bytes.now) }
-        ensures kept { tally.new.kept
-            ≡ tally.old.kept + kept_bytes (length self.old) (length bytes.now) }
+    pub(crate) fn keep(&mut self, bytes: &[u8], tally: &mut Tally)
+        requires none { self.old ≡ [] }
+        requires few { length bytes.now < 64 }
+        ensures bytes { self.new ≡ bytes.now }
+        ensures products { tally.new.products ≡ tally.old.products }
+        ensures kept { tally.new.kept ≡ tally.old.kept + length bytes.now }
     {
-        let before = self.len();
-        let fill = blocks::absorb_and_keep::<V>(lanes, &mut self.words, before, bytes, tally);
-        self.fill = fill;
-        has_top_bit::<V>(bytes[bytes.len() - fill - 1])
+        if !bytes.is_empty() {
+            put::<false>(&mut self.words, 0, bytes, tally);
+            self.fill = bytes.len();
+        }
+    }
+
+    /// Returns the words of the block that bytes complete, and stores none then. Counts the bytes as
+    /// kept.
+    #[inline(always)]
+    pub(crate) fn complete(&mut self, bytes: &[u8], tally: &mut Tally) -> [u64; 8]
+        requires { length self.old + length bytes.now ≡ 64 }
+        ensures block { result ≡ whole_words (self.old ++ bytes.now) }
+        ensures none { self.new ≡ [] }
+        ensures products { tally.new.products ≡ tally.old.products }
+        ensures kept { tally.new.kept ≡ tally.old.kept + length bytes.now }
+    {
+        put::<true>(&mut self.words, self.fill, bytes, tally);
+        let block = self.words;
+        *self = Pending::new();
+        block
     }
 
     /// Returns the final word of at least one byte: those after the last whole word, and the padding
@@ -128,8 +129,7 @@ impl Pending {
         ensures { result ≡ final_word self.now (padding_byte V self.now) }
     {
         let end = padding_after(has_top_bit::<V>(self.last_byte()));
-        let fill = self.len();
-        self.words[fill / 8] | end << (8 * (fill % 8))
+        self.words[self.fill / 8] | end << (8 * (self.fill % 8))
     }
 
     /// Writes the bytes to the front of `out`, whose rest is unchanged.
@@ -139,7 +139,7 @@ impl Pending {
         ensures bytes { take (length self.now) out.new ≡ self.now }
         ensures rest { drop (length self.now) out.new ≡ drop (length self.now) out.old }
     {
-        write_bytes(&self.words, self.len(), out);
+        write_bytes(&self.words, self.fill, out);
     }
 }
 

@@ -6,14 +6,16 @@ ghost use Rattle.komihash.specs.Counts.{write_products, answer_products, kept_by
 ghost use Rattle.komihash.specs.Hash.{komi};
 ghost use Rattle.komihash.specs.Saved.{text, IsText, IsTextAfter};
 ghost use Rattle.komihash.specs.Stream.{State, IsState, HasAbsorbed, start, absorb, answer};
+ghost use Rattle.komihash.specs.Tails.{whole_words, block_lanes, after_blocks};
 
 use super::LONGEST_TEXT;
 use super::saved::{
     is_text, read_head, read_lanes, read_pending, write_head, write_lanes, write_pending,
 };
-use crate::padding::final_word::end_after_blocks;
+use crate::padding::final_word::{end_after_blocks, has_top_bit};
+use crate::rounds::blocks::absorb_blocks;
 use crate::rounds::pending::Pending;
-use crate::rounds::{Lanes, close_one, join, lanes_of, seed_pair};
+use crate::rounds::{Lanes, block_round, close_one, copied, join, lanes_of, places, seed_pair};
 use crate::tails::hash_below_eight;
 use crate::tally::Tally;
 use crate::version::{IsVersion, Versions};
@@ -93,11 +95,42 @@ impl RawStream {
         if bytes.len() < 64 - self.pending.len() {
             self.pending.append(bytes, tally);
         } else {
-            self.top_bit = self
-                .pending
-                .append_and_absorb::<V>(&mut self.lanes, bytes, tally);
-            self.absorbed = true;
+            self.complete_blocks::<V>(bytes, tally);
         }
+    }
+
+    // Absorbs bytes that complete a block or more. Copies those that complete the partial block, if
+    // there is one, and those after the last block.
+    #[inline(never)]
+    fn complete_blocks<const V: u8>(&mut self, bytes: &[u8], tally: &mut Tally)
+    where
+        Versions: IsVersion<V>,
+        requires { 64 ≤ length self.old.pending + length bytes.now }
+        ensures state { self.new ≡ absorb V self.old bytes.now }
+        ensures products { tally.new.products ≡ tally.old.products
+            + write_products (length self.old.pending) (length bytes.now) }
+        ensures kept { tally.new.kept ≡ tally.old.kept
+            + kept_bytes (length self.old.pending) (length bytes.now) }
+    {
+        let fill = self.pending.len();
+        let end = bytes.len() - (fill + bytes.len()) % 64;
+        self.top_bit = has_top_bit::<V>(bytes[end - 1]);
+        self.absorbed = true;
+        let mut lanes;
+        let mut rest = bytes;
+        if fill == 0 {
+            lanes = copied(&self.lanes);
+        } else {
+            let (head, tail) = bytes.split_at(64 - fill);
+            let block = self.pending.complete(head, tally);
+            // Not before `complete`, which needs the registers itself.
+            lanes = copied(&self.lanes);
+            block_round(&mut lanes, &block, places::<V>(), tally);
+            rest = tail;
+        }
+        let left = absorb_blocks::<V>(&mut lanes, rest, tally);
+        self.lanes = lanes;
+        self.pending.keep(left, tally);
     }
 
     /// Returns the hash of all bytes so far. The stream is unchanged. Counts two products, and one
