@@ -14,6 +14,7 @@ use Rattle.komihash.proofs.Blocks.{after_blocks_more, after_blocks_few}
 use Rattle.komihash.proofs.PaddingWords.{padded_words-by_tail}
 use Rattle.komihash.proofs.WholeWords.{whole_words-few, after_words-few, whole_words-more}
 use Rattle.komihash.proofs.WholeWords.{whole_words-append, length-whole_words}
+use Rattle.komihash.proofs.WholeWords.{words_from, whole_words-from}
 
 -- a pair round takes two words that are followed by the final word
 pub hash_from_pair_two : (s : ℕ × ℕ) (ws : List ℕ) (at last : ℕ) → at + 2 ≤ length ws
@@ -106,6 +107,20 @@ module _ (v seed : ℕ) (m : List ℕ) where
 
   pub komi_few : length m < 8 → komi v seed m ≡ closing pair (word_of (m ++ end_byte v m ∷ []) ∷ [])
   komi_few lt = rw (komi_short (omega arith), whole_words-few m lt, after_words-few m lt) refl
+
+  abbrev round : ℕ × ℕ
+  round = pair_round pair (word_of (take 8 m)) (word_of (take 8 (drop 8 m)))
+
+  pub komi_three : 16 ≤ length m → length m < 24 → komi v seed m ≡ closing round (last ∷ [])
+  komi_three le lt =
+      let words : whole_words m ≡ words_from 2 0 m = whole_words-from 2 0 m (omega arith) (omega arith) in
+      rw (komi_short (omega arith), words) refl
+
+  pub komi_four : 24 ≤ length m → length m < 32
+      → komi v seed m ≡ closing round (word_of (take 8 (drop 16 m)) ∷ last ∷ [])
+  komi_four le lt =
+      let words : whole_words m ≡ words_from 3 0 m = whole_words-from 3 0 m (omega arith) (omega arith) in
+      rw (komi_short (omega arith), words) refl
 
 pub komi_empty : (v seed : ℕ) (m : List ℕ) → length m ≡ 0
     → komi v seed m ≡ closing (seed_pair seed) (0 ∷ [])

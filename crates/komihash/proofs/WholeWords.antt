@@ -78,20 +78,21 @@ whole_words-append (a ∷ b ∷ c ∷ d ∷ e ∷ f ∷ g ∷ h ∷ xs) ys k is 
 whole_words-append xs ys k is = absurd (omega arith)
 
 -- n words from an index on
-abbrev words_from : ℕ → ℕ → List ℕ → List ℕ
+abbrev pub words_from : ℕ → ℕ → List ℕ → List ℕ
 words_from zero at xs = []
 words_from (suc n) at xs = word_of (take 8 (drop at xs)) ∷ words_from n (at + 8) xs
 
-whole_words-from : (n at : ℕ) (xs : List ℕ) → length xs ≡ at + 8 * n → whole_words (drop at xs) ≡ words_from n at xs
-whole_words-from zero at xs e = whole_words-few (drop at xs) (omega (arith, length-drop at xs))
-whole_words-from (suc n) at xs e =
+pub whole_words-from : (n at : ℕ) (xs : List ℕ) → at + 8 * n ≤ length xs → length xs < at + 8 * n + 8
+    → whole_words (drop at xs) ≡ words_from n at xs
+whole_words-from zero at xs le lt = whole_words-few (drop at xs) (omega (arith, length-drop at xs))
+whole_words-from (suc n) at xs le lt =
     whole_words-more (drop at xs) (omega (arith, length-drop at xs))
     ∙ ap (λ ws. word_of (take 8 (drop at xs)) ∷ ws)
-    (ap whole_words (drop-drop 8 at xs) ∙ whole_words-from n (at + 8) xs (omega arith))
+    (ap whole_words (drop-drop 8 at xs) ∙ whole_words-from n (at + 8) xs (omega arith) (omega arith))
 
 -- the eight words of a block
 pub whole_words-block : (xs : List ℕ) → length xs ≡ 64 → whole_words xs ≡ words_from 8 0 xs
-whole_words-block xs e = whole_words-from 8 0 xs e
+whole_words-block xs e = whole_words-from 8 0 xs (omega arith) (omega arith)
 
 -- what proofs that read whole words one by one need
 pub ruleset read_words = (length-whole_words, slice_index-whole_words, nat_tests)

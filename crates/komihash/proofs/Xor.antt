@@ -1,8 +1,9 @@
 -- Laws of xor: orders of words, words that cancel, and two masks.
-use Rattle.std.proofs.Common.{◌≡◌, ℕ, ◌+◌, ◌*◌, ◌^◌, ◌<◌, ap, ◌∙◌, sym, arith, lit<}
+use Rattle.std.proofs.Common.{◌≡◌, ℕ, ◌+◌, ◌*◌, ◌^◌, ◌<◌, ap, ◌∙◌, sym, arith, lit<, refl}
 use Rattle.std.proofs.Math.Nat.{mul_comm}
 use Rattle.std.proofs.lemmas.Nat.{and_comm, and_assoc, and-not}
 use Rattle.std.specs.Prelude.{bit_xor, bit_and}
+use Rattle.komihash.specs.Rounds.{mix}
 use Rattle.std.specs.Int.Bits.{xor_assoc, xor_comm, xor_disjoint}
 use Rattle.komihash.specs.Inverses.{xor_again}
 
@@ -18,6 +19,14 @@ pub product : (v f w low e : ℕ)
     → bit_xor v f * bit_xor (bit_xor w low) e ≡ bit_xor w (bit_xor e low) * bit_xor v f
 product v f w low e =
     rw (xor_late w low e) (mul_comm (bit_xor v f) (bit_xor w (bit_xor e low)))
+
+-- the same in a mix, whose factors change places too
+pub factors_swap : (w last low e : ℕ)
+    → mix (bit_xor (bit_xor low w) e) (bit_xor e last) e
+    ≡ mix (bit_xor e last) (bit_xor (bit_xor e low) w) e
+unfolding mix
+factors_swap w last low e =
+    rw (xor_late_left w low e, mul_comm (bit_xor (bit_xor e low) w) (bit_xor e last)) refl
 
 -- the first two change places
 pub xor_swap : (a b c : ℕ) → bit_xor a (bit_xor b c) ≡ bit_xor b (bit_xor a c)

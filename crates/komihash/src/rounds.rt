@@ -319,13 +319,13 @@ pub(crate) fn close_one(pair: Pair, word: u64, tally: &mut Tally) -> u64
 
 /// Returns the hash from a pair and the two words that are left.
 #[inline(always)]
-#[tactic(auto, using(crate::proofs::Xor::xor_late_left))]
+#[tactic(auto, using(crate::proofs::Xor::factors_swap))]
 pub(crate) fn close_two(pair: Pair, word: u64, last: u64, tally: &mut Tally) -> u64
     ensures hash { result ≡ closing (pair_of pair) (word ∷ last ∷ []) }
     ensures products { tally.new.products ≡ tally.old.products + 2 }
     ensures kept { tally.new.kept ≡ tally.old.kept }
 {
     let (low, e) = pair;
-    let mixed = mix(e ^ last, (low ^ word) ^ e, e, tally);
+    let mixed = mix((low ^ word) ^ e, e ^ last, e, tally);
     mix_again(mixed, tally)
 }

@@ -32,6 +32,16 @@ pub(crate) fn end_after_blocks(absorbed: bool, top_bit: bool) -> u64
     if absorbed { padding_after(top_bit) } else { 0 }
 }
 
+/// Returns the padding byte of a message that isn't empty.
+#[inline(always)]
+pub(crate) fn end_byte_after<const V: u8>(message: &[u8]) -> u64
+    requires { 0 < length message.now }
+    ensures byte { result ≡ end_byte V message.now }
+    ensures small { result < 4 }
+{
+    padding_after(has_top_bit::<V>(message[message.len() - 1]))
+}
+
 /// Returns the byte that ends a message: its padding byte, or 0 if the message is empty.
 #[inline(always)]
 pub(crate) fn end_byte<const V: u8>(message: &[u8]) -> u64
@@ -41,7 +51,7 @@ pub(crate) fn end_byte<const V: u8>(message: &[u8]) -> u64
     if message.is_empty() {
         0
     } else {
-        padding_after(has_top_bit::<V>(message[message.len() - 1]))
+        end_byte_after::<V>(message)
     }
 }
 
