@@ -1,5 +1,8 @@
 -- What a call costs: products of two words, and bytes that are copied into a stream.
-use Rattle.std.specs.Prelude.{ℕ, ◌+◌, ◌-◌, ◌*◌, ◌/◌, ◌%◌, ◌==◌, nat_lt, if◌then◌else◌}
+use Rattle.std.specs.Prelude.{ℕ, ◌≡◌, ◌+◌, ◌-◌, ◌*◌, ◌/◌, ◌%◌, ◌==◌, nat_lt, if◌then◌else◌}
+use Rattle.std.specs.Borrow.{MutBor}
+use denote.Triple.Both.{Both}
+use Rattle.komihash.specs.declared.tally.Tally.{Tally}
 
 -- the products of the hash of n bytes
 abbrev pub hash_products : ℕ → ℕ
@@ -19,3 +22,8 @@ answer_products f = 2 + f / 16
 abbrev pub kept_bytes : ℕ → ℕ → ℕ
 kept_bytes f b =
     if nat_lt (f + b) 64 then b else (if f == 0 then 0 else 64 - f) + (f + b) % 64
+
+-- a call raises a tally by n products and k kept bytes
+pub record Costs (tally : Both (MutBor Tally) (MutBor Tally)) (n k : ℕ) : Type 0 where
+  pub products : tally.exit.now.products ≡ tally.entry.now.products + n
+  pub kept : tally.exit.now.kept ≡ tally.entry.now.kept + k

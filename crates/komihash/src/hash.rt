@@ -1,7 +1,7 @@
 //! The hash of a whole message, which is read where it lies.
 
-ghost use Rattle.std.specs.Prelude.{◌≡◌, ◌+◌, ◌<◌, ◌≤◌, [], ◌∷◌, length};
-ghost use Rattle.komihash.specs.Counts.{hash_products};
+ghost use Rattle.std.specs.Prelude.{◌≡◌, ◌<◌, ◌≤◌, [], ◌∷◌, length};
+ghost use Rattle.komihash.specs.Counts.{Costs, hash_products};
 ghost use Rattle.komihash.specs.Hash.{komi};
 ghost use Rattle.komihash.specs.Rounds.{seed_pair, closing};
 
@@ -18,8 +18,7 @@ use crate::utils::{read_partial_word, read_word, word_at};
 fn hash_of_blocks<const V: u8>(bytes: &[u8], seed: u64, tally: &mut Tally) -> u64
     requires { 64 ≤ length bytes.now }
     ensures hash { result ≡ komi V seed bytes.now }
-    ensures products { tally.new.products ≡ tally.old.products + hash_products (length bytes.now) }
-    ensures kept { tally.new.kept ≡ tally.old.kept }
+    ensures costs { Costs tally (hash_products (length bytes.now)) 0 }
 {
     let pair = seed_pair(seed, tally);
     let last = final_word_or_end(bytes, end_byte::<V>(bytes));
@@ -34,8 +33,7 @@ fn hash_of_many<const V: u8>(bytes: &[u8], seed: u64, tally: &mut Tally) -> u64
     requires least { 32 ≤ length bytes.now }
     requires most { length bytes.now < 64 }
     ensures hash { result ≡ komi V seed bytes.now }
-    ensures products { tally.new.products ≡ tally.old.products + hash_products (length bytes.now) }
-    ensures kept { tally.new.kept ≡ tally.old.kept }
+    ensures costs { Costs tally (hash_products (length bytes.now)) 0 }
 {
     let pair = seed_pair(seed, tally);
     let last = final_word_of_many(bytes, end_byte::<V>(bytes));
@@ -49,8 +47,7 @@ fn hash_of_three<const V: u8>(bytes: &[u8], seed: u64, tally: &mut Tally) -> u64
     requires least { 24 ≤ length bytes.now }
     requires most { length bytes.now < 32 }
     ensures hash { result ≡ komi V seed bytes.now }
-    ensures products { tally.new.products ≡ tally.old.products + hash_products (length bytes.now) }
-    ensures kept { tally.new.kept ≡ tally.old.kept }
+    ensures costs { Costs tally (hash_products (length bytes.now)) 0 }
 {
     let pair = seed_pair(seed, tally);
     let last = final_word_or_end(bytes, end_byte::<V>(bytes));
@@ -66,8 +63,7 @@ fn hash_of_two<const V: u8>(bytes: &[u8], seed: u64, tally: &mut Tally) -> u64
     requires least { 16 ≤ length bytes.now }
     requires most { length bytes.now < 24 }
     ensures hash { result ≡ komi V seed bytes.now }
-    ensures products { tally.new.products ≡ tally.old.products + hash_products (length bytes.now) }
-    ensures kept { tally.new.kept ≡ tally.old.kept }
+    ensures costs { Costs tally (hash_products (length bytes.now)) 0 }
 {
     let pair = seed_pair(seed, tally);
     let last = final_word_or_end(bytes, end_byte::<V>(bytes));
@@ -82,8 +78,7 @@ fn hash_of_one<const V: u8>(bytes: &[u8], seed: u64, tally: &mut Tally) -> u64
     requires least { 8 ≤ length bytes.now }
     requires most { length bytes.now < 16 }
     ensures hash { result ≡ komi V seed bytes.now }
-    ensures products { tally.new.products ≡ tally.old.products + hash_products (length bytes.now) }
-    ensures kept { tally.new.kept ≡ tally.old.kept }
+    ensures costs { Costs tally (hash_products (length bytes.now)) 0 }
 {
     let last = final_word_of_many(bytes, end_byte::<V>(bytes));
     let pair = seed_pair(seed, tally);
@@ -96,8 +91,7 @@ fn hash_of_few<const V: u8>(bytes: &[u8], seed: u64, tally: &mut Tally) -> u64
     requires least { 0 < length bytes.now }
     requires most { length bytes.now < 8 }
     ensures hash { result ≡ komi V seed bytes.now }
-    ensures products { tally.new.products ≡ tally.old.products + hash_products (length bytes.now) }
-    ensures kept { tally.new.kept ≡ tally.old.kept }
+    ensures costs { Costs tally (hash_products (length bytes.now)) 0 }
 {
     let pair = seed_pair(seed, tally);
     let last = read_partial_word(bytes, end_byte_after::<V>(bytes));
@@ -108,8 +102,7 @@ fn hash_of_few<const V: u8>(bytes: &[u8], seed: u64, tally: &mut Tally) -> u64
 #[inline(never)]
 fn hash_of_none(seed: u64, tally: &mut Tally) -> u64
     ensures hash { result ≡ closing (seed_pair seed) (0 ∷ []) }
-    ensures products { tally.new.products ≡ tally.old.products + 3 }
-    ensures kept { tally.new.kept ≡ tally.old.kept }
+    ensures costs { Costs tally 3 0 }
 {
     let pair = seed_pair(seed, tally);
     close_one(pair, 0, tally)
@@ -123,8 +116,7 @@ fn hash_of_none(seed: u64, tally: &mut Tally) -> u64
 #[inline(always)]
 pub(crate) fn hash_message_counted<const V: u8>(bytes: &[u8], seed: u64, tally: &mut Tally) -> u64
     ensures hash { result ≡ komi V seed bytes.now }
-    ensures products { tally.new.products ≡ tally.old.products + hash_products (length bytes.now) }
-    ensures kept { tally.new.kept ≡ tally.old.kept }
+    ensures costs { Costs tally (hash_products (length bytes.now)) 0 }
 {
     if bytes.len() < 8 {
         if bytes.is_empty() {

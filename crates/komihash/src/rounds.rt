@@ -3,7 +3,8 @@
 //! Only `places` depends on the version. A step that makes products counts them in the tally that
 //! it is passed.
 
-ghost use Rattle.std.specs.Prelude.{◌≡◌, ℕ, ◌+◌, ◌*◌, ◌<◌, List, [], ◌∷◌, true, All};
+ghost use Rattle.std.specs.Prelude.{◌≡◌, ◌*◌, ◌<◌, [], ◌∷◌, All};
+ghost use Rattle.komihash.specs.Counts.{Costs};
 ghost use Rattle.komihash.specs.Halves.{pair_of};
 ghost use Rattle.komihash.specs.Rounds.{low, high, plus, seed_words, mix, seed_pair, lanes, places};
 ghost use Rattle.komihash.specs.Rounds.{block_round_by, join, pair_round, mix_again, closing};
@@ -94,8 +95,7 @@ pub(crate) fn mix(x: u64, y: u64, e: u64, tally: &mut Tally) -> Pair
     ensures pair { pair_of result ≡ mix x y e }
     ensures low { result.0 ≡ low (x * y) }
     ensures raised { result.1 ≡ plus e (high (x * y)) }
-    ensures products { tally.new.products ≡ tally.old.products + 1 }
-    ensures kept { tally.new.kept ≡ tally.old.kept }
+    ensures costs { Costs tally 1 0 }
 {
     let (low, high) = multiply128(x, y, tally);
     (low, e.wrapping_add(high))
@@ -116,8 +116,7 @@ pub(crate) fn seed_words(seed: u64) -> (u64, u64)
 #[inline(always)]
 pub(crate) fn seed_pair(seed: u64, tally: &mut Tally) -> Pair
     ensures pair { pair_of result ≡ seed_pair seed }
-    ensures products { tally.new.products ≡ tally.old.products + 1 }
-    ensures kept { tally.new.kept ≡ tally.old.kept }
+    ensures costs { Costs tally 1 0 }
 {
     let (a, e) = seed_words(seed);
     mix(a, e, e, tally)
@@ -202,8 +201,7 @@ pub(crate) fn block_round(
 )
     requires { All (λ place. place < 8) places }
     ensures lanes { lanes.new ≡ block_round_by places lanes.old words.now }
-    ensures products { tally.new.products ≡ tally.old.products + 4 }
-    ensures kept { tally.new.kept ≡ tally.old.kept }
+    ensures costs { Costs tally 4 0 }
 {
     let Lanes {
         low4,
@@ -285,8 +283,7 @@ pub(crate) fn join(lanes: &Lanes, absorbed: bool) -> Pair
 #[tactic(auto, using(crate::proofs::Xor::xor_late))]
 pub(crate) fn pair_round(pair: Pair, w0: u64, w1: u64, tally: &mut Tally) -> Pair
     ensures pair { pair_of result ≡ pair_round (pair_of pair) w0 w1 }
-    ensures products { tally.new.products ≡ tally.old.products + 1 }
-    ensures kept { tally.new.kept ≡ tally.old.kept }
+    ensures costs { Costs tally 1 0 }
 {
     let (low, e) = pair;
     mix((w0 ^ low) ^ e, w1 ^ e, e, tally)
@@ -296,8 +293,7 @@ pub(crate) fn pair_round(pair: Pair, w0: u64, w1: u64, tally: &mut Tally) -> Pai
 #[inline(always)]
 fn mix_again(pair: Pair, tally: &mut Tally) -> u64
     ensures hash { result ≡ mix_again (pair_of pair) }
-    ensures products { tally.new.products ≡ tally.old.products + 1 }
-    ensures kept { tally.new.kept ≡ tally.old.kept }
+    ensures costs { Costs tally 1 0 }
 {
     let (low, e) = pair;
     let (low, e) = mix(e ^ low, e, e, tally);
@@ -309,8 +305,7 @@ fn mix_again(pair: Pair, tally: &mut Tally) -> u64
 #[tactic(auto, using(crate::proofs::Xor::xor_late_left))]
 pub(crate) fn close_one(pair: Pair, word: u64, tally: &mut Tally) -> u64
     ensures hash { result ≡ closing (pair_of pair) (word ∷ []) }
-    ensures products { tally.new.products ≡ tally.old.products + 2 }
-    ensures kept { tally.new.kept ≡ tally.old.kept }
+    ensures costs { Costs tally 2 0 }
 {
     let (low, e) = pair;
     let mixed = mix((low ^ word) ^ e, e, e, tally);
@@ -322,8 +317,7 @@ pub(crate) fn close_one(pair: Pair, word: u64, tally: &mut Tally) -> u64
 #[tactic(auto, using(crate::proofs::Xor::factors_swap))]
 pub(crate) fn close_two(pair: Pair, word: u64, last: u64, tally: &mut Tally) -> u64
     ensures hash { result ≡ closing (pair_of pair) (word ∷ last ∷ []) }
-    ensures products { tally.new.products ≡ tally.old.products + 2 }
-    ensures kept { tally.new.kept ≡ tally.old.kept }
+    ensures costs { Costs tally 2 0 }
 {
     let (low, e) = pair;
     let mixed = mix((low ^ word) ^ e, e ^ last, e, tally);

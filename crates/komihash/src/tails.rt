@@ -1,6 +1,7 @@
 //! The end of a hash: fewer than eight whole words, and the final word.
 
 ghost use Rattle.std.specs.Prelude.{◌≡◌, ℕ, ◌+◌, ◌-◌, ◌/◌, ◌<◌, ◌≤◌, [], ◌∷◌, ◌++◌, length, drop};
+ghost use Rattle.komihash.specs.Counts.{Costs};
 ghost use Rattle.komihash.specs.Halves.{pair_of};
 ghost use Rattle.komihash.specs.Hash.{hash_from_pair};
 
@@ -16,8 +17,7 @@ fn hash_below_two<W: Words>(pair: Pair, left: &W, at: usize, last: u64, tally: &
     requires place { at < 7 }
     ensures hash { result
         ≡ hash_from_pair (pair_of pair) (drop at (W.words left.now) ++ last ∷ []) }
-    ensures products { tally.new.products ≡ tally.old.products + 2 }
-    ensures kept { tally.new.kept ≡ tally.old.kept }
+    ensures costs { Costs tally 2 0 }
 {
     if left.holds(at + 1) {
         close_two(pair, left.word(at), last, tally)
@@ -36,8 +36,7 @@ fn take_two<W: Words>(pair: Pair, left: &W, at: usize, tally: &mut Tally) -> Pai
     ensures hash { (last : ℕ)
         → hash_from_pair (pair_of result) (drop (at + 2) (W.words left.now) ++ last ∷ [])
         ≡ hash_from_pair (pair_of pair) (drop at (W.words left.now) ++ last ∷ []) }
-    ensures products { tally.new.products ≡ tally.old.products + 1 }
-    ensures kept { tally.new.kept ≡ tally.old.kept }
+    ensures costs { Costs tally 1 0 }
 {
     pair_round(pair, left.word(at), left.word(at + 1), tally)
 }
@@ -50,9 +49,7 @@ fn hash_below_four<W: Words>(pair: Pair, left: &W, at: usize, last: u64, tally: 
     requires place { at < 5 }
     ensures hash { result
         ≡ hash_from_pair (pair_of pair) (drop at (W.words left.now) ++ last ∷ []) }
-    ensures products { tally.new.products
-        ≡ tally.old.products + (2 + (length (W.words left.now) - at) / 2) }
-    ensures kept { tally.new.kept ≡ tally.old.kept }
+    ensures costs { Costs tally (2 + (length (W.words left.now) - at) / 2) 0 }
 {
     if left.holds(at + 2) {
         let pair = take_two(pair, left, at, tally);
@@ -67,9 +64,7 @@ fn hash_below_four<W: Words>(pair: Pair, left: &W, at: usize, last: u64, tally: 
 pub(crate) fn hash_below_eight<W: Words>(pair: Pair, left: &W, last: u64, tally: &mut Tally) -> u64
     requires { length (W.words left.now) < 8 }
     ensures hash { result ≡ hash_from_pair (pair_of pair) (W.words left.now ++ last ∷ []) }
-    ensures products { tally.new.products
-        ≡ tally.old.products + (2 + length (W.words left.now) / 2) }
-    ensures kept { tally.new.kept ≡ tally.old.kept }
+    ensures costs { Costs tally (2 + length (W.words left.now) / 2) 0 }
 {
     if left.holds(4) {
         let pair = take_two(pair, left, 0, tally);

@@ -1,6 +1,6 @@
 //! The cost of calls, which only contracts see.
 
-ghost use Rattle.std.specs.Prelude.{◌≡◌, ℕ, ◌+◌};
+ghost use Rattle.std.specs.Prelude.{◌≡◌, ℕ};
 
 use std::marker::{Model, PhantomData};
 
@@ -40,6 +40,8 @@ impl Model for TallyKey {
 }
 
 impl Tally {
+    ghost use Rattle.komihash.specs.Counts.{Costs};
+
     /// Returns a tally of no products and no kept bytes.
     #[inline(always)]
     pub fn new() -> Tally
@@ -55,15 +57,13 @@ impl Tally {
     // nothing to do at run time: the handwritten proof changes the ghost fields.
     #[inline(always)]
     fn raise(&mut self, _products: usize, _kept: usize)
-        ensures products { self.new.products ≡ self.old.products + _products }
-        ensures kept { self.new.kept ≡ self.old.kept + _kept }
+        ensures costs { Costs self _products _kept }
     {}
 
     /// Counts one product of two words.
     #[inline(always)]
     pub(crate) fn count_product(&mut self)
-        ensures products { self.new.products ≡ self.old.products + 1 }
-        ensures kept { self.new.kept ≡ self.old.kept }
+        ensures costs { Costs self 1 0 }
     {
         self.raise(1, 0);
     }
@@ -71,8 +71,7 @@ impl Tally {
     /// Counts bytes that a write copies into a stream's pending bytes.
     #[inline(always)]
     pub(crate) fn count_kept(&mut self, bytes: usize)
-        ensures products { self.new.products ≡ self.old.products }
-        ensures kept { self.new.kept ≡ self.old.kept + bytes }
+        ensures costs { Costs self 0 bytes }
     {
         self.raise(0, bytes);
     }

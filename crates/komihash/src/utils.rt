@@ -4,6 +4,7 @@ pub(crate) mod copies;
 
 ghost use Rattle.std.specs.Prelude.{◌≡◌, ℕ, ◌+◌, ◌*◌, ◌^◌, ◌<◌, ◌≤◌, ◌↔◌, IsTrue};
 ghost use Rattle.std.specs.Prelude.{List, [], ◌∷◌, ◌++◌, length, take, drop, slice_index};
+ghost use Rattle.komihash.specs.Counts.{Costs};
 ghost use Rattle.komihash.specs.Rounds.{low, high};
 ghost use Rattle.komihash.specs.Tails.{whole_words};
 ghost use Rattle.komihash.specs.Words.{word_of, bytes_of};
@@ -147,8 +148,7 @@ impl Words for &[u8] {
 pub(crate) fn multiply128(x: u64, y: u64, tally: &mut Tally) -> (u64, u64)
     ensures low { result.0 ≡ low (x * y) }
     ensures high { result.1 ≡ high (x * y) }
-    ensures products { tally.new.products ≡ tally.old.products + 1 }
-    ensures kept { tally.new.kept ≡ tally.old.kept }
+    ensures costs { Costs tally 1 0 }
 {
     tally.count_product();
     let product = u128::from(x) * u128::from(y);

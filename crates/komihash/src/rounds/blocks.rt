@@ -1,6 +1,7 @@
 //! Whole blocks of a message, absorbed where they lie.
 
 ghost use Rattle.std.specs.Prelude.{◌≡◌, ◌+◌, ◌*◌, ◌/◌, ◌%◌, ◌≤◌, length, take, drop};
+ghost use Rattle.komihash.specs.Counts.{Costs};
 ghost use Rattle.komihash.specs.Rounds.{block_round};
 ghost use Rattle.komihash.specs.Tails.{whole_words, block_lanes, after_blocks};
 
@@ -34,8 +35,7 @@ fn absorb_block<'a, const V: u8>(lanes: &mut Lanes, bytes: &'a [u8], tally: &mut
     ensures left { after_blocks result.now ≡ after_blocks bytes.now }
     ensures lanes { block_lanes V lanes.new (whole_words result.now)
         ≡ block_lanes V lanes.old (whole_words bytes.now) }
-    ensures products { tally.new.products ≡ tally.old.products + 4 }
-    ensures kept { tally.new.kept ≡ tally.old.kept }
+    ensures costs { Costs tally 4 0 }
 {
     let Some((block, rest)) = bytes.split_first_chunk::<64>() else {
         unreachable!()
@@ -57,8 +57,7 @@ pub(crate) fn absorb_blocks<'a, const V: u8>(
     ensures left { result.now ≡ after_blocks bytes.now }
     ensures length { length result.now ≡ length bytes.now % 64 }
     ensures lanes { lanes.new ≡ block_lanes V lanes.old (whole_words bytes.now) }
-    ensures products { tally.new.products ≡ tally.old.products + 4 * (length bytes.now / 64) }
-    ensures kept { tally.new.kept ≡ tally.old.kept }
+    ensures costs { Costs tally (4 * (length bytes.now / 64)) 0 }
 {
     let mut rest = bytes;
     if rest.len() / 64 % 2 == 1 {

@@ -4,6 +4,7 @@
 
 ghost use Rattle.std.specs.Prelude.{◌≡◌, ◌+◌, ◌-◌, ◌<◌, ◌≤◌, [], ◌++◌};
 ghost use Rattle.std.specs.Prelude.{length, take, drop, slice_index};
+ghost use Rattle.komihash.specs.Counts.{Costs};
 ghost use Rattle.komihash.specs.Tails.{whole_words, final_word};
 ghost use Rattle.komihash.specs.Padding.{has_top_bit, padding_byte};
 
@@ -83,8 +84,7 @@ impl Pending {
     pub(crate) fn append(&mut self, bytes: &[u8], tally: &mut Tally)
         requires { length self.old + length bytes.now < 64 }
         ensures bytes { self.new ≡ self.old ++ bytes.now }
-        ensures products { tally.new.products ≡ tally.old.products }
-        ensures kept { tally.new.kept ≡ tally.old.kept + length bytes.now }
+        ensures costs { Costs tally 0 (length bytes.now) }
     {
         put::<false>(&mut self.words, self.fill, bytes, tally);
         self.fill += bytes.len();
@@ -96,8 +96,7 @@ impl Pending {
         requires none { self.old ≡ [] }
         requires few { length bytes.now < 64 }
         ensures bytes { self.new ≡ bytes.now }
-        ensures products { tally.new.products ≡ tally.old.products }
-        ensures kept { tally.new.kept ≡ tally.old.kept + length bytes.now }
+        ensures costs { Costs tally 0 (length bytes.now) }
     {
         if !bytes.is_empty() {
             put::<false>(&mut self.words, 0, bytes, tally);
@@ -112,8 +111,7 @@ impl Pending {
         requires { length self.old + length bytes.now ≡ 64 }
         ensures block { result ≡ whole_words (self.old ++ bytes.now) }
         ensures none { self.new ≡ [] }
-        ensures products { tally.new.products ≡ tally.old.products }
-        ensures kept { tally.new.kept ≡ tally.old.kept + length bytes.now }
+        ensures costs { Costs tally 0 (length bytes.now) }
     {
         put::<true>(&mut self.words, self.fill, bytes, tally);
         let block = self.words;

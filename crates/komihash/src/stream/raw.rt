@@ -2,7 +2,7 @@
 
 ghost use Rattle.std.specs.Prelude.{◌≡◌, ◌+◌, ◌<◌, ◌≤◌, ◌↔◌, ℕ, IsTrue};
 ghost use Rattle.std.specs.Prelude.{List, [], ◌++◌, length, take, drop};
-ghost use Rattle.komihash.specs.Counts.{write_products, answer_products, kept_bytes};
+ghost use Rattle.komihash.specs.Counts.{Costs, write_products, answer_products, kept_bytes};
 ghost use Rattle.komihash.specs.Hash.{komi};
 ghost use Rattle.komihash.specs.Saved.{text, IsText, IsTextAfter};
 ghost use Rattle.komihash.specs.Stream.{State, IsState, HasAbsorbed, start, absorb, answer};
@@ -107,10 +107,9 @@ impl RawStream {
         Versions: IsVersion<V>,
         requires { 64 ≤ length self.old.pending + length bytes.now }
         ensures state { self.new ≡ absorb V self.old bytes.now }
-        ensures products { tally.new.products ≡ tally.old.products
-            + write_products (length self.old.pending) (length bytes.now) }
-        ensures kept { tally.new.kept ≡ tally.old.kept
-            + kept_bytes (length self.old.pending) (length bytes.now) }
+        ensures costs { Costs tally
+            (write_products (length self.old.pending) (length bytes.now))
+            (kept_bytes (length self.old.pending) (length bytes.now)) }
     {
         let fill = self.pending.len();
         let end = bytes.len() - (fill + bytes.len()) % 64;

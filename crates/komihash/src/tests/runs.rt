@@ -3,6 +3,7 @@
 
 ghost use Rattle.std.specs.Prelude.{◌≡◌, ◌+◌, ◌≤◌, IsTrue, IfSome, length};
 ghost use Rattle.komihash.specs.Calls.{run_products, run_kept};
+ghost use Rattle.komihash.specs.Counts.{Costs};
 
 use super::assertions::{same, same_bytes, same_count, same_words};
 use super::known::{
@@ -91,8 +92,7 @@ fn save_and_resume<S: KomiStream>(stream: &mut S) -> bool
 // after each. They cost what one run does. Returns the stream and the number of answers.
 fn run_resumed<S: KomiStream>(calls: &[Call<'_>], out: &mut [u64], tally: &mut Tally) -> (S, usize)
     requires { length calls.now ≤ length out.old }
-    ensures products { tally.new.products ≡ tally.old.products + run_products calls.now }
-    ensures kept { tally.new.kept ≡ tally.old.kept + run_kept calls.now }
+    ensures costs { Costs tally (run_products calls.now) (run_kept calls.now) }
 {
     let mut stream = S::start(0, tally);
     let mut count = 0;
@@ -104,15 +104,13 @@ fn run_resumed<S: KomiStream>(calls: &[Call<'_>], out: &mut [u64], tally: &mut T
 }
 
 fn cuts_cost<S: KomiStream>(message: &[u8; 95], out: &mut [u64; 9], tally: &mut Tally) -> (S, usize)
-    ensures products { tally.new.products ≡ tally.old.products + 16 }
-    ensures kept { tally.new.kept ≡ tally.old.kept + 95 }
+    ensures costs { Costs tally 16 95 }
 {
     run_resumed::<S>(&at_cuts(message), out, tally)
 }
 
 fn bytes_cost<S: KomiStream>(message: &[u8; 95], out: &mut [u64; 96], tally: &mut Tally) -> usize
-    ensures products { tally.new.products ≡ tally.old.products + 8 }
-    ensures kept { tally.new.kept ≡ tally.old.kept + 95 }
+    ensures costs { Costs tally 8 95 }
 {
     run_resumed::<S>(&byte_by_byte(message), out, tally).1
 }
@@ -139,8 +137,7 @@ fn saving_and_resuming_changes_nothing(rt: HostRuntime) {
 
 // Makes no calls on a new stream.
 fn nothing_costs<S: KomiStream>(out: &mut [u64; 2], tally: &mut Tally) -> (S, usize)
-    ensures products { tally.new.products ≡ tally.old.products + 1 }
-    ensures kept { tally.new.kept ≡ tally.old.kept }
+    ensures costs { Costs tally 1 0 }
 {
     let mut stream = S::start(0, tally);
     let count = run_on(&mut stream, &[], out, tally);

@@ -2,7 +2,7 @@
 //! are proved; the tests run these functions, and compare the hashes with the Rust crate's.
 
 ghost use Rattle.std.specs.Prelude.{◌≡◌, ◌+◌, ◌%◌, length};
-ghost use Rattle.komihash.specs.Counts.{hash_products, kept_bytes};
+ghost use Rattle.komihash.specs.Counts.{Costs, hash_products, kept_bytes};
 
 use super::assertions::{same, same_count, same_words};
 use super::known::{at_cuts, block_message, byte_by_byte};
@@ -14,8 +14,7 @@ use std::process::Abort;
 // Hashes a message with seed 0 by the counted call of a version, for this many products.
 fn hash_costs<const V: u8, const PRODUCTS: usize>(bytes: &[u8], tally: &mut Tally) -> u64
     requires { hash_products (length bytes.now) ≡ PRODUCTS }
-    ensures products { tally.new.products ≡ tally.old.products + PRODUCTS }
-    ensures kept { tally.new.kept ≡ tally.old.kept }
+    ensures costs { Costs tally PRODUCTS 0 }
 {
     if V == 4 {
         v4::komihash_counted(bytes, 0, tally)
@@ -26,8 +25,7 @@ fn hash_costs<const V: u8, const PRODUCTS: usize>(bytes: &[u8], tally: &mut Tall
 
 // Hashes 0, 16, 64, 95 and 100 bytes, for 3, 4, 7, 8 and 9 products.
 fn hashes_cost<const V: u8>(bytes: &[u8; 100], tally: &mut Tally) -> [u64; 5]
-    ensures products { tally.new.products ≡ tally.old.products + (3 + 4 + 7 + 8 + 9) }
-    ensures kept { tally.new.kept ≡ tally.old.kept }
+    ensures costs { Costs tally (3 + 4 + 7 + 8 + 9) 0 }
 {
     [
         hash_costs::<V, 3>(&[], tally),
@@ -39,30 +37,26 @@ fn hashes_cost<const V: u8>(bytes: &[u8; 100], tally: &mut Tally) -> [u64; 5]
 }
 
 fn cuts_cost<S: KomiStream>(message: &[u8; 95], out: &mut [u64; 96], tally: &mut Tally) -> usize
-    ensures products { tally.new.products ≡ tally.old.products + 16 }
-    ensures kept { tally.new.kept ≡ tally.old.kept + 95 }
+    ensures costs { Costs tally 16 95 }
 {
     run::<S>(0, &at_cuts(message), out, tally)
 }
 
 fn piece_costs<S: KomiStream>(message: &[u8; 95], out: &mut [u64; 96], tally: &mut Tally) -> usize
-    ensures products { tally.new.products ≡ tally.old.products + 8 }
-    ensures kept { tally.new.kept ≡ tally.old.kept + 31 }
+    ensures costs { Costs tally 8 31 }
 {
     let calls = [Call::Absorb(message), Call::Answer];
     run::<S>(0, &calls, out, tally)
 }
 
 fn bytes_cost<S: KomiStream>(message: &[u8; 95], out: &mut [u64; 96], tally: &mut Tally) -> usize
-    ensures products { tally.new.products ≡ tally.old.products + 8 }
-    ensures kept { tally.new.kept ≡ tally.old.kept + 95 }
+    ensures costs { Costs tally 8 95 }
 {
     run::<S>(0, &byte_by_byte(message), out, tally)
 }
 
 fn nothing_costs<S: KomiStream>(out: &mut [u64; 96], tally: &mut Tally) -> usize
-    ensures products { tally.new.products ≡ tally.old.products + 1 }
-    ensures kept { tally.new.kept ≡ tally.old.kept }
+    ensures costs { Costs tally 1 0 }
 {
     run::<S>(0, &[], out, tally)
 }

@@ -7,8 +7,8 @@ use Rattle.komihash.proofs.hash.hash_of_blocks.Goals as goal
 pub hash_below_eight-requires : goal.hash_below_eight-requires
 hash_below_eight-requires g c = omega (arith, length-whole_words c.absorb_blocks-rest.result.now)
 
-pub returns-clause-products : goal.returns-clause-products
-returns-clause-products g c = omega (arith, length-whole_words c.absorb_blocks-rest.result.now)
+pub returns-clause-costs : goal.returns-clause-costs
+returns-clause-costs g c = search (arith, length-whole_words c.absorb_blocks-rest.result.now)
 
 pub returns-clause-hash : goal.returns-clause-hash
 returns-clause-hash g c =

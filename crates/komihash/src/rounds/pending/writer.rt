@@ -2,6 +2,7 @@
 
 ghost use Rattle.std.specs.Prelude.{◌≡◌, ℕ, ◌+◌, ◌-◌, ◌*◌, ◌/◌, ◌%◌, ◌<◌, ◌≤◌};
 ghost use Rattle.std.specs.Prelude.{List, ◌++◌, length, take, drop, IsTrue};
+ghost use Rattle.komihash.specs.Counts.{Costs};
 ghost use Rattle.komihash.specs.Pending.{pending_bytes, ArePending, Store, Extend};
 ghost use Rattle.komihash.specs.Tails.{whole_words};
 ghost use Rattle.komihash.specs.Words.{AreBytes, word_of};
@@ -162,8 +163,7 @@ pub(crate) fn put<const FULL: bool>(
         ≡ pending_bytes words.old fill ++ bytes.now }
     ensures pending { fill + length bytes.now < 64
         → ArePending words.new (fill + length bytes.now) }
-    ensures products { tally.new.products ≡ tally.old.products }
-    ensures kept { tally.new.kept ≡ tally.old.kept + length bytes.now }
+    ensures costs { Costs tally 0 (length bytes.now) }
 {
     tally.count_kept(bytes.len());
     if bytes.len() < 8 {

@@ -19,7 +19,8 @@ use denote.Plain.{uint_vals, uint_Tells}
 use denote.Signature.{plain}
 use denote.Steps.{opens, closes, nothing}
 use denote.Triple.Walked.{Stays, stay_ref, stay_dropped, walk_of, Goes-ref, Goes-dropped, ends_at}
-use Rattle.komihash.proofs.Facts.{both}
+use base.Logic.{emp}
+use contract.Monad.{fact_i}
 use Rattle.komihash.specs.declared.tally.Tally.{Tally}
 use Rattle.komihash.specs.contracts.tally.Tally.{the_row as R, the_type as T}
 use Rattle.komihash.specs.contracts.tally.Tally.raise as f
@@ -65,4 +66,4 @@ raise_spec 𝓤 𝓛 𝓜 𝓡 wired =
     fjoin ! $ move ! (1 ∷ 0 ∷ []) $ fjoin ! $ feq_i ! (List Val) (vunit ∷ []) (vunit ∷ []) refl $
     move ! (1 ∷ 0 ∷ []) $ join ! $ nothing ! $
     move ! (2 ∷ 0 ∷ []) $ join ! $ join ! $ frame ! $
-    by ! (both 𝓤 refl refl))))
+    by ! (fact_i 𝓤 _ (emp 𝓤) (record { products = refl; kept = refl })))))
