@@ -1,9 +1,9 @@
-"""Counts the cases of the scripts in Python: a case is a line `ok: NAME`, or `FAILED: NAME` and its
-faults, and the last line is 'N passed, M failed'.
+"""Counts the cases of the scripts in Python: each is a line `ok: NAME`, or `FAILED: NAME` and its
+faults. The last line is 'N passed, M failed'.
 
-An edit in planted/RULE/ makes a fault that its rule must find. It has a line `file: NAME`, and pairs
-of lines `old: TEXT`, `new: TEXT`; each old text stands once in the file. To add a case, put a rule
-with such an edit into the `findings` of a script in Python, or a `note` into a script in bash.
+An edit in planted/RULE/ makes a fault that its rule must find. It has a line `file: NAME`, and
+pairs of lines `old: TEXT`, `new: TEXT`; each old text stands once in the file. To add a case, put
+a rule into the `findings` of a script in Python, or a `note` into a script in bash.
 """
 
 from sources import SCRIPTS
@@ -25,14 +25,15 @@ def report(subject, findings, files):
     each rule finds in files, by the rule's name: here nothing, and after an edit something."""
     before = findings(files)
     cases = [(f"{subject}, {rule}", found) for rule, found in before.items()]
-    for edit in sorted(SCRIPTS.glob("planted/*/*.edit")):
+    edits = sorted(SCRIPTS.glob("planted/*/*.edit"))
+    for edit in (edit for edit in edits if edit.parent.name in before):
         rule, name = edit.parent.name, f"{edit.parent.name}/{edit.stem}"
-        if rule in before:
-            try:
-                found = [one for one in findings(planted(files, edit))[rule] if one not in before[rule]]
-                cases.append((f"{name}: {found[:1]}", [] if found else ["nothing finds it"]))
-            except ValueError as fault:
-                cases.append((name, [str(fault)]))
+        try:
+            found = findings(planted(files, edit))[rule]
+            found = [one for one in found if one not in before[rule]]
+            cases += [(f"{name}: {found[:1]}", [] if found else ["nothing finds it"])]
+        except ValueError as fault:
+            cases += [(name, [str(fault)])]
     for name, faults in cases:
         print(f"{'FAILED' if faults else 'ok'}: {name}", *faults, sep="\n    ")
     failed = sum(1 for _, faults in cases if faults)

@@ -33,20 +33,15 @@ LISTED = re.compile(r"^crates/komihash/src/(?!exports|laws|stream/raw).*((?:\n.+
 SIGNATURE = re.compile(r"\bfn (\w+(?:<[^(]*>)?\([^)]*\)(?: -> [^\n;]+)?)")
 
 
-def texts(files, pattern):
-    return {name: text for name, text in files.items() if re.fullmatch(pattern, name)}
-
-
 def blocks(text, name):
     """What stands between two marks of this name, joined."""
     return "".join(re.findall(rf"<!-- {name} -->(.*?)<!-- /{name} -->", text, re.DOTALL))
 
 
 def callers(files):
-    uses = texts(files, r"crates/uses/(?:src|specs|proofs)/.*").values()
     for document in ("README.md", "CALLING.md"):
         for code in CODE.findall(files[document]):
-            if code not in uses:
+            if code not in files.values():
                 yield f"{document}: no file of `uses` is this block: {code.splitlines()[0]}"
 
 
@@ -68,23 +63,25 @@ def speed(files):
 
 
 def calls(files):
-    rows = set(CALL.findall(blocks(files["CALLING.md"], "calls")))
+    block = blocks(files["CALLING.md"], "calls")
+    rows = set(CALL.findall(block))
     listed = SIGNATURE.findall("".join(LISTED.findall(files["scripts/surface.txt"])))
-    listed = {re.sub(r"(?<=\()\s+|,?\s+(?=\))", "", re.sub(r"\s+", " ", one)) for one in listed}
-    yield from (f"CALLING.md: its table lacks {call}" for call in sorted(listed - rows) if rows)
+    listed = {re.sub(r"(?<=\()\s|,?\s(?=\))", "", re.sub(r"\s+", " ", one)) for one in listed}
+    yield from (f"CALLING.md: its table lacks {call}" for call in sorted(listed - rows) if block)
     yield from (f"CALLING.md: `komihash` has no {call}" for call in sorted(rows - listed))
 
 
 def names(files):
-    sources = texts(files, r"crates/\w+/(?:specs|proofs|src)/.*").values()
-    known = {name for text in sources for name in re.findall(r"[A-Za-z_][\w-]*", text)}
-    for document, text in texts(files, r"(?:docs/)?[A-Z]+\.md").items():
-        for span in SPAN.findall(text):
+    sources = " ".join(text for name, text in files.items() if name.startswith("crates/"))
+    known = set(re.findall(r"[A-Za-z_][\w-]*", sources))
+    for document in filter(re.compile(r"(?:docs/)?[A-Z]+\.md").fullmatch, files):
+        for span in SPAN.findall(files[document]):
             if re.fullmatch(r"[\w./*-]+\.(?:rt|antt|md|sh|py|edit|h|c)", span):
-                is_there = texts(files, "(?:.*/)?" + re.escape(span).replace(r"\*", "[^/]*"))
+                file = re.compile("(?:.*/)?" + re.escape(span).replace(r"\*", "[^/]*"))
+                is_there = any(map(file.fullmatch, files))
             else:
-                is_name = "DEFINITIONS" in document and re.fullmatch(r"[A-Za-z]+(?:[_-]\w+)+", span)
-                is_there = not is_name or span in known
+                is_name = re.fullmatch(r"[A-Za-z]+(?:[_-]\w+)+", span)
+                is_there = span in known or "DEFINITIONS" not in document or not is_name
             if not is_there:
                 yield f"{document}: there is no {span}"
 

@@ -1,6 +1,5 @@
 """Reads the files of the repository, and the code in them, for the scripts in Python."""
 
-import hashlib
 import re
 from functools import lru_cache
 from pathlib import Path
@@ -26,14 +25,10 @@ def texts_of(*patterns):
     return {path.relative_to(SCRIPTS.parent).as_posix(): path.read_text("utf-8") for path in files}
 
 
-def digest_of(text):
-    return hashlib.sha256(text.encode()).hexdigest()[:16]
-
-
 @lru_cache(maxsize=None)
 def code_of(text):
     def read(found):
-        return "" if found[1] else found[0] if found[0] == '"C"' else f"0x{digest_of(found[0])}"
+        return "" if found[1] else found[0] if found[0] == '"C"' else f"0x{found[0].encode().hex()}"
 
     return UNREAD.sub(read, text)
 

@@ -21,12 +21,13 @@ After a change that is wanted, review the difference, and write the list anew:
 """
 
 import difflib
+import hashlib
 import re
 import sys
 from functools import lru_cache
 
 from cases import report
-from sources import KIND, OWNER, SCRIPTS, code_of, digest_of, items_of, texts_of
+from sources import KIND, OWNER, SCRIPTS, code_of, items_of, texts_of
 
 LIST = SCRIPTS / "surface.txt"
 LISTED = re.compile(r"crates/(?:komihash|komihash_c|komisum)/src/(?!tests\b|v4\.rt).*\.rt")
@@ -43,9 +44,11 @@ INTERNAL = re.compile(
 COMMENT = re.compile(r"^\s*--.*\n", re.MULTILINE)
 IMPORT = re.compile(r"\s*(?:ghost )?use [\w:.]*?(?:\{([^{}]*)\}|(\w+));")
 
-# The lines that name a part of the seal: in code, also those with `Tally` by itself.
-SEALED = re.compile(r"\b(?:Sealed|Tallies|Raised|Facts|TallyKey)\b")
-TALLY = re.compile(r"(?<!use crate::tally::)(?<!tally: &mut )(?<!&mut )\bTally\b")
+# Lines that name a part of the seal; in code, also those that have `Tally` by itself.
+SEAL = re.compile(
+    r": .*\b(?:Sealed|Tallies|Raised|Facts|TallyKey)\b"
+    r"|\.rt: .*(?<!use crate::tally::)(?<!tally: &mut )(?<!&mut )\bTally\b"
+)
 
 
 def promised(text, types, is_public=False, is_unproved=False):
@@ -69,9 +72,9 @@ def promised(text, types, is_public=False, is_unproved=False):
 
 
 @lru_cache(maxsize=None)
-def entry_of(name, text):
+def entry_of(name, code):
     """What is listed of a source: without imports of names that no other line has."""
-    code = INTERNAL.sub("", code_of(text))
+    code = INTERNAL.sub("", code)
     types = re.findall(r"\bpub (?:struct|enum) (\w+)", code)
     items = list(promised(code, types, name == EXPORTS, name.startswith("crates/komisum/")))
     imported = [IMPORT.fullmatch(item) for item in items]
@@ -86,19 +89,17 @@ def entry_of(name, text):
 
 def listed(files):
     """The lines of surface.txt for these files."""
-    lines, seal = [], [""]
+    lines, checksums, seal = [], [""], [""]
     for name, text in files.items():
+        code = code_of(text) if name.endswith(".rt") else text
         if LISTED.fullmatch(name):
-            lines += entry_of(name, text)
-        elif CHECKED.fullmatch(name):
-            seal.append(f"{name}: {digest_of(COMMENT.sub('', text))}")
-    for name, text in files.items():
-        if re.match("crates/komihash/(?:src|specs|proofs)/(?!tests)", name):
-            is_code = name.endswith(".rt")
-            for line in (code_of(text) if is_code else text).splitlines():
-                if SEALED.search(line) or is_code and TALLY.search(line):
-                    seal.append(f"{name}: {line.strip()}")
-    return lines[1:] + seal
+            lines += entry_of(name, code)
+        if CHECKED.fullmatch(name):
+            digest = hashlib.sha256(COMMENT.sub("", text).encode()).hexdigest()[:16]
+            checksums.append(f"{name}: {digest}")
+        if name.startswith("crates/komihash/") and "/tests" not in name:
+            seal += filter(SEAL.search, (f"{name}: {line.strip()}" for line in code.splitlines()))
+    return lines[1:] + checksums + seal
 
 
 def differences(wanted, lines):
