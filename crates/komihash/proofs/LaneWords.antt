@@ -4,7 +4,7 @@ use Rattle.std.proofs.lemmas.Nat.{xor_lt}
 use Rattle.std.specs.Prelude.{bit_xor}
 use Rattle.komihash.specs.Rounds.{Lanes, low, plus, mix, seed_pair, lanes, block_round, block_round_by}
 use Rattle.komihash.specs.Stream.{AreWords}
-use Rattle.komihash.specs.Tails.{block_lanes}
+use Rattle.komihash.specs.Storage.{block_lanes}
 
 -- a sum xor a low half is a word
 pub mixed-lt : (a b p : ℕ) → bit_xor (plus a b) (low p) < 2 ^ 64

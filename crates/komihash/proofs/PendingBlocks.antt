@@ -2,7 +2,7 @@
 use Rattle.std.proofs.Common.{◌≡◌, ℕ, ◌+◌, ◌-◌, ◌<◌, ◌≤◌, List, ◌++◌, length, take, drop, ap, arith, ◌∙◌, sym}
 use Rattle.std.proofs.lemmas.List.{append_assoc, length-append, length-take-le, take-append-drop, drop_at}
 use Rattle.komihash.specs.Rounds.{Lanes, block_round}
-use Rattle.komihash.specs.Tails.{whole_words, block_lanes, after_blocks}
+use Rattle.komihash.specs.Storage.{whole_words, block_lanes, after_blocks}
 use Rattle.komihash.proofs.Blocks.{block_lanes-bytes, after_blocks_more}
 
 module _ (xs bytes : List ℕ) (few : length xs < 64) (many : 64 ≤ length xs + length bytes) where
