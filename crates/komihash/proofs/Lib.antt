@@ -2,10 +2,8 @@ pub mod AllBytes
 pub mod Blocks
 pub mod Bounds
 pub mod CallLists
-mod Facts
 pub mod GeneratorFills
 pub mod HashSteps
-pub mod LaneWords
 pub mod LawLemmas
 pub mod Lists
 pub mod PaddedWords

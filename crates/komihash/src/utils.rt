@@ -143,7 +143,7 @@ pub(crate) fn multiply128(x: u64, y: u64, tally: &mut Tally) -> (u64, u64)
     ensures high { result.1 ≡ high (x * y) }
     ensures costs { Costs tally 1 0 }
 {
-    tally.count_product();
+    tally.raise(1, 0);
     let product = u128::from(x) * u128::from(y);
     (
         (product & 0xffff_ffff_ffff_ffff) as u64,

@@ -310,7 +310,7 @@ fn append_bytes<const FULL: bool>(
         → ArePending words.new (fill + length bytes.now) }
     ensures costs { Costs tally 0 (length bytes.now) }
 {
-    tally.count_kept(bytes.len());
+    tally.raise(0, bytes.len());
     if bytes.len() < 8 {
         append_below_eight::<FULL>(words, fill, bytes);
     } else {

@@ -17,7 +17,7 @@ use crate::utils::{write_bytes, write_words};
 const LANES_AT: usize = 4;
 
 // Where the pending bytes begin.
-const PENDING_AT: usize = 68;
+pub(super) const PENDING_AT: usize = 68;
 
 /// Writes the first four bytes: the version, whether a block was absorbed, the top bit that only
 /// version 4 keeps, and the number of pending bytes.
