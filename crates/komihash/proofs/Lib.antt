@@ -1,16 +1,12 @@
+pub mod AllBytes
 pub mod Blocks
 pub mod Bounds
-pub mod BytesInWords
-pub mod BytesOfWords
 pub mod CallLists
-mod Facts
 pub mod GeneratorFills
 pub mod HashSteps
-pub mod LaneWords
 pub mod LawLemmas
 pub mod Lists
-pub mod PaddingBack
-pub mod PaddingWords
+pub mod PaddedWords
 pub mod PendingBlocks
 pub mod PendingBytes
 mod Raised
@@ -18,5 +14,7 @@ pub mod SavedTexts
 pub mod StreamAbsorbs
 pub mod StreamAnswers
 pub mod StreamSteps
+pub mod Unpadding
 pub mod WholeWords
+pub mod WordOf
 pub mod Xor
