@@ -23,15 +23,13 @@ from cases import report
 from sources import KIND, OWNER, code_of, items_of, texts_of
 
 # Products: by name, and by `*` after an operand. The one product, and what is no operand.
-BY_NAME = re.compile(
-    r"\*=|\w*(?:[mM]ul(?!tiply128\b)|pow|[iu]128)\w*|\b(?!count_product\b)\w*product(?=\(|::)"
-)
+BY_NAME = re.compile(r"\*=|\w*(?:[mM]ul(?!tiply128\b)|pow|[iu]128)\w*|\w*product(?=\(|::)")
 BY_STAR = re.compile(r"(?:(?<!\.)([.*/%])\s*)?\b(\w+)\s*\*(?!=)|[)\]}?]\s*\*(?!=)")
 ONE_PRODUCT = Counter({"multiply128: u128": 2, "multiply128: ) *": 1})
 KEYWORDS = set("as break continue else if in let match move mut ref return unsafe while".split())
 
-# A name, after its type if it has one; and what counts nothing: a call, or the end of a path.
-NAME = re.compile(r"(?:\b([A-Z]\w*)::(?:<[^<>]*>::)?)?\b(\w+)")
+# A name, after a type, a dot or neither; and what counts nothing: a call, or the end of a path.
+NAME = re.compile(r"(?:\b([A-Z]\w*)::(?:<[^<>]*>::)?|(\.))?\b(\w+)")
 STANDARD = r"(?:\w*default|hash(?:_slice|_one)?|take|write_(?:[iu](?:\d+|size)|str|length_prefix))"
 UNCOUNTED = re.compile(rf"\b{STANDARD}(?=\(|::<)|(?<=::){STANDARD}\b(?!::)")
 
@@ -63,15 +61,17 @@ def products(functions):
 
 
 def tallies(functions):
-    owners, names, makers, more = {one.owner for one in functions}, {}, set(), {("", "Tally")}
+    owners, names = {one.owner for one in functions} - {""}, {}
     for function in functions:
-        pairs = NAME.findall(function.body) if function.name != "_" else []
-        names[function] = {("", owner) for owner, _ in pairs}
-        names[function] |= {(owner if owner in owners else "", name) for owner, name in pairs}
+        found = NAME.findall(function.body) if function.name != "_" else []
+        names[function] = {("", owner) for owner, _, _ in found} | {
+            (owner if owner in owners else owner + dot and "any", name) for owner, dot, name in found
+        }
+    makers, more = set(), {("", "Tally")}
     while more - makers:
         makers |= more
         made = [one for one in functions if not one.is_passed_tally and makers & names[one]]
-        more = {(owner, one.name) for one in made for owner in ("", one.owner)}
+        more = {(owner, one.name) for one in made for owner in (one.owner, one.owner and "any")}
     for function in functions:
         found = UNCOUNTED.findall(function.body) + [name for _, name in makers & names[function]]
         for name in sorted(set(found)) if function.is_passed_tally else []:

@@ -10,11 +10,11 @@
 
 The seal (docs/DECISIONS.md) is a checksum of each proof that opens it, and all lines that name a
 part of it. No edit can break it without a change of the list as long as the following holds:
-`TallyKey`, `raise`, `Sealed`, `Raised` and `Facts` are private; no other type holds `TallyKey`;
-`counted` and `Key` are neither `abbrev` nor `unfoldable`; only the handwritten proofs of
-`Tally::new` and `raise` import `Raised`, and each of these two has one public lemma; no ghost
-member of a trait holds a lemma of the two, of `Raised` or of `Facts`; and specs/Tallies.antt,
-through which proofs/ reaches `counted` and `opened`, doesn't pass on the key.
+`TallyKey`, `raise`, `Sealed` and `Raised` aren't public; no other type holds `TallyKey`; `counted`
+and `Key` are neither `abbrev` nor `unfoldable`; only the handwritten proofs of `Tally::new` and
+`raise` import `Raised`, and each of these two has one public lemma; no ghost member of a trait
+holds a lemma of the two or of `Raised`; and specs/Tallies.antt, through which proofs/ reaches
+`counted` and `opened`, doesn't pass on the key.
 
 After a change that is wanted, review the difference, and write the list anew:
 `python3 scripts/surface.py renew`.
@@ -31,10 +31,8 @@ from sources import KIND, OWNER, SCRIPTS, code_of, items_of, texts_of
 
 LIST = SCRIPTS / "surface.txt"
 LISTED = re.compile(r"crates/(?:komihash|komihash_c|komisum)/src/(?!tests\b|v4\.rt).*\.rt")
-EXPORTS = "crates/komihash/src/aliases.rt"
-CHECKED = re.compile(
-    r"crates/kom\w+/specs/(?!Lib).*|crates/komihash/proofs/(?:Raised|Facts|tally/.*)\.antt"
-)
+EXPORTS = "crates/komihash/src/exports.rt"
+CHECKED = re.compile(r".*/komi\w+/specs/(?!Lib|Storage).*|.*/komihash/proofs/(?:Raised|tally/).*")
 
 # What is not listed: how a function is compiled and proved, names of the Prelude, and comments.
 INTERNAL = re.compile(
@@ -46,7 +44,7 @@ IMPORT = re.compile(r"\s*(?:ghost )?use [\w:.]*?(?:\{([^{}]*)\}|(\w+));")
 
 # Lines that name a part of the seal; in code, also those that have `Tally` by itself.
 SEAL = re.compile(
-    r": .*\b(?:Sealed|Tallies|Raised|Facts|TallyKey)\b"
+    r": .*\b(?:Sealed|Tallies|Raised|TallyKey)\b"
     r"|\.rt: .*(?<!use crate::tally::)(?<!tally: &mut )(?<!&mut )\bTally\b"
 )
 
