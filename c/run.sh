@@ -31,7 +31,7 @@ library=$out/libkomihash_rattle
 version=0.5.0
 soname=libkomihash_rattle.so.1
 mkdir -p "$out"
-. ../scripts/build.sh
+. ./build.sh
 
 build_archive() {
     cp komihash_rattle.h "$out/" || return

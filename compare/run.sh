@@ -14,7 +14,7 @@ original=${KOMIHASH_CRATE:+$(realpath -m "$KOMIHASH_CRATE")}
 cd "$(dirname "${BASH_SOURCE[0]}")"
 out=$PWD/out
 mkdir -p "$out"
-. ../scripts/build.sh
+. ../c/build.sh
 
 # Builds the loops, and the library for C.
 build_libraries() {

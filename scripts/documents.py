@@ -5,10 +5,10 @@
            first line, is a whole file of the crate `uses`, which is proved and tested.
   values   The table of values in docs/DEFINITIONS.md is that of tests/values.rt.
   speed    Each row of README between `<!-- speed -->` and `<!-- /speed -->` ends in two figures or
-           more. One row of compare/speed.md has all of them, in this order.
+           more, all of which one row of compare/speed.md has in this order.
   calls    The rows of CALLING.md between `<!-- calls -->` and `<!-- /calls -->` begin with the
-           signatures of all functions of `komihash` in surface.txt but the laws, and no others.
-           `pub fn` and types before the name may be left out.
+           signatures, with or without `pub fn` and the type before the name, of all functions of
+           `komihash` in surface.txt but the laws, and of no others.
   names    Each file that a document names is there, and each name with `_` or `-` in
            docs/DEFINITIONS.md stands in a source.
 """

@@ -1,15 +1,14 @@
 #!/usr/bin/env python3
 """Checks two promises of `komihash`, and of the crate for C, that no contract carries.
 
-  products  Only `multiply128` multiplies two words, and it multiplies once: no other body has `*`
-            or `*=`, a 128-bit type, a name with `mul` or `pow`, or a call of a name that ends in
-            `product`. `8 * INDEX` is allowed.
+  products  Only `multiply128` multiplies two words, and it does so once: no other body has `*`, but
+            for `8 * INDEX`, a 128-bit type, a name with `mul` or `pow`, or a call of `..product`.
   tallies   A function that is passed a tally makes none: its body names neither `Tally`, nor a
             function that makes one, itself or through others. Nor does it call what could hash or
-            start a stream in the standard library: `hash`, `take`, names that end in `default`, and
-            the methods of `Hasher` for numbers and strings.
-  hidden    No source has an import by another name, a type of functions, a macro, or a block
-            comment, which hide names from these two.
+            start a stream in the standard library: `hash`, `take`, a name that ends in `default`,
+            or a method of `Hasher` for numbers and strings.
+  hidden    No source hides names from these two by an import with `as`, a type of functions, a
+            macro, or a block comment.
 
 The script reads names, not meanings. It can't see a product that is made of sums or shifts, what
 the standard library does inside, or a function that an operator, a loop or a drop calls.
@@ -64,9 +63,9 @@ def tallies(functions):
     owners, names = {one.owner for one in functions} - {""}, {}
     for function in functions:
         found = NAME.findall(function.body) if function.name != "_" else []
-        names[function] = {("", owner) for owner, _, _ in found} | {
-            (owner if owner in owners else owner + dot and "any", name) for owner, dot, name in found
-        }
+        names[function] = {("", owner) for owner, _, _ in found}
+        for owner, dot, name in found:
+            names[function].add((owner if owner in owners else owner + dot and "any", name))
     makers, more = set(), {("", "Tally")}
     while more - makers:
         makers |= more

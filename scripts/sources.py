@@ -25,7 +25,6 @@ def texts_of(*patterns):
     return {path.relative_to(SCRIPTS.parent).as_posix(): path.read_text("utf-8") for path in files}
 
 
-@lru_cache(maxsize=None)
 def code_of(text):
     def read(found):
         return "" if found[1] else found[0] if found[0] == '"C"' else f"0x{found[0].encode().hex()}"

@@ -1,11 +1,11 @@
 #!/usr/bin/env python3
 """Compares what `komihash`, the crate for C and `komisum` promise with surface.txt.
 
-  surface  For each source, surface.txt lists the public items with signatures, clauses, derives and
+  surface  The list has the public items of each source with signatures, clauses, derives and
            fields, the impls of traits for public types, and from where their names are imported,
-           unless it is the Prelude; of exports.rt all functions, since they state the version of
-           each public name; and of komisum whole functions that no contract holds, and constants.
-           Then come checksums of the definitions, and the seal of the tally.
+           unless it is the Prelude; all functions of exports.rt, which state the version of each
+           public name; of komisum also whole functions that no contract holds, and constants;
+           checksums of the definitions; and the seal of the tally.
   twins    The modules v4.rt and v5.rt of a crate differ in a number, so v4.rt is not listed.
 
 The seal (docs/DECISIONS.md) is a checksum of each proof that opens it, and all lines that name a
@@ -16,15 +16,13 @@ and `Key` are neither `abbrev` nor `unfoldable`; only the handwritten proofs of 
 holds a lemma of the two or of `Raised`; and specs/Tallies.antt, through which proofs/ reaches
 `counted` and `opened`, doesn't pass on the key.
 
-After a change that is wanted, review the difference, and write the list anew:
-`python3 scripts/surface.py renew`.
+After a change that is wanted, `python3 scripts/surface.py renew` writes the list anew.
 """
 
 import difflib
 import hashlib
 import re
 import sys
-from functools import lru_cache
 
 from cases import report
 from sources import KIND, OWNER, SCRIPTS, code_of, items_of, texts_of
@@ -69,7 +67,6 @@ def promised(text, types, is_public=False, is_unproved=False):
             yield from promised(block, types, True) if kind == "trait" else []
 
 
-@lru_cache(maxsize=None)
 def entry_of(name, code):
     """What is listed of a source: without imports of names that no other line has."""
     code = INTERNAL.sub("", code)
@@ -116,13 +113,11 @@ def twins(files):
 
 def findings(files):
     """What each rule finds, by the rule's name."""
-    wanted = LIST.read_text(encoding="utf-8").splitlines()
+    wanted = LIST.read_text("utf-8").splitlines()
     return {"surface": differences(wanted, listed(files)), "twins": list(twins(files))}
 
 
-if __name__ == "__main__":
-    FILES = texts_of("crates/*/src/**/*.rt", "crates/*/[sp]*s/**/*.antt")
-    if sys.argv[1:] == ["renew"]:
-        LIST.write_text("\n".join(listed(FILES)) + "\n", encoding="utf-8")
-    else:
-        sys.exit(report("the sources", findings, FILES))
+FILES = texts_of("crates/*/src/**/*.rt", "crates/*/[sp]*s/**/*.antt")
+if sys.argv[1:] == ["renew"]:
+    LIST.write_text("\n".join(listed(FILES)) + "\n", "utf-8")
+sys.exit(report("the sources", findings, FILES))
