@@ -28,8 +28,6 @@ cases_with() {
 
 # Prints the counts. Succeeds if no case failed.
 counted() {
-    local skips=", $skipped skipped"
-    [ "$skipped" != 0 ] || skips=
-    echo "$passed passed, $failed failed$skips"
+    echo "$passed passed, $failed failed$([ "$skipped" = 0 ] || echo ", $skipped skipped")"
     [ "$failed" = 0 ]
 }

@@ -76,18 +76,14 @@ def names(files):
     known = set(re.findall(r"[A-Za-z_][\w-]*", sources))
     for document in filter(re.compile(r"(?:docs/)?[A-Z]+\.md").fullmatch, files):
         for span in SPAN.findall(files[document]):
-            if re.fullmatch(r"[\w./*-]+\.(?:rt|antt|md|sh|py|edit|h|c)", span):
-                file = re.compile("(?:.*/)?" + re.escape(span).replace(r"\*", "[^/]*"))
-                is_there = any(map(file.fullmatch, files))
-            else:
-                is_name = re.fullmatch(r"[A-Za-z]+(?:[_-]\w+)+", span)
-                is_there = span in known or "DEFINITIONS" not in document or not is_name
-            if not is_there:
+            file = re.compile("(?:.*/)?" + re.escape(span).replace(r"\*", "[^/]*"))
+            is_file = re.fullmatch(r"[\w./*-]+\.(?:rt|antt|md|sh|py|edit|h|c)", span)
+            is_name = "DEFINITIONS" in document and re.fullmatch(r"[A-Za-z]+(?:[_-]\w+)+", span)
+            if is_file and not any(map(file.fullmatch, files)) or is_name and span not in known:
                 yield f"{document}: there is no {span}"
 
 
 def findings(files):
-    """What each rule finds, by the rule's name."""
     return {rule.__name__: list(rule(files)) for rule in (callers, values, speed, calls, names)}
 
 

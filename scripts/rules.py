@@ -21,11 +21,11 @@ from collections import Counter, namedtuple
 from cases import report
 from sources import KIND, OWNER, code_of, items_of, texts_of
 
-# Products: by name, and by `*` after an operand. The one product, and what is no operand.
+# Products: by name, and by `*` after an operand. The one product, and what `*` may follow.
 BY_NAME = re.compile(r"\*=|\w*(?:[mM]ul(?!tiply128\b)|pow|[iu]128)\w*|\w*product(?=\(|::)")
 BY_STAR = re.compile(r"(?:(?<!\.)([.*/%])\s*)?\b(\w+)\s*\*(?!=)|[)\]}?]\s*\*(?!=)")
 ONE_PRODUCT = Counter({"multiply128: u128": 2, "multiply128: ) *": 1})
-KEYWORDS = set("as break continue else if in let match move mut ref return unsafe while".split())
+ALLOWED = set("8 as break continue else if in let match move mut ref return unsafe while".split())
 
 # A name, after a type, a dot or neither; and what counts nothing: a call, or the end of a path.
 NAME = re.compile(r"(?:\b([A-Z]\w*)::(?:<[^<>]*>::)?|(\.))?\b(\w+)")
@@ -53,8 +53,7 @@ def functions_of(code, owner=""):
 def products(functions):
     found = Counter()
     for _, name, _, body in functions:
-        stars = [star for star in BY_STAR.finditer(body) if star[2] not in KEYWORDS]
-        stars = [star for star in stars if star[2] != "8" or star[1]]
+        stars = [star for star in BY_STAR.finditer(body) if star[1] or star[2] not in ALLOWED]
         found.update(f"{name}: {one[0]}" for one in [*stars, *BY_NAME.finditer(body)])
     return list((found - ONE_PRODUCT).elements())
 
@@ -78,7 +77,6 @@ def tallies(functions):
 
 
 def findings(files):
-    """What each rule finds, by the rule's name."""
     files = {name: text for name, text in files.items() if "/tests" not in name}
     functions = [one for text in files.values() for one in functions_of(code_of(text))]
     hidden = [(name, HIDDEN.findall(code_of(text))) for name, text in files.items()]

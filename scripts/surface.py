@@ -53,17 +53,15 @@ def promised(text, types, is_public=False, is_unproved=False):
     for item, block in items_of(text):
         visibility, kind = KIND.match(item.strip()).groups()
         is_visible = is_public or visibility and "(" not in visibility
-        if kind == "impl" and " for " in item:
-            if is_unproved or OWNER.search(item)[1] in types:
-                yield from [item, *promised(block, types, True, is_unproved)]
-        elif kind in ("impl", "mod") and block is not None:
-            members = list(promised(block, types, False, is_unproved))
-            yield from [item, *members] if members else []
+        if kind in ("impl", "mod") and block is not None:
+            is_of_trait = " for " in item
+            if not is_of_trait or is_unproved or OWNER.search(item)[1] in types:
+                members = list(promised(block, types, is_of_trait, is_unproved))
+                yield from [item, *members] if members or is_of_trait else []
         elif is_unproved and (kind == "fn" and "ensures" not in item or kind.isupper()):
             yield f"{item}{{{block}}}" if block else item
         elif is_visible or kind == "use":
-            yield item
-            yield block or "" if kind in ("struct", "enum") else ""
+            yield item if kind not in ("struct", "enum") else f"{item}{block or ''}"
             yield from promised(block, types, True) if kind == "trait" else []
 
 
@@ -112,7 +110,6 @@ def twins(files):
 
 
 def findings(files):
-    """What each rule finds, by the rule's name."""
     wanted = LIST.read_text("utf-8").splitlines()
     return {"surface": differences(wanted, listed(files)), "twins": list(twins(files))}
 

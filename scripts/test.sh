@@ -1,7 +1,6 @@
 #!/usr/bin/env bash
-# Runs every proof and test: first the rules for sources and documents, which take seconds, then
-# `rt ci`, then the tests of the built program and of the library for C. The first part that fails
-# ends the run.
+# Runs every proof and test, up to the first part that fails: the rules for sources and documents,
+# which take seconds, `rt ci`, and the tests of the built program and of the library for C.
 #
 # The last line is 'N passed, M failed', the sum of all parts, with ', K skipped' if a tool is
 # missing that some cases need; lines above it say which. With REQUIRE_ALL=1 in the environment,
