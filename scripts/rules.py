@@ -8,7 +8,7 @@
             start a stream in the standard library: `hash`, `take`, a name that ends in `default`,
             or a method of `Hasher` for numbers and strings.
   hidden    No source hides names from these two by an import with `as`, a type of functions, a
-            macro, or a block comment.
+            macro, a block comment, or a function in a function.
 
 The script reads names, not meanings. It can't see a product that is made of sums or shifts, what
 the standard library does inside, or a function that an operator, a loop or a drop calls.
@@ -31,22 +31,21 @@ ALLOWED = set("8 as break continue else if in let match move mut ref return unsa
 NAME = re.compile(r"(?:\b([A-Z]\w*)::(?:<[^<>]*>::)?|(\.))?\b(\w+)")
 STANDARD = r"(?:\w*default|hash(?:_slice|_one)?|take|write_(?:[iu](?:\d+|size)|str|length_prefix))"
 UNCOUNTED = re.compile(rf"\b{STANDARD}(?=\(|::<)|(?<=::){STANDARD}\b(?!::)")
-
 HIDDEN = re.compile(r"(?<!ghost )\buse [^;]*\bas\b|\bfn\s*\(|\bFn\w*\b|\bmacro_rules\b|/\*")
 
 Function = namedtuple("Function", "owner name is_passed_tally body")
 
 
 def functions_of(code, owner=""):
-    """The functions of a source or a block that have a body, and its constants."""
+    """The functions and the constants of a source or a block."""
     for item, block in items_of(code):
         kind = KIND.match(item.strip())[2]
         if kind in ("impl", "trait", "mod"):
             yield from functions_of(block or "", (OWNER.findall(item) or [owner])[0])
-        elif kind == "fn" and block is not None:
+        elif kind == "fn":
             is_passed = "Tally" in item.partition(") ->")[0] or owner == "Tally" and "self" in item
-            yield Function(owner, re.search(r"\bfn (\w+)", item)[1], is_passed, block)
-        elif kind not in ("use", "ghost", "fn", "struct", "enum", "type"):
+            yield Function(owner, re.search(r"\bfn (\w+)", item)[1], is_passed, block or "")
+        elif kind not in ("use", "ghost", "struct", "enum", "type"):
             yield Function("", "_", False, item)
 
 
@@ -77,14 +76,14 @@ def tallies(functions):
 
 
 def findings(files):
-    files = {name: text for name, text in files.items() if "/tests" not in name}
-    functions = [one for text in files.values() for one in functions_of(code_of(text))]
-    hidden = [(name, HIDDEN.findall(code_of(text))) for name, text in files.items()]
-    return {
-        "products": products(functions),
-        "tallies": list(tallies(functions)),
-        "hidden": [f"{name}: {text!r}" for name, texts in hidden for text in texts],
-    }
+    hidden, functions = [], []
+    for name, code in ((name, code_of(files[name])) for name in files if "/tests" not in name):
+        read = list(functions_of(code))
+        functions += read
+        hidden += [f"{name}: {text!r}" for text in HIDDEN.findall(code)]
+        if len(re.findall(r"\bfn \w", code)) != sum(one.name != "_" for one in read):
+            hidden.append(f"{name}: this script can't tell its functions apart")
+    return {"products": products(functions), "tallies": list(tallies(functions)), "hidden": hidden}
 
 
 FILES = texts_of("crates/komihash/src/**/*.rt", "crates/komihash_c/src/**/*.rt")

@@ -9,8 +9,7 @@ SCRIPTS = Path(__file__).resolve().parent
 # What code has no more: comments. A string or a character becomes a number.
 UNREAD = re.compile(r"""(//.*)|"(?:\\[\s\S]|[^"\\])*"|(?<![\w'])b?'(?:\\.[^']*|[^'\\])'""")
 
-# An item's visibility and kind; items that have no block; what comes before a clause's brace; the
-# type of an impl, or the name of a trait.
+# An item's visibility and kind; items without a block; what precedes a clause's brace; owners.
 HEAD = r"(?:#!?\[[^\]]*\]\s*)*(pub\b\s*(?:\([^)]*\))?)?\s*"
 KIND = re.compile(HEAD + r"(?:(?:ghost|const|unsafe|extern \S+)\s+)*(\w*)")
 NO_BLOCK = re.compile(HEAD + r"(?:use|ghost|type|static|const(?!\s+(?:unsafe\s+)?fn))\b")

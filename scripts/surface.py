@@ -32,12 +32,11 @@ LISTED = re.compile(r"crates/(?:komihash|komihash_c|komisum)/src/(?!tests\b|v4\.
 EXPORTS = "crates/komihash/src/exports.rt"
 CHECKED = re.compile(r".*/komi\w+/specs/(?!Lib|Storage).*|.*/komihash/proofs/(?:Raised|tally/).*")
 
-# What is not listed: how a function is compiled and proved, names of the Prelude, and comments.
+# What is not listed: how a function is compiled and proved, and names of the Prelude.
 INTERNAL = re.compile(
     r"#!?\[(?:inline|tactic)\b[^\]]*\]\s*"
     r"|\bghost use Rattle\.std\.specs\.Prelude\.\{(?![^}]*\bas\b)[^}]*\};"
 )
-COMMENT = re.compile(r"^\s*--.*\n", re.MULTILINE)
 IMPORT = re.compile(r"\s*(?:ghost )?use [\w:.]*?(?:\{([^{}]*)\}|(\w+));")
 
 # Lines that name a part of the seal; in code, also those that have `Tally` by itself.
@@ -88,8 +87,8 @@ def listed(files):
         if LISTED.fullmatch(name):
             lines += entry_of(name, code)
         if CHECKED.fullmatch(name):
-            digest = hashlib.sha256(COMMENT.sub("", text).encode()).hexdigest()[:16]
-            checksums.append(f"{name}: {digest}")
+            definitions = re.sub(r"(?m)^\s*--.*\n", "", text).encode()
+            checksums.append(f"{name}: {hashlib.sha256(definitions).hexdigest()[:16]}")
         if name.startswith("crates/komihash/") and "/tests" not in name:
             seal += filter(SEAL.search, (f"{name}: {line.strip()}" for line in code.splitlines()))
     return lines[1:] + checksums + seal
