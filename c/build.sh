@@ -1,4 +1,4 @@
-# Builds static libraries, for the scripts that source this file in a folder at the top.
+# Builds the static libraries of the repository, for the scripts that source this file below the top.
 
 stop() {
     echo "run.sh: $1" >&2
@@ -7,21 +7,20 @@ stop() {
 
 need() { command -v "$1" > /dev/null || stop "there is no $1, which $2"; }
 
-# Proves a crate and builds it as a static library, with flags for `rt lib`. Does nothing if the
-# file is there with the same flags and no source is newer.
+# Proves a crate and builds it as a static library, with flags for `rt lib`. Does nothing if the file is there with the
+# same flags and no source is newer.
 build_static() {
-    local crates=../crates name=$1 file=$2 log=${2%.a}.log
-    if [ -f "$file" ] && [ "$(cat "$file.flags" 2> /dev/null)" = "${*:3}" ] && [ -z "$(find \
-        $crates/{komihash,"$name"}/{src,specs,proofs} -newer "$file" -print -quit 2> /dev/null)" ]
-    then
+    local name=$1 file=$2 crates=../crates
+    if [ -f "$file" ] && [ "$(cat "$file.flags" 2> /dev/null)" = "${*:3}" ] &&
+        [ -z "$(find $crates/{komihash,"$name"}/{src,specs,proofs} -newer "$file" -print -quit 2> /dev/null)" ]; then
         return
     fi
     need rt "proves and builds the crate $name"
     rm -f "$file"
     echo "Proving and building the crate $name. If nothing is proved yet, this takes minutes." >&2
-    if ! (cd "$crates/$name" && rt lib "${@:3}") > "$log" 2>&1; then
-        grep -vE ': proved$|^(checked|so far|statements)' "$log" | tail -n 40 >&2 || true
-        stop "the crate $name is not proved or not built; see $log"
+    if ! (cd "$crates/$name" && rt lib "${@:3}") > "${file%.a}.log" 2>&1; then
+        grep -vE ': proved$|^(checked|so far|statements)' "${file%.a}.log" | tail -n 40 >&2 || true
+        stop "the crate $name is not proved or not built; see ${file%.a}.log"
     fi
     cp "$crates/$name/out/lib$name.a" "$file"
     echo "${*:3}" > "$file.flags"

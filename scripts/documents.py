@@ -2,13 +2,12 @@
 """Compares the documents with the files that they show and name.
 
   callers  Each block of code of README and CALLING.md, marked `rust` or `antt` or with `//!` in its
-           first line, is a whole file of the crate `uses`, which is proved and tested.
+           first line, is a file of the crate `uses`, which is proved and tested, or a part of one.
   values   The table of values in docs/DEFINITIONS.md is that of tests/values.rt.
-  speed    Each row of README between `<!-- speed -->` and `<!-- /speed -->` ends in two figures or
-           more, all of which one row of compare/speed.md has in this order.
+  speed    README and compare/speed.md have the same between `<!-- speed -->` and `<!-- /speed -->`.
   calls    The rows of CALLING.md between `<!-- calls -->` and `<!-- /calls -->` begin with the
-           signatures, with or without `pub fn` and the type before the name, of all functions of
-           `komihash` in surface.txt but the laws, and of no others.
+           signatures of the functions of `komihash` in surface.txt, but for exports.rt and the
+           hidden module `raw`.
   names    Each file that a document names is there, and each name with `_` or `-` in
            docs/DEFINITIONS.md stands in a source.
 """
@@ -28,9 +27,9 @@ ROW = re.compile(r"^\| (.+) \| (none|[\da-f]+) \| (none|[\da-f]+) \|$", re.MULTI
 TESTED = re.compile(r"^ +// ([^\n]+)\n +let wanted\b[^=]*= \[(.*?)\];$", re.DOTALL | re.MULTILINE)
 
 # A row of a call; the lines of a source in surface.txt, and the functions in them.
-CALL = re.compile(r"\| `(?:pub )?(?:fn )?(?:\w+::)*(\w[^`]*)` \|")
-LISTED = re.compile(r"^crates/komihash/src/(?!exports|laws|stream/raw).*((?:\n.+)*)", re.MULTILINE)
-SIGNATURE = re.compile(r"\bfn (\w+(?:<[^(]*>)?\([^)]*\)(?: -> [^\n;]+)?)")
+CALL = re.compile(r"\| `((?:pub )?fn [^`]+)` \|")
+LISTED = re.compile(r"^crates/komihash/src/(?!exports|stream/raw).*((?:\n.+)*)", re.MULTILINE)
+SIGNATURE = re.compile(r"^ *((?:pub )?fn \w+(?:<[^(]*>)?\([^)]*\)(?: -> [^\n;]+)?)", re.MULTILINE)
 
 
 def blocks(text, name):
@@ -39,10 +38,11 @@ def blocks(text, name):
 
 
 def callers(files):
+    uses = [text for name, text in files.items() if name.startswith("crates/uses/")]
     for document in ("README.md", "CALLING.md"):
         for code in CODE.findall(files[document]):
-            if code not in files.values():
-                yield f"{document}: no file of `uses` is this block: {code.splitlines()[0]}"
+            if not any(code in text for text in uses):
+                yield f"{document}: no file of `uses` has this block: {code.splitlines()[0]}"
 
 
 def values(files):
@@ -55,11 +55,10 @@ def values(files):
 
 
 def speed(files):
-    for row in re.findall(r"\| .*\|(?!.*\n\|-)", blocks(files["README.md"], "speed")):
-        cells = re.search(r"(?:\| [\d,.]+ ){2,}\|$|$", row)[0].split("| ")
-        figures = r"\| (?:.*\| )?".join(re.escape(cell) for cell in cells)
-        if not cells[1:] or not re.search(figures, files["compare/speed.md"]):
-            yield f"README.md: no row of compare/speed.md has these figures: {row}"
+    documents = ("README.md", "compare/speed.md")
+    shown, measured = ({*blocks(files[name], "speed").splitlines(), ""} for name in documents)
+    for line in sorted(shown ^ measured):
+        yield f"{documents[line in shown]} lacks the line {line}"
 
 
 def calls(files):
