@@ -1,9 +1,9 @@
 """Counts the cases of the scripts in Python: each is a line `ok: NAME`, or `FAILED: NAME` and its
 faults. The last line is 'N passed, M failed'.
 
-An edit in planted/RULE/ makes a fault that its rule must find. It has a line `file: NAME`, and
-pairs of lines `old: TEXT`, `new: TEXT`; each old text stands once in the file. To add a case, put
-a rule into the `findings` of a script in Python, or a `note` into a script in bash.
+An edit in planted/RULE/ makes a fault that its rule must find. It has the lines `file: NAME`,
+`old: TEXT` and `new: TEXT`; the old text stands once in the file. To add a case, put a rule into
+the `findings` of a script in Python, or a `note` into a script in bash.
 """
 
 from sources import SCRIPTS
@@ -11,13 +11,10 @@ from sources import SCRIPTS
 
 def planted(files, edit):
     """The files after an edit."""
-    (_, name), *pairs = [line.split(": ", 1) for line in edit.read_text("utf-8").splitlines()]
-    text = files.get(name, "")
-    for (_, old), (_, new) in zip(pairs[::2], pairs[1::2]):
-        if text.count(old) != 1:
-            raise ValueError(f"its text stands in {name} {text.count(old)} times, not once: {old}")
-        text = text.replace(old, new)
-    return {**files, name: text}
+    name, old, new = (line.split(": ", 1)[1] for line in edit.read_text("utf-8").splitlines())
+    if files[name].count(old) != 1:
+        raise ValueError(f"its text stands in {name} {files[name].count(old)} times: {old}")
+    return {**files, name: files[name].replace(old, new)}
 
 
 def report(subject, findings, files):
@@ -32,8 +29,8 @@ def report(subject, findings, files):
             found = findings(planted(files, edit))[rule]
             found = [one for one in found if one not in before[rule]]
             cases += [(f"{name}: {found[:1]}", [] if found else ["nothing finds it"])]
-        except ValueError as fault:
-            cases += [(name, [str(fault)])]
+        except (KeyError, ValueError) as fault:
+            cases += [(name, [f"it does not apply: {fault}"])]
     for name, faults in cases:
         print(f"{'FAILED' if faults else 'ok'}: {name}", *faults, sep="\n    ")
     failed = sum(1 for _, faults in cases if faults)
