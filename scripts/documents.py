@@ -6,8 +6,8 @@
   values   The table of values in docs/DEFINITIONS.md is that of tests/values.rt.
   speed    README and compare/speed.md have the same between `<!-- speed -->` and `<!-- /speed -->`.
   calls    The rows of CALLING.md between `<!-- calls -->` and `<!-- /calls -->` begin with the
-           signatures of the functions of `komihash` in surface.txt, but for exports.rt and the
-           hidden module `raw`.
+           signatures of the functions of `komihash` in surface.txt, but for exports.rt, the module
+           `raw` and other hidden functions.
   names    Each file that a document names is there, and each name with `_` or `-` in
            docs/DEFINITIONS.md stands in a source.
 """
@@ -29,7 +29,9 @@ TESTED = re.compile(r"^ +// ([^\n]+)\n +let wanted\b[^=]*= \[(.*?)\];$", re.DOTA
 # A row of a call; the lines of a source in surface.txt, and the functions in them.
 CALL = re.compile(r"\| `((?:pub )?fn [^`]+)` \|")
 LISTED = re.compile(r"^crates/komihash/src/(?!exports|stream/raw).*((?:\n.+)*)", re.MULTILINE)
-SIGNATURE = re.compile(r"^ *((?:pub )?fn \w+(?:<[^(]*>)?\([^)]*\)(?: -> [^\n;]+)?)", re.MULTILINE)
+SIGNATURE = re.compile(
+    r"(?<!hidden\)\]\n)^ *((?:pub )?fn \w+(?:<[^(]*>)?\([^)]*\)(?: -> [^\n;]+)?)", re.MULTILINE
+)
 
 
 def blocks(text, name):
