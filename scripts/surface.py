@@ -69,12 +69,12 @@ def entry_of(name, code):
     code = INTERNAL.sub("", code)
     types = re.findall(r"\bpub (?:struct|enum) (\w+)", code)
     items = list(promised(code, types, name == EXPORTS, name.startswith("crates/komisum/")))
-    imported = [IMPORT.fullmatch(item) for item in items]
-    used = set(re.findall(r"\w+", " ".join(one for one, it in zip(items, imported) if not it)))
-    for item, found in zip(list(items), imported):
-        names = re.findall(r"[^\s,]+", found[1] or found[2]) if found else used
+    imports = {item: found for item in items if (found := IMPORT.fullmatch(item))}
+    used = set(re.findall(r"\w+", " ".join(item for item in items if item not in imports)))
+    for item, found in imports.items():
+        names = re.findall(r"[^\s,]+", found[1] or found[2])
         if all(name.isidentifier() and name not in used for name in names):
-            items.remove(item)
+            items = [one for one in items if one != item]
     lines = [line.rstrip() for line in "\n".join(items).splitlines() if line.strip()]
     return ["", name, *lines] if lines else []
 
