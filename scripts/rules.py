@@ -1,8 +1,9 @@
 #!/usr/bin/env python3
 """Checks two promises of `komihash`, and of the crate for C, that no contract carries.
 
-  products  Only `multiply128` multiplies two words, and it does so once: no other body has `*`, but
-            for `8 * INDEX`, a 128-bit type, a name with `mul` or `pow`, or a call of `..product`.
+  products  Only `multiply128` multiplies two words, and it does so once. No other body has a
+            128-bit type, a name with `mul` or `pow`, a call of a name that ends in `product`, or a
+            `*` between operands but in `8 * INDEX`.
   tallies   A function that is passed a tally makes none: its body names neither `Tally`, nor a
             function that makes one, itself or through others. Nor does it call what could hash or
             start a stream in the standard library: `hash`, `take`, a name that ends in `default`,
