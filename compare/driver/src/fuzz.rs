@@ -1,5 +1,5 @@
-//! Compares the port with the Rust crate on random inputs. Padded words and saved texts, which the Rust crate lacks,
-//! are compared with rules.rs.
+//! Compares the port with the Rust crate on random inputs. Padded words and saved texts, which the
+//! Rust crate lacks, are compared with rules.rs.
 use crate::input::{Input, Random};
 use crate::original::{OriginalFive, OriginalFour};
 use crate::parts;
@@ -10,8 +10,8 @@ use std::fmt::Debug;
 
 type Found = Result<(), String>;
 
-/// Tries cases up to the first difference, and returns whether there was none. Each case is drawn from the seed and
-/// its number.
+/// Tries cases up to the first difference, and returns whether there was none. Each case is drawn
+/// from the seed and its number.
 pub fn run(seed: u64, count: u64) -> bool {
     for number in 0..count {
         let mut random = Random(Random(seed).word() ^ number);
@@ -21,7 +21,9 @@ pub fn run(seed: u64, count: u64) -> bool {
             _ => (4, case::<PortFour, OriginalFour>(&input, &mut random)),
         };
         if let Err(difference) = found {
-            println!("case {number}, version {version}: {difference}\ninput: {input}\n{number} passed, 1 failed");
+            println!(
+                "case {number}, version {version}: {difference}\ninput: {input}\n{number} passed, 1 failed"
+            );
             return false;
         }
     }
@@ -83,10 +85,11 @@ fn outputs<P: Port, O: Side>(input: &Input, count: usize) -> Found {
 }
 
 fn fills<P: Port, O: Side>(input: &Input) -> Found {
-    let by = |fills: fn(&mut [u8], &[usize], u64, u64, u32) -> u64, pieces: &[usize], start: u32| {
-        let mut out = input.bytes().to_vec();
-        (fills(&mut out, pieces, input.s1, input.s2, start), out)
-    };
+    let by =
+        |fills: fn(&mut [u8], &[usize], u64, u64, u32) -> u64, pieces: &[usize], start: u32| {
+            let mut out = input.bytes().to_vec();
+            (fills(&mut out, pieces, input.s1, input.s2, start), out)
+        };
     let (pieces, start) = (&input.pieces, input.start);
     same("fills, next output and bytes", by(O::fills, pieces, start), by(P::fills, pieces, start))?;
     let whole = [input.bytes().len()];
@@ -126,7 +129,11 @@ fn unpads<P: Port>(input: &Input, random: &mut Random) -> Found {
         wanted[..message.len()].copy_from_slice(message);
     }
     let got = P::unpad(&words, &mut out);
-    same(&format!("unpad {words:x?}, length and bytes"), (message.map(|it| it.len()), wanted), (got, out))
+    same(
+        &format!("unpad {words:x?}, length and bytes"),
+        (message.map(|it| it.len()), wanted),
+        (got, out),
+    )
 }
 
 /// The saved text of the stream after the whole message, piece by piece.
