@@ -9,29 +9,8 @@ use crate::{count, time};
 use std::hint::black_box;
 
 const LENGTHS: [usize; 23] = [
-    0,
-    1,
-    3,
-    5,
-    7,
-    8,
-    12,
-    15,
-    16,
-    24,
-    31,
-    32,
-    40,
-    48,
-    63,
-    64,
-    96,
-    128,
-    256,
-    1024,
-    4096,
-    1 << 16,
-    1 << 20,
+    0, 1, 3, 5, 7, 8, 12, 15, 16, 24, 31, 32, 40, 48, 63, 64, 96, 128, 256, 1024, 4096, 0x1_0000,
+    0x10_0000,
 ];
 
 /// What is printed of a call: the nanoseconds of the fastest of several batches, or the
