@@ -74,7 +74,6 @@ PEERS = {
     "wyhash, x86-64-v2": "wyhash/wyhash.h",
 }
 PACKAGES = ("libxxhash-dev", "libwyhash-dev")
-INCLUDES = ("/usr/include", "/usr/local/include")
 NOT_DRAWN = ("komihash 4", "Rust crate, version 4", "XXH64, x86-64-v2", "XXH64, AVX2")
 
 WAYS = {
@@ -299,8 +298,9 @@ def peers(repeats, *files):
             times[way, int(length), name].append(float(time))
     times = {row: min(them) for row, them in times.items()}
     names = [name for name in PEERS if any(name == row[2] for row in times)]
-    lacking = [f"{name} ({reason_for(name)})" for name in PEERS if name not in names]
-    tools = [asked("cc", "--version").split("\n")[0], *filter(None, map(version_of, PACKAGES))]
+    lacking = [f"{name} ({reason_for(name, names)})" for name in PEERS if name not in names]
+    compiler = asked(os.environ.get("CC", "cc"), "--version").split("\n")[0]
+    tools = [compiler, *filter(None, map(version_of, PACKAGES))]
     measured = circumstances(*tools, effort(repeats, len(files)))
     if not draw(times, names):
         lacking.append("the plot (there is no gnuplot)")
@@ -308,11 +308,12 @@ def peers(repeats, *files):
     print(f"Not measured: {'; '.join(lacking)}." if lacking else "All hashes were measured.")
 
 
-def reason_for(name):
-    header = PEERS[name]
-    if any((folder / header).exists() for folder in map(pathlib.Path, INCLUDES)):
+def reason_for(name, measured):
+    """Says why a hash was not measured, by those that were."""
+    kind = name.split(",")[0]
+    if any(it.startswith(kind) for it in measured):
         return "this processor has no AVX2"
-    return f"there is no {header}"
+    return f"there is no {PEERS[name]}"
 
 
 def version_of(package):
