@@ -195,8 +195,8 @@ def shown_block(rows, measured):
             cells += (speed, f"{it.median:.2f}")
         table.append(cells)
     ratio = (
-        "A ratio says how many times as long the Rust crate takes, built with fat LTO for"
-        " x86-64-v2 as the port is: above 1, the port is faster."
+        "A ratio is the time of the Rust crate, built with fat LTO and for x86-64-v2, divided by"
+        " the time of the port: above 1, the port is faster."
     )
     table = markdown(("Call", "version 5", "ratio", "version 4", "ratio"), table)
     return "\n\n".join((MARKS[0], table, f"{ratio} Measured on {measured}.", MARKS[1]))

@@ -8,7 +8,7 @@ use std::arch::asm;
 fn tested<T>(mut items: *const T) -> *const T {
     // SAFETY: there is no instruction in it. It hides where the pointer comes from: a compiler
     // that sees that no caller passes null drops the test, on this side alone.
-    unsafe { asm!("/* {0} */", inout(reg) items, options(pure, nomem, nostack)) };
+    unsafe { asm!("/* {0} */", inout(reg) items, options(pure, readonly, nostack)) };
     items.wrapping_byte_add((items.is_null() as usize) << 12)
 }
 

@@ -198,12 +198,12 @@ impl Rows<'_> {
             let (original, port) = (|_| O::finish(black_box(&x)), |_| P::finish(black_box(&y)));
             self.row("c finish", &format!("{pending} pending"), original, port);
         }
-        let (original, port) = (|i| self.from_start::<O>(i), |i| self.from_start::<P>(i));
+        let (original, port) = (|i| self.start_to_finish::<O>(i), |i| self.start_to_finish::<P>(i));
         self.row("c start to finish", "16 bytes", original, port);
     }
 
     #[inline(always)]
-    fn from_start<S: FromC>(&self, seed: u64) -> u64 {
+    fn start_to_finish<S: FromC>(&self, seed: u64) -> u64 {
         let mut stream = S::start(seed);
         S::write(black_box(&mut stream), black_box(&self.bytes[..16]));
         S::finish(black_box(&stream))
