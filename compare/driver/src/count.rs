@@ -131,11 +131,11 @@ fn request(request: c_long, process: c_int, address: u64) -> c_long {
     unsafe { ptrace(request, process, address, 0) }
 }
 
-/// Waits until the child stops or ends.
+/// Waits until the child stops or is killed.
 fn wait(child: c_int) {
     let mut status = 0;
     // SAFETY: the status is a variable.
     unsafe { waitpid(child, &mut status, 0) };
-    let is_stopped_or_killed = status & 0xff == 0x7f || status & 0x7f != 0;
-    assert!(is_stopped_or_killed, "this system lets no process be traced");
+    let has_ended_by_itself = status & 0x7f == 0;
+    assert!(!has_ended_by_itself, "this system lets no process be traced");
 }
