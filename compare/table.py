@@ -204,14 +204,14 @@ def shown_block(rows, measured):
 
 def slower_rows(rows):
     """Returns a sentence about the rows in which the Rust crate is faster."""
-    ratios = {
-        f"{group}, {name}, {version} ({columns[version, 'lto'].median:.2f})": columns
+    slower = [
+        f"{group}, {name}, {version} ({columns[version, 'lto'].median:.2f})"
         for (group, name), columns in rows.items()
         if group not in LACKING
         for version in ("v5", "v4")
         if columns[version, "lto"].median < LEVEL
-    }
-    return f"Ratios of `lto` below {LEVEL}: {'; '.join(ratios) or 'none'}."
+    ]
+    return f"Ratios of `lto` below {LEVEL}: {'; '.join(slower) or 'none'}."
 
 
 def section(rows, firsts):
@@ -220,16 +220,20 @@ def section(rows, firsts):
     lines = []
     for (group, name), columns in rows.items():
         if group.split()[0] in firsts:
-            lines.append([f"{group}, {name}"])
-            for version in ("v5", "v4"):
-                them = [columns[version, build] for build in BUILDS]
-                lines[-1].append(three_digits(min(it.port for it in them)))
-                lines[-1] += [f"{it.median:.2f}" for it in them]
-                lines[-1].append(f"{them[-1].least:.2f} to {them[-1].most:.2f}")
+            lines.append([f"{group}, {name}", *cells_of(columns, "v5"), *cells_of(columns, "v4")])
     return markdown(["Call", *heads], lines)
 
 
+def cells_of(columns, version):
+    """Returns the cells of a version in a row: the least time, the ratios, and their spread."""
+    builds = [columns[version, build] for build in BUILDS]
+    time = three_digits(min(it.port for it in builds))
+    spread = f"{builds[-1].least:.2f} to {builds[-1].most:.2f}"
+    return (time, *(f"{it.median:.2f}" for it in builds), spread)
+
+
 def write_speed(rows, measured):
+    """Writes speed.md, and its first table into ../README.md."""
     block = shown_block(rows, measured)
     sections = [
         paragraph
