@@ -119,10 +119,8 @@ impl Edges {
             answers
         };
         let cuts = |call| {
-            let (version, bytes) = (P::VERSION, hex(bytes));
-            format!(
-                "version {version}, {call} with seed {seed:#x} of {bytes}, cut at {first} and {second}"
-            )
+            let message = format!("{}, cut at {first} and {second}", hex(bytes));
+            format!("version {}, {call} with seed {seed:#x} of {message}", P::VERSION)
         };
         let wanted = by(O::stream);
         self.same(wanted, by(P::stream), || cuts("stream"));
