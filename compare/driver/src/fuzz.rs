@@ -5,7 +5,7 @@ use crate::original::{OriginalFive, OriginalFour};
 use crate::parts;
 use crate::port::{PortFive, PortFour};
 use crate::rules::{is_text, padded, text_without_lanes, unpadded};
-use crate::side::{Piece, Port, Side};
+use crate::side::{FromC, Piece, Port, Side};
 use std::fmt::Debug;
 
 type Found = Result<(), String>;
@@ -30,12 +30,13 @@ pub fn run(seed: u64, count: u64) -> bool {
     true
 }
 
-fn case<P: Port, O: Side>(input: &Input, random: &mut Random) -> Found {
+fn case<P: Port, O: Side + FromC>(input: &Input, random: &mut Random) -> Found {
     hashes::<P, O>(input)?;
     streams::<P, O>(input)?;
     chains::<P, O>(input)?;
     outputs::<P, O>(input, random.below(40))?;
     fills::<P, O>(input)?;
+    generators::<P, O>(input)?;
     pads::<P>(input, random)?;
     unpads::<P>(input, random)?;
     saves::<P, O>(input)?;
@@ -97,6 +98,19 @@ fn fills<P: Port, O: Side>(input: &Input) -> Found {
     same("fill", by(O::fills, &whole, 0).1, out.clone())?;
     P::fill_seeded(&mut out, input.s1, input.s2);
     same("seeded fill", by(O::fills, &whole, 2).1, out)
+}
+
+/// Fills of the pieces by a generator in memory, each with an output after it.
+fn generators<P: FromC, O: FromC>(input: &Input) -> Found {
+    let (mut x, mut y) = (O::generator(input.s1), P::generator(input.s1));
+    for piece in &input.pieces {
+        let (mut wanted, mut got) = (vec![0; *piece], vec![0; *piece]);
+        O::next_bytes(&mut x, &mut wanted);
+        P::next_bytes(&mut y, &mut got);
+        same("fill of a generator in memory", wanted, got)?;
+        same("output of a generator in memory", O::next(&mut x), P::next(&mut y))?;
+    }
+    Ok(())
 }
 
 fn pads<P: Port>(input: &Input, random: &mut Random) -> Found {

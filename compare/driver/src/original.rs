@@ -36,6 +36,7 @@ macro_rules! original {
             use std::hash::Hasher;
 
             pub type Stream = StreamedKomihash;
+            pub type Generator = Komirand;
 
             #[inline(never)]
             pub unsafe extern "C" fn hash(bytes: *const u8, length: usize, seed: u64) -> u64 {
@@ -75,6 +76,25 @@ macro_rules! original {
                     stream.write(piece.bytes());
                 }
                 stream.finish()
+            }
+
+            #[inline(never)]
+            pub unsafe extern "C" fn rand_init(seed: u64) -> Generator {
+                Komirand::init(seed)
+            }
+
+            #[inline(never)]
+            pub unsafe extern "C" fn rand_next(generator: &mut Generator) -> u64 {
+                generator.next()
+            }
+
+            #[inline(never)]
+            pub unsafe extern "C" fn rand_fill(
+                generator: &mut Generator,
+                out: *mut u8,
+                length: usize,
+            ) {
+                generator.fill_bytes(unsafe { slice_mut(out, length) });
             }
 
             #[inline(never)]

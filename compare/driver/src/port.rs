@@ -1,11 +1,12 @@
 //! The port, by its static libraries. A slice is passed as a pointer and a length.
-use crate::side::{FromC, Once, Piece, Port, Stream, both_have};
+use crate::side::{FromC, Generator, Once, Piece, Port, Stream, both_have};
 
 macro_rules! port {
     ($name:ident, $module:ident, $version:literal) => {
         // The declarations fit those of `komihash_rattle.h` and of the crate komihash_loops.
         pub mod $module {
             pub type Stream = super::Stream;
+            pub type Generator = super::Generator;
             use super::{Once, Piece};
 
             unsafe extern "C" {
@@ -25,6 +26,12 @@ macro_rules! port {
                 pub fn save(stream: *const Stream, text: *mut u8, room: usize) -> usize;
                 #[link_name = concat!("komihash_v", $version, "_resume")]
                 pub fn resume(stream: *mut Stream, text: *const u8, length: usize) -> bool;
+                #[link_name = concat!("komihash_v", $version, "_rand_init")]
+                pub fn rand_init(seed: u64) -> Generator;
+                #[link_name = concat!("komihash_v", $version, "_rand_next")]
+                pub fn rand_next(generator: *mut Generator) -> u64;
+                #[link_name = concat!("komihash_v", $version, "_rand_fill")]
+                pub fn rand_fill(generator: *mut Generator, out: *mut u8, length: usize);
                 #[link_name = concat!("komihash_v", $version, "_fill")]
                 pub fn fill(out: *mut u8, length: usize, s1: u64, s2: u64);
                 #[link_name = concat!("komihash_v", $version, "_fill_seeded")]

@@ -80,6 +80,7 @@ impl Rows<'_> {
         self.short_streams::<P, O>();
         self.streams_from_c::<P, O>();
         self.lists_from_c::<P, O>();
+        self.generators_from_c::<P, O>();
         self.generators::<P, O>();
         if is_timed {
             self.saves::<P>();
@@ -221,6 +222,21 @@ impl Rows<'_> {
             let original = |_| O::write_pieces(black_box(&mut x), black_box(pieces));
             let port = |_| P::write_pieces(black_box(&mut y), black_box(pieces));
             self.row("c write pieces", &name, original, port);
+        }
+    }
+
+    /// One call on a generator that is kept in memory between calls.
+    fn generators_from_c<P: FromC, O: FromC>(&self) {
+        let (mut x, mut y) = (O::generator(1), P::generator(1));
+        let original = |_| O::next(black_box(&mut x));
+        let port = |_| P::next(black_box(&mut y));
+        self.row("c generator", "next", original, port);
+        for length in [7, 64, 4096] {
+            let (mut x, mut y) = (O::generator(1), P::generator(1));
+            let (mut first, mut second) = (vec![0; length], vec![0; length]);
+            let original = |_| O::next_bytes(black_box(&mut x), black_box(&mut first));
+            let port = |_| P::next_bytes(black_box(&mut y), black_box(&mut second));
+            self.row("c generator", &format!("fill of {}", size(length)), original, port);
         }
     }
 

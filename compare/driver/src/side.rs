@@ -18,14 +18,20 @@ pub trait Side {
     fn fills(out: &mut [u8], pieces: &[usize], s1: u64, s2: u64, start: u32) -> u64;
 }
 
-/// Streams and lists of pieces, as C calls them: a stream lies in memory between its calls.
+/// Streams, generators and lists of pieces, as C calls them: a stream or a generator lies in memory
+/// between its calls.
 pub trait FromC {
     type Stream;
+    type Generator;
     fn start(seed: u64) -> Self::Stream;
     fn write(stream: &mut Self::Stream, bytes: &[u8]);
     fn write_pieces(stream: &mut Self::Stream, pieces: &[Piece]);
     fn finish(stream: &Self::Stream) -> u64;
     fn pieces(pieces: &[Piece], seed: u64) -> u64;
+    /// Returns the generator of a seed.
+    fn generator(seed: u64) -> Self::Generator;
+    fn next(generator: &mut Self::Generator) -> u64;
+    fn next_bytes(generator: &mut Self::Generator, out: &mut [u8]);
 }
 
 /// The calls of one version that the port alone has.
@@ -83,6 +89,10 @@ impl<'a> Piece<'a> {
 #[repr(C)]
 pub struct Stream([u64; 18]);
 
+/// A generator, as `komihash_rattle.h` has it.
+#[repr(C)]
+pub struct Generator([u64; 2]);
+
 /// Implements what both sides have, by the functions of a module, which take each slice as a
 /// pointer and a length. All is inlined, so that a call of a row is a call of such a function.
 macro_rules! both_have {
@@ -119,6 +129,7 @@ macro_rules! both_have {
 
         impl crate::side::FromC for $name {
             type Stream = $module::Stream;
+            type Generator = $module::Generator;
 
             #[inline(always)]
             fn start(seed: u64) -> Self::Stream {
@@ -139,6 +150,18 @@ macro_rules! both_have {
             #[inline(always)]
             fn pieces(pieces: &[crate::side::Piece], seed: u64) -> u64 {
                 unsafe { $module::pieces(pieces.as_ptr(), pieces.len(), seed) }
+            }
+            #[inline(always)]
+            fn generator(seed: u64) -> Self::Generator {
+                unsafe { $module::rand_init(seed) }
+            }
+            #[inline(always)]
+            fn next(generator: &mut Self::Generator) -> u64 {
+                unsafe { $module::rand_next(generator) }
+            }
+            #[inline(always)]
+            fn next_bytes(generator: &mut Self::Generator, out: &mut [u8]) {
+                unsafe { $module::rand_fill(generator, out.as_mut_ptr(), out.len()) }
             }
         }
     };
