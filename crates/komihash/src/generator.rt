@@ -72,6 +72,16 @@ where
         generator
     }
 
+    /// Returns the words, from which `new` makes the same generator. The library for C keeps a
+    /// generator by them.
+    #[doc(hidden)]
+    #[inline(always)]
+    pub fn words(&self) -> (u64, u64)
+        ensures { result ≡ self.now }
+    {
+        (self.s1, self.s2)
+    }
+
     // Shows that both words are below 2^64, by reading the fields.
     #[inline(always)]
     pub(crate) fn are_words(&self)
