@@ -38,9 +38,9 @@ extern "C" {
 #define KOMIHASH_LONGEST_TEXT 131
 
 /* A stream of each version, which `start` returns. It may be copied by assignment, and each copy
- * then goes on by itself. Only the calls below change a stream. No call checks that: a stream that
- * was changed otherwise has a meaningless hash. So don't store or send a stream itself, but its
- * saved text, which `resume` checks. */
+ * then goes on by itself. Only the calls below change a stream. No call checks that: after any other
+ * change, calls may return wrong hashes and access memory outside of the stream. So store or send
+ * its saved text and not the stream itself: `resume` checks the text. */
 typedef struct {
     uint64_t state[18];
 } komihash_v4_stream;
