@@ -1,4 +1,5 @@
-# Builds the static libraries of the repository, for the scripts that source this file below the top.
+# Builds the static libraries of the repository, for the scripts that source this file in a folder
+# right below the top.
 
 stop() {
     echo "run.sh: $1" >&2
@@ -12,7 +13,8 @@ need() { command -v "$1" > /dev/null || stop "there is no $1, which $2"; }
 is_built() {
     local name=$1 file=$2 newer
     [ -f "$file" ] && [ "$(cat "$file.flags" 2> /dev/null)" = "${*:3}" ] || return
-    newer=$(find ../crates/{komihash,"$name"} -name out -prune -o -newer "$file" -type f -print -quit)
+    newer=$(find ../crates/{komihash,"$name"}/{src,specs,proofs} -newer "$file" -print -quit \
+        2> /dev/null)
     [ -z "$newer" ]
 }
 
