@@ -1,4 +1,5 @@
-# Builds the static libraries of the repository, for the scripts that source this file below the top.
+# Builds the static libraries of the repository, for the scripts that source this file in a folder
+# right below the top.
 
 stop() {
     echo "run.sh: $1" >&2
@@ -7,14 +8,20 @@ stop() {
 
 need() { command -v "$1" > /dev/null || stop "there is no $1, which $2"; }
 
-# Proves a crate and builds it as a static library, with flags for `rt lib`. Does nothing if the file is there with the
-# same flags and no source is newer.
+# Whether a library is there, was built with these flags, and is newer than all sources of its crate
+# and of `komihash`.
+is_built() {
+    local name=$1 file=$2 newer
+    [ -f "$file" ] && [ "$(cat "$file.flags" 2> /dev/null)" = "${*:3}" ] || return
+    newer=$(find ../crates/{komihash,"$name"}/{src,specs,proofs} -newer "$file" -print -quit \
+        2> /dev/null)
+    [ -z "$newer" ]
+}
+
+# Proves a crate and builds it as a static library, with flags for `rt lib`.
 build_static() {
     local name=$1 file=$2 crates=../crates
-    if [ -f "$file" ] && [ "$(cat "$file.flags" 2> /dev/null)" = "${*:3}" ] &&
-        [ -z "$(find $crates/{komihash,"$name"}/{src,specs,proofs} -newer "$file" -print -quit 2> /dev/null)" ]; then
-        return
-    fi
+    if is_built "$@"; then return; fi
     need rt "proves and builds the crate $name"
     rm -f "$file"
     echo "Proving and building the crate $name. If nothing is proved yet, this takes minutes." >&2

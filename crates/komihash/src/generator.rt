@@ -72,13 +72,14 @@ where
         generator
     }
 
-    // Shows that both words are below 2^64, by reading the fields.
+    /// Returns the words, from which `new` makes the same generator. The library for C keeps a
+    /// generator by them.
+    #[doc(hidden)]
     #[inline(always)]
-    pub(crate) fn are_words(&self)
-        ensures first { self.now.0 < 2 ^ 64 }
-        ensures second { self.now.1 < 2 ^ 64 }
+    pub fn words(&self) -> (u64, u64)
+        ensures { result ≡ self.now }
     {
-        let (_s1, _s2) = (self.s1, self.s2);
+        (self.s1, self.s2)
     }
 
     /// Takes one step, and returns its output.

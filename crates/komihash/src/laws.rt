@@ -120,7 +120,7 @@ where
     ensures first { generator.now.0 < 2 ^ 64 }
     ensures second { generator.now.1 < 2 ^ 64 }
 {
-    generator.are_words();
+    let (_s1, _s2) = generator.words();
 }
 
 /// Proves that the saved text of a stream has at most `LONGEST_TEXT` bytes.
