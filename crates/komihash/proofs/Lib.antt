@@ -13,10 +13,12 @@ pub mod PaddingBack
 pub mod PaddingWords
 pub mod PendingBlocks
 pub mod PendingBytes
+pub mod Propositions
 mod Raised
 pub mod SavedTexts
 pub mod StreamAbsorbs
 pub mod StreamAnswers
+pub mod StreamFacts
 pub mod StreamSteps
 pub mod WholeWords
 pub mod Xor

@@ -72,15 +72,6 @@ where
         generator
     }
 
-    // Shows that both words are below 2^64, by reading the fields.
-    #[inline(always)]
-    pub(crate) fn are_words(&self)
-        ensures first { self.now.0 < 2 ^ 64 }
-        ensures second { self.now.1 < 2 ^ 64 }
-    {
-        let (_s1, _s2) = (self.s1, self.s2);
-    }
-
     /// Takes one step, and returns its output.
     #[inline]
     #[tactic(auto, unfolding(crate::specs::Generator::next))]

@@ -1,11 +1,11 @@
 //! Callers of `komihash`, one file for each subject. CALLING.md and README.md show some of them.
 #![tactic(auto)]
 
-pub mod bounds;
 pub mod checkpoints;
 pub mod costs;
 pub mod generic;
 pub mod hashed;
+pub mod journals;
 pub mod keys;
 pub mod lists;
 pub mod maps;

@@ -1,6 +1,5 @@
 //! Calls of the callers. The hashes are those that the Rust crate `komihash` 0.5.0 gives.
 
-use crate::bounds::bounds;
 use crate::checkpoints::upload;
 use crate::costs::counted_digest;
 use crate::generic::digest_of_slices;
@@ -69,7 +68,6 @@ fn callers_answer(rt: HostRuntime) {
     let fields: [&[u8]; 2] = [&key, &long];
     assert_eq!(rt; hash_of_fields(&fields), of_both);
     assert_eq!(rt; hash_of_key(&key, &mut Tally::new()), HASH_OF_16);
-    bounds(&v4::KomiHasher::default(), &v5::Komirand::init(0));
 }
 
 #[test]
