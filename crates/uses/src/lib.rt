@@ -2,7 +2,9 @@
 #![tactic(auto)]
 
 pub mod checkpoints;
+pub mod chunks;
 pub mod costs;
+pub mod counts;
 pub mod generic;
 pub mod hashed;
 pub mod journals;
@@ -11,10 +13,14 @@ pub mod lists;
 pub mod maps;
 pub mod numbers;
 pub mod pieces;
+pub mod prefixes;
 pub mod readers;
 pub mod records;
 pub mod samples;
 pub mod shards;
+pub mod states;
+pub mod stores;
 #[cfg(test)]
 mod tests;
+pub mod texts;
 pub mod trees;
