@@ -121,12 +121,17 @@ fn samples_are_drawn_again(rt: HostRuntime) {
     assert!(rt; whole[8..].starts_with(&numbers[1].to_le_bytes()));
     assert!(rt; whole[16..].starts_with(&more[0].to_le_bytes()));
     assert_eq!(rt; pick(&mut Komirand::init(7), 2), more[0]);
+}
+
+#[test]
+fn samples_are_made_of_numbers(rt: HostRuntime) {
     let mut bytes = [0; 64];
-    sample_of_numbers(&mut Komirand::init(7), &mut bytes);
-    assert!(rt; bytes.starts_with(&whole));
     let mut start = [0; 32];
-    sample_and_start(7, &mut start, &mut bytes[..45]);
-    assert!(rt; bytes.starts_with(&whole));
+    let mut out = [0; 32];
+    sample_of_numbers(&mut Komirand::new(7, 7), &mut bytes);
+    sample_and_start(7, &mut start, &mut out);
+    assert!(rt; bytes[..32] == start);
+    assert!(rt; bytes[32..] == out);
 }
 
 #[test]
