@@ -3,7 +3,7 @@ use Rattle.std.proofs.Common.{◌≡◌, ℕ, ◌+◌, ◌-◌, ◌%◌, ◌<◌
 use Rattle.std.proofs.Common.{List, [], ◌∷◌, ◌++◌, length, take, drop, refl, ap, arith, ◌∙◌, sym}
 use Rattle.std.proofs.lemmas.List.{length-drop, length-take-le, take-append-drop, drop-drop}
 use Rattle.komihash.specs.Rounds.{Lanes, block_round}
-use Rattle.komihash.specs.Tails.{whole_words, block_lanes, after_blocks}
+use Rattle.komihash.specs.Storage.{whole_words, block_lanes, after_blocks}
 use Rattle.komihash.proofs.WholeWords.{whole_words-append, length-whole_words}
 
 -- ---- the lanes
@@ -29,13 +29,13 @@ block_lanes_more v l xs le =
     ap (λ ys. block_lanes v l (whole_words ys)) (sym (take-append-drop 64 xs))
     ∙ block_lanes-bytes v l (take 64 xs) (drop 64 xs) (length-take-le 64 xs le)
 
-few_words : (v : ℕ) (l : Lanes) (ws : List ℕ) → length ws < 8 → block_lanes v l ws ≡ l
-few_words v l (w0 ∷ w1 ∷ w2 ∷ w3 ∷ w4 ∷ w5 ∷ w6 ∷ w7 ∷ ws) lt = absurd (omega arith)
-few_words v l ws lt = refl
+block_lanes-few : (v : ℕ) (l : Lanes) (ws : List ℕ) → length ws < 8 → block_lanes v l ws ≡ l
+block_lanes-few v l (w0 ∷ w1 ∷ w2 ∷ w3 ∷ w4 ∷ w5 ∷ w6 ∷ w7 ∷ ws) lt = absurd (omega arith)
+block_lanes-few v l ws lt = refl
 
 pub block_lanes_few : (v : ℕ) (l : Lanes) (xs : List ℕ) → length xs < 64
     → block_lanes v l (whole_words xs) ≡ l
-block_lanes_few v l xs lt = few_words v l (whole_words xs) (omega (arith, length-whole_words xs))
+block_lanes_few v l xs lt = block_lanes-few v l (whole_words xs) (omega (arith, length-whole_words xs))
 
 -- ---- the bytes
 

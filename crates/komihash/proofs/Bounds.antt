@@ -1,10 +1,38 @@
--- Bounds of hashes.
+-- Lanes and hashes are words.
 use Rattle.std.proofs.Common.{ℕ, ◌^◌, ◌<◌, Bool, true, List, [], ◌∷◌, arith}
+use Rattle.std.proofs.lemmas.Nat.{xor_lt}
+use Rattle.std.specs.Prelude.{bit_xor}
 use Rattle.komihash.specs.Hash.{hash_from_pair, hash_from_lanes, komi}
 use Rattle.komihash.specs.Padding.{padded_words}
-use Rattle.komihash.specs.Rounds.{Lanes, seed_pair, lanes, mix}
-use Rattle.komihash.specs.Rounds.{block_round, join, pair_round, closing}
-use Rattle.komihash.proofs.LaneWords.{mixed-lt}
+use Rattle.komihash.specs.Rounds.{Lanes, low, plus, mix, seed_pair, lanes, block_round}
+use Rattle.komihash.specs.Rounds.{block_round_by, join, pair_round, closing}
+use Rattle.komihash.specs.Storage.{block_lanes}
+use Rattle.komihash.specs.Stream.{AreWords}
+
+-- a sum xor a low half is a word
+pub mixed-lt : (a b p : ℕ) → bit_xor (plus a b) (low p) < 2 ^ 64
+mixed-lt a b p = xor_lt 64 (plus a b) (low p) (omega arith) (omega arith)
+
+AreWords-lanes : (s : ℕ × ℕ) → s.0 < 2 ^ 64 → s.1 < 2 ^ 64 → AreWords (lanes s)
+AreWords-lanes s a e = search (arith, xor_lt 64)
+
+-- the lanes of a seed
+pub AreWords-seed_pair : (seed : ℕ) → AreWords (lanes (seed_pair seed))
+unfolding mix
+AreWords-seed_pair seed = AreWords-lanes (seed_pair seed) (mixed-lt _ _ _) (omega arith)
+
+-- the lanes after a block round
+AreWords-block : (v : ℕ) (s : Lanes) (ws : List ℕ) → AreWords (block_round v s ws)
+unfolding block_round_by
+AreWords-block v s ws = search (arith, mixed-lt)
+
+-- the lanes after whole blocks
+pub AreWords-block_lanes : (v : ℕ) (s : Lanes) (ws : List ℕ) → AreWords s → AreWords (block_lanes v s ws)
+AreWords-block_lanes v s (w0 ∷ w1 ∷ w2 ∷ w3 ∷ w4 ∷ w5 ∷ w6 ∷ w7 ∷ ws) words =
+    AreWords-block_lanes v (block_round v s (w0 ∷ w1 ∷ w2 ∷ w3 ∷ w4 ∷ w5 ∷ w6 ∷ w7 ∷ [])) ws (AreWords-block v s _)
+AreWords-block_lanes v s ws words = words
+
+-- ---- hashes
 
 closing-lt : (s : ℕ × ℕ) (ws : List ℕ) → closing s ws < 2 ^ 64
 unfolding mix

@@ -128,7 +128,7 @@ run_products-pieces pieces only =
     omega (arith, products_of_answers-none 0 pieces only)
 
 -- calls on a stream, and then others on the stream that they leave
-pub record Goes_on (v : ℕ) (first now : State) (xs ys : List Call) : Type 0 where
+pub record GoesOn (v : ℕ) (first now : State) (xs ys : List Call) : Type 0 where
   pub answers : onward v first (xs ++ ys) ≡ onward v first xs ++ onward v now ys
   pub state : absorb v first (bytes_of_calls (xs ++ ys)) ≡ absorb v now (bytes_of_calls ys)
   pub products : onward_products (length first.pending) (xs ++ ys)
@@ -137,7 +137,7 @@ pub record Goes_on (v : ℕ) (first now : State) (xs ys : List Call) : Type 0 wh
       ≡ onward_kept (length first.pending) xs + onward_kept (length now.pending) ys
 
 pub goes_on : (v : ℕ) (first now : State) (xs ys : List Call) → length first.pending < 64
-    → now ≡ absorb v first (bytes_of_calls xs) → Goes_on v first now xs ys
+    → now ≡ absorb v first (bytes_of_calls xs) → GoesOn v first now xs ys
 goes_on v first now xs ys few is =
     let bytes = bytes_of_calls xs in
     let pending : length now.pending ≡ (length first.pending + length bytes) % 64 =

@@ -9,7 +9,7 @@ use Rattle.std.specs.Prelude.{slice_index}
 use borrow.Rule.Slice.PartMut.{put_mid}
 use Rattle.komihash.specs.Generator.{next, after_steps, outputs, fill_steps, fill, after_fill}
 use Rattle.komihash.specs.Words.{bytes_of, all_bytes}
-use Rattle.komihash.proofs.BytesOfWords.{all_bytes-flat}
+use Rattle.komihash.proofs.AllBytes.{all_bytes-flat}
 
 -- ---- steps in two parts
 

@@ -7,11 +7,11 @@ use Rattle.std.proofs.lemmas.List.{length-take-le, take-append-drop}
 use Rattle.std.specs.Prelude.{slice_index}
 use Rattle.komihash.specs.Rounds.{Lanes, lanes, seed_pair, block_round, pair_round, join, closing}
 use Rattle.komihash.specs.Hash.{hash_from_pair, hash_from_lanes, komi}
-use Rattle.komihash.specs.Tails.{whole_words, final_word, end_byte, block_lanes, after_blocks}
+use Rattle.komihash.specs.Storage.{whole_words, final_word, end_byte, block_lanes, after_blocks}
 use Rattle.komihash.specs.Words.{word_of}
 use Rattle.komihash.proofs.Blocks.{block_lanes_more, block_lanes_few}
 use Rattle.komihash.proofs.Blocks.{after_blocks_more, after_blocks_few}
-use Rattle.komihash.proofs.PaddingWords.{padded_words-by_tail}
+use Rattle.komihash.proofs.PaddedWords.{padded_words-by_tail}
 use Rattle.komihash.proofs.WholeWords.{whole_words-few, after_words-few, whole_words-more}
 use Rattle.komihash.proofs.WholeWords.{whole_words-append, length-whole_words}
 use Rattle.komihash.proofs.WholeWords.{words_from, whole_words-from}
@@ -29,17 +29,17 @@ hash_from_pair_two s ws at last le = absurd (omega arith)
 
 -- ---- lanes and blocks
 
-few_words : (v : ℕ) (s : Lanes) (b : Bool) (ws : List ℕ) → length ws ≤ 8
+hash_from_lanes-few : (v : ℕ) (s : Lanes) (b : Bool) (ws : List ℕ) → length ws ≤ 8
     → hash_from_lanes v s b ws ≡ hash_from_pair (join b s) ws
-few_words v s b (w0 ∷ w1 ∷ w2 ∷ w3 ∷ w4 ∷ w5 ∷ w6 ∷ w7 ∷ w ∷ ws) le = absurd (omega arith)
-few_words v s b ws le = refl
+hash_from_lanes-few v s b (w0 ∷ w1 ∷ w2 ∷ w3 ∷ w4 ∷ w5 ∷ w6 ∷ w7 ∷ w ∷ ws) le = absurd (omega arith)
+hash_from_lanes-few v s b ws le = refl
 
 -- fewer than 64 bytes and the final word make no block
 few_bytes : (v : ℕ) (s : Lanes) (b : Bool) (xs : List ℕ) (last : ℕ) → length xs < 64
     → hash_from_lanes v s b (whole_words xs ++ last ∷ [])
     ≡ hash_from_pair (join b s) (whole_words xs ++ last ∷ [])
 few_bytes v s b xs last lt =
-    few_words v s b (whole_words xs ++ last ∷ [])
+    hash_from_lanes-few v s b (whole_words xs ++ last ∷ [])
     (omega (arith, length-append (whole_words xs) (last ∷ []), length-whole_words xs))
 
 block_words : (v : ℕ) (s : Lanes) (b : Bool) (ws us : List ℕ) (last : ℕ) → length ws ≡ 8
@@ -99,30 +99,50 @@ module _ (v seed : ℕ) (m : List ℕ) where
       (rw (block_lanes_more v s m le, after_blocks_more m le)
       (after_block (length (drop 64 m) / 64) v after (drop 64 m) last refl))
 
-  pub komi_two : 8 ≤ length m → length m < 16
+  -- ---- a law for each function of `src/hash.rt`
+
+  pub komi_partial_word : 1 ≤ length m → length m < 8
+      → komi v seed m ≡ closing pair (word_of (m ++ end_byte v m ∷ []) ∷ [])
+  komi_partial_word some lt =
+      rw (komi_short (omega arith), whole_words-few m lt, after_words-few m lt) refl
+
+  pub komi_one_word : 8 ≤ length m → length m < 16
       → komi v seed m ≡ closing pair (word_of (take 8 m) ∷ last ∷ [])
-  komi_two le lt =
+  komi_one_word le lt =
       let none = whole_words-few (drop 8 m) (omega (arith, length-drop 8 m)) in
       rw (komi_short (omega arith), whole_words-more m le, none) refl
-
-  pub komi_few : length m < 8 → komi v seed m ≡ closing pair (word_of (m ++ end_byte v m ∷ []) ∷ [])
-  komi_few lt = rw (komi_short (omega arith), whole_words-few m lt, after_words-few m lt) refl
 
   abbrev round : ℕ × ℕ
   round = pair_round pair (word_of (take 8 m)) (word_of (take 8 (drop 8 m)))
 
-  pub komi_three : 16 ≤ length m → length m < 24 → komi v seed m ≡ closing round (last ∷ [])
-  komi_three le lt =
+  pub komi_two_words : 16 ≤ length m → length m < 24 → komi v seed m ≡ closing round (last ∷ [])
+  komi_two_words le lt =
       let words : whole_words m ≡ words_from 2 0 m = whole_words-from 2 0 m (omega arith) (omega arith) in
       rw (komi_short (omega arith), words) refl
 
-  pub komi_four : 24 ≤ length m → length m < 32
+  pub komi_three_words : 24 ≤ length m → length m < 32
       → komi v seed m ≡ closing round (word_of (take 8 (drop 16 m)) ∷ last ∷ [])
-  komi_four le lt =
+  komi_three_words le lt =
       let words : whole_words m ≡ words_from 3 0 m = whole_words-from 3 0 m (omega arith) (omega arith) in
       rw (komi_short (omega arith), words) refl
 
+  pub komi_four_to_seven_words : 32 ≤ length m → length m < 64
+      → komi v seed m ≡ hash_from_pair pair (whole_words m ++ last ∷ [])
+  komi_four_to_seven_words le lt = komi_short lt
+
 pub komi_empty : (v seed : ℕ) (m : List ℕ) → length m ≡ 0
     → komi v seed m ≡ closing (seed_pair seed) (0 ∷ [])
-komi_empty v seed [] e = komi_few v seed [] (omega arith)
+unfolding komi
+komi_empty v seed [] e = refl
 komi_empty v seed (b ∷ m) e = absurd (omega arith)
+
+pub ruleset hash_laws = (
+  komi_empty,
+  komi_partial_word,
+  komi_one_word,
+  komi_two_words,
+  komi_three_words,
+  komi_four_to_seven_words,
+  komi_long,
+  length-whole_words,
+)

@@ -6,7 +6,7 @@ use Rattle.komihash.proofs.CallLists.{run_products-pieces, HasAbsorbed-pending}
 use Rattle.komihash.proofs.GeneratorFills.{after_steps-add, outputs-add, fill-add, after_fill-add}
 use Rattle.komihash.proofs.GeneratorFills.{after_steps-none, outputs-none, after_steps-one, outputs-one}
 use Rattle.komihash.proofs.GeneratorFills.{length-outputs, output-at, fill-whole, after_fill-whole}
-use Rattle.komihash.proofs.PaddingBack.{same_message}
+use Rattle.komihash.proofs.Unpadding.{same_message}
 use Rattle.komihash.proofs.SavedTexts.{same_version, same_state, IsTextAfter-most}
 use Rattle.komihash.proofs.StreamAbsorbs.{absorb-append, absorb-nothing}
 use Rattle.komihash.proofs.StreamAnswers.{answer-joined}

@@ -1,16 +1,12 @@
+pub mod AllBytes
 pub mod Blocks
 pub mod Bounds
-pub mod BytesInWords
-pub mod BytesOfWords
 pub mod CallLists
-mod Facts
 pub mod GeneratorFills
 pub mod HashSteps
-pub mod LaneWords
 pub mod LawLemmas
 pub mod Lists
-pub mod PaddingBack
-pub mod PaddingWords
+pub mod PaddedWords
 pub mod PendingBlocks
 pub mod PendingBytes
 pub mod Propositions
@@ -20,5 +16,7 @@ pub mod StreamAbsorbs
 pub mod StreamAnswers
 pub mod StreamFacts
 pub mod StreamSteps
+pub mod Unpadding
 pub mod WholeWords
+pub mod WordOf
 pub mod Xor

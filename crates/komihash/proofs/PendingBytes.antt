@@ -4,13 +4,13 @@ use Rattle.std.proofs.lemmas.List.{append_assoc, length-append, length-drop, len
 use Rattle.std.specs.Prelude.{bit_or}
 use Rattle.std.specs.Simd.Lanes.{number_l, put_chunk}
 use borrow.Rule.Slice.PartMut.{put_mid, mid_of}
-use Rattle.komihash.specs.Pending.{pending_words, pending_bytes, ArePending, Store, Extend}
-use Rattle.komihash.specs.Tails.{whole_words, final_word}
+use Rattle.komihash.specs.Storage.{pending_words, pending_bytes, ArePending, Stores, Extends}
+use Rattle.komihash.specs.Storage.{whole_words, final_word}
 use Rattle.komihash.specs.Words.{AreBytes, word_of, bytes_of, all_bytes}
 use Rattle.komihash.proofs.Lists.{take-more, take-append, two_put}
 use Rattle.komihash.proofs.WholeWords.{length-pending_words, pending_words-whole, get_or-pending_words, length-whole_words, slice_index-whole_words, after_words-drop}
-use Rattle.komihash.proofs.BytesInWords.{AreBytes-append, AreBytes-take, AreBytes-drop, AreBytes-typed, word_of-join, word_of-push, word_of-drop, two_words}
-use Rattle.komihash.proofs.BytesOfWords.{length-all_bytes, AreBytes-all_bytes, take-bytes_of-word_of, length-bytes_of}
+use Rattle.komihash.proofs.WordOf.{AreBytes-append, AreBytes-take, AreBytes-drop, AreBytes-typed, word_of-join, word_of-push, word_of-drop, two_words}
+use Rattle.komihash.proofs.AllBytes.{length-all_bytes, AreBytes-all_bytes, take-bytes_of-word_of, length-bytes_of}
 
 -- the words hold the bytes that they were made of
 bytes-pending_words : (n : ℕ) (xs : List ℕ) → AreBytes xs → length xs ≤ 8 * n
@@ -46,7 +46,7 @@ set-pending_words (suc n) (suc i) xs ys lt from few =
 
 -- a word set where the old bytes end on a whole word: the next eight bytes, or all that are left
 pub extend-set : (old : List ℕ) (at from : ℕ) (bytes : List ℕ) → at < 8 → from ≤ length bytes
-    → Extend old (set old at (word_of (take 8 (drop from bytes)))) at bytes from (from + 8)
+    → Extends old (set old at (word_of (take 8 (drop from bytes)))) at bytes from (from + 8)
 extend-set old at from bytes lt within xs place is =
     let front = xs ++ take from bytes in
     let next = take 8 (drop from bytes) in
@@ -60,7 +60,7 @@ extend-set old at from bytes lt within xs place is =
 -- the next two words, stored as a vector
 pub extend-two : (old : List ℕ) (at from : ℕ) (bytes : List ℕ) → AreBytes bytes → at < 7 → from + 16 ≤ length bytes
     → let n = number_l 256 (take 16 (drop from bytes)) in
-    Extend old (put_mid at (8 - at) old
+    Extends old (put_mid at (8 - at) old
     (put_chunk 0 (mid_of at (8 - at) old) (n % 2 ^ 64 ∷ n / 2 ^ 64 % 2 ^ 64 ∷ []))) at bytes from (from + 16)
 extend-two old at from bytes are lt within xs place is =
     let size : length old ≡ 8 = ap length is ∙ length-pending_words 8 (xs ++ take from bytes) in
@@ -100,7 +100,7 @@ module _ (ws : List ℕ) (fill : ℕ) (are : ArePending ws fill) where
 
   -- bytes put after them
   module _ (new bytes : List ℕ) (typed : (k : ℕ) → Fits w8 (get_or bytes k 0))
-      (is : Store new (pending_bytes ws fill ++ bytes)) (room : fill + length bytes ≤ 64) where
+      (is : Stores new (pending_bytes ws fill ++ bytes)) (room : fill + length bytes ≤ 64) where
     length_put : length (pending_bytes ws fill ++ bytes) ≡ fill + length bytes
     length_put = omega (arith, length-append (pending_bytes ws fill) bytes, length_pending)
 
@@ -149,7 +149,7 @@ module _ (ws : List ℕ) (fill : ℕ) (are : ArePending ws fill) where
 
   -- a word joined to the partial word: as many of its bytes as fit
   pub join_pending : (w : ℕ) (bytes : List ℕ) → AreBytes bytes → w ≡ word_of bytes
-      → Store (set ws (fill / 8) (bit_or (get_or ws (fill / 8) 0) (w * 2 ^ (8 * (fill % 8)) % 2 ^ 64)))
+      → Stores (set ws (fill / 8) (bit_or (get_or ws (fill / 8) 0) (w * 2 ^ (8 * (fill % 8)) % 2 ^ 64)))
       (pending_bytes ws fill ++ take (8 - fill % 8) bytes)
   join_pending w bytes h is =
       let xs = pending_bytes ws fill in

@@ -3,7 +3,8 @@
 use Rattle.std.proofs.Common.{ℕ, sym, subst}
 use seplogic.Ra.Ura.{Ura}
 use base.Fml.{Fml, ftrue, fsep}
-use base.Logic.{ent, id⊢}
+use base.Logic.{ent, id⊢, sep, emp, via, emp∗, mono∗}
+use contract.Monad.{fact, fact_i}
 use types.Logic.{Logic}
 use types.Kit.{mean, ‵}
 use Rattle.komihash.specs.Tallies.{counted, opened}
@@ -20,3 +21,7 @@ module _ {M : Type 1} {𝓤 : Ura M} (𝓛 : Logic 𝓤) (P : Fml) where
       subst (λ F. ent 𝓤 (mean 𝓛 (‵ (fsep P F))) (mean 𝓛 (‵ (fsep P (counted m' n')))))
       (sym (opened (view (record {})) m n))
       (made m' n')
+
+-- two pure facts, joined by the separating conjunction, as the handwritten proofs of bodies end
+pub both : {M : Type 1} (𝓤 : Ura M) {φ ψ : Type 0} → φ → ψ → ent 𝓤 (emp 𝓤) (sep 𝓤 (fact 𝓤 φ) (fact 𝓤 ψ))
+both 𝓤 {φ} {ψ} p q = via 𝓤 (sep 𝓤 (emp 𝓤) (emp 𝓤)) (emp∗ 𝓤 (emp 𝓤)) (mono∗ 𝓤 (fact_i 𝓤 φ (emp 𝓤) p) (fact_i 𝓤 ψ (emp 𝓤) q))

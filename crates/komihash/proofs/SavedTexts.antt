@@ -8,13 +8,13 @@ use Rattle.std.specs.Prelude.{slice_index, ◌==◌}
 use Rattle.komihash.specs.Rounds.{Lanes}
 use Rattle.komihash.specs.Saved.{flag_byte, in_order, text, IsText, IsTextAfter}
 use Rattle.komihash.specs.Stream.{AreWords, State, IsState}
-use Rattle.komihash.specs.Tails.{whole_words}
+use Rattle.komihash.specs.Storage.{whole_words}
 use Rattle.komihash.specs.Words.{AreBytes, all_bytes}
-use Rattle.komihash.specs.Inverses.{xor_again}
+use Rattle.komihash.specs.Storage.{xor_again}
 use Rattle.komihash.proofs.WholeWords.{length-whole_words}
-use Rattle.komihash.proofs.BytesOfWords.{length-all_bytes}
-use Rattle.komihash.proofs.PaddingBack.{bytes_of-word_of_append, whole_words-all_bytes}
-use Rattle.komihash.proofs.BytesInWords.{AreBytes-take, AreBytes-drop, word_of-lt}
+use Rattle.komihash.proofs.AllBytes.{length-all_bytes}
+use Rattle.komihash.proofs.Unpadding.{bytes_of-word_of_append, whole_words-all_bytes}
+use Rattle.komihash.proofs.WordOf.{AreBytes-take, AreBytes-drop, word_of-lt}
 
 -- ---- the parts of a text
 

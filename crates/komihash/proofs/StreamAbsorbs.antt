@@ -6,7 +6,7 @@ use Rattle.std.proofs.lemmas.Bool.Decides.{nat_tests}
 use Rattle.std.specs.Prelude.{slice_index}
 use Rattle.komihash.specs.Rounds.{Lanes, block_round}
 use Rattle.komihash.specs.Stream.{State, absorb, absorb_byte}
-use Rattle.komihash.specs.Tails.{whole_words, block_lanes, after_blocks}
+use Rattle.komihash.specs.Storage.{whole_words, block_lanes, after_blocks}
 use Rattle.komihash.specs.Padding.{has_top_bit}
 use Rattle.komihash.proofs.Blocks.{block_lanes-bytes, block_lanes_few, after_blocks_few, after_blocks_more}
 use Rattle.komihash.proofs.WholeWords.{words_of-whole}

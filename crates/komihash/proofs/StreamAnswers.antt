@@ -7,11 +7,11 @@ use Rattle.std.specs.Prelude.{slice_index}
 use Rattle.komihash.specs.Hash.{komi, hash_from_pair}
 use Rattle.komihash.specs.Rounds.{lanes, seed_pair, join, closing}
 use Rattle.komihash.specs.Stream.{State, start, absorb, answer, tail_of}
-use Rattle.komihash.specs.Tails.{tail_end, whole_words, final_word, end_byte}
+use Rattle.komihash.specs.Storage.{tail_end, whole_words, final_word, end_byte}
 use Rattle.komihash.specs.Padding.{has_top_bit, padding_byte}
 use Rattle.komihash.proofs.StreamAbsorbs.{blocks_state, absorb-few, absorb-blocks}
 use Rattle.komihash.proofs.HashSteps.{komi_short, komi_long}
-use Rattle.komihash.proofs.PaddingWords.{padded_words-by_tail}
+use Rattle.komihash.proofs.PaddedWords.{padded_words-by_tail}
 use Rattle.komihash.proofs.WholeWords.{after_words-append}
 
 tail_of-words : (v : ℕ) (m : List ℕ) (absorbed top_bit : Bool)

@@ -8,11 +8,11 @@ use Rattle.komihash.specs.Hash.{komi}
 use Rattle.komihash.specs.Padding.{has_top_bit}
 use Rattle.komihash.specs.Rounds.{Lanes}
 use Rattle.komihash.specs.Stream.{State, IsState, HasAbsorbed, start, absorb, answer}
-use Rattle.komihash.specs.Tails.{whole_words, after_blocks, block_lanes}
+use Rattle.komihash.specs.Storage.{whole_words, after_blocks, block_lanes}
 use Rattle.komihash.specs.Words.{AreBytes}
 use Rattle.komihash.proofs.Blocks.{length-after_blocks}
-use Rattle.komihash.proofs.BytesInWords.{AreBytes-append, AreBytes-drop}
-use Rattle.komihash.proofs.LaneWords.{AreWords-block_lanes, AreWords-seed_pair}
+use Rattle.komihash.proofs.WordOf.{AreBytes-append, AreBytes-drop}
+use Rattle.komihash.proofs.Bounds.{AreWords-block_lanes, AreWords-seed_pair}
 use Rattle.komihash.proofs.StreamAbsorbs.{absorb-few, absorb-blocks}
 use Rattle.komihash.proofs.StreamAnswers.{answer-joined}
 

@@ -1,8 +1,8 @@
 -- The whole words of bytes, by index, and the bytes after them.
 use Rattle.std.proofs.Common.{◌≤◌, take, drop, ◌≡◌, ℕ, suc, ◌-◌, ◌%◌, ◌<◌, List, [], ◌∷◌, ◌++◌, length, get_or, refl, ap, arith, ◌∙◌, sym, zero, ◌+◌, ◌*◌, ◌/◌}
-use Rattle.komihash.specs.Pending.{pending_words}
+use Rattle.komihash.specs.Storage.{pending_words}
 use Rattle.komihash.specs.Words.{word_of, words_of}
-use Rattle.komihash.specs.Tails.{whole_words, after_words}
+use Rattle.komihash.specs.Storage.{whole_words, after_words}
 use Rattle.std.proofs.lemmas.List.{length-drop, drop-drop}
 use Rattle.std.proofs.lemmas.Bool.Decides.{nat_tests}
 use Rattle.std.specs.Prelude.{slice_index}

@@ -5,7 +5,7 @@ use Rattle.std.proofs.lemmas.Nat.{and_comm, and_assoc, and-not}
 use Rattle.std.specs.Prelude.{bit_xor, bit_and}
 use Rattle.komihash.specs.Rounds.{mix}
 use Rattle.std.specs.Int.Bits.{xor_assoc, xor_comm, xor_disjoint}
-use Rattle.komihash.specs.Inverses.{xor_again}
+use Rattle.komihash.specs.Storage.{xor_again}
 
 -- a word is xored with a low half first, and then with the word that the half belongs to
 pub xor_late : (w low e : ℕ) → bit_xor (bit_xor w low) e ≡ bit_xor w (bit_xor e low)

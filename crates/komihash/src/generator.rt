@@ -80,7 +80,7 @@ where
         ensures pair { self.new ≡ next V self.old }
     {
         let (low, high) = multiply128(self.s1, self.s2, &mut Tally::new());
-        // Version 5's first word comes before the second one: in the other order a step takes 2% more.
+        // In this order a step of version 5 takes fewer instructions.
         if V != 4 {
             self.s1 = (low ^ high).wrapping_add(0x5555_5555_5555_5555);
         }

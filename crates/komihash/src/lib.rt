@@ -4,7 +4,7 @@
 //! bytes were cut. It is proved to be the hash that the definitions in `specs/` give.
 #![tactic(auto)]
 
-mod aliases;
+mod exports;
 mod generator;
 mod hash;
 mod hasher;
@@ -12,7 +12,6 @@ pub mod laws;
 mod padding;
 mod rounds;
 pub mod stream;
-mod tails;
 pub mod tally;
 #[cfg(test)]
 mod tests;

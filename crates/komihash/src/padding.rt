@@ -1,13 +1,95 @@
-//! The padded words of a message.
+//! The padding of a message: its padding byte, its final word, its padded words, and the message
+//! whose padded words are given.
 
-pub(crate) mod final_word;
-pub(crate) mod unpad;
+ghost use Rattle.std.specs.Prelude.{◌≡◌, ℕ, ◌+◌, ◌*◌, ◌/◌, ◌^◌, ◌<◌, ◌≤◌, ◌↔◌, IsTrue};
+ghost use Rattle.std.specs.Prelude.{IfSome, IfNone, IsNone, IsSomeAnd};
+ghost use Rattle.std.specs.Prelude.{List, length, take, drop, slice_index};
+ghost use Rattle.komihash.specs.Padding.{ArePadded, padded_words};
+ghost use Rattle.komihash.specs.Padding.{has_top_bit, padding_after, padding_byte};
+ghost use Rattle.komihash.specs.Storage.{end_byte, final_word};
+ghost use Rattle.komihash.specs.Stream.{end_after_blocks};
+ghost use Rattle.komihash.specs.Words.{AreBytes, all_bytes};
 
-ghost use Rattle.std.specs.Prelude.{◌≡◌, ◌+◌, ◌/◌, ◌≤◌, length, take, drop};
-ghost use Rattle.komihash.specs.Padding.{padded_words};
+use crate::utils::{read_partial_word, word_at, write_bytes, write_words};
 
-use crate::utils::copies::write_words;
-use final_word::final_word;
+/// Returns whether the padding byte after `byte` is 2: in version 4, if its top bit is set.
+#[inline(always)]
+pub(crate) fn has_top_bit<const V: u8>(byte: u8) -> bool
+    ensures { result ≡ has_top_bit V byte }
+{
+    V == 4 && byte >= 128
+}
+
+/// Returns the padding byte: 2 after a last byte for which `has_top_bit` holds, otherwise 1.
+#[inline(always)]
+pub(crate) fn padding_after(top_bit: bool) -> u64
+    ensures { result ≡ padding_after top_bit }
+{
+    1 + u64::from(top_bit)
+}
+
+/// Returns the byte that ends a stream with no pending bytes: the padding byte of its last block,
+/// or 0 if no block was absorbed.
+#[inline(always)]
+pub(crate) fn end_after_blocks(absorbed: bool, top_bit: bool) -> u64
+    ensures { result ≡ end_after_blocks absorbed top_bit }
+{
+    if absorbed { padding_after(top_bit) } else { 0 }
+}
+
+/// Returns the padding byte of a message that isn't empty.
+#[inline(always)]
+pub(crate) fn padding_byte<const V: u8>(message: &[u8]) -> u64
+    requires { 0 < length message.now }
+    ensures byte { result ≡ end_byte V message.now }
+    ensures small { result < 4 }
+{
+    padding_after(has_top_bit::<V>(message[message.len() - 1]))
+}
+
+/// Returns the byte that ends a message: its padding byte, or 0 if the message is empty.
+#[inline(always)]
+pub(crate) fn end_byte<const V: u8>(message: &[u8]) -> u64
+    ensures byte { result ≡ end_byte V message.now }
+    ensures small { result < 4 }
+{
+    if message.is_empty() {
+        0
+    } else {
+        padding_byte::<V>(message)
+    }
+}
+
+/// Returns the final word of eight or more bytes: the bytes after the last whole word, and `end`.
+///
+/// Reads the last eight bytes, and shifts out those of the last whole word. If no byte comes after
+/// that word, the shift is by 64, which `>>` doesn't allow. So there are two.
+#[inline(always)]
+#[tactic(auto, using(crate::proofs::PaddedWords::final_word_many))]
+pub(crate) fn final_word_by_shift(bytes: &[u8], end: u64) -> u64
+    requires many { 8 ≤ length bytes.now }
+    requires end { end < 4 }
+    ensures { result ≡ final_word bytes.now end }
+{
+    let eight = word_at(bytes, bytes.len() - 8);
+    let over = 8 * (bytes.len() % 8);
+    (eight >> 1) >> (63 - over) | end << over
+}
+
+/// Returns the final word of eight or more bytes. If these are whole words, that is `end`, and
+/// nothing is read, which makes long messages faster.
+#[inline(always)]
+#[tactic(auto, using(crate::proofs::PaddedWords::final_word_whole))]
+pub(crate) fn final_word_by_branch(bytes: &[u8], end: u64) -> u64
+    requires many { 8 ≤ length bytes.now }
+    requires end { end < 4 }
+    ensures { result ≡ final_word bytes.now end }
+{
+    if bytes.len() % 8 == 0 {
+        return end;
+    }
+    final_word_by_shift(bytes, end)
+}
 
 /// Writes the padded words of a message in version V to the front of `out`, and returns how many
 /// they are.
@@ -19,7 +101,97 @@ pub(crate) fn pad<const V: u8>(bytes: &[u8], out: &mut [u64]) -> usize
     ensures rest { drop result out.new ≡ drop result out.old }
 {
     let whole = bytes.len() / 8;
+    let end = end_byte::<V>(bytes);
+    let last = if whole == 0 {
+        read_partial_word(bytes, end)
+    } else {
+        final_word_by_shift(bytes, end)
+    };
     write_words(bytes, out);
-    out[whole] = final_word::<V>(bytes);
+    out[whole] = last;
     whole + 1
+}
+
+// Returns the index of a word's highest byte that is not 0, counted from the lowest byte.
+#[inline(always)]
+#[tactic(auto, using(crate::proofs::Unpadding::highest))]
+fn highest_place(word: u64) -> usize
+    requires { 0 < word }
+    ensures place { result < 8 }
+    ensures some { 0 < word / 2 ^ (8 * result) }
+    ensures last { word / 2 ^ (8 * result) < 256 }
+{
+    (word.ilog2() / 8) as usize
+}
+
+// Returns the byte at index `at` of words, the lowest byte of each word first.
+#[inline(always)]
+#[tactic(auto, using(crate::proofs::Unpadding::byte_of_words))]
+fn byte_at(words: &[u64], at: usize) -> u8
+    requires { at < 8 * length words.now }
+    ensures { result ≡ slice_index (all_bytes words.now) at }
+{
+    words[at / 8].to_le_bytes()[at % 8]
+}
+
+// Returns whether `byte` is the padding byte of the first `count` bytes of words.
+#[inline(always)]
+#[tactic(auto, using(crate::proofs::Unpadding::padding_byte_at))]
+fn is_padding_byte<const V: u8>(byte: u64, words: &[u64], count: usize) -> bool
+    requires some { 0 < count }
+    requires within { count ≤ 8 * length words.now }
+    ensures { IsTrue result ↔ (byte ≡ padding_byte V (take count (all_bytes words.now))) }
+{
+    byte == padding_after(has_top_bit::<V>(byte_at(words, count - 1)))
+}
+
+// Returns the length in bytes of the message that has these padded words in version V, or `None`
+// if no message has them.
+//
+// The padding byte can only be the last word's highest byte that is not 0. The byte before it
+// decides whether it is.
+#[inline(always)]
+fn message_length<const V: u8>(words: &[u64]) -> Option<usize>
+    requires { 8 * length words.now < 2 ^ 64 }
+    ensures length { IfSome result (λ n. n / 8 + 1 ≡ length words.now) }
+    ensures message { IfSome result
+        (λ n. padded_words V (take n (all_bytes words.now)) ≡ words.now) }
+    ensures none { IfNone result (¬ ArePadded V words.now) }
+{
+    let count = words.len();
+    if count == 0 {
+        return None;
+    }
+    let last = words[count - 1];
+    if last == 0 {
+        return if count == 1 { Some(0) } else { None };
+    }
+    let place = highest_place(last);
+    let length = 8 * (count - 1) + place;
+    if length == 0 {
+        return None;
+    }
+    if is_padding_byte::<V>(last >> (8 * place), words, length) {
+        Some(length)
+    } else {
+        None
+    }
+}
+
+/// Writes the message that has these padded words in version V to the front of `out`, and returns
+/// its length in bytes. Returns `None`, with `out` unchanged, if no message has these words.
+#[inline(always)]
+pub(crate) fn unpad<const V: u8>(words: &[u64], out: &mut [u8]) -> Option<usize>
+    requires { 8 * length words.now ≤ length out.old }
+    ensures length { IfSome result (λ n. n / 8 + 1 ≡ length words.now) }
+    ensures message { IfSome result (λ n. padded_words V (take n out.new) ≡ words.now) }
+    ensures rest { IfSome result (λ n. drop n out.new ≡ drop n out.old) }
+    ensures same { (m : List ℕ) → AreBytes m → padded_words V m ≡ words.now
+        → IsSomeAnd result (λ n. take n out.new ≡ m) }
+    ensures none { IsNone result ↔ ¬ ArePadded V words.now }
+    ensures unchanged { IfNone result (out.new ≡ out.old) }
+{
+    let count = message_length::<V>(words)?;
+    write_bytes(words, count, out);
+    Some(count)
 }

@@ -17,7 +17,7 @@ pub(crate) mod streamed;
 use crate::tally::Tally;
 
 /// The length of the longest saved text, in bytes: 68, and 63 pending ones.
-pub const LONGEST_TEXT: usize = 131;
+pub const LONGEST_TEXT: usize = saved::PENDING_AT + 63;
 
 /// A stream of either version, for generic code.
 ///

@@ -53,28 +53,14 @@ impl Tally {
         }
     }
 
-    // Raises the two numbers. No other code changes a tally. The body is empty, since there is
-    // nothing to do at run time: the handwritten proof changes the ghost fields.
+    /// Raises the two numbers. No other code changes a tally.
+    ///
+    /// The body is empty, since there is nothing to do at run time: the handwritten proof changes
+    /// the ghost fields.
     #[inline(always)]
-    fn raise(&mut self, _products: usize, _kept: usize)
+    pub(crate) fn raise(&mut self, _products: usize, _kept: usize)
         ensures costs { Costs self _products _kept }
     {}
-
-    /// Counts one product of two words.
-    #[inline(always)]
-    pub(crate) fn count_product(&mut self)
-        ensures costs { Costs self 1 0 }
-    {
-        self.raise(1, 0);
-    }
-
-    /// Counts bytes that a write copies into a stream's pending bytes.
-    #[inline(always)]
-    pub(crate) fn count_kept(&mut self, bytes: usize)
-        ensures costs { Costs self 0 bytes }
-    {
-        self.raise(0, bytes);
-    }
 }
 
 const _: () = prove!(size_of::<Tally>() == 0);

@@ -1,13 +1,11 @@
 //! Words of eight bytes, the lowest byte first: read from bytes, written to bytes, multiplied.
 
-pub(crate) mod copies;
-
-ghost use Rattle.std.specs.Prelude.{◌≡◌, ℕ, ◌+◌, ◌*◌, ◌^◌, ◌<◌, ◌≤◌, ◌↔◌, IsTrue};
-ghost use Rattle.std.specs.Prelude.{List, [], ◌∷◌, ◌++◌, length, take, drop, slice_index};
+ghost use Rattle.std.specs.Prelude.{◌≡◌, ◌+◌, ◌*◌, ◌/◌, ◌^◌, ◌<◌, ◌≤◌};
+ghost use Rattle.std.specs.Prelude.{[], ◌∷◌, ◌++◌, length, take, drop};
 ghost use Rattle.komihash.specs.Counts.{Costs};
 ghost use Rattle.komihash.specs.Rounds.{low, high};
-ghost use Rattle.komihash.specs.Tails.{whole_words};
-ghost use Rattle.komihash.specs.Words.{word_of, bytes_of};
+ghost use Rattle.komihash.specs.Storage.{whole_words};
+ghost use Rattle.komihash.specs.Words.{word_of, bytes_of, all_bytes};
 
 use crate::tally::Tally;
 
@@ -108,37 +106,32 @@ pub(crate) fn write_partial_word(word: u64, out: &mut [u8])
     }
 }
 
-/// Whole words, wherever they lie: in a message's bytes, or in the words of a stream.
-pub(crate) trait Words {
-    ghost words: { Self → List ℕ };
-
-    /// Returns whether there are at least `count` words.
-    fn holds(&self, count: usize) -> bool
-        requires few { count ≤ 8 }
-        ensures { IsTrue result ↔ (count ≤ length (words self.now)) };
-
-    /// Returns the word at index `at`.
-    fn word(&self, at: usize) -> u64
-        requires within { at < length (words self.now) }
-        requires few { at < 8 }
-        ensures { result ≡ slice_index (words self.now) at };
+/// Writes the whole words of `bytes` to the front of `out`.
+#[inline(always)]
+pub(crate) fn write_words(bytes: &[u8], out: &mut [u64])
+    requires { length bytes.now / 8 ≤ length out.old }
+    ensures words { take (length bytes.now / 8) out.new ≡ whole_words bytes.now }
+    ensures rest { drop (length bytes.now / 8) out.new ≡ drop (length bytes.now / 8) out.old }
+{
+    'whole: for i in 0..bytes.len() / 8 {
+        out[i] = word_at(bytes, 8 * i);
+    }
 }
 
-/// The whole words of a message's bytes. The impl is for the reference, since no type parameter can
-/// stand for `[u8]`. So callers pass a `&&[u8]`.
-impl Words for &[u8] {
-    ghost words = { λ bytes. whole_words bytes.now };
-
-    #[inline(always)]
-    #[tactic(auto, using(crate::proofs::WholeWords::read_words))]
-    fn holds(&self, count: usize) -> bool {
-        8 * count <= self.len()
+/// Writes the first `count` bytes of `words` to the front of `out`.
+#[inline(always)]
+pub(crate) fn write_bytes(words: &[u64], count: usize, out: &mut [u8])
+    requires within { count ≤ 8 * length words.now }
+    requires room { count ≤ length out.old }
+    ensures bytes { take count out.new ≡ take count (all_bytes words.now) }
+    ensures rest { drop count out.new ≡ drop count out.old }
+{
+    let whole = count / 8;
+    'whole: for i in 0..whole {
+        write_word(words[i], &mut out[8 * i..8 * i + 8]);
     }
-
-    #[inline(always)]
-    #[tactic(auto, using(crate::proofs::WholeWords::read_words))]
-    fn word(&self, at: usize) -> u64 {
-        word_at(self, 8 * at)
+    if count % 8 > 0 {
+        write_partial_word(words[whole], &mut out[8 * whole..count]);
     }
 }
 
@@ -150,7 +143,7 @@ pub(crate) fn multiply128(x: u64, y: u64, tally: &mut Tally) -> (u64, u64)
     ensures high { result.1 ≡ high (x * y) }
     ensures costs { Costs tally 1 0 }
 {
-    tally.count_product();
+    tally.raise(1, 0);
     let product = u128::from(x) * u128::from(y);
     (
         (product & 0xffff_ffff_ffff_ffff) as u64,

@@ -70,5 +70,5 @@ pub fn unpad(words: &[u64], out: &mut [u8]) -> Option<usize>
     ensures none { IsNone result ↔ ¬ ArePadded 5 words.now }
     ensures unchanged { IfNone result (out.new ≡ out.old) }
 {
-    padding::unpad::unpad::<5>(words, out)
+    padding::unpad::<5>(words, out)
 }

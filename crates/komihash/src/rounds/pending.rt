@@ -2,20 +2,20 @@
 
 #![tactic(auto, using(crate::proofs::PendingBytes::pending_laws))]
 
-ghost use Rattle.std.specs.Prelude.{◌≡◌, ◌+◌, ◌-◌, ◌<◌, ◌≤◌, [], ◌++◌};
-ghost use Rattle.std.specs.Prelude.{length, take, drop, slice_index};
+ghost use Rattle.std.specs.Prelude.{◌≡◌, ℕ, ◌+◌, ◌-◌, ◌*◌, ◌/◌, ◌%◌, ◌<◌, ◌≤◌, IsTrue};
+ghost use Rattle.std.specs.Prelude.{List, [], ◌++◌, length, take, drop, slice_index};
 ghost use Rattle.komihash.specs.Counts.{Costs};
-ghost use Rattle.komihash.specs.Tails.{whole_words, final_word};
-ghost use Rattle.komihash.specs.Padding.{has_top_bit, padding_byte};
+ghost use Rattle.komihash.specs.Padding.{padding_byte};
+ghost use Rattle.komihash.specs.Storage.{pending_bytes, ArePending, Stores, Extends};
+ghost use Rattle.komihash.specs.Storage.{whole_words, final_word};
+ghost use Rattle.komihash.specs.Words.{AreBytes, word_of};
 
-mod writer;
-
-use self::writer::put;
-use crate::padding::final_word::{has_top_bit, padding_after};
+use super::tail::Words;
+use crate::padding::{has_top_bit, padding_after};
 use crate::tally::Tally;
-use crate::utils::Words;
-use crate::utils::copies::write_bytes;
+use crate::utils::{read_partial_word, read_word, word_at, write_bytes};
 use std::marker::Model;
+use std::simd::{u8x16, u64x2};
 
 /// Fewer than 64 bytes, stored in eight words, with zeros after the last byte.
 #[derive(Drop)]
@@ -28,8 +28,8 @@ pub(crate) struct Pending {
 impl Model for Pending {
     ghost use Rattle.std.specs.Prelude.{ℕ, List, length};
     ghost use Rattle.std.proofs.Common.{arith, sym};
-    ghost use Rattle.komihash.specs.Pending.{pending_words, pending_bytes, ArePending};
-    ghost use Rattle.komihash.specs.Inverses.{length-store, length-pending_bytes};
+    ghost use Rattle.komihash.specs.Storage.{pending_words, pending_bytes, ArePending};
+    ghost use Rattle.komihash.specs.Storage.{length-store, length-pending_bytes};
 
     ghost Value = { List ℕ };
 
@@ -86,7 +86,7 @@ impl Pending {
         ensures bytes { self.new ≡ self.old ++ bytes.now }
         ensures costs { Costs tally 0 (length bytes.now) }
     {
-        put::<false>(&mut self.words, self.fill, bytes, tally);
+        append_bytes::<false>(&mut self.words, self.fill, bytes, tally);
         self.fill += bytes.len();
     }
 
@@ -99,7 +99,7 @@ impl Pending {
         ensures costs { Costs tally 0 (length bytes.now) }
     {
         if !bytes.is_empty() {
-            put::<false>(&mut self.words, 0, bytes, tally);
+            append_bytes::<false>(&mut self.words, 0, bytes, tally);
             self.fill = bytes.len();
         }
     }
@@ -113,7 +113,7 @@ impl Pending {
         ensures none { self.new ≡ [] }
         ensures costs { Costs tally 0 (length bytes.now) }
     {
-        put::<true>(&mut self.words, self.fill, bytes, tally);
+        append_bytes::<true>(&mut self.words, self.fill, bytes, tally);
         let block = self.words;
         *self = Pending::new();
         block
@@ -153,5 +153,167 @@ impl Words for Pending {
     #[inline(always)]
     fn word(&self, at: usize) -> u64 {
         self.words[at]
+    }
+}
+
+// Appends the bytes of a word that fit in the partial word.
+#[inline(always)]
+fn append_within_word(words: &mut [u64; 8], fill: usize, word: u64)
+    requires { ArePending words.old fill }
+    ensures { (bytes : List ℕ) → AreBytes bytes → word ≡ word_of bytes
+        → Stores words.new (pending_bytes words.old fill ++ take (8 - fill % 8) bytes) }
+{
+    words[fill / 8] |= word << (8 * (fill % 8));
+}
+
+// Sets the first word that stores no bytes yet, to the next eight bytes or to all that are left.
+#[inline(always)]
+fn append_word(words: &mut [u64; 8], at: usize, word: u64)
+    requires { at < 8 }
+    ensures { (bytes : List ℕ) (from : ℕ) → from ≤ length bytes
+        → word ≡ word_of (take 8 (drop from bytes))
+        → Extends words.old words.new at bytes from (from + 8) }
+{
+    words[at] = word;
+}
+
+// Sets the first two words that store no bytes yet, to the next sixteen bytes.
+#[inline(always)]
+fn append_two_words(words: &mut [u64; 8], at: usize, bytes: &[u8], from: usize)
+    requires place { at < 7 }
+    requires within { from + 16 ≤ length bytes.now }
+    ensures { Extends words.old words.new at bytes.now from (from + 16) }
+{
+    let two = u64x2::from_le_bytes(u8x16::from_slice(&bytes[from..]));
+    two.copy_to_slice(&mut words[at..]);
+}
+
+// Appends fewer than eight bytes. If FULL, they fill the block exactly.
+#[inline(always)]
+fn append_below_eight<const FULL: bool>(words: &mut [u64; 8], fill: usize, bytes: &[u8])
+    requires pending { ArePending words.old fill }
+    requires few { length bytes.now < 8 }
+    requires room { fill + length bytes.now ≤ 64 }
+    requires full { IsTrue FULL → fill + length bytes.now ≡ 64 }
+    ensures { Stores words.new (pending_bytes words.old fill ++ bytes.now) }
+{
+    let word = read_partial_word(bytes, 0);
+    let over = fill % 8;
+    append_within_word(words, fill, word);
+    if !FULL && over + bytes.len() > 8 {
+        append_word(words, fill / 8 + 1, word >> (64 - 8 * over));
+    }
+}
+
+// Stores at most one whole word, next words after the partial word.
+#[inline(always)]
+fn append_below_two_words(words: &mut [u64; 8], fill: usize, bytes: &[u8], next: usize)
+    requires room { fill + length bytes.now ≤ 64 }
+    requires place { 0 < next }
+    requires within { 8 * next ≤ fill % 8 + length bytes.now }
+    requires few { fill % 8 + length bytes.now < 8 * next + 16 }
+    ensures { Extends words.old words.new (fill / 8 + next) bytes.now (8 * next - fill % 8)
+        (length bytes.now - (fill + length bytes.now) % 8) }
+{
+    if fill % 8 + bytes.len() >= 8 * next + 8 {
+        append_word(words, fill / 8 + next, word_at(bytes, 8 * next - fill % 8));
+    }
+}
+
+// Stores at most three whole words, from next words after the partial word on.
+#[inline(always)]
+fn append_below_four_words(words: &mut [u64; 8], fill: usize, bytes: &[u8], next: usize)
+    requires room { fill + length bytes.now ≤ 64 }
+    requires place { 0 < next }
+    requires within { 8 * next ≤ fill % 8 + length bytes.now }
+    requires few { fill % 8 + length bytes.now < 8 * next + 32 }
+    ensures { Extends words.old words.new (fill / 8 + next) bytes.now (8 * next - fill % 8)
+        (length bytes.now - (fill + length bytes.now) % 8) }
+{
+    if fill % 8 + bytes.len() >= 8 * next + 16 {
+        append_two_words(words, fill / 8 + next, bytes, 8 * next - fill % 8);
+        append_below_two_words(words, fill, bytes, next + 2);
+    } else {
+        append_below_two_words(words, fill, bytes, next);
+    }
+}
+
+// Stores the whole words after the partial word.
+//
+// Each index is `fill / 8` plus a constant. In a loop, each turn would wait for the index of the
+// turn before.
+#[inline(always)]
+fn append_words(words: &mut [u64; 8], fill: usize, bytes: &[u8])
+    requires many { 8 ≤ length bytes.now }
+    requires room { fill + length bytes.now ≤ 64 }
+    ensures { Extends words.old words.new (fill / 8 + 1) bytes.now (8 - fill % 8)
+        (length bytes.now - (fill + length bytes.now) % 8) }
+{
+    if fill % 8 + bytes.len() >= 40 {
+        append_two_words(words, fill / 8 + 1, bytes, 8 - fill % 8);
+        append_two_words(words, fill / 8 + 3, bytes, 24 - fill % 8);
+        append_below_four_words(words, fill, bytes, 5);
+    } else {
+        append_below_four_words(words, fill, bytes, 1);
+    }
+}
+
+// Stores the bytes after the last whole word, if any are left. Reads the last eight bytes for that.
+#[inline(always)]
+fn append_last(words: &mut [u64; 8], fill: usize, bytes: &[u8])
+    requires many { 8 ≤ length bytes.now }
+    requires room { fill + length bytes.now ≤ 64 }
+    ensures { Extends words.old words.new ((fill + length bytes.now) / 8) bytes.now
+        (length bytes.now - (fill + length bytes.now) % 8) (length bytes.now) }
+{
+    let all = fill % 8 + bytes.len();
+    if all % 8 > 0 {
+        let eight = word_at(bytes, bytes.len() - 8);
+        append_word(words, fill / 8 + all / 8, eight >> (64 - 8 * (all % 8)));
+    }
+}
+
+// Appends eight bytes or more: the first complete the partial word, then whole words follow, and
+// then fewer than eight bytes. If FULL, they fill the block exactly.
+#[inline(always)]
+fn append_eight_or_more<const FULL: bool>(words: &mut [u64; 8], fill: usize, bytes: &[u8])
+    requires pending { ArePending words.old fill }
+    requires many { 8 ≤ length bytes.now }
+    requires room { fill + length bytes.now ≤ 64 }
+    requires full { IsTrue FULL → fill + length bytes.now ≡ 64 }
+    ensures { Stores words.new (pending_bytes words.old fill ++ bytes.now) }
+{
+    append_within_word(words, fill, read_word(bytes));
+    append_words(words, fill, bytes);
+    if !FULL {
+        append_last(words, fill, bytes);
+    }
+}
+
+// Appends bytes to those that the words store up to the fill, and counts them as kept. If FULL,
+// they fill the block exactly.
+#[inline(always)]
+fn append_bytes<const FULL: bool>(
+    words: &mut [u64; 8],
+    fill: usize,
+    bytes: &[u8],
+    tally: &mut Tally,
+)
+    requires pending { ArePending words.old fill }
+    requires room { fill + length bytes.now ≤ 64 }
+    requires full { IsTrue FULL → fill + length bytes.now ≡ 64 }
+    ensures full { fill + length bytes.now ≡ 64
+        → words.new ≡ whole_words (pending_bytes words.old fill ++ bytes.now) }
+    ensures bytes { pending_bytes words.new (fill + length bytes.now)
+        ≡ pending_bytes words.old fill ++ bytes.now }
+    ensures pending { fill + length bytes.now < 64
+        → ArePending words.new (fill + length bytes.now) }
+    ensures costs { Costs tally 0 (length bytes.now) }
+{
+    tally.raise(0, bytes.len());
+    if bytes.len() < 8 {
+        append_below_eight::<FULL>(words, fill, bytes);
+    } else {
+        append_eight_or_more::<FULL>(words, fill, bytes);
     }
 }

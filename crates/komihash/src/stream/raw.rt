@@ -6,17 +6,16 @@ ghost use Rattle.komihash.specs.Counts.{Costs, write_products, answer_products, 
 ghost use Rattle.komihash.specs.Hash.{komi};
 ghost use Rattle.komihash.specs.Saved.{text, IsText, IsTextAfter};
 ghost use Rattle.komihash.specs.Stream.{State, IsState, HasAbsorbed, start, absorb, answer};
-ghost use Rattle.komihash.specs.Tails.{whole_words, block_lanes, after_blocks};
+ghost use Rattle.komihash.specs.Storage.{whole_words, block_lanes, after_blocks};
 
 use super::LONGEST_TEXT;
 use super::saved::{
     is_text, read_head, read_lanes, read_pending, write_head, write_lanes, write_pending,
 };
-use crate::padding::final_word::{end_after_blocks, has_top_bit};
-use crate::rounds::blocks::absorb_blocks;
+use crate::padding::{end_after_blocks, has_top_bit};
 use crate::rounds::pending::Pending;
-use crate::rounds::{Lanes, block_round, close_one, copied, join, lanes_of, places, seed_pair};
-use crate::tails::hash_below_eight;
+use crate::rounds::tail::{close_one, hash_from_pair};
+use crate::rounds::{Lanes, absorb_blocks, block_round, join, lanes_of, places, seed_pair};
 use crate::tally::Tally;
 use crate::version::{IsVersion, Versions};
 use std::marker::Model;
@@ -118,12 +117,12 @@ impl RawStream {
         let mut lanes;
         let mut rest = bytes;
         if fill == 0 {
-            lanes = copied(&self.lanes);
+            lanes = self.lanes;
         } else {
             let (head, tail) = bytes.split_at(64 - fill);
             let block = self.pending.complete(head, tally);
             // Not before `complete`, which needs the registers itself.
-            lanes = copied(&self.lanes);
+            lanes = self.lanes;
             block_round(&mut lanes, &block, places::<V>(), tally);
             rest = tail;
         }
@@ -151,7 +150,7 @@ impl RawStream {
             return close_one(pair, end, tally);
         }
         let last = self.pending.final_word::<V>();
-        hash_below_eight(pair, &self.pending, last, tally)
+        hash_from_pair(pair, &self.pending, last, tally)
     }
 
     /// Writes the saved text of the stream to the front of `out`, whose rest is unchanged. Returns

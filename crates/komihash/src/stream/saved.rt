@@ -4,20 +4,20 @@
 ghost use Rattle.std.specs.Prelude.{◌≡◌, ◌+◌, ◌<◌, ◌≤◌, ◌↔◌, ℕ, IsTrue};
 ghost use Rattle.std.specs.Prelude.{[], ◌∷◌, ◌++◌, ◌==◌, length, take, drop, slice_index};
 ghost use Rattle.komihash.specs.Saved.{flag_byte, in_order, IsText};
-ghost use Rattle.komihash.specs.Tails.{whole_words};
+ghost use Rattle.komihash.specs.Storage.{whole_words};
 ghost use Rattle.komihash.specs.Words.{all_bytes};
 
 use super::LONGEST_TEXT;
 use crate::rounds::pending::Pending;
 use crate::rounds::{Lanes, from_order, in_order};
 use crate::tally::Tally;
-use crate::utils::copies::{write_bytes, write_words};
+use crate::utils::{write_bytes, write_words};
 
 // Where the lanes begin.
 const LANES_AT: usize = 4;
 
 // Where the pending bytes begin.
-const PENDING_AT: usize = 68;
+pub(super) const PENDING_AT: usize = 68;
 
 /// Writes the first four bytes: the version, whether a block was absorbed, the top bit that only
 /// version 4 keeps, and the number of pending bytes.

@@ -1,5 +1,5 @@
 use Rattle.std.proofs.Common.{arith}
-use Rattle.komihash.proofs.BytesInWords.{AreBytes-typed, word_of-two_ends}
+use Rattle.komihash.proofs.WordOf.{AreBytes-typed, word_of-two_ends}
 use Rattle.komihash.proofs.utils.read_partial_word.Goals as goal
 
 pub returns-then-n-ge4 : goal.returns-then-n-ge4

@@ -1,6 +1,6 @@
 -- Two pieces, which may overlap, cover all bytes.
 use Rattle.std.proofs.Common.{◌∙◌, refl, length, set, get_or, arith, ap}
-use Rattle.komihash.proofs.BytesOfWords.{to_le_bytes-word, one_byte, length-bytes_of}
+use Rattle.komihash.proofs.AllBytes.{to_le_bytes-word, one_byte, length-bytes_of}
 use Rattle.komihash.proofs.Lists.{two_pieces}
 use Rattle.komihash.proofs.utils.write_partial_word.Goals as goal
 

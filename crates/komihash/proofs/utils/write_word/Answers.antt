@@ -1,6 +1,6 @@
 use Rattle.std.proofs.Common.{◌++◌, ◌∙◌, ap, arith}
 use Rattle.std.proofs.lemmas.List.{append-nil, drop_all}
-use Rattle.komihash.proofs.BytesOfWords.{to_le_bytes-word}
+use Rattle.komihash.proofs.AllBytes.{to_le_bytes-word}
 use Rattle.komihash.proofs.utils.write_word.Goals as goal
 
 pub returns : goal.returns

@@ -1,6 +1,6 @@
 use Rattle.std.proofs.Common.{rules, arith}
 use Rattle.std.proofs.lemmas.Bool.Decides.{nat_tests}
-use Rattle.komihash.proofs.BytesInWords.{AreBytes-typed}
+use Rattle.komihash.proofs.WordOf.{AreBytes-typed}
 use Rattle.komihash.proofs.SavedTexts.{IsLaidOut-text}
 use Rattle.komihash.proofs.stream.saved.is_text.Goals as goal
 

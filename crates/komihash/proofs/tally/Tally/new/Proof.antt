@@ -1,8 +1,7 @@
 -- `new` makes a value of no bytes, with both numbers 0.
 use Rattle.std.proofs.Common.{[], ◌∷◌, refl}
 use Rattle.std.proofs.raw_atomic.Walks.{proved}
-use Rattle.komihash.proofs.Facts.{both}
-use Rattle.komihash.proofs.Raised.{made}
+use Rattle.komihash.proofs.Raised.{both, made}
 use base.Fml.{Fml, fsep, ftrue}
 use denote.Struct.Struct.{Struct}
 use denote.Struct.Owning as Owning

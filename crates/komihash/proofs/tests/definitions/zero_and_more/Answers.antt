@@ -3,7 +3,7 @@ use Rattle.std.proofs.Common.{◌≡◌, ℕ, ◌*◌, List, [], ◌∷◌, ◌+
 use Rattle.std.specs.Prelude.{bit_xor}
 use Rattle.komihash.specs.Hash.{hash_from_pair}
 use Rattle.komihash.specs.Rounds.{closing, mix, mix_again, pair_round, seed_pair}
-use Rattle.komihash.specs.Tails.{end_byte, final_word}
+use Rattle.komihash.specs.Storage.{end_byte, final_word}
 use Rattle.komihash.proofs.HashSteps.{komi_short}
 use Rattle.komihash.proofs.WholeWords.{whole_words-few}
 use Rattle.komihash.proofs.tests.definitions.zero_and_more.Goals as goal

@@ -1,7 +1,7 @@
 -- A write that completes no block is `absorb-few`.
 use Rattle.std.proofs.Common.{◌∙◌, ap, arith, subst, sym}
 use Rattle.komihash.specs.Stream.{IsState, HasAbsorbed, absorb}
-use Rattle.komihash.proofs.BytesInWords.{AreBytes-typed}
+use Rattle.komihash.proofs.WordOf.{AreBytes-typed}
 use Rattle.komihash.proofs.CallLists.{HasAbsorbed-more}
 use Rattle.komihash.proofs.StreamAbsorbs.{absorb-few}
 use Rattle.komihash.proofs.StreamSteps.{IsState-absorb}

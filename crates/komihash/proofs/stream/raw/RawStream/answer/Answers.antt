@@ -5,7 +5,7 @@ use Rattle.std.proofs.lemmas.List.{nil_from_length}
 use Rattle.komihash.specs.Hash.{hash_from_pair}
 use Rattle.komihash.specs.Rounds.{join, closing}
 use Rattle.komihash.specs.Stream.{State, answer}
-use Rattle.komihash.specs.Tails.{whole_words, final_word}
+use Rattle.komihash.specs.Storage.{whole_words, final_word}
 use Rattle.komihash.proofs.StreamAnswers.{answer-by_pair, answer-none, tail_end-pending}
 use Rattle.komihash.proofs.StreamSteps.{komi-answer}
 use Rattle.komihash.proofs.WholeWords.{length-whole_words}
@@ -25,8 +25,8 @@ pub returns-then-len-eq0-clause-hash : goal.returns-then-len-eq0-clause-hash
 returns-then-len-eq0-clause-hash g c seed m is =
     returns-then-len-eq0-clause-answer g c ∙ sym (komi-answer g.row.V seed m _ is)
 
-pub hash_below_eight-requires : goal.hash_below_eight-requires
-hash_below_eight-requires g c = omega (arith, length-whole_words c.self.inside.pending)
+pub hash_from_pair-requires : goal.hash_from_pair-requires
+hash_from_pair-requires g c = omega (arith, length-whole_words c.self.inside.pending)
 
 pub returns-clause-products : goal.returns-clause-products
 returns-clause-products g c =
@@ -38,7 +38,7 @@ returns-clause-answer g c =
     let s = c.self.inside in
     let end = sym (tail_end-pending g.row.V s.pending s.absorbed s.top_bit (omega arith)) in
     let word = c.final_word-last.ensures ∙ ap (final_word s.pending) end in
-    c.hash_below_eight.ensures.hash
+    c.hash_from_pair.ensures.hash
     ∙ ap (λ p. hash_from_pair p (whole_words s.pending ++ c.final_word-last.result ∷ []))
     c.join-pair.ensures
     ∙ ap

@@ -20,7 +20,7 @@ returns-clause-state g c =
       | then-fill-eq0 w ↦
           let none = nil_from_length s.pending (omega arith) in
           after_write g.row.V _ bytes _ _ _ _ few many
-          (after.lanes ∙ rw (w.lanes-is, w.rest-is, w.copied-lanes.ensures, none))
+          (after.lanes ∙ rw (w.lanes-is, w.rest-is, none))
           (c.keep.ensures.bytes ∙ after.left ∙ rw (w.rest-is, none))
           (ap (λ s. s.absorbed) w.self-inside-is)
           (ap (λ s. s.top_bit) w.self-inside-is ∙ top_bit)
@@ -31,7 +31,6 @@ returns-clause-state g c =
             w.lanes-is,
             w.rest-is,
             w.block_round.ensures.lanes,
-            w.copied-lanes-else-fill-eq0.ensures,
             w.places.ensures.table,
             w.complete-block.ensures.block,
             w.split_at.ensures.front,

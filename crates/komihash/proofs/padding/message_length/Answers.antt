@@ -1,0 +1,27 @@
+-- Only the last byte that is not 0 can be the padding byte (`one_place`). If it has the value of
+-- one, the words are padded words (`unpadded`).
+use Rattle.std.proofs.Common.{arith}
+use Rattle.std.proofs.lemmas.Bool.{iff_false}
+use Rattle.komihash.proofs.Unpadding.{padded_zero, unpadded, one_place}
+use Rattle.komihash.proofs.padding.message_length.Goals as goal
+
+pub returns-else-count-eq1-clause-none : goal.returns-else-count-eq1-clause-none
+returns-else-count-eq1-clause-none g c p =
+    c.if-count-eq1.false (padded_zero g.row.V _ p c.if-last-eq0.true)
+
+pub returns-then-length-eq0-clause-none : goal.returns-then-length-eq0-clause-none
+returns-then-length-eq0-clause-none g c p =
+    let place = c.highest_place-place in
+    omega (arith, (one_place g.row.V _ place.result p place.ensures.some place.ensures.last).0)
+
+pub returns-then-is_padding_byte-clause-message : goal.returns-then-is_padding_byte-clause-message
+returns-then-is_padding_byte-clause-message g c =
+    let place = c.highest_place-place in
+    unpadded g.row.V c.args.words.now place.result (λ k. (c.type_inv.words k).fits) (omega arith)
+    place.ensures.place (omega arith) (c.is_padding_byte.ensures.0 c.if-is_padding_byte.true)
+
+pub returns-else-is_padding_byte-clause-none : goal.returns-else-is_padding_byte-clause-none
+returns-else-is_padding_byte-clause-none g c p =
+    let place = c.highest_place-place in
+    iff_false c.is_padding_byte.ensures c.if-is_padding_byte.false
+    (one_place g.row.V _ place.result p place.ensures.some place.ensures.last).1

@@ -1,7 +1,0 @@
--- The words so far, and after them what was there.
-use Rattle.komihash.specs.Tails.{whole_words}
-use Rattle.komihash.proofs.Lists.{Covers}
-use Rattle.komihash.proofs.utils.copies.write_words.Given as goal
-
-abbrev pub invariant-whole : goal.invariant-whole
-invariant-whole l = Covers l.i l.out (whole_words l.bytes) l.fn.out

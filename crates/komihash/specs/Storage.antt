@@ -1,0 +1,103 @@
+-- How the code reads and stores what the other definitions speak of. An auditor may skip this file: no
+-- public contract cites it. Private contracts do, and lemmas prove that both say the same.
+use Rattle.std.proofs.Common.{refl, ap, ◌∙◌, sym}
+use Rattle.std.proofs.lemmas.List.{length-take-le}
+use Rattle.std.specs.Prelude.{ℕ, zero, suc, Bool, ◌≡◌, ◌+◌, ◌-◌, ◌*◌, ◌%◌, ◌<◌, ◌≤◌, bit_xor}
+use Rattle.std.specs.Prelude.{List, [], ◌∷◌, ◌++◌, length, take, drop}
+use Rattle.std.specs.Int.Bits.{xor_assoc, xor_self, xor_zero_l}
+use Rattle.komihash.specs.Padding.{padding_byte}
+use Rattle.komihash.specs.Rounds.{Lanes, block_round}
+use Rattle.komihash.specs.Stream.{end_after_blocks}
+use Rattle.komihash.specs.Words.{word_of, bytes_of, all_bytes}
+use Rattle.komihash.specs.declared.rounds.Pair.{Pair}
+
+-- ---- a message: its whole words, the bytes after them, and its whole blocks
+
+-- the words of each eight bytes, without the fewer than eight at the end
+abbrev pub whole_words : List ℕ → List ℕ
+whole_words (a ∷ b ∷ c ∷ d ∷ e ∷ f ∷ g ∷ h ∷ bs) =
+    word_of (a ∷ b ∷ c ∷ d ∷ e ∷ f ∷ g ∷ h ∷ []) ∷ whole_words bs
+whole_words bs = []
+
+-- the bytes after the last whole word
+abbrev pub after_words : List ℕ → List ℕ
+after_words (a ∷ b ∷ c ∷ d ∷ e ∷ f ∷ g ∷ h ∷ bs) = after_words bs
+after_words bs = bs
+
+-- the byte that ends a message in version v: the padding byte, or 0 where the message is empty
+abbrev pub end_byte : ℕ → List ℕ → ℕ
+end_byte v [] = 0
+end_byte v (b ∷ m) = padding_byte v (b ∷ m)
+
+-- the word of the bytes after the last whole word and of the byte that ends them
+abbrev pub final_word : List ℕ → ℕ → ℕ
+final_word m end = word_of (after_words m ++ end ∷ [])
+
+-- the lanes after a block round on each whole block of the words
+abbrev pub block_lanes : ℕ → Lanes → List ℕ → Lanes
+block_lanes v s (w0 ∷ w1 ∷ w2 ∷ w3 ∷ w4 ∷ w5 ∷ w6 ∷ w7 ∷ ws) =
+    block_lanes v (block_round v s (w0 ∷ w1 ∷ w2 ∷ w3 ∷ w4 ∷ w5 ∷ w6 ∷ w7 ∷ [])) ws
+block_lanes v s ws = s
+
+-- the bytes after the last whole block
+abbrev pub after_blocks : List ℕ → List ℕ
+after_blocks m = drop (length m - length m % 64) m
+
+-- the byte that ends a stream's tail: the padding byte of the pending bytes, or the byte after the
+-- blocks if none is pending
+abbrev pub tail_end : ℕ → List ℕ → Bool → Bool → ℕ
+tail_end v (b ∷ m) absorbed top_bit = padding_byte v (b ∷ m)
+tail_end v [] absorbed top_bit = end_after_blocks absorbed top_bit
+
+-- ---- a pair: the low half of a product stays apart from the word that it is xored with, until the
+-- next factor is made, which makes the way from one product to the next one xor shorter
+
+-- the pair (a, e) that the code stores as `low`, which is a xor e, and e
+abbrev pub pair_of : Pair → ℕ × ℕ
+pair_of p = (bit_xor p.e p.low, p.e)
+
+-- ---- pending bytes: in eight words, with zeros after the last byte
+
+-- the n words that store these bytes, with zeros after them
+unfoldable pub pending_words : ℕ → List ℕ → List ℕ
+pending_words zero bytes = []
+pending_words (suc n) bytes = word_of (take 8 bytes) ∷ pending_words n (drop 8 bytes)
+
+-- the eight words store these bytes
+abbrev pub Stores : List ℕ → List ℕ → Type 0
+Stores ws bytes = ws ≡ pending_words 8 bytes
+
+-- the bytes that words store up to a fill
+unfoldable pub pending_bytes : List ℕ → ℕ → List ℕ
+pending_bytes ws fill = take fill (all_bytes ws)
+
+-- what is true of the fields that store pending bytes
+pub record ArePending (ws : List ℕ) (fill : ℕ) : Type 0 where
+  pub few : fill < 64
+  pub words : Stores ws (pending_bytes ws fill)
+
+-- if the old words store some bytes xs and then the first `from` of `bytes`, in `at` whole words,
+-- the new words store xs and then the first `to` of `bytes`
+abbrev pub Extends : List ℕ → List ℕ → ℕ → List ℕ → ℕ → ℕ → Type 0
+Extends old new at bytes from to =
+    (xs : List ℕ) → length xs + from ≡ 8 * at → Stores old (xs ++ take from bytes)
+    → Stores new (xs ++ take to bytes)
+
+-- ---- lemmas by which a struct's value gives back its fields
+
+-- xor with the same word twice cancels
+pub xor_again : (c x : ℕ) → bit_xor c (bit_xor c x) ≡ x
+xor_again c x = sym (xor_assoc c c x) ∙ ap (λ n. bit_xor n x) (xor_self c) ∙ xor_zero_l x
+
+pub length-stored : (xs : List ℕ) → length (all_bytes (pending_words 8 xs)) ≡ 64
+unfolding pending_words bytes_of
+length-stored xs = refl
+
+-- eight words that store bytes have 64
+pub length-store : (ws xs : List ℕ) → ws ≡ pending_words 8 xs → length (all_bytes ws) ≡ 64
+length-store ws xs is = ap (λ us. length (all_bytes us)) is ∙ length-stored xs
+
+pub length-pending_bytes : (ws : List ℕ) (fill : ℕ) → fill ≤ length (all_bytes ws)
+    → length (pending_bytes ws fill) ≡ fill
+unfolding pending_bytes
+length-pending_bytes ws fill room = length-take-le fill (all_bytes ws) room

@@ -1,0 +1,158 @@
+//! The end of a hash: fewer than eight whole words, and the final word.
+
+ghost use Rattle.std.specs.Prelude.{◌≡◌, ℕ, ◌+◌, ◌-◌, ◌/◌, ◌<◌, ◌≤◌, ◌↔◌, IsTrue};
+ghost use Rattle.std.specs.Prelude.{List, [], ◌∷◌, ◌++◌, length, drop, slice_index};
+ghost use Rattle.komihash.specs.Counts.{Costs};
+ghost use Rattle.komihash.specs.Hash.{hash_from_pair};
+ghost use Rattle.komihash.specs.Rounds.{pair_round, mix_again, closing};
+ghost use Rattle.komihash.specs.Storage.{pair_of, whole_words};
+
+use super::{Pair, mix};
+use crate::tally::Tally;
+use crate::utils::word_at;
+
+/// Whole words, wherever they lie: in a message's bytes, or in the words of a stream.
+pub(crate) trait Words {
+    ghost words: { Self → List ℕ };
+
+    /// Returns whether there are at least `count` words.
+    fn holds(&self, count: usize) -> bool
+        requires few { count ≤ 8 }
+        ensures { IsTrue result ↔ (count ≤ length (words self.now)) };
+
+    /// Returns the word at index `at`.
+    fn word(&self, at: usize) -> u64
+        requires within { at < length (words self.now) }
+        requires few { at < 8 }
+        ensures { result ≡ slice_index (words self.now) at };
+}
+
+/// The whole words of a message's bytes. The impl is for the reference, since no type parameter can
+/// stand for `[u8]`. So callers pass a `&&[u8]`.
+impl Words for &[u8] {
+    ghost words = { λ bytes. whole_words bytes.now };
+
+    #[inline(always)]
+    #[tactic(auto, using(crate::proofs::WholeWords::read_words))]
+    fn holds(&self, count: usize) -> bool {
+        8 * count <= self.len()
+    }
+
+    #[inline(always)]
+    #[tactic(auto, using(crate::proofs::WholeWords::read_words))]
+    fn word(&self, at: usize) -> u64 {
+        word_at(self, 8 * at)
+    }
+}
+
+/// Returns the pair after a round on two words.
+#[inline(always)]
+#[tactic(auto, using(crate::proofs::Xor::xor_late))]
+pub(crate) fn pair_round(pair: Pair, w0: u64, w1: u64, tally: &mut Tally) -> Pair
+    ensures pair { pair_of result ≡ pair_round (pair_of pair) w0 w1 }
+    ensures costs { Costs tally 1 0 }
+{
+    let Pair { low, e } = pair;
+    mix((w0 ^ low) ^ e, w1 ^ e, e, tally)
+}
+
+// Returns the hash from the pair of the closing's first mix.
+#[inline(always)]
+fn mix_again(pair: Pair, tally: &mut Tally) -> u64
+    ensures hash { result ≡ mix_again (pair_of pair) }
+    ensures costs { Costs tally 1 0 }
+{
+    let Pair { low, e } = pair;
+    let Pair { low, e } = mix(e ^ low, e, e, tally);
+    e ^ low
+}
+
+/// Returns the hash from a pair and the one word that is left.
+#[inline(always)]
+#[tactic(auto, using(crate::proofs::Xor::xor_late_left))]
+pub(crate) fn close_one(pair: Pair, word: u64, tally: &mut Tally) -> u64
+    ensures hash { result ≡ closing (pair_of pair) (word ∷ []) }
+    ensures costs { Costs tally 2 0 }
+{
+    let Pair { low, e } = pair;
+    let mixed = mix((low ^ word) ^ e, e, e, tally);
+    mix_again(mixed, tally)
+}
+
+/// Returns the hash from a pair and the two words that are left.
+#[inline(always)]
+#[tactic(auto, using(crate::proofs::Xor::factors_swap))]
+pub(crate) fn close_two(pair: Pair, word: u64, last: u64, tally: &mut Tally) -> u64
+    ensures hash { result ≡ closing (pair_of pair) (word ∷ last ∷ []) }
+    ensures costs { Costs tally 2 0 }
+{
+    let Pair { low, e } = pair;
+    let mixed = mix((low ^ word) ^ e, e ^ last, e, tally);
+    mix_again(mixed, tally)
+}
+
+// Returns the hash from a pair, at most one word from index `at` on, and the final word.
+#[inline(always)]
+fn hash_below_two<W: Words>(pair: Pair, left: &W, at: usize, last: u64, tally: &mut Tally) -> u64
+    requires within { at ≤ length (W.words left.now) }
+    requires few { length (W.words left.now) < at + 2 }
+    requires place { at < 7 }
+    ensures hash { result
+        ≡ hash_from_pair (pair_of pair) (drop at (W.words left.now) ++ last ∷ []) }
+    ensures costs { Costs tally 2 0 }
+{
+    if left.holds(at + 1) {
+        close_two(pair, left.word(at), last, tally)
+    } else {
+        close_one(pair, last, tally)
+    }
+}
+
+// Returns the pair after a round on the two words from index `at`. From it, the words after these
+// give the hash that all give from `pair`. This is stated and proved here once, for three calls.
+#[inline(always)]
+#[tactic(auto, using(crate::proofs::HashSteps::hash_from_pair_two))]
+fn take_two<W: Words>(pair: Pair, left: &W, at: usize, tally: &mut Tally) -> Pair
+    requires within { at + 2 ≤ length (W.words left.now) }
+    requires place { at < 5 }
+    ensures hash { (last : ℕ)
+        → hash_from_pair (pair_of result) (drop (at + 2) (W.words left.now) ++ last ∷ [])
+        ≡ hash_from_pair (pair_of pair) (drop at (W.words left.now) ++ last ∷ []) }
+    ensures costs { Costs tally 1 0 }
+{
+    pair_round(pair, left.word(at), left.word(at + 1), tally)
+}
+
+// Returns the hash from a pair, at most three words from index `at` on, and the final word.
+#[inline(always)]
+fn hash_below_four<W: Words>(pair: Pair, left: &W, at: usize, last: u64, tally: &mut Tally) -> u64
+    requires within { at ≤ length (W.words left.now) }
+    requires few { length (W.words left.now) < at + 4 }
+    requires place { at < 5 }
+    ensures hash { result
+        ≡ hash_from_pair (pair_of pair) (drop at (W.words left.now) ++ last ∷ []) }
+    ensures costs { Costs tally (2 + (length (W.words left.now) - at) / 2) 0 }
+{
+    if left.holds(at + 2) {
+        let pair = take_two(pair, left, at, tally);
+        hash_below_two(pair, left, at + 2, last, tally)
+    } else {
+        hash_below_two(pair, left, at, last, tally)
+    }
+}
+
+/// Returns the hash from a pair, fewer than eight words, and the final word.
+#[inline(always)]
+pub(crate) fn hash_from_pair<W: Words>(pair: Pair, left: &W, last: u64, tally: &mut Tally) -> u64
+    requires { length (W.words left.now) < 8 }
+    ensures hash { result ≡ hash_from_pair (pair_of pair) (W.words left.now ++ last ∷ []) }
+    ensures costs { Costs tally (2 + length (W.words left.now) / 2) 0 }
+{
+    if left.holds(4) {
+        let pair = take_two(pair, left, 0, tally);
+        let pair = take_two(pair, left, 2, tally);
+        hash_below_four(pair, left, 4, last, tally)
+    } else {
+        hash_below_four(pair, left, 0, last, tally)
+    }
+}
