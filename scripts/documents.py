@@ -2,7 +2,7 @@
 """Compares the documents with the sources that they show and name.
 
   callers      each block of code of README and CALLING.md, marked `rust` or `antt` or with `//!` in its first line,
-               is a whole file of the crate `uses`, which is proved and tested
+               is a file of the crate `uses`, which is proved and tested, or a part of one
   names        each name with `_` or `-` in docs/DEFINITIONS.md stands in specs/, proofs/ or src/
   files_named  each file that a document names is there
   values       the table of values in docs/DEFINITIONS.md is that of tests/values.rt
@@ -44,8 +44,8 @@ def callers(files):
     uses = texts(files, r"crates/uses/(?:src|specs|proofs)/.*").values()
     for document in ("README.md", "CALLING.md"):
         for code in CODE.findall(files[document]):
-            if code not in uses:
-                yield f"{document}: no file of `uses` is this block: {code.splitlines()[0]}"
+            if not any(code in text for text in uses):
+                yield f"{document}: no file of `uses` has this block: {code.splitlines()[0]}"
 
 
 def names(files):
