@@ -13,7 +13,7 @@ use std::alloc::{AllocError, Global};
 pub struct Journal {
     pub bytes: Vec<u8>,
     stream: StreamedKomihash,
-    ghost absorbed: { HasAbsorbed 5 0 stream.state bytes.items } by { HasAbsorbed-prop },
+    ghost known: { HasAbsorbed 5 0 stream.state bytes.items } by { HasAbsorbed-prop _ _ _ _ },
 }
 
 impl Journal {
