@@ -12,13 +12,6 @@ use Rattle.komihash.proofs.Blocks.{length-after_blocks}
 use Rattle.komihash.proofs.StreamAbsorbs.{absorb-append, absorb-few, absorb-blocks}
 use Rattle.komihash.proofs.StreamAnswers.{answer-joined}
 
--- more bytes after a message
-pub HasAbsorbed-more : (v seed : ℕ) (s after : State) (m bytes : List ℕ) → HasAbsorbed v seed s m
-    → after ≡ absorb v s bytes → HasAbsorbed v seed after (m ++ bytes)
-unfolding HasAbsorbed
-HasAbsorbed-more v seed s after m bytes is then =
-    rw (then, is) (sym (absorb-append v (start seed) m bytes))
-
 -- how many bytes are pending
 pub pending-absorb : (v : ℕ) (s : State) (bytes : List ℕ) → length s.pending < 64
     → length (absorb v s bytes).pending ≡ (length s.pending + length bytes) % 64

@@ -10,7 +10,7 @@ use Rattle.komihash.proofs.Unpadding.{same_message}
 use Rattle.komihash.proofs.SavedTexts.{same_version, same_state, IsTextAfter-most}
 use Rattle.komihash.proofs.StreamAbsorbs.{absorb-append, absorb-nothing}
 use Rattle.komihash.proofs.StreamAnswers.{answer-joined}
-use Rattle.komihash.proofs.StreamFacts.{same_state_after, same_text_after}
+use Rattle.komihash.proofs.StreamMessages.{same_state_after, same_text_after}
 
 pub ruleset of_hashes = (komi-lt, fold-append)
 

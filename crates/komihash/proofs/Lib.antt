@@ -14,7 +14,7 @@ mod Raised
 pub mod SavedTexts
 pub mod StreamAbsorbs
 pub mod StreamAnswers
-pub mod StreamFacts
+pub mod StreamMessages
 pub mod StreamSteps
 pub mod Unpadding
 pub mod WholeWords

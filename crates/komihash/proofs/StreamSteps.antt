@@ -78,7 +78,3 @@ after_write v s bytes lanes left absorbed top_bit few many after is flag top =
     let last = last_of_block s.pending bytes few many in
     let all = absorb-blocks v s bytes few many in
     cc
-
-pub komi-answer : (v seed : ℕ) (m : List ℕ) (s : State) → HasAbsorbed v seed s m → komi v seed m ≡ answer v s
-unfolding HasAbsorbed
-komi-answer v seed m s is = sym (answer-joined v seed m) ∙ ap (answer v) (sym is)

@@ -1,8 +1,19 @@
 //! Komihash, a fast hash of 64 bits that is not cryptographic, in its versions 4 and 5.
 //!
+//! ```rust
+//! use komihash::{StreamedKomihash, komihash};
+//!
+//! let mut stream = StreamedKomihash::new_with_seed(42);
+//! stream.write(b"hello ");
+//! stream.write(b"world");
+//! assert_eq!(rt; stream.finish(), komihash(b"hello world", 42));
+//! ```
+//!
 //! In one version, `komihash` and streams give the same bytes and seed the same hash, however the
 //! bytes were cut. It is proved to be the hash that the definitions in `specs/` give.
 #![tactic(auto)]
+
+pub use v5::{KomiHasher, Komirand, StreamedKomihash, komihash};
 
 mod exports;
 mod generator;
@@ -19,5 +30,3 @@ mod utils;
 pub mod v4;
 pub mod v5;
 mod version;
-
-pub use v5::{KomiHasher, Komirand, StreamedKomihash, komihash};

@@ -9,12 +9,12 @@ ghost use Rattle.komihash.specs.Hash.{komi};
 ghost use Rattle.komihash.specs.Saved.{text, IsText, IsTextAfter};
 ghost use Rattle.komihash.specs.Stream.{State, IsState, HasAbsorbed, start, absorb, answer};
 
+use crate::tally::Tally;
+
 #[doc(hidden)]
 pub mod raw;
 mod saved;
 pub(crate) mod streamed;
-
-use crate::tally::Tally;
 
 /// The length of the longest saved text, in bytes: 68, and 63 pending ones.
 pub const LONGEST_TEXT: usize = saved::PENDING_AT + 63;

@@ -1,5 +1,7 @@
 //! The functions of version 5, as C calls them. `komihash_rattle.h` declares them.
 
+#![tactic(auto, using(komihash::proofs::StreamMessages::message_laws))]
+
 ghost use Rattle.std.specs.Prelude.{◌≡◌, ◌+◌, ◌-◌, ◌*◌, ◌/◌, ◌<◌, ◌≤◌, ◌^◌, ◌++◌, ◌↔◌, true, false};
 ghost use Rattle.std.specs.Prelude.{ℕ, List, [], length, take, drop};
 ghost use Rattle.std.specs.List.{flat_map};

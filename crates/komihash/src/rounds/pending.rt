@@ -166,7 +166,7 @@ fn append_within_word(words: &mut [u64; 8], fill: usize, word: u64)
     words[fill / 8] |= word << (8 * (fill % 8));
 }
 
-// Sets the first word that stores no bytes yet, to the next eight bytes or to all that are left.
+// Appends the next eight bytes or all that are left, as the first word that stores no bytes yet.
 #[inline(always)]
 fn append_word(words: &mut [u64; 8], at: usize, word: u64)
     requires { at < 8 }
@@ -177,7 +177,7 @@ fn append_word(words: &mut [u64; 8], at: usize, word: u64)
     words[at] = word;
 }
 
-// Sets the first two words that store no bytes yet, to the next sixteen bytes.
+// Appends the next sixteen bytes, as the first two words that store no bytes yet.
 #[inline(always)]
 fn append_two_words(words: &mut [u64; 8], at: usize, bytes: &[u8], from: usize)
     requires place { at < 7 }
@@ -205,7 +205,7 @@ fn append_below_eight<const FULL: bool>(words: &mut [u64; 8], fill: usize, bytes
     }
 }
 
-// Stores at most one whole word, next words after the partial word.
+// Appends at most one whole word, `next` words after the partial word.
 #[inline(always)]
 fn append_below_two_words(words: &mut [u64; 8], fill: usize, bytes: &[u8], next: usize)
     requires room { fill + length bytes.now ≤ 64 }
@@ -220,7 +220,7 @@ fn append_below_two_words(words: &mut [u64; 8], fill: usize, bytes: &[u8], next:
     }
 }
 
-// Stores at most three whole words, from next words after the partial word on.
+// Appends at most three whole words, from `next` words after the partial word on.
 #[inline(always)]
 fn append_below_four_words(words: &mut [u64; 8], fill: usize, bytes: &[u8], next: usize)
     requires room { fill + length bytes.now ≤ 64 }
@@ -238,7 +238,7 @@ fn append_below_four_words(words: &mut [u64; 8], fill: usize, bytes: &[u8], next
     }
 }
 
-// Stores the whole words after the partial word.
+// Appends the whole words after the partial word.
 //
 // Each index is `fill / 8` plus a constant. In a loop, each turn would wait for the index of the
 // turn before.
@@ -258,7 +258,7 @@ fn append_words(words: &mut [u64; 8], fill: usize, bytes: &[u8])
     }
 }
 
-// Stores the bytes after the last whole word, if any are left. Reads the last eight bytes for that.
+// Appends the bytes after the last whole word, if any are left. Reads the last eight bytes for that.
 #[inline(always)]
 fn append_last(words: &mut [u64; 8], fill: usize, bytes: &[u8])
     requires many { 8 ≤ length bytes.now }
@@ -291,7 +291,7 @@ fn append_eight_or_more<const FULL: bool>(words: &mut [u64; 8], fill: usize, byt
 }
 
 // Appends bytes to those that the words store up to the fill, and counts them as kept. If FULL,
-// they fill the block exactly.
+// they fill the block exactly. Only this function and those above write to the words.
 #[inline(always)]
 fn append_bytes<const FULL: bool>(
     words: &mut [u64; 8],
@@ -302,7 +302,7 @@ fn append_bytes<const FULL: bool>(
     requires pending { ArePending words.old fill }
     requires room { fill + length bytes.now ≤ 64 }
     requires full { IsTrue FULL → fill + length bytes.now ≡ 64 }
-    ensures full { fill + length bytes.now ≡ 64
+    ensures block { fill + length bytes.now ≡ 64
         → words.new ≡ whole_words (pending_bytes words.old fill ++ bytes.now) }
     ensures bytes { pending_bytes words.new (fill + length bytes.now)
         ≡ pending_bytes words.old fill ++ bytes.now }

@@ -1,11 +1,10 @@
 //! A stream whose type does not name its version, which is how C keeps one.
 
-ghost use Rattle.std.specs.Prelude.{◌≡◌, ◌+◌, ◌<◌, ◌≤◌, ◌↔◌, ℕ, IsTrue};
-ghost use Rattle.std.specs.Prelude.{List, [], ◌++◌, length, take, drop};
+ghost use Rattle.std.specs.Prelude.{◌≡◌, ◌+◌, ◌<◌, ◌≤◌, ◌↔◌, IsTrue};
+ghost use Rattle.std.specs.Prelude.{◌++◌, length, take, drop};
 ghost use Rattle.komihash.specs.Counts.{Costs, write_products, answer_products, kept_bytes};
-ghost use Rattle.komihash.specs.Hash.{komi};
-ghost use Rattle.komihash.specs.Saved.{text, IsText, IsTextAfter};
-ghost use Rattle.komihash.specs.Stream.{State, IsState, HasAbsorbed, start, absorb, answer};
+ghost use Rattle.komihash.specs.Saved.{text, IsText};
+ghost use Rattle.komihash.specs.Stream.{State, IsState, start, absorb, answer};
 ghost use Rattle.komihash.specs.Storage.{whole_words, block_lanes, after_blocks};
 
 use super::LONGEST_TEXT;
@@ -56,15 +55,12 @@ impl Model for RawStream {
 impl RawStream {
     /// Returns the new stream of a seed. Counts one product.
     #[inline(always)]
-    #[tactic(auto, unfolding(crate::specs::Stream::absorb, crate::specs::Stream::HasAbsorbed))]
     pub fn start<const V: u8>(seed: u64, tally: &mut Tally) -> RawStream
     where
         Versions: IsVersion<V>,
         ensures state { result ≡ start seed }
         ensures is_state { IsState V result }
-        ensures message { HasAbsorbed V seed result [] }
-        ensures products { tally.new.products ≡ tally.old.products + 1 }
-        ensures kept { tally.new.kept ≡ tally.old.kept }
+        ensures costs { Costs tally 1 0 }
     {
         RawStream {
             lanes: lanes_of(seed_pair(seed, tally)),
@@ -82,14 +78,9 @@ impl RawStream {
         Versions: IsVersion<V>,
         ensures state { self.new ≡ absorb V self.old bytes.now }
         ensures is_state { IsState V self.old → IsState V self.new }
-        ensures message { (seed : ℕ) (m : List ℕ) → HasAbsorbed V seed self.old m
-            → HasAbsorbed V seed self.new (m ++ bytes.now) }
-        ensures joined { (seed : ℕ) (m all : List ℕ) → HasAbsorbed V seed self.old m
-            → m ++ bytes.now ≡ all → HasAbsorbed V seed self.new all }
-        ensures products { tally.new.products ≡ tally.old.products
-            + write_products (length self.old.pending) (length bytes.now) }
-        ensures kept { tally.new.kept ≡ tally.old.kept
-            + kept_bytes (length self.old.pending) (length bytes.now) }
+        ensures costs { Costs tally
+            (write_products (length self.old.pending) (length bytes.now))
+            (kept_bytes (length self.old.pending) (length bytes.now)) }
     {
         if bytes.len() < 64 - self.pending.len() {
             self.pending.append(bytes, tally);
@@ -138,11 +129,7 @@ impl RawStream {
     where
         Versions: IsVersion<V>,
         ensures answer { result ≡ answer V self.now }
-        ensures hash { (seed : ℕ) (m : List ℕ) → HasAbsorbed V seed self.now m
-            → result ≡ komi V seed m }
-        ensures products { tally.new.products
-            ≡ tally.old.products + answer_products (length self.now.pending) }
-        ensures kept { tally.new.kept ≡ tally.old.kept }
+        ensures costs { Costs tally (answer_products (length self.now.pending)) 0 }
     {
         let pair = join(&self.lanes, self.absorbed);
         if self.pending.len() == 0 {
@@ -165,8 +152,6 @@ impl RawStream {
         ensures length { result ≡ length (text V self.now) }
         ensures most { result ≤ LONGEST_TEXT }
         ensures text { take result out.new ≡ text V self.now }
-        ensures message { IsState V self.now → (seed : ℕ) (m : List ℕ) → HasAbsorbed V seed self.now m
-            → IsTextAfter V seed m (take result out.new) }
         ensures rest { drop result out.new ≡ drop result out.old }
     {
         write_head::<V>(self.absorbed, self.top_bit, self.pending.len(), out);
@@ -194,8 +179,6 @@ impl RawStream {
         ensures is_state { IsState V result }
         ensures text { text V result ≡ bytes.now }
         ensures same { (s : State) → IsState V s → text V s ≡ bytes.now → result ≡ s }
-        ensures message { (seed : ℕ) (m : List ℕ) → IsTextAfter V seed m bytes.now
-            → HasAbsorbed V seed result m }
     {
         let (absorbed, top_bit) = read_head(bytes);
         RawStream {

@@ -1,5 +1,7 @@
 //! The stream of both versions.
 
+#![tactic(auto, using(crate::proofs::StreamMessages::message_laws))]
+
 ghost use Rattle.std.specs.Prelude.{◌≡◌, ◌+◌, ◌<◌, ◌≤◌, ◌↔◌, ℕ, IfSome, IsSomeAnd, IsNone};
 ghost use Rattle.std.specs.Prelude.{List, [], ◌++◌, length, take, drop};
 ghost use Rattle.komihash.specs.Counts.{write_products, answer_products, kept_bytes};

@@ -170,7 +170,7 @@ fn generates_and_chains_known_numbers(rt: HostRuntime) {
     v5::Komirand::init(SEED).fill_bytes(&mut bytes[1]);
     same_bytes(&rt, &bytes[0], &wanted[0], 4);
     same_bytes(&rt, &bytes[1], &wanted[1], 5);
-    // hash of a fill of 27 bytes after this `init`, and eight of the next output
+    // hash of 35 bytes after this `init`: a fill of 27, and the eight of the next output
     let wanted = [0xcfc6_6047_0d0c_2829, 0x5d6e_3cc3_a689_590f];
     let (mut four, mut five) = (v4::Komirand::init(SEED), v5::Komirand::init(SEED));
     let mut bytes = [[0; 35]; 2];

@@ -4,7 +4,8 @@ use Rattle.std.proofs.lemmas.List.{append_assoc, append-nil, take_more, drop_mor
 use Rattle.std.proofs.Math.Seq.{set-append_seam}
 use Rattle.komihash.specs.Calls.{onward}
 use Rattle.komihash.proofs.StreamAbsorbs.{absorb-nothing}
-use Rattle.komihash.proofs.CallLists.{goes_on, HasAbsorbed-more, onward-message}
+use Rattle.komihash.proofs.CallLists.{goes_on, onward-message}
+use Rattle.komihash.proofs.StreamMessages.{HasAbsorbed-more}
 use Rattle.komihash.specs.declared.stream.Call.{Call}
 use Rattle.komihash.specs.declared.stream.Call.TheVariants.{Absorb, Answer}
 use Rattle.komihash.proofs.stream.run_on.Goals as goal

@@ -4,7 +4,7 @@ use Rattle.std.specs.List.{flat_map}
 use Rattle.komihash.specs.Stream.{absorb}
 use Rattle.komihash_c.proofs.PieceLists.{absorb-more}
 use Rattle.komihash.proofs.StreamAbsorbs.{absorb-nothing}
-use Rattle.komihash.proofs.CallLists.{HasAbsorbed-more}
+use Rattle.komihash.proofs.StreamMessages.{HasAbsorbed-more}
 use Rattle.komihash_c.proofs.pieces.absorb_pieces.Goals as goal
 
 pub loop-piece-init : goal.loop-piece-init

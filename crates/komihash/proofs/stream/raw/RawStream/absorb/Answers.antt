@@ -1,8 +1,7 @@
 -- A write that completes no block is `absorb-few`.
 use Rattle.std.proofs.Common.{◌∙◌, ap, arith, subst, sym}
-use Rattle.komihash.specs.Stream.{IsState, HasAbsorbed, absorb}
+use Rattle.komihash.specs.Stream.{IsState, absorb}
 use Rattle.komihash.proofs.WordOf.{AreBytes-typed}
-use Rattle.komihash.proofs.CallLists.{HasAbsorbed-more}
 use Rattle.komihash.proofs.StreamAbsorbs.{absorb-few}
 use Rattle.komihash.proofs.StreamSteps.{IsState-absorb}
 use Rattle.komihash.proofs.stream.raw.RawStream.absorb.Goals as goal
@@ -19,23 +18,7 @@ returns-then-bytes-len-clause-is_state g c is =
     subst (IsState g.row.V) (sym (returns-then-bytes-len-clause-state g c))
     (IsState-absorb g.row.V _ _ is (AreBytes-typed _ c.type_inv.bytes))
 
-pub returns-then-bytes-len-clause-message : goal.returns-then-bytes-len-clause-message
-returns-then-bytes-len-clause-message g c seed m is =
-    HasAbsorbed-more g.row.V seed _ _ m _ is (returns-then-bytes-len-clause-state g c)
-
-pub returns-then-bytes-len-clause-joined : goal.returns-then-bytes-len-clause-joined
-returns-then-bytes-len-clause-joined g c seed m all is same =
-    subst (HasAbsorbed g.row.V seed _) same (returns-then-bytes-len-clause-message g c seed m is)
-
 pub returns-else-bytes-len-clause-is_state : goal.returns-else-bytes-len-clause-is_state
 returns-else-bytes-len-clause-is_state g c is =
     subst (IsState g.row.V) (sym c.complete_blocks.ensures.state)
     (IsState-absorb g.row.V _ _ is (AreBytes-typed _ c.type_inv.bytes))
-
-pub returns-else-bytes-len-clause-message : goal.returns-else-bytes-len-clause-message
-returns-else-bytes-len-clause-message g c seed m is =
-    HasAbsorbed-more g.row.V seed _ _ m _ is c.complete_blocks.ensures.state
-
-pub returns-else-bytes-len-clause-joined : goal.returns-else-bytes-len-clause-joined
-returns-else-bytes-len-clause-joined g c seed m all is same =
-    subst (HasAbsorbed g.row.V seed _) same (returns-else-bytes-len-clause-message g c seed m is)

@@ -7,7 +7,6 @@ use Rattle.komihash.specs.Rounds.{join, closing}
 use Rattle.komihash.specs.Stream.{State, answer}
 use Rattle.komihash.specs.Storage.{whole_words, final_word}
 use Rattle.komihash.proofs.StreamAnswers.{answer-by_pair, answer-none, tail_end-pending}
-use Rattle.komihash.proofs.StreamSteps.{komi-answer}
 use Rattle.komihash.proofs.WholeWords.{length-whole_words}
 use Rattle.komihash.proofs.stream.raw.RawStream.answer.Goals as goal
 
@@ -21,17 +20,13 @@ returns-then-len-eq0-clause-answer g c =
     ∙ sym (answer-none g.row.V _ none)
     ∙ ap (answer g.row.V) c.self.view_is
 
-pub returns-then-len-eq0-clause-hash : goal.returns-then-len-eq0-clause-hash
-returns-then-len-eq0-clause-hash g c seed m is =
-    returns-then-len-eq0-clause-answer g c ∙ sym (komi-answer g.row.V seed m _ is)
-
 pub hash_from_pair-requires : goal.hash_from_pair-requires
 hash_from_pair-requires g c = omega (arith, length-whole_words c.self.inside.pending)
 
-pub returns-clause-products : goal.returns-clause-products
-returns-clause-products g c =
+pub returns-clause-costs : goal.returns-clause-costs
+returns-clause-costs g c =
     let same = ap (λ (s : State). length s.pending) c.self.view_is in
-    omega (arith, length-whole_words c.self.inside.pending)
+    search (arith, length-whole_words c.self.inside.pending)
 
 pub returns-clause-answer : goal.returns-clause-answer
 returns-clause-answer g c =
@@ -46,7 +41,3 @@ returns-clause-answer g c =
     word
     ∙ sym (answer-by_pair g.row.V _)
     ∙ ap (answer g.row.V) c.self.view_is
-
-pub returns-clause-hash : goal.returns-clause-hash
-returns-clause-hash g c seed m is =
-    returns-clause-answer g c ∙ sym (komi-answer g.row.V seed m _ is)

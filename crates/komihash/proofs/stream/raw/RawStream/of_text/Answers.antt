@@ -1,7 +1,7 @@
 -- `read_back`: the state that has a text is made of the values read from it.
 use Rattle.std.proofs.Common.{◌∙◌, sym, ap, subst, arith}
-use Rattle.komihash.specs.Saved.{text, IsTextAfter}
-use Rattle.komihash.specs.Stream.{IsState, HasAbsorbed}
+use Rattle.komihash.specs.Saved.{text}
+use Rattle.komihash.specs.Stream.{IsState}
 use Rattle.komihash.proofs.SavedTexts.{read_back, text-most, text-least}
 use Rattle.komihash.proofs.stream.raw.RawStream.of_text.Goals as goal
 
@@ -21,10 +21,6 @@ pub returns-clause-text : goal.returns-clause-text
 returns-clause-text g c =
     let (s, is, same) = c.requires in
     ap (text g.row.V) (returns-clause-same g c s is same) ∙ same
-
-pub returns-clause-message : goal.returns-clause-message
-unfolding IsTextAfter HasAbsorbed
-returns-clause-message g c seed m (s, is, absorbed, same) = returns-clause-same g c s is same ∙ absorbed
 
 pub read_head-absorbed-requires : goal.read_head-absorbed-requires
 read_head-absorbed-requires g c =

@@ -1,5 +1,5 @@
-use Rattle.std.proofs.Common.{arith, append_assoc, sym}
-use Rattle.komihash.specs.Saved.{text, IsTextAfter}
+use Rattle.std.proofs.Common.{arith, append_assoc}
+use Rattle.komihash.specs.Saved.{text}
 use Rattle.komihash.proofs.SavedTexts.{length-text}
 use Rattle.komihash.proofs.stream.raw.RawStream.store.Goals as goal
 
@@ -9,7 +9,3 @@ returns-clause-length g c = grind (arith, length-text)
 pub returns-clause-text : goal.returns-clause-text
 unfolding text
 returns-clause-text g c = grind (arith, append_assoc)
-
-pub returns-clause-message : goal.returns-clause-message
-unfolding IsTextAfter
-returns-clause-message g c is seed m after = (c.args.self.now, is, after, sym (returns-clause-text g c))
