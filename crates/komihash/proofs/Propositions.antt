@@ -1,4 +1,5 @@
--- Facts about streams have one proof at most, so ghost fields may hold them.
+-- Facts about streams have one proof at most, so ghost fields may hold them. Other crates import these
+-- lemmas.
 use Rattle.std.proofs.Common.{◌≡◌, ℕ, List, ap, ◌∙◌, sym}
 use denote.Struct.Props.{props}
 use mathlib.Core.HLevel.{Σ_prop_path}
