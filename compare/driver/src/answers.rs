@@ -12,7 +12,8 @@ const SEEDS: [u64; 6] = [
     0xc6a4_793f_5bd1_e99e,
 ];
 
-/// Prints a row for each seed: the sums of the hashes of all prefixes of a message in each version.
+/// Prints a row for each seed: the sums of the hashes of all prefixes of a message in each
+/// version.
 pub fn print() {
     let message: Vec<u8> = (0..300u32).map(|i| (7 * i + 3) as u8).collect();
     for seed in SEEDS {

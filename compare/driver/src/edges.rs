@@ -1,12 +1,14 @@
-//! Compares the port with the Rust crate on every input of three small sets, which hold the edges of words and blocks:
-//! lengths with each last byte, messages with a single bit, and messages that are cut twice.
+//! Compares the port with the Rust crate on every input of three small sets, which hold the edges
+//! of words and blocks: lengths with each last byte, messages with a single bit, and messages that
+//! are cut twice.
 use crate::input::hex;
 use crate::original::{OriginalFive, OriginalFour};
 use crate::port::{PortFive, PortFour};
 use crate::side::{Port, Side};
 use std::fmt::Debug;
 
-const SEEDS: [u64; 7] = [0, 1, u64::MAX, 1 << 63, 0x5555_5555_5555_5555, 0xaaaa_aaaa_aaaa_aaaa, 0x0123_4567_89ab_cdef];
+const SEEDS: [u64; 7] =
+    [0, 1, u64::MAX, 1 << 63, 0x5555_5555_5555_5555, 0xaaaa_aaaa_aaaa_aaaa, 0x0123_4567_89ab_cdef];
 
 /// How many differences are printed.
 const SHOWN: u64 = 10;
@@ -61,9 +63,11 @@ impl Edges {
 
     /// Compares the hash of a message, and the hash by a stream in one write.
     fn whole<P: Port, O: Side>(&mut self, bytes: &[u8], seed: u64) {
-        let input = |call| format!("version {}, {call} with seed {seed:#x} of {}", P::VERSION, hex(bytes));
+        let input =
+            |call| format!("version {}, {call} with seed {seed:#x} of {}", P::VERSION, hex(bytes));
         self.same(O::hash(bytes, seed), P::hash(bytes, seed), || input("hash"));
-        let by = |stream: fn(&[u8], &[usize], &mut [u64], u64) -> u64| stream(bytes, &[], &mut [], seed);
+        let by =
+            |stream: fn(&[u8], &[usize], &mut [u64], u64) -> u64| stream(bytes, &[], &mut [], seed);
         self.same(by(O::stream), by(P::stream), || input("stream"));
     }
 
@@ -105,8 +109,8 @@ impl Edges {
         }
     }
 
-    /// Compares streams that take a message in three parts: their answers after each part, and the answer of a stream
-    /// that is saved between the parts.
+    /// Compares streams that take a message in three parts: their answers after each part, and the
+    /// answer of a stream that is saved between the parts.
     fn cut<P: Port, O: Side>(&mut self, bytes: &[u8], first: usize, second: usize) {
         let seed = SEEDS[(first + second) % SEEDS.len()];
         let by = |stream: fn(&[u8], &[usize], &mut [u64], u64) -> u64| {
@@ -115,8 +119,8 @@ impl Edges {
             answers
         };
         let cuts = |call| {
-            let (version, bytes) = (P::VERSION, hex(bytes));
-            format!("version {version}, {call} with seed {seed:#x} of {bytes}, cut at {first} and {second}")
+            let message = format!("{}, cut at {first} and {second}", hex(bytes));
+            format!("version {}, {call} with seed {seed:#x} of {message}", P::VERSION)
         };
         let wanted = by(O::stream);
         self.same(wanted, by(P::stream), || cuts("stream"));

@@ -1,17 +1,17 @@
-//! Compares the port with the Rust crate on random inputs. Padded words and saved texts, which the Rust crate lacks,
-//! are compared with rules.rs.
+//! Compares the port with the Rust crate on random inputs. Padded words and saved texts, which the
+//! Rust crate lacks, are compared with rules.rs.
 use crate::input::{Input, Random};
 use crate::original::{OriginalFive, OriginalFour};
 use crate::parts;
 use crate::port::{PortFive, PortFour};
 use crate::rules::{is_text, padded, text_without_lanes, unpadded};
-use crate::side::{Piece, Port, Side};
+use crate::side::{FromC, Piece, Port, Side};
 use std::fmt::Debug;
 
 type Found = Result<(), String>;
 
-/// Tries cases up to the first difference, and returns whether there was none. Each case is drawn from the seed and
-/// its number.
+/// Tries cases up to the first difference, and returns whether there was none. Each case is drawn
+/// from the seed and its number.
 pub fn run(seed: u64, count: u64) -> bool {
     for number in 0..count {
         let mut random = Random(Random(seed).word() ^ number);
@@ -21,7 +21,8 @@ pub fn run(seed: u64, count: u64) -> bool {
             _ => (4, case::<PortFour, OriginalFour>(&input, &mut random)),
         };
         if let Err(difference) = found {
-            println!("case {number}, version {version}: {difference}\ninput: {input}\n{number} passed, 1 failed");
+            println!("case {number}, version {version}: {difference}\ninput: {input}");
+            println!("{number} passed, 1 failed");
             return false;
         }
     }
@@ -29,12 +30,13 @@ pub fn run(seed: u64, count: u64) -> bool {
     true
 }
 
-fn case<P: Port, O: Side>(input: &Input, random: &mut Random) -> Found {
+fn case<P: Port, O: Side + FromC>(input: &Input, random: &mut Random) -> Found {
     hashes::<P, O>(input)?;
     streams::<P, O>(input)?;
     chains::<P, O>(input)?;
     outputs::<P, O>(input, random.below(40))?;
     fills::<P, O>(input)?;
+    generators::<P, O>(input)?;
     pads::<P>(input, random)?;
     unpads::<P>(input, random)?;
     saves::<P, O>(input)?;
@@ -83,10 +85,11 @@ fn outputs<P: Port, O: Side>(input: &Input, count: usize) -> Found {
 }
 
 fn fills<P: Port, O: Side>(input: &Input) -> Found {
-    let by = |fills: fn(&mut [u8], &[usize], u64, u64, u32) -> u64, pieces: &[usize], start: u32| {
-        let mut out = input.bytes().to_vec();
-        (fills(&mut out, pieces, input.s1, input.s2, start), out)
-    };
+    let by =
+        |fills: fn(&mut [u8], &[usize], u64, u64, u32) -> u64, pieces: &[usize], start: u32| {
+            let mut out = input.bytes().to_vec();
+            (fills(&mut out, pieces, input.s1, input.s2, start), out)
+        };
     let (pieces, start) = (&input.pieces, input.start);
     same("fills, next output and bytes", by(O::fills, pieces, start), by(P::fills, pieces, start))?;
     let whole = [input.bytes().len()];
@@ -95,6 +98,19 @@ fn fills<P: Port, O: Side>(input: &Input) -> Found {
     same("fill", by(O::fills, &whole, 0).1, out.clone())?;
     P::fill_seeded(&mut out, input.s1, input.s2);
     same("seeded fill", by(O::fills, &whole, 2).1, out)
+}
+
+/// Fills of the pieces by a generator in memory, each with an output after it.
+fn generators<P: FromC, O: FromC>(input: &Input) -> Found {
+    let (mut x, mut y) = (O::generator(input.s1), P::generator(input.s1));
+    for piece in &input.pieces {
+        let (mut wanted, mut got) = (vec![0; *piece], vec![0; *piece]);
+        O::next_bytes(&mut x, &mut wanted);
+        P::next_bytes(&mut y, &mut got);
+        same("fill of a generator in memory", wanted, got)?;
+        same("output of a generator in memory", O::next(&mut x), P::next(&mut y))?;
+    }
+    Ok(())
 }
 
 fn pads<P: Port>(input: &Input, random: &mut Random) -> Found {
@@ -126,7 +142,11 @@ fn unpads<P: Port>(input: &Input, random: &mut Random) -> Found {
         wanted[..message.len()].copy_from_slice(message);
     }
     let got = P::unpad(&words, &mut out);
-    same(&format!("unpad {words:x?}, length and bytes"), (message.map(|it| it.len()), wanted), (got, out))
+    same(
+        &format!("unpad {words:x?}, length and bytes"),
+        (message.map(|it| it.len()), wanted),
+        (got, out),
+    )
 }
 
 /// The saved text of the stream after the whole message, piece by piece.

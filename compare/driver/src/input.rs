@@ -111,7 +111,16 @@ impl Input {
         let pieces = random.pieces(length);
         let answers = random.below(pieces.len() + 1);
         let start = random.below(3) as u32;
-        Input { seed: random.number(), pieces, answers, s1: random.number(), s2: random.number(), start, room, from }
+        Input {
+            seed: random.number(),
+            pieces,
+            answers,
+            s1: random.number(),
+            s2: random.number(),
+            start,
+            room,
+            from,
+        }
     }
 
     /// The message. It lies at any alignment.
@@ -136,6 +145,13 @@ impl Input {
 impl fmt::Display for Input {
     fn fmt(&self, f: &mut fmt::Formatter) -> fmt::Result {
         write!(f, "seed {:#x}, pieces {:?}, answers {}", self.seed, self.pieces, self.answers)?;
-        write!(f, ", generator ({:#x}, {:#x}) start {}, message {}", self.s1, self.s2, self.start, hex(self.bytes()))
+        write!(
+            f,
+            ", generator ({:#x}, {:#x}) start {}, message {}",
+            self.s1,
+            self.s2,
+            self.start,
+            hex(self.bytes())
+        )
     }
 }

@@ -1,15 +1,19 @@
 //! The port beside the Rust crate: see ../README.md.
 mod answers;
-mod bench;
+mod count;
 mod edges;
 mod fuzz;
 mod input;
 mod original;
 mod parts;
+mod peers;
 mod port;
+mod rows;
 mod rules;
 mod side;
+mod time;
 
+use rows::Measure;
 use std::process::ExitCode;
 
 fn main() -> ExitCode {
@@ -19,7 +23,9 @@ fn main() -> ExitCode {
         Some(true) => ExitCode::SUCCESS,
         Some(false) => ExitCode::FAILURE,
         None => {
-            eprintln!("usage: answers | edges | fuzz SEED N | bench REPEATS WORD");
+            eprintln!(
+                "usage: answers | edges | fuzz SEED N | bench REPEATS WORD | count | peers REPEATS"
+            );
             ExitCode::from(2)
         }
     }
@@ -29,10 +35,18 @@ fn main() -> ExitCode {
 fn run(arguments: &[&str]) -> Option<bool> {
     match *arguments {
         ["answers"] => answers::print(),
-        ["bench", repeats, word] => bench::run(repeats.parse().ok().filter(|it| *it > 0)?, word),
+        ["bench", repeats, word] => {
+            rows::print(Measure::Time { repeats: positive(repeats)? }, word)
+        }
+        ["count"] => rows::print(Measure::Count, ""),
+        ["peers", repeats] => peers::run(positive(repeats)?),
         ["edges"] => return Some(edges::run()),
         ["fuzz", seed, count] => return Some(fuzz::run(seed.parse().ok()?, count.parse().ok()?)),
         _ => return None,
     }
     Some(true)
+}
+
+fn positive(number: &str) -> Option<u64> {
+    number.parse().ok().filter(|it| *it > 0)
 }

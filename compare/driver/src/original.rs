@@ -1,76 +1,116 @@
-//! The Rust crate, in the same loops as the port's. None is inlined, since none of the port's is.
-use crate::side::{FromC, Piece, Side};
+//! The Rust crate, in the same loops as the port's, by functions that take what the port's take.
+//! None is inlined, since none of the port's is.
+use crate::side::{Piece, both_have};
+use std::arch::asm;
 
-/// A slice from a pointer and a length, with the test for null that the port's functions make for callers in C.
+/// Returns a pointer that isn't null, by the test that the port's functions make for callers in C.
 #[inline(always)]
-fn slice<'a, T>(items: *const T, length: usize) -> &'a [T] {
+fn tested<T>(mut items: *const T) -> *const T {
+    // SAFETY: there is no instruction in it. It hides where the pointer comes from: a compiler
+    // that sees that no caller passes null drops the test, on this side alone.
+    unsafe { asm!("/* {0} */", inout(reg) items, options(pure, readonly, nostack)) };
+    items.wrapping_byte_add((items.is_null() as usize) << 12)
+}
+
+/// Returns the slice of a pointer and a length, of which the pointer is tested.
+#[inline(always)]
+unsafe fn slice<'a, T>(items: *const T, length: usize) -> &'a [T] {
     // SAFETY: the callers pass those of a slice.
-    unsafe { std::slice::from_raw_parts(items.wrapping_byte_add((items.is_null() as usize) << 12), length) }
+    unsafe { std::slice::from_raw_parts(tested(items), length) }
+}
+
+/// Returns the slice of a pointer and a length, of which the pointer is tested.
+#[inline(always)]
+unsafe fn slice_mut<'a, T>(items: *mut T, length: usize) -> &'a mut [T] {
+    // SAFETY: the callers pass those of a slice that they alone have.
+    unsafe { std::slice::from_raw_parts_mut(tested(items).cast_mut(), length) }
 }
 
 macro_rules! original {
     ($name:ident, $module:ident) => {
-        mod $module {
-            use super::Piece;
+        // The functions are called by `both_have`, which says why that is safe.
+        #[allow(improper_ctypes_definitions, reason = "only this driver calls them")]
+        pub mod $module {
+            use super::{Piece, slice, slice_mut};
             use komihash::$module::{KomiHasher, Komirand, StreamedKomihash, komihash};
             use std::hash::Hasher;
 
+            pub type Stream = StreamedKomihash;
+            pub type Generator = Komirand;
+
             #[inline(never)]
-            pub extern "C" fn start(seed: u64) -> Box<StreamedKomihash> {
-                Box::new(StreamedKomihash::new_with_seed(seed))
+            pub unsafe extern "C" fn hash(bytes: *const u8, length: usize, seed: u64) -> u64 {
+                komihash(unsafe { slice(bytes, length) }, seed)
             }
 
             #[inline(never)]
-            pub extern "C" fn write(stream: &mut StreamedKomihash, bytes: *const u8, length: usize) {
-                stream.write(super::slice(bytes, length));
+            pub unsafe extern "C" fn start(seed: u64) -> Stream {
+                StreamedKomihash::new_with_seed(seed)
             }
 
             #[inline(never)]
-            pub extern "C" fn write_pieces(stream: &mut StreamedKomihash, pieces: *const Piece, count: usize) {
-                for piece in super::slice(pieces, count) {
+            pub unsafe extern "C" fn write(stream: &mut Stream, bytes: *const u8, length: usize) {
+                stream.write(unsafe { slice(bytes, length) });
+            }
+
+            #[inline(never)]
+            pub unsafe extern "C" fn write_pieces(
+                stream: &mut Stream,
+                pieces: *const Piece,
+                count: usize,
+            ) {
+                for piece in unsafe { slice(pieces, count) } {
                     stream.write(piece.bytes());
                 }
             }
 
             #[inline(never)]
-            pub extern "C" fn finish(stream: &StreamedKomihash) -> u64 {
+            pub unsafe extern "C" fn finish(stream: &Stream) -> u64 {
                 stream.finish()
             }
 
             #[inline(never)]
-            pub extern "C" fn free(stream: Box<StreamedKomihash>) {
-                drop(stream);
-            }
-
-            #[inline(never)]
-            pub extern "C" fn pieces(pieces: *const Piece, count: usize, seed: u64) -> u64 {
+            pub unsafe extern "C" fn pieces(pieces: *const Piece, count: usize, seed: u64) -> u64 {
                 let mut stream = StreamedKomihash::new_with_seed(seed);
-                for piece in super::slice(pieces, count) {
+                for piece in unsafe { slice(pieces, count) } {
                     stream.write(piece.bytes());
                 }
                 stream.finish()
             }
 
-            /// A stream on the heap, as a library that allocates would keep it for C.
-            pub struct Stream(pub Option<Box<StreamedKomihash>>);
-
-            impl Drop for Stream {
-                #[inline(always)]
-                fn drop(&mut self) {
-                    free(self.0.take().unwrap());
-                }
+            #[inline(never)]
+            pub unsafe extern "C" fn rand_init(seed: u64) -> Generator {
+                Komirand::init(seed)
             }
 
             #[inline(never)]
-            pub extern "C" fn hash(bytes: *const u8, length: usize, seed: u64) -> u64 {
-                komihash(super::slice(bytes, length), seed)
+            pub unsafe extern "C" fn rand_next(generator: &mut Generator) -> u64 {
+                generator.next()
             }
 
             #[inline(never)]
-            pub fn stream(bytes: &[u8], pieces: &[usize], answers: &mut [u64], seed: u64) -> u64 {
+            pub unsafe extern "C" fn rand_fill(
+                generator: &mut Generator,
+                out: *mut u8,
+                length: usize,
+            ) {
+                generator.fill_bytes(unsafe { slice_mut(out, length) });
+            }
+
+            #[inline(never)]
+            pub unsafe extern "C" fn stream(
+                bytes: *const u8,
+                length: usize,
+                pieces: *const usize,
+                count: usize,
+                answers: *mut u64,
+                room: usize,
+                seed: u64,
+            ) -> u64 {
+                let mut left = unsafe { slice(bytes, length) };
+                let answers = unsafe { slice_mut(answers, room) };
                 let mut stream = StreamedKomihash::new_with_seed(seed);
-                let mut left = bytes;
-                for (i, piece) in pieces.iter().enumerate() {
+                for (i, piece) in unsafe { slice(pieces, count) }.iter().enumerate() {
                     let (next, others) = left.split_at(left.len().min(*piece));
                     stream.write(next);
                     left = others;
@@ -83,10 +123,16 @@ macro_rules! original {
             }
 
             #[inline(never)]
-            pub fn chain(bytes: &[u8], pieces: &[usize], seed: u64) -> u64 {
+            pub unsafe extern "C" fn chain(
+                bytes: *const u8,
+                length: usize,
+                pieces: *const usize,
+                count: usize,
+                seed: u64,
+            ) -> u64 {
+                let mut left = unsafe { slice(bytes, length) };
                 let mut hasher = KomiHasher::new(seed);
-                let mut left = bytes;
-                for piece in pieces {
+                for piece in unsafe { slice(pieces, count) } {
                     let (next, others) = left.split_at(left.len().min(*piece));
                     hasher.write(next);
                     left = others;
@@ -103,18 +149,32 @@ macro_rules! original {
             }
 
             #[inline(never)]
-            pub fn outputs(out: &mut [u64], s1: u64, s2: u64, start: u32) {
+            pub unsafe extern "C" fn outputs(
+                out: *mut u64,
+                length: usize,
+                s1: u64,
+                s2: u64,
+                start: u32,
+            ) {
                 let mut generator = generator(s1, s2, start);
-                for word in out {
+                for word in unsafe { slice_mut(out, length) } {
                     *word = generator.next();
                 }
             }
 
             #[inline(never)]
-            pub fn fills(out: &mut [u8], pieces: &[usize], s1: u64, s2: u64, start: u32) -> u64 {
+            pub unsafe extern "C" fn fills(
+                out: *mut u8,
+                length: usize,
+                pieces: *const usize,
+                count: usize,
+                s1: u64,
+                s2: u64,
+                start: u32,
+            ) -> u64 {
+                let mut left = unsafe { slice_mut(out, length) };
                 let mut generator = generator(s1, s2, start);
-                let mut left = out;
-                for piece in pieces {
+                for piece in unsafe { slice(pieces, count) } {
                     let length = left.len().min(*piece);
                     let (next, others) = left.split_at_mut(length);
                     generator.fill_bytes(next);
@@ -127,49 +187,7 @@ macro_rules! original {
         /// One version of the hash, by the Rust crate.
         pub struct $name;
 
-        impl FromC for $name {
-            type Stream = $module::Stream;
-
-            #[inline(always)]
-            fn start(seed: u64) -> Self::Stream {
-                $module::Stream(Some($module::start(seed)))
-            }
-            #[inline(always)]
-            fn write(stream: &mut Self::Stream, bytes: &[u8]) {
-                $module::write(stream.0.as_mut().unwrap(), bytes.as_ptr(), bytes.len());
-            }
-            #[inline(always)]
-            fn write_pieces(stream: &mut Self::Stream, pieces: &[Piece]) {
-                $module::write_pieces(stream.0.as_mut().unwrap(), pieces.as_ptr(), pieces.len());
-            }
-            #[inline(always)]
-            fn finish(stream: &Self::Stream) -> u64 {
-                $module::finish(stream.0.as_ref().unwrap())
-            }
-            #[inline(always)]
-            fn pieces(pieces: &[Piece], seed: u64) -> u64 {
-                $module::pieces(pieces.as_ptr(), pieces.len(), seed)
-            }
-        }
-
-        impl Side for $name {
-            #[inline(always)]
-            fn hash(bytes: &[u8], seed: u64) -> u64 {
-                $module::hash(bytes.as_ptr(), bytes.len(), seed)
-            }
-            fn stream(bytes: &[u8], pieces: &[usize], answers: &mut [u64], seed: u64) -> u64 {
-                $module::stream(bytes, pieces, answers, seed)
-            }
-            fn chain(bytes: &[u8], pieces: &[usize], seed: u64) -> u64 {
-                $module::chain(bytes, pieces, seed)
-            }
-            fn outputs(out: &mut [u64], s1: u64, s2: u64, start: u32) {
-                $module::outputs(out, s1, s2, start)
-            }
-            fn fills(out: &mut [u8], pieces: &[usize], s1: u64, s2: u64, start: u32) -> u64 {
-                $module::fills(out, pieces, s1, s2, start)
-            }
-        }
+        both_have!($name, $module);
     };
 }
 

@@ -10,7 +10,8 @@ struct Parts<const VERSION: u8> {
     fill: usize,
 }
 
-/// Saves and resumes the stream of a text `count` times, and returns the length of its text after that.
+/// Saves and resumes the stream of a text `count` times, and returns the length of its text after
+/// that.
 pub fn saves(version: u8, text: &[u8], out: &mut [u8; 131], count: usize) -> Option<usize> {
     let saves = if version == 4 { Parts::<4>::saves } else { Parts::<5>::saves };
     saves(text, out, count)
@@ -35,7 +36,12 @@ impl<const VERSION: u8> Parts<VERSION> {
     /// Writes the text, and returns its length.
     #[inline]
     fn save(&self, out: &mut [u8; 131]) -> usize {
-        out[..4].copy_from_slice(&[VERSION, self.has_block as u8, self.top_bit as u8, self.fill as u8]);
+        out[..4].copy_from_slice(&[
+            VERSION,
+            self.has_block as u8,
+            self.top_bit as u8,
+            self.fill as u8,
+        ]);
         for (lane, bytes) in self.lanes.iter().zip(out[4..68].chunks_exact_mut(8)) {
             bytes.copy_from_slice(&lane.to_le_bytes());
         }

@@ -1,10 +1,13 @@
 //! The port, by its static libraries. A slice is passed as a pointer and a length.
-use crate::side::{FromC, Once, Piece, Port, Side, Stream};
+use crate::side::{FromC, Generator, Once, Piece, Port, Stream, both_have};
 
 macro_rules! port {
     ($name:ident, $module:ident, $version:literal) => {
-        mod $module {
-            use super::{Once, Piece, Stream};
+        // The declarations fit those of `komihash_rattle.h` and of the crate komihash_loops.
+        pub mod $module {
+            pub type Stream = super::Stream;
+            pub type Generator = super::Generator;
+            use super::{Once, Piece};
 
             unsafe extern "C" {
                 #[link_name = concat!("komihash_v", $version)]
@@ -23,6 +26,12 @@ macro_rules! port {
                 pub fn save(stream: *const Stream, text: *mut u8, room: usize) -> usize;
                 #[link_name = concat!("komihash_v", $version, "_resume")]
                 pub fn resume(stream: *mut Stream, text: *const u8, length: usize) -> bool;
+                #[link_name = concat!("komihash_v", $version, "_rand_init")]
+                pub fn rand_init(seed: u64) -> Generator;
+                #[link_name = concat!("komihash_v", $version, "_rand_next")]
+                pub fn rand_next(generator: *mut Generator) -> u64;
+                #[link_name = concat!("komihash_v", $version, "_rand_fill")]
+                pub fn rand_fill(generator: *mut Generator, out: *mut u8, length: usize);
                 #[link_name = concat!("komihash_v", $version, "_fill")]
                 pub fn fill(out: *mut u8, length: usize, s1: u64, s2: u64);
                 #[link_name = concat!("komihash_v", $version, "_fill_seeded")]
@@ -52,9 +61,21 @@ macro_rules! port {
                     seed: u64,
                 ) -> u64;
                 #[link_name = concat!("loop_v", $version, "_saves")]
-                pub fn saves(bytes: *const u8, length: usize, text: *mut [u8; 131], count: usize, seed: u64) -> u64;
+                pub fn saves(
+                    bytes: *const u8,
+                    length: usize,
+                    text: *mut [u8; 131],
+                    count: usize,
+                    seed: u64,
+                ) -> u64;
                 #[link_name = concat!("loop_v", $version, "_chain")]
-                pub fn chain(bytes: *const u8, length: usize, pieces: *const usize, count: usize, seed: u64) -> u64;
+                pub fn chain(
+                    bytes: *const u8,
+                    length: usize,
+                    pieces: *const usize,
+                    count: usize,
+                    seed: u64,
+                ) -> u64;
                 #[link_name = concat!("loop_v", $version, "_outputs")]
                 pub fn outputs(out: *mut u64, length: usize, s1: u64, s2: u64, start: u32);
                 #[link_name = concat!("loop_v", $version, "_fills")]
@@ -75,77 +96,17 @@ macro_rules! port {
         /// One version of the hash, by the port.
         pub struct $name;
 
-        // SAFETY, for every call: the declarations above fit the library's, and each pointer and length are those of
-        // a slice, each other pointer that of a value, which is borrowed for the call.
-        impl Side for $name {
-            #[inline(always)]
-            fn hash(bytes: &[u8], seed: u64) -> u64 {
-                unsafe { $module::hash(bytes.as_ptr(), bytes.len(), seed) }
-            }
-            fn stream(bytes: &[u8], pieces: &[usize], answers: &mut [u64], seed: u64) -> u64 {
-                unsafe {
-                    $module::stream(
-                        bytes.as_ptr(),
-                        bytes.len(),
-                        pieces.as_ptr(),
-                        pieces.len(),
-                        answers.as_mut_ptr(),
-                        answers.len(),
-                        seed,
-                    )
-                }
-            }
-            fn chain(bytes: &[u8], pieces: &[usize], seed: u64) -> u64 {
-                unsafe { $module::chain(bytes.as_ptr(), bytes.len(), pieces.as_ptr(), pieces.len(), seed) }
-            }
-            fn outputs(out: &mut [u64], s1: u64, s2: u64, start: u32) {
-                unsafe { $module::outputs(out.as_mut_ptr(), out.len(), s1, s2, start) }
-            }
-            fn fills(out: &mut [u8], pieces: &[usize], s1: u64, s2: u64, start: u32) -> u64 {
-                unsafe { $module::fills(out.as_mut_ptr(), out.len(), pieces.as_ptr(), pieces.len(), s1, s2, start) }
-            }
-        }
+        both_have!($name, $module);
 
-        impl FromC for $name {
-            type Stream = Stream;
-
-            #[inline(always)]
-            fn start(seed: u64) -> Stream {
-                unsafe { $module::start(seed) }
-            }
-            #[inline(always)]
-            fn write(stream: &mut Stream, bytes: &[u8]) {
-                unsafe { $module::write(stream, bytes.as_ptr(), bytes.len()) }
-            }
-            #[inline(always)]
-            fn write_pieces(stream: &mut Stream, pieces: &[Piece]) {
-                unsafe { $module::write_pieces(stream, pieces.as_ptr(), pieces.len()) }
-            }
-            #[inline(always)]
-            fn finish(stream: &Stream) -> u64 {
-                unsafe { $module::finish(stream) }
-            }
-            #[inline(always)]
-            fn pieces(pieces: &[Piece], seed: u64) -> u64 {
-                unsafe { $module::pieces(pieces.as_ptr(), pieces.len(), seed) }
-            }
-        }
-
+        // SAFETY, for every call: as in `both_have`.
         impl Port for $name {
             const VERSION: u8 = $version;
 
             fn calls(bytes: &[u8], pieces: &[usize], answers: &mut [u64], seed: u64) -> u64 {
-                unsafe {
-                    $module::calls(
-                        bytes.as_ptr(),
-                        bytes.len(),
-                        pieces.as_ptr(),
-                        pieces.len(),
-                        answers.as_mut_ptr(),
-                        answers.len(),
-                        seed,
-                    )
-                }
+                let (bytes, length) = (bytes.as_ptr(), bytes.len());
+                let (answers, room) = (answers.as_mut_ptr(), answers.len());
+                let (pieces, count) = (pieces.as_ptr(), pieces.len());
+                unsafe { $module::calls(bytes, length, pieces, count, answers, room, seed) }
             }
             fn once(bytes: &[u8], seed: u64) -> Once {
                 let mut once = Once::default();
@@ -175,7 +136,9 @@ macro_rules! port {
                 unsafe { $module::pad(bytes.as_ptr(), bytes.len(), out.as_mut_ptr(), out.len()) }
             }
             fn unpad(words: &[u64], out: &mut [u8]) -> Option<usize> {
-                let length = unsafe { $module::unpad(words.as_ptr(), words.len(), out.as_mut_ptr(), out.len()) };
+                let length = unsafe {
+                    $module::unpad(words.as_ptr(), words.len(), out.as_mut_ptr(), out.len())
+                };
                 (length != usize::MAX).then_some(length)
             }
         }

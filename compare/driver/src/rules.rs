@@ -12,7 +12,9 @@ pub fn padded(version: u8, bytes: &[u8]) -> Vec<u64> {
 /// The message that has these padded words, if there is one. It is found by trying every length.
 pub fn unpadded(version: u8, words: &[u64]) -> Option<Vec<u8>> {
     let all: Vec<u8> = words.iter().flat_map(|word| word.to_le_bytes()).collect();
-    (0..=all.len()).map(|length| all[..length].to_vec()).find(|bytes| padded(version, bytes) == words)
+    (0..=all.len())
+        .map(|length| all[..length].to_vec())
+        .find(|bytes| padded(version, bytes) == words)
 }
 
 /// Whether a text is that of a stream of this version.
@@ -25,7 +27,8 @@ pub fn is_text(version: u8, text: &[u8]) -> bool {
         && text.len() == 68 + usize::from(text[3])
 }
 
-/// What the text of a stream that absorbed a message shows beside its lanes: the first four bytes and the pending ones.
+/// What the text of a stream that absorbed a message shows beside its lanes: the first four bytes
+/// and the pending ones.
 pub fn text_without_lanes(version: u8, bytes: &[u8]) -> Vec<u8> {
     let (blocks, pending) = bytes.split_at(bytes.len() - bytes.len() % 64);
     let top_bit = version == 4 && blocks.last().is_some_and(|last| *last >= 128);

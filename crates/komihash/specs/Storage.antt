@@ -52,9 +52,9 @@ tail_end v [] absorbed top_bit = end_after_blocks absorbed top_bit
 -- ---- a pair: the low half of a product stays apart from the word that it is xored with, until the
 -- next factor is made, which makes the way from one product to the next one xor shorter
 
--- the pair (a, e) that the code stores as `low`, which is a xor e, and e
+-- the pair (a, e) that the code stores as a xor e, and e
 abbrev pub pair_of : Pair → ℕ × ℕ
-pair_of p = (bit_xor p.e p.low, p.e)
+pair_of p = (bit_xor p.1 p.0, p.1)
 
 -- ---- pending bytes: in eight words, with zeros after the last byte
 

@@ -21,22 +21,26 @@ pub(crate) mod tail;
 
 // The hash's eight constants: the first 512 bits of the fractional part of π.
 const C1: u64 = 0x243f_6a88_85a3_08d3;
+
 const C2: u64 = 0x1319_8a2e_0370_7344;
+
 const C3: u64 = 0xa409_3822_299f_31d0;
+
 const C4: u64 = 0x082e_fa98_ec4e_6c89;
+
 const C5: u64 = 0x4528_21e6_38d0_1377;
+
 const C6: u64 = 0xbe54_66cf_34e9_0c6c;
+
 const C7: u64 = 0xc0ac_29b7_c97c_50dd;
+
 const C8: u64 = 0x3f84_d5b5_b547_0917;
 
-/// A pair (a, e) as the code stores it: the word e, and a xor e. After a `mix`, this is the low half
-/// of the product. The word a itself is computed only for a factor, and as the hash.
+/// A pair (a, e) as the code stores it: a xor e, and e. After a `mix`, a xor e is the low half of the
+/// product. The word a itself is computed only for a factor, and as the hash.
 #[derive(Clone, Copy)]
 #[repr(C)]
-pub(crate) struct Pair {
-    low: u64,
-    e: u64,
-}
+pub(crate) struct Pair(u64, u64);
 
 /// The eight lanes as the code stores them: four pairs in a ring, one for each product of a block.
 ///
@@ -60,26 +64,30 @@ impl Model for Lanes {
     ghost Value = { Lanes };
 
     ghost view = { λ l. record {
-      s1 = bit_xor l.fourth.e l.first.low;
-      s2 = bit_xor l.first.e l.second.low;
-      s3 = bit_xor l.second.e l.third.low;
-      s4 = bit_xor l.third.e l.fourth.low;
-      s5 = l.first.e;
-      s6 = l.second.e;
-      s7 = l.third.e;
-      s8 = l.fourth.e;
+      s1 = bit_xor l.fourth.1 l.first.0;
+      s2 = bit_xor l.first.1 l.second.0;
+      s3 = bit_xor l.second.1 l.third.0;
+      s4 = bit_xor l.third.1 l.fourth.0;
+      s5 = l.first.1;
+      s6 = l.second.1;
+      s7 = l.third.1;
+      s8 = l.fourth.1;
     } };
 
     ghost inverse = { λ s. record {
-      fourth = record { low = bit_xor s.s7 s.s4; e = s.s8; };
-      first = record { low = bit_xor s.s8 s.s1; e = s.s5; };
-      second = record { low = bit_xor s.s5 s.s2; e = s.s6; };
-      third = record { low = bit_xor s.s6 s.s3; e = s.s7; };
+      fourth = record { 0 = bit_xor s.s7 s.s4; 1 = s.s8 };
+      first = record { 0 = bit_xor s.s8 s.s1; 1 = s.s5 };
+      second = record { 0 = bit_xor s.s5 s.s2; 1 = s.s6 };
+      third = record { 0 = bit_xor s.s6 s.s3; 1 = s.s7 };
     } };
 
     ghost inverse_ok = { λ l _.
-        rw (xor_again l.third.e l.fourth.low, xor_again l.fourth.e l.first.low,
-            xor_again l.first.e l.second.low, xor_again l.second.e l.third.low) refl };
+        rw (
+          xor_again l.third.1 l.fourth.0,
+          xor_again l.fourth.1 l.first.0,
+          xor_again l.first.1 l.second.0,
+          xor_again l.second.1 l.third.0,
+        ) refl };
 }
 
 /// Mixes the product of `x` and `y` into the word `e`, and returns the pair.
@@ -87,15 +95,12 @@ impl Model for Lanes {
 #[tactic(auto, unfolding(crate::specs::Rounds::mix))]
 pub(crate) fn mix(x: u64, y: u64, e: u64, tally: &mut Tally) -> Pair
     ensures pair { pair_of result ≡ mix x y e }
-    ensures low { result.low ≡ low (x * y) }
-    ensures raised { result.e ≡ plus e (high (x * y)) }
+    ensures low { result.0 ≡ low (x * y) }
+    ensures raised { result.1 ≡ plus e (high (x * y)) }
     ensures costs { Costs tally 1 0 }
 {
     let (low, high) = multiply128(x, y, tally);
-    Pair {
-        low,
-        e: e.wrapping_add(high),
-    }
+    Pair(low, e.wrapping_add(high))
 }
 
 /// Returns the two words of a seed.
@@ -124,21 +129,12 @@ pub(crate) fn seed_pair(seed: u64, tally: &mut Tally) -> Pair
 pub(crate) fn lanes_of(pair: Pair) -> Lanes
     ensures { result ≡ lanes (pair_of pair) }
 {
-    let Pair { low, e } = pair;
+    let Pair(low, e) = pair;
     Lanes {
-        first: Pair { low: C8 ^ low, e },
-        second: Pair {
-            low: C2 ^ low,
-            e: C6 ^ e,
-        },
-        third: Pair {
-            low: (C3 ^ C6) ^ low,
-            e: C7 ^ e,
-        },
-        fourth: Pair {
-            low: (C4 ^ C7) ^ low,
-            e: C8 ^ e,
-        },
+        fourth: Pair((C4 ^ C7) ^ low, C8 ^ e),
+        first: Pair(C8 ^ low, e),
+        second: Pair(C2 ^ low, C6 ^ e),
+        third: Pair((C3 ^ C6) ^ low, C7 ^ e),
     }
 }
 
@@ -147,22 +143,9 @@ pub(crate) fn lanes_of(pair: Pair) -> Lanes
 pub(crate) fn in_order(lanes: &Lanes) -> [u64; 8]
     ensures { result ≡ in_order lanes.now }
 {
-    let Lanes {
-        fourth,
-        first,
-        second,
-        third,
-    } = *lanes;
-    [
-        fourth.e ^ first.low,
-        first.e ^ second.low,
-        second.e ^ third.low,
-        third.e ^ fourth.low,
-        first.e,
-        second.e,
-        third.e,
-        fourth.e,
-    ]
+    let (Pair(low4, e4), Pair(low1, e1)) = (lanes.fourth, lanes.first);
+    let (Pair(low2, e2), Pair(low3, e3)) = (lanes.second, lanes.third);
+    [e4 ^ low1, e1 ^ low2, e2 ^ low3, e3 ^ low4, e1, e2, e3, e4]
 }
 
 /// Returns the lanes from their words in that order.
@@ -173,22 +156,10 @@ pub(crate) fn from_order(lanes: &[u64; 8]) -> Lanes
 {
     let [s1, s2, s3, s4, s5, s6, s7, s8] = *lanes;
     Lanes {
-        fourth: Pair {
-            low: s7 ^ s4,
-            e: s8,
-        },
-        first: Pair {
-            low: s8 ^ s1,
-            e: s5,
-        },
-        second: Pair {
-            low: s5 ^ s2,
-            e: s6,
-        },
-        third: Pair {
-            low: s6 ^ s3,
-            e: s7,
-        },
+        fourth: Pair(s7 ^ s4, s8),
+        first: Pair(s8 ^ s1, s5),
+        second: Pair(s5 ^ s2, s6),
+        third: Pair(s6 ^ s3, s7),
     }
 }
 
@@ -218,24 +189,20 @@ pub(crate) fn block_round(
     ensures lanes { lanes.new ≡ block_round_by places lanes.old words.now }
     ensures costs { Costs tally 4 0 }
 {
-    let Lanes {
-        fourth,
-        first,
-        second,
-        third,
-    } = *lanes;
+    let (Pair(low4, e4), Pair(low1, e1)) = (lanes.fourth, lanes.first);
+    let (Pair(low2, e2), Pair(low3, e3)) = (lanes.second, lanes.third);
     let [p0, p1, p2, p3, p4, p5, p6, p7] = places;
     // These factors are made before the first product, so that no word e is needed after its own
     // sum. Each takes the low half of a product first, which is ready before the sum that follows.
     // In this order of products a block takes the fewest instructions.
-    let x2 = (words[p2] ^ second.low) ^ first.e;
-    let x3 = (words[p4] ^ third.low) ^ second.e;
-    let x1 = (words[p0] ^ first.low) ^ fourth.e;
-    let x4 = (words[p6] ^ fourth.low) ^ third.e;
-    lanes.second = mix(words[p3] ^ second.e, x2, second.e, tally);
-    lanes.third = mix(words[p5] ^ third.e, x3, third.e, tally);
-    lanes.first = mix(words[p1] ^ first.e, x1, first.e, tally);
-    lanes.fourth = mix(words[p7] ^ fourth.e, x4, fourth.e, tally);
+    let x2 = (words[p2] ^ low2) ^ e1;
+    let x3 = (words[p4] ^ low3) ^ e2;
+    let x1 = (words[p0] ^ low1) ^ e4;
+    let x4 = (words[p6] ^ low4) ^ e3;
+    lanes.second = mix(words[p3] ^ e2, x2, e2, tally);
+    lanes.third = mix(words[p5] ^ e3, x3, e3, tally);
+    lanes.first = mix(words[p1] ^ e1, x1, e1, tally);
+    lanes.fourth = mix(words[p7] ^ e4, x4, e4, tally);
 }
 
 // Returns the eight words of a block.
@@ -306,21 +273,11 @@ pub(crate) fn absorb_blocks<'a, const V: u8>(
 pub(crate) fn join(lanes: &Lanes, absorbed: bool) -> Pair
     ensures { pair_of result ≡ join absorbed lanes.now }
 {
-    let Lanes {
-        fourth,
-        first,
-        second,
-        third,
-    } = *lanes;
+    let (Pair(low4, e4), Pair(low1, e1)) = (lanes.fourth, lanes.first);
+    let (Pair(low2, e2), Pair(low3, e3)) = (lanes.second, lanes.third);
     if absorbed {
-        Pair {
-            low: first.low ^ second.low ^ third.low ^ fourth.low,
-            e: first.e ^ second.e ^ third.e ^ fourth.e,
-        }
+        Pair(low1 ^ low2 ^ low3 ^ low4, e1 ^ e2 ^ e3 ^ e4)
     } else {
-        Pair {
-            low: fourth.e ^ first.low ^ first.e,
-            e: first.e,
-        }
+        Pair(e4 ^ low1 ^ e1, e1)
     }
 }

@@ -52,7 +52,7 @@ pub(crate) fn pair_round(pair: Pair, w0: u64, w1: u64, tally: &mut Tally) -> Pai
     ensures pair { pair_of result ≡ pair_round (pair_of pair) w0 w1 }
     ensures costs { Costs tally 1 0 }
 {
-    let Pair { low, e } = pair;
+    let Pair(low, e) = pair;
     mix((w0 ^ low) ^ e, w1 ^ e, e, tally)
 }
 
@@ -62,8 +62,8 @@ fn mix_again(pair: Pair, tally: &mut Tally) -> u64
     ensures hash { result ≡ mix_again (pair_of pair) }
     ensures costs { Costs tally 1 0 }
 {
-    let Pair { low, e } = pair;
-    let Pair { low, e } = mix(e ^ low, e, e, tally);
+    let Pair(low, e) = pair;
+    let Pair(low, e) = mix(e ^ low, e, e, tally);
     e ^ low
 }
 
@@ -74,7 +74,7 @@ pub(crate) fn close_one(pair: Pair, word: u64, tally: &mut Tally) -> u64
     ensures hash { result ≡ closing (pair_of pair) (word ∷ []) }
     ensures costs { Costs tally 2 0 }
 {
-    let Pair { low, e } = pair;
+    let Pair(low, e) = pair;
     let mixed = mix((low ^ word) ^ e, e, e, tally);
     mix_again(mixed, tally)
 }
@@ -86,7 +86,7 @@ pub(crate) fn close_two(pair: Pair, word: u64, last: u64, tally: &mut Tally) -> 
     ensures hash { result ≡ closing (pair_of pair) (word ∷ last ∷ []) }
     ensures costs { Costs tally 2 0 }
 {
-    let Pair { low, e } = pair;
+    let Pair(low, e) = pair;
     let mixed = mix((low ^ word) ^ e, e ^ last, e, tally);
     mix_again(mixed, tally)
 }

@@ -16,7 +16,6 @@ use crate::rounds::pending::Pending;
 use crate::rounds::tail::{close_one, hash_from_pair};
 use crate::rounds::{Lanes, absorb_blocks, block_round, join, lanes_of, places, seed_pair};
 use crate::tally::Tally;
-use crate::version::{IsVersion, Versions};
 use std::marker::Model;
 
 /// A stream as C keeps it: its type does not name its version, so each call does, and its fields lie
@@ -56,8 +55,6 @@ impl RawStream {
     /// Returns the new stream of a seed. Counts one product.
     #[inline(always)]
     pub fn start<const V: u8>(seed: u64, tally: &mut Tally) -> RawStream
-    where
-        Versions: IsVersion<V>,
         ensures state { result ≡ start seed }
         ensures is_state { IsState V result }
         ensures costs { Costs tally 1 0 }
@@ -74,8 +71,6 @@ impl RawStream {
     /// bytes that are copied.
     #[inline(always)]
     pub fn absorb<const V: u8>(&mut self, bytes: &[u8], tally: &mut Tally)
-    where
-        Versions: IsVersion<V>,
         ensures state { self.new ≡ absorb V self.old bytes.now }
         ensures is_state { IsState V self.old → IsState V self.new }
         ensures costs { Costs tally
@@ -93,8 +88,6 @@ impl RawStream {
     // there is one, and those after the last block.
     #[inline(never)]
     fn complete_blocks<const V: u8>(&mut self, bytes: &[u8], tally: &mut Tally)
-    where
-        Versions: IsVersion<V>,
         requires { 64 ≤ length self.old.pending + length bytes.now }
         ensures state { self.new ≡ absorb V self.old bytes.now }
         ensures costs { Costs tally
@@ -126,8 +119,6 @@ impl RawStream {
     /// for each 16 pending bytes.
     #[inline(always)]
     pub fn answer<const V: u8>(&self, tally: &mut Tally) -> u64
-    where
-        Versions: IsVersion<V>,
         ensures answer { result ≡ answer V self.now }
         ensures costs { Costs tally (answer_products (length self.now.pending)) 0 }
     {
@@ -146,8 +137,6 @@ impl RawStream {
     /// `out` needs room for `LONGEST_TEXT` bytes, whatever is pending.
     #[inline(always)]
     pub fn store<const V: u8>(&self, out: &mut [u8]) -> usize
-    where
-        Versions: IsVersion<V>,
         requires { LONGEST_TEXT ≤ length out.old }
         ensures length { result ≡ length (text V self.now) }
         ensures most { result ≤ LONGEST_TEXT }
@@ -162,8 +151,6 @@ impl RawStream {
     /// Returns whether bytes are the saved text of a stream of version V.
     #[inline(always)]
     pub fn is_text<const V: u8>(bytes: &[u8]) -> bool
-    where
-        Versions: IsVersion<V>,
         ensures text { IsTrue result ↔ IsText V bytes.now }
         ensures most { IsTrue result → length bytes.now ≤ LONGEST_TEXT }
     {
@@ -173,8 +160,6 @@ impl RawStream {
     /// Returns the stream that has these bytes as its saved text.
     #[inline(always)]
     pub fn of_text<const V: u8>(bytes: &[u8]) -> RawStream
-    where
-        Versions: IsVersion<V>,
         requires { IsText V bytes.now }
         ensures is_state { IsState V result }
         ensures text { text V result ≡ bytes.now }

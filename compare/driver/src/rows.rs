@@ -1,31 +1,45 @@
-//! Times the Rust crate and the port in turn. Each row that is printed has a group, a name, and the least time of
-//! each side in nanoseconds, with tabs between; ../table.py makes the tables.
+//! The rows of the tables: the calls that are timed or counted on both sides. Each row that is
+//! printed has a group, a name, and what is measured of the Rust crate and of the port, with tabs
+//! between; ../table.py makes the tables.
 use crate::original::{OriginalFive, OriginalFour};
 use crate::parts;
 use crate::port::{PortFive, PortFour};
 use crate::side::{FromC, Piece, Port, Side};
+use crate::{count, time};
 use std::hint::black_box;
-use std::time::Instant;
 
-/// Nanoseconds of a batch: short, so that both sides run at the same clock frequency.
-const BATCH: u128 = 60_000;
+const LENGTHS: [usize; 23] = [
+    0, 1, 3, 5, 7, 8, 12, 15, 16, 24, 31, 32, 40, 48, 63, 64, 96, 128, 256, 1024, 4096, 0x1_0000,
+    0x10_0000,
+];
 
-const LENGTHS: [usize; 21] =
-    [0, 1, 3, 5, 8, 12, 16, 24, 31, 32, 40, 48, 63, 64, 96, 128, 256, 1024, 4096, 1 << 16, 1 << 20];
+/// What is printed of a call: the nanoseconds of the fastest of several batches, or the
+/// instructions and the taken jumps.
+#[derive(Clone, Copy, PartialEq)]
+pub enum Measure {
+    Time { repeats: u64 },
+    Count,
+}
 
-struct Bench<'a> {
-    repeats: u64,
+struct Rows<'a> {
+    measure: Measure,
     word: &'a str,
     version: u8,
     bytes: &'a [u8],
 }
 
-pub fn run(repeats: u64, word: &str) {
+/// Prints the rows whose group and name contain a word.
+pub fn print(measure: Measure, word: &str) {
+    let bytes = message();
+    Rows { measure, word, version: 5, bytes }.all::<PortFive, OriginalFive>();
+    Rows { measure, word, version: 4, bytes }.all::<PortFour, OriginalFour>();
+}
+
+/// Returns 1 MiB that begins where a block of 64 bytes does.
+pub fn message() -> &'static [u8] {
     let room: Vec<u8> = (0..(1 << 20) + 64u64).map(|i| scattered(i) as u8).collect();
     let start = room.as_ptr().align_offset(64);
-    let bytes = &room[start..start + (1 << 20)];
-    Bench { repeats, word, version: 5, bytes }.all::<PortFive, OriginalFive>();
-    Bench { repeats, word, version: 4, bytes }.all::<PortFour, OriginalFour>();
+    &room.leak()[start..start + (1 << 20)]
 }
 
 /// A number that no branch predictor knows.
@@ -54,49 +68,52 @@ fn mixed_pieces(greatest: usize) -> Vec<usize> {
     pieces
 }
 
-/// Nanoseconds of `count` calls; each is passed its number.
-fn time<T>(count: u64, side: &mut impl FnMut(u64) -> T) -> u128 {
-    let start = Instant::now();
-    for i in 0..count {
-        black_box(side(i));
-    }
-    start.elapsed().as_nanos()
-}
-
-impl Bench<'_> {
+impl Rows<'_> {
     fn all<P: Port, O: Side + FromC>(&self) {
+        let is_timed = self.measure != Measure::Count;
         self.hashes::<P, O>();
-        self.chained_hashes::<P, O>();
-        self.mixed_hashes::<P, O>();
-        self.streams::<P, O>();
+        if is_timed {
+            self.chained_hashes::<P, O>();
+            self.mixed_hashes::<P, O>();
+            self.streams::<P, O>();
+        }
+        self.short_streams::<P, O>();
         self.streams_from_c::<P, O>();
         self.lists_from_c::<P, O>();
+        self.generators_from_c::<P, O>();
         self.generators::<P, O>();
-        self.saves::<P>();
-        self.words::<P>();
+        if is_timed {
+            self.saves::<P>();
+            self.words::<P>();
+        }
     }
 
-    /// Times both sides, and prints their row.
-    fn row<T, U>(&self, group: &str, name: &str, mut original: impl FnMut(u64) -> T, mut port: impl FnMut(u64) -> U) {
+    /// Measures both sides, and prints their row.
+    fn row<T, U>(
+        &self,
+        group: &str,
+        name: &str,
+        mut original: impl FnMut(u64) -> T,
+        mut port: impl FnMut(u64) -> U,
+    ) {
         let group = format!("v{} {group}", self.version);
         if !format!("{group} {name}").contains(self.word) {
             return;
         }
-        let mut count = 1;
-        while time(count, &mut original) < BATCH / 2 {
-            count *= 2;
-        }
-        let mut least = [u128::MAX; 2];
-        for _ in 0..self.repeats {
-            least = [least[0].min(time(count, &mut original)), least[1].min(time(count, &mut port))];
-        }
-        let [original, port] = least.map(|it| it as f64 / count as f64);
+        let [original, port] = match self.measure {
+            Measure::Time { repeats } => {
+                time::both(repeats, original, port).map(|it| it.to_string())
+            }
+            Measure::Count => [count::count(&mut original), count::count(&mut port)]
+                .map(|it| format!("{} {}", it.instructions, it.jumps)),
+        };
         println!("{group}\t{name}\t{original}\t{port}");
     }
 
     /// One length, with another seed at each call.
     fn hashes<P: Port, O: Side>(&self) {
-        for length in LENGTHS {
+        let greatest = if self.measure == Measure::Count { 1024 } else { 1 << 20 };
+        for length in LENGTHS.into_iter().filter(|length| *length <= greatest) {
             let bytes = &self.bytes[..length];
             let original = |i| O::hash(black_box(bytes), i);
             let port = |i| P::hash(black_box(bytes), i);
@@ -131,14 +148,28 @@ impl Bench<'_> {
         }
     }
 
-    /// 65,536 bytes in pieces of one length and of mixed lengths, and short messages in one piece.
+    /// 65,536 bytes in pieces of one length and of mixed lengths.
     fn streams<P: Port, O: Side>(&self) {
         for piece in [1, 3, 7, 8, 13, 16, 24, 32, 40, 64, 100, 250, 4096] {
-            self.stream::<P, O>("stream", &format!("64 KiB by {piece}"), 65536, &vec![piece; 65536 / piece]);
+            self.stream::<P, O>(
+                "stream",
+                &format!("64 KiB by {piece}"),
+                65536,
+                &vec![piece; 65536 / piece],
+            );
         }
         for greatest in [8, 32, 64, 300] {
-            self.stream::<P, O>("stream mixed", &format!("64 KiB by 1 to {greatest}"), 65536, &mixed_pieces(greatest));
+            self.stream::<P, O>(
+                "stream mixed",
+                &format!("64 KiB by 1 to {greatest}"),
+                65536,
+                &mixed_pieces(greatest),
+            );
         }
+    }
+
+    /// Short messages in one piece.
+    fn short_streams<P: Port, O: Side>(&self) {
         for length in [0, 5, 13, 40, 64, 100, 200] {
             self.stream::<P, O>("stream short", &size(length), length, &[]);
         }
@@ -151,7 +182,8 @@ impl Bench<'_> {
         self.row(group, name, original, port);
     }
 
-    /// One call on a stream that is kept in memory between calls, and all calls of a short message.
+    /// One call on a stream that is kept in memory between calls, and all calls of a short
+    /// message.
     fn streams_from_c<P: FromC, O: FromC>(&self) {
         for length in [1, 8, 16, 64, 256, 1000, 4096] {
             let bytes = &self.bytes[..length];
@@ -167,11 +199,12 @@ impl Bench<'_> {
             let (original, port) = (|_| O::finish(black_box(&x)), |_| P::finish(black_box(&y)));
             self.row("c finish", &format!("{pending} pending"), original, port);
         }
-        let (original, port) = (|i| self.from_start::<O>(i), |i| self.from_start::<P>(i));
+        let (original, port) = (|i| self.start_to_finish::<O>(i), |i| self.start_to_finish::<P>(i));
         self.row("c start to finish", "16 bytes", original, port);
     }
 
-    fn from_start<S: FromC>(&self, seed: u64) -> u64 {
+    #[inline(always)]
+    fn start_to_finish<S: FromC>(&self, seed: u64) -> u64 {
         let mut stream = S::start(seed);
         S::write(black_box(&mut stream), black_box(&self.bytes[..16]));
         S::finish(black_box(&stream))
@@ -192,6 +225,21 @@ impl Bench<'_> {
         }
     }
 
+    /// One call on a generator that is kept in memory between calls.
+    fn generators_from_c<P: FromC, O: FromC>(&self) {
+        let (mut x, mut y) = (O::generator(1), P::generator(1));
+        let original = |_| O::next(black_box(&mut x));
+        let port = |_| P::next(black_box(&mut y));
+        self.row("c generator", "next", original, port);
+        for length in [7, 64, 4096] {
+            let (mut x, mut y) = (O::generator(1), P::generator(1));
+            let (mut first, mut second) = (vec![0; length], vec![0; length]);
+            let original = |_| O::next_bytes(black_box(&mut x), black_box(&mut first));
+            let port = |_| P::next_bytes(black_box(&mut y), black_box(&mut second));
+            self.row("c generator", &format!("fill of {}", size(length)), original, port);
+        }
+    }
+
     fn generators<P: Port, O: Side>(&self) {
         let (mut x, mut y) = ([0; 1000], [0; 1000]);
         let original = |i| O::outputs(black_box(&mut x), i, 7, 0);
@@ -206,7 +254,8 @@ impl Bench<'_> {
         }
     }
 
-    /// Streams that are saved and resumed 100 times, beside plain Rust that does so with the same parts.
+    /// Streams that are saved and resumed 100 times, beside plain Rust that does so with the same
+    /// parts.
     fn saves<P: Port>(&self) {
         for pending in [0, 16, 63] {
             let bytes = &self.bytes[..64 + pending];
@@ -224,7 +273,8 @@ impl Bench<'_> {
     fn words<P: Port>(&self) {
         for length in [64, 1024, 1 << 20] {
             let bytes = &self.bytes[..length];
-            let (mut copy, mut words, mut back) = (vec![0; length], vec![0; length / 8 + 1], vec![0; length + 8]);
+            let (mut copy, mut words, mut back) =
+                (vec![0; length], vec![0; length / 8 + 1], vec![0; length + 8]);
             let mut copied = |_| black_box(&mut copy[..]).copy_from_slice(black_box(bytes));
             let name = size(length);
             let pad = |_| P::pad(black_box(bytes), black_box(&mut words));
