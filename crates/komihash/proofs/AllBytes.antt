@@ -5,6 +5,7 @@ use Rattle.std.proofs.Math.Nat.{div-div-eq-div-mul}
 use Rattle.komihash.specs.Words.{AreBytes, word_of, bytes_of, all_bytes}
 use Rattle.komihash.proofs.WordOf.{AreBytes-append}
 use Rattle.std.specs.Int.{to_le_bytes}
+use Rattle.std.specs.List.{flat_map}
 
 -- a word's first bytes are those that it was made of
 pub take-bytes_of-word_of : (n : ℕ) (xs : List ℕ) → AreBytes xs
@@ -61,6 +62,12 @@ take-all_bytes ws i over lt le =
 pub to_le_bytes-word : (w : ℕ) → to_le_bytes w64 w ≡ bytes_of 8 w
 unfolding bytes_of
 to_le_bytes-word w = sym (simp div-div-eq-div-mul)
+
+pub all_bytes-flat : (ws : List ℕ) → flat_map (λ w. to_le_bytes w64 w) ws ≡ all_bytes ws
+all_bytes-flat [] = refl
+all_bytes-flat (w ∷ ws) =
+    ap (λ bs. bs ++ flat_map (λ v. to_le_bytes w64 v) ws) (to_le_bytes-word w)
+    ∙ ap (λ bs. bytes_of 8 w ++ bs) (all_bytes-flat ws)
 
 pub one_byte : (out : List ℕ) (w : ℕ) → length out ≡ 1 → set out 0 (w % 256) ≡ take (length out) (bytes_of 8 w)
 unfolding bytes_of

@@ -49,6 +49,13 @@ answers_after-then f g m n (Absorb bytes ∷ xs) ys same =
 answers_after-then f g m n (Answer ∷ xs) ys same =
     ap (λ rest. f m ∷ rest) (answers_after-then f g m n xs ys same)
 
+-- the answers of calls, and then those of others after the bytes of the first
+pub answers_after-append : (f : List ℕ → ℕ) (m : List ℕ) (xs ys : List Call)
+    → answers_after f m (xs ++ ys)
+    ≡ answers_after f m xs ++ answers_after f (m ++ bytes_of_calls xs) ys
+answers_after-append f m xs ys =
+    answers_after-then f f m (m ++ bytes_of_calls xs) xs ys (λ x. rw append_assoc refl)
+
 -- the answers of a stream that absorbed a message are hashes
 pub onward-message : (v seed : ℕ) (s : State) (m : List ℕ) (calls : List Call) → HasAbsorbed v seed s m
     → onward v s calls ≡ answers_after (komi v seed) m calls
@@ -59,7 +66,7 @@ onward-message v seed s m calls is =
 
 -- ---- bytes and costs
 
-bytes_of_calls-append : (xs ys : List Call)
+pub bytes_of_calls-append : (xs ys : List Call)
     → bytes_of_calls (xs ++ ys) ≡ bytes_of_calls xs ++ bytes_of_calls ys
 bytes_of_calls-append [] ys = refl
 bytes_of_calls-append (Absorb bytes ∷ xs) ys =

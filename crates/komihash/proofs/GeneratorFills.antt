@@ -1,11 +1,15 @@
 -- What the generator's outputs fill a buffer with: their bytes, one output after the other.
-use Rattle.std.proofs.Common.{◌≡◌, ℕ, zero, suc, ◌+◌, ◌*◌, ◌%◌, ◌≤◌, List, [], ◌∷◌, ◌++◌, length, take, refl, ap, arith, ◌∙◌, sym, zero-add, suc-add}
-use Rattle.std.proofs.lemmas.List.{append_assoc, append-nil, length-take-le}
+use Rattle.std.proofs.Common.{◌≡◌, ℕ, zero, suc, ◌+◌, ◌*◌, ◌%◌, ◌<◌, ◌≤◌, List, [], ◌∷◌, ◌++◌, length, take, refl, ap, arith, ◌∙◌, sym, zero-add, suc-add}
+use Rattle.std.proofs.lemmas.List.{append_assoc, append-nil, length-take-le, take_all}
 use Rattle.std.proofs.lemmas.Slice.{take-put_mid}
 use Rattle.std.proofs.Math.Seq.{take-append-add, take-length}
+use Rattle.std.specs.Int.{to_le_bytes, w64}
+use Rattle.std.specs.List.{flat_map}
+use Rattle.std.specs.Prelude.{slice_index}
 use borrow.Rule.Slice.PartMut.{put_mid}
 use Rattle.komihash.specs.Generator.{next, after_steps, outputs, fill_steps, fill, after_fill}
 use Rattle.komihash.specs.Words.{bytes_of, all_bytes}
+use Rattle.komihash.proofs.AllBytes.{all_bytes-flat}
 
 -- ---- steps in two parts
 
@@ -39,6 +43,20 @@ pub outputs-one : (v n : ℕ) (s : ℕ × ℕ)
     → outputs v (n + 1) s ≡ outputs v n s ++ (next v (after_steps v n s)).0 ∷ []
 unfolding outputs
 outputs-one v n s = outputs-add v n 1 s
+
+-- ---- each output
+
+pub length-outputs : (v n : ℕ) (s : ℕ × ℕ) → length (outputs v n s) ≡ n
+unfolding outputs
+length-outputs v zero s = refl
+length-outputs v (suc n) s = ap suc (length-outputs v n (next v s))
+
+pub output-at : (v n k : ℕ) (s : ℕ × ℕ) → k < n
+    → slice_index (outputs v n s) k ≡ (next v (after_steps v k s)).0
+unfolding after_steps outputs
+output-at v zero k s lt = absurd (omega arith)
+output-at v (suc n) zero s lt = refl
+output-at v (suc n) (suc k) s lt = output-at v n k (next v s) (omega arith)
 
 -- the bytes of n outputs
 abbrev output_bytes : ℕ → ℕ → ℕ × ℕ → List ℕ
@@ -81,6 +99,18 @@ fill-add v x y s whole =
     take-append-add front back y ∙ ap (λ bs. bs ++ take y back) (sym (take-length front)) in
     let bytes = output_bytes-add v (fill_steps x) (fill_steps y) s in
     rw (fill_steps-add x y whole, bytes) (rw size at cut)
+
+-- a fill of whole words is the bytes of as many outputs
+pub fill-whole : (v n : ℕ) (s : ℕ × ℕ)
+    → fill v s (8 * n) ≡ flat_map (λ output. to_le_bytes w64 output) (outputs v n s)
+fill-whole v n s =
+    let steps : fill_steps (8 * n) ≡ n = omega arith in
+    ap (λ k. take (8 * n) (output_bytes v k s)) steps
+    ∙ take_all (8 * n) (output_bytes v n s) (omega (arith, length-output_bytes v n s))
+    ∙ sym (all_bytes-flat (outputs v n s))
+
+pub after_fill-whole : (v n : ℕ) (s : ℕ × ℕ) → after_fill v s (8 * n) ≡ after_steps v n s
+after_fill-whole v n s = ap (λ k. after_steps v k s) (omega arith)
 
 -- a fill of one to eight bytes takes one step
 fill-one : (v n : ℕ) (s : ℕ × ℕ) → fill_steps n ≡ 1 → fill v s n ≡ take n (bytes_of 8 (next v s).0)

@@ -1,23 +1,31 @@
 -- The lemmas that prove the laws of `src/laws.rt`.
 use Rattle.std.proofs.lemmas.List.Sums.{fold-append}
 use Rattle.komihash.proofs.Bounds.{komi-lt}
+use Rattle.komihash.proofs.CallLists.{answers_after-append, bytes_of_calls-append}
 use Rattle.komihash.proofs.CallLists.{run_products-pieces, HasAbsorbed-pending}
 use Rattle.komihash.proofs.GeneratorFills.{after_steps-add, outputs-add, fill-add, after_fill-add}
 use Rattle.komihash.proofs.GeneratorFills.{after_steps-none, outputs-none, after_steps-one, outputs-one}
+use Rattle.komihash.proofs.GeneratorFills.{length-outputs, output-at, fill-whole, after_fill-whole}
 use Rattle.komihash.proofs.Unpadding.{same_message}
 use Rattle.komihash.proofs.SavedTexts.{same_version, same_state, IsTextAfter-most}
 use Rattle.komihash.proofs.StreamAbsorbs.{absorb-append, absorb-nothing}
 use Rattle.komihash.proofs.StreamAnswers.{answer-joined}
-
-pub ruleset of_streams =
-    (absorb-append, absorb-nothing, answer-joined, run_products-pieces, HasAbsorbed-pending)
-
-pub ruleset of_generators = (after_steps-add, outputs-add, fill-add, after_fill-add)
-
-pub ruleset of_single_steps = (after_steps-none, outputs-none, after_steps-one, outputs-one)
-
-pub ruleset of_words_and_texts = (same_message, same_version, same_state, IsTextAfter-most)
+use Rattle.komihash.proofs.StreamMessages.{same_state_after, same_text_after}
 
 pub ruleset of_hashes = (komi-lt, fold-append)
 
-pub ruleset laws = (of_streams, of_generators, of_single_steps, of_words_and_texts, of_hashes)
+pub ruleset of_streams =
+    (absorb-append, absorb-nothing, answer-joined, HasAbsorbed-pending, same_state_after, same_text_after)
+
+pub ruleset of_calls = (answers_after-append, bytes_of_calls-append, run_products-pieces)
+
+pub ruleset of_texts_and_words = (same_version, same_state, IsTextAfter-most, same_message)
+
+pub ruleset of_steps =
+    (after_steps-none, outputs-none, after_steps-one, outputs-one, after_steps-add, outputs-add)
+
+pub ruleset of_outputs =
+    (length-outputs, output-at, fill-add, after_fill-add, fill-whole, after_fill-whole)
+
+pub ruleset laws =
+    (of_hashes, of_streams, of_calls, of_texts_and_words, of_steps, of_outputs)

@@ -9,6 +9,7 @@ pub mod Lists
 pub mod PaddedWords
 pub mod PendingBlocks
 pub mod PendingBytes
+pub mod Propositions
 mod Raised
 pub mod SavedTexts
 pub mod StreamAbsorbs

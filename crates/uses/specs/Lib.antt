@@ -1,2 +1,5 @@
+pub mod Counts
+pub mod Prefixes
+pub mod Profiles
 pub mod Records
 pub mod Tree

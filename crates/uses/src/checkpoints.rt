@@ -20,6 +20,16 @@ pub fn go_on(checkpoint: &mut [u8; LONGEST_TEXT], count: usize, next: &[u8]) -> 
     Some(stream.save(checkpoint))
 }
 
+/// Returns the digest at a checkpoint.
+pub fn digest_at(checkpoint: &[u8; LONGEST_TEXT], count: usize) -> Option<u64>
+    requires { count ≤ LONGEST_TEXT }
+    ensures { (seed : ℕ) (m : List ℕ) → IsTextAfter 5 seed m (take count checkpoint.now)
+        → IsSomeAnd result (λ hash. hash ≡ komi 5 seed m) }
+{
+    let stream = StreamedKomihash::resume(&checkpoint[..count])?;
+    Some(stream.finish())
+}
+
 /// Digests parts, with a checkpoint after each.
 pub fn upload(parts: &[&[u8]], seed: u64, checkpoint: &mut [u8; LONGEST_TEXT]) -> Option<u64>
     ensures { IsSomeAnd result (λ hash.
@@ -29,6 +39,5 @@ pub fn upload(parts: &[&[u8]], seed: u64, checkpoint: &mut [u8; LONGEST_TEXT]) -
     for part in parts {
         count = go_on(checkpoint, count, part)?;
     }
-    let stream = StreamedKomihash::resume(&checkpoint[..count])?;
-    Some(stream.finish())
+    digest_at(checkpoint, count)
 }

@@ -1,6 +1,7 @@
 //! Hashes of values of any type that can be hashed.
 
-ghost use Rattle.std.specs.Prelude.{◌≡◌, fold};
+ghost use Rattle.std.specs.Prelude.{◌≡◌, fold, string_bytes};
+ghost use Rattle.std.specs.Hash.{le_bytes, str};
 ghost use Rattle.std.specs.List.{flat_map};
 ghost use Rattle.komihash.specs.Hash.{komi};
 
@@ -25,4 +26,25 @@ pub fn hash_of_all<T: Hash>(values: &[T]) -> u64
         value.hash(&mut hasher);
     }
     hasher.finish()
+}
+
+/// A point. Its derived `Hash` writes each number once.
+#[derive(Clone, Copy, PartialEq, Eq, Hash)]
+pub struct Point {
+    pub x: u32,
+    pub y: u64,
+}
+
+/// Hashes a point.
+pub fn hash_of_point(point: &Point) -> u64
+    ensures { result ≡ komi 5 (komi 5 0 (le_bytes 4 point.now.x)) (le_bytes 8 point.now.y) }
+{
+    hash_of(point)
+}
+
+/// Hashes a text by its `Hash`.
+pub fn hash_of_label(label: &String) -> u64
+    ensures { result ≡ fold (komi 5) 0 (str (string_bytes label.now)) }
+{
+    hash_of(label)
 }
