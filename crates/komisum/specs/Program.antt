@@ -60,7 +60,7 @@ pub record WritesNothing {W : Type 0} (ending : Ending) (old new : Watched W) : 
 
 -- how the program ended: it showed the line for what was asked, or ended with a fault, or passed on
 -- the refusal, with nothing read and nothing written
-pub record Ran {R W : Type 0} (ending : Ending) (asked : Result (Version × ℕ) Refusal)
+pub record EndsAsAsked {R W : Type 0} (ending : Ending) (asked : Result (Version × ℕ) Refusal)
     (remaining : R → Option (List ℕ)) (old new : Watched R)
     (contents : W → Option (List ℕ)) (before after : Watched W) : Type 0 where
   pub line : ending ≡ Shown → IsOkAnd asked (λ settings.
