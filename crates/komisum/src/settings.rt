@@ -15,9 +15,7 @@ use std::{env, io};
 /// A version of the hash.
 #[derive(Drop)]
 pub enum Version {
-    /// Version 4.
     Four,
-    /// Version 5.
     Five,
 }
 

@@ -61,11 +61,7 @@ fn wrong_usage(rt: HostRuntime) {
     refuses(&rt, rt.alloc(), &[b"komisum", b""]);
     refuses(&rt, rt.alloc(), &[b"komisum", b"5", b"\xff"]);
     refuses(&rt, rt.alloc(), &[b"komisum", b"5", b"0", b"0"]);
-    refuses(
-        &rt,
-        rt.alloc(),
-        &[b"komisum", b"5", b"0", b"0", b"0", b"0", b"0", b"0"],
-    );
+    refuses(&rt, rt.alloc(), &[b"0".as_slice(); 8]);
 }
 
 // An argument of more than 256 bytes doesn't fit the buffer that is tried first.

@@ -2,7 +2,7 @@
 
 ghost use Rattle.std.specs.Prelude.{◌≡◌, ◌<◌, ◌≤◌, ◌^◌, false};
 
-use super::fakes::{Calls, ERRORS, FakeReader, Stop};
+use super::fakes::{Calls, ERRORS, FakeReader};
 use super::messages::{BLOCK_MESSAGE, ZERO};
 use crate::digest::digest;
 use crate::ending::Fault;
@@ -37,6 +37,8 @@ fn chunks_of_every_size(rt: HostRuntime) {
     for size in [1, 7, 64, 95, 96] {
         assert!(rt; matches!(of_bytes(&ZERO, 16, size), Ok(0)));
         assert!(rt; matches!(of_bytes(&BLOCK_MESSAGE, 95, size), Ok(6)));
+        let mut by_one = Watched::new(FakeReader::new(&BLOCK_MESSAGE, Calls::endless(1)));
+        assert!(rt; matches!(digested(&mut by_one, 95, size), Ok(6)));
     }
     assert!(rt; matches!(of_bytes(b"", 0, 96), Ok(0xb7683ea7430132b4)));
 }
@@ -51,32 +53,15 @@ fn inputs_that_are_too_long(rt: HostRuntime) {
 }
 
 #[test]
-fn one_byte_per_read(rt: HostRuntime) {
-    for size in [1, 7, 64, 95, 96] {
-        let mut reader = Watched::new(FakeReader::new(&BLOCK_MESSAGE, Calls::endless(1)));
-        assert!(rt; matches!(digested(&mut reader, 95, size), Ok(6)));
-    }
-}
-
-#[test]
 fn nothing_is_read_after_a_fault(rt: HostRuntime) {
     for error in ERRORS {
         let mut reader = Watched::new(FakeReader::new(&ZERO, Calls::stopping(8, error, 2)));
         assert!(rt; matches!(digested(&mut reader, 16, 96), Err(Fault::Read)));
-        assert_eq!(rt; reader.into_inner().reads(), 2);
+        assert_eq!(rt; reader.into_inner().calls.made, 2);
     }
     let mut reader = Watched::new(FakeReader::new(&BLOCK_MESSAGE, Calls::endless(7)));
     assert!(rt; matches!(digested(&mut reader, 20, 96), Err(Fault::TooLong)));
-    assert_eq!(rt; reader.into_inner().reads(), 3);
-}
-
-// The hash is that of the first 64 bytes.
-#[test]
-fn a_read_of_no_bytes_is_the_end(rt: HostRuntime) {
-    let calls = Calls::stopping(64, Stop::MovesNone, 2);
-    let mut reader = Watched::new(FakeReader::new(&BLOCK_MESSAGE, calls));
-    assert!(rt; matches!(digested(&mut reader, 95, 96), Ok(0x2a2f_07ac_9381_0128)));
-    assert_eq!(rt; reader.into_inner().reads(), 2);
+    assert_eq!(rt; reader.into_inner().calls.made, 3);
 }
 
 // Returns the hash of bytes that come in pieces. After each piece the stream is saved, and another

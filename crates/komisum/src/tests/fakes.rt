@@ -29,13 +29,14 @@ impl Stop {
 /// A kind and a number: an interrupted call, and a fault of the device.
 pub const ERRORS: [Stop; 2] = [Stop::Kind(ErrorKind::Interrupted), Stop::Number(5)];
 
-/// At most how many bytes each call moves, and which call, counted from 1, stops.
+/// The calls of a fake: how many bytes each moves at most, and which one, counted from 1, stops.
 #[derive(Drop)]
 pub struct Calls {
     most: usize,
     stop: Stop,
     stops_at: usize,
-    made: usize,
+    /// The number of calls so far.
+    pub made: usize,
 }
 
 impl Calls {
@@ -62,10 +63,7 @@ impl Calls {
         if self.made != self.stops_at {
             return Ok(self.most.min(bytes));
         }
-        match self.stop.error() {
-            Some(error) => Err(error),
-            None => Ok(0),
-        }
+        self.stop.error().map_or(Ok(0), Err)
     }
 }
 
@@ -73,18 +71,14 @@ impl Calls {
 #[derive(Drop)]
 pub struct FakeReader<'a> {
     left: &'a [u8],
-    calls: Calls,
+    /// Its reads.
+    pub calls: Calls,
 }
 
 impl<'a> FakeReader<'a> {
     /// Gives `bytes`.
     pub fn new(bytes: &'a [u8], calls: Calls) -> Self {
         FakeReader { left: bytes, calls }
-    }
-
-    /// Returns the number of reads.
-    pub fn reads(&self) -> usize {
-        self.calls.made
     }
 }
 
@@ -97,12 +91,13 @@ impl Read for FakeReader<'_> {
     }
 }
 
-/// A writer that holds up to 64 bytes. A flush counts as a call.
+/// A writer that holds up to 64 bytes.
 #[derive(Drop)]
 pub struct FakeWriter {
     held: [u8; 64],
     count: usize,
-    calls: Calls,
+    /// Its writes and flushes.
+    pub calls: Calls,
     ghost within: { count ≤ 64 },
 }
 
@@ -119,11 +114,6 @@ impl FakeWriter {
     /// Returns the bytes that it accepted.
     pub fn taken(&self) -> &[u8] {
         &self.held[..self.count]
-    }
-
-    /// Returns the number of writes and flushes.
-    pub fn calls(&self) -> usize {
-        self.calls.made
     }
 }
 

@@ -18,19 +18,11 @@ fn versions_and_seeds(rt: HostRuntime) {
 fn wrong_usage(rt: HostRuntime) {
     assert!(rt; settings(&["5"]).is_none());
     assert!(rt; settings(&["5", "0", "0"]).is_none());
-    let refused = [
-        ["6", "0"],
-        ["5", ""],
-        ["5", "FF"],
-        ["5", "00000000000000000"],
-        ["", "0"],
-        ["5", "g"],
-        ["5", "-1"],
-        ["5", "0x1"],
-        ["55", "0"],
-        ["5", " 1"],
-    ];
-    for arguments in &refused {
-        assert!(rt; settings(arguments).is_none());
+    assert!(rt; settings(&["5", "00000000000000000"]).is_none());
+    for version in ["", "6", "55"] {
+        assert!(rt; settings(&[version, "0"]).is_none(), "version {version}");
+    }
+    for seed in ["", "FF", "g", "-1", "0x1", " 1"] {
+        assert!(rt; settings(&["5", seed]).is_none(), "seed {seed}");
     }
 }

@@ -1,6 +1,6 @@
 //! Lines of inputs, and what a fault leaves.
 
-ghost use Rattle.std.specs.Prelude.{◌≡◌, ◌≤◌};
+ghost use Rattle.std.specs.Prelude.{◌≡◌};
 ghost use Rattle.komisum.specs.Program.{chunk_length, longest_input};
 
 use super::fakes::{Calls, ERRORS, FakeReader, FakeWriter, Stop};
@@ -10,48 +10,35 @@ use crate::hex::hex_line;
 use crate::program::show;
 use crate::settings::Version;
 use crate::watched::Watched;
+use komihash::{v4, v5};
 use std::process::Abort;
 
 static ZEROS: [u8; 5000] = [0; 5000];
 
 // Compares the line of bytes in memory, which is written to memory.
-fn shows(
-    rt: &(impl Abort + AllocGlobal),
-    bytes: &[u8],
-    version: Version,
-    seed: u64,
-    line: &[u8; 17],
-) {
+fn shows<R: Abort + AllocGlobal>(rt: &R, bytes: &[u8], asked: (Version, u64), line: &[u8; 17]) {
     let mut writer = Watched::new(Vec::new(rt.alloc()));
-    assert!(rt; show(&mut Watched::new(bytes), &mut writer, version, seed).is_ok());
+    assert!(rt; show(&mut Watched::new(bytes), &mut writer, asked.0, asked.1).is_ok());
     assert_eq!(rt; writer.into_inner().as_slice(), line.as_slice());
 }
 
 #[test]
-fn lines_of_version_five(rt: HostRuntime) {
-    shows(&rt, b"a", Version::Five, 0, b"5117f5064cfd0faa\n");
-    shows(&rt, b"", Version::Five, 0, b"b7683ea7430132b4\n");
-    shows(&rt, b"", Version::Five, u64::MAX, b"4bcc041f3f885859\n");
-    shows(&rt, &ZERO, Version::Five, 0, b"0000000000000000\n");
-    shows(&rt, &BLOCK_MESSAGE, Version::Five, 0, b"0000000000000006\n");
-}
-
-#[test]
-fn line_of_version_four(rt: HostRuntime) {
-    shows(&rt, &HIGH_END, Version::Four, 0, b"0000000000000007\n");
+fn lines(rt: HostRuntime) {
+    shows(&rt, b"a", (Version::Five, 0), b"5117f5064cfd0faa\n");
+    shows(&rt, b"", (Version::Five, 0), b"b7683ea7430132b4\n");
+    shows(&rt, b"", (Version::Five, u64::MAX), b"4bcc041f3f885859\n");
+    shows(&rt, &ZERO, (Version::Five, 0), b"0000000000000000\n");
+    let line = b"0000000000000006\n";
+    shows(&rt, &BLOCK_MESSAGE, (Version::Five, 0), line);
+    shows(&rt, &HIGH_END, (Version::Four, 0), b"0000000000000007\n");
 }
 
 #[test]
 fn lines_of_zeros(rt: HostRuntime) {
     for length in [63, 5000] {
         let zeros = &ZEROS[..length];
-        shows(
-            &rt,
-            zeros,
-            Version::Five,
-            0,
-            &hex_line(komihash::v5::komihash(zeros, 0)),
-        );
+        let line = hex_line(v5::komihash(zeros, 0));
+        shows(&rt, zeros, (Version::Five, 0), &line);
     }
 }
 
@@ -66,15 +53,20 @@ fn shown<'a>(reader: FakeReader<'a>, writer: FakeWriter, version: Version, seed:
     (result, reader.into_inner(), writer.into_inner())
 }
 
-// Shows the line of a version and a seed, where nothing fails. Compares the number of reads, and
-// that the line is one write, and is flushed.
-fn calls(rt: &impl Abort, bytes: &[u8], version: Version, seed: u64, reads: usize) {
+// Shows a line where nothing fails, and compares it. It is one write and a flush. Returns the number
+// of reads.
+fn reads_for(rt: &impl Abort, bytes: &[u8], version: Version, seed: u64) -> usize {
+    let line = hex_line(match &version {
+        Version::Four => v4::komihash(bytes, seed),
+        Version::Five => v5::komihash(bytes, seed),
+    });
     let reader = FakeReader::new(bytes, Calls::endless(usize::MAX));
     let writer = FakeWriter::new(Calls::endless(usize::MAX));
     let (result, reader, writer) = shown(reader, writer, version, seed);
     assert!(rt; result.is_ok());
-    assert_eq!(rt; reader.reads(), reads);
-    assert_eq!(rt; writer.calls(), 2);
+    assert_eq!(rt; writer.taken(), line.as_slice());
+    assert_eq!(rt; writer.calls.made, 2);
+    reader.calls.made
 }
 
 // The limits of `show`, as numbers.
@@ -87,28 +79,25 @@ fn limits()
 fn reads_of_a_chunk(rt: HostRuntime) {
     limits();
     for (length, reads) in [(4096, 2), (4097, 3)] {
-        calls(&rt, &ZEROS[..length], Version::Four, 0, reads);
-        calls(&rt, &ZEROS[..length], Version::Five, 0, reads);
+        let zeros = &ZEROS[..length];
+        assert_eq!(rt; reads_for(&rt, zeros, Version::Four, 0), reads);
+        assert_eq!(rt; reads_for(&rt, zeros, Version::Five, 0), reads);
     }
 }
 
 #[test]
 fn lines_are_flushed(rt: HostRuntime) {
     for seed in [0, 1, 0x1f, 1 << 63, 0x0123456789abcdef, u64::MAX] {
-        calls(&rt, &ZERO, Version::Four, seed, 2);
-        calls(&rt, &ZERO, Version::Five, seed, 2);
+        reads_for(&rt, &ZERO, Version::Four, seed);
+        reads_for(&rt, &ZERO, Version::Five, seed);
     }
 }
 
 // Calls `show` in version 5 on 95 bytes, which come 7 per read.
 fn shown_by_sevens(stop: Stop, call: usize) -> Left<'static> {
     let reader = FakeReader::new(&BLOCK_MESSAGE, Calls::stopping(7, stop, call));
-    shown(
-        reader,
-        FakeWriter::new(Calls::endless(17)),
-        Version::Five,
-        0,
-    )
+    let writer = FakeWriter::new(Calls::endless(17));
+    shown(reader, writer, Version::Five, 0)
 }
 
 #[test]
@@ -117,8 +106,8 @@ fn reads_that_fail(rt: HostRuntime) {
         for call in 1..=15usize {
             let (result, reader, writer) = shown_by_sevens(error, call);
             assert!(rt; matches!(result, Err(Fault::Read)));
-            assert_eq!(rt; reader.reads(), call);
-            assert_eq!(rt; writer.calls(), 0);
+            assert_eq!(rt; reader.calls.made, call);
+            assert_eq!(rt; writer.calls.made, 0);
         }
         let (result, _, writer) = shown_by_sevens(error, 16);
         assert!(rt; result.is_ok());
@@ -132,40 +121,19 @@ fn fails(rt: &impl Abort, bytes: &[u8], calls: Calls, written: &[u8], made: usiz
     let (result, _, writer) = shown(reader, FakeWriter::new(calls), Version::Five, 0);
     assert!(rt; matches!(result, Err(Fault::Write)));
     assert_eq!(rt; writer.taken(), written);
-    assert_eq!(rt; writer.calls(), made);
+    assert_eq!(rt; writer.calls.made, made);
 }
 
 #[test]
-fn writes_that_fail(rt: HostRuntime) {
+fn writes_and_flushes_that_fail(rt: HostRuntime) {
     let line = hex_line(0);
     for error in ERRORS {
         for call in 1..=17usize {
-            fails(
-                &rt,
-                &ZERO,
-                Calls::stopping(1, error, call),
-                &line[..call - 1],
-                call,
-            );
+            let calls = Calls::stopping(1, error, call);
+            fails(&rt, &ZERO, calls, &line[..call - 1], call);
         }
+        fails(&rt, &ZERO, Calls::stopping(17, error, 2), &line, 2);
         fails(&rt, b"", Calls::stopping(5, error, 2), b"b7683", 2);
     }
-}
-
-#[test]
-fn a_flush_that_fails(rt: HostRuntime) {
-    for error in ERRORS {
-        fails(
-            &rt,
-            &ZERO,
-            Calls::stopping(17, error, 2),
-            b"0000000000000000\n",
-            2,
-        );
-    }
-}
-
-#[test]
-fn a_write_that_accepts_nothing(rt: HostRuntime) {
     fails(&rt, &ZERO, Calls::stopping(17, Stop::MovesNone, 1), b"", 1);
 }

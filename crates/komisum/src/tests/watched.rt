@@ -3,7 +3,8 @@
 use super::fakes::{Calls, ERRORS, FakeReader, FakeWriter, Stop};
 use super::messages::ZERO;
 use crate::watched::Watched;
-use std::io::{ErrorKind, Read, Result, Write};
+use std::io::ErrorKind::{InvalidData, Other, UnexpectedEof, WriteZero};
+use std::io::{Read, Result, Write};
 use std::process::Abort;
 
 #[test]
@@ -18,7 +19,7 @@ fn reads(rt: HostRuntime) {
         assert!(rt; reader.read(&mut bytes).is_err() && reader.failed());
         assert!(rt; matches!(reader.read(&mut bytes), Ok(0)));
         assert!(rt; reader.failed());
-        assert_eq!(rt; reader.into_inner().reads(), 4);
+        assert_eq!(rt; reader.into_inner().calls.made, 4);
     }
 }
 
@@ -34,7 +35,7 @@ fn writes_and_a_flush(rt: HostRuntime) {
         assert!(rt; writer.flush().is_ok() && writer.failed());
         let writer = writer.into_inner();
         assert_eq!(rt; writer.taken(), b"123456".as_slice());
-        assert_eq!(rt; writer.calls(), 4);
+        assert_eq!(rt; writer.calls.made, 4);
     }
 }
 
@@ -49,17 +50,18 @@ fn is_error(rt: &impl Abort, returned: Result<usize>, stop: Stop) {
 
 // Makes each call, and a read into no room, of fakes whose first call returns this error.
 fn passes_on(rt: &impl Abort, error: Stop) {
-    for room in [0, 16usize] {
+    for room in [0, 16] {
         let mut reader = Watched::new(FakeReader::new(&ZERO, Calls::stopping(16, error, 1)));
-        is_error(rt, reader.read(&mut [0u8; 16][..room]), error);
-        assert_eq!(rt; reader.into_inner().reads(), 1);
+        let mut bytes = [0u8; 16];
+        is_error(rt, reader.read(&mut bytes[..room]), error);
+        assert_eq!(rt; reader.into_inner().calls.made, 1);
     }
     let mut writer = Watched::new(FakeWriter::new(Calls::stopping(16, error, 1)));
     is_error(rt, writer.write(&ZERO), error);
-    assert_eq!(rt; writer.into_inner().calls(), 1);
+    assert_eq!(rt; writer.into_inner().calls.made, 1);
     let mut writer = Watched::new(FakeWriter::new(Calls::stopping(16, error, 1)));
     is_error(rt, writer.flush().map(|()| 0), error);
-    assert_eq!(rt; writer.into_inner().calls(), 1);
+    assert_eq!(rt; writer.into_inner().calls.made, 1);
 }
 
 // Every number of the system, and the kinds that no number has.
@@ -68,12 +70,7 @@ fn errors_are_passed_on(rt: HostRuntime) {
     for number in 1..=133 {
         passes_on(&rt, Stop::Number(number));
     }
-    for kind in [
-        ErrorKind::InvalidData,
-        ErrorKind::WriteZero,
-        ErrorKind::UnexpectedEof,
-        ErrorKind::Other,
-    ] {
+    for kind in [InvalidData, Other, UnexpectedEof, WriteZero] {
         passes_on(&rt, Stop::Kind(kind));
     }
 }
