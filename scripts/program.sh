@@ -1,7 +1,7 @@
 #!/usr/bin/env bash
-# Tests the program as `rt ci` or `rt run` built it: its arguments, inputs of many sizes from files
-# and pipes, and what it does if reads, writes and allocations fail. Needs a C compiler for refuse.c.
-# Takes half a minute, most of it to build the tests of both crates for a run without memory.
+# Tests the program as `rt ci` or `rt run` built it: its arguments, the test vectors, inputs of many
+# sizes from files and pipes, and what it does if reads, writes and allocations fail. Needs a C
+# compiler for refuse.c. Takes half a minute, most of it to build the tests of both crates anew.
 set -uo pipefail
 cd "$(dirname "$0")/../crates/komisum" || exit 1
 . ../../scripts/cases.sh
@@ -16,9 +16,9 @@ arguments::wrong_usage
 show::lines
 show::lines_of_zeros'
 
-# These take longest, and go on meanwhile.
+# Runs the tests of both crates, each with its first allocation refused, while the cases below run.
 for crate in komihash komisum; do
-    (cd "../$crate" && rt try --test --fail-alloc 1) > "$room/$crate" 2>&1 &
+    (cd "../$crate" && rt try --test --fail-alloc 1 --seconds 600) > "$room/$crate" 2>&1 &
 done
 
 # Runs a command, and prints its status, standard output and standard error, each after its name.
@@ -121,10 +121,10 @@ refuse_memory() {
 }
 note 'refuse.c compiles' "${CC:-cc}" -shared -fPIC -o "$room/refuse.so" ../../scripts/refuse.c
 refuse_memory 2 "$whole"
-refuse_memory 7 4bde5bdc63771675 4 1f
+refuse_memory 5 4bde5bdc63771675 4 1f
 
-# Of the tests, which ran with the first allocation of each refused, exactly those fail that allocate:
-# they read arguments or write to a `Vec`. All others, and all of the library, allocate nothing.
+# With the first allocation of each refused, exactly those tests fail that allocate: they read
+# arguments or write to a `Vec`. All others, and all of the library's, allocate nothing.
 wait
 note 'komihash allocates nothing' grep -q '^test result: ok\. [1-9]' "$room/komihash"
 note 'what allocates in the tests of komisum' equal "$allocating" \
