@@ -92,7 +92,7 @@ impl<H: Env> Env for AfterName<'_, H> {
     }
 }
 
-// Returns the version and the seed that a list of arguments asks for.
+// Returns the version and the seed that arguments ask for.
 fn settings_in(mut arguments: Args) -> Option<(Version, u64)>
     ensures { result ≡ settings_of (map string_bytes (into_iter_items arguments)) }
 {
@@ -103,7 +103,7 @@ fn settings_in(mut arguments: Args) -> Option<(Version, u64)>
     }
 }
 
-/// Returns the version and the seed that the arguments ask for which `env::args` returned.
+/// Returns the version and the seed that the arguments ask for. `given` is what `env::args` returned.
 ///
 /// Returns `Usage` if there are arguments, but not exactly a version and a seed, or if the kind of
 /// the error in their place is `InvalidData`, as for an argument that is not UTF-8. Returns

@@ -37,7 +37,7 @@ fn asked(alloc: Global, arguments: &[&[u8]]) -> Result<(Version, u64), Refusal> 
     settings_from_env(&(FakeArguments(arguments), alloc))
 }
 
-// A program's name need not be UTF-8, may be long, and may lack.
+// A program's name need not be UTF-8, may be long, and may be missing.
 #[test]
 fn versions_and_seeds(rt: HostRuntime) {
     assert!(rt; matches!(asked(rt.alloc(), &[]), Ok((Version::Five, 0))));

@@ -55,7 +55,7 @@ impl Calls {
         Calls::stopping(most, Stop::MovesNone, 0)
     }
 
-    // Counts a call. Returns how many of the bytes it moves that it could move.
+    // Counts a call that could move this many bytes. Returns how many it moves.
     fn next(&mut self, bytes: usize) -> Result<usize>
         ensures { IfOk result (λ count. count ≤ bytes) }
     {

@@ -15,7 +15,7 @@ use std::process::Abort;
 
 static ZEROS: [u8; 5000] = [0; 5000];
 
-// Compares the line of bytes in memory, which is written to memory.
+// Shows the line of bytes in memory, into a `Vec`, and compares it.
 fn shows<R: Abort + AllocGlobal>(rt: &R, bytes: &[u8], asked: (Version, u64), line: &[u8; 17]) {
     let mut writer = Watched::new(Vec::new(rt.alloc()));
     assert!(rt; show(&mut Watched::new(bytes), &mut writer, asked.0, asked.1).is_ok());
@@ -115,7 +115,7 @@ fn reads_that_fail(rt: HostRuntime) {
     }
 }
 
-// Compares what is written of a line in version 5 if one call of the writer stops.
+// Compares what `show` writes of a line in version 5 if one call of the writer stops.
 fn fails(rt: &impl Abort, bytes: &[u8], calls: Calls, written: &[u8], made: usize) {
     let reader = FakeReader::new(bytes, Calls::endless(usize::MAX));
     let (result, _, writer) = shown(reader, FakeWriter::new(calls), Version::Five, 0);
