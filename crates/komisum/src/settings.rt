@@ -103,7 +103,8 @@ fn settings_in(mut arguments: Args) -> Option<(Version, u64)>
     }
 }
 
-/// Returns the version and the seed that the arguments ask for. `given` is what `env::args` returned.
+/// Returns the version and the seed that the arguments ask for. `given` is the result of
+/// `env::args`.
 ///
 /// Returns `Usage` if there are arguments, but not exactly a version and a seed, or if the kind of
 /// the error in their place is `InvalidData`, as for an argument that is not UTF-8. Returns
