@@ -21,6 +21,7 @@ use crate::samples::{
     draw_in_two, pick, sample, sample_and_start, sample_in_two, sample_of_numbers,
 };
 use crate::shards::shard_of;
+use crate::slots::Slot;
 use crate::states::{hash_of_state, write_both, write_some};
 use crate::stores::{
     are_different_seeds, are_equal_keys, are_in_one_state, keep, save_two_ways, stored_hash,
@@ -263,6 +264,7 @@ fn journals_know_their_digest(rt: HostRuntime) -> Result<(), AllocError> {
     assert_eq!(rt; journal.digest(), HASH_OF_16);
     journal.append(&message[16..])?;
     assert_eq!(rt; journal.digest(), HASH_OF_95);
+    assert_eq!(rt; Slot::new(&message).hash(), Some(HASH_OF_95));
     Ok(())
 }
 
