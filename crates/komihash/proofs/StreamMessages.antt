@@ -1,5 +1,5 @@
 -- What a stream's state says of its message, and the laws by which a stream's calls say it.
-use Rattle.std.proofs.Common.{◌≡◌, ℕ, List, [], ◌++◌, refl, ap, ◌∙◌, subst, sym}
+use Rattle.std.proofs.Common.{◌≡◌, ℕ, List, [], ◌++◌, ap, ◌∙◌, subst, sym}
 use Rattle.komihash.specs.Hash.{komi}
 use Rattle.komihash.specs.Saved.{text, IsTextAfter}
 use Rattle.komihash.specs.Stream.{State, IsState, HasAbsorbed, start, absorb, answer}

@@ -4,17 +4,15 @@ use Rattle.std.proofs.lemmas.Bool.{false≢true, cases_lt}
 use Rattle.std.proofs.lemmas.Bool.Decides.{nat_tests}
 use Rattle.std.proofs.lemmas.List.{length-append, get_or-append-add}
 use Rattle.std.specs.Prelude.{slice_index}
-use Rattle.komihash.specs.Hash.{komi}
 use Rattle.komihash.specs.Padding.{has_top_bit}
 use Rattle.komihash.specs.Rounds.{Lanes}
-use Rattle.komihash.specs.Stream.{State, IsState, HasAbsorbed, start, absorb, answer}
+use Rattle.komihash.specs.Stream.{State, IsState, start, absorb}
 use Rattle.komihash.specs.Storage.{whole_words, after_blocks, block_lanes}
 use Rattle.komihash.specs.Words.{AreBytes}
 use Rattle.komihash.proofs.Blocks.{length-after_blocks}
 use Rattle.komihash.proofs.WordOf.{AreBytes-append, AreBytes-drop}
 use Rattle.komihash.proofs.Bounds.{AreWords-block_lanes, AreWords-seed_pair}
 use Rattle.komihash.proofs.StreamAbsorbs.{absorb-few, absorb-blocks}
-use Rattle.komihash.proofs.StreamAnswers.{answer-joined}
 
 -- ---- what a stream shows is a state
 

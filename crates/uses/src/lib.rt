@@ -18,6 +18,7 @@ pub mod readers;
 pub mod records;
 pub mod samples;
 pub mod shards;
+pub mod slots;
 pub mod states;
 pub mod stores;
 #[cfg(test)]

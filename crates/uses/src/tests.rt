@@ -21,6 +21,7 @@ use crate::samples::{
     draw_in_two, pick, sample, sample_and_start, sample_in_two, sample_of_numbers,
 };
 use crate::shards::shard_of;
+use crate::slots::Slot;
 use crate::states::{hash_of_state, write_both, write_some};
 use crate::stores::{
     are_different_seeds, are_equal_keys, are_in_one_state, keep, save_two_ways, stored_hash,
@@ -130,8 +131,8 @@ fn samples_are_made_of_numbers(rt: HostRuntime) {
     let mut out = [0; 32];
     sample_of_numbers(&mut Komirand::new(7, 7), &mut bytes);
     sample_and_start(7, &mut start, &mut out);
-    assert!(rt; bytes[..32] == start);
-    assert!(rt; bytes[32..] == out);
+    assert!(rt; bytes.starts_with(&start));
+    assert!(rt; bytes.ends_with(&out));
 }
 
 #[test]
@@ -263,6 +264,7 @@ fn journals_know_their_digest(rt: HostRuntime) -> Result<(), AllocError> {
     assert_eq!(rt; journal.digest(), HASH_OF_16);
     journal.append(&message[16..])?;
     assert_eq!(rt; journal.digest(), HASH_OF_95);
+    assert_eq!(rt; Slot::new(&message).hash(), Some(HASH_OF_95));
     Ok(())
 }
 
