@@ -7,9 +7,9 @@ ghost use Rattle.komihash.specs.Saved.{text, IsText};
 ghost use Rattle.komihash.specs.Stream.{State, IsState, start, absorb, answer};
 ghost use Rattle.komihash.specs.Storage.{whole_words, block_lanes, after_blocks};
 
+use super::LONGEST_TEXT;
 use super::saved::{
-    LONGEST_TEXT, is_text, read_head, read_lanes, read_pending, write_head, write_lanes,
-    write_pending,
+    is_text, read_head, read_lanes, read_pending, write_head, write_lanes, write_pending,
 };
 use crate::padding::{end_after_blocks, has_top_bit};
 use crate::rounds::pending::Pending;

@@ -10,9 +10,8 @@ ghost use Rattle.komihash.specs.Saved.{text, IsText, IsTextAfter};
 ghost use Rattle.komihash.specs.Stream.{State, StateOf, IsState, HasAbsorbed};
 ghost use Rattle.komihash.specs.Stream.{start, absorb, answer};
 
-use super::KomiStream;
 use super::raw::RawStream;
-use super::saved::LONGEST_TEXT;
+use super::{KomiStream, LONGEST_TEXT};
 use crate::tally::Tally;
 use crate::version::{IsVersion, Versions};
 use std::marker::Model;
