@@ -1,73 +1,52 @@
-/* Calls every function of komihash_rattle.h in both versions, and prints what each returns and
- * writes. calls.txt is what it must print. The Rust crate gave the hashes and filled bytes there;
- * the padded words and saved texts follow from their rules. */
+/* Calls every function of komihash_rattle.h in one version, and prints what each returns and
+ * writes. calls.txt has what version 4 and then version 5 must print. The Rust crate gave the
+ * hashes, outputs and filled bytes there; the padded words and saved texts follow from their rules.
+ *
+ * VERSION is 4 or 5. STREAM_SIZE and RAND_SIZE are the sizes of the library's types. */
 #include "komihash_rattle.h"
 #include <inttypes.h>
 #include <stdio.h>
 #include <string.h>
+#include <sys/uio.h>
 
-/* A stream of either version. */
-union stream {
-    komihash_v4_stream v4;
-    komihash_v5_stream v5;
-};
+#define JOINED(version, rest) komihash_v##version##rest
+#define NAMED(version, rest) JOINED(version, rest)
+#define KOMIHASH(rest) NAMED(VERSION, rest)
+#if VERSION == 4
+#define OTHER(rest) NAMED(5, rest)
+#else
+#define OTHER(rest) NAMED(4, rest)
+#endif
 
-/* The functions of one version. */
-struct version {
-    const char *name;
-    uint64_t (*hash)(const void *, size_t, uint64_t);
-    uint64_t (*pieces)(const komihash_piece *, size_t, uint64_t);
-    void (*start)(union stream *, uint64_t);
-    void (*write)(union stream *, const void *, size_t);
-    void (*write_pieces)(union stream *, const komihash_piece *, size_t);
-    uint64_t (*finish)(const union stream *);
-    size_t (*save)(const union stream *, void *, size_t);
-    bool (*resume)(union stream *, const void *, size_t);
-    void (*fill)(void *, size_t, uint64_t, uint64_t);
-    void (*fill_seeded)(void *, size_t, uint64_t, uint64_t);
-    size_t (*pad)(const void *, size_t, uint64_t *, size_t);
-    size_t (*unpad)(const uint64_t *, size_t, void *, size_t);
-};
+typedef KOMIHASH(_stream) Stream;
+typedef KOMIHASH(_rand) Rand;
 
-#define STREAM(v) \
-    static void start_##v(union stream *stream, uint64_t seed) { \
-        stream->v = komihash_##v##_start(seed); \
-    } \
-    static void write_##v(union stream *stream, const void *bytes, size_t length) { \
-        komihash_##v##_write(&stream->v, bytes, length); \
-    } \
-    static void write_pieces_##v(union stream *stream, const komihash_piece *pieces, size_t count) { \
-        komihash_##v##_write_pieces(&stream->v, pieces, count); \
-    } \
-    static uint64_t finish_##v(const union stream *stream) { return komihash_##v##_finish(&stream->v); } \
-    static size_t save_##v(const union stream *stream, void *out, size_t room) { \
-        return komihash_##v##_save(&stream->v, out, room); \
-    } \
-    static bool resume_##v(union stream *stream, const void *text, size_t length) { \
-        return komihash_##v##_resume(&stream->v, text, length); \
-    }
+_Static_assert(sizeof(Stream) == STREAM_SIZE, "the size of a stream");
+_Static_assert(sizeof(Rand) == RAND_SIZE, "the size of a generator");
+_Static_assert(sizeof(komihash_piece) == sizeof(struct iovec), "the size of a piece");
+_Static_assert(offsetof(komihash_piece, bytes) == offsetof(struct iovec, iov_base), "its pointer");
+_Static_assert(offsetof(komihash_piece, length) == offsetof(struct iovec, iov_len), "its length");
 
-STREAM(v4)
-STREAM(v5)
-
-#define VERSION(v) \
-    { \
-        .name = "version " #v, \
-        .hash = komihash_v##v, \
-        .pieces = komihash_v##v##_pieces, \
-        .start = start_v##v, \
-        .write = write_v##v, \
-        .write_pieces = write_pieces_v##v, \
-        .finish = finish_v##v, \
-        .save = save_v##v, \
-        .resume = resume_v##v, \
-        .fill = komihash_v##v##_fill, \
-        .fill_seeded = komihash_v##v##_fill_seeded, \
-        .pad = komihash_v##v##_pad, \
-        .unpad = komihash_v##v##_unpad, \
-    }
-
-static const struct version four = VERSION(4), five = VERSION(5);
+/* The functions, with the types of the library's own. */
+static uint64_t (*const hash)(const void *, size_t, uint64_t) = KOMIHASH();
+static uint64_t (*const hash_pieces)(const komihash_piece *, size_t, uint64_t) = KOMIHASH(_pieces);
+static Stream (*const start)(uint64_t) = KOMIHASH(_start);
+static void (*const write_bytes)(Stream *, const void *, size_t) = KOMIHASH(_write);
+static void (*const write_pieces)(Stream *, const komihash_piece *, size_t) =
+    KOMIHASH(_write_pieces);
+static uint64_t (*const finish)(const Stream *) = KOMIHASH(_finish);
+static size_t (*const save)(const Stream *, void *, size_t) = KOMIHASH(_save);
+static bool (*const resume)(Stream *, const void *, size_t) = KOMIHASH(_resume);
+static Rand (*const rand_init)(uint64_t) = KOMIHASH(_rand_init);
+static Rand (*const rand_init_with_extra_seed)(uint64_t, uint64_t) =
+    KOMIHASH(_rand_init_with_extra_seed);
+static Rand (*const rand_init_words)(uint64_t, uint64_t) = KOMIHASH(_rand_init_words);
+static uint64_t (*const rand_next)(Rand *) = KOMIHASH(_rand_next);
+static void (*const rand_fill)(Rand *, void *, size_t) = KOMIHASH(_rand_fill);
+static void (*const fill)(void *, size_t, uint64_t, uint64_t) = KOMIHASH(_fill);
+static void (*const fill_seeded)(void *, size_t, uint64_t, uint64_t) = KOMIHASH(_fill_seeded);
+static size_t (*const pad)(const void *, size_t, uint64_t *, size_t) = KOMIHASH(_pad);
+static size_t (*const unpad)(const uint64_t *, size_t, void *, size_t) = KOMIHASH(_unpad);
 
 static const uint64_t seed = 0x0123456789abcdef, other_seed = 0xfedcba9876543210;
 
@@ -78,15 +57,15 @@ static uint8_t message[100];
 static const komihash_piece pieces[4] = {
     {message, 20}, {message + 20, 0}, {message + 20, 43}, {message + 63, 37}};
 
-static void print_hash(const char *name, uint64_t hash) {
-    printf("%-22s %016" PRIx64 "\n", name, hash);
+static void print_word(const char *name, uint64_t word) {
+    printf("%-26s %016" PRIx64 "\n", name, word);
 }
 
 static void print_length(const char *name, size_t length) {
     if (length == KOMIHASH_NONE)
-        printf("%-22s none:", name);
+        printf("%-26s none:", name);
     else
-        printf("%-22s %zu:", name, length);
+        printf("%-26s %zu:", name, length);
 }
 
 static void print_bytes(const uint8_t *bytes, size_t length) {
@@ -95,111 +74,158 @@ static void print_bytes(const uint8_t *bytes, size_t length) {
     printf("\n");
 }
 
-static void hashes(const struct version *version) {
-    print_hash("hash", version->hash(message, 100, seed));
-    print_hash("hash of no bytes", version->hash(NULL, 0, seed));
-    print_hash("pieces", version->pieces(pieces, 4, seed));
-    print_hash("pieces, none", version->pieces(NULL, 0, seed));
+static void hashes(void) {
+    print_word("hash", hash(message, 100, seed));
+    print_word("hash of no bytes", hash(NULL, 0, seed));
+    print_word("pieces", hash_pieces(pieces, 4, seed));
+    print_word("pieces, none", hash_pieces(NULL, 0, seed));
 }
 
 /* Prints the length and the first four bytes of a stream's text, and its hash. */
-static void print_stream(const struct version *version, const union stream *stream) {
+static void print_stream(const char *name, const Stream *stream) {
     uint8_t text[KOMIHASH_LONGEST_TEXT];
-    print_length("  text", version->save(stream, text, sizeof text));
+    print_length(name, save(stream, text, sizeof text));
     print_bytes(text, 4);
-    print_hash("  finish", version->finish(stream));
+    print_word("  finish", finish(stream));
 }
 
-static void streams(const struct version *version) {
-    union stream stream;
-    version->start(&stream, seed);
-    printf("start\n");
-    print_stream(version, &stream);
-    version->write(&stream, message, 20);
-    printf("write\n");
-    print_stream(version, &stream);
-    version->write(&stream, message + 20, 80);
-    printf("write\n");
-    print_stream(version, &stream);
-    version->write(&stream, NULL, 0);
-    printf("write, no bytes\n");
-    print_stream(version, &stream);
-    version->start(&stream, seed);
-    version->write_pieces(&stream, pieces, 4);
-    printf("write_pieces\n");
-    print_stream(version, &stream);
-    version->write_pieces(&stream, NULL, 0);
-    printf("write_pieces, no pieces\n");
-    print_stream(version, &stream);
+static void streams(void) {
+    Stream stream = start(seed), copy;
+    print_stream("start", &stream);
+    write_bytes(&stream, message, 20);
+    print_stream("write", &stream);
+    copy = stream;
+    write_bytes(&stream, message + 20, 80);
+    print_stream("write", &stream);
+    write_bytes(&stream, NULL, 0);
+    print_stream("write, no bytes", &stream);
+    print_stream("copy before two writes", &copy);
+    write_bytes(&copy, message + 20, 44);
+    print_stream("write to the copy", &copy);
+    print_stream("the copied stream", &stream);
+    stream = start(seed);
+    write_pieces(&stream, pieces, 4);
+    print_stream("write_pieces", &stream);
+    write_pieces(&stream, NULL, 0);
+    print_stream("write_pieces, none", &stream);
 }
 
-static void saves(const struct version *version, const struct version *other) {
+/* Resumes a stream with a text that no stream has, and prints whether the stream is unchanged. */
+static void resume_damaged(const char *name, Stream *stream, const uint8_t *text, size_t length) {
+    const Stream before = *stream;
+    bool resumed = resume(stream, text, length);
+    bool same = memcmp(&before, stream, sizeof before) == 0;
+    printf("resume, %-18s %d: %s\n", name, resumed, same ? "unchanged" : "CHANGED");
+}
+
+/* Resumes a stream with a text that has one byte changed. */
+static void resume_changed(
+    const char *name, Stream *stream, uint8_t *text, size_t length, size_t at, uint8_t byte) {
+    const uint8_t before = text[at];
+    text[at] = byte;
+    resume_damaged(name, stream, text, length);
+    text[at] = before;
+}
+
+static void saves(void) {
     uint8_t text[KOMIHASH_LONGEST_TEXT];
-    union stream stream, resumed;
+    Stream stream = start(seed), resumed = start(seed);
     memset(text, 0x5a, sizeof text);
-    version->start(&stream, seed);
-    version->write(&stream, message, 100);
-    print_length("save, no room", version->save(&stream, text, sizeof text - 1));
+    write_bytes(&stream, message, 100);
+    print_length("save, too little room", save(&stream, text, sizeof text - 1));
     print_bytes(text, 4);
-    size_t length = version->save(&stream, text, sizeof text);
+    print_length("save, no room", save(&stream, NULL, 0));
+    print_bytes(text, 4);
+    size_t length = save(&stream, text, sizeof text);
     print_length("save", length);
     print_bytes(text, 4);
-    version->start(&resumed, seed);
-    printf("resume %d, a byte too many\n", version->resume(&resumed, text, length + 1));
-    print_stream(version, &resumed);
-    printf("resume %d\n", version->resume(&resumed, text, length));
-    print_stream(version, &resumed);
-    other->start(&stream, seed);
-    length = other->save(&stream, text, sizeof text);
-    printf("resume %d, text of the other version\n", version->resume(&resumed, text, length));
-    print_stream(version, &resumed);
+    resume_damaged("no bytes", &resumed, NULL, 0);
+    resume_damaged("a byte less", &resumed, text, length - 1);
+    resume_damaged("a byte more", &resumed, text, length + 1);
+    resume_changed("other version", &resumed, text, length, 0, 9 - VERSION);
+    resume_changed("flag of 2", &resumed, text, length, 1, 2);
+    resume_changed("bit of 2", &resumed, text, length, 2, 2);
+    resume_changed("one byte pending", &resumed, text, length, 3, 1);
+    resume_changed("64 bytes pending", &resumed, text, length, 3, 64);
+    print_stream("resumed by none", &resumed);
+    printf("resume %d\n", resume(&resumed, text, length));
+    print_stream("resumed", &resumed);
+    OTHER(_stream) other = OTHER(_start)(seed);
+    length = OTHER(_save)(&other, text, sizeof text);
+    resume_damaged("other's text", &resumed, text, length);
 }
 
-static void fills(const struct version *version) {
+static void print_rand(const char *name, Rand rand) {
+    print_word(name, rand_next(&rand));
+    print_word("  next", rand_next(&rand));
+}
+
+static void generators(void) {
+    uint8_t out[12];
+    Rand rand = rand_init(seed), copy;
+    print_rand("rand_init", rand);
+    print_rand("rand_init_with_extra_seed", rand_init_with_extra_seed(seed, other_seed));
+    print_rand("rand_init_words", rand_init_words(seed, other_seed));
+    memset(out, 0x5a, sizeof out);
+    copy = rand;
+    rand_fill(&rand, NULL, 0);
+    rand_fill(&rand, out, 11);
+    print_length("rand_fill", 11);
+    print_bytes(out, sizeof out);
+    print_rand("after 11 bytes", rand);
+    print_rand("the copy before them", copy);
+}
+
+static void fills(void) {
     uint8_t out[12];
     memset(out, 0x5a, sizeof out);
-    version->fill(out, 11, seed, other_seed);
+    fill(NULL, 0, seed, other_seed);
+    fill(out, 11, seed, other_seed);
     print_length("fill", 11);
     print_bytes(out, sizeof out);
-    version->fill_seeded(out, 11, seed, other_seed);
+    fill_seeded(NULL, 0, seed, other_seed);
+    fill_seeded(out, 11, seed, other_seed);
     print_length("fill_seeded", 11);
     print_bytes(out, sizeof out);
 }
 
-static void pads(const struct version *version, const char *name, size_t length, size_t room) {
+static void pads(const char *name, const uint8_t *bytes, size_t length, size_t room) {
     uint64_t words[3] = {0x5a5a, 0x5a5a, 0x5a5a};
-    print_length(name, version->pad(message + 11, length, words, room));
+    print_length(name, pad(bytes, length, room == 0 ? NULL : words, room));
     for (size_t i = 0; i < 3; i++)
         printf(" %" PRIx64, words[i]);
     printf("\n");
 }
 
-static void unpads(const struct version *version, const char *name, uint64_t last, size_t room) {
+static void unpads(const char *name, uint64_t last, size_t room) {
     const uint64_t words[2] = {0x817a736c655e5750, last};
     uint8_t out[17];
     memset(out, 0x5a, sizeof out);
-    print_length(name, version->unpad(words, 2, out, room));
+    print_length(name, unpad(words, 2, out, room));
     print_bytes(out, sizeof out);
 }
 
-static void calls(const struct version *version, const struct version *other) {
-    printf("%s\n", version->name);
-    hashes(version);
-    streams(version);
-    saves(version, other);
-    fills(version);
-    pads(version, "pad", 9, 3);
-    pads(version, "pad, no room", 9, 1);
-    pads(version, "pad, no bytes", 0, 3);
-    unpads(version, "unpad, padding byte 1", 0x0188, 17);
-    unpads(version, "unpad, padding byte 2", 0x0288, 17);
-    unpads(version, "unpad, no room", 0x0101, 15);
-    unpads(version, "unpad, padding byte 3", 0x0388, 17);
+static void padded(void) {
+    pads("pad", message + 11, 9, 3);
+    pads("pad, too little room", message + 11, 9, 1);
+    pads("pad, no bytes", NULL, 0, 3);
+    pads("pad, no bytes, no room", NULL, 0, 0);
+    unpads("unpad, padding byte 1", 0x0188, 17);
+    unpads("unpad, padding byte 2", 0x0288, 17);
+    unpads("unpad, padding byte 3", 0x0388, 17);
+    unpads("unpad, too little room", 0x0101, 15);
+    print_length("unpad, no words", unpad(NULL, 0, NULL, 0));
+    printf("\n");
 }
 
 int main(void) {
     for (size_t i = 0; i < sizeof message; i++)
         message[i] = (uint8_t)(7 * i + 3);
-    calls(&four, &five);
-    calls(&five, &four);
+    printf("version %d\n", VERSION);
+    hashes();
+    streams();
+    saves();
+    generators();
+    fills();
+    padded();
 }

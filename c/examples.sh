@@ -1,6 +1,11 @@
-# Compiles and runs programs that call the library, for run.sh. A case in C or C++ is run with each
-# of the compilers that work here.
+# Compiles and runs programs that call the library, for run.sh. The library is installed first,
+# below a folder with a space in its name, and the programs use what is there alone. A case in C or
+# C++ is run with each of the compilers that work here.
 . ../scripts/cases.sh
+
+prefix="$room/a prefix"
+archive=$prefix/lib/libkomihash_rattle.a
+shared=$prefix/lib/libkomihash_rattle.so
 
 # Prints which of the commands succeed with these arguments on a program.
 working() {
@@ -21,143 +26,159 @@ with_each() {
 }
 
 # Compiles for a standard, with warnings as errors. The last argument is the compiler.
-compile() {
-    "${@: -1}" -std="$1" -Wall -Wextra -Wpedantic -Werror -I "$out" "${@:2:$#-2}"
-}
+compile() { "${@: -1}" -std="$1" -Wall -Wextra -Wpedantic -Werror "${@:2:$#-2}"; }
 
 # Whether a command prints what a file has.
-prints() { "${@:2}" > "$out/printed" && diff "$1" "$out/printed"; }
-
-# Whether a program in C or C++ prints what a file has.
-runs() {
-    local standard=$1 source=$2 wanted=$3 compiler=$4
-    compile "$standard" "$source" "$library.a" -o "$out/program" "$compiler" &&
-        prints "$wanted" "$out/program"
-}
-
-# Prints the program in C that README.md shows.
-example() { sed -n '/^```c$/,/^```$/{/^```/!p}' README.md; }
+prints() { "${@:2}" > "$room/printed" && diff "$1" "$room/printed"; }
 
 # Prints the functions that the header declares.
-declared() { grep -o 'komihash_v[a-z0-9_]*(' komihash_rattle.h | tr -d '(' | sort; }
+declared() {
+    grep -o 'komihash_v[a-z0-9_]*(' "$prefix/include/komihash_rattle.h" | tr -d '(' | sort
+}
 
-# Prints the library's functions as C, with the header's types, and checks of these types.
-declarations() {
-    printf '%s\n' '#include "komihash_rattle.h"' '#include <sys/uio.h>' 'typedef uint64_t u64;' \
-        'typedef size_t usize;' 'typedef komihash_piece Piece;'
-    printf '_Static_assert(%s, "a layout");\n' "sizeof(komihash_piece) == sizeof(struct iovec)" \
-        "offsetof(komihash_piece, bytes) == offsetof(struct iovec, iov_base)" \
-        "offsetof(komihash_piece, length) == offsetof(struct iovec, iov_len)" \
-        "KOMIHASH_LONGEST_TEXT == $(sed -nE 's/^pub const LONGEST_TEXT: usize = (.*);/\1/p' \
-            ../crates/komihash/src/stream.rt)"
+# Prints the names that `nm` lists with a letter.
+symbols() { nm "${@:2}" | awk -v letter="$1" 'NF > 1 && $(NF - 1) == letter { print $NF }' | sort; }
+
+# Whether the crate's two modules differ in the version alone.
+modules_agree() {
+    diff <(sed 's/5/4/g; s/inr/inl/' ../crates/komihash_c/src/v5.rt) ../crates/komihash_c/src/v4.rt
+}
+
+has_header() { cmp komihash_rattle.h "$prefix/include/komihash_rattle.h"; }
+
+has_declared() {
+    symbols T "$archive" | diff <(declared) - && symbols T -D "$shared" | diff <(declared) -
+}
+
+needs_nothing() { [ -z "$(symbols U "$archive")$(symbols U -D "$shared")" ]; }
+
+# Prints the version by the header's numbers, the file for pkg-config, and the name of a file.
+versions() {
+    local macro=KOMIHASH_RATTLE_VERSION
+    printf '#include <komihash_rattle.h>\n%s.%s.%s\n' "$macro"_{MAJOR,MINOR,PATCH} |
+        "${CC:-cc}" -E -P -I "$prefix/include" - | tail -n 1 | tr -d ' '
+    sed -n 's/^Version: //p' "$prefix/lib/pkgconfig/komihash_rattle.pc"
+    basename "$(realpath "$shared")" | sed 's/^libkomihash_rattle\.so\.//'
+}
+
+# Whether these versions are the one in the header's string, and the soname has its first number.
+versions_agree() {
+    local wanted
+    wanted=$(sed -nE 's/^#define KOMIHASH_RATTLE_VERSION "(.*)"$/\1/p' komihash_rattle.h)
+    diff <(echo "$wanted") <(versions | sort -u) &&
+        objdump -p "$shared" | grep "SONAME *libkomihash_rattle\.so\.${wanted%%.*}$"
+}
+
+# Prints the size of a type of the crate for C, as a file proves it.
+size_of() {
+    sed -nE "s/^const _: \(\) = prove!\(size_of::<$1>\(\) == (.*)\);/\1/p" \
+        "../crates/komihash_c/src/$2.rt"
+}
+
+# Compiles calls.c for a version. The last argument is the compiler.
+compile_calls() {
+    compile c11 calls.c -I "$prefix/include" -D "VERSION=$1" \
+        -D "STREAM_SIZE=$(size_of Stream "v$1")" -D "RAND_SIZE=$(size_of Rand rand)" "${@:2}"
+}
+
+calls_declared() {
+    local version
     for version in 4 5; do
-        sed -nE "s/^const _: \(\) = prove!\(size_of::<Stream>\(\) == (.*)\);/\1/p" \
-            "../crates/komihash_c/src/v$version.rt" |
-            sed "s/.*/_Static_assert(sizeof(komihash_v${version}_stream) == &, \"a layout\");/"
-        tr -s ' \n' ' ' < "../crates/komihash_c/src/v$version.rt" | grep -o 'pub extern "C" fn [^{]*' | sed -E "
-            s/ ensures .*| \$//
-            s/\bStream\b/komihash_v${version}_stream/g
-            s/^pub extern \"C\" fn (.*) -> (\w+)$/\2 \1;/
-            s/^pub extern \"C\" fn (.*)$/void \1;/
-            s/, \)/)/
-            s/\w+: &mut \[u8\]/void *, usize/g
-            s/\w+: &\[u8\]/const void *, usize/g
-            s/\w+: &mut \[(\w+)\]/\1 *, usize/g
-            s/\w+: &\[(\w+)[^]]*\]/const \1 *, usize/g
-            s/\w+: &mut (\w+)/\1 */g
-            s/\w+: &(\w+)/const \1 */g
-            s/\w+: (\w+)/\1/g"
+        compile_calls "$version" -c -o "$room/calls.o" "$1" &&
+            symbols U "$room/calls.o" | grep "^komihash_v$version" |
+            diff <(declared | grep "^komihash_v$version") - || return
     done
 }
 
-declarations_fit() {
-    declarations > "$out/declarations.c"
-    compile c11 -fsyntax-only "$out/declarations.c" "$1"
+# Runs calls.c for both versions.
+calls() {
+    local version
+    for version in 4 5; do
+        compile_calls "$version" "$archive" -o "$room/program" "$1" && "$room/program" || return
+    done
 }
 
-# Prints the names in a file that `nm` lists with a letter.
-symbols() { nm "$2" | awk -v letter="$1" 'NF > 1 && $(NF - 1) == letter { print $NF }' | sort; }
+calls_right() { prints calls.txt calls "$1"; }
 
-has_declared() { symbols T "$library.a" | diff <(declared) -; }
-
-needs_nothing() { [ -z "$(symbols U "$library.a")" ]; }
-
-calls_declared() {
-    compile c11 -c calls.c -o "$out/calls.o" "$1" &&
-        symbols U "$out/calls.o" | grep '^komihash_' | diff <(declared) -
+# Whether the example in C or C++, compiled with these flags, prints what it should.
+runs() {
+    local standard=$1 source=$2 compiler=${*: -1}
+    compile "$standard" "$source" "${@:3:$#-3}" -o "$room/program" "$compiler" &&
+        prints examples/printed.txt "$room/program"
 }
 
-cases_in_c() {
-    local compilers=$1
-    note 'the library has the functions of the header, and no more' has_declared
-    note 'the library calls nothing else' needs_nothing
-    note "the header declares the library's functions ($compilers)" \
-        with_each "$compilers" declarations_fit
-    note "calls.c calls every function ($compilers)" with_each "$compilers" calls_declared
-    note "calls.c prints what calls.txt has ($compilers)" \
-        with_each "$compilers" runs c11 calls.c calls.txt
-    note "the example of README.md ($compilers)" \
-        with_each "$compilers" runs c11 "$out/example.c" examples/printed.txt
-    note 'the shared object is linked' link_shared
+runs_with_archive() { runs "$1" "$2" -I "$prefix/include" "$archive" "$3"; }
+
+# Whether the example runs with the shared object, which it has to need by its soname.
+runs_with_shared() {
+    LD_LIBRARY_PATH=$prefix/lib runs "$@" && objdump -p "$room/program" | grep "NEEDED *$soname$"
+}
+
+runs_by_path() {
+    runs_with_shared "$1" "$2" -I "$prefix/include" -L "$prefix/lib" -lkomihash_rattle "$3"
+}
+
+# What pkg-config prints is quoted for a shell.
+runs_by_package() {
+    local printed flags
+    printed=$(PKG_CONFIG_PATH=$prefix/lib/pkgconfig pkg-config --cflags --libs komihash_rattle) &&
+        eval "flags=($printed)" && runs_with_shared "$1" "$2" "${flags[@]}" "$3"
+}
+
+cases_by_package() {
+    note "the example in $language, by pkg-config ($compilers)" \
+        with_each "$compilers" runs_by_package "$standard" "$source"
+}
+
+# The example in a language, linked in each way.
+cases_linked() {
+    local language=$1 standard=$2 source=$3 compilers=$4
+    note "the example in $language, with the static library ($compilers)" \
+        with_each "$compilers" runs_with_archive "$standard" "$source"
+    note "the example in $language, with the shared object ($compilers)" \
+        with_each "$compilers" runs_by_path "$standard" "$source"
     cases_with pkg-config "$(working pkg-config '' --version)" cases_by_package
 }
 
-# Compiles the example by what pkg-config prints for the installed library, and runs it.
-runs_by_package() {
-    local prefix=$1 compiler=$2 flags
-    flags=$(PKG_CONFIG_PATH=$prefix/lib/pkgconfig pkg-config --cflags --libs komihash_rattle) &&
-        eval "$compiler" "$out/example.c" "$flags" -o "$out/program" &&
-        objdump -p "$out/program" | grep "NEEDED *$soname$" &&
-        LD_LIBRARY_PATH=$prefix/lib prints examples/printed.txt "$out/program"
+cases_in_c() {
+    note "calls.c calls every function ($1)" with_each "$1" calls_declared
+    note "calls.c prints what calls.txt has ($1)" with_each "$1" calls_right
+    sed -n '/^```c$/,/^```$/{/^```/!p}' README.md > "$room/example.c"
+    cases_linked C c11 "$room/example.c" "$1"
 }
 
-# These cases are in C, with the compilers that `cases_in_c` has.
-cases_by_package() {
-    local prefix
-    prefix=$(mktemp -d)
-    note 'the library is installed' install_below "$prefix"
-    note "the example of README.md, by pkg-config, with the shared object ($compilers)" \
-        with_each "$compilers" runs_by_package "$prefix"
-    rm -rf "$prefix"
-}
-
-cases_in_cpp() {
-    note "the example in C++ ($1)" \
-        with_each "$1" runs c++17 examples/example.cpp examples/printed.txt
-}
+cases_in_cpp() { cases_linked C++ c++17 examples/example.cpp "$1"; }
 
 runs_rust() {
-    rustc --edition 2021 -D warnings -L "native=$out" -l static=komihash_rattle \
-        examples/example.rs -o "$out/program" && prints examples/printed.txt "$out/program"
+    rustc --edition 2021 -D warnings -L "native=$prefix/lib" -l static=komihash_rattle \
+        examples/example.rs -o "$room/program" && prints examples/printed.txt "$room/program"
 }
 
 cases_in_rust() { note 'the example in Rust' runs_rust; }
 
 cases_in_python() {
-    note 'the example in Python' \
-        prints examples/printed.txt python3 examples/example.py "$library.so"
+    note 'the example in Python' prints examples/printed.txt python3 examples/example.py "$shared"
 }
 
-# The programs in C and C++, Rust and Python. A C compiler also links those in Rust, and the shared
-# object that Python loads.
-cases_in_languages() {
-    cases_in_c "$1"
-    cases_with 'a C++ compiler' \
-        "$(working 'g++ clang++' $'#include <vector>\nint main() {}' -x c++ - -o "$out/program")" \
-        cases_in_cpp
-    cases_with rustc "$(working rustc 'fn main() {}' - -o "$out/program")" cases_in_rust
-    cases_with python3 "$(working python3 'import ctypes')" cases_in_python
-}
+install_anew() { build_archive && link_shared && install_below "$prefix"; }
 
 examples() {
-    note 'the library is proved and built' build_archive
+    note 'the library is proved, built and installed' install_anew
     if [ "$failed" != 0 ]; then
         counted
         return
     fi
-    example > "$out/example.c"
+    note 'the modules of both versions differ in the version alone' modules_agree
+    note 'the installed header is komihash_rattle.h' has_header
+    note 'the library has the functions of the header, and no more' has_declared
+    note 'the library calls nothing else' needs_nothing
+    note 'the versions agree' versions_agree
     cases_with 'a C compiler' \
-        "$(working 'gcc clang' 'int main(void) { return 0; }' -x c - -o "$out/program")" \
-        cases_in_languages
+        "$(working 'gcc clang' 'int main(void) { return 0; }' -x c - -o "$room/program")" cases_in_c
+    cases_with 'a C++ compiler' \
+        "$(working 'g++ clang++' $'#include <vector>\nint main() {}' -x c++ - -o "$room/program")" \
+        cases_in_cpp
+    cases_with rustc "$(working rustc 'fn main() {}' - -o "$room/program")" cases_in_rust
+    cases_with python3 "$(working python3 'import ctypes')" cases_in_python
     counted
 }

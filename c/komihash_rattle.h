@@ -5,12 +5,13 @@
  * For every call:
  * - A length or `room` counts items: bytes, or words of eight bytes; `count` counts pieces. All
  *   items that a pointer leads to take at most PTRDIFF_MAX bytes.
- * - A pointer may be null only if the length, room or count after it is 0. Two pointers may never be
- *   null: `stream`, and the one in a piece, even in an empty one.
- * - A pointer to words or pieces is aligned to eight bytes. One to bytes needs no alignment.
+ * - A pointer may be null only if the length, room or count after it is 0. Never null are `stream`,
+ *   `rand`, and the pointer in a piece, even in an empty one.
+ * - A pointer to words, pieces, a stream or a generator is aligned to eight bytes. One to bytes
+ *   needs no alignment.
  * - What a call writes must not overlap anything else that the call is passed.
- * - No call allocates, or keeps anything for the next. Calls on different data may run at the same
- *   time.
+ * - No call allocates memory or sets errno. The library has no global state, so threads may make
+ *   calls at the same time, except calls on one stream or one generator that any of them changes.
  */
 #ifndef KOMIHASH_RATTLE_H
 #define KOMIHASH_RATTLE_H
@@ -23,15 +24,23 @@
 extern "C" {
 #endif
 
+/* The version of this library. Its first number is that of the soname, and is raised when a program
+ * that was linked to an older library can't run with the new one. */
+#define KOMIHASH_RATTLE_VERSION "1.0.0"
+#define KOMIHASH_RATTLE_VERSION_MAJOR 1
+#define KOMIHASH_RATTLE_VERSION_MINOR 0
+#define KOMIHASH_RATTLE_VERSION_PATCH 0
+
 /* What `unpad` returns instead of a length. */
 #define KOMIHASH_NONE SIZE_MAX
 
 /* The room that `save` needs: the length of the longest saved text. */
 #define KOMIHASH_LONGEST_TEXT 131
 
-/* A stream of each version, as `start` returns it. Only the calls here change it. No call checks it:
- * one that was changed otherwise has a meaningless hash. It may be copied, and each copy then goes on
- * by itself. What is stored or sent is its saved text, since `resume` checks that. */
+/* A stream of each version, which `start` returns. It may be copied by assignment, and each copy
+ * then goes on by itself. Only the calls below change a stream. No call checks that: after any other
+ * change, calls may return wrong hashes and access memory outside of the stream. So store or send
+ * its saved text and not the stream itself: `resume` checks the text. */
 typedef struct {
     uint64_t state[18];
 } komihash_v4_stream;
@@ -39,16 +48,22 @@ typedef struct {
     uint64_t state[18];
 } komihash_v5_stream;
 
+/* A generator of each version, which a `rand_init` returns. It may be copied by assignment too. */
+typedef struct {
+    uint64_t state[2];
+} komihash_v4_rand;
+typedef struct {
+    uint64_t state[2];
+} komihash_v5_rand;
+
 /* A piece of a message. It is laid out like POSIX's `struct iovec`, so a list of these can be cast,
- * but for an entry {NULL, 0}: no call may be passed it, since the pointer in a piece is never
- * null. */
+ * unless it has an entry {NULL, 0}. */
 typedef struct {
     const void *bytes;
     size_t length;
 } komihash_piece;
 
-/* Returns the hash of a message. With the number of a hasher (`KomiHasher` in the Rust crate) as the
- * seed, this is the hasher's number after a write of the message. */
+/* Returns the hash of a message. */
 uint64_t komihash_v4(const void *bytes, size_t length, uint64_t seed);
 uint64_t komihash_v5(const void *bytes, size_t length, uint64_t seed);
 
@@ -65,36 +80,61 @@ void komihash_v4_write(komihash_v4_stream *stream, const void *bytes, size_t len
 void komihash_v5_write(komihash_v5_stream *stream, const void *bytes, size_t length);
 
 /* Absorbs pieces in order. */
-void komihash_v4_write_pieces(komihash_v4_stream *stream, const komihash_piece *pieces, size_t count);
-void komihash_v5_write_pieces(komihash_v5_stream *stream, const komihash_piece *pieces, size_t count);
+void komihash_v4_write_pieces(
+    komihash_v4_stream *stream, const komihash_piece *pieces, size_t count);
+void komihash_v5_write_pieces(
+    komihash_v5_stream *stream, const komihash_piece *pieces, size_t count);
 
-/* Returns the hash of all bytes so far. The stream may go on. */
+/* Returns the hash of all bytes so far. The stream is unchanged, and may absorb more. */
 uint64_t komihash_v4_finish(const komihash_v4_stream *stream);
 uint64_t komihash_v5_finish(const komihash_v5_stream *stream);
 
-/* Writes the saved text of the stream to the front of `out`, and returns its length, 68 to 131. This
- * text can be stored and sent. Returns 0, and writes nothing, if `room` is less than 131. */
+/* Writes the saved text of the stream to the front of `out`, and returns its length, 68 to 131
+ * bytes. This text can be stored and sent. Returns 0, and writes nothing, if `room` is less than
+ * KOMIHASH_LONGEST_TEXT. */
 size_t komihash_v4_save(const komihash_v4_stream *stream, void *out, size_t room);
 size_t komihash_v5_save(const komihash_v5_stream *stream, void *out, size_t room);
 
-/* Sets the stream to the one with this saved text. Returns false, and changes nothing, if no stream
- * of this version has it. The text has no checksum: one that was changed into that of another stream
- * is not noticed. */
+/* Sets the stream to the one that has this saved text, and returns true. Returns false, and changes
+ * nothing, if no stream of this version has it. The text has no checksum: damage that makes it the
+ * text of another stream is not noticed. */
 bool komihash_v4_resume(komihash_v4_stream *stream, const void *text, size_t length);
 bool komihash_v5_resume(komihash_v5_stream *stream, const void *text, size_t length);
 
-/* Fills `out` with the outputs of the generator Komirand from the pair (s1, s2), each output with
- * its lowest byte first. A generator is not kept between calls: the same pair gives the same
- * bytes, of which a shorter fill takes the first. */
+/* Returns the pseudorandom generator Komirand of a seed, which is not cryptographic. */
+komihash_v4_rand komihash_v4_rand_init(uint64_t seed);
+komihash_v5_rand komihash_v5_rand_init(uint64_t seed);
+
+/* Returns the generator of two seeds. If they are equal, it is the generator of that one seed. */
+komihash_v4_rand komihash_v4_rand_init_with_extra_seed(uint64_t seed, uint64_t extra_seed);
+komihash_v5_rand komihash_v5_rand_init_with_extra_seed(uint64_t seed, uint64_t extra_seed);
+
+/* Returns the generator that has the two words as its state. The first outputs of small words are
+ * simple patterns; the calls above take four steps to get past them. */
+komihash_v4_rand komihash_v4_rand_init_words(uint64_t s1, uint64_t s2);
+komihash_v5_rand komihash_v5_rand_init_words(uint64_t s1, uint64_t s2);
+
+/* Returns the next output. */
+uint64_t komihash_v4_rand_next(komihash_v4_rand *rand);
+uint64_t komihash_v5_rand_next(komihash_v5_rand *rand);
+
+/* Fills `out` with the bytes of the next outputs, the lowest byte of each first. Takes an output
+ * for each eight bytes, and one more for a remainder, which gets its lowest bytes; its other bytes
+ * are dropped. */
+void komihash_v4_rand_fill(komihash_v4_rand *rand, void *out, size_t length);
+void komihash_v5_rand_fill(komihash_v5_rand *rand, void *out, size_t length);
+
+/* Does what `rand_fill` does with the new generator of two words, which is not kept. */
 void komihash_v4_fill(void *out, size_t length, uint64_t s1, uint64_t s2);
 void komihash_v5_fill(void *out, size_t length, uint64_t s1, uint64_t s2);
 
-/* The same from two seeds: the generator takes four steps first. One seed alone is passed twice. */
+/* Does the same with the new generator of two seeds. For a single seed, pass it twice. */
 void komihash_v4_fill_seeded(void *out, size_t length, uint64_t seed, uint64_t extra_seed);
 void komihash_v5_fill_seeded(void *out, size_t length, uint64_t seed, uint64_t extra_seed);
 
-/* Writes the padded words of a message to the front of `out`, and returns their number,
- * length / 8 + 1. Returns 0, and writes nothing, if `out` has no room for them. */
+/* Writes the padded words of a message to the front of `out`, and returns their number, which is
+ * length / 8 + 1. They are the words that the hash reads: different messages have different ones.
+ * Returns 0, and writes nothing, if `out` has no room for them. */
 size_t komihash_v4_pad(const void *bytes, size_t length, uint64_t *out, size_t room);
 size_t komihash_v5_pad(const void *bytes, size_t length, uint64_t *out, size_t room);
 

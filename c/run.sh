@@ -26,17 +26,13 @@ esac
 cd "$(dirname "${BASH_SOURCE[0]}")"
 out=$PWD/out
 library=$out/libkomihash_rattle
-# The version of the Rust crate whose port this is, and the soname. The number in the soname is
-# raised when a program that is linked to an older library can't run with the new one.
-version=0.5.0
-soname=libkomihash_rattle.so.1
+# The version that the header states. Its first number is that of the soname.
+version=$(sed -nE 's/^#define KOMIHASH_RATTLE_VERSION "(.*)"$/\1/p' komihash_rattle.h)
+soname=libkomihash_rattle.so.${version%%.*}
 mkdir -p "$out"
-. ../scripts/build.sh
+. ./build.sh
 
-build_archive() {
-    cp komihash_rattle.h "$out/" || return
-    build_static komihash_c "$library.a" --cpu "$cpu"
-}
+build_archive() { build_static komihash_c "$library.a" --cpu "$cpu"; }
 
 # Links the shared object. Programs are linked to it by the name in `.so`, and run with the soname.
 link_shared() {
@@ -71,7 +67,7 @@ END
 install_below() {
     local include=$1/include lib=$1/lib
     mkdir -p "$include" "$lib/pkgconfig" &&
-        install -m 644 "$out/komihash_rattle.h" "$include/" &&
+        install -m 644 komihash_rattle.h "$include/" &&
         install -m 644 "$library.a" "$lib/" &&
         install -m 755 "$library.so.$version" "$lib/" &&
         cp -P --remove-destination "$out/$soname" "$library.so" "$lib/" &&
@@ -81,7 +77,7 @@ install_below() {
 case $command in
     library)
         build
-        echo "$library.a and $library.so are built for $cpu, with $out/komihash_rattle.h."
+        echo "$library.a and $library.so are built for $cpu."
         ;;
     install)
         build

@@ -18,7 +18,7 @@ cd "$(dirname "${BASH_SOURCE[0]}")"
 out=$PWD/out
 layouts=${LAYOUTS:-8}
 mkdir -p "$out"
-. ../scripts/build.sh
+. ../c/build.sh
 
 # Builds the library for C, the loops, and the other hashes whose headers are installed.
 build_libraries() {

@@ -1,39 +1,33 @@
 # Counts cases, for the scripts in bash that source this file. cases.py says how to add one.
-passed=0
-failed=0
-skipped=0
+passed=0 failed=0 skipped=0
 room=$(realpath "$(mktemp -d)")
 trap 'rm -rf "$room"' EXIT
 
 # Counts a case, which passes if the command succeeds.
 note() {
-    local name=$1
-    shift
-    if ("$@") > "$room/case" 2>&1; then
+    if ("${@:2}") > "$room/case" 2>&1; then
         passed=$((passed + 1))
-        echo "ok: $name"
+        echo "ok: $1"
     else
         failed=$((failed + 1))
-        echo "FAILED: $name"
+        echo "FAILED: $1"
         cat "$room/case"
     fi
 }
 
-# Runs a function of cases with the tools that work here, or skips it if there is none.
+# cases_with NAME TOOLS CASES: runs a function of cases with the tools that work here, or skips it
+# if there is none.
 cases_with() {
-    local tool=$1 tools=$2 cases=$3
-    if [ -n "$tools" ]; then
-        "$cases" "$tools"
+    if [ -n "$2" ]; then
+        "$3" "$2"
     else
         skipped=$((skipped + 1))
-        echo "skipped: cases that need $tool, which is missing or does not work here"
+        echo "skipped: cases that need $1, which is missing or does not work here"
     fi
 }
 
 # Prints the counts. Succeeds if no case failed.
 counted() {
-    local skips=", $skipped skipped"
-    [ "$skipped" != 0 ] || skips=
-    echo "$passed passed, $failed failed$skips"
+    echo "$passed passed, $failed failed$([ "$skipped" = 0 ] || echo ", $skipped skipped")"
     [ "$failed" = 0 ]
 }

@@ -1,7 +1,7 @@
 #!/usr/bin/env bash
-# Tests the program as `rt ci` or `rt run` built it: its arguments, inputs of many sizes from files
-# and pipes, and what it does if reads, writes and allocations fail. Needs a C compiler for refuse.c,
-# and the programs of both crates' tests, which `rt ci` or `rt test` built. Takes seconds.
+# Tests the program as `rt ci` or `rt run` built it: its arguments, the test vectors, inputs of many
+# sizes from files and pipes, and what it does if reads, writes and allocations fail. Needs a C
+# compiler for refuse.c. Takes half a minute, most of it to build the tests of both crates anew.
 set -uo pipefail
 cd "$(dirname "$0")/../crates/komisum" || exit 1
 . ../../scripts/cases.sh
@@ -10,6 +10,16 @@ program=out/komisum
 usage='usage: komisum [4|5 SEED]'
 whole=$(cat stdout)
 printf a > "$room/a"
+allocating='arguments::long_arguments
+arguments::versions_and_seeds
+arguments::wrong_usage
+show::lines
+show::lines_of_zeros'
+
+# Runs the tests of both crates, each with its first allocation refused, while the cases below run.
+for crate in komihash komisum; do
+    (cd "../$crate" && rt try --test --fail-alloc 1 --seconds 600) > "$room/$crate" 2>&1 &
+done
 
 # Runs a command, and prints its status, standard output and standard error, each after its name.
 ran() {
@@ -39,6 +49,16 @@ note 'no arguments' equal "$(line 5117f5064cfd0faa)" "$(run < "$room/a")"
 note 'version 5 and seed 0' equal "$(line 5117f5064cfd0faa)" "$(run 5 0 < "$room/a")"
 note 'version 4 and a seed' equal "$(line 4bde5bdc63771675)" "$(run 4 1f < "$room/a")"
 note 'the greatest seed' equal "$(line 4bcc041f3f885859)" "$(run 5 ffffffffffffffff < /dev/null)"
+
+# Prints rows of test vectors, each with the hash that the program prints.
+hashed() {
+    while IFS='|' read -r version seed message _; do
+        printf '%s|%s|%s|%s\n' "$version" "$seed" "$message" \
+            "$(printf "$(sed 's/../\\x&/g' <<< "$message")" | "$program" "$version" "$seed")"
+    done
+}
+vectors=$(grep -v '^#' ../../docs/vectors.tsv | tr '\t' '|')
+note 'docs/vectors.tsv' equal "$vectors" "$(hashed <<< "$vectors")"
 
 # Arguments that it refuses. It then leaves all of the input to `cat`.
 refuse() {
@@ -101,16 +121,13 @@ refuse_memory() {
 }
 note 'refuse.c compiles' "${CC:-cc}" -shared -fPIC -o "$room/refuse.so" ../../scripts/refuse.c
 refuse_memory 2 "$whole"
-refuse_memory 7 4bde5bdc63771675 4 1f
+refuse_memory 5 4bde5bdc63771675 4 1f
 
-# These tests make calls that allocate nothing.
-without_memory() {
-    for test in "${@:2}"; do
-        note "no allocation: $test" refusing 1 "../$1/out/$1_tests" "tests::$test"
-    done
-}
-without_memory komihash runs::runs_calls_in_order generator::fills_every_length
-without_memory komisum show::lines_of_version_five digest::any_chunk hex::lines_of_numbers \
-    settings::versions_and_seeds settings::wrong_usage
+# With the first allocation of each refused, exactly those tests fail that allocate: they read
+# arguments or write to a `Vec`. All others, and all of the library's, allocate nothing.
+wait
+note 'komihash allocates nothing' grep -q '^test result: ok\. [1-9]' "$room/komihash"
+note 'what allocates in the tests of komisum' equal "$allocating" \
+    "$(sed -n 's/^test tests::\(.*\) \.\.\. FAILED$/\1/p' "$room/komisum")"
 
 counted

@@ -1,47 +1,47 @@
-"""Reads the files of the repository, and the code in them, for all scripts."""
+"""Reads the files of the repository, and the code in them, for the scripts in Python."""
 
-import hashlib
 import re
 from functools import lru_cache
 from pathlib import Path
 
 SCRIPTS = Path(__file__).resolve().parent
-TOP = SCRIPTS.parent
 
-# What is read: not what Python leaves beside the scripts.
-TEXTS = {".rt", ".antt", ".md", ".sh", ".py", ".edit", ".txt", ".c", ".h"}
+# What code has no more: comments. A string or a character becomes a number.
+UNREAD = re.compile(r"""(//.*)|"(?:\\[\s\S]|[^"\\])*"|(?<![\w'])b?'(?:\\.[^']*|[^'\\])'""")
 
-# Sources but for the tests, which are not part of the crates, and for the examples.
-SOURCE = re.compile(r"crates/komi\w+/src/(?!tests\b).*\.rt")
-
-# Comments, which are dropped; and strings and characters, each of which becomes a number. The prover reads clauses
-# differently: there `--` and `{-` begin a comment, `//` doesn't, and a name may end in `'`. rules.py refuses all these.
-UNREAD = re.compile(
-    r"""(//.*)|\b[bc]?r"[^"]*"|(?:\b[bc])?"(?:\\[\s\S]|[^"\\])*"|(?<![\w'])b?'(?:\\.[^']*|[^'\\])'"""
-)
+# An item's visibility and kind; items without a block; what precedes a clause's brace; owners.
+HEAD = r"(?:#!?\[[^\]]*\]\s*)*(pub\b\s*(?:\([^)]*\))?)?\s*"
+KIND = re.compile(HEAD + r"(?:(?:ghost|const|unsafe|extern \S+)\s+)*(\w*)")
+NO_BLOCK = re.compile(HEAD + r"(?:use|ghost|type|static|const(?!\s+(?:unsafe\s+)?fn))\b")
+CLAUSE = re.compile(r"\b(?:requires|ensures)\b\W*\w*\s*$")
+OWNER = re.compile(r"\b(?:trait|impl(?:<.*?>)?)\s+(?:[^{]*?\bfor\s+)?\W*(\w+)", re.DOTALL)
 
 
 def texts_of(*patterns):
-    """The texts of the repository's files that match a pattern, by name, in the order of the patterns."""
-    paths = [path for pattern in patterns for path in sorted(TOP.glob(pattern)) if path.suffix in TEXTS]
-    return {path.relative_to(TOP).as_posix(): path.read_text(encoding="utf-8") for path in paths}
+    """The texts of the files that match a pattern, by name, but for what Python leaves behind."""
+    paths = [path for pattern in patterns for path in sorted(SCRIPTS.parent.glob(pattern))]
+    files = [path for path in paths if path.is_file() and path.suffix != ".pyc"]
+    return {path.relative_to(SCRIPTS.parent).as_posix(): path.read_text("utf-8") for path in files}
 
 
-def digest_of(text):
-    return hashlib.sha256(text.encode()).hexdigest()[:16]
-
-
-@lru_cache(maxsize=None)
-def marked(text):
-    """The code of a source, with a NUL for each comment, and one before the number of each string or character."""
-
-    def mark(found):
-        kept = '"C"' if found[0] == '"C"' else f"0x{digest_of(found[0])}"
-        return "\0" + ("" if found[1] else kept)
-
-    return UNREAD.sub(mark, text)
-
-
-@lru_cache(maxsize=None)
 def code_of(text):
-    return marked(text).replace("\0", "")
+    def read(found):
+        return "" if found[1] else found[0] if found[0] == '"C"' else f"0x{found[0].encode().hex()}"
+
+    return UNREAD.sub(read, text)
+
+
+@lru_cache(maxsize=None)
+def items_of(text):
+    """The items of a source or a block, each without its block, and with the block or `None`."""
+    items, start, depth, block = [], 0, 0, None
+    for place, character in enumerate(text):
+        head = text[start:place].strip() if character == "{" and depth == 0 else ""
+        if head and not NO_BLOCK.match(head) and not CLAUSE.search(head):
+            block = place
+        depth += (character in "([{") - (character in ")]}")
+        if depth == 0 and (character == ";" or character == "}" and block is not None):
+            end = place + 1 if block is None else block
+            items.append((text[start:end], None if block is None else text[block + 1 : place]))
+            start, block = place + 1, None
+    return items

@@ -72,6 +72,16 @@ where
         generator
     }
 
+    /// Returns the words, from which `new` makes the same generator. The library for C keeps a
+    /// generator by them.
+    #[doc(hidden)]
+    #[inline(always)]
+    pub fn words(&self) -> (u64, u64)
+        ensures { result ≡ self.now }
+    {
+        (self.s1, self.s2)
+    }
+
     /// Takes one step, and returns its output.
     #[inline]
     #[tactic(auto, unfolding(crate::specs::Generator::next))]

@@ -9,13 +9,12 @@ ghost use Rattle.std.specs.Prelude.{◌≡◌, ◌<◌, ◌≤◌, length};
 ghost use Rattle.komihash.specs.Counts.{Costs, hash_products};
 ghost use Rattle.komihash.specs.Hash.{komi};
 
-use crate::padding::{end_byte, final_word_by_branch, final_word_by_shift, padding_byte};
+use crate::padding::{final_word_by_branch, final_word_by_shift, padding_byte};
 use crate::rounds::tail::{close_one, close_two, hash_from_pair, pair_round};
 use crate::rounds::{absorb_blocks, join, lanes_of, seed_pair};
 use crate::tally::Tally;
 use crate::utils::{read_partial_word, read_word, word_at};
 
-// Returns the hash of 1 to 7 bytes.
 #[inline(never)]
 fn hash_of_partial_word<const V: u8>(bytes: &[u8], seed: u64, tally: &mut Tally) -> u64
     requires least { 1 ≤ length bytes.now }
@@ -28,8 +27,7 @@ fn hash_of_partial_word<const V: u8>(bytes: &[u8], seed: u64, tally: &mut Tally)
     close_one(pair, last, tally)
 }
 
-// Returns the hash of 8 to 15 bytes. The final word comes first, so that its shift doesn't take
-// registers that the products need.
+// The final word comes first, so that its shift doesn't take registers that the products need.
 #[inline(never)]
 fn hash_of_one_word<const V: u8>(bytes: &[u8], seed: u64, tally: &mut Tally) -> u64
     requires least { 8 ≤ length bytes.now }
@@ -37,13 +35,12 @@ fn hash_of_one_word<const V: u8>(bytes: &[u8], seed: u64, tally: &mut Tally) -> 
     ensures hash { result ≡ komi V seed bytes.now }
     ensures costs { Costs tally (hash_products (length bytes.now)) 0 }
 {
-    let last = final_word_by_shift(bytes, end_byte::<V>(bytes));
+    let last = final_word_by_shift(bytes, padding_byte::<V>(bytes));
     let pair = seed_pair(seed, tally);
     close_two(pair, read_word(bytes), last, tally)
 }
 
-// Returns the hash of 16 to 23 bytes. `final_word_by_branch` makes 16 bytes, a common length of
-// keys, faster.
+// `final_word_by_branch` makes 16 bytes, a common length of keys, faster.
 #[inline(never)]
 fn hash_of_two_words<const V: u8>(bytes: &[u8], seed: u64, tally: &mut Tally) -> u64
     requires least { 16 ≤ length bytes.now }
@@ -52,12 +49,12 @@ fn hash_of_two_words<const V: u8>(bytes: &[u8], seed: u64, tally: &mut Tally) ->
     ensures costs { Costs tally (hash_products (length bytes.now)) 0 }
 {
     let pair = seed_pair(seed, tally);
-    let last = final_word_by_branch(bytes, end_byte::<V>(bytes));
+    let last = final_word_by_branch(bytes, padding_byte::<V>(bytes));
     let pair = pair_round(pair, read_word(bytes), word_at(bytes, 8), tally);
     close_one(pair, last, tally)
 }
 
-// Returns the hash of 24 to 31 bytes. `final_word_by_branch` makes 24 bytes faster.
+// `final_word_by_branch` makes 24 bytes faster.
 #[inline(never)]
 fn hash_of_three_words<const V: u8>(bytes: &[u8], seed: u64, tally: &mut Tally) -> u64
     requires least { 24 ≤ length bytes.now }
@@ -66,12 +63,11 @@ fn hash_of_three_words<const V: u8>(bytes: &[u8], seed: u64, tally: &mut Tally) 
     ensures costs { Costs tally (hash_products (length bytes.now)) 0 }
 {
     let pair = seed_pair(seed, tally);
-    let last = final_word_by_branch(bytes, end_byte::<V>(bytes));
+    let last = final_word_by_branch(bytes, padding_byte::<V>(bytes));
     let pair = pair_round(pair, read_word(bytes), word_at(bytes, 8), tally);
     close_two(pair, word_at(bytes, 16), last, tally)
 }
 
-// Returns the hash of 32 to 63 bytes.
 #[inline(never)]
 fn hash_of_four_to_seven_words<const V: u8>(bytes: &[u8], seed: u64, tally: &mut Tally) -> u64
     requires least { 32 ≤ length bytes.now }
@@ -80,11 +76,10 @@ fn hash_of_four_to_seven_words<const V: u8>(bytes: &[u8], seed: u64, tally: &mut
     ensures costs { Costs tally (hash_products (length bytes.now)) 0 }
 {
     let pair = seed_pair(seed, tally);
-    let last = final_word_by_shift(bytes, end_byte::<V>(bytes));
+    let last = final_word_by_shift(bytes, padding_byte::<V>(bytes));
     hash_from_pair(pair, &bytes, last, tally)
 }
 
-// Returns the hash of 64 bytes or more.
 #[inline(never)]
 fn hash_of_blocks<const V: u8>(bytes: &[u8], seed: u64, tally: &mut Tally) -> u64
     requires { 64 ≤ length bytes.now }
@@ -92,7 +87,7 @@ fn hash_of_blocks<const V: u8>(bytes: &[u8], seed: u64, tally: &mut Tally) -> u6
     ensures costs { Costs tally (hash_products (length bytes.now)) 0 }
 {
     let pair = seed_pair(seed, tally);
-    let last = final_word_by_branch(bytes, end_byte::<V>(bytes));
+    let last = final_word_by_branch(bytes, padding_byte::<V>(bytes));
     let mut lanes = lanes_of(pair);
     let rest = absorb_blocks::<V>(&mut lanes, bytes, tally);
     hash_from_pair(join(&lanes, true), &rest, last, tally)

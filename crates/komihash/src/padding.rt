@@ -47,19 +47,6 @@ pub(crate) fn padding_byte<const V: u8>(message: &[u8]) -> u64
     padding_after(has_top_bit::<V>(message[message.len() - 1]))
 }
 
-/// Returns the byte that ends a message: its padding byte, or 0 if the message is empty.
-#[inline(always)]
-pub(crate) fn end_byte<const V: u8>(message: &[u8]) -> u64
-    ensures byte { result ≡ end_byte V message.now }
-    ensures small { result < 4 }
-{
-    if message.is_empty() {
-        0
-    } else {
-        padding_byte::<V>(message)
-    }
-}
-
 /// Returns the final word of eight or more bytes: the bytes after the last whole word, and `end`.
 ///
 /// Reads the last eight bytes, and shifts out those of the last whole word. If no byte comes after
@@ -101,11 +88,12 @@ pub(crate) fn pad<const V: u8>(bytes: &[u8], out: &mut [u64]) -> usize
     ensures rest { drop result out.new ≡ drop result out.old }
 {
     let whole = bytes.len() / 8;
-    let end = end_byte::<V>(bytes);
-    let last = if whole == 0 {
-        read_partial_word(bytes, end)
+    let last = if whole > 0 {
+        final_word_by_shift(bytes, padding_byte::<V>(bytes))
+    } else if bytes.is_empty() {
+        0
     } else {
-        final_word_by_shift(bytes, end)
+        read_partial_word(bytes, padding_byte::<V>(bytes))
     };
     write_words(bytes, out);
     out[whole] = last;

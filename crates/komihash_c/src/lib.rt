@@ -3,5 +3,6 @@
 #![tactic(auto)]
 
 mod pieces;
+mod rand;
 mod v4;
 mod v5;

@@ -5,7 +5,7 @@
 ghost use Rattle.std.specs.Prelude.{◌≡◌, ◌+◌, ◌-◌, ◌*◌, ◌/◌, ◌<◌, ◌≤◌, ◌^◌, ◌++◌, ◌↔◌, true, false};
 ghost use Rattle.std.specs.Prelude.{ℕ, List, [], length, take, drop};
 ghost use Rattle.std.specs.List.{flat_map};
-ghost use Rattle.komihash.specs.Generator.{after_steps, fill};
+ghost use Rattle.komihash.specs.Generator.{next, after_steps, fill, after_fill};
 ghost use Rattle.komihash.specs.Hash.{komi};
 ghost use Rattle.komihash.specs.Padding.{ArePadded, padded_words};
 ghost use Rattle.komihash.specs.Saved.{text, IsText, IsTextAfter};
@@ -13,6 +13,7 @@ ghost use Rattle.komihash.specs.Stream.{State, IsState, HasAbsorbed, start, abso
 ghost use Rattle.komihash.specs.Words.{AreBytes};
 
 use super::pieces::{Piece, absorb_pieces};
+use super::rand::Rand;
 use komihash::stream::raw::RawStream;
 use komihash::stream::{KomiStream, LONGEST_TEXT};
 use komihash::tally::Tally;
@@ -229,4 +230,51 @@ pub extern "C" fn komihash_v4_resume(stream: &mut Stream, bytes: &[u8]) -> bool
         }
         None => false,
     }
+}
+
+/// Returns the generator that has the seed as both words, after four steps.
+#[unsafe(no_mangle)]
+pub extern "C" fn komihash_v4_rand_init(seed: u64) -> Rand
+    ensures { result ≡ after_steps 4 4 (seed, seed) }
+{
+    Rand::of(Komirand::init(seed).words())
+}
+
+/// Returns the generator of two seeds after four steps.
+#[unsafe(no_mangle)]
+pub extern "C" fn komihash_v4_rand_init_with_extra_seed(seed: u64, extra_seed: u64) -> Rand
+    ensures { result ≡ after_steps 4 4 (seed, extra_seed) }
+{
+    Rand::of(Komirand::init_with_extra_seed(seed, extra_seed).words())
+}
+
+/// Returns the generator of a pair of words, without a step.
+#[unsafe(no_mangle)]
+pub extern "C" fn komihash_v4_rand_init_words(s1: u64, s2: u64) -> Rand
+    ensures { result ≡ (s1, s2) }
+{
+    Rand::of((s1, s2))
+}
+
+/// Takes one step, and returns its output.
+#[unsafe(no_mangle)]
+pub extern "C" fn komihash_v4_rand_next(rand: &mut Rand) -> u64
+    ensures output { result ≡ (next 4 rand.old).0 }
+    ensures pair { rand.new ≡ next 4 rand.old }
+{
+    let mut generator = Komirand::new(rand.s1, rand.s2);
+    let output = generator.next();
+    *rand = Rand::of(generator.words());
+    output
+}
+
+/// Fills the buffer with the bytes of the next outputs, the lowest byte of each first.
+#[unsafe(no_mangle)]
+pub extern "C" fn komihash_v4_rand_fill(rand: &mut Rand, out: &mut [u8])
+    ensures bytes { out.new ≡ fill 4 rand.old (length out.old) }
+    ensures pair { rand.new ≡ after_fill 4 rand.old (length out.old) }
+{
+    let mut generator = Komirand::new(rand.s1, rand.s2);
+    generator.fill_bytes(out);
+    *rand = Rand::of(generator.words());
 }

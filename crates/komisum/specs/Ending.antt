@@ -40,16 +40,16 @@ text_of (Failed fault) = Some (fault_text fault)
 text_of (Refused refusal) = Some (refusal_text refusal)
 
 -- its line on standard error: the program's name, the message and a newline
-abbrev pub said : Option (List ℕ) → List ℕ
-said None = []
-said (Some text) = codes "komisum: " ++ text ++ 10 ∷ []
+abbrev pub message_line : Option (List ℕ) → List ℕ
+message_line None = []
+message_line (Some text) = codes "komisum: " ++ text ++ 10 ∷ []
 
 -- this line is written, or a prefix of it if a write fails; without a message nothing happens
 pub record Reports {W : Type 0} (message : Option (List ℕ)) (contents : W → Option (List ℕ))
     (old new : Watched W) : Type 0 where
   pub line : new.failed ≡ false
-      → Appends (contents old.inner) (contents new.inner) (said message)
-  pub partial : AppendsPrefix (contents old.inner) (contents new.inner) (said message)
+      → Appends (contents old.inner) (contents new.inner) (message_line message)
+  pub partial : AppendsPrefix (contents old.inner) (contents new.inner) (message_line message)
   pub silent : message ≡ None → new ≡ old
 
 -- the program's status

@@ -58,9 +58,9 @@ pub record WritesNothing {W : Type 0} (ending : Ending) (old new : Watched W) : 
   pub read : ending ≡ Failed Read → new ≡ old
   pub too_long : ending ≡ Failed TooLong → new ≡ old
 
--- how the program ended: it showed the line for what was asked, or ended with a fault, or passed on
+-- the program ended as the arguments ask: it showed their line, or ended with a fault, or passed on
 -- the refusal, with nothing read and nothing written
-pub record Ran {R W : Type 0} (ending : Ending) (asked : Result (Version × ℕ) Refusal)
+pub record EndsAsAsked {R W : Type 0} (ending : Ending) (asked : Result (Version × ℕ) Refusal)
     (remaining : R → Option (List ℕ)) (old new : Watched R)
     (contents : W → Option (List ℕ)) (before after : Watched W) : Type 0 where
   pub line : ending ≡ Shown → IsOkAnd asked (λ settings.

@@ -1,14 +1,20 @@
 -- The version and the seed that the program's arguments ask for.
 use Rattle.std.specs.Prelude.{ℕ, Bool, List, [], ◌∷◌, length, map, nat_le, ◌==◌, ◌&&◌, ◌||◌}
-use Rattle.std.specs.Prelude.{if◌then◌else◌, None, Some, Ok, Err, Vec, String, string_bytes}
+use Rattle.std.specs.Prelude.{if◌then◌else◌, None, Some, Ok, Err, String, string_bytes}
 use Rattle.std.specs.Int.{is_in_range}
 use Rattle.std.specs.List.{list_all}
 use Rattle.std.specs.declared.option.Option.{Option}
 use Rattle.std.specs.declared.result.Result.{Result}
+use Rattle.std.specs.declared.io.Error.{Error}
+use Rattle.std.specs.declared.io.ErrorKind.{ErrorKind}
+use Rattle.std.specs.declared.io.ErrorKind.TheVariants.{InvalidData}
+use Rattle.std.specs.declared.vec.IntoIter.{IntoIter}
+use Rattle.std.specs.IoError.{error_kind}
 use Rattle.std.specs.Option.{ok_or}
 use Rattle.std.specs.Str.Parse.{digits_value}
+use Rattle.std.specs.Vec.Iter.{into_iter_items}
 use Rattle.komisum.specs.declared.ending.Refusal.{Refusal}
-use Rattle.komisum.specs.declared.ending.Refusal.TheVariants.{Usage}
+use Rattle.komisum.specs.declared.ending.Refusal.TheVariants.{NoMemory, Usage}
 use Rattle.komisum.specs.declared.settings.Version.{Version}
 use Rattle.komisum.specs.declared.settings.Version.TheVariants.{Four, Five}
 
@@ -50,9 +56,15 @@ settings_of [] = Some (Five, 0)
 settings_of (version ∷ seed ∷ []) = both_of (version_of version) (seed_of seed)
 settings_of _ = None
 
--- what arguments ask for, or the refusal in their place; wrong usage if there are some, but not
--- exactly a version and a seed
-abbrev pub asked :
-    {A B : Type 0} → Result (Vec (String A) B) Refusal → Result (Version × ℕ) Refusal
-asked (Ok arguments) = ok_or (settings_of (map string_bytes arguments.items)) Usage
-asked (Err refusal) = Err refusal
+-- the refusal for an error in place of the arguments: wrong usage if one isn't UTF-8
+abbrev pub refusal_of : ErrorKind → Refusal
+refusal_of InvalidData = Usage
+refusal_of _ = NoMemory
+
+-- what arguments ask for, or a refusal; wrong usage if there are some, but not exactly a version and
+-- a seed
+abbrev pub settings_or_refusal :
+    {A B : Type 0} → Result (IntoIter (String A) B) Error → Result (Version × ℕ) Refusal
+settings_or_refusal (Ok arguments) =
+    ok_or (settings_of (map string_bytes (into_iter_items arguments))) Usage
+settings_or_refusal (Err error) = Err (refusal_of (error_kind error))

@@ -8,7 +8,7 @@ ghost use Rattle.komisum.specs.Ending.{status_of, text_of};
 pub const LONGEST_MESSAGE: usize = 25;
 
 /// Why the whole line was not written and flushed.
-#[derive(Clone, Copy, Debug, PartialEq, Eq)]
+#[derive(Drop)]
 pub enum Fault {
     /// A read returned an error.
     Read,
@@ -33,7 +33,7 @@ impl Fault {
 }
 
 /// Why the program did not begin to read.
-#[derive(Clone, Copy, Debug, PartialEq, Eq)]
+#[derive(Drop)]
 pub enum Refusal {
     /// The arguments, a list of them or the input's buffer could not be allocated. All errors in
     /// place of the arguments count as this, but for an argument that is not UTF-8.
@@ -66,7 +66,7 @@ impl Refusal {
 }
 
 /// How the program ends.
-#[derive(Clone, Copy, Debug, PartialEq, Eq)]
+#[derive(Drop)]
 pub enum Ending {
     /// The line was written and flushed.
     Shown,

@@ -22,11 +22,10 @@ use watched::Watched;
 const BUFFER_LENGTH: usize = 1 << 16;
 
 fn main(rt: HostRuntime) -> ExitCode {
-    program::run(
+    let ending = program::run(
         settings::settings_from_env(&rt),
         &mut BufReader::with_capacity(rt.alloc(), BUFFER_LENGTH, rt.stdin()).map(Watched::new),
         &mut Watched::new(rt.stdout()),
-        &mut Watched::new(rt.stderr()),
-    )
-    .0
+    );
+    report::report(&mut Watched::new(rt.stderr()), &ending)
 }

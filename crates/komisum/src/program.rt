@@ -1,20 +1,17 @@
 //! The program, over any reader and writer.
 
 ghost use Rattle.std.specs.Prelude.{◌≡◌, false, OnOk, IfOk, IsErr, IsOkAnd};
-ghost use Rattle.std.specs.Process.{exit_status};
-ghost use Rattle.komisum.specs.Ending.{Reports, ending_of, status_of, text_of};
+ghost use Rattle.komisum.specs.Ending.{ending_of};
 ghost use Rattle.komisum.specs.Program.{AppendsLine, AppendsLinePrefix};
-ghost use Rattle.komisum.specs.Program.{FaultsCome, Ran, ReadsEnough, WritesNothing};
+ghost use Rattle.komisum.specs.Program.{EndsAsAsked, FaultsCome, ReadsEnough, WritesNothing};
 
 use crate::digest::digest;
 use crate::ending::{Ending, Fault, Refusal};
 use crate::hex::hex_line;
-use crate::report::report;
 use crate::settings::Version;
 use crate::watched::{Watched, flush, write_whole};
 use komihash::{v4, v5};
 use std::io::{self, Read, Write};
-use std::process::ExitCode;
 
 // The most bytes that an input may have.
 const LONGEST_INPUT: u64 = 1 << 40;
@@ -65,7 +62,8 @@ fn show_asked<R: Read, W: Write>(
 ) -> Ending
     requires input { input.old.failed ≡ false }
     requires output { output.old.failed ≡ false }
-    ensures { Ran result asked R.remaining input.old input.new W.contents output.old output.new }
+    ensures { EndsAsAsked result asked R.remaining input.old input.new
+        W.contents output.old output.new }
 {
     match asked {
         Ok((version, seed)) => Ending::of(show(input, output, version, seed)),
@@ -73,34 +71,27 @@ fn show_asked<R: Read, W: Write>(
     }
 }
 
-/// Runs the program on what `main` got from its host. Returns the program's status, and how it
-/// ended.
+/// Runs the program on what `main` got from its host. Returns how it ended.
 ///
-/// Shows the line for the version and the seed that the arguments ask for, and writes the message
-/// of how that ended, if it has one, to `errors`. If the arguments were refused, or the input's
-/// buffer could not be allocated, it reads nothing, and writes nothing else. Without a buffer it
-/// ends with `no memory`, whatever the arguments.
+/// Shows the line for the version and the seed that the arguments ask for. If the arguments were
+/// refused, or the input's buffer could not be allocated, it reads and writes nothing. Without a
+/// buffer it ends with `no memory`, whatever the arguments.
 ///
-/// Neither the input nor an output may have failed before.
-pub fn run<R: Read, W: Write, E: Write>(
+/// Neither the input nor the output may have failed before.
+pub fn run<R: Read, W: Write>(
     asked: Result<(Version, u64), Refusal>,
     input: &mut io::Result<Watched<R>>,
     output: &mut Watched<W>,
-    errors: &mut Watched<E>,
-) -> (ExitCode, Ending)
+) -> Ending
     requires input { IfOk input.old (λ reader. reader.failed ≡ false) }
     requires output { output.old.failed ≡ false }
-    requires errors { errors.old.failed ≡ false }
-    ensures status { exit_status result.0 ≡ status_of result.1 }
-    ensures message { Reports (text_of result.1) E.contents errors.old errors.new }
-    ensures ran { IfOk input.old (λ old. IsOkAnd input.new (λ new.
-        Ran result.1 asked R.remaining old new W.contents output.old output.new)) }
-    ensures no_buffer { IsErr input.old → (result.1 ≡ Ending.Refused Refusal.NoMemory)
+    ensures ended { IfOk input.old (λ old. IsOkAnd input.new (λ new.
+        EndsAsAsked result asked R.remaining old new W.contents output.old output.new)) }
+    ensures no_buffer { IsErr input.old → (result ≡ Ending.Refused Refusal.NoMemory)
         × (input.new ≡ input.old) × (output.new ≡ output.old) }
 {
-    let ending = match input {
+    match input {
         Ok(input) => show_asked(asked, input, output),
         Err(_) => Ending::Refused(Refusal::NoMemory),
-    };
-    (report(errors, &ending), ending)
+    }
 }

@@ -3,7 +3,7 @@
 ghost use Rattle.std.specs.Prelude.{◌≡◌, ◌≤◌, ◌↔◌, length, true, false, Some, OnOk, IfErr, IsErr};
 ghost use Rattle.std.specs.Io.KnownBytes.{Appends};
 ghost use Rattle.std.specs.Process.{exit_status};
-ghost use Rattle.komisum.specs.Ending.{Reports, said, status_of, text_of};
+ghost use Rattle.komisum.specs.Ending.{Reports, message_line, status_of, text_of};
 ghost use Rattle.komisum.specs.Watched.{AppendsPrefix};
 
 use crate::ending::{Ending, Fault, LONGEST_MESSAGE};
@@ -25,9 +25,9 @@ fn write_message<W: Write>(errors: &mut Watched<W>, text: &str) -> Result<(), Fa
     requires sound { errors.old.failed ≡ false }
     requires short { length text.now ≤ LONGEST_MESSAGE }
     ensures whole { OnOk result (Appends (W.contents errors.old.inner)
-        (W.contents errors.new.inner) (said (Some text.now))) }
+        (W.contents errors.new.inner) (message_line (Some text.now))) }
     ensures partial { AppendsPrefix (W.contents errors.old.inner) (W.contents errors.new.inner)
-        (said (Some text.now)) }
+        (message_line (Some text.now)) }
     ensures failed { IsErr result ↔ (errors.new.failed ≡ true) }
     ensures fault { IfErr result (λ fault. fault ≡ Fault.Write) }
 {

@@ -1,25 +1,21 @@
 //! The version and the seed that the program's arguments ask for.
 
-ghost use Rattle.std.specs.Prelude.{◌≡◌, ◌↔◌, ◌⊎◌, IsTrue, SomeIff, map, string_bytes};
-ghost use Rattle.std.specs.Prelude.{IfOk, IfErr, IsOkAnd, IsErrAnd};
+ghost use Rattle.std.specs.Prelude.{◌≡◌, IsTrue, SomeIff, map, string_bytes};
 ghost use Rattle.std.specs.Char.{digit_value};
-ghost use Rattle.std.specs.IoError.{error_kind};
 ghost use Rattle.std.specs.Vec.Iter.{into_iter_items};
-ghost use Rattle.komisum.specs.Settings.{asked, is_hex_digit, seed_of, settings_of, version_of};
+ghost use Rattle.komisum.specs.Settings.{is_hex_digit, seed_of, settings_of};
+ghost use Rattle.komisum.specs.Settings.{settings_or_refusal, version_of};
 
 use crate::ending::Refusal;
-use std::alloc::AllocError;
 use std::env::{Args, FillError};
 use std::io::ErrorKind;
 use std::rt::Env;
 use std::{env, io};
 
 /// A version of the hash.
-#[derive(Clone, Copy, Debug, PartialEq, Eq)]
+#[derive(Drop)]
 pub enum Version {
-    /// Version 4.
     Four,
-    /// Version 5.
     Five,
 }
 
@@ -96,66 +92,37 @@ impl<H: Env> Env for AfterName<'_, H> {
     }
 }
 
-/// Returns the arguments that `env::args` returned, all of them, in order and unchanged.
+// Returns the version and the seed that arguments ask for.
+fn settings_in(mut arguments: Args) -> Option<(Version, u64)>
+    ensures { result ≡ settings_of (map string_bytes (into_iter_items arguments)) }
+{
+    match (arguments.next(), arguments.next(), arguments.next()) {
+        (None, _, _) => settings(&[]),
+        (Some(version), Some(seed), None) => settings(&[version.as_str(), seed.as_str()]),
+        _ => None,
+    }
+}
+
+/// Returns the version and the seed that the arguments ask for. `given` is the result of
+/// `env::args`.
 ///
-/// Returns `Usage` exactly if the kind of the error of `env::args` is `InvalidData`, as for an
-/// argument that is not UTF-8, and `NoMemory` for all other errors, or if the list of the arguments
-/// could not be allocated.
-pub fn arguments_of<H: AllocGlobal>(
-    host: &H,
-    given: io::Result<Args>,
-) -> Result<Vec<String>, Refusal>
-    ensures all { IfOk result (λ all. IsOkAnd given (λ arguments.
-        all.items ≡ into_iter_items arguments)) }
-    ensures usage { (result ≡ Err Refusal.Usage)
-        ↔ IsErrAnd given (λ error. error_kind error ≡ ErrorKind.InvalidData) }
+/// Returns `Usage` if there are arguments, but not exactly a version and a seed, or if the kind of
+/// the error in their place is `InvalidData`, as for an argument that is not UTF-8. Returns
+/// `NoMemory` for all other errors, and allocates nothing.
+pub fn settings_from_args(given: io::Result<Args>) -> Result<(Version, u64), Refusal>
+    ensures { result ≡ settings_or_refusal given }
 {
     match given {
-        Ok(arguments) => match arguments.collect(host.alloc()) {
-            Ok(all) => Ok(all),
-            Err(_) => Err(Refusal::NoMemory),
-        },
-        Err(error) if error.kind() == ErrorKind::InvalidData => Err(Refusal::Usage),
-        Err(_) => Err(Refusal::NoMemory),
-    }
-}
-
-// Returns a list of the arguments as `&str`.
-fn strs_of<'a, H: AllocGlobal>(
-    host: &H,
-    arguments: &'a [String],
-) -> Result<Vec<&'a str>, AllocError>
-    ensures { IfOk result (λ strs.
-        map (λ str. str.now) strs.items ≡ map string_bytes arguments.now) }
-{
-    let mut strs = Vec::new(host.alloc());
-    for argument in arguments {
-        strs.push(argument.as_str())?;
-    }
-    Ok(strs)
-}
-
-/// Returns the version and the seed that arguments ask for, or the refusal in place of arguments.
-///
-/// Returns `Usage` if there are arguments, but not exactly a version and a seed, and `NoMemory` if
-/// a list of them could not be allocated.
-pub fn settings_from_strings<H: AllocGlobal>(
-    host: &H,
-    arguments: Result<Vec<String>, Refusal>,
-) -> Result<(Version, u64), Refusal>
-    ensures asked { (result ≡ asked arguments) ⊎ (result ≡ Err Refusal.NoMemory) }
-    ensures refused { IfErr arguments (λ refusal. result ≡ Err refusal) }
-{
-    let arguments = arguments?;
-    match strs_of(host, arguments.as_slice()) {
-        Ok(strs) => settings(strs.as_slice()).ok_or(Refusal::Usage),
-        Err(_) => Err(Refusal::NoMemory),
+        Ok(arguments) => settings_in(arguments).ok_or(Refusal::Usage),
+        Err(error) => Err(match error.kind() {
+            ErrorKind::InvalidData => Refusal::Usage,
+            _ => Refusal::NoMemory,
+        }),
     }
 }
 
 /// Returns the version and the seed that the arguments after the program's name ask for, or a
-/// refusal, as `arguments_of` and `settings_from_strings` do.
+/// refusal, as `settings_from_args` does.
 pub fn settings_from_env<H: Env + AllocGlobal>(host: &H) -> Result<(Version, u64), Refusal> {
-    let given = env::args(&(AfterName(host), host.alloc()));
-    settings_from_strings(host, arguments_of(host, given))
+    settings_from_args(env::args(&(AfterName(host), host.alloc())))
 }

@@ -19,7 +19,7 @@ use crate::tally::Tally;
 use std::marker::Model;
 
 /// A stream as C keeps it: its type does not name its version, so each call does, and its fields lie
-/// in their order. Rust callers use `StreamedKomihash`.
+/// in their order. Rust callers use `StreamedKomihash`. The calls do what those of `KomiStream` do.
 #[derive(Drop)]
 #[repr(C)]
 pub struct RawStream {
@@ -52,7 +52,6 @@ impl Model for RawStream {
 }
 
 impl RawStream {
-    /// Returns the new stream of a seed. Counts one product.
     #[inline(always)]
     pub fn start<const V: u8>(seed: u64, tally: &mut Tally) -> RawStream
         ensures state { result ≡ start seed }
@@ -67,8 +66,6 @@ impl RawStream {
         }
     }
 
-    /// Absorbs bytes. Counts four products for each block of 64 bytes that they complete, and the
-    /// bytes that are copied.
     #[inline(always)]
     pub fn absorb<const V: u8>(&mut self, bytes: &[u8], tally: &mut Tally)
         ensures state { self.new ≡ absorb V self.old bytes.now }
@@ -115,8 +112,6 @@ impl RawStream {
         self.pending.keep(left, tally);
     }
 
-    /// Returns the hash of all bytes so far. The stream is unchanged. Counts two products, and one
-    /// for each 16 pending bytes.
     #[inline(always)]
     pub fn answer<const V: u8>(&self, tally: &mut Tally) -> u64
         ensures answer { result ≡ answer V self.now }
@@ -131,10 +126,6 @@ impl RawStream {
         hash_from_pair(pair, &self.pending, last, tally)
     }
 
-    /// Writes the saved text of the stream to the front of `out`, whose rest is unchanged. Returns
-    /// the text's length in bytes.
-    ///
-    /// `out` needs room for `LONGEST_TEXT` bytes, whatever is pending.
     #[inline(always)]
     pub fn store<const V: u8>(&self, out: &mut [u8]) -> usize
         requires { LONGEST_TEXT ≤ length out.old }

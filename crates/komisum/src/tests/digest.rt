@@ -1,128 +1,82 @@
 //! Hashes of what readers give, and what a fault leaves.
 
-ghost use Rattle.std.specs.Prelude.{◌<◌, ◌≤◌, ◌^◌};
+ghost use Rattle.std.specs.Prelude.{◌≡◌, ◌<◌, ◌≤◌, ◌^◌, false};
 
-use super::fakes::{Calls, FakeReader, Stop};
-use super::messages::{BLOCK_MESSAGE, HASH_OF_BLOCK, HIGH_END, ZERO};
+use super::fakes::{Calls, ERRORS, FakeReader};
+use super::messages::{BLOCK_MESSAGE, ZERO};
 use crate::digest::digest;
 use crate::ending::Fault;
 use crate::watched::Watched;
 use komihash::stream::{Call, KomiStream, LONGEST_TEXT, run_on};
 use komihash::tally::Tally;
-use komihash::{v4, v5};
-use std::process::Abort;
+use komihash::v5::StreamedKomihash;
+use std::io::Read;
 
-// Calls `digest` with a chunk of `room` bytes. Returns its hash or fault, and how often it read.
-fn digested<S: KomiStream>(
-    reader: FakeReader<'_>,
-    most: u64,
-    room: usize,
-) -> (Result<u64, Fault>, usize)
-    requires room { 0 < room }
-    requires fits { room ≤ 96 }
+// Calls `digest` in version 5 with seed 0 and a chunk of `size` bytes.
+fn digested<R: Read>(reader: &mut Watched<R>, most: u64, size: usize) -> Result<u64, Fault>
     requires most { most < 2 ^ 63 }
+    requires some { 0 < size }
+    requires fits { size ≤ 96 }
+    requires sound { reader.old.failed ≡ false }
 {
     let mut chunk = [0xeeu8; 96];
-    let mut reader = Watched::new(reader);
-    let result = digest::<_, S>(&mut reader, 0, &mut chunk[..room], most);
-    (result, reader.into_inner().reads())
+    digest::<R, StreamedKomihash>(reader, 0, &mut chunk[..size], most)
 }
 
-// Digests bytes in version 5, from a reader that gives at most `at_once` of them a read.
-fn in_five(bytes: &[u8], at_once: usize, most: u64, room: usize) -> Result<u64, Fault>
-    requires room { 0 < room }
-    requires fits { room ≤ 96 }
+// Hashes bytes in memory.
+fn of_bytes(bytes: &[u8], most: u64, size: usize) -> Result<u64, Fault>
     requires most { most < 2 ^ 63 }
+    requires some { 0 < size }
+    requires fits { size ≤ 96 }
 {
-    let reader = FakeReader::new(bytes, at_once, Calls::endless());
-    digested::<v5::StreamedKomihash>(reader, most, room).0
-}
-
-// Compares the hash or fault of bytes that come `at_once` a read.
-fn digests(
-    rt: &impl Abort,
-    bytes: &[u8],
-    at_once: usize,
-    most: u64,
-    room: usize,
-    wanted: Result<u64, Fault>,
-)
-    requires room { 0 < room }
-    requires fits { room ≤ 96 }
-    requires most { most < 2 ^ 63 }
-{
-    let given = in_five(bytes, at_once, most, room);
-    assert_eq!(rt; given, wanted, "limit {most} and chunk {room}");
+    digested(&mut Watched::new(bytes), most, size)
 }
 
 #[test]
-fn any_chunk(rt: HostRuntime) {
-    for room in [1, 7, 64, 95, 96] {
-        digests(&rt, &ZERO, 96, 16, room, Ok(0));
-        digests(&rt, &ZERO, 96, 15, room, Err(Fault::TooLong));
-        digests(&rt, &BLOCK_MESSAGE, 96, 95, room, Ok(6));
-        digests(&rt, &BLOCK_MESSAGE, 1, 95, room, Ok(6));
-        digests(&rt, &BLOCK_MESSAGE, 96, 94, room, Err(Fault::TooLong));
+fn chunks_of_every_size(rt: HostRuntime) {
+    for size in [1, 7, 64, 95, 96] {
+        assert!(rt; matches!(of_bytes(&ZERO, 16, size), Ok(0)));
+        assert!(rt; matches!(of_bytes(&BLOCK_MESSAGE, 95, size), Ok(6)));
+        let mut by_one = Watched::new(FakeReader::new(&BLOCK_MESSAGE, Calls::endless(1)));
+        assert!(rt; matches!(digested(&mut by_one, 95, size), Ok(6)));
     }
-    digests(&rt, b"", 96, 0, 96, Ok(0xb7683ea7430132b4));
-    digests(&rt, b"a", 96, 0, 96, Err(Fault::TooLong));
+    assert!(rt; matches!(of_bytes(b"", 0, 96), Ok(0xb7683ea7430132b4)));
 }
 
 #[test]
-fn version_four(rt: HostRuntime) {
-    let reader = FakeReader::new(&HIGH_END, 7, Calls::endless());
-    let (hash, _) = digested::<v4::StreamedKomihash>(reader, 31, 96);
-    assert_eq!(rt; hash, Ok(7));
-}
-
-// Compares the hash or fault, and how often `digest` reads.
-fn digests_by(
-    rt: &impl Abort,
-    reader: FakeReader<'_>,
-    most: u64,
-    wanted: Result<u64, Fault>,
-    reads: usize,
-)
-    requires { most < 2 ^ 63 }
-{
-    let (given, made) = digested::<v5::StreamedKomihash>(reader, most, 96);
-    assert_eq!(rt; given, wanted);
-    assert_eq!(rt; made, reads);
+fn inputs_that_are_too_long(rt: HostRuntime) {
+    for size in [1, 7, 64, 95, 96] {
+        assert!(rt; matches!(of_bytes(&ZERO, 15, size), Err(Fault::TooLong)));
+        assert!(rt; matches!(of_bytes(&BLOCK_MESSAGE, 94, size), Err(Fault::TooLong)));
+    }
+    assert!(rt; matches!(of_bytes(b"a", 0, 96), Err(Fault::TooLong)));
 }
 
 #[test]
 fn nothing_is_read_after_a_fault(rt: HostRuntime) {
-    for call in 1..=15 {
-        let reader = FakeReader::new(&BLOCK_MESSAGE, 7, Calls::failing(call));
-        digests_by(&rt, reader, 95, Err(Fault::Read), call);
+    for error in ERRORS {
+        let mut reader = Watched::new(FakeReader::new(&ZERO, Calls::stopping(8, error, 2)));
+        assert!(rt; matches!(digested(&mut reader, 16, 96), Err(Fault::Read)));
+        assert_eq!(rt; reader.into_inner().calls.made, 2);
     }
-    let reader = FakeReader::new(&ZERO, 8, Calls::failing(2));
-    digests_by(&rt, reader, 16, Err(Fault::Read), 2);
-    let reader = FakeReader::new(&BLOCK_MESSAGE, 7, Calls::failing(16));
-    digests_by(&rt, reader, 95, Ok(6), 15);
-    let reader = FakeReader::new(&BLOCK_MESSAGE, 7, Calls::endless());
-    digests_by(&rt, reader, 20, Err(Fault::TooLong), 3);
-}
-
-#[test]
-fn a_read_of_no_bytes_is_the_end(rt: HostRuntime) {
-    let reader = FakeReader::new(&BLOCK_MESSAGE, 64, Calls::stopping(Stop::MovesNone, 2));
-    digests_by(&rt, reader, 95, Ok(HASH_OF_BLOCK), 2);
+    let mut reader = Watched::new(FakeReader::new(&BLOCK_MESSAGE, Calls::endless(7)));
+    assert!(rt; matches!(digested(&mut reader, 20, 96), Err(Fault::TooLong)));
+    assert_eq!(rt; reader.into_inner().calls.made, 3);
 }
 
 // Returns the hash of bytes that come in pieces. After each piece the stream is saved, and another
 // one is resumed from the saved text. Returns `None` if a saved text is refused.
-fn digested_with_saves<S: KomiStream>(bytes: &[u8], size: usize) -> Option<u64>
+fn of_resumed_streams(bytes: &[u8], size: usize) -> Option<u64>
     requires { 0 < size }
 {
     let mut tally = Tally::new();
-    let mut stream = S::start(0, &mut tally);
+    let mut stream = <StreamedKomihash as KomiStream>::start(0, &mut tally);
     let mut text = [0; LONGEST_TEXT];
     let mut out = [0];
     for piece in bytes.chunks(size) {
         run_on(&mut stream, &[Call::Absorb(piece)], &mut out, &mut tally);
         let end = stream.store(&mut text);
-        stream = S::restore(&text[..end])?;
+        stream = StreamedKomihash::restore(&text[..end])?;
     }
     run_on(&mut stream, &[Call::Answer], &mut out, &mut tally);
     Some(out[0])
@@ -131,8 +85,11 @@ fn digested_with_saves<S: KomiStream>(bytes: &[u8], size: usize) -> Option<u64>
 #[test]
 fn saving_changes_nothing(rt: HostRuntime) {
     for size in [1, 7, 63, 64, 95] {
-        let hash = digested_with_saves::<v5::StreamedKomihash>(&BLOCK_MESSAGE, size);
-        assert_eq!(rt; hash, Some(6), "pieces of {size}");
-        digests(&rt, &BLOCK_MESSAGE, 96, 95, size, Ok(6));
+        assert_eq!(rt;
+            of_resumed_streams(&BLOCK_MESSAGE, size),
+            Some(6),
+            "pieces of {size}"
+        );
+        assert!(rt; matches!(of_bytes(&BLOCK_MESSAGE, 95, size), Ok(6)));
     }
 }

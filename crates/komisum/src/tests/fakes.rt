@@ -1,168 +1,112 @@
-//! A reader and a writer of which one given call fails or moves nothing.
+//! A reader and a writer that move a few bytes per call, and fail or move nothing at one call.
 
-ghost use Rattle.std.specs.Prelude.{◌≤◌};
+ghost use Rattle.std.specs.Prelude.{◌≤◌, IfOk};
 
 use std::io::{Error, ErrorKind, Read, Result, Write};
 
-/// Every kind that an error can have.
-pub const KINDS: [ErrorKind; 42] = [
-    ErrorKind::NotFound,
-    ErrorKind::PermissionDenied,
-    ErrorKind::ConnectionRefused,
-    ErrorKind::ConnectionReset,
-    ErrorKind::HostUnreachable,
-    ErrorKind::NetworkUnreachable,
-    ErrorKind::ConnectionAborted,
-    ErrorKind::NotConnected,
-    ErrorKind::AddrInUse,
-    ErrorKind::AddrNotAvailable,
-    ErrorKind::NetworkDown,
-    ErrorKind::BrokenPipe,
-    ErrorKind::AlreadyExists,
-    ErrorKind::WouldBlock,
-    ErrorKind::NotADirectory,
-    ErrorKind::IsADirectory,
-    ErrorKind::DirectoryNotEmpty,
-    ErrorKind::ReadOnlyFilesystem,
-    ErrorKind::FilesystemLoop,
-    ErrorKind::StaleNetworkFileHandle,
-    ErrorKind::InvalidInput,
-    ErrorKind::InvalidData,
-    ErrorKind::TimedOut,
-    ErrorKind::WriteZero,
-    ErrorKind::StorageFull,
-    ErrorKind::NotSeekable,
-    ErrorKind::QuotaExceeded,
-    ErrorKind::FileTooLarge,
-    ErrorKind::ResourceBusy,
-    ErrorKind::ExecutableFileBusy,
-    ErrorKind::Deadlock,
-    ErrorKind::CrossesDevices,
-    ErrorKind::TooManyLinks,
-    ErrorKind::InvalidFilename,
-    ErrorKind::ArgumentListTooLong,
-    ErrorKind::Interrupted,
-    ErrorKind::Unsupported,
-    ErrorKind::UnexpectedEof,
-    ErrorKind::OutOfMemory,
-    ErrorKind::InProgress,
-    ErrorKind::Other,
-    ErrorKind::Uncategorized,
-];
-
-/// What a fake returns at the given call.
+/// What a fake returns at the call at which it stops.
 #[derive(Clone, Copy)]
 pub enum Stop {
-    /// An error of this kind.
-    Fails(ErrorKind),
+    /// The error of the system that has this number.
+    Number(i32),
+    /// An error of this kind, without a number.
+    Kind(ErrorKind),
     /// `Ok(0)`, with no byte moved.
     MovesNone,
 }
 
-/// The call at which a fake fails or moves nothing, counted from 1, and what it returns there.
+impl Stop {
+    /// Returns the error, or `None` if there is none.
+    pub fn error(self) -> Option<Error> {
+        match self {
+            Stop::Number(number) => Some(Error::from_raw_os_error(number)),
+            Stop::Kind(kind) => Some(Error::from(kind)),
+            Stop::MovesNone => None,
+        }
+    }
+}
+
+/// A kind and a number: an interrupted call, and a fault of the device.
+pub const ERRORS: [Stop; 2] = [Stop::Kind(ErrorKind::Interrupted), Stop::Number(5)];
+
+/// The calls of a fake: how many bytes each moves at most, and which one, counted from 1, stops.
 #[derive(Drop)]
 pub struct Calls {
+    most: usize,
     stop: Stop,
     stops_at: usize,
-    made: usize,
+    /// The number of calls so far.
+    pub made: usize,
 }
 
 impl Calls {
-    /// Fails or moves nothing at one call.
-    pub fn stopping(stop: Stop, stops_at: usize) -> Self {
+    /// Stops at one call. Those after it move bytes again.
+    pub fn stopping(most: usize, stop: Stop, stops_at: usize) -> Self {
         Calls {
+            most,
             stop,
             stops_at,
             made: 0,
         }
     }
 
-    /// Fails at one call, with an error after which a caller might try again.
-    pub fn failing(fails_at: usize) -> Self {
-        Calls::stopping(Stop::Fails(ErrorKind::Interrupted), fails_at)
+    /// Never stops.
+    pub fn endless(most: usize) -> Self {
+        Calls::stopping(most, Stop::MovesNone, 0)
     }
 
-    /// Moves bytes at every call.
-    pub fn endless() -> Self {
-        Calls::stopping(Stop::MovesNone, 0)
-    }
-
-    // Counts a call. Returns whether it moves bytes.
-    fn next(&mut self) -> Result<bool> {
+    // Counts a call that could move this many bytes. Returns how many it moves.
+    fn next(&mut self, bytes: usize) -> Result<usize>
+        ensures { IfOk result (λ count. count ≤ bytes) }
+    {
         self.made = self.made.saturating_add(1);
         if self.made != self.stops_at {
-            return Ok(true);
+            return Ok(self.most.min(bytes));
         }
-        match self.stop {
-            Stop::Fails(kind) => Err(Error::from(kind)),
-            Stop::MovesNone => Ok(false),
-        }
+        self.stop.error().map_or(Ok(0), Err)
     }
 }
 
-/// A reader that gives a few bytes per call.
+/// A reader of bytes in memory, which tells contracts nothing of them.
 #[derive(Drop)]
 pub struct FakeReader<'a> {
     left: &'a [u8],
-    most: usize,
-    calls: Calls,
-    sizes: [usize; 4],
+    /// Its reads.
+    pub calls: Calls,
 }
 
 impl<'a> FakeReader<'a> {
-    /// Gives `bytes`, at most `most` a call.
-    pub fn new(bytes: &'a [u8], most: usize, calls: Calls) -> Self {
-        FakeReader {
-            left: bytes,
-            most,
-            calls,
-            sizes: [0; 4],
-        }
-    }
-
-    /// Returns the number of reads.
-    pub fn reads(&self) -> usize {
-        self.calls.made
-    }
-
-    /// Returns how many bytes each of the first four reads gave.
-    pub fn sizes(&self) -> [usize; 4] {
-        self.sizes
+    /// Gives `bytes`.
+    pub fn new(bytes: &'a [u8], calls: Calls) -> Self {
+        FakeReader { left: bytes, calls }
     }
 }
 
 impl Read for FakeReader<'_> {
     fn read(&mut self, buf: &mut [u8]) -> Result<usize> {
-        if !self.calls.next()? {
-            return Ok(0);
-        }
-        let count = self.most.min(self.left.len()).min(buf.len());
+        let count = self.calls.next(self.left.len().min(buf.len()))?;
         buf[..count].copy_from_slice(&self.left[..count]);
         self.left = &self.left[count..];
-        if let Some(size) = self.sizes.get_mut(self.calls.made.saturating_sub(1)) {
-            *size = count;
-        }
         Ok(count)
     }
 }
 
-/// A writer that accepts a few bytes per call, 64 in all, and holds them. A flush counts as a call.
+/// A writer that holds up to 64 bytes.
 #[derive(Drop)]
 pub struct FakeWriter {
     held: [u8; 64],
     count: usize,
-    most: usize,
-    calls: Calls,
+    /// Its writes and flushes.
+    pub calls: Calls,
     ghost within: { count ≤ 64 },
 }
 
 impl FakeWriter {
-    /// Accepts at most `most` bytes per call.
-    pub fn new(most: usize, calls: Calls) -> Self {
+    /// Holds no bytes yet.
+    pub fn new(calls: Calls) -> Self {
         FakeWriter {
             held: [0; 64],
             count: 0,
-            most,
             calls,
         }
     }
@@ -171,26 +115,18 @@ impl FakeWriter {
     pub fn taken(&self) -> &[u8] {
         &self.held[..self.count]
     }
-
-    /// Returns the number of writes and flushes.
-    pub fn calls(&self) -> usize {
-        self.calls.made
-    }
 }
 
 impl Write for FakeWriter {
     fn write(&mut self, buf: &[u8]) -> Result<usize> {
-        if !self.calls.next()? {
-            return Ok(0);
-        }
-        let count = self.most.min(buf.len()).min(64 - self.count);
+        let count = self.calls.next(buf.len().min(64 - self.count))?;
         self.held[self.count..self.count + count].copy_from_slice(&buf[..count]);
         self.count += count;
         Ok(count)
     }
 
     fn flush(&mut self) -> Result<()> {
-        self.calls.next()?;
+        self.calls.next(0)?;
         Ok(())
     }
 }

@@ -1,4 +1,4 @@
-//! Messages, and their hashes with seed 0: worked out from the rules, or by the Rust crate.
+//! Messages, and their hashes with seed 0, which were worked out from the rules.
 
 /// 16 bytes whose hash is 0, in both versions.
 pub const ZERO: [u8; 16] = [
@@ -20,17 +20,3 @@ pub const BLOCK_MESSAGE: [u8; 95] = [
     0x59, 0xaa, 0x2d, 0xb7, 0x32, 0x65, 0x83, 0xbe, 0xfd, 0xff, 0xff, 0xff, 0xff, 0xff, 0xff, 0xff,
     0xa5, 0x57, 0xd2, 0x48, 0xcd, 0x9a, 0x7c, 0x41, 0x00, 0x00, 0x00, 0x00, 0x00, 0x00, 0x00,
 ];
-
-/// The hash of the first 64 bytes of `BLOCK_MESSAGE` in version 5.
-pub const HASH_OF_BLOCK: u64 = 0x2a2f_07ac_9381_0128;
-
-/// Returns a message of N bytes: byte i is `(7*i + 3) mod 256`.
-pub fn message<const N: usize>() -> [u8; N] {
-    let mut bytes = [0; N];
-    let mut next = 3u8;
-    for byte in &mut bytes {
-        *byte = next;
-        next = next.wrapping_add(7);
-    }
-    bytes
-}

@@ -1,107 +1,76 @@
 //! Calls through a watched reader or writer.
 
-use super::fakes::{Calls, FakeReader, FakeWriter, KINDS, Stop};
+use super::fakes::{Calls, ERRORS, FakeReader, FakeWriter, Stop};
 use super::messages::ZERO;
 use crate::watched::Watched;
-use std::io::{ErrorKind, Read, Result, Write};
+use std::io::ErrorKind::{InvalidData, Other, UnexpectedEof, WriteZero};
+use std::io::{Read, Result, Write};
 use std::process::Abort;
-use std::result;
-
-// Compares what a call returned, errors by their kind, and whether any call has failed.
-fn returns(
-    rt: &impl Abort,
-    given: (Result<usize>, bool),
-    wanted: result::Result<usize, ErrorKind>,
-    failed: bool,
-) {
-    let result = given.0.map_err(|error| error.kind());
-    assert_eq!(rt; result, wanted);
-    assert_eq!(rt; given.1, failed);
-}
-
-// Reads. Compares the bytes, and whether the reader has failed.
-fn reads(rt: &impl Abort, watched: &mut Watched<FakeReader<'_>>, wanted: &[u8], failed: bool) {
-    let mut bytes = [0u8; 16];
-    let result = watched.read(&mut bytes);
-    returns(rt, (result, watched.failed()), Ok(wanted.len()), failed);
-    assert!(rt; bytes.starts_with(wanted), "other bytes read");
-}
-
-// Writes. Compares what that returned, and whether the writer has failed.
-fn writes(
-    rt: &impl Abort,
-    watched: &mut Watched<FakeWriter>,
-    bytes: &[u8],
-    wanted: result::Result<usize, ErrorKind>,
-    failed: bool,
-) {
-    let result = watched.write(bytes);
-    returns(rt, (result, watched.failed()), wanted, failed);
-}
-
-// Flushes. Compares what that returned, 0 for `Ok`, and whether the writer has failed.
-fn flushes(
-    rt: &impl Abort,
-    watched: &mut Watched<FakeWriter>,
-    wanted: result::Result<usize, ErrorKind>,
-    failed: bool,
-) {
-    let result = watched.flush().map(|_| 0);
-    returns(rt, (result, watched.failed()), wanted, failed);
-}
 
 #[test]
-fn reads_through(rt: HostRuntime) {
-    for kind in KINDS {
-        let calls = Calls::stopping(Stop::Fails(kind), 3);
-        let mut watched = Watched::new(FakeReader::new(&ZERO, 8, calls));
-        reads(&rt, &mut watched, &ZERO[..8], false);
-        reads(&rt, &mut watched, &ZERO[8..], false);
-        let result = watched.read(&mut [0u8; 16]);
-        returns(&rt, (result, watched.failed()), Err(kind), true);
-        reads(&rt, &mut watched, b"", true);
-        assert_eq!(rt; watched.into_inner().reads(), 4);
+fn reads(rt: HostRuntime) {
+    for error in ERRORS {
+        let mut reader = Watched::new(FakeReader::new(&ZERO, Calls::stopping(8, error, 3)));
+        let mut bytes = [0u8; 16];
+        assert!(rt; matches!(reader.read(&mut bytes), Ok(8)));
+        assert!(rt; bytes.starts_with(&ZERO[..8]) && !reader.failed());
+        assert!(rt; matches!(reader.read(&mut bytes), Ok(8)));
+        assert!(rt; bytes.starts_with(&ZERO[8..]) && !reader.failed());
+        assert!(rt; reader.read(&mut bytes).is_err() && reader.failed());
+        assert!(rt; matches!(reader.read(&mut bytes), Ok(0)));
+        assert!(rt; reader.failed());
+        assert_eq!(rt; reader.into_inner().calls.made, 4);
     }
 }
 
 #[test]
-fn an_end_is_no_failure(rt: HostRuntime) {
-    let mut watched = Watched::new(FakeReader::new(b"", 8, Calls::endless()));
-    reads(&rt, &mut watched, b"", false);
-}
-
-#[test]
-fn writes_through(rt: HostRuntime) {
-    for kind in KINDS {
-        let calls = Calls::stopping(Stop::Fails(kind), 3);
-        let mut watched = Watched::new(FakeWriter::new(3, calls));
-        writes(&rt, &mut watched, b"12345", Ok(3), false);
-        writes(&rt, &mut watched, b"45678", Ok(3), false);
-        writes(&rt, &mut watched, b"7", Err(kind), true);
-        writes(&rt, &mut watched, b"7", Ok(1), true);
-        let writer = watched.into_inner();
-        assert_eq!(rt; writer.taken(), b"1234567".as_slice());
-        assert_eq!(rt; writer.calls(), 4);
+fn writes_and_a_flush(rt: HostRuntime) {
+    for error in ERRORS {
+        let mut writer = Watched::new(FakeWriter::new(Calls::stopping(3, error, 3)));
+        assert!(rt; matches!(writer.write(b"12345"), Ok(3)));
+        assert!(rt; !writer.failed());
+        assert!(rt; matches!(writer.write(b"45678"), Ok(3)));
+        assert!(rt; !writer.failed());
+        assert!(rt; writer.flush().is_err() && writer.failed());
+        assert!(rt; writer.flush().is_ok() && writer.failed());
+        let writer = writer.into_inner();
+        assert_eq!(rt; writer.taken(), b"123456".as_slice());
+        assert_eq!(rt; writer.calls.made, 4);
     }
 }
 
-#[test]
-fn flushes_through(rt: HostRuntime) {
-    for kind in KINDS {
-        let calls = Calls::stopping(Stop::Fails(kind), 3);
-        let mut watched = Watched::new(FakeWriter::new(3, calls));
-        writes(&rt, &mut watched, b"12345", Ok(3), false);
-        writes(&rt, &mut watched, b"45678", Ok(3), false);
-        flushes(&rt, &mut watched, Err(kind), true);
-        flushes(&rt, &mut watched, Ok(0), true);
-        assert_eq!(rt; watched.into_inner().calls(), 4);
-    }
+// Checks that a call returned the error at which its fake stopped.
+fn is_error(rt: &impl Abort, returned: Result<usize>, stop: Stop) {
+    let (Err(given), Some(wanted)) = (returned, stop.error()) else {
+        panic!(rt; "no error");
+    };
+    assert_eq!(rt; given.raw_os_error(), wanted.raw_os_error());
+    assert_eq!(rt; given.kind(), wanted.kind());
 }
 
+// Makes each call, and a read into no room, of fakes whose first call returns this error.
+fn passes_on(rt: &impl Abort, error: Stop) {
+    for room in [0, 16] {
+        let mut reader = Watched::new(FakeReader::new(&ZERO, Calls::stopping(16, error, 1)));
+        let mut bytes = [0u8; 16];
+        is_error(rt, reader.read(&mut bytes[..room]), error);
+        assert_eq!(rt; reader.into_inner().calls.made, 1);
+    }
+    let mut writer = Watched::new(FakeWriter::new(Calls::stopping(16, error, 1)));
+    is_error(rt, writer.write(&ZERO), error);
+    assert_eq!(rt; writer.into_inner().calls.made, 1);
+    let mut writer = Watched::new(FakeWriter::new(Calls::stopping(16, error, 1)));
+    is_error(rt, writer.flush().map(|()| 0), error);
+    assert_eq!(rt; writer.into_inner().calls.made, 1);
+}
+
+// Every number of the system, and the kinds that no number has.
 #[test]
-fn writes_that_accept_nothing(rt: HostRuntime) {
-    let mut watched = Watched::new(FakeWriter::new(3, Calls::stopping(Stop::MovesNone, 3)));
-    writes(&rt, &mut watched, b"", Ok(0), false);
-    flushes(&rt, &mut watched, Ok(0), false);
-    writes(&rt, &mut watched, b"1", Ok(0), true);
+fn errors_are_passed_on(rt: HostRuntime) {
+    for number in 1..=133 {
+        passes_on(&rt, Stop::Number(number));
+    }
+    for kind in [InvalidData, Other, UnexpectedEof, WriteZero] {
+        passes_on(&rt, Stop::Kind(kind));
+    }
 }

@@ -1,30 +1,35 @@
--- The final word is read in one of two ways, and `padded_words-by_tail` puts it after whole words.
-use Rattle.std.proofs.Common.{◌≡◌, ◌++◌, [], ◌∷◌, ◌+◌, ◌/◌, ◌∙◌, ap, length, arith, sym}
+-- The final word is read in one of three ways, and `padded_words-by_tail` puts it after whole words.
+use Rattle.std.proofs.Common.{◌≡◌, ◌++◌, [], ◌∷◌, ◌+◌, ◌/◌, ◌∙◌, ap, length, arith, refl, sym}
+use Rattle.std.proofs.lemmas.Bool.{eqb-true}
 use Rattle.std.proofs.lemmas.Grind.{drop_more_same}
-use Rattle.std.proofs.lemmas.List.{take_more_set, drop-set-lt}
+use Rattle.std.proofs.lemmas.List.{nil_from_length, take_more_set, drop-set-lt}
 use Rattle.komihash.specs.Storage.{final_word, end_byte}
 use Rattle.komihash.specs.Words.{word_of}
 use Rattle.komihash.proofs.PaddedWords.{padded_words-by_tail}
 use Rattle.komihash.proofs.WholeWords.{after_words-few}
 use Rattle.komihash.proofs.padding.pad.Goals as goal
-use Rattle.komihash.proofs.padding.pad.Goals.{then-whole-eq0, else-whole-eq0}
+use Rattle.komihash.proofs.padding.pad.Goals.{then-whole-gt0, else-whole-gt0+else-is_empty, else-whole-gt0+then-is_empty}
 
 pub returns-clause-padded : goal.returns-clause-padded
 returns-clause-padded g c =
     let bytes = c.args.bytes.now in
     let end = end_byte g.row.V bytes in
-    let last : c.if-whole-eq0.last ≡ final_word bytes end = elim c.if-whole-eq0.branch [
-      | then-whole-eq0 w ↦
-          w.last-is ∙ w.read_partial_word-last.ensures ∙ ap (λ b. word_of (bytes ++ b ∷ [])) c.end_byte-end.ensures.byte
+    let last : c.if-whole-gt0.last ≡ final_word bytes end = elim c.if-whole-gt0.branch [
+      | then-whole-gt0 w ↦
+          w.last-is ∙ w.final_word_by_shift-last.ensures ∙ ap (final_word bytes) w.padding_byte.ensures.byte
+      | else-whole-gt0+then-is_empty w ↦
+          let none = nil_from_length bytes (eqb-true _ _ (sym w.if-is_empty.ensures)) in
+          w.last-is ∙ rw none refl
+      | else-whole-gt0+else-is_empty w ↦
+          w.last-is ∙ w.read_partial_word.ensures
+          ∙ ap (λ b. word_of (bytes ++ b ∷ [])) w.padding_byte-else-is_empty.ensures.byte
           ∙ sym (ap (λ b. word_of (b ++ end ∷ [])) (after_words-few bytes (omega arith)))
-      | else-whole-eq0 w ↦
-          w.last-is ∙ w.final_word_by_shift-last.ensures ∙ ap (final_word bytes) c.end_byte-end.ensures.byte
     ] in
-    take_more_set c.write_words.new.out (length bytes / 8) c.if-whole-eq0.last (omega arith)
+    take_more_set c.write_words.new.out (length bytes / 8) c.if-whole-gt0.last (omega arith)
     ∙ rw (c.write_words.ensures.words, last) (sym (padded_words-by_tail g.row.V bytes))
 
 pub returns-clause-rest : goal.returns-clause-rest
 returns-clause-rest g c =
     let whole = length c.args.bytes.now / 8 in
-    drop-set-lt (whole + 1) c.write_words.new.out whole c.if-whole-eq0.last (omega arith)
+    drop-set-lt (whole + 1) c.write_words.new.out whole c.if-whole-gt0.last (omega arith)
     ∙ drop_more_same c.write_words.new.out c.args.out.now whole c.write_words.ensures.rest

@@ -1,0 +1,39 @@
+//! A generator as C keeps it, for either version.
+
+ghost use Rattle.std.specs.Prelude.{◌≡◌};
+
+use std::marker::Model;
+
+/// A generator as C keeps it: its pair of words. Each call names the version.
+#[derive(Drop)]
+#[repr(C)]
+pub struct Rand {
+    pub(crate) s1: u64,
+    pub(crate) s2: u64,
+}
+
+const _: () = prove!(size_of::<Rand>() == 16);
+
+impl Model for Rand {
+    ghost use Rattle.std.specs.Prelude.{ℕ};
+
+    ghost Value = { ℕ × ℕ };
+
+    ghost view = { λ rand. (rand.s1, rand.s2) };
+
+    ghost inverse = { λ pair. record {
+      s1 = pair.0;
+      s2 = pair.1;
+    } };
+}
+
+impl Rand {
+    /// Returns the generator of a pair of words.
+    #[inline(always)]
+    pub(crate) fn of(words: (u64, u64)) -> Rand
+        ensures { result ≡ words }
+    {
+        let (s1, s2) = words;
+        Rand { s1, s2 }
+    }
+}
