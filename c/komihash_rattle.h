@@ -3,8 +3,9 @@
  * begin with komihash_v4, those for version 5 with komihash_v5.
  *
  * For every call:
- * - A length or `room` counts items: bytes, or words of eight bytes; `count` counts pieces. All
- *   items that a pointer leads to take at most PTRDIFF_MAX bytes.
+ * - `length` and `room` count the items after the pointer before them, which are bytes or words of
+ *   eight bytes; `count` counts pieces. No single array takes more than PTRDIFF_MAX bytes. All
+ *   pieces together may.
  * - A pointer may be null only if the length, room or count after it is 0. Never null are `stream`,
  *   `rand`, and the pointer in a piece, even in an empty one.
  * - A pointer to words, pieces, a stream or a generator is aligned to eight bytes. One to bytes
@@ -63,7 +64,8 @@ typedef struct {
     size_t length;
 } komihash_piece;
 
-/* Returns the hash of a message. */
+/* Returns the hash of a message. Any seed will do: use 0 unless you need several hashes of one
+ * message. A secret seed gives no security. */
 uint64_t komihash_v4(const void *bytes, size_t length, uint64_t seed);
 uint64_t komihash_v5(const void *bytes, size_t length, uint64_t seed);
 
@@ -90,12 +92,14 @@ uint64_t komihash_v4_finish(const komihash_v4_stream *stream);
 uint64_t komihash_v5_finish(const komihash_v5_stream *stream);
 
 /* Writes the saved text of the stream to the front of `out`, and returns its length, 68 to 131
- * bytes. This text can be stored and sent. Returns 0, and writes nothing, if `room` is less than
+ * bytes. This text is binary, and can be stored and sent. It has neither the seed nor the number of
+ * bytes so far, but up to 63 bytes of the message as they are. Returns 0, and writes nothing, if `room` is less than
  * KOMIHASH_LONGEST_TEXT. */
 size_t komihash_v4_save(const komihash_v4_stream *stream, void *out, size_t room);
 size_t komihash_v5_save(const komihash_v5_stream *stream, void *out, size_t room);
 
-/* Sets the stream to the one that has this saved text, and returns true. Returns false, and changes
+/* Sets the stream, which may be any that a call returned, to the one that has this saved text, and
+ * returns true. Returns false, and changes
  * nothing, if no stream of this version has it. The text has no checksum: damage that makes it the
  * text of another stream is not noticed. */
 bool komihash_v4_resume(komihash_v4_stream *stream, const void *text, size_t length);

@@ -195,11 +195,12 @@ def shown_block(rows, measured):
             cells += (speed, f"{it.median:.2f}")
         table.append(cells)
     ratio = (
-        "A ratio is the time of the Rust crate, built with fat LTO and for x86-64-v2, divided by"
-        " the time of the port: above 1, the port is faster."
+        "The port is the code of this repository. A ratio is the time of the Rust crate `komihash`"
+        " 0.5.0, built with fat LTO and for x86-64-v2, divided by the time of the port: above 1,"
+        " the port is faster."
     )
     table = markdown(("Call", "version 5", "ratio", "version 4", "ratio"), table)
-    return "\n\n".join((MARKS[0], table, f"{ratio} Measured on {measured}.", MARKS[1]))
+    return "\n\n".join((MARKS[0], ratio, table, f"Measured on {measured}.", MARKS[1]))
 
 
 def slower_rows(rows):

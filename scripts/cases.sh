@@ -3,7 +3,6 @@ passed=0 failed=0 skipped=0
 room=$(realpath "$(mktemp -d)")
 trap 'rm -rf "$room"' EXIT
 
-# Counts a case, which passes if the command succeeds.
 note() {
     if ("${@:2}") > "$room/case" 2>&1; then
         passed=$((passed + 1))
@@ -26,7 +25,6 @@ cases_with() {
     fi
 }
 
-# Prints the counts. Succeeds if no case failed.
 counted() {
     echo "$passed passed, $failed failed$([ "$skipped" = 0 ] || echo ", $skipped skipped")"
     [ "$failed" = 0 ]

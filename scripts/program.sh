@@ -1,7 +1,6 @@
 #!/usr/bin/env bash
 # Tests the program as `rt ci` or `rt run` built it: its arguments, the test vectors, inputs of many
-# sizes from files and pipes, and what it does if reads, writes and allocations fail. Needs a C
-# compiler for refuse.c. Takes half a minute, most of it to build the tests of both crates anew.
+# sizes from files and pipes, and faults. Needs a C compiler. Half a minute, mostly to build tests.
 set -uo pipefail
 cd "$(dirname "$0")/../crates/komisum" || exit 1
 . ../../scripts/cases.sh
@@ -10,37 +9,28 @@ program=out/komisum
 usage='usage: komisum [4|5 SEED]'
 whole=$(cat stdout)
 printf a > "$room/a"
-allocating='arguments::long_arguments
-arguments::versions_and_seeds
-arguments::wrong_usage
-show::lines
-show::lines_of_zeros'
 
 # Runs the tests of both crates, each with its first allocation refused, while the cases below run.
 for crate in komihash komisum; do
     (cd "../$crate" && rt try --test --fail-alloc 1 --seconds 600) > "$room/$crate" 2>&1 &
 done
 
-# Runs a command, and prints its status, standard output and standard error, each after its name.
+# Runs a command, or the program, and prints its status, standard output and standard error.
 ran() {
     "$@" > "$room/output" 2> "$room/errors"
     printf 'status %s\n' $?
     printf 'output %s|\n' "$(cat "$room/output"; printf .)"
     printf 'errors %s|\n' "$(cat "$room/errors"; printf .)"
 }
-
-# Does the same for the program with these arguments.
 run() { ran "$program" "$@"; }
 
 # Print what `ran` prints for a line and for a fault.
 line() { printf 'status 0\noutput %s\n.|\nerrors .|\n' "$1"; }
 fault() { printf 'status %s\noutput .|\nerrors komisum: %s\n.|\n' "$1" "$2"; }
 
-# Whether the output is the expected one. A command that doesn't run prints nothing, so an empty
-# expectation always fails.
+# Whether the output is the expected one, which is never empty: a command that fails prints nothing.
 equal() { [ -n "$1" ] && diff <(echo "$1") <(echo "$2"); }
 
-# Prints a message of this many bytes.
 message() { seq 1 1000000 | head -c "$1"; }
 
 # Arguments that it accepts. The hashes are those of the Rust crate.
@@ -79,9 +69,8 @@ refuse 'a first argument of 300 digits' "$long"
 refuse 'a third argument of 300 digits' 5 0 "$long"
 refuse --help --help
 
-# Sizes around 4,096 bytes, the buffer's 65,536 and above 2^20, from files and from pipes. The
-# longest input, 2^40 zero bytes, takes 7 minutes and was tried by hand: its line in version 5 is
-# b105583901d0a6f8, as by the Rust crate.
+# Sizes around 4,096 bytes, the buffer's 65,536 and above 2^20. The longest input, 2^40 zero bytes,
+# takes 7 minutes and was tried by hand: its line in version 5 is b105583901d0a6f8.
 while read -r size five four; do
     message "$size" > "$room/message"
     note "$size bytes from a file" equal "$(line "$five")" "$(run < "$room/message")"
@@ -95,11 +84,9 @@ done << 'SIZES'
 65535 df8db897ce0759de 67e3d1ad2c888534
 65536 3af8ee05196faaef 8ed2b597002c4474
 65537 8a4bc5027a81c850 96048246b1a98f8e
-200000 f1226606918aa970 5fcaf5a4c1809abc
 1048577 388de716583121be d577466f23642771
 SIZES
 
-# Files that can't be read or written.
 note 'the input is a folder' equal "$(fault 1 'read failed')" "$(run < /)"
 note 'a closed input' equal "$(fault 1 'read failed')" "$(run <&-)"
 note 'a full output' equal $'komisum: write failed\nstatus 1' \
@@ -123,11 +110,11 @@ note 'refuse.c compiles' "${CC:-cc}" -shared -fPIC -o "$room/refuse.so" ../../sc
 refuse_memory 2 "$whole"
 refuse_memory 5 4bde5bdc63771675 4 1f
 
-# With the first allocation of each refused, exactly those tests fail that allocate: they read
-# arguments or write to a `Vec`. All others, and all of the library's, allocate nothing.
+# Those tests alone fail that read arguments or write to a `Vec`, and none of the library's.
 wait
 note 'komihash allocates nothing' grep -q '^test result: ok\. [1-9]' "$room/komihash"
-note 'what allocates in the tests of komisum' equal "$allocating" \
-    "$(sed -n 's/^test tests::\(.*\) \.\.\. FAILED$/\1/p' "$room/komisum")"
+allocating='arguments::long_arguments arguments::versions_and_seeds arguments::wrong_usage'
+note 'what allocates in the tests of komisum' equal "$allocating show::lines show::lines_of_zeros" \
+    "$(sed -n 's/^test tests::\(.*\) \.\.\. FAILED$/\1/p' "$room/komisum" | paste -sd ' ')"
 
 counted

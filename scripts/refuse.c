@@ -1,5 +1,5 @@
-/* Refuses requests for memory: preloaded into a program, all from the one whose number, from 1, is in the environment
-   variable REFUSE_FROM. */
+/* Refuses requests for memory: preloaded into a program, all from the one whose number, from 1, is
+   in the environment variable REFUSE_FROM. */
 #include <stdlib.h>
 
 void *__libc_malloc(size_t size);

@@ -3,8 +3,7 @@
 # which take seconds, `rt ci`, and the tests of the built program and of the library for C.
 #
 # The last line is 'N passed, M failed', the sum of all parts, with ', K skipped' if a tool is
-# missing that some cases need; lines above it say which. With REQUIRE_ALL=1 in the environment,
-# skipped cases count as failed.
+# missing; lines above it say which. With REQUIRE_ALL=1 in the environment, skipped is failed.
 set -uo pipefail
 cd "$(dirname "$0")/.." || exit 1
 . scripts/cases.sh

@@ -9,7 +9,6 @@ ghost use Rattle.komihash.specs.Stream.{absorb};
 use crate::{v4, v5};
 use std::hash::Hasher;
 
-// Writes bytes to the stream of each alias and re-export.
 fn write_by_each_name(
     bytes: &[u8],
     four: &mut v4::StreamedKomihash,
@@ -25,7 +24,7 @@ fn write_by_each_name(
     root.write(bytes);
 }
 
-// Writes bytes to the hasher of each alias and re-export. Returns what the root's `komihash` gives.
+// Returns what the root's `komihash` gives.
 fn hash_by_each_name(
     bytes: &[u8],
     four: &mut v4::KomiHasher,
@@ -43,7 +42,6 @@ fn hash_by_each_name(
     crate::komihash(bytes, 0)
 }
 
-// Takes a step of the generator of each alias and re-export.
 fn step_by_each_name(four: &mut v4::Komirand, five: &mut v5::Komirand, root: &mut crate::Komirand)
     ensures four { four.new ≡ next 4 four.old }
     ensures five { five.new ≡ next 5 five.old }

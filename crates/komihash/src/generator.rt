@@ -1,6 +1,6 @@
 //! The pseudorandom generator of both versions.
 
-ghost use Rattle.std.specs.Prelude.{◌≡◌, ◌<◌, ◌^◌, length};
+ghost use Rattle.std.specs.Prelude.{ℕ, ◌≡◌, ◌<◌, ◌^◌, length};
 ghost use Rattle.komihash.specs.Generator.{next, after_steps, fill, after_fill};
 
 use crate::tally::Tally;
@@ -28,8 +28,6 @@ impl<const V: u8> Model for Komirand<V>
 where
     Versions: IsVersion<V>,
 {
-    ghost use Rattle.std.specs.Prelude.{ℕ};
-
     ghost Value = { ℕ × ℕ };
 
     ghost view = { λ g. (g.s1, g.s2) };

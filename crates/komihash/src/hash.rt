@@ -97,7 +97,7 @@ fn hash_of_blocks<const V: u8>(bytes: &[u8], seed: u64, tally: &mut Tally) -> u6
 ///
 /// The tests of the length are inlined into the caller, and vanish where it knows the length.
 #[inline(always)]
-pub(crate) fn hash_message_counted<const V: u8>(bytes: &[u8], seed: u64, tally: &mut Tally) -> u64
+pub(crate) fn hash_message<const V: u8>(bytes: &[u8], seed: u64, tally: &mut Tally) -> u64
     ensures hash { result ≡ komi V seed bytes.now }
     ensures costs { Costs tally (hash_products (length bytes.now)) 0 }
 {
@@ -118,12 +118,4 @@ pub(crate) fn hash_message_counted<const V: u8>(bytes: &[u8], seed: u64, tally: 
     } else {
         hash_of_three_words::<V>(bytes, seed, tally)
     }
-}
-
-/// Returns the hash of a message with a seed in version V.
-#[inline(always)]
-pub(crate) fn hash_message<const V: u8>(bytes: &[u8], seed: u64) -> u64
-    ensures { result ≡ komi V seed bytes.now }
-{
-    hash_message_counted::<V>(bytes, seed, &mut Tally::new())
 }

@@ -4,6 +4,7 @@ ghost use Rattle.std.specs.Prelude.{◌≡◌, ℕ};
 ghost use Rattle.komihash.specs.Hash.{komi};
 
 use crate::hash::hash_message;
+use crate::tally::Tally;
 use crate::version::{IsVersion, Versions};
 use std::hash::Hasher;
 use std::marker::Model;
@@ -73,6 +74,6 @@ where
     /// Replaces the number by the hash of the bytes, with the number as the seed.
     #[inline]
     fn write(&mut self, bytes: &[u8]) {
-        self.number = hash_message::<V>(bytes, self.number);
+        self.number = hash_message::<V>(bytes, self.number, &mut Tally::new());
     }
 }

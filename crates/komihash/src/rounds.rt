@@ -5,12 +5,13 @@
 //! it is passed.
 
 ghost use Rattle.std.specs.Prelude.{◌≡◌, ◌+◌, ◌*◌, ◌/◌, ◌%◌, ◌<◌, ◌≤◌, [], ◌∷◌};
-ghost use Rattle.std.specs.Prelude.{All, length, take, drop};
+ghost use Rattle.std.specs.Prelude.{All, length, take, drop, bit_xor};
+ghost use Rattle.std.proofs.Common.{refl};
 ghost use Rattle.komihash.specs.Counts.{Costs};
 ghost use Rattle.komihash.specs.Rounds.{low, high, plus, seed_words, mix, seed_pair, lanes, places};
-ghost use Rattle.komihash.specs.Rounds.{block_round_by, block_round, join};
+ghost use Rattle.komihash.specs.Rounds.{Lanes, block_round_by, block_round, join};
 ghost use Rattle.komihash.specs.Saved.{in_order};
-ghost use Rattle.komihash.specs.Storage.{pair_of, whole_words, block_lanes, after_blocks};
+ghost use Rattle.komihash.specs.Storage.{xor_again, pair_of, whole_words, block_lanes, after_blocks};
 
 use crate::tally::Tally;
 use crate::utils::{multiply128, word_at};
@@ -56,11 +57,6 @@ pub(crate) struct Lanes {
 }
 
 impl Model for Lanes {
-    ghost use Rattle.std.specs.Prelude.{bit_xor};
-    ghost use Rattle.std.proofs.Common.{refl};
-    ghost use Rattle.komihash.specs.Rounds.{Lanes};
-    ghost use Rattle.komihash.specs.Storage.{xor_again};
-
     ghost Value = { Lanes };
 
     ghost view = { λ l. record {
@@ -103,7 +99,6 @@ pub(crate) fn mix(x: u64, y: u64, e: u64, tally: &mut Tally) -> Pair
     Pair(low, e.wrapping_add(high))
 }
 
-/// Returns the two words of a seed.
 #[inline(always)]
 pub(crate) fn seed_words(seed: u64) -> (u64, u64)
     ensures { result ≡ seed_words seed }
@@ -124,7 +119,6 @@ pub(crate) fn seed_pair(seed: u64, tally: &mut Tally) -> Pair
     mix(a, e, e, tally)
 }
 
-/// Returns the lanes of a pair.
 #[inline(always)]
 pub(crate) fn lanes_of(pair: Pair) -> Lanes
     ensures { result ≡ lanes (pair_of pair) }
@@ -205,7 +199,6 @@ pub(crate) fn block_round(
     lanes.fourth = mix(words[p7] ^ e4, x4, e4, tally);
 }
 
-// Returns the eight words of a block.
 #[inline(always)]
 fn block_words(block: &[u8; 64]) -> [u64; 8]
     ensures { result ≡ whole_words block.now }

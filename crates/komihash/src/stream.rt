@@ -9,15 +9,13 @@ ghost use Rattle.komihash.specs.Hash.{komi};
 ghost use Rattle.komihash.specs.Saved.{text, IsText, IsTextAfter};
 ghost use Rattle.komihash.specs.Stream.{State, IsState, HasAbsorbed, start, absorb, answer};
 
+pub use self::saved::LONGEST_TEXT;
 use crate::tally::Tally;
 
 #[doc(hidden)]
 pub mod raw;
 mod saved;
 pub(crate) mod streamed;
-
-/// The length of the longest saved text, in bytes: 68, and 63 pending ones.
-pub const LONGEST_TEXT: usize = saved::PENDING_AT + 63;
 
 /// A stream of either version, for generic code.
 ///

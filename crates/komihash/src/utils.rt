@@ -9,7 +9,6 @@ ghost use Rattle.komihash.specs.Words.{word_of, bytes_of, all_bytes};
 
 use crate::tally::Tally;
 
-/// Returns the word of the first eight bytes.
 #[inline(always)]
 pub(crate) fn read_word(bytes: &[u8]) -> u64
     requires { 8 ≤ length bytes.now }
@@ -20,7 +19,6 @@ pub(crate) fn read_word(bytes: &[u8]) -> u64
     ])
 }
 
-/// Returns the word of the eight bytes from index `at`.
 #[inline(always)]
 pub(crate) fn word_at(bytes: &[u8], at: usize) -> u64
     requires { at + 8 ≤ length bytes.now }
@@ -29,7 +27,6 @@ pub(crate) fn word_at(bytes: &[u8], at: usize) -> u64
     read_word(&bytes[at..])
 }
 
-// Returns the word of the four bytes from index `at`.
 #[inline(always)]
 fn u32_at(bytes: &[u8], at: usize) -> u64
     requires { at + 4 ≤ length bytes.now }
@@ -39,7 +36,6 @@ fn u32_at(bytes: &[u8], at: usize) -> u64
     u64::from(u32::from_le_bytes([piece[0], piece[1], piece[2], piece[3]]))
 }
 
-// Returns the word of the two bytes from index `at`.
 #[inline(always)]
 fn u16_at(bytes: &[u8], at: usize) -> u64
     requires { at + 2 ≤ length bytes.now }

@@ -24,7 +24,7 @@ pub type Komirand = generator::Komirand<4>;
 pub fn komihash(bytes: &[u8], seed: u64) -> u64
     ensures { result ≡ komi 4 seed bytes.now }
 {
-    hash::hash_message::<4>(bytes, seed)
+    hash::hash_message::<4>(bytes, seed, &mut Tally::new())
 }
 
 /// Returns the hash of a message with a seed, and counts its cost in a tally.
@@ -37,7 +37,7 @@ pub fn komihash_counted(bytes: &[u8], seed: u64, tally: &mut Tally) -> u64
     ensures products { tally.new.products ≡ tally.old.products + hash_products (length bytes.now) }
     ensures kept { tally.new.kept ≡ tally.old.kept }
 {
-    hash::hash_message_counted::<4>(bytes, seed, tally)
+    hash::hash_message::<4>(bytes, seed, tally)
 }
 
 /// Writes the padded words of a message, and returns how many they are: `bytes.len() / 8 + 1`,

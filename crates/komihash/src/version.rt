@@ -1,9 +1,10 @@
 //! Which numbers are versions.
 
+ghost use Rattle.std.specs.Prelude.{◌≡◌, ◌⊎◌};
+ghost use Rattle.std.proofs.Common.{inl, inr, refl};
+
 /// Says that V is the number of a version.
 pub(crate) trait IsVersion<const V: u8> {
-    ghost use Rattle.std.specs.Prelude.{◌≡◌, ◌⊎◌};
-
     ghost is_version: { (V ≡ 4) ⊎ (V ≡ 5) };
 }
 
@@ -11,13 +12,9 @@ pub(crate) trait IsVersion<const V: u8> {
 pub(crate) struct Versions;
 
 impl IsVersion<4> for Versions {
-    ghost use Rattle.std.proofs.Common.{inl, refl};
-
     ghost is_version = { inl refl };
 }
 
 impl IsVersion<5> for Versions {
-    ghost use Rattle.std.proofs.Common.{inr, refl};
-
     ghost is_version = { inr refl };
 }

@@ -63,11 +63,8 @@ impl KomiStream for Stream {
     #[inline(always)]
     #[tactic(auto, unfolding(komihash::specs::Saved::IsTextAfter))]
     fn restore(bytes: &[u8]) -> Option<Self> {
-        if !RawStream::is_text::<5>(bytes) {
-            return None;
-        }
         Some(Stream {
-            raw: RawStream::of_text::<5>(bytes),
+            raw: RawStream::restore::<5>(bytes)?,
         })
     }
 

@@ -4,9 +4,11 @@
 
 ghost use Rattle.std.specs.Prelude.{◌≡◌, ℕ, ◌+◌, ◌-◌, ◌*◌, ◌/◌, ◌%◌, ◌<◌, ◌≤◌, IsTrue};
 ghost use Rattle.std.specs.Prelude.{List, [], ◌++◌, length, take, drop, slice_index};
+ghost use Rattle.std.proofs.Common.{arith, sym};
 ghost use Rattle.komihash.specs.Counts.{Costs};
 ghost use Rattle.komihash.specs.Padding.{padding_byte};
 ghost use Rattle.komihash.specs.Storage.{pending_bytes, ArePending, Stores, Extends};
+ghost use Rattle.komihash.specs.Storage.{pending_words, length-store, length-pending_bytes};
 ghost use Rattle.komihash.specs.Storage.{whole_words, final_word};
 ghost use Rattle.komihash.specs.Words.{AreBytes, word_of};
 
@@ -26,11 +28,6 @@ pub(crate) struct Pending {
 }
 
 impl Model for Pending {
-    ghost use Rattle.std.specs.Prelude.{ℕ, List, length};
-    ghost use Rattle.std.proofs.Common.{arith, sym};
-    ghost use Rattle.komihash.specs.Storage.{pending_words, pending_bytes, ArePending};
-    ghost use Rattle.komihash.specs.Storage.{length-store, length-pending_bytes};
-
     ghost Value = { List ℕ };
 
     ghost view = { λ p. pending_bytes p.words p.fill };
@@ -49,7 +46,6 @@ impl Model for Pending {
 }
 
 impl Pending {
-    /// Returns a value that stores no bytes.
     #[inline(always)]
     pub(crate) fn new() -> Self
         ensures { result ≡ [] }
@@ -60,7 +56,6 @@ impl Pending {
         }
     }
 
-    /// Returns the number of bytes.
     #[inline(always)]
     pub(crate) fn len(&self) -> usize
         ensures length { result ≡ length self.now }
@@ -90,9 +85,9 @@ impl Pending {
         self.fill += bytes.len();
     }
 
-    /// Stores bytes where none are stored, and counts them as kept.
+    /// Appends bytes where none are stored, and counts them as kept.
     #[inline(always)]
-    pub(crate) fn keep(&mut self, bytes: &[u8], tally: &mut Tally)
+    pub(crate) fn append_first(&mut self, bytes: &[u8], tally: &mut Tally)
         requires none { self.old ≡ [] }
         requires few { length bytes.now < 64 }
         ensures bytes { self.new ≡ bytes.now }
@@ -291,7 +286,7 @@ fn append_eight_or_more<const FULL: bool>(words: &mut [u64; 8], fill: usize, byt
 }
 
 // Appends bytes to those that the words store up to the fill, and counts them as kept. If FULL,
-// they fill the block exactly. Only this function and those above write to the words.
+// they fill the block exactly. Bytes come into the words only through this function.
 #[inline(always)]
 fn append_bytes<const FULL: bool>(
     words: &mut [u64; 8],

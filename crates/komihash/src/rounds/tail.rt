@@ -45,7 +45,6 @@ impl Words for &[u8] {
     }
 }
 
-/// Returns the pair after a round on two words.
 #[inline(always)]
 #[tactic(auto, using(crate::proofs::Xor::xor_late))]
 pub(crate) fn pair_round(pair: Pair, w0: u64, w1: u64, tally: &mut Tally) -> Pair

@@ -1,15 +1,15 @@
 //! A stream whose type does not name its version, which is how C keeps one.
 
-ghost use Rattle.std.specs.Prelude.{◌≡◌, ◌+◌, ◌<◌, ◌≤◌, ◌↔◌, IsTrue};
+ghost use Rattle.std.specs.Prelude.{◌≡◌, ◌+◌, ◌<◌, ◌≤◌, ◌↔◌, IfSome, IsSomeAnd, IsNone};
 ghost use Rattle.std.specs.Prelude.{◌++◌, length, take, drop};
 ghost use Rattle.komihash.specs.Counts.{Costs, write_products, answer_products, kept_bytes};
 ghost use Rattle.komihash.specs.Saved.{text, IsText};
 ghost use Rattle.komihash.specs.Stream.{State, IsState, start, absorb, answer};
 ghost use Rattle.komihash.specs.Storage.{whole_words, block_lanes, after_blocks};
 
-use super::LONGEST_TEXT;
 use super::saved::{
-    is_text, read_head, read_lanes, read_pending, write_head, write_lanes, write_pending,
+    LONGEST_TEXT, is_text, read_head, read_lanes, read_pending, write_head, write_lanes,
+    write_pending,
 };
 use crate::padding::{end_after_blocks, has_top_bit};
 use crate::rounds::pending::Pending;
@@ -32,8 +32,6 @@ pub struct RawStream {
 }
 
 impl Model for RawStream {
-    ghost use Rattle.komihash.specs.Stream.{State};
-
     ghost Value = { State };
 
     ghost view = { λ s. record {
@@ -100,16 +98,16 @@ impl RawStream {
         if fill == 0 {
             lanes = self.lanes;
         } else {
-            let (head, tail) = bytes.split_at(64 - fill);
-            let block = self.pending.complete(head, tally);
+            let (completing, after) = bytes.split_at(64 - fill);
+            let block = self.pending.complete(completing, tally);
             // Not before `complete`, which needs the registers itself.
             lanes = self.lanes;
             block_round(&mut lanes, &block, places::<V>(), tally);
-            rest = tail;
+            rest = after;
         }
         let left = absorb_blocks::<V>(&mut lanes, rest, tally);
         self.lanes = lanes;
-        self.pending.keep(left, tally);
+        self.pending.append_first(left, tally);
     }
 
     #[inline(always)]
@@ -139,29 +137,25 @@ impl RawStream {
         write_pending(&self.pending, out)
     }
 
-    /// Returns whether bytes are the saved text of a stream of version V.
+    /// Returns the stream that has these bytes as its saved text, or `None` if no stream has.
     #[inline(always)]
-    pub fn is_text<const V: u8>(bytes: &[u8]) -> bool
-        ensures text { IsTrue result ↔ IsText V bytes.now }
-        ensures most { IsTrue result → length bytes.now ≤ LONGEST_TEXT }
+    pub fn restore<const V: u8>(bytes: &[u8]) -> Option<RawStream>
+        ensures is_state { IfSome result (λ stream. IsState V stream) }
+        ensures text { IfSome result (λ stream. text V stream ≡ bytes.now) }
+        ensures same { (s : State) → IsState V s → text V s ≡ bytes.now
+            → IsSomeAnd result (λ stream. stream ≡ s) }
+        ensures most { IfSome result (λ _. length bytes.now ≤ LONGEST_TEXT) }
+        ensures none { IsNone result ↔ ¬ IsText V bytes.now }
     {
-        is_text::<V>(bytes)
-    }
-
-    /// Returns the stream that has these bytes as its saved text.
-    #[inline(always)]
-    pub fn of_text<const V: u8>(bytes: &[u8]) -> RawStream
-        requires { IsText V bytes.now }
-        ensures is_state { IsState V result }
-        ensures text { text V result ≡ bytes.now }
-        ensures same { (s : State) → IsState V s → text V s ≡ bytes.now → result ≡ s }
-    {
+        if !is_text::<V>(bytes) {
+            return None;
+        }
         let (absorbed, top_bit) = read_head(bytes);
-        RawStream {
+        Some(RawStream {
             lanes: read_lanes(bytes),
             pending: read_pending(bytes),
             absorbed,
             top_bit,
-        }
+        })
     }
 }

@@ -7,7 +7,6 @@ ghost use Rattle.komihash.specs.Saved.{flag_byte, in_order, IsText};
 ghost use Rattle.komihash.specs.Storage.{whole_words};
 ghost use Rattle.komihash.specs.Words.{all_bytes};
 
-use super::LONGEST_TEXT;
 use crate::rounds::pending::Pending;
 use crate::rounds::{Lanes, from_order, in_order};
 use crate::tally::Tally;
@@ -17,7 +16,10 @@ use crate::utils::{write_bytes, write_words};
 const LANES_AT: usize = 4;
 
 // Where the pending bytes begin.
-pub(super) const PENDING_AT: usize = 68;
+const PENDING_AT: usize = 68;
+
+/// The length of the longest saved text, in bytes: 68, and 63 pending ones.
+pub const LONGEST_TEXT: usize = PENDING_AT + 63;
 
 /// Writes the first four bytes: the version, whether a block was absorbed, the top bit that only
 /// version 4 keeps, and the number of pending bytes.
@@ -86,7 +88,6 @@ pub(crate) fn read_head(bytes: &[u8]) -> (bool, bool)
     (bytes[1] == 1, bytes[2] == 1)
 }
 
-/// Returns the lanes of a text.
 #[inline(always)]
 #[tactic(auto, using(crate::proofs::SavedTexts::cuts))]
 pub(crate) fn read_lanes(bytes: &[u8]) -> Lanes
@@ -98,7 +99,6 @@ pub(crate) fn read_lanes(bytes: &[u8]) -> Lanes
     from_order(&lanes)
 }
 
-/// Returns the pending bytes of a text.
 #[inline(always)]
 pub(crate) fn read_pending(bytes: &[u8]) -> Pending
     requires room { PENDING_AT ≤ length bytes.now }

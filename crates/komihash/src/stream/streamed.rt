@@ -7,10 +7,12 @@ ghost use Rattle.std.specs.Prelude.{List, [], ◌++◌, length, take, drop};
 ghost use Rattle.komihash.specs.Counts.{write_products, answer_products, kept_bytes};
 ghost use Rattle.komihash.specs.Hash.{komi};
 ghost use Rattle.komihash.specs.Saved.{text, IsText, IsTextAfter};
-ghost use Rattle.komihash.specs.Stream.{State, IsState, HasAbsorbed, start, absorb, answer};
+ghost use Rattle.komihash.specs.Stream.{State, StateOf, IsState, HasAbsorbed};
+ghost use Rattle.komihash.specs.Stream.{start, absorb, answer};
 
+use super::KomiStream;
 use super::raw::RawStream;
-use super::{KomiStream, LONGEST_TEXT};
+use super::saved::LONGEST_TEXT;
 use crate::tally::Tally;
 use crate::version::{IsVersion, Versions};
 use std::marker::Model;
@@ -35,8 +37,6 @@ impl<const V: u8> Model for StreamedKomihash<V>
 where
     Versions: IsVersion<V>,
 {
-    ghost use Rattle.komihash.specs.Stream.{StateOf};
-
     ghost Value = { StateOf V };
 
     ghost view = { λ s. record {
@@ -127,9 +127,6 @@ impl<const V: u8> Default for StreamedKomihash<V>
 where
     Versions: IsVersion<V>,
 {
-    ghost use Rattle.std.specs.Prelude.{◌≡◌, []};
-    ghost use Rattle.komihash.specs.Stream.{start, HasAbsorbed};
-
     ghost is_default = { λ s. (s.state ≡ start 0) × HasAbsorbed V 0 s.state [] };
 
     /// Returns the new stream of seed 0.
@@ -174,11 +171,8 @@ where
     #[inline(always)]
     #[tactic(auto, unfolding(crate::specs::Saved::IsTextAfter))]
     fn restore(bytes: &[u8]) -> Option<Self> {
-        if !RawStream::is_text::<V>(bytes) {
-            return None;
-        }
         Some(StreamedKomihash {
-            raw: RawStream::of_text::<V>(bytes),
+            raw: RawStream::restore::<V>(bytes)?,
         })
     }
 

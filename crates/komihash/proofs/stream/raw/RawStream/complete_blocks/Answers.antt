@@ -21,7 +21,7 @@ returns-clause-state g c =
           let none = nil_from_length s.pending (omega arith) in
           after_write g.row.V _ bytes _ _ _ _ few many
           (after.lanes ∙ rw (w.lanes-is, w.rest-is, none))
-          (c.keep.ensures.bytes ∙ after.left ∙ rw (w.rest-is, none))
+          (c.append_first.ensures.bytes ∙ after.left ∙ rw (w.rest-is, none))
           (ap (λ s. s.absorbed) w.self-inside-is)
           (ap (λ s. s.top_bit) w.self-inside-is ∙ top_bit)
       | else-fill-eq0 w ↦
@@ -37,7 +37,7 @@ returns-clause-state g c =
             w.split_at.ensures.back,
             c.len-fill.ensures.length,
           ))
-          (c.keep.ensures.bytes ∙ after.left ∙ rw (
+          (c.append_first.ensures.bytes ∙ after.left ∙ rw (
             completed_left s.pending bytes few many,
             w.rest-is,
             w.split_at.ensures.back,
