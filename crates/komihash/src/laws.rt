@@ -67,8 +67,8 @@ pub fn empty_write()
         number_after v number ([] ∷ writes) ≡ number_after v (komi v number []) writes }
 {}
 
-/// Proves that streams from one seed that absorbed equal bytes, however cut, are in equal states and
-/// have equal saved texts. Those who compare streams or their texts need it.
+/// Proves that streams from one seed that absorbed equal bytes, however cut, are in equal states
+/// and have equal saved texts. Those who compare streams or their texts need it.
 pub fn same_bytes()
     ensures state { (v seed : ℕ) (s t : State) (m : List ℕ) → HasAbsorbed v seed s m →
         HasAbsorbed v seed t m → s ≡ t }

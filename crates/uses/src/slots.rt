@@ -3,7 +3,6 @@
 ghost use Rattle.std.specs.Prelude.{◌≡◌, ◌≤◌, take, IsSomeAnd};
 ghost use Rattle.komihash.specs.Hash.{komi};
 ghost use Rattle.komihash.specs.Saved.{IsTextAfter};
-ghost use Rattle.komihash.specs.declared.stream.TheConstants.{LONGEST_TEXT};
 ghost use Rattle.komihash.proofs.Propositions.{IsTextAfter-prop};
 
 use komihash::StreamedKomihash;
@@ -15,7 +14,7 @@ pub struct Slot<'a> {
     pub message: &'a [u8],
     text: [u8; LONGEST_TEXT],
     count: usize,
-    ghost within: { count ≤ LONGEST_TEXT },
+    ghost within: { count ≤ 131 },
     ghost saved: { IsTextAfter 5 0 message.now (take count text) } by { IsTextAfter-prop _ _ _ _ },
 }
 

@@ -47,7 +47,9 @@ pub fn save_two_ways(
     in_two: &mut [u8; LONGEST_TEXT],
 ) -> (usize, usize)
     requires { cut ≤ length bytes.now }
-    ensures { take result.0 at_once.new ≡ take result.1 in_two.new }
+    ensures texts { take result.0 at_once.new ≡ take result.1 in_two.new }
+    ensures first { result.0 ≤ LONGEST_TEXT }
+    ensures second { result.1 ≤ LONGEST_TEXT }
 {
     laws::same_bytes();
     let mut one = StreamedKomihash::new();
