@@ -193,7 +193,7 @@ fn run_resumed<S: KomiStream>(
     let mut count = 0;
     for i in 0..calls.len() {
         count += run_on(&mut stream, &calls[i..i + 1], &mut out[count..], tally);
-        assert!(rt; save_and_resume(&mut stream), "call {i}");
+        assert!(rt; save_and_resume(&mut stream));
     }
     (stream, count)
 }
