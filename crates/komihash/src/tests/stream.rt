@@ -1,5 +1,5 @@
-//! Streams of both versions in pieces of many sizes: `finish` against `komihash` of all bytes, which
-//! `hash.rt` compares with the Rust crate.
+//! Streams of both versions in pieces of many sizes: `finish` against `komihash` of all bytes. The
+//! hashes of `komihash` are compared with the Rust crate's in `hash.rt`.
 
 use super::assertions::same_words;
 use super::hash::hashes;
@@ -136,8 +136,8 @@ fn cut_in_two(rt: &impl Abort, message: &[u8], last: [u64; 2]) {
     }
 }
 
-// Writes a message byte by byte. In each version, the hash is 0 from a number of bytes on, until the
-// last byte.
+// Writes a message byte by byte. In each version, the hash is 0 from a number of bytes on, until
+// the last byte.
 fn byte_by_byte(rt: &impl Abort, message: &[u8], last: [u64; 2], zero_from: [usize; 2]) {
     let mut streams = Streams::new();
     for n in 1..=message.len() {
