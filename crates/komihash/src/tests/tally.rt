@@ -8,7 +8,7 @@ ghost use Rattle.komihash.specs.Counts.{Costs, hash_products, kept_bytes};
 use super::assertions::{same, same_bytes, same_count, same_words};
 use super::messages::block_message;
 use super::runs::{CUT_ANSWERS, answers, at_cuts, byte_by_byte};
-use super::saved::{lanes_after_block, new_text, text_of, text_of_zeros};
+use super::saved::{lanes_after_block, new_text, text_of_zeros};
 use crate::stream::{Call, KomiStream, LONGEST_TEXT, run, run_on};
 use crate::tally::Tally;
 use crate::{v4, v5};
@@ -228,8 +228,8 @@ fn saving_and_resuming_changes_nothing(rt: HostRuntime) {
     answers(&rt, count, out, &CUT_ANSWERS);
     let mut text = [0; LONGEST_TEXT];
     same_count(&rt, stream.store(&mut text), 99, 1);
-    let head = text_of([5, 1, 0, 31], &lanes_after_block());
-    same_bytes(&rt, &text[..68], &head, 0);
+    same_bytes(&rt, &text[..4], &[5, 1, 0, 31], 0);
+    same_bytes(&rt, &text[4..68], &lanes_after_block(), 4);
     same_bytes(&rt, &text[68..99], &message[64..], 68);
 
     let count = resumed_bytes_cost::<v5::StreamedKomihash>(&rt, message, out, tally);
@@ -250,9 +250,11 @@ fn runs_no_calls(rt: HostRuntime) {
     let out = &mut [9; 200];
     let (stream, count) = start_costs::<v5::StreamedKomihash>(out, &mut Tally::new());
     answers(&rt, count, out, &[]);
-    let mut text = [0; LONGEST_TEXT];
+    let mut text = [0xee; 131];
+    let mut wanted = text;
+    wanted[..68].copy_from_slice(&new_text(5));
     same_count(&rt, stream.store(&mut text), 68, 1);
-    same_bytes(&rt, &text[..68], &new_text(5), 0);
+    same_bytes(&rt, &text, &wanted, 68);
 }
 
 // Makes an Answer on a stream that is resumed with no pending bytes.
