@@ -1,11 +1,10 @@
 //! Tests, above all that the definitions give the hashes of komihash, which no contract says.
 
 mod assertions;
-mod definitions;
 mod generator;
 mod hash;
 mod hasher;
-mod known;
+mod messages;
 mod padding;
 mod rounds;
 mod runs;

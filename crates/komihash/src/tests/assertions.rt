@@ -21,9 +21,3 @@ pub(crate) fn same_bytes(rt: &impl Abort, given: &[u8], wanted: &[u8], at: usize
 pub(crate) fn same_words(rt: &impl Abort, given: &[u64], wanted: &[u64], at: usize) {
     assert!(rt; given == wanted, "different words at {at}");
 }
-
-/// Adds a number of version 4 and one of version 5 to sums, which depend on the order.
-pub(crate) fn add(sums: &mut [u64; 2], numbers: [u64; 2]) {
-    sums[0] = sums[0].rotate_left(1) ^ numbers[0];
-    sums[1] = sums[1].rotate_left(1) ^ numbers[1];
-}

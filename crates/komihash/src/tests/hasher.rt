@@ -1,7 +1,7 @@
 //! The hashers of both versions: their numbers when they are new, and after each write.
 
 use super::assertions::same;
-use super::known::ZERO;
+use super::messages::ZERO;
 use crate::{v4, v5};
 use std::hash::Hasher;
 use std::process::Abort;

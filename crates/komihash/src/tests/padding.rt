@@ -3,11 +3,10 @@
 ghost use Rattle.std.specs.Prelude.{◌+◌, ◌*◌, ◌/◌, ◌<◌, ◌≤◌, length};
 
 use super::assertions::{same_bytes, same_count, same_words};
-use super::known::pattern;
+use super::messages::pattern;
 use crate::{v4, v5};
 use std::process::Abort;
 
-// Calls `pad` of a version.
 fn pad(version: u8, bytes: &[u8], out: &mut [u64]) -> usize
     requires { length bytes.now / 8 + 1 ≤ length out.old }
 {
@@ -18,7 +17,6 @@ fn pad(version: u8, bytes: &[u8], out: &mut [u64]) -> usize
     }
 }
 
-// Calls `unpad` of a version.
 fn unpad(version: u8, words: &[u64], out: &mut [u8]) -> Option<usize>
     requires { 8 * length words.now ≤ length out.old }
 {

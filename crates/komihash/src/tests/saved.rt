@@ -1,11 +1,41 @@
 //! Saved texts: those of known streams, what is resumed from them, and bytes that are no text.
 
 use super::assertions::{same, same_bytes, same_count};
-use super::known::{LANES, block_message, lanes_after_block, new_text, text_of, text_of_zeros};
+use super::messages::block_message;
+use super::rounds::LANES;
 use crate::stream::streamed::StreamedKomihash;
 use crate::version::{IsVersion, Versions};
 use crate::{v4, v5};
 use std::process::Abort;
+
+/// Returns the text of these first four bytes and lanes, with no pending bytes.
+pub(crate) fn text_of(head: [u8; 4], lanes: &[u8; 64]) -> [u8; 68] {
+    let mut text = [0; 68];
+    text[..4].copy_from_slice(&head);
+    text[4..].copy_from_slice(lanes);
+    text
+}
+
+/// Returns the text of a new stream of seed 0.
+pub(crate) fn new_text(version: u8) -> [u8; 68] {
+    text_of([version, 0, 0, 0], &LANES)
+}
+
+/// Returns a text whose lanes are 0, but for the last byte.
+pub(crate) fn text_of_zeros(head: [u8; 4], last: u8) -> [u8; 68] {
+    let mut lanes = [0; 64];
+    lanes[63] = last;
+    text_of(head, &lanes)
+}
+
+/// Returns the lanes of version 5 after the block of `block_message`. Each of its products has a
+/// factor 0, so s1 to s4 become s8, s5, s6 and s7, and s5 to s8 stay.
+pub(crate) fn lanes_after_block() -> [u8; 64] {
+    let mut lanes = LANES;
+    lanes[..8].copy_from_slice(&LANES[56..]);
+    lanes[8..32].copy_from_slice(&LANES[32..56]);
+    lanes
+}
 
 // Saves a stream into 140 bytes 0xee, and compares them. Nothing is written after the text.
 fn saves<const V: u8>(rt: &impl Abort, stream: &StreamedKomihash<V>, text: &[u8])

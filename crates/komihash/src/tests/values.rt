@@ -3,9 +3,9 @@
 
 ghost use Rattle.std.specs.Prelude.{◌≤◌, length};
 
-use super::assertions::{same, same_bytes, same_words};
+use super::assertions::{same_bytes, same_words};
 use super::hash::hashes;
-use super::known::{LONGEST, pattern};
+use super::messages::{LONGEST, pattern};
 use super::padding::unpads;
 use super::saved::resumed;
 use super::stream::Streams;
@@ -14,57 +14,39 @@ use crate::{v4, v5};
 use std::hash::Hasher;
 use std::process::Abort;
 
-// Compares numbers with those of a row.
-fn gives(rt: &impl Abort, given: [u64; 2], wanted: [u64; 2]) {
-    same(rt, given[0], wanted[0], 4);
-    same(rt, given[1], wanted[1], 5);
-}
-
-// Returns the hashes of a message. Streams that answer before each byte end with the same.
-fn hash(rt: &impl Abort, message: &[u8], seed: u64) -> [u64; 2] {
-    let hashes = hashes(message, seed);
-    let mut streams = Streams::new_with_seed(seed);
-    for byte in message.chunks(1) {
-        let _ = streams.finish();
-        streams.write(byte);
-    }
-    same_words(rt, &streams.finish(), &hashes, message.len());
-    hashes
-}
-
 #[test]
 fn hashes_known_messages(rt: HostRuntime) {
     let b: &[u8; LONGEST] = &pattern();
     // hash of no bytes, with the seed ffffffffffffffff
     let wanted = [0x4bcc_041f_3f88_5859, 0x4bcc_041f_3f88_5859];
-    gives(&rt, hash(&rt, &[], u64::MAX), wanted);
+    same_words(&rt, &hashes(&[], u64::MAX), &wanted, 0);
     // hash of the byte 97
     let wanted = [0x5117_f506_4cfd_0faa, 0x5117_f506_4cfd_0faa];
-    gives(&rt, hash(&rt, &[97], 0), wanted);
+    same_words(&rt, &hashes(&[97], 0), &wanted, 0);
     // hash of B(5)
     let wanted = [0x42f9_1db8_4178_ed2c, 0x42f9_1db8_4178_ed2c];
-    gives(&rt, hash(&rt, &b[..5], 0), wanted);
+    same_words(&rt, &hashes(&b[..5], 0), &wanted, 0);
     // hash of 15 bytes 255
     let wanted = [0x8cb7_90e5_aed0_8a91, 0x2767_d102_331d_150b];
-    gives(&rt, hash(&rt, &[255; 15], 0), wanted);
+    same_words(&rt, &hashes(&[255; 15], 0), &wanted, 0);
     // hash of B(56)
     let wanted = [0x1132_b5eb_a04f_d0c1, 0xc340_28f1_2096_fbc0];
-    gives(&rt, hash(&rt, &b[..56], 0), wanted);
+    same_words(&rt, &hashes(&b[..56], 0), &wanted, 0);
     // hash of B(64)
     let wanted = [0x4460_0ca0_0f21_9c29, 0x42d3_8f01_33ac_89ea];
-    gives(&rt, hash(&rt, &b[..64], 0), wanted);
+    same_words(&rt, &hashes(&b[..64], 0), &wanted, 0);
     // hash of B(92)
     let wanted = [0x1cce_92d5_30e3_ce35, 0x8214_b47c_ed67_24fa];
-    gives(&rt, hash(&rt, &b[..92], 0), wanted);
+    same_words(&rt, &hashes(&b[..92], 0), &wanted, 0);
     // hash of B(130)
     let wanted = [0x7f65_a024_51c6_8795, 0x25a8_1cec_70b1_cbf4];
-    gives(&rt, hash(&rt, &b[..130], 0), wanted);
+    same_words(&rt, &hashes(&b[..130], 0), &wanted, 0);
     // hash of B(165)
     let wanted = [0xe05f_6821_a807_5e1b, 0x1995_d479_6fd1_03d7];
-    gives(&rt, hash(&rt, &b[..165], 0), wanted);
+    same_words(&rt, &hashes(&b[..165], 0), &wanted, 0);
     // hash of B(300), with the seed c6a4793f5bd1e99e
     let wanted = [0xe111_0bdb_6699_e365, 0xc640_7df9_7852_8987];
-    gives(&rt, hash(&rt, b, 0xc6a4_793f_5bd1_e99e), wanted);
+    same_words(&rt, &hashes(b, 0xc6a4_793f_5bd1_e99e), &wanted, 0);
 }
 
 // Returns the hashes of the texts after a message.
@@ -101,13 +83,13 @@ fn saves_and_resumes_known_texts(rt: HostRuntime) {
     let b: &[u8; LONGEST] = &pattern();
     // hash of the text after no bytes
     let wanted = [0x758a_e966_d145_f7ee, 0x3908_2e84_39c3_93c8];
-    gives(&rt, text(&[]), wanted);
+    same_words(&rt, &text(&[]), &wanted, 0);
     // hash of the text after B(64)
     let wanted = [0x7db2_82ab_41f1_944d, 0x95ec_3ef7_0b12_9ee6];
-    gives(&rt, text(&b[..64]), wanted);
+    same_words(&rt, &text(&b[..64]), &wanted, 0);
     // hash of the text after B(130)
     let wanted = [0x02ce_046d_841a_928f, 0xafff_d5fc_9cec_9ace];
-    gives(&rt, text(&b[..130]), wanted);
+    same_words(&rt, &text(&b[..130]), &wanted, 0);
 }
 
 #[test]
@@ -146,16 +128,16 @@ fn generates_and_chains_known_numbers(rt: HostRuntime) {
         four.write(&b[..end]);
         five.write(&b[..end]);
     }
-    gives(&rt, [four.finish(), five.finish()], wanted);
+    same_words(&rt, &[four.finish(), five.finish()], &wanted, 0);
     // first output after `init` of 1234567890abcdef
     let wanted = [0x2264_0def_aa9a_f646, 0xb1b3_fa0c_e9e8_fc12];
     let (mut four, mut five) = (v4::Komirand::init(SEED), v5::Komirand::init(SEED));
-    gives(&rt, [four.next(), five.next()], wanted);
+    same_words(&rt, &[four.next(), five.next()], &wanted, 0);
     // first output after `init_with_extra_seed` of 3 and 5
     let wanted = [0xa0b0_1c26_bba9_307a, 0x0d2f_8edd_6aff_b42b];
     let mut four = v4::Komirand::init_with_extra_seed(3, 5);
     let mut five = v5::Komirand::init_with_extra_seed(3, 5);
-    gives(&rt, [four.next(), five.next()], wanted);
+    same_words(&rt, &[four.next(), five.next()], &wanted, 0);
     // 11 bytes of a fill after `init` of 1234567890abcdef
     let wanted = [
         [
@@ -179,7 +161,7 @@ fn generates_and_chains_known_numbers(rt: HostRuntime) {
     bytes[0][27..].copy_from_slice(&four.next().to_le_bytes());
     bytes[1][27..].copy_from_slice(&five.next().to_le_bytes());
     let hashes = [v4::komihash(&bytes[0], 0), v5::komihash(&bytes[1], 0)];
-    gives(&rt, hashes, wanted);
+    same_words(&rt, &hashes, &wanted, 0);
 }
 
 // Compares the messages that have padded words in each version, if there are any.

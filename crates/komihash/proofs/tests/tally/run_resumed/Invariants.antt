@@ -1,7 +1,7 @@
 -- what was counted, and what the remaining calls cost, make the cost of all calls
 use Rattle.std.proofs.Common.{◌≡◌, ◌+◌, ◌≤◌, length, drop}
 use Rattle.komihash.specs.Calls.{onward_products, onward_kept, run_products, run_kept}
-use Rattle.komihash.proofs.tests.runs.run_resumed.Given as goal
+use Rattle.komihash.proofs.tests.tally.run_resumed.Given as goal
 
 abbrev pub invariant-loop-i : goal.invariant-loop-i
 invariant-loop-i g l =

@@ -6,7 +6,7 @@ use Rattle.komihash.specs.Rounds.{closing, mix, mix_again, pair_round, seed_pair
 use Rattle.komihash.specs.Storage.{end_byte, final_word}
 use Rattle.komihash.proofs.HashSteps.{komi_short}
 use Rattle.komihash.proofs.WholeWords.{whole_words-few}
-use Rattle.komihash.proofs.tests.definitions.zero_and_more.Goals as goal
+use Rattle.komihash.proofs.tests.hash.zero_and_more.Goals as goal
 
 mix-zero : (x : ℕ) → mix x 0 0 ≡ (0, 0)
 unfolding mix

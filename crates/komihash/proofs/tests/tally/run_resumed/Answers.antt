@@ -5,7 +5,7 @@ use Rattle.komihash.specs.Stream.{absorb, answer}
 use Rattle.komihash.specs.declared.stream.Call.{Call}
 use Rattle.komihash.specs.declared.stream.Call.TheVariants.{Absorb, Answer}
 use Rattle.komihash.proofs.CallLists.{goes_on}
-use Rattle.komihash.proofs.tests.runs.run_resumed.Goals as goal
+use Rattle.komihash.proofs.tests.tally.run_resumed.Goals as goal
 
 -- there are no more answers than calls
 length-answers_after : (f : List ℕ → ℕ) (m : List ℕ) (calls : List Call)

@@ -6,7 +6,7 @@ use Rattle.std.proofs.lemmas.List.{drop-set, length-append, length-drop, length-
 use Rattle.komihash.specs.Calls.{bytes_of_calls, products_of_answers, onward_kept}
 use Rattle.komihash.specs.Counts.{kept_bytes}
 use Rattle.komihash.specs.declared.stream.Call.{Call}
-use Rattle.komihash.proofs.tests.known.byte_by_byte.Goals as goal
+use Rattle.komihash.proofs.tests.runs.byte_by_byte.Goals as goal
 
 -- one byte is always kept
 kept_bytes-one : (p : ℕ) → p < 64 → kept_bytes p 1 ≡ 1

@@ -3,7 +3,7 @@ use Rattle.std.proofs.Common.{◌≡◌, ◌+◌, ◌∙◌, ◌∷◌, [], leng
 use Rattle.komihash.specs.Calls.{onward_products}
 use Rattle.komihash.specs.declared.stream.Call.TheVariants.{Answer}
 use Rattle.komihash.proofs.SavedTexts.{length-text}
-use Rattle.komihash.proofs.tests.runs.answer_costs.Goals as goal
+use Rattle.komihash.proofs.tests.tally.resumed_answer_costs.Goals as goal
 
 pub returns-clause-products : goal.returns-clause-products
 returns-clause-products g c =
