@@ -39,11 +39,6 @@ declared() {
 # Prints the names that `nm` lists with a letter.
 symbols() { nm "${@:2}" | awk -v letter="$1" 'NF > 1 && $(NF - 1) == letter { print $NF }' | sort; }
 
-# Whether the crate's two modules differ in the version alone.
-modules_agree() {
-    diff <(sed 's/5/4/g; s/inr/inl/' ../crates/komihash_c/src/v5.rt) ../crates/komihash_c/src/v4.rt
-}
-
 has_header() { cmp komihash_rattle.h "$prefix/include/komihash_rattle.h"; }
 
 has_declared() {
@@ -168,7 +163,6 @@ examples() {
         counted
         return
     fi
-    note 'the modules of both versions differ in the version alone' modules_agree
     note 'the installed header is komihash_rattle.h' has_header
     note 'the library has the functions of the header, and no more' has_declared
     note 'the library calls nothing else' needs_nothing
