@@ -18,10 +18,11 @@ OWNER = re.compile(r"\b(?:trait|impl(?:<.*?>)?)\s+(?:[^{]*?\bfor\s+)?\W*(\w+)", 
 
 
 def texts_of(*patterns):
-    """The texts of the files that match a pattern, by name, but for what Python leaves behind."""
+    """The texts of the files that match a pattern, by name, but for what is built."""
     paths = [path for pattern in patterns for path in sorted(SCRIPTS.parent.glob(pattern))]
-    files = [path for path in paths if path.is_file() and path.suffix != ".pyc"]
-    return {path.relative_to(SCRIPTS.parent).as_posix(): path.read_text("utf-8") for path in files}
+    files = {path.relative_to(SCRIPTS.parent).as_posix(): path for path in paths if path.is_file()}
+    built = re.compile(r"(?:.*/)?(?:out|__pycache__)/")
+    return {name: path.read_text("utf-8") for name, path in files.items() if not built.match(name)}
 
 
 def code_of(text):

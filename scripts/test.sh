@@ -8,7 +8,6 @@ set -uo pipefail
 cd "$(dirname "$0")/.." || exit 1
 . scripts/cases.sh
 
-# Prints the skipped cases and the sum of all parts, and exits.
 sum_up() {
     grep '^skipped: ' "$room/told"
     counted
