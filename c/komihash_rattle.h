@@ -4,8 +4,8 @@
  *
  * For every call:
  * - `length` and `room` count the items after the pointer before them, which are bytes or words of
- *   eight bytes; `count` counts pieces. No single array takes more than PTRDIFF_MAX bytes. All
- *   pieces together may.
+ *   eight bytes; `count` counts pieces. No single array takes more than PTRDIFF_MAX bytes; the
+ *   pieces of one message may add up to more.
  * - A pointer may be null only if the length, room or count after it is 0. Never null are `stream`,
  *   `rand`, and the pointer in a piece, even in an empty one.
  * - A pointer to words, pieces, a stream or a generator is aligned to eight bytes. One to bytes
@@ -98,8 +98,8 @@ uint64_t komihash_v5_finish(const komihash_v5_stream *stream);
 size_t komihash_v4_save(const komihash_v4_stream *stream, void *out, size_t room);
 size_t komihash_v5_save(const komihash_v5_stream *stream, void *out, size_t room);
 
-/* Sets the stream, which may be any that a call returned, to the one that has this saved text, and
- * returns true. Returns false, and changes
+/* Replaces the stream by the one that has this saved text, and returns true. `stream` must already
+ * hold a stream that a call returned, such as a new one. Returns false, and changes
  * nothing, if no stream of this version has it. The text has no checksum: damage that makes it the
  * text of another stream is not noticed. */
 bool komihash_v4_resume(komihash_v4_stream *stream, const void *text, size_t length);
