@@ -183,6 +183,11 @@ def print_columns(rows, version, build):
         print(f"mean of {group:<17} best {best:.3f}  median {median:.3f}")
 
 
+def least_time(columns, version):
+    """Returns the port's least time in a version over the builds of the Rust crate."""
+    return min(columns[version, build].port for build in BUILDS)
+
+
 def shown_block(rows, measured):
     """Returns the block that stands in ../README.md and at the head of speed.md."""
     table = []
@@ -190,7 +195,7 @@ def shown_block(rows, measured):
         cells = [words]
         for version in ("v5", "v4"):
             columns = rows[group, name]
-            time = min(columns[version, build].port for build in BUILDS) / calls
+            time = least_time(columns, version) / calls
             speed = f"{three_digits(size / time)} GB/s" if size else f"{three_digits(time)} ns"
             cells += (speed, f"{columns[version, 'lto'].median:.2f}")
         table.append(cells)
@@ -228,8 +233,8 @@ def section(rows, firsts):
 def cells_of(columns, version):
     """Returns the cells of a version in a row: the least time, the ratios, and their spread."""
     builds = [columns[version, build] for build in BUILDS]
-    time = three_digits(min(it.port for it in builds))
     spread = f"{builds[-1].least:.2f} to {builds[-1].most:.2f}"
+    time = three_digits(least_time(columns, version))
     return (time, *(f"{it.median:.2f}" for it in builds), spread)
 
 
