@@ -38,12 +38,6 @@ pub IsTextAfter-saved : (v seed : ℕ) (m bytes : List ℕ) (s : State) → IsSt
 unfolding IsTextAfter
 IsTextAfter-saved v seed m bytes s is absorbed same = (s, is, absorbed, sym same)
 
--- and the stream that has this text absorbed the message
-pub HasAbsorbed-saved : (v seed : ℕ) (m bytes : List ℕ) (after : State) → IsTextAfter v seed m bytes
-    → ((s : State) → IsState v s → text v s ≡ bytes → after ≡ s) → HasAbsorbed v seed after m
-unfolding IsTextAfter HasAbsorbed
-HasAbsorbed-saved v seed m bytes after (s, is, absorbed, same) only = only s is same ∙ absorbed
-
 -- equal messages lead to equal states and texts
 pub same_state_after : (v seed : ℕ) (s t : State) (m : List ℕ) → HasAbsorbed v seed s m
     → HasAbsorbed v seed t m → s ≡ t
@@ -62,5 +56,4 @@ pub ruleset message_laws = (
   HasAbsorbed-joined,
   answer-komi,
   IsTextAfter-saved,
-  HasAbsorbed-saved,
 )

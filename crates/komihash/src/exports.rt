@@ -24,7 +24,6 @@ fn write_by_each_name(
     root.write(bytes);
 }
 
-// Returns what the root's `komihash` gives.
 fn hash_by_each_name(
     bytes: &[u8],
     four: &mut v4::KomiHasher,

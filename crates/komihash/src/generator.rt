@@ -1,6 +1,6 @@
 //! The pseudorandom generator of both versions.
 
-ghost use Rattle.std.specs.Prelude.{ℕ, ◌≡◌, ◌<◌, ◌^◌, length};
+ghost use Rattle.std.specs.Prelude.{◌≡◌, ℕ, length};
 ghost use Rattle.komihash.specs.Generator.{next, after_steps, fill, after_fill};
 
 use crate::tally::Tally;
@@ -88,17 +88,14 @@ where
         ensures pair { self.new ≡ next V self.old }
     {
         let (low, high) = multiply128(self.s1, self.s2, &mut Tally::new());
-        // In this order a step of version 5 takes fewer instructions.
-        if V != 4 {
-            self.s1 = (low ^ high).wrapping_add(0x5555_5555_5555_5555);
-        }
-        self.s2 = self
-            .s2
-            .wrapping_add(high)
-            .wrapping_add(0xaaaa_aaaa_aaaa_aaaa);
-        if V == 4 {
-            self.s1 = low ^ self.s2;
-        }
+        let sum = self.s2.wrapping_add(high);
+        let s2 = sum.wrapping_add(0xaaaa_aaaa_aaaa_aaaa);
+        self.s1 = if V == 4 {
+            low ^ s2
+        } else {
+            (low ^ high).wrapping_add(0x5555_5555_5555_5555)
+        };
+        self.s2 = s2;
         self.s1
     }
 

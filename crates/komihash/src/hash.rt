@@ -40,7 +40,7 @@ fn hash_of_one_word<const V: u8>(bytes: &[u8], seed: u64, tally: &mut Tally) -> 
     close_two(pair, read_word(bytes), last, tally)
 }
 
-// `final_word_by_branch` makes 16 bytes, a common length of keys, faster.
+// `final_word_by_branch` makes 16 and 24 bytes, common lengths of keys, faster.
 #[inline(never)]
 fn hash_of_two_words<const V: u8>(bytes: &[u8], seed: u64, tally: &mut Tally) -> u64
     requires least { 16 ≤ length bytes.now }
@@ -54,7 +54,6 @@ fn hash_of_two_words<const V: u8>(bytes: &[u8], seed: u64, tally: &mut Tally) ->
     close_one(pair, last, tally)
 }
 
-// `final_word_by_branch` makes 24 bytes faster.
 #[inline(never)]
 fn hash_of_three_words<const V: u8>(bytes: &[u8], seed: u64, tally: &mut Tally) -> u64
     requires least { 24 ≤ length bytes.now }
@@ -103,8 +102,7 @@ pub(crate) fn hash_message<const V: u8>(bytes: &[u8], seed: u64, tally: &mut Tal
 {
     if bytes.len() < 8 {
         if bytes.is_empty() {
-            let pair = seed_pair(seed, tally);
-            return close_one(pair, 0, tally);
+            return close_one(seed_pair(seed, tally), 0, tally);
         }
         hash_of_partial_word::<V>(bytes, seed, tally)
     } else if bytes.len() >= 64 {

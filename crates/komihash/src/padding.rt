@@ -59,8 +59,8 @@ pub(crate) fn final_word_by_shift(bytes: &[u8], end: u64) -> u64
     ensures { result ≡ final_word bytes.now end }
 {
     let eight = word_at(bytes, bytes.len() - 8);
-    let over = 8 * (bytes.len() % 8);
-    (eight >> 1) >> (63 - over) | end << over
+    let shift = 8 * (bytes.len() % 8);
+    (eight >> 1) >> (63 - shift) | end << shift
 }
 
 /// Returns the final word of eight or more bytes. If these are whole words, that is `end`, and

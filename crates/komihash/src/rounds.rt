@@ -4,8 +4,7 @@
 //! Only `places` depends on the version. A step that makes products counts them in the tally that
 //! it is passed.
 
-ghost use Rattle.std.specs.Prelude.{◌≡◌, ◌+◌, ◌*◌, ◌/◌, ◌%◌, ◌<◌, ◌≤◌, [], ◌∷◌};
-ghost use Rattle.std.specs.Prelude.{All, length, take, drop, bit_xor};
+ghost use Rattle.std.specs.Prelude.{◌≡◌, ◌+◌, ◌*◌, ◌/◌, ◌%◌, ◌<◌, ◌≤◌, All, length, bit_xor};
 ghost use Rattle.std.proofs.Common.{refl};
 ghost use Rattle.komihash.specs.Counts.{Costs};
 ghost use Rattle.komihash.specs.Rounds.{low, high, plus, seed_words, mix, seed_pair, lanes, places};
@@ -199,22 +198,6 @@ pub(crate) fn block_round(
     lanes.fourth = mix(words[p7] ^ e4, x4, e4, tally);
 }
 
-#[inline(always)]
-fn block_words(block: &[u8; 64]) -> [u64; 8]
-    ensures { result ≡ whole_words block.now }
-{
-    [
-        word_at(block, 0),
-        word_at(block, 8),
-        word_at(block, 16),
-        word_at(block, 24),
-        word_at(block, 32),
-        word_at(block, 40),
-        word_at(block, 48),
-        word_at(block, 56),
-    ]
-}
-
 // Absorbs the first block, and returns the bytes after it. Absorbing these then gives the same
 // lanes and the same remainder as absorbing all of `bytes` at once.
 #[inline(always)]
@@ -226,17 +209,22 @@ fn absorb_block<'a, const V: u8>(lanes: &mut Lanes, bytes: &'a [u8], tally: &mut
         ≡ block_lanes V lanes.old (whole_words bytes.now) }
     ensures costs { Costs tally 4 0 }
 {
-    let Some((block, rest)) = bytes.split_first_chunk::<64>() else {
-        unreachable!()
-    };
-    let words = block_words(block);
+    let (block, rest) = bytes.split_at(64);
+    let words = [
+        word_at(block, 0),
+        word_at(block, 8),
+        word_at(block, 16),
+        word_at(block, 24),
+        word_at(block, 32),
+        word_at(block, 40),
+        word_at(block, 48),
+        word_at(block, 56),
+    ];
     block_round(lanes, &words, places::<V>(), tally);
     rest
 }
 
 /// Absorbs each whole block of the bytes, and returns the bytes after them, fewer than 64.
-///
-/// The loop absorbs two blocks per turn. If their number is odd, one goes first.
 #[inline(always)]
 pub(crate) fn absorb_blocks<'a, const V: u8>(
     lanes: &mut Lanes,

@@ -82,8 +82,6 @@ pub(crate) fn write_word(word: u64, out: &mut [u8])
 }
 
 /// Fills `out`, of at most seven bytes, with the lowest bytes of a word.
-///
-/// Writes them in two pieces that may overlap.
 #[inline(always)]
 pub(crate) fn write_partial_word(word: u64, out: &mut [u8])
     requires few { length out.old ≤ 7 }

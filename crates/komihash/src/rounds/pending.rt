@@ -64,16 +64,6 @@ impl Pending {
         self.fill
     }
 
-    // Returns the last byte. Its word has zeros above it.
-    #[inline(always)]
-    fn last_byte(&self) -> u8
-        requires { 0 < length self.now }
-        ensures { result ≡ slice_index self.now (length self.now - 1) }
-    {
-        let at = self.fill - 1;
-        (self.words[at / 8] >> (8 * (at % 8))) as u8
-    }
-
     /// Appends bytes that do not complete a block, and counts them as kept.
     #[inline(always)]
     pub(crate) fn append(&mut self, bytes: &[u8], tally: &mut Tally)
@@ -121,7 +111,10 @@ impl Pending {
         requires { 0 < length self.now }
         ensures { result ≡ final_word self.now (padding_byte V self.now) }
     {
-        let end = padding_after(has_top_bit::<V>(self.last_byte()));
+        let at = self.fill - 1;
+        // Its word has zeros above it.
+        let last_byte = (self.words[at / 8] >> (8 * (at % 8))) as u8;
+        let end = padding_after(has_top_bit::<V>(last_byte));
         self.words[self.fill / 8] | end << (8 * (self.fill % 8))
     }
 

@@ -74,8 +74,7 @@ pub(crate) fn close_one(pair: Pair, word: u64, tally: &mut Tally) -> u64
     ensures costs { Costs tally 2 0 }
 {
     let Pair(low, e) = pair;
-    let mixed = mix((low ^ word) ^ e, e, e, tally);
-    mix_again(mixed, tally)
+    mix_again(mix((low ^ word) ^ e, e, e, tally), tally)
 }
 
 /// Returns the hash from a pair and the two words that are left.
@@ -86,8 +85,7 @@ pub(crate) fn close_two(pair: Pair, word: u64, last: u64, tally: &mut Tally) -> 
     ensures costs { Costs tally 2 0 }
 {
     let Pair(low, e) = pair;
-    let mixed = mix((low ^ word) ^ e, e ^ last, e, tally);
-    mix_again(mixed, tally)
+    mix_again(mix((low ^ word) ^ e, e ^ last, e, tally), tally)
 }
 
 // Returns the hash from a pair, at most one word from index `at` on, and the final word.

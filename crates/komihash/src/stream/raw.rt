@@ -1,16 +1,12 @@
 //! A stream whose type does not name its version, which is how C keeps one.
 
 ghost use Rattle.std.specs.Prelude.{◌≡◌, ◌+◌, ◌<◌, ◌≤◌, ◌↔◌, IfSome, IsSomeAnd, IsNone};
-ghost use Rattle.std.specs.Prelude.{◌++◌, length, take, drop};
+ghost use Rattle.std.specs.Prelude.{length, take, drop};
 ghost use Rattle.komihash.specs.Counts.{Costs, write_products, answer_products, kept_bytes};
 ghost use Rattle.komihash.specs.Saved.{text, IsText};
 ghost use Rattle.komihash.specs.Stream.{State, IsState, start, absorb, answer};
-ghost use Rattle.komihash.specs.Storage.{whole_words, block_lanes, after_blocks};
 
-use super::LONGEST_TEXT;
-use super::saved::{
-    is_text, read_head, read_lanes, read_pending, write_head, write_lanes, write_pending,
-};
+use super::{LONGEST_TEXT, saved};
 use crate::padding::{end_after_blocks, has_top_bit};
 use crate::rounds::pending::Pending;
 use crate::rounds::tail::{close_one, hash_from_pair};
@@ -23,8 +19,9 @@ use std::marker::Model;
 #[derive(Drop)]
 #[repr(C)]
 pub struct RawStream {
-    lanes: Lanes,
+    // First, so that the address of its words is that of the stream, and takes no register.
     pending: Pending,
+    lanes: Lanes,
     // Whether a block was absorbed.
     absorbed: bool,
     // In version 4, whether the last byte of the last block is at least 128.
@@ -90,8 +87,8 @@ impl RawStream {
             (kept_bytes (length self.old.pending) (length bytes.now)) }
     {
         let fill = self.pending.len();
-        let end = bytes.len() - (fill + bytes.len()) % 64;
-        self.top_bit = has_top_bit::<V>(bytes[end - 1]);
+        let blocks_end = bytes.len() - (fill + bytes.len()) % 64;
+        self.top_bit = has_top_bit::<V>(bytes[blocks_end - 1]);
         self.absorbed = true;
         let mut lanes;
         let mut rest = bytes;
@@ -132,9 +129,9 @@ impl RawStream {
         ensures text { take result out.new ≡ text V self.now }
         ensures rest { drop result out.new ≡ drop result out.old }
     {
-        write_head::<V>(self.absorbed, self.top_bit, self.pending.len(), out);
-        write_lanes(&self.lanes, out);
-        write_pending(&self.pending, out)
+        saved::write_head::<V>(self.absorbed, self.top_bit, self.pending.len(), out);
+        saved::write_lanes(&self.lanes, out);
+        saved::write_pending(&self.pending, out)
     }
 
     /// Returns the stream that has these bytes as its saved text, or `None` if no stream has.
@@ -147,13 +144,13 @@ impl RawStream {
         ensures most { IfSome result (λ _. length bytes.now ≤ LONGEST_TEXT) }
         ensures none { IsNone result ↔ ¬ IsText V bytes.now }
     {
-        if !is_text::<V>(bytes) {
+        if !saved::is_text::<V>(bytes) {
             return None;
         }
-        let (absorbed, top_bit) = read_head(bytes);
+        let (absorbed, top_bit) = saved::read_head(bytes);
         Some(RawStream {
-            lanes: read_lanes(bytes),
-            pending: read_pending(bytes),
+            lanes: saved::read_lanes(bytes),
+            pending: saved::read_pending(bytes),
             absorbed,
             top_bit,
         })

@@ -4,7 +4,6 @@
 
 ghost use Rattle.std.specs.Prelude.{◌≡◌, ◌+◌, ◌<◌, ◌≤◌, ◌↔◌, ℕ, IfSome, IsSomeAnd, IsNone};
 ghost use Rattle.std.specs.Prelude.{List, [], ◌++◌, length, take, drop};
-ghost use Rattle.komihash.specs.Counts.{write_products, answer_products, kept_bytes};
 ghost use Rattle.komihash.specs.Hash.{komi};
 ghost use Rattle.komihash.specs.Saved.{text, IsText, IsTextAfter};
 ghost use Rattle.komihash.specs.Stream.{State, StateOf, IsState, HasAbsorbed};
