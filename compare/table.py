@@ -197,12 +197,14 @@ def shown_block(rows, measured):
             columns = rows[group, name]
             time = least_time(columns, version) / calls
             speed = f"{three_digits(size / time)} GB/s" if size else f"{three_digits(time)} ns"
-            cells += (speed, f"{columns[version, 'lto'].median:.2f}")
+            it = columns[version, "lto"]
+            cells += (speed, f"{it.median:.2f} ({it.least:.2f} to {it.most:.2f})")
         table.append(cells)
     ratio = (
         "The port is the code of this repository. A ratio is the time of the Rust crate `komihash`"
         " 0.5.0, built with fat LTO and for x86-64-v2, divided by the time of the port: above 1,"
-        " the port is faster."
+        " the port is faster. Where the functions lie in memory changes their speed, so each ratio"
+        " is the median over several layouts, with the least and the greatest in brackets."
     )
     table = markdown(("Call", "version 5", "ratio", "version 4", "ratio"), table)
     return "\n\n".join((MARKS[0], ratio, table, f"Measured on {measured}.", MARKS[1]))
