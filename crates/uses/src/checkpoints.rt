@@ -1,9 +1,10 @@
 //! Digests that continue from a checkpoint, which is the state of a stream, saved as bytes.
 
-ghost use Rattle.std.specs.Prelude.{◌≤◌, ◌≡◌, ◌++◌, ℕ, List, take, IfSome, IsSomeAnd};
+ghost use Rattle.std.specs.Prelude.{◌≤◌, ◌≡◌, ◌↔◌, ◌++◌, ℕ, List, take};
+ghost use Rattle.std.specs.Prelude.{IfSome, IsSomeAnd, IsNone};
 ghost use Rattle.std.specs.List.{flat_map};
 ghost use Rattle.komihash.specs.Hash.{komi};
-ghost use Rattle.komihash.specs.Saved.{IsTextAfter};
+ghost use Rattle.komihash.specs.Saved.{IsText, IsTextAfter};
 
 use komihash::StreamedKomihash;
 use komihash::stream::LONGEST_TEXT;
@@ -14,6 +15,7 @@ pub fn go_on(checkpoint: &mut [u8; LONGEST_TEXT], count: usize, next: &[u8]) -> 
     ensures most { IfSome result (λ n. n ≤ LONGEST_TEXT) }
     ensures saved { (seed : ℕ) (m : List ℕ) → IsTextAfter 5 seed m (take count checkpoint.old)
         → IsSomeAnd result (λ n. IsTextAfter 5 seed (m ++ next.now) (take n checkpoint.new)) }
+    ensures none { IsNone result ↔ ¬ IsText 5 (take count checkpoint.old) }
 {
     let mut stream = StreamedKomihash::resume(&checkpoint[..count])?;
     stream.write(next);
@@ -23,8 +25,9 @@ pub fn go_on(checkpoint: &mut [u8; LONGEST_TEXT], count: usize, next: &[u8]) -> 
 /// Returns the digest at a checkpoint.
 pub fn digest_at(checkpoint: &[u8; LONGEST_TEXT], count: usize) -> Option<u64>
     requires { count ≤ LONGEST_TEXT }
-    ensures { (seed : ℕ) (m : List ℕ) → IsTextAfter 5 seed m (take count checkpoint.now)
+    ensures hash { (seed : ℕ) (m : List ℕ) → IsTextAfter 5 seed m (take count checkpoint.now)
         → IsSomeAnd result (λ hash. hash ≡ komi 5 seed m) }
+    ensures none { IsNone result ↔ ¬ IsText 5 (take count checkpoint.now) }
 {
     let stream = StreamedKomihash::resume(&checkpoint[..count])?;
     Some(stream.finish())

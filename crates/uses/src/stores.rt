@@ -28,7 +28,7 @@ pub fn are_equal_keys(
 
 /// Returns whether two streams are in the same state, from their saved texts.
 pub fn are_in_one_state(left: &StreamedKomihash, right: &StreamedKomihash) -> bool
-    ensures { result ≡ true → left.now.state ≡ right.now.state }
+    ensures { result ≡ true ↔ left.now.state ≡ right.now.state }
 {
     laws::saved_once();
     let mut left_text = [0; LONGEST_TEXT];
@@ -47,9 +47,8 @@ pub fn save_two_ways(
     in_two: &mut [u8; LONGEST_TEXT],
 ) -> (usize, usize)
     requires { cut ≤ length bytes.now }
-    ensures texts { take result.0 at_once.new ≡ take result.1 in_two.new }
-    ensures first { result.0 ≤ LONGEST_TEXT }
-    ensures second { result.1 ≤ LONGEST_TEXT }
+    ensures text { IsTextAfter 5 0 bytes.now (take result.0 at_once.new) }
+    ensures same { take result.0 at_once.new ≡ take result.1 in_two.new }
 {
     laws::same_bytes();
     let mut one = StreamedKomihash::new();
@@ -81,7 +80,7 @@ pub fn stored_hash(bytes: &[u8; 8]) -> u64
 
 /// Returns whether two seeds differ, and so their words.
 pub fn are_different_seeds(left: u64, right: u64) -> bool
-    ensures { result ≡ true → seed_words left ≢ seed_words right }
+    ensures { result ≡ true ↔ seed_words left ≢ seed_words right }
 {
     laws::seed_back();
     left != right

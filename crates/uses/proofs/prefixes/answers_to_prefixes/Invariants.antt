@@ -1,7 +1,7 @@
 use Rattle.std.proofs.Common.{◌≡◌, ◌*◌, take}
 use Rattle.std.specs.Prelude.{vec_len}
 use Rattle.uses.specs.Prefixes.{calls_of}
-use Rattle.uses.proofs.prefixes.hashes_of_prefixes.Given as goal
+use Rattle.uses.proofs.prefixes.answers_to_prefixes.Given as goal
 
 -- the list holds the calls of the parts so far, two for each
 abbrev pub invariant-loop-part : goal.invariant-loop-part
