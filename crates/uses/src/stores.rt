@@ -49,6 +49,8 @@ pub fn save_two_ways(
     requires { cut ≤ length bytes.now }
     ensures text { IsTextAfter 5 0 bytes.now (take result.0 at_once.new) }
     ensures same { take result.0 at_once.new ≡ take result.1 in_two.new }
+    ensures first { result.0 ≤ LONGEST_TEXT }
+    ensures second { result.1 ≤ LONGEST_TEXT }
 {
     laws::same_bytes();
     let mut one = StreamedKomihash::new();
