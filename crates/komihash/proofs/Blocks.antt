@@ -29,13 +29,13 @@ block_lanes_more v l xs le =
     ap (λ ys. block_lanes v l (whole_words ys)) (sym (take-append-drop 64 xs))
     ∙ block_lanes-bytes v l (take 64 xs) (drop 64 xs) (length-take-le 64 xs le)
 
-block_lanes-few : (v : ℕ) (l : Lanes) (ws : List ℕ) → length ws < 8 → block_lanes v l ws ≡ l
-block_lanes-few v l (w0 ∷ w1 ∷ w2 ∷ w3 ∷ w4 ∷ w5 ∷ w6 ∷ w7 ∷ ws) lt = absurd (omega arith)
-block_lanes-few v l ws lt = refl
+block_lanes-few_words : (v : ℕ) (l : Lanes) (ws : List ℕ) → length ws < 8 → block_lanes v l ws ≡ l
+block_lanes-few_words v l (w0 ∷ w1 ∷ w2 ∷ w3 ∷ w4 ∷ w5 ∷ w6 ∷ w7 ∷ ws) lt = absurd (omega arith)
+block_lanes-few_words v l ws lt = refl
 
-pub block_lanes_few : (v : ℕ) (l : Lanes) (xs : List ℕ) → length xs < 64
+pub block_lanes-few_bytes : (v : ℕ) (l : Lanes) (xs : List ℕ) → length xs < 64
     → block_lanes v l (whole_words xs) ≡ l
-block_lanes_few v l xs lt = block_lanes-few v l (whole_words xs) (omega (arith, length-whole_words xs))
+block_lanes-few_bytes v l xs lt = block_lanes-few_words v l (whole_words xs) (omega (arith, length-whole_words xs))
 
 -- ---- the bytes
 

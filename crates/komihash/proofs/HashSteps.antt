@@ -9,7 +9,7 @@ use Rattle.komihash.specs.Rounds.{Lanes, lanes, seed_pair, block_round, pair_rou
 use Rattle.komihash.specs.Hash.{hash_from_pair, hash_from_lanes, komi}
 use Rattle.komihash.specs.Storage.{whole_words, final_word, end_byte, block_lanes, after_blocks}
 use Rattle.komihash.specs.Words.{word_of}
-use Rattle.komihash.proofs.Blocks.{block_lanes_more, block_lanes_few}
+use Rattle.komihash.proofs.Blocks.{block_lanes_more, block_lanes-few_bytes}
 use Rattle.komihash.proofs.Blocks.{after_blocks_more, after_blocks_few}
 use Rattle.komihash.proofs.PaddedWords.{padded_words-by_tail}
 use Rattle.komihash.proofs.WholeWords.{whole_words-few, after_words-few, whole_words-more}
@@ -68,7 +68,7 @@ after_block : (k v : ℕ) (s : Lanes) (xs : List ℕ) (last : ℕ) → length xs
     (whole_words (after_blocks xs) ++ last ∷ [])
 after_block zero v s xs last e =
     let few : length xs < 64 = omega arith in
-    rw (block_lanes_few v s xs few, after_blocks_few xs few) (few_bytes v s true xs last few)
+    rw (block_lanes-few_bytes v s xs few, after_blocks_few xs few) (few_bytes v s true xs last few)
 after_block (suc k) v s xs last e =
     let le : 64 ≤ length xs = omega arith in
     rw (block_bytes v s true xs last le, block_lanes_more v s xs le, after_blocks_more xs le)

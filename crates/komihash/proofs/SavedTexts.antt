@@ -94,9 +94,6 @@ length-text v s =
 pub text-most : (v : ℕ) (s : State) (bytes : List ℕ) → IsState v s → text v s ≡ bytes → length bytes ≤ 131
 text-most v s bytes is same = omega (arith, is.few, length-text v s, ap length same)
 
-pub text-least : (v : ℕ) (s : State) (bytes : List ℕ) → text v s ≡ bytes → 68 ≤ length bytes
-text-least v s bytes same = omega (arith, length-text v s, ap length same)
-
 pub IsTextAfter-most : (v seed : ℕ) (m bytes : List ℕ) → IsTextAfter v seed m bytes → length bytes ≤ 131
 unfolding IsTextAfter
 IsTextAfter-most v seed m bytes (s, is, absorbed, same) = text-most v s bytes is same

@@ -7,8 +7,8 @@ use Rattle.std.specs.Prelude.{slice_index}
 use Rattle.komihash.specs.Rounds.{Lanes, block_round}
 use Rattle.komihash.specs.Stream.{State, absorb, absorb_byte}
 use Rattle.komihash.specs.Storage.{whole_words, block_lanes, after_blocks}
-use Rattle.komihash.specs.Padding.{has_top_bit}
-use Rattle.komihash.proofs.Blocks.{block_lanes-bytes, block_lanes_few, after_blocks_few, after_blocks_more}
+use Rattle.komihash.specs.Padding.{pads_with_two}
+use Rattle.komihash.proofs.Blocks.{block_lanes-bytes, block_lanes-few_bytes, after_blocks_few, after_blocks_more}
 use Rattle.komihash.proofs.WholeWords.{words_of-whole}
 
 -- nothing absorbed
@@ -27,10 +27,10 @@ absorb-append v s (b ∷ x) y = absorb-append v (absorb_byte v s b) x y
 abbrev byte_state : State → ℕ → State
 byte_state s b = record s { pending = s.pending ++ b ∷ [] }
 
-absorb-byte : (v : ℕ) (s : State) (b : ℕ) (bytes : List ℕ) → length s.pending < 63
+absorb-byte_and_more : (v : ℕ) (s : State) (b : ℕ) (bytes : List ℕ) → length s.pending < 63
     → absorb v s (b ∷ bytes) ≡ absorb v (byte_state s b) bytes
 unfolding absorb
-absorb-byte v s b bytes few =
+absorb-byte_and_more v s b bytes few =
     grind (arith, nat_tests, length-append s.pending (b ∷ []))
 
 -- the state after a block of the pending bytes and the byte b
@@ -39,7 +39,7 @@ block_state v s b = record {
   lanes = block_round v s.lanes (whole_words (s.pending ++ b ∷ []));
   pending = [];
   absorbed = true;
-  top_bit = has_top_bit v b;
+  top_bit = pads_with_two v b;
 }
 
 absorb-block : (v : ℕ) (s : State) (b : ℕ) (bytes : List ℕ) → length s.pending ≡ 63
@@ -56,7 +56,7 @@ pub absorb-few : (v : ℕ) (s : State) (bytes : List ℕ) → length s.pending +
 absorb-few v s [] few = rw (absorb-nothing, append-nil)
 absorb-few v s (b ∷ bytes) few =
     let size = length-append s.pending (b ∷ []) in
-    absorb-byte v s b bytes (omega arith)
+    absorb-byte_and_more v s b bytes (omega arith)
     ∙ absorb-few v (byte_state s b) bytes (omega arith)
     ∙ rw append_assoc
 
@@ -66,7 +66,7 @@ blocks_state v l all = record {
   lanes = block_lanes v l (whole_words all);
   pending = after_blocks all;
   absorbed = true;
-  top_bit = has_top_bit v (slice_index all (length all - length all % 64 - 1));
+  top_bit = pads_with_two v (slice_index all (length all - length all % 64 - 1));
 }
 
 -- a first block that ends in the byte b, and bytes after it whose whole blocks are n bytes
@@ -74,7 +74,7 @@ first_block : (v : ℕ) (s : State) (ys : List ℕ) (b n : ℕ) → length s.pen
     → n ≡ length ys - length ys % 64
     → blocks_state v s.lanes (s.pending ++ b ∷ ys)
     ≡ record (blocks_state v (block_state v s b).lanes ys) {
-      top_bit = has_top_bit v (slice_index (b ∷ ys) n);
+      top_bit = pads_with_two v (slice_index (b ∷ ys) n);
     }
 first_block v s ys b n full e =
     let block = s.pending ++ b ∷ [] in
@@ -98,7 +98,7 @@ absorb-blocks v s (b ∷ bytes) few le =
     elim (cases_lt (length s.pending) 63) [
       | inl lt ↦
           let size = length-append s.pending (b ∷ []) in
-          absorb-byte v s b bytes lt
+          absorb-byte_and_more v s b bytes lt
           ∙ absorb-blocks v (byte_state s b) bytes (omega arith) (omega arith)
           ∙ rw append_assoc
       | inr ge ↦
@@ -107,7 +107,7 @@ absorb-blocks v s (b ∷ bytes) few le =
           absorb-block v s b bytes full ∙ elim (cases_lt (length bytes) 64) [
             | inl lt ↦
                 let all = first_block v s bytes b 0 full (omega arith) in
-                let lanes = block_lanes_few v after.lanes bytes lt in
+                let lanes = block_lanes-few_bytes v after.lanes bytes lt in
                 let pending = after_blocks_few bytes lt in
                 absorb-few v after bytes (omega arith) ∙ cc
             | inr more ↦

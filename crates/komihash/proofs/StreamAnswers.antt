@@ -8,7 +8,7 @@ use Rattle.komihash.specs.Hash.{komi, hash_from_pair}
 use Rattle.komihash.specs.Rounds.{lanes, seed_pair, join, closing}
 use Rattle.komihash.specs.Stream.{State, start, absorb, answer, tail_of}
 use Rattle.komihash.specs.Storage.{tail_end, whole_words, final_word, end_byte}
-use Rattle.komihash.specs.Padding.{has_top_bit, padding_byte}
+use Rattle.komihash.specs.Padding.{pads_with_two, padding_byte}
 use Rattle.komihash.proofs.StreamAbsorbs.{blocks_state, absorb-few, absorb-blocks}
 use Rattle.komihash.proofs.HashSteps.{komi_short, komi_long}
 use Rattle.komihash.proofs.PaddedWords.{padded_words-by_tail}
@@ -52,11 +52,11 @@ padding_byte-append v xs ys some =
 
 -- what ends the tail after n bytes, the last of them the last of a block
 tail_end-drop : (v n : ℕ) (m : List ℕ) → 0 < n → n ≤ length m
-    → tail_end v (drop n m) true (has_top_bit v (slice_index m (n - 1))) ≡ end_byte v m
+    → tail_end v (drop n m) true (pads_with_two v (slice_index m (n - 1))) ≡ end_byte v m
 tail_end-drop v n [] some le = absurd (omega arith)
 tail_end-drop v n (b ∷ m) some le = go (drop n (b ∷ m)) refl where
   go : (p : List ℕ) → drop n (b ∷ m) ≡ p
-      → tail_end v p true (has_top_bit v (slice_index (b ∷ m) (n - 1))) ≡ padding_byte v (b ∷ m)
+      → tail_end v p true (pads_with_two v (slice_index (b ∷ m) (n - 1))) ≡ padding_byte v (b ∷ m)
   go [] e =
       let all : n ≡ length (b ∷ m) = omega (arith, length-drop n (b ∷ m), ap length e) in
       rw all

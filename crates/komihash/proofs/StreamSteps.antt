@@ -4,7 +4,7 @@ use Rattle.std.proofs.lemmas.Bool.{false≢true, cases_lt}
 use Rattle.std.proofs.lemmas.Bool.Decides.{nat_tests}
 use Rattle.std.proofs.lemmas.List.{length-append, get_or-append-add}
 use Rattle.std.specs.Prelude.{slice_index}
-use Rattle.komihash.specs.Padding.{has_top_bit}
+use Rattle.komihash.specs.Padding.{pads_with_two}
 use Rattle.komihash.specs.Rounds.{Lanes}
 use Rattle.komihash.specs.Stream.{State, IsState, start, absorb}
 use Rattle.komihash.specs.Storage.{whole_words, after_blocks, block_lanes}
@@ -26,8 +26,8 @@ IsState-start v seed s is =
       top_bit_version = λ h. absurd (false≢true h);
     }
 
-has_top_bit-version : (v b : ℕ) → has_top_bit v b ≡ true → v ≡ 4
-has_top_bit-version v b h = grind (arith, nat_tests)
+pads_with_two-version : (v b : ℕ) → pads_with_two v b ≡ true → v ≡ 4
+pads_with_two-version v b h = grind (arith, nat_tests)
 
 -- a write
 pub IsState-absorb : (v : ℕ) (s : State) (bytes : List ℕ) → IsState v s → AreBytes bytes → IsState v (absorb v s bytes)
@@ -49,7 +49,7 @@ IsState-absorb v s bytes is are =
             bytes = AreBytes-drop _ all are_all;
             few = omega (arith, length-after_blocks all);
             top_bit_absorbed = λ _. refl;
-            top_bit_version = has_top_bit-version v _;
+            top_bit_version = pads_with_two-version v _;
           }
     ]
 
@@ -70,7 +70,7 @@ pub after_write : (v : ℕ) (s : State) (bytes : List ℕ) (lanes : Lanes) (left
     → lanes ≡ block_lanes v s.lanes (whole_words (s.pending ++ bytes))
     → left ≡ after_blocks (s.pending ++ bytes)
     → absorbed ≡ true
-    → top_bit ≡ has_top_bit v (slice_index bytes (length bytes - (length s.pending + length bytes) % 64 - 1))
+    → top_bit ≡ pads_with_two v (slice_index bytes (length bytes - (length s.pending + length bytes) % 64 - 1))
     → record { lanes = lanes; pending = left; absorbed = absorbed; top_bit = top_bit } ≡ absorb v s bytes
 after_write v s bytes lanes left absorbed top_bit few many after is flag top =
     let last = last_of_block s.pending bytes few many in

@@ -8,7 +8,7 @@ use Rattle.std.proofs.lemmas.Nat.{pow-add, pow_pos, shr-shr, shr_below, shr_le, 
 use Rattle.std.specs.Int.{to_le_bytes}
 use Rattle.std.specs.Prelude.{slice_index}
 use Rattle.komihash.specs.Storage.{whole_words, final_word}
-use Rattle.komihash.specs.Padding.{ArePadded, has_top_bit, padding_after, padded_words, padding_byte}
+use Rattle.komihash.specs.Padding.{ArePadded, pads_with_two, padding_after, padded_words, padding_byte}
 use Rattle.komihash.specs.Words.{AreBytes, word_of, bytes_of, all_bytes}
 use Rattle.komihash.proofs.AllBytes.{length-all_bytes, to_le_bytes-word}
 use Rattle.komihash.proofs.WholeWords.{whole_words-few}
@@ -189,7 +189,7 @@ byte_of_words (w ∷ ws) at lt = ap (λ bs. get_or bs (at % 8) 0) (to_le_bytes-w
 
 pub padding_byte_at : (v : ℕ) (ws : List ℕ) (n last : ℕ) → 0 < n → n ≤ 8 * length ws
     → last ≡ slice_index (all_bytes ws) (n - 1)
-    → padding_after (has_top_bit v last) ≡ padding_byte v (take n (all_bytes ws))
+    → padding_after (pads_with_two v last) ≡ padding_byte v (take n (all_bytes ws))
 padding_byte_at v ws n last some le is =
     let size = length-take-le n (all_bytes ws) (omega (arith, length-all_bytes ws)) in
     rw (size, get_or-take n (all_bytes ws) (n - 1) 0 (omega arith), is) refl

@@ -4,17 +4,17 @@ use Rattle.std.specs.Prelude.{List, [], ◌∷◌, ◌++◌, length, replicate, 
 use Rattle.komihash.specs.Words.{AreBytes, words_of}
 
 -- whether the version is 4 and a last byte is at least 128
-abbrev pub has_top_bit : ℕ → ℕ → Bool
-has_top_bit v b = v == 4 && nat_le 128 b
+abbrev pub pads_with_two : ℕ → ℕ → Bool
+pads_with_two v b = v == 4 && nat_le 128 b
 
--- the padding byte: 2 after a last byte for which `has_top_bit` holds, else 1
+-- the padding byte: 2 after a last byte for which `pads_with_two` holds, else 1
 abbrev pub padding_after : Bool → ℕ
 padding_after top_bit = if top_bit then 2 else 1
 
 -- the padding byte of a nonempty message in version v: 1, but 2 in version 4 if the message's last
 -- byte is at least 128
 abbrev pub padding_byte : ℕ → List ℕ → ℕ
-padding_byte v m = padding_after (has_top_bit v (slice_index m (length m - 1)))
+padding_byte v m = padding_after (pads_with_two v (slice_index m (length m - 1)))
 
 -- a nonempty message, its padding byte, and zeros up to a multiple of eight bytes
 abbrev pub padded_bytes : ℕ → List ℕ → List ℕ

@@ -1,5 +1,5 @@
--- How the code reads and stores what the other definitions speak of. An auditor may skip this file: no
--- public contract cites it. Private contracts do, and lemmas prove that both say the same.
+-- How the code reads and stores what the other definitions speak of. An auditor may skip this file:
+-- no public contract cites it. Private contracts do, and lemmas prove that both say the same.
 use Rattle.std.proofs.Common.{refl, ap, ◌∙◌, sym}
 use Rattle.std.proofs.lemmas.List.{length-take-le}
 use Rattle.std.specs.Prelude.{ℕ, zero, suc, Bool, ◌≡◌, ◌+◌, ◌-◌, ◌*◌, ◌%◌, ◌<◌, ◌≤◌, bit_xor}
@@ -94,8 +94,8 @@ unfolding pending_words bytes_of
 length-stored xs = refl
 
 -- eight words that store bytes have 64
-pub length-store : (ws xs : List ℕ) → ws ≡ pending_words 8 xs → length (all_bytes ws) ≡ 64
-length-store ws xs is = ap (λ us. length (all_bytes us)) is ∙ length-stored xs
+pub length-eight_words : (ws xs : List ℕ) → ws ≡ pending_words 8 xs → length (all_bytes ws) ≡ 64
+length-eight_words ws xs is = ap (λ us. length (all_bytes us)) is ∙ length-stored xs
 
 pub length-pending_bytes : (ws : List ℕ) (fill : ℕ) → fill ≤ length (all_bytes ws)
     → length (pending_bytes ws fill) ≡ fill

@@ -3,7 +3,7 @@ use Rattle.std.specs.Prelude.{ℕ, ◌<◌, ◌^◌, ◌≡◌, ◌==◌, Bool, 
 use Rattle.std.specs.Prelude.{List, [], ◌∷◌, ◌++◌, length}
 use Rattle.komihash.specs.Hash.{hash_from_pair}
 use Rattle.komihash.specs.Rounds.{Lanes, seed_pair, lanes, block_round, join}
-use Rattle.komihash.specs.Padding.{has_top_bit, padding_after, padded_words}
+use Rattle.komihash.specs.Padding.{pads_with_two, padding_after, padded_words}
 use Rattle.komihash.specs.Words.{AreBytes, words_of}
 
 -- eight lanes; the pending bytes, which no block has taken yet; whether a block was absorbed; and
@@ -32,7 +32,7 @@ absorb_byte v s b =
       lanes = block_round v s.lanes (words_of bytes);
       pending = [];
       absorbed = true;
-      top_bit = has_top_bit v b;
+      top_bit = pads_with_two v b;
     }
     else record s { pending = bytes }
 

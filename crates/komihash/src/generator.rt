@@ -70,8 +70,7 @@ where
         generator
     }
 
-    /// Returns the words, from which `new` makes the same generator. The library for C keeps a
-    /// generator by them.
+    /// Returns the words, from which `new` makes the same generator, as the library for C does.
     #[doc(hidden)]
     #[inline(always)]
     pub fn words(&self) -> (u64, u64)

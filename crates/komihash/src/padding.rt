@@ -5,36 +5,26 @@ ghost use Rattle.std.specs.Prelude.{◌≡◌, ℕ, ◌+◌, ◌*◌, ◌/◌, �
 ghost use Rattle.std.specs.Prelude.{IfSome, IfNone, IsNone, IsSomeAnd};
 ghost use Rattle.std.specs.Prelude.{List, length, take, drop, slice_index};
 ghost use Rattle.komihash.specs.Padding.{ArePadded, padded_words};
-ghost use Rattle.komihash.specs.Padding.{has_top_bit, padding_after, padding_byte};
+ghost use Rattle.komihash.specs.Padding.{pads_with_two, padding_after, padding_byte};
 ghost use Rattle.komihash.specs.Storage.{end_byte, final_word};
-ghost use Rattle.komihash.specs.Stream.{end_after_blocks};
 ghost use Rattle.komihash.specs.Words.{AreBytes, all_bytes};
 
 use crate::utils::{read_partial_word, word_at, write_bytes, write_words};
 
 /// Returns whether the padding byte after `byte` is 2: in version 4, if its top bit is set.
 #[inline(always)]
-pub(crate) fn has_top_bit<const V: u8>(byte: u8) -> bool
-    ensures { result ≡ has_top_bit V byte }
+pub(crate) fn pads_with_two<const V: u8>(byte: u8) -> bool
+    ensures { result ≡ pads_with_two V byte }
 {
     V == 4 && byte >= 128
 }
 
-/// Returns the padding byte: 2 after a last byte for which `has_top_bit` holds, otherwise 1.
+/// Returns the padding byte: 2 after a last byte for which `pads_with_two` holds, otherwise 1.
 #[inline(always)]
 pub(crate) fn padding_after(top_bit: bool) -> u64
     ensures { result ≡ padding_after top_bit }
 {
     1 + u64::from(top_bit)
-}
-
-/// Returns the byte that ends a stream with no pending bytes: the padding byte of its last block,
-/// or 0 if no block was absorbed.
-#[inline(always)]
-pub(crate) fn end_after_blocks(absorbed: bool, top_bit: bool) -> u64
-    ensures { result ≡ end_after_blocks absorbed top_bit }
-{
-    if absorbed { padding_after(top_bit) } else { 0 }
 }
 
 /// Returns the padding byte of a message that isn't empty.
@@ -44,7 +34,7 @@ pub(crate) fn padding_byte<const V: u8>(message: &[u8]) -> u64
     ensures byte { result ≡ end_byte V message.now }
     ensures small { result < 4 }
 {
-    padding_after(has_top_bit::<V>(message[message.len() - 1]))
+    padding_after(pads_with_two::<V>(message[message.len() - 1]))
 }
 
 /// Returns the final word of eight or more bytes: the bytes after the last whole word, and `end`.
@@ -130,7 +120,7 @@ fn is_padding_byte<const V: u8>(byte: u64, words: &[u64], count: usize) -> bool
     requires within { count ≤ 8 * length words.now }
     ensures { IsTrue result ↔ (byte ≡ padding_byte V (take count (all_bytes words.now))) }
 {
-    byte == padding_after(has_top_bit::<V>(byte_at(words, count - 1)))
+    byte == padding_after(pads_with_two::<V>(byte_at(words, count - 1)))
 }
 
 // Returns the length in bytes of the message that has these padded words in version V, or `None`

@@ -1,8 +1,7 @@
 //! The steps of the hash from the seed to the pair that is left after the blocks: seeding, lanes,
 //! block rounds, joining.
 //!
-//! Only `places` depends on the version. A step that makes products counts them in the tally that
-//! it is passed.
+//! Only `places` depends on the version.
 
 ghost use Rattle.std.specs.Prelude.{◌≡◌, ◌+◌, ◌*◌, ◌/◌, ◌%◌, ◌<◌, ◌≤◌, All, length, bit_xor};
 ghost use Rattle.std.proofs.Common.{refl};
@@ -10,7 +9,8 @@ ghost use Rattle.komihash.specs.Counts.{Costs};
 ghost use Rattle.komihash.specs.Rounds.{low, high, plus, seed_words, mix, seed_pair, lanes, places};
 ghost use Rattle.komihash.specs.Rounds.{Lanes, block_round_by, block_round, join};
 ghost use Rattle.komihash.specs.Saved.{in_order};
-ghost use Rattle.komihash.specs.Storage.{xor_again, pair_of, whole_words, block_lanes, after_blocks};
+ghost use Rattle.komihash.specs.Storage.{xor_again, pair_of};
+ghost use Rattle.komihash.specs.Storage.{whole_words, block_lanes, after_blocks};
 
 use crate::tally::Tally;
 use crate::utils::{multiply128, word_at};
@@ -36,8 +36,8 @@ const C7: u64 = 0xc0ac_29b7_c97c_50dd;
 
 const C8: u64 = 0x3f84_d5b5_b547_0917;
 
-/// A pair (a, e) as the code stores it: a xor e, and e. After a `mix`, a xor e is the low half of the
-/// product. The word a itself is computed only for a factor, and as the hash.
+/// A pair (a, e) as the code stores it: a xor e, and e. After a `mix`, a xor e is the low half of
+/// the product. The word a itself is computed only for a factor, and as the hash.
 #[derive(Clone, Copy)]
 #[repr(C)]
 pub(crate) struct Pair(u64, u64);
@@ -198,6 +198,22 @@ pub(crate) fn block_round(
     lanes.fourth = mix(words[p7] ^ e4, x4, e4, tally);
 }
 
+#[inline(always)]
+fn block_words(block: &[u8; 64]) -> [u64; 8]
+    ensures { result ≡ whole_words block.now }
+{
+    [
+        word_at(block, 0),
+        word_at(block, 8),
+        word_at(block, 16),
+        word_at(block, 24),
+        word_at(block, 32),
+        word_at(block, 40),
+        word_at(block, 48),
+        word_at(block, 56),
+    ]
+}
+
 // Absorbs the first block, and returns the bytes after it. Absorbing these then gives the same
 // lanes and the same remainder as absorbing all of `bytes` at once.
 #[inline(always)]
@@ -209,17 +225,10 @@ fn absorb_block<'a, const V: u8>(lanes: &mut Lanes, bytes: &'a [u8], tally: &mut
         ≡ block_lanes V lanes.old (whole_words bytes.now) }
     ensures costs { Costs tally 4 0 }
 {
-    let (block, rest) = bytes.split_at(64);
-    let words = [
-        word_at(block, 0),
-        word_at(block, 8),
-        word_at(block, 16),
-        word_at(block, 24),
-        word_at(block, 32),
-        word_at(block, 40),
-        word_at(block, 48),
-        word_at(block, 56),
-    ];
+    let Some((block, rest)) = bytes.split_first_chunk::<64>() else {
+        unreachable!()
+    };
+    let words = block_words(block);
     block_round(lanes, &words, places::<V>(), tally);
     rest
 }

@@ -61,8 +61,8 @@ abbrev pub refusal_of : ErrorKind → Refusal
 refusal_of InvalidData = Usage
 refusal_of _ = NoMemory
 
--- what arguments ask for, or a refusal; wrong usage if there are some, but not exactly a version and
--- a seed
+-- what arguments ask for, or a refusal: wrong usage if there are some, but not exactly a version
+-- and a seed
 abbrev pub settings_or_refusal :
     {A B : Type 0} → Result (IntoIter (String A) B) Error → Result (Version × ℕ) Refusal
 settings_or_refusal (Ok arguments) =

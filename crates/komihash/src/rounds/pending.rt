@@ -3,17 +3,17 @@
 #![tactic(auto, using(crate::proofs::PendingBytes::pending_laws))]
 
 ghost use Rattle.std.specs.Prelude.{◌≡◌, ℕ, ◌+◌, ◌-◌, ◌*◌, ◌/◌, ◌%◌, ◌<◌, ◌≤◌, IsTrue};
-ghost use Rattle.std.specs.Prelude.{List, [], ◌++◌, length, take, drop, slice_index};
+ghost use Rattle.std.specs.Prelude.{List, [], ◌++◌, length, take, drop};
 ghost use Rattle.std.proofs.Common.{arith, sym};
 ghost use Rattle.komihash.specs.Counts.{Costs};
 ghost use Rattle.komihash.specs.Padding.{padding_byte};
 ghost use Rattle.komihash.specs.Storage.{pending_bytes, ArePending, Stores, Extends};
-ghost use Rattle.komihash.specs.Storage.{pending_words, length-store, length-pending_bytes};
+ghost use Rattle.komihash.specs.Storage.{pending_words, length-eight_words, length-pending_bytes};
 ghost use Rattle.komihash.specs.Storage.{whole_words, final_word};
 ghost use Rattle.komihash.specs.Words.{AreBytes, word_of};
 
 use super::tail::Words;
-use crate::padding::{has_top_bit, padding_after};
+use crate::padding::{padding_after, pads_with_two};
 use crate::tally::Tally;
 use crate::utils::{read_partial_word, read_word, word_at, write_bytes};
 use std::marker::Model;
@@ -41,7 +41,9 @@ impl Model for Pending {
 
     ghost inverse_ok = { λ p are i. record {
       words = sym are.words i;
-      fill = length-pending_bytes p.words p.fill (omega (arith, are.few, length-store p.words _ are.words)) i;
+      fill =
+          let size = length-eight_words p.words _ are.words in
+          length-pending_bytes p.words p.fill (omega (arith, are.few, size)) i;
     } };
 }
 
@@ -89,8 +91,8 @@ impl Pending {
         }
     }
 
-    /// Returns the words of the block that bytes complete, and stores none then. Counts the bytes as
-    /// kept.
+    /// Returns the words of the block that bytes complete, and stores no bytes then. Counts the
+    /// bytes as kept.
     #[inline(always)]
     pub(crate) fn complete(&mut self, bytes: &[u8], tally: &mut Tally) -> [u64; 8]
         requires { length self.old + length bytes.now ≡ 64 }
@@ -104,8 +106,8 @@ impl Pending {
         block
     }
 
-    /// Returns the final word of at least one byte: those after the last whole word, and the padding
-    /// byte.
+    /// Returns the final word of at least one byte: those after the last whole word, and the
+    /// padding byte.
     #[inline(always)]
     pub(crate) fn final_word<const V: u8>(&self) -> u64
         requires { 0 < length self.now }
@@ -114,7 +116,7 @@ impl Pending {
         let at = self.fill - 1;
         // Its word has zeros above it.
         let last_byte = (self.words[at / 8] >> (8 * (at % 8))) as u8;
-        let end = padding_after(has_top_bit::<V>(last_byte));
+        let end = padding_after(pads_with_two::<V>(last_byte));
         self.words[self.fill / 8] | end << (8 * (self.fill % 8))
     }
 
@@ -129,7 +131,6 @@ impl Pending {
     }
 }
 
-/// The whole words of the pending bytes.
 impl Words for Pending {
     ghost words = { λ pending. whole_words pending };
 
@@ -246,7 +247,7 @@ fn append_words(words: &mut [u64; 8], fill: usize, bytes: &[u8])
     }
 }
 
-// Appends the bytes after the last whole word, if any are left. Reads the last eight bytes for that.
+// Appends the bytes after the last whole word, if any are left. Reads the last eight bytes.
 #[inline(always)]
 fn append_last(words: &mut [u64; 8], fill: usize, bytes: &[u8])
     requires many { 8 ≤ length bytes.now }

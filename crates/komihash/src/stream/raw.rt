@@ -7,15 +7,15 @@ ghost use Rattle.komihash.specs.Saved.{text, IsText};
 ghost use Rattle.komihash.specs.Stream.{State, IsState, start, absorb, answer};
 
 use super::{LONGEST_TEXT, saved};
-use crate::padding::{end_after_blocks, has_top_bit};
+use crate::padding::{padding_after, pads_with_two};
 use crate::rounds::pending::Pending;
 use crate::rounds::tail::{close_one, hash_from_pair};
 use crate::rounds::{Lanes, absorb_blocks, block_round, join, lanes_of, places, seed_pair};
 use crate::tally::Tally;
 use std::marker::Model;
 
-/// A stream as C keeps it: its type does not name its version, so each call does, and its fields lie
-/// in their order. Rust callers use `StreamedKomihash`. The calls do what those of `KomiStream` do.
+/// A stream as C keeps it: its type does not name its version, so each call does. Rust callers use
+/// `StreamedKomihash`. The calls do what those of `KomiStream` do.
 #[derive(Drop)]
 #[repr(C)]
 pub struct RawStream {
@@ -88,7 +88,7 @@ impl RawStream {
     {
         let fill = self.pending.len();
         let blocks_end = bytes.len() - (fill + bytes.len()) % 64;
-        self.top_bit = has_top_bit::<V>(bytes[blocks_end - 1]);
+        self.top_bit = pads_with_two::<V>(bytes[blocks_end - 1]);
         self.absorbed = true;
         let mut lanes;
         let mut rest = bytes;
@@ -114,7 +114,12 @@ impl RawStream {
     {
         let pair = join(&self.lanes, self.absorbed);
         if self.pending.len() == 0 {
-            let end = end_after_blocks(self.absorbed, self.top_bit);
+            // The padding byte of the last block, or 0 if no block was absorbed.
+            let end = if self.absorbed {
+                padding_after(self.top_bit)
+            } else {
+                0
+            };
             return close_one(pair, end, tally);
         }
         let last = self.pending.final_word::<V>();

@@ -13,14 +13,11 @@ use crate::rounds::{Lanes, from_order, in_order};
 use crate::tally::Tally;
 use crate::utils::{write_bytes, write_words};
 
-// Where the lanes begin.
 const LANES_AT: usize = 4;
 
-// Where the pending bytes begin.
 pub(super) const PENDING_AT: usize = 68;
 
-/// Writes the first four bytes: the version, whether a block was absorbed, the top bit that only
-/// version 4 keeps, and the number of pending bytes.
+/// Writes the first four bytes: the version, the two flags, and the number of pending bytes.
 #[inline(always)]
 pub(crate) fn write_head<const V: u8>(absorbed: bool, top_bit: bool, fill: usize, out: &mut [u8])
     requires few { fill < 64 }
@@ -75,8 +72,7 @@ pub(crate) fn is_text<const V: u8>(bytes: &[u8]) -> bool
         && bytes.len() == PENDING_AT + usize::from(bytes[3])
 }
 
-/// Returns what the first four bytes of a text say of blocks: whether one was absorbed, and the top
-/// bit.
+/// Returns the two flags of a text: whether a block was absorbed, and the top bit.
 #[inline(always)]
 pub(crate) fn read_head(bytes: &[u8]) -> (bool, bool)
     requires { LANES_AT ≤ length bytes.now }

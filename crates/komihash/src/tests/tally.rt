@@ -115,17 +115,6 @@ fn absorbs_cost<S: KomiStream>(
     absorb_costs::<S, 0, 3>(&mut stream, &[0; 3], three);
 }
 
-#[test]
-fn absorbs_with_separate_tallies() {
-    absorbs_cost::<v5::StreamedKomihash>(
-        &mut Tally::new(),
-        &mut Tally::new(),
-        &mut Tally::new(),
-        &mut Tally::new(),
-        &mut Tally::new(),
-    );
-}
-
 fn cuts_cost<S: KomiStream>(message: &[u8; 95], out: &mut [u64; 200], tally: &mut Tally) -> usize
     ensures costs { Costs tally 16 95 }
 {

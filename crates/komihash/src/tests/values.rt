@@ -50,7 +50,7 @@ fn hashes_known_messages(rt: HostRuntime) {
 }
 
 // Returns the hashes of the texts after a message.
-fn text(message: &[u8]) -> [u64; 2] {
+fn text_hashes(message: &[u8]) -> [u64; 2] {
     let mut streams = Streams::new();
     streams.write(message);
     let mut text = [0; LONGEST_TEXT];
@@ -83,13 +83,13 @@ fn saves_and_resumes_known_texts(rt: HostRuntime) {
     let b: &[u8; LONGEST] = &pattern();
     // hash of the text after no bytes
     let wanted = [0x758a_e966_d145_f7ee, 0x3908_2e84_39c3_93c8];
-    same_words(&rt, &text(&[]), &wanted, 0);
+    same_words(&rt, &text_hashes(&[]), &wanted, 0);
     // hash of the text after B(64)
     let wanted = [0x7db2_82ab_41f1_944d, 0x95ec_3ef7_0b12_9ee6];
-    same_words(&rt, &text(&b[..64]), &wanted, 0);
+    same_words(&rt, &text_hashes(&b[..64]), &wanted, 0);
     // hash of the text after B(130)
     let wanted = [0x02ce_046d_841a_928f, 0xafff_d5fc_9cec_9ace];
-    same_words(&rt, &text(&b[..130]), &wanted, 0);
+    same_words(&rt, &text_hashes(&b[..130]), &wanted, 0);
 }
 
 #[test]
@@ -152,7 +152,7 @@ fn generates_and_chains_known_numbers(rt: HostRuntime) {
     v5::Komirand::init(SEED).fill_bytes(&mut bytes[1]);
     same_bytes(&rt, &bytes[0], &wanted[0], 4);
     same_bytes(&rt, &bytes[1], &wanted[1], 5);
-    // hash of 35 bytes after this `init`: a fill of 27, and the eight of the next output
+    // hash of 35 bytes: the 27 of a fill after this `init`, then the 8 of the next output
     let wanted = [0xcfc6_6047_0d0c_2829, 0x5d6e_3cc3_a689_590f];
     let (mut four, mut five) = (v4::Komirand::init(SEED), v5::Komirand::init(SEED));
     let mut bytes = [[0; 35]; 2];

@@ -1,8 +1,5 @@
 //! Lines of inputs, and what a fault leaves.
 
-ghost use Rattle.std.specs.Prelude.{◌≡◌};
-ghost use Rattle.komisum.specs.Program.{chunk_length, longest_input};
-
 use super::fakes::{Calls, ERRORS, FakeReader, FakeWriter, Stop};
 use super::messages::{BLOCK_MESSAGE, HIGH_END, ZERO};
 use crate::ending::Fault;
@@ -53,8 +50,8 @@ fn shown<'a>(reader: FakeReader<'a>, writer: FakeWriter, version: Version, seed:
     (result, reader.into_inner(), writer.into_inner())
 }
 
-// Shows a line where nothing fails, and compares it. It is one write and a flush. Returns the number
-// of reads.
+// Shows a line where nothing fails, and compares it. It is one write and a flush. Returns the
+// number of reads.
 fn reads_for(rt: &impl Abort, bytes: &[u8], version: Version, seed: u64) -> usize {
     let line = hex_line(match &version {
         Version::Four => v4::komihash(bytes, seed),
@@ -69,15 +66,8 @@ fn reads_for(rt: &impl Abort, bytes: &[u8], version: Version, seed: u64) -> usiz
     reader.calls.made
 }
 
-// The limits of `show`, as numbers.
-fn limits()
-    ensures input { longest_input ≡ 1099511627776 }
-    ensures chunk { chunk_length ≡ 4096 }
-{}
-
 #[test]
 fn reads_of_a_chunk(rt: HostRuntime) {
-    limits();
     for (length, reads) in [(4096, 2), (4097, 3)] {
         let zeros = &ZEROS[..length];
         assert_eq!(rt; reads_for(&rt, zeros, Version::Four, 0), reads);

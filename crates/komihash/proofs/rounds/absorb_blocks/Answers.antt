@@ -1,5 +1,5 @@
 use Rattle.std.proofs.Common.{◌∙◌, length, ap, arith, sym}
-use Rattle.komihash.proofs.Blocks.{after_blocks_few, length-after_blocks, block_lanes_few}
+use Rattle.komihash.proofs.Blocks.{after_blocks_few, length-after_blocks, block_lanes-few_bytes}
 use Rattle.komihash.proofs.rounds.absorb_blocks.Goals as goal
 
 pub returns-clause-left : goal.returns-clause-left
@@ -11,4 +11,4 @@ returns-clause-length g c = ap length (returns-clause-left g c) ∙ length-after
 
 pub returns-clause-lanes : goal.returns-clause-lanes
 returns-clause-lanes g c =
-    sym (block_lanes_few g.row.V _ c.whole.rest.now (omega arith)) ∙ c.whole.invariant.lanes
+    sym (block_lanes-few_bytes g.row.V _ c.whole.rest.now (omega arith)) ∙ c.whole.invariant.lanes

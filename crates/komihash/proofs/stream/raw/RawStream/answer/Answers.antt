@@ -1,22 +1,28 @@
 -- With no pending bytes, one word is left. Otherwise the tail is read as its whole words and a
 -- final word, which is `answer-by_pair`.
-use Rattle.std.proofs.Common.{◌++◌, [], ◌∷◌, ◌∙◌, ap, arith, length, sym}
+use Rattle.std.proofs.Common.{◌≡◌, ◌++◌, [], ◌∷◌, ◌∙◌, ap, arith, length, sym}
 use Rattle.std.proofs.lemmas.List.{nil_from_length}
 use Rattle.komihash.specs.Hash.{hash_from_pair}
 use Rattle.komihash.specs.Rounds.{join, closing}
-use Rattle.komihash.specs.Stream.{State, answer}
+use Rattle.komihash.specs.Stream.{State, answer, end_after_blocks}
 use Rattle.komihash.specs.Storage.{whole_words, final_word}
 use Rattle.komihash.proofs.StreamAnswers.{answer-by_pair, answer-none, tail_end-pending}
 use Rattle.komihash.proofs.WholeWords.{length-whole_words}
 use Rattle.komihash.proofs.stream.raw.RawStream.answer.Goals as goal
+use Rattle.komihash.proofs.stream.raw.RawStream.answer.Goals.{then-self, else-self}
 
 pub returns-then-len-eq0-clause-answer : goal.returns-then-len-eq0-clause-answer
 returns-then-len-eq0-clause-answer g c =
     let s = c.self.inside in
     let none = nil_from_length s.pending (omega arith) in
+    let end : c.if-self.end ≡ end_after_blocks s.absorbed s.top_bit =
+    elim c.if-self.branch [
+      | then-self w ↦ rw (w.if-self.true) (w.end-is ∙ w.padding_after-end.ensures)
+      | else-self w ↦ rw (w.if-self.false) w.end-is
+    ] in
     c.close_one.ensures.hash
-    ∙ ap (λ p. closing p (c.end_after_blocks-end.result ∷ [])) c.join-pair.ensures
-    ∙ ap (λ b. closing (join s.absorbed s.lanes) (b ∷ [])) c.end_after_blocks-end.ensures
+    ∙ ap (λ p. closing p (c.if-self.end ∷ [])) c.join-pair.ensures
+    ∙ ap (λ b. closing (join s.absorbed s.lanes) (b ∷ [])) end
     ∙ sym (answer-none g.row.V _ none)
     ∙ ap (answer g.row.V) c.self.view_is
 

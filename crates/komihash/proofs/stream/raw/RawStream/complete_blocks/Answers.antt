@@ -14,7 +14,7 @@ returns-clause-state g c =
     let same = ap (λ (s : State). length s.pending) c.self.view_is in
     let few : length s.pending < 64 = omega arith in
     let many : 64 ≤ length s.pending + length bytes = omega arith in
-    let top_bit = rw (c.len-fill.ensures.length) at c.has_top_bit-self-inside.ensures in
+    let top_bit = rw (c.len-fill.ensures.length) at c.pads_with_two-self-inside.ensures in
     let after = c.absorb_blocks-left.ensures in
     elim c.if-fill-eq0.branch [
       | then-fill-eq0 w ↦
