@@ -3,8 +3,8 @@
  * begin with komihash_v4, those for version 5 with komihash_v5.
  *
  * For every call:
- * - `length` and `room` count the items after the pointer before them, which are bytes or words of
- *   eight bytes; `count` counts pieces. No single array takes more than PTRDIFF_MAX bytes; the
+ * - `length` and `room` are the number of bytes, or of words of eight bytes, at the pointer that
+ *   precedes them in the arguments; `count` is a number of pieces. No single array takes more than PTRDIFF_MAX bytes; the
  *   pieces of one message may add up to more.
  * - A pointer may be null only if the length, room or count after it is 0. Never null are `stream`,
  *   `rand`, and the pointer in a piece, even in an empty one.
@@ -39,8 +39,8 @@ extern "C" {
 #define KOMIHASH_LONGEST_TEXT 131
 
 /* A stream of each version, which `start` returns. It may be copied by assignment, and each copy
- * then goes on by itself. Only the calls below change a stream. No call checks that: after any other
- * change, calls may return wrong hashes and access memory outside of the stream. So store or send
+ * then goes on by itself. Only the calls below change a stream. No call checks that: after any
+ * other change, calls may return wrong hashes and access memory outside of the stream. So store or send
  * its saved text and not the stream itself: `resume` checks the text. */
 typedef struct {
     uint64_t state[18];
@@ -57,8 +57,8 @@ typedef struct {
     uint64_t state[2];
 } komihash_v5_rand;
 
-/* A piece of a message. It is laid out like POSIX's `struct iovec`, so a list of these can be cast,
- * unless it has an entry {NULL, 0}. */
+/* A piece of a message. It is laid out like POSIX's `struct iovec`, so an array of those can be cast
+ * to pieces. Leave out entries {NULL, 0} before. */
 typedef struct {
     const void *bytes;
     size_t length;
@@ -92,9 +92,9 @@ uint64_t komihash_v4_finish(const komihash_v4_stream *stream);
 uint64_t komihash_v5_finish(const komihash_v5_stream *stream);
 
 /* Writes the saved text of the stream to the front of `out`, and returns its length, 68 to 131
- * bytes. This text is binary, and can be stored and sent. It has neither the seed nor the number of
- * bytes so far, but up to 63 bytes of the message as they are. Returns 0, and writes nothing, if `room` is less than
- * KOMIHASH_LONGEST_TEXT. */
+ * bytes. This text is binary, and can be stored and sent. It has up to 63 bytes of the message as
+ * they are, and neither the number of bytes so far nor the seed, which `resume` doesn't need.
+ * Returns 0, and writes nothing, if `room` is less than KOMIHASH_LONGEST_TEXT. */
 size_t komihash_v4_save(const komihash_v4_stream *stream, void *out, size_t room);
 size_t komihash_v5_save(const komihash_v5_stream *stream, void *out, size_t room);
 

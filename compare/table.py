@@ -38,6 +38,7 @@ MARKS = ("<!-- speed -->", "<!-- /speed -->")
 SHOWN = (
     ("hash of 0 to 15 bytes, mixed lengths", "hash mixed", "below 16 bytes", 1, None),
     ("hash of 0 to 63 bytes, mixed lengths", "hash mixed", "below 64 bytes", 1, None),
+    ("hash of 16 bytes", "hash", "16 bytes", 1, None),
     ("hash of 1,024 bytes", "hash", "1024 bytes", 1, None),
     ("hash of 1 MiB", "hash", "1 MiB", 1, 1 << 20),
     ("stream of 40 bytes in one write", "stream short", "40 bytes", 1, None),
@@ -204,7 +205,9 @@ def shown_block(rows, measured):
         "The port is the code of this repository. A ratio is the time of the Rust crate `komihash`"
         " 0.5.0, built with fat LTO and for x86-64-v2, divided by the time of the port: above 1,"
         " the port is faster. Where the functions lie in memory changes their speed, so each ratio"
-        " is the median over several layouts, with the least and the greatest in brackets."
+        " is the median over several layouts, with the least and the greatest in brackets. If"
+        " these lie on both sides of 1, the row doesn't show which is faster. Each time is the"
+        " least that was measured."
     )
     table = markdown(("Call", "version 5", "ratio", "version 4", "ratio"), table)
     return "\n\n".join((MARKS[0], ratio, table, f"Measured on {measured}.", MARKS[1]))
@@ -219,7 +222,10 @@ def slower_rows(rows):
         for version in ("v5", "v4")
         if columns[version, "lto"].median < LEVEL
     ]
-    return f"Ratios of `lto` below {LEVEL}: {'; '.join(slower) or 'none'}."
+    return (
+        f"Ratios of `lto` below {LEVEL}, of calls that the Rust crate has too:"
+        f" {'; '.join(slower) or 'none'}."
+    )
 
 
 def section(rows, firsts):

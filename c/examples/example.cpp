@@ -20,7 +20,8 @@ class Stream {
 
 int main() {
     const std::string_view message = "port", head = message.substr(0, 1), rest = message.substr(1);
-    const std::vector<komihash_piece> pieces = {{head.data(), head.size()}, {rest.data(), rest.size()}};
+    const std::vector<komihash_piece> pieces = {
+        {head.data(), head.size()}, {rest.data(), rest.size()}};
     Stream stream(7);
     stream.write(head);
     stream.write(rest);

@@ -27,8 +27,8 @@ extern "C" {
 fn main() {
     let message = b"port";
     let pieces = [Piece::of(&message[..1]), Piece::of(&message[1..])];
-    // SAFETY: each pointer and length are those of a slice, the stream is one that `start` returned,
-    // and what is written overlaps nothing.
+    // SAFETY: each pointer and length are those of a slice, the stream is one that `start`
+    // returned, and what is written overlaps nothing.
     unsafe {
         let hash = komihash_v5(message.as_ptr().cast(), message.len(), 7);
         let of_pieces = komihash_v5_pieces(pieces.as_ptr(), pieces.len(), 7);
