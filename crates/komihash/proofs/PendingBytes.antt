@@ -8,6 +8,7 @@ use Rattle.komihash.specs.Storage.{pending_words, pending_bytes, ArePending, Sto
 use Rattle.komihash.specs.Storage.{whole_words, final_word}
 use Rattle.komihash.specs.Words.{AreBytes, word_of, bytes_of, all_bytes}
 use Rattle.komihash.proofs.Lists.{take-more, take-append, two_put}
+use Rattle.komihash.proofs.PaddedWords.{final_word_whole}
 use Rattle.komihash.proofs.WholeWords.{length-pending_words, pending_words-whole, get_or-pending_words, length-whole_words, slice_index-whole_words, after_words-drop}
 use Rattle.komihash.proofs.WordOf.{AreBytes-append, AreBytes-take, AreBytes-drop, AreBytes-typed, word_of-join, word_of-push, word_of-drop, two_words}
 use Rattle.komihash.proofs.AllBytes.{length-all_bytes, AreBytes-all_bytes, take-bytes_of-word_of, length-bytes_of}
@@ -168,7 +169,7 @@ module _ (ws : List ℕ) (fill : ℕ) (are : ArePending ws fill) where
       (word_of-push partial (fill % 8) end AreBytes_partial length_partial (omega arith) small)
 
   -- the last byte, which nothing stands above
-  pub last_pending : (i : ℕ) → i + 1 ≡ fill
+  last_pending : (i : ℕ) → i + 1 ≡ fill
       → get_or ws (i / 8) 0 / 2 ^ (8 * (i % 8)) ≡ get_or (pending_bytes ws fill) i 0
   last_pending i e =
       let xs = pending_bytes ws fill in
@@ -186,12 +187,45 @@ module _ (ws : List ℕ) (fill : ℕ) (are : ArePending ws fill) where
       )
       (omega arith)
 
-  pub last_fits : (i : ℕ) → i + 1 ≡ fill → Fits w8 (get_or ws (i / 8) 0 / 2 ^ (8 * (i % 8)))
-  last_fits i e = rw (last_pending i e) record { fits = AreBytes_pending ws fill i }
+  -- where whole words are stored, it is the highest byte of the last one
+  pub last_of_whole : 0 < fill → fill % 8 ≡ 0
+      → get_or ws (fill / 8 - 1) 0 / 2 ^ 56 ≡ get_or (pending_bytes ws fill) (fill - 1) 0
+  last_of_whole some whole =
+      let word : (fill - 1) / 8 ≡ fill / 8 - 1 = omega arith in
+      let place : (fill - 1) % 8 ≡ 7 = omega arith in
+      ap (λ i. get_or ws i 0 / 2 ^ 56) (sym word)
+      ∙ ap (λ k. get_or ws ((fill - 1) / 8) 0 / 2 ^ (8 * k)) (sym place)
+      ∙ last_pending (fill - 1) (omega arith)
+
+  -- otherwise it is the highest byte that the partial word stores
+  pub last_of_partial : 0 < fill % 8
+      → get_or ws (fill / 8) 0 / 2 ^ (8 * (fill % 8) - 8) ≡ get_or (pending_bytes ws fill) (fill - 1) 0
+  last_of_partial over =
+      let word : (fill - 1) / 8 ≡ fill / 8 = omega arith in
+      let place : 8 * ((fill - 1) % 8) ≡ 8 * (fill % 8) - 8 = omega arith in
+      ap (λ i. get_or ws i 0 / 2 ^ (8 * (fill % 8) - 8)) (sym word)
+      ∙ ap (λ k. get_or ws ((fill - 1) / 8) 0 / 2 ^ k) (sym place)
+      ∙ last_pending (fill - 1) (omega arith)
+
+  pub last_fits_whole : 0 < fill → fill % 8 ≡ 0 → Fits w8 (get_or ws (fill / 8 - 1) 0 / 2 ^ 56)
+  last_fits_whole some whole =
+      rw (last_of_whole some whole) record { fits = AreBytes_pending ws fill (fill - 1) }
+
+  pub last_fits_partial : 0 < fill % 8 → Fits w8 (get_or ws (fill / 8) 0 / 2 ^ (8 * (fill % 8) - 8))
+  last_fits_partial over =
+      rw (last_of_partial over) record { fits = AreBytes_pending ws fill (fill - 1) }
+
+  -- after whole words, the final word is the byte that ends them
+  pub final_word_of_whole : (end : ℕ) → fill % 8 ≡ 0 → final_word (pending_bytes ws fill) end ≡ end
+  final_word_of_whole end whole =
+      final_word_whole (pending_bytes ws fill) end (ap (λ n. n % 8) length_pending ∙ whole)
 
 -- the lemmas for functions that append, for those that read, and for all on pending bytes
 pub ruleset put_laws = (length_pending, bytes_put, ArePending_put, words_put, join_pending, extend-set)
 
-pub ruleset read_laws = (count_pending, word_pending, final_word_pending, last_pending, last_fits)
+pub ruleset last_laws = (last_of_whole, last_of_partial, last_fits_whole, last_fits_partial)
+
+pub ruleset read_laws =
+    (count_pending, word_pending, final_word_pending, final_word_of_whole, last_laws)
 
 pub ruleset pending_laws = (put_laws, read_laws, take_all_bytes, pending_bytes_none, ArePending_none)

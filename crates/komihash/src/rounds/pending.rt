@@ -113,11 +113,17 @@ impl Pending {
         requires { 0 < length self.now }
         ensures { result ≡ final_word self.now (padding_byte V self.now) }
     {
-        let at = self.fill - 1;
-        // Its word has zeros above it.
-        let last_byte = (self.words[at / 8] >> (8 * (at % 8))) as u8;
-        let end = padding_after(pads_with_two::<V>(last_byte));
-        self.words[self.fill / 8] | end << (8 * (self.fill % 8))
+        let whole = self.fill / 8;
+        let over = self.fill % 8;
+        // After whole words, the last byte is in the word before. A branch is faster here than an
+        // index that serves both cases.
+        if over == 0 {
+            let last_byte = (self.words[whole - 1] >> 56) as u8;
+            return padding_after(pads_with_two::<V>(last_byte));
+        }
+        let word = self.words[whole];
+        let last_byte = (word >> (8 * over - 8)) as u8;
+        word | padding_after(pads_with_two::<V>(last_byte)) << (8 * over)
     }
 
     /// Writes the bytes to the front of `out`, whose rest is unchanged.
