@@ -5,7 +5,6 @@ ghost use Rattle.komihash.specs.Generator.{next, after_steps, fill, after_fill};
 
 use crate::tally::Tally;
 use crate::utils::{multiply128, write_partial_word, write_word};
-use crate::version::{IsVersion, Versions};
 use std::marker::Model;
 
 /// A pseudorandom generator of version V, which contracts see as a pair of words. It is not
@@ -16,27 +15,18 @@ use std::marker::Model;
 /// `next` of `specs/Generator.antt` has the rule of each version, with the constants of the
 /// original. In one version, the same pair always gives the same outputs.
 #[derive(Drop)]
-pub struct Komirand<const V: u8>
-where
-    Versions: IsVersion<V>,
-{
+pub struct Komirand<const V: u8> {
     s1: u64,
     s2: u64,
 }
 
-impl<const V: u8> Model for Komirand<V>
-where
-    Versions: IsVersion<V>,
-{
+impl<const V: u8> Model for Komirand<V> {
     ghost Value = { ℕ × ℕ };
 
     ghost view = { λ g. (g.s1, g.s2) };
 }
 
-impl<const V: u8> Komirand<V>
-where
-    Versions: IsVersion<V>,
-{
+impl<const V: u8> Komirand<V> {
     /// Returns the generator of a pair of words, without a step.
     ///
     /// Any words are allowed. The first outputs of small ones are simple patterns: in version 5

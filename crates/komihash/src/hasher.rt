@@ -5,7 +5,6 @@ ghost use Rattle.komihash.specs.Hash.{komi};
 
 use crate::hash::hash_message;
 use crate::tally::Tally;
-use crate::version::{IsVersion, Versions};
 use std::hash::Hasher;
 use std::marker::Model;
 
@@ -15,26 +14,17 @@ use std::marker::Model;
 /// So writes are not joined: the number after two writes is not the hash of all their bytes. A
 /// write of no bytes replaces the number too.
 #[derive(Drop)]
-pub struct KomiHasher<const V: u8>
-where
-    Versions: IsVersion<V>,
-{
+pub struct KomiHasher<const V: u8> {
     number: u64,
 }
 
-impl<const V: u8> Model for KomiHasher<V>
-where
-    Versions: IsVersion<V>,
-{
+impl<const V: u8> Model for KomiHasher<V> {
     ghost Value = { ℕ };
 
     ghost view = { λ h. h.number };
 }
 
-impl<const V: u8> KomiHasher<V>
-where
-    Versions: IsVersion<V>,
-{
+impl<const V: u8> KomiHasher<V> {
     /// Returns the hasher of a number, which is the seed of its first write.
     #[inline]
     pub fn new(seed: u64) -> Self
@@ -44,10 +34,7 @@ where
     }
 }
 
-impl<const V: u8> Default for KomiHasher<V>
-where
-    Versions: IsVersion<V>,
-{
+impl<const V: u8> Default for KomiHasher<V> {
     ghost is_default = { λ s. s ≡ 0 };
 
     /// Returns the hasher of the number 0.
@@ -57,10 +44,7 @@ where
     }
 }
 
-impl<const V: u8> Hasher for KomiHasher<V>
-where
-    Versions: IsVersion<V>,
-{
+impl<const V: u8> Hasher for KomiHasher<V> {
     ghost write = { komi V };
 
     ghost finish = { λ s. s };

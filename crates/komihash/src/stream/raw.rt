@@ -152,7 +152,7 @@ impl RawStream {
         if !saved::is_text::<V>(bytes) {
             return None;
         }
-        let (absorbed, top_bit) = saved::read_head(bytes);
+        let (absorbed, top_bit) = saved::read_flags(bytes);
         Some(RawStream {
             lanes: saved::read_lanes(bytes),
             pending: saved::read_pending(bytes),

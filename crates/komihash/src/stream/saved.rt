@@ -74,7 +74,7 @@ pub(crate) fn is_text<const V: u8>(bytes: &[u8]) -> bool
 
 /// Returns the two flags of a text: whether a block was absorbed, and the top bit.
 #[inline(always)]
-pub(crate) fn read_head(bytes: &[u8]) -> (bool, bool)
+pub(crate) fn read_flags(bytes: &[u8]) -> (bool, bool)
     requires { LANES_AT ≤ length bytes.now }
     ensures absorbed { result.0 ≡ (slice_index bytes.now 1 == 1) }
     ensures top_bit { result.1 ≡ (slice_index bytes.now 2 == 1) }
