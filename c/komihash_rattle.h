@@ -4,15 +4,16 @@
  *
  * For every call:
  * - `length` and `room` are the number of bytes, or of words of eight bytes, at the pointer that
- *   precedes them in the arguments; `count` is a number of pieces. No single array takes more than PTRDIFF_MAX bytes; the
- *   pieces of one message may add up to more.
+ *   precedes them in the arguments; `count` is a number of pieces. No single array takes more than
+ *   PTRDIFF_MAX bytes; the pieces of one message may add up to more.
  * - A pointer may be null only if the length, room or count after it is 0. Never null are `stream`,
  *   `rand`, and the pointer in a piece, even in an empty one.
  * - A pointer to words, pieces, a stream or a generator is aligned to eight bytes. One to bytes
  *   needs no alignment.
  * - What a call writes must not overlap anything else that the call is passed.
  * - No call allocates memory or sets errno. The library has no global state, so threads may make
- *   calls at the same time, except calls on one stream or one generator that any of them changes.
+ *   calls at the same time. Threads that share a stream or a generator need a lock if one of them
+ *   changes it.
  */
 #ifndef KOMIHASH_RATTLE_H
 #define KOMIHASH_RATTLE_H
@@ -40,8 +41,8 @@ extern "C" {
 
 /* A stream of each version, which `start` returns. It may be copied by assignment, and each copy
  * then goes on by itself. Only the calls below change a stream. No call checks that: after any
- * other change, calls may return wrong hashes and access memory outside of the stream. So store or send
- * its saved text and not the stream itself: `resume` checks the text. */
+ * other change, calls may return wrong hashes and access memory outside of the stream. So store or
+ * send its saved text and not the stream itself: `resume` checks the text. */
 typedef struct {
     uint64_t state[18];
 } komihash_v4_stream;
@@ -57,8 +58,8 @@ typedef struct {
     uint64_t state[2];
 } komihash_v5_rand;
 
-/* A piece of a message. It is laid out like POSIX's `struct iovec`, so an array of those can be cast
- * to pieces. Leave out entries {NULL, 0} before. */
+/* A piece of a message. It is laid out like POSIX's `struct iovec`, so an array of those can be
+ * cast to pieces. Leave out entries {NULL, 0} before. */
 typedef struct {
     const void *bytes;
     size_t length;
@@ -99,9 +100,9 @@ size_t komihash_v4_save(const komihash_v4_stream *stream, void *out, size_t room
 size_t komihash_v5_save(const komihash_v5_stream *stream, void *out, size_t room);
 
 /* Replaces the stream by the one that has this saved text, and returns true. `stream` must already
- * hold a stream that a call returned, such as a new one. Returns false, and changes
- * nothing, if no stream of this version has it. The text has no checksum: damage that makes it the
- * text of another stream is not noticed. */
+ * hold a stream that a call returned, such as a new one. Returns false, and changes nothing, if no
+ * stream of this version has it. The text has no checksum: damage that makes it the text of another
+ * stream is not noticed. */
 bool komihash_v4_resume(komihash_v4_stream *stream, const void *text, size_t length);
 bool komihash_v5_resume(komihash_v5_stream *stream, const void *text, size_t length);
 

@@ -220,7 +220,7 @@ def slower_rows(rows):
         for (group, name), columns in rows.items()
         if group not in LACKING
         for version in ("v5", "v4")
-        if columns[version, "lto"].median < LEVEL
+        if round(columns[version, "lto"].median, 2) < LEVEL
     ]
     return (
         f"Ratios of `lto` below {LEVEL}, of calls that the Rust crate has too:"
@@ -298,8 +298,8 @@ def count(file):
     intro = (
         "Each cell has the instructions that one call executes, and in brackets the jumps that it"
         " takes, counted by single steps of the second call. Both sides are built with fat LTO"
-        " for x86-64-v2. The number is exact for one machine: on another the C library may copy"
-        " bytes by other instructions. [README.md](README.md) has the key."
+        " for x86-64-v2. The number is exact for one machine: on another, libc may copy bytes by"
+        " other instructions. [README.md](README.md) has the key."
     )
     heads = ("Call", "v5: crate", "v5: port", "v4: crate", "v4: port")
     table = markdown(heads, [(row, *cells) for row, cells in rows.items()])
@@ -348,8 +348,8 @@ def write_peers(times, names, measured):
     lengths = list(dict.fromkeys(length for _, length, _ in times))
     intro = (
         "Each number is the nanoseconds of one call, the least over all layouts. Lengths without a"
-        " unit are in bytes. A hash is compiled for the processors after its name; komihash and the"
-        " Rust crate are built for x86-64-v2."
+        " unit are in bytes. A hash is compiled for the processors after its name. komihash is the"
+        " library for C of this repository; it and the Rust crate are built for x86-64-v2."
     )
     paragraphs = ["# komihash beside other hashes", "![GB/s over length](peers.svg)", intro]
     for way, meaning in WAYS.items():
