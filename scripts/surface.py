@@ -102,7 +102,7 @@ def differences(wanted, lines):
 def twins(files):
     for name in files:
         if name.endswith("/v5.rt"):
-            four = re.sub(r"(?<!\d)5(?!\d)", "4", re.sub(r"\binr\b", "inl", files[name]))
+            four = re.sub(r"(?<!\d)5(?!\d)", "4", files[name])
             other = name.replace("v5", "v4")
             for line in differences(four.splitlines(), files[other].splitlines()):
                 yield f"{other}: {line}"

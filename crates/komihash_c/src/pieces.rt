@@ -1,10 +1,10 @@
 //! Lists of pieces of a message, for either version.
 
-ghost use Rattle.std.specs.Prelude.{◌≡◌, ◌++◌, ℕ, List};
+ghost use Rattle.std.specs.Prelude.{◌≡◌};
 ghost use Rattle.std.specs.List.{flat_map};
-ghost use Rattle.komihash.specs.Stream.{HasAbsorbed, absorb};
+ghost use Rattle.komihash.specs.Stream.{IsState, absorb};
 
-use komihash::stream::KomiStream;
+use komihash::stream::raw::RawStream;
 use komihash::tally::Tally;
 
 /// A piece of a message.
@@ -15,14 +15,13 @@ pub struct Piece<'a> {
 
 /// Absorbs the pieces in order.
 #[inline(always)]
-pub(crate) fn absorb_pieces<S: KomiStream>(stream: &mut S, pieces: &[Piece<'_>])
-    ensures state { S.state stream.new ≡ absorb S.VERSION (S.state stream.old)
-        (flat_map (λ piece. piece.bytes.now) pieces.now) }
-    ensures message { (seed : ℕ) (m : List ℕ) → HasAbsorbed S.VERSION seed (S.state stream.old) m
-        → HasAbsorbed S.VERSION seed (S.state stream.new)
-        (m ++ flat_map (λ piece. piece.bytes.now) pieces.now) }
+#[tactic(auto, using(crate::proofs::PieceLists::piece_laws))]
+pub(crate) fn absorb_pieces<const V: u8>(stream: &mut RawStream, pieces: &[Piece<'_>])
+    ensures state { stream.new
+        ≡ absorb V stream.old (flat_map (λ piece. piece.bytes.now) pieces.now) }
+    ensures is_state { IsState V stream.old → IsState V stream.new }
 {
     for piece in pieces {
-        stream.absorb(piece.bytes, &mut Tally::new());
+        stream.absorb::<V>(piece.bytes, &mut Tally::new());
     }
 }

@@ -14,8 +14,8 @@ ghost use Rattle.komihash.specs.Words.{AreBytes};
 
 use super::pieces::{Piece, absorb_pieces};
 use super::rand::Rand;
+use komihash::stream::LONGEST_TEXT;
 use komihash::stream::raw::RawStream;
-use komihash::stream::{KomiStream, LONGEST_TEXT};
 use komihash::tally::Tally;
 use komihash::v4::{self, Komirand};
 
@@ -29,50 +29,6 @@ pub struct Stream {
 
 const _: () = prove!(size_of::<Stream>() == 144);
 
-impl KomiStream for Stream {
-    ghost use Rattle.std.proofs.Common.{inl, refl};
-
-    const VERSION: u8 = 4;
-
-    ghost VERSION = { 4 };
-
-    ghost state = { λ s. s.raw };
-
-    #[inline(always)]
-    fn start(seed: u64, tally: &mut Tally) -> Self {
-        Stream {
-            raw: RawStream::start::<4>(seed, tally),
-        }
-    }
-
-    #[inline(always)]
-    fn absorb(&mut self, bytes: &[u8], tally: &mut Tally) {
-        self.raw.absorb::<4>(bytes, tally);
-    }
-
-    #[inline(always)]
-    fn answer(&self, tally: &mut Tally) -> u64 {
-        self.raw.answer::<4>(tally)
-    }
-
-    #[inline(always)]
-    fn store(&self, out: &mut [u8]) -> usize {
-        self.raw.store::<4>(out)
-    }
-
-    #[inline(always)]
-    #[tactic(auto, unfolding(komihash::specs::Saved::IsTextAfter))]
-    fn restore(bytes: &[u8]) -> Option<Self> {
-        Some(Stream {
-            raw: RawStream::restore::<4>(bytes)?,
-        })
-    }
-
-    ghost versions = { inl refl };
-
-    ghost is_state = { λ s. s.is_state };
-}
-
 /// Returns the hash of a message with a seed.
 #[unsafe(no_mangle)]
 pub extern "C" fn komihash_v4(bytes: &[u8], seed: u64) -> u64
@@ -83,12 +39,13 @@ pub extern "C" fn komihash_v4(bytes: &[u8], seed: u64) -> u64
 
 /// Returns the hash of pieces, joined.
 #[unsafe(no_mangle)]
+#[tactic(auto, using(crate::proofs::PieceLists::piece_laws))]
 pub extern "C" fn komihash_v4_pieces(pieces: &[Piece<'_>], seed: u64) -> u64
     ensures { result ≡ komi 4 seed (flat_map (λ piece. piece.bytes.now) pieces.now) }
 {
-    let mut stream = Stream::start(seed, &mut Tally::new());
-    absorb_pieces(&mut stream, pieces);
-    stream.answer(&mut Tally::new())
+    let mut raw = RawStream::start::<4>(seed, &mut Tally::new());
+    absorb_pieces::<4>(&mut raw, pieces);
+    raw.answer::<4>(&mut Tally::new())
 }
 
 /// Fills the buffer from the generator of this pair.
@@ -154,7 +111,9 @@ pub extern "C" fn komihash_v4_start(seed: u64) -> Stream
     ensures state { result.raw ≡ start seed }
     ensures message { HasAbsorbed 4 seed result.raw [] }
 {
-    Stream::start(seed, &mut Tally::new())
+    Stream {
+        raw: RawStream::start::<4>(seed, &mut Tally::new()),
+    }
 }
 
 /// Absorbs bytes.
@@ -164,7 +123,7 @@ pub extern "C" fn komihash_v4_write(stream: &mut Stream, bytes: &[u8])
     ensures message { (seed : ℕ) (m : List ℕ) → HasAbsorbed 4 seed stream.old.raw m
         → HasAbsorbed 4 seed stream.new.raw (m ++ bytes.now) }
 {
-    stream.absorb(bytes, &mut Tally::new());
+    stream.raw.absorb::<4>(bytes, &mut Tally::new());
 }
 
 /// Absorbs pieces in order.
@@ -176,7 +135,7 @@ pub extern "C" fn komihash_v4_write_pieces(stream: &mut Stream, pieces: &[Piece<
         → HasAbsorbed 4 seed stream.new.raw
         (m ++ flat_map (λ piece. piece.bytes.now) pieces.now) }
 {
-    absorb_pieces(stream, pieces);
+    absorb_pieces::<4>(&mut stream.raw, pieces);
 }
 
 /// Returns the hash of all bytes so far. The stream is unchanged.
@@ -186,7 +145,7 @@ pub extern "C" fn komihash_v4_finish(stream: &Stream) -> u64
     ensures hash { (seed : ℕ) (m : List ℕ) → HasAbsorbed 4 seed stream.now.raw m
         → result ≡ komi 4 seed m }
 {
-    stream.answer(&mut Tally::new())
+    stream.raw.answer::<4>(&mut Tally::new())
 }
 
 /// Writes the saved text of the stream to the front of `out`, and returns its length. Returns 0 if
@@ -206,12 +165,13 @@ pub extern "C" fn komihash_v4_save(stream: &Stream, out: &mut [u8]) -> usize
     if out.len() < LONGEST_TEXT {
         return 0;
     }
-    stream.store(out)
+    stream.raw.store::<4>(out)
 }
 
 /// Sets the stream to the one that has these bytes as its saved text, and returns true. Changes
 /// nothing, and returns false, if no stream of this version has.
 #[unsafe(no_mangle)]
+#[tactic(auto, unfolding(komihash::specs::Saved::IsTextAfter))]
 pub extern "C" fn komihash_v4_resume(stream: &mut Stream, bytes: &[u8]) -> bool
     ensures text { result ≡ true → text 4 stream.new.raw ≡ bytes.now }
     ensures state { (s : State) → IsState 4 s → text 4 s ≡ bytes.now → stream.new.raw ≡ s }
@@ -220,9 +180,9 @@ pub extern "C" fn komihash_v4_resume(stream: &mut Stream, bytes: &[u8]) -> bool
     ensures refused { result ≡ false ↔ ¬ IsText 4 bytes.now }
     ensures same { result ≡ false → stream.new ≡ stream.old }
 {
-    match Stream::restore(bytes) {
-        Some(resumed) => {
-            *stream = resumed;
+    match RawStream::restore::<4>(bytes) {
+        Some(raw) => {
+            stream.raw = raw;
             true
         }
         None => false,

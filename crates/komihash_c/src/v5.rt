@@ -14,8 +14,8 @@ ghost use Rattle.komihash.specs.Words.{AreBytes};
 
 use super::pieces::{Piece, absorb_pieces};
 use super::rand::Rand;
+use komihash::stream::LONGEST_TEXT;
 use komihash::stream::raw::RawStream;
-use komihash::stream::{KomiStream, LONGEST_TEXT};
 use komihash::tally::Tally;
 use komihash::v5::{self, Komirand};
 
@@ -29,50 +29,6 @@ pub struct Stream {
 
 const _: () = prove!(size_of::<Stream>() == 144);
 
-impl KomiStream for Stream {
-    ghost use Rattle.std.proofs.Common.{inr, refl};
-
-    const VERSION: u8 = 5;
-
-    ghost VERSION = { 5 };
-
-    ghost state = { λ s. s.raw };
-
-    #[inline(always)]
-    fn start(seed: u64, tally: &mut Tally) -> Self {
-        Stream {
-            raw: RawStream::start::<5>(seed, tally),
-        }
-    }
-
-    #[inline(always)]
-    fn absorb(&mut self, bytes: &[u8], tally: &mut Tally) {
-        self.raw.absorb::<5>(bytes, tally);
-    }
-
-    #[inline(always)]
-    fn answer(&self, tally: &mut Tally) -> u64 {
-        self.raw.answer::<5>(tally)
-    }
-
-    #[inline(always)]
-    fn store(&self, out: &mut [u8]) -> usize {
-        self.raw.store::<5>(out)
-    }
-
-    #[inline(always)]
-    #[tactic(auto, unfolding(komihash::specs::Saved::IsTextAfter))]
-    fn restore(bytes: &[u8]) -> Option<Self> {
-        Some(Stream {
-            raw: RawStream::restore::<5>(bytes)?,
-        })
-    }
-
-    ghost versions = { inr refl };
-
-    ghost is_state = { λ s. s.is_state };
-}
-
 /// Returns the hash of a message with a seed.
 #[unsafe(no_mangle)]
 pub extern "C" fn komihash_v5(bytes: &[u8], seed: u64) -> u64
@@ -83,12 +39,13 @@ pub extern "C" fn komihash_v5(bytes: &[u8], seed: u64) -> u64
 
 /// Returns the hash of pieces, joined.
 #[unsafe(no_mangle)]
+#[tactic(auto, using(crate::proofs::PieceLists::piece_laws))]
 pub extern "C" fn komihash_v5_pieces(pieces: &[Piece<'_>], seed: u64) -> u64
     ensures { result ≡ komi 5 seed (flat_map (λ piece. piece.bytes.now) pieces.now) }
 {
-    let mut stream = Stream::start(seed, &mut Tally::new());
-    absorb_pieces(&mut stream, pieces);
-    stream.answer(&mut Tally::new())
+    let mut raw = RawStream::start::<5>(seed, &mut Tally::new());
+    absorb_pieces::<5>(&mut raw, pieces);
+    raw.answer::<5>(&mut Tally::new())
 }
 
 /// Fills the buffer from the generator of this pair.
@@ -154,7 +111,9 @@ pub extern "C" fn komihash_v5_start(seed: u64) -> Stream
     ensures state { result.raw ≡ start seed }
     ensures message { HasAbsorbed 5 seed result.raw [] }
 {
-    Stream::start(seed, &mut Tally::new())
+    Stream {
+        raw: RawStream::start::<5>(seed, &mut Tally::new()),
+    }
 }
 
 /// Absorbs bytes.
@@ -164,7 +123,7 @@ pub extern "C" fn komihash_v5_write(stream: &mut Stream, bytes: &[u8])
     ensures message { (seed : ℕ) (m : List ℕ) → HasAbsorbed 5 seed stream.old.raw m
         → HasAbsorbed 5 seed stream.new.raw (m ++ bytes.now) }
 {
-    stream.absorb(bytes, &mut Tally::new());
+    stream.raw.absorb::<5>(bytes, &mut Tally::new());
 }
 
 /// Absorbs pieces in order.
@@ -176,7 +135,7 @@ pub extern "C" fn komihash_v5_write_pieces(stream: &mut Stream, pieces: &[Piece<
         → HasAbsorbed 5 seed stream.new.raw
         (m ++ flat_map (λ piece. piece.bytes.now) pieces.now) }
 {
-    absorb_pieces(stream, pieces);
+    absorb_pieces::<5>(&mut stream.raw, pieces);
 }
 
 /// Returns the hash of all bytes so far. The stream is unchanged.
@@ -186,7 +145,7 @@ pub extern "C" fn komihash_v5_finish(stream: &Stream) -> u64
     ensures hash { (seed : ℕ) (m : List ℕ) → HasAbsorbed 5 seed stream.now.raw m
         → result ≡ komi 5 seed m }
 {
-    stream.answer(&mut Tally::new())
+    stream.raw.answer::<5>(&mut Tally::new())
 }
 
 /// Writes the saved text of the stream to the front of `out`, and returns its length. Returns 0 if
@@ -206,12 +165,13 @@ pub extern "C" fn komihash_v5_save(stream: &Stream, out: &mut [u8]) -> usize
     if out.len() < LONGEST_TEXT {
         return 0;
     }
-    stream.store(out)
+    stream.raw.store::<5>(out)
 }
 
 /// Sets the stream to the one that has these bytes as its saved text, and returns true. Changes
 /// nothing, and returns false, if no stream of this version has.
 #[unsafe(no_mangle)]
+#[tactic(auto, unfolding(komihash::specs::Saved::IsTextAfter))]
 pub extern "C" fn komihash_v5_resume(stream: &mut Stream, bytes: &[u8]) -> bool
     ensures text { result ≡ true → text 5 stream.new.raw ≡ bytes.now }
     ensures state { (s : State) → IsState 5 s → text 5 s ≡ bytes.now → stream.new.raw ≡ s }
@@ -220,9 +180,9 @@ pub extern "C" fn komihash_v5_resume(stream: &mut Stream, bytes: &[u8]) -> bool
     ensures refused { result ≡ false ↔ ¬ IsText 5 bytes.now }
     ensures same { result ≡ false → stream.new ≡ stream.old }
 {
-    match Stream::restore(bytes) {
-        Some(resumed) => {
-            *stream = resumed;
+    match RawStream::restore::<5>(bytes) {
+        Some(raw) => {
+            stream.raw = raw;
             true
         }
         None => false,
