@@ -1,7 +1,5 @@
 //! A generator as C keeps it, for either version.
 
-ghost use Rattle.std.specs.Prelude.{◌≡◌};
-
 use std::marker::Model;
 
 /// A generator as C keeps it: its pair of words. Each call names the version.
@@ -25,15 +23,4 @@ impl Model for Rand {
       s1 = pair.0;
       s2 = pair.1;
     } };
-}
-
-impl Rand {
-    /// Returns the generator of a pair of words.
-    #[inline(always)]
-    pub(crate) fn of(words: (u64, u64)) -> Rand
-        ensures { result ≡ words }
-    {
-        let (s1, s2) = words;
-        Rand { s1, s2 }
-    }
 }

@@ -194,7 +194,8 @@ pub extern "C" fn komihash_v4_resume(stream: &mut Stream, bytes: &[u8]) -> bool
 pub extern "C" fn komihash_v4_rand_init(seed: u64) -> Rand
     ensures { result ≡ after_steps 4 4 (seed, seed) }
 {
-    Rand::of(Komirand::init(seed).words())
+    let (s1, s2) = Komirand::init(seed).words();
+    Rand { s1, s2 }
 }
 
 /// Returns the generator of two seeds after four steps.
@@ -202,7 +203,8 @@ pub extern "C" fn komihash_v4_rand_init(seed: u64) -> Rand
 pub extern "C" fn komihash_v4_rand_init_with_extra_seed(seed: u64, extra_seed: u64) -> Rand
     ensures { result ≡ after_steps 4 4 (seed, extra_seed) }
 {
-    Rand::of(Komirand::init_with_extra_seed(seed, extra_seed).words())
+    let (s1, s2) = Komirand::init_with_extra_seed(seed, extra_seed).words();
+    Rand { s1, s2 }
 }
 
 /// Returns the generator of a pair of words, without a step.
@@ -210,7 +212,7 @@ pub extern "C" fn komihash_v4_rand_init_with_extra_seed(seed: u64, extra_seed: u
 pub extern "C" fn komihash_v4_rand_init_words(s1: u64, s2: u64) -> Rand
     ensures { result ≡ (s1, s2) }
 {
-    Rand::of((s1, s2))
+    Rand { s1, s2 }
 }
 
 /// Takes one step, and returns its output.
@@ -221,7 +223,7 @@ pub extern "C" fn komihash_v4_rand_next(rand: &mut Rand) -> u64
 {
     let mut generator = Komirand::new(rand.s1, rand.s2);
     let output = generator.next();
-    *rand = Rand::of(generator.words());
+    (rand.s1, rand.s2) = generator.words();
     output
 }
 
@@ -233,5 +235,5 @@ pub extern "C" fn komihash_v4_rand_fill(rand: &mut Rand, out: &mut [u8])
 {
     let mut generator = Komirand::new(rand.s1, rand.s2);
     generator.fill_bytes(out);
-    *rand = Rand::of(generator.words());
+    (rand.s1, rand.s2) = generator.words();
 }
