@@ -1,7 +1,7 @@
 //! Hashes of values of any type that can be hashed.
 
-ghost use Rattle.std.specs.Prelude.{◌≡◌, fold, string_bytes};
-ghost use Rattle.std.specs.Hash.{le_bytes, str};
+ghost use Rattle.std.specs.Prelude.{◌≡◌, ◌++◌, fold, pos, string_bytes};
+ghost use Rattle.std.specs.Hash.{isize, le_bytes, str, u32};
 ghost use Rattle.std.specs.List.{flat_map};
 ghost use Rattle.komihash.specs.Hash.{komi};
 
@@ -40,6 +40,20 @@ pub fn hash_of_point(point: &Point) -> u64
     ensures { result ≡ komi 5 (komi 5 0 (le_bytes 4 point.now.x)) (le_bytes 8 point.now.y) }
 {
     hash_of(point)
+}
+
+/// A kind. Its derived `Hash` writes the index of the variant, and then the numbers in it.
+#[derive(Clone, Copy, PartialEq, Eq, Hash)]
+pub enum Kind {
+    Plain,
+    Numbered(u32),
+}
+
+/// Hashes a kind that has a number.
+pub fn hash_of_numbered(number: u32) -> u64
+    ensures { result ≡ fold (komi 5) 0 (isize (pos 1) ++ u32 number) }
+{
+    hash_of(&Kind::Numbered(number))
 }
 
 /// Hashes a text by its `Hash`.

@@ -5,7 +5,7 @@ use crate::chunks::hash_of_chunks;
 use crate::costs::{counted_digest, counted_run};
 use crate::counts::digest_and_count;
 use crate::generic::digest_of_slices;
-use crate::hashed::{Point, hash_of, hash_of_all, hash_of_label, hash_of_point};
+use crate::hashed::{Point, hash_of, hash_of_all, hash_of_label, hash_of_numbered, hash_of_point};
 use crate::journals::Journal;
 use crate::keys::{
     hash_of_fields, hash_of_key, hash_of_name, key_read_back, may_be_equal, shard_of_fields,
@@ -193,6 +193,11 @@ fn values_are_hashed(rt: HostRuntime) -> Result<(), AllocFailed<(u64, u64)>> {
     let of_x = komihash(&[7, 0, 0, 0], 0);
     let of_both = komihash(&[8, 0, 0, 0, 0, 0, 0, 0], of_x);
     assert_eq!(rt; hash_of_point(&Point { x: 7, y: 8 }), of_both);
+    let of_variant = komihash(&1u64.to_le_bytes(), 0);
+    assert_eq!(rt;
+        hash_of_numbered(7),
+        komihash(&7u32.to_le_bytes(), of_variant)
+    );
     if let Ok(label) = String::from_str(rt.alloc(), "ab") {
         assert_eq!(rt; hash_of_label(&label), komihash(&[255], komihash(b"ab", 0)));
     }
