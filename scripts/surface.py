@@ -6,7 +6,8 @@
            unless it is the Prelude; all functions of exports.rt, which state the version of each
            public name; of komisum also whole functions that no contract holds, and constants;
            checksums of the definitions; and the seal of the tally.
-  twins    The modules v4.rt and v5.rt of a crate differ in a number, so v4.rt is not listed.
+  twins    The modules v4.rt and v5.rt of a crate differ in a number alone, but for their first
+           lines, which begin with `//!`. So v4.rt is not listed.
 
 The seal (docs/DECISIONS.md) is a checksum of each proof that opens it, and all lines that name a
 part of it. No edit can break it without a change of the list as long as the following holds:
@@ -102,10 +103,10 @@ def differences(wanted, lines):
 def twins(files):
     for name in files:
         if name.endswith("/v5.rt"):
-            four = re.sub(r"(?<!\d)5(?!\d)", "4", files[name])
             other = name.replace("v5", "v4")
-            for line in differences(four.splitlines(), files[other].splitlines()):
-                yield f"{other}: {line}"
+            four = re.sub(r"(?<!\d)5(?!\d)", "4", files[name])
+            compared = (re.sub(r"(?m)^//!.*\n", "", text) for text in (four, files[other]))
+            yield from (f"{other}: {line}" for line in differences(*map(str.splitlines, compared)))
 
 
 def findings(files):

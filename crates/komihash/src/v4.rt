@@ -1,4 +1,7 @@
-//! Komihash version 4.
+//! Komihash version 4, for hashes that exist already. Version 5 is for new data.
+//!
+//! It differs from version 5 in which words of a block are multiplied with each other, in the
+//! padding of messages that end in a byte of 128 or more, and in the generator's step.
 
 ghost use Rattle.std.specs.Prelude.{◌≡◌, ◌+◌, ◌*◌, ◌/◌, ◌≤◌, ◌↔◌, List, ℕ, length, take, drop};
 ghost use Rattle.std.specs.Prelude.{IfSome, IfNone, IsNone, IsSomeAnd};

@@ -1,4 +1,4 @@
-//! Komihash version 5.
+//! Komihash version 5, for new data. The crate's root has its hash, stream, hasher and generator.
 
 ghost use Rattle.std.specs.Prelude.{◌≡◌, ◌+◌, ◌*◌, ◌/◌, ◌≤◌, ◌↔◌, List, ℕ, length, take, drop};
 ghost use Rattle.std.specs.Prelude.{IfSome, IfNone, IsNone, IsSomeAnd};
