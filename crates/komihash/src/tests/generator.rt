@@ -1,6 +1,6 @@
 //! The generators of both versions: known outputs and bytes, and fill_bytes against `next`.
 
-use super::assertions::{same, same_bytes, same_words};
+use super::assertions::{assert_same, assert_same_bytes, assert_same_words};
 use crate::{v4, v5};
 use std::process::Abort;
 
@@ -32,8 +32,8 @@ fn steps_from_known_pairs(rt: HostRuntime) {
         (u64::MAX, 0xaaaa_aaaa_aaaa_aaa6, 0x5555_5555_5555_5554),
     ];
     for (word, four, five) in cases {
-        same(&rt, v4::Komirand::new(word, word).next(), four, 4);
-        same(&rt, v5::Komirand::new(word, word).next(), five, 5);
+        assert_same(&rt, v4::Komirand::new(word, word).next(), four, 4);
+        assert_same(&rt, v5::Komirand::new(word, word).next(), five, 5);
     }
 }
 
@@ -41,19 +41,19 @@ fn steps_from_known_pairs(rt: HostRuntime) {
 fn gives_known_outputs(rt: HostRuntime) {
     let (four, five) = outputs(0);
     let wanted = [0xaaaa_aaaa_aaaa_aaaa, 0xffff_ffff_ffff_fffe];
-    same_words(&rt, &four[..2], &wanted, 4);
+    assert_same_words(&rt, &four[..2], &wanted, 4);
     let wanted = [0x5555_5555_5555_5555, 0x79e7_9e79_e79e_79e6];
-    same_words(&rt, &five[..2], &wanted, 5);
-    same(&rt, outputs(2).1[0], 0x1c42_877a_440a_e8ee, 5);
+    assert_same_words(&rt, &five[..2], &wanted, 5);
+    assert_same(&rt, outputs(2).1[0], 0x1c42_877a_440a_e8ee, 5);
     let wanted = [0xb1b3_fa0c_e9e8_fc12, 0x873b_3a41_c1b9_ada4];
-    same_words(&rt, &outputs(3).1[..2], &wanted, 5);
+    assert_same_words(&rt, &outputs(3).1[..2], &wanted, 5);
     let wanted = [0x90ad_e4d9_d482_8c88, 0x4887_cba6_4ef5_5ec4];
-    same_words(&rt, &outputs(3).1[2..4], &wanted, 5);
+    assert_same_words(&rt, &outputs(3).1[2..4], &wanted, 5);
 }
 
 // Makes fills of these sizes from a pair of equal words in each version. Compares all their bytes,
 // and the next output.
-fn fills(rt: &impl Abort, word: u64, sizes: &[usize], bytes: [&[u8]; 2], next: [u64; 2]) {
+fn assert_fills(rt: &impl Abort, word: u64, sizes: &[usize], bytes: [&[u8]; 2], next: [u64; 2]) {
     let mut four = v4::Komirand::new(word, word);
     let mut five = v5::Komirand::new(word, word);
     let mut given = ([0xee; 16], [0xee; 16]);
@@ -65,9 +65,9 @@ fn fills(rt: &impl Abort, word: u64, sizes: &[usize], bytes: [&[u8]; 2], next: [
         end += size;
     }
     assert!(rt; end <= 16);
-    same_bytes(rt, &given.0[..end], bytes[0], end);
-    same_bytes(rt, &given.1[..end], bytes[1], end);
-    same_words(rt, &[four.next(), five.next()], &next, end);
+    assert_same_bytes(rt, &given.0[..end], bytes[0], end);
+    assert_same_bytes(rt, &given.1[..end], bytes[1], end);
+    assert_same_words(rt, &[four.next(), five.next()], &next, end);
 }
 
 // Fills from the pair (0, 0), also after a fill of no bytes, which changes nothing. A fill and the
@@ -78,18 +78,18 @@ fn fill_bytes_drops_unused_bytes(rt: HostRuntime) {
     let third = [0x4924_9249_2492_4910, 0xaf5b_2bd6_caf5_b2bc];
     let four = [0xaa, 0xaa, 0xaa, 0xfe, 0xff, 0xff];
     let five = [0x55, 0x55, 0x55, 0xe6, 0x79, 0x9e];
-    fills(&rt, 0, &[3], [&four[..3], &five[..3]], second);
-    fills(&rt, 0, &[0, 3], [&four[..3], &five[..3]], second);
-    fills(&rt, 0, &[3, 3], [&four, &five], third);
-    fills(&rt, 0, &[0, 3, 3], [&four, &five], third);
+    assert_fills(&rt, 0, &[3], [&four[..3], &five[..3]], second);
+    assert_fills(&rt, 0, &[0, 3], [&four[..3], &five[..3]], second);
+    assert_fills(&rt, 0, &[3, 3], [&four, &five], third);
+    assert_fills(&rt, 0, &[0, 3, 3], [&four, &five], third);
     let mut four = [0xaa; 11];
     four[8..].copy_from_slice(&[0xfe, 0xff, 0xff]);
     let mut five = [0x55; 11];
     five[8..].copy_from_slice(&[0xe6, 0x79, 0x9e]);
-    fills(&rt, 0, &[9], [&four[..9], &five[..9]], third);
-    fills(&rt, 0, &[0, 9], [&four[..9], &five[..9]], third);
-    fills(&rt, 0, &[11], [&four, &five], third);
-    fills(&rt, 0, &[0, 11], [&four, &five], third);
+    assert_fills(&rt, 0, &[9], [&four[..9], &five[..9]], third);
+    assert_fills(&rt, 0, &[0, 9], [&four[..9], &five[..9]], third);
+    assert_fills(&rt, 0, &[11], [&four, &five], third);
+    assert_fills(&rt, 0, &[0, 11], [&four, &five], third);
 }
 
 // One fill of 16 bytes is two of 8, from a second generator of the same pair.
@@ -101,12 +101,12 @@ fn continues_after_fill_bytes(rt: HostRuntime) {
         four.fill_bytes(&mut whole.0);
         five.fill_bytes(&mut whole.1);
         let next = [four.next(), five.next()];
-        fills(&rt, word, &[8, 8], [&whole.0, &whole.1], next);
+        assert_fills(&rt, word, &[8, 8], [&whole.0, &whole.1], next);
     }
     let first = [0xaaaa_aaaa_aaaa_aaaa, 0x5555_5555_5555_5555];
-    fills(&rt, 0, &[0, 0], [&[], &[]], first);
+    assert_fills(&rt, 0, &[0, 0], [&[], &[]], first);
     let (mut four, mut five) = generators(1);
-    fills(&rt, 42, &[0], [&[], &[]], [four.next(), five.next()]);
+    assert_fills(&rt, 42, &[0], [&[], &[]], [four.next(), five.next()]);
 }
 
 // Compares the bytes of a fill with outputs, and the next output with the first that it didn't use.
@@ -115,9 +115,9 @@ fn filled_from(rt: &impl Abort, bytes: &[u8], next: u64, outputs: &[u64; 13]) {
     assert!(rt; n < 96);
     for i in 0..n {
         let byte = outputs[i / 8] >> (8 * (i % 8)) & 0xff;
-        same(rt, u64::from(bytes[i]), byte, n);
+        assert_same(rt, u64::from(bytes[i]), byte, n);
     }
-    same(rt, next, outputs[(n + 7) / 8], n);
+    assert_same(rt, next, outputs[(n + 7) / 8], n);
 }
 
 #[test]

@@ -3,7 +3,7 @@
 ghost use Rattle.std.specs.Prelude.{◌≡◌, ℕ, ◌≤◌, List, ◌++◌, length};
 ghost use Rattle.komihash.specs.Hash.{komi};
 
-use super::assertions::{same, same_words};
+use super::assertions::{assert_same, assert_same_words};
 use super::messages::{HIGH_END, LONGEST, SIX, ZERO, block_message, pattern};
 use crate::{v4, v5};
 
@@ -25,29 +25,29 @@ pub(crate) fn hashes(message: &[u8], seed: u64) -> [u64; 2] {
 
 #[test]
 fn hashes_known_messages(rt: HostRuntime) {
-    same_words(&rt, &hashes(&[], 0), &[0xb768_3ea7_4301_32b4; 2], 0);
-    same_words(&rt, &hashes(&[], u64::MAX), &[0x4bcc_041f_3f88_5859; 2], 0);
-    same_words(&rt, &hashes(b"a", 0), &[0x5117_f506_4cfd_0faa; 2], 1);
-    same(&rt, v5::komihash(&[0xdc], 0), 0xfd45_482d_180d_0441, 1);
-    same_words(&rt, &hashes(&ZERO, 0), &[0; 2], 16);
-    same_words(&rt, &hashes(&HIGH_END, 0), &[7, 0x8000_0000_0000_0000], 31);
-    same_words(&rt, &hashes(&SIX, 0), &[6; 2], 31);
+    assert_same_words(&rt, &hashes(&[], 0), &[0xb768_3ea7_4301_32b4; 2], 0);
+    assert_same_words(&rt, &hashes(&[], u64::MAX), &[0x4bcc_041f_3f88_5859; 2], 0);
+    assert_same_words(&rt, &hashes(b"a", 0), &[0x5117_f506_4cfd_0faa; 2], 1);
+    assert_same(&rt, v5::komihash(&[0xdc], 0), 0xfd45_482d_180d_0441, 1);
+    assert_same_words(&rt, &hashes(&ZERO, 0), &[0; 2], 16);
+    assert_same_words(&rt, &hashes(&HIGH_END, 0), &[7, 0x8000_0000_0000_0000], 31);
+    assert_same_words(&rt, &hashes(&SIX, 0), &[6; 2], 31);
     let (four, five) = (block_message(4), block_message(5));
     for (n, hash) in [(64, 0x2a2f_07ac_9381_0128), (95, 6)] {
-        same(&rt, v4::komihash(&four[..n], 0), hash, n);
-        same(&rt, v5::komihash(&five[..n], 0), hash, n);
+        assert_same(&rt, v4::komihash(&four[..n], 0), hash, n);
+        assert_same(&rt, v5::komihash(&five[..n], 0), hash, n);
     }
 }
 
 #[test]
 fn stays_at_zero_until_the_last_byte(rt: HostRuntime) {
     for n in 16..31usize {
-        same_words(&rt, &hashes(&SIX[..n], 0), &[0, 0], n);
+        assert_same_words(&rt, &hashes(&SIX[..n], 0), &[0, 0], n);
     }
     let (four, five) = (block_message(4), block_message(5));
     for n in 80..95usize {
-        same(&rt, v4::komihash(&four[..n], 0), 0, n);
-        same(&rt, v5::komihash(&five[..n], 0), 0, n);
+        assert_same(&rt, v4::komihash(&four[..n], 0), 0, n);
+        assert_same(&rt, v5::komihash(&five[..n], 0), 0, n);
     }
 }
 
@@ -69,7 +69,7 @@ fn stays_at_zero_with_few_more_bytes(rt: HostRuntime) {
         message[..16].copy_from_slice(&ZERO);
         message[16..].copy_from_slice(&tail);
         for n in 17..24usize {
-            same_words(&rt, &hashes(&message[..n], 0), &[0; 2], n);
+            assert_same_words(&rt, &hashes(&message[..n], 0), &[0; 2], n);
         }
     }
 }
@@ -85,6 +85,6 @@ fn hashes_every_length_as_the_rust_crate_does(rt: HostRuntime) {
                 sums[i] = sums[i].rotate_left(1) ^ hashes[i];
             }
         }
-        same_words(&rt, &sums, &wanted, 0);
+        assert_same_words(&rt, &sums, &wanted, 0);
     }
 }

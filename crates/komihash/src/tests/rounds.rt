@@ -1,6 +1,6 @@
 //! Steps of the hash: the words of a seed, the lanes and a pair round of seed 0.
 
-use super::assertions::{same, same_bytes};
+use super::assertions::{assert_same, assert_same_bytes};
 use crate::rounds::tail::pair_round;
 use crate::rounds::{in_order, lanes_of, seed_pair, seed_words};
 use crate::tally::Tally;
@@ -16,15 +16,15 @@ pub(crate) const LANES: [u8; 64] = [
 #[test]
 fn makes_the_words_of_the_greatest_seed(rt: HostRuntime) {
     let (a, e) = seed_words(u64::MAX);
-    same(&rt, a, 0x716a_3fdd_d0f6_5d86, 0);
-    same(&rt, e, 0xef82_8b4c_927a_b9dd, 1);
+    assert_same(&rt, a, 0x716a_3fdd_d0f6_5d86, 0);
+    assert_same(&rt, e, 0xef82_8b4c_927a_b9dd, 1);
 }
 
 #[test]
 fn makes_the_lanes_of_seed_zero(rt: HostRuntime) {
     let given = in_order(&lanes_of(seed_pair(0, &mut Tally::new())));
     for i in 0..8usize {
-        same_bytes(&rt, &given[i].to_le_bytes(), &LANES[8 * i..8 * i + 8], i);
+        assert_same_bytes(&rt, &given[i].to_le_bytes(), &LANES[8 * i..8 * i + 8], i);
     }
 }
 
@@ -34,6 +34,6 @@ fn makes_a_pair_round(rt: HostRuntime) {
     let tally = &mut Tally::new();
     let [w0, w1] = [0xfe2d_11f5_1bf5_b723, 0xffff_ffff_ffff_fff1];
     let lanes = in_order(&lanes_of(pair_round(seed_pair(0, tally), w0, w1, tally)));
-    same(&rt, lanes[0], 0x4ef2_e852_6fea_8bc8, 0);
-    same(&rt, lanes[4], 0, 4);
+    assert_same(&rt, lanes[0], 0x4ef2_e852_6fea_8bc8, 0);
+    assert_same(&rt, lanes[4], 0, 4);
 }

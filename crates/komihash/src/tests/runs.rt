@@ -3,7 +3,7 @@
 ghost use Rattle.std.specs.Prelude.{◌≡◌, ◌≤◌, length};
 ghost use Rattle.komihash.specs.Calls.{run_products, run_kept};
 
-use super::assertions::{same, same_count, same_words};
+use super::assertions::{assert_same, assert_same_count, assert_same_words};
 use super::messages::{ZERO, block_message};
 use crate::stream::{Call, KomiStream, run};
 use crate::tally::Tally;
@@ -50,27 +50,27 @@ pub(crate) fn byte_by_byte(message: &[u8; 95]) -> [Call<'_>; 96]
 }
 
 /// Compares the answers of a run, and what is after them: the words 9, which `out` then has again.
-pub(crate) fn answers(rt: &impl Abort, count: usize, out: &mut [u64; 200], wanted: &[u64]) {
-    same_count(rt, count, wanted.len(), 0);
+pub(crate) fn assert_answers(rt: &impl Abort, count: usize, out: &mut [u64; 200], wanted: &[u64]) {
+    assert_same_count(rt, count, wanted.len(), 0);
     assert!(rt; count <= 200);
-    same_words(rt, &out[..count], wanted, count);
-    same_words(rt, &out[count..], &[9; 200][count..], count);
+    assert_same_words(rt, &out[..count], wanted, count);
+    assert_same_words(rt, &out[count..], &[9; 200][count..], count);
     *out = [9; 200];
 }
 
 // Runs calls on a new stream of seed 0.
-fn runs<S: KomiStream>(rt: &impl Abort, calls: &[Call<'_>], wanted: &[u64])
+fn assert_runs<S: KomiStream>(rt: &impl Abort, calls: &[Call<'_>], wanted: &[u64])
     requires { length calls.now ≤ 200 }
 {
     let mut out = [9; 200];
     let count = run::<S>(0, calls, &mut out, &mut Tally::new());
-    answers(rt, count, &mut out, wanted);
+    assert_answers(rt, count, &mut out, wanted);
 }
 
 #[test]
 fn runs_calls_in_order(rt: HostRuntime) {
     let message = block_message(5);
-    runs::<v5::StreamedKomihash>(&rt, &at_cuts(&message), &CUT_ANSWERS);
+    assert_runs::<v5::StreamedKomihash>(&rt, &at_cuts(&message), &CUT_ANSWERS);
     let message = block_message(4);
     let calls = [
         Call::Answer,
@@ -80,22 +80,22 @@ fn runs_calls_in_order(rt: HostRuntime) {
         Call::Answer,
     ];
     let wanted = [0xb768_3ea7_4301_32b4, 0x2a2f_07ac_9381_0128, 6];
-    runs::<v4::StreamedKomihash>(&rt, &calls, &wanted);
+    assert_runs::<v4::StreamedKomihash>(&rt, &calls, &wanted);
 }
 
 #[test]
 fn runs_few_calls(rt: HostRuntime) {
     let mut out = [9; 2];
     let count = run::<v5::StreamedKomihash>(0, &[], &mut out, &mut Tally::new());
-    same_count(&rt, count, 0, 0);
-    same_words(&rt, &out, &[9, 9], 0);
+    assert_same_count(&rt, count, 0, 0);
+    assert_same_words(&rt, &out, &[9, 9], 0);
     let calls = [
         Call::Absorb(&ZERO),
         Call::Answer,
         Call::Absorb(&[]),
         Call::Answer,
     ];
-    runs::<v5::StreamedKomihash>(&rt, &calls, &[0, 0]);
+    assert_runs::<v5::StreamedKomihash>(&rt, &calls, &[0, 0]);
 }
 
 #[test]
@@ -108,8 +108,8 @@ fn answers_after_every_byte(rt: HostRuntime) {
         calls[2 * i] = absorbs[i];
         wanted[i] = v5::komihash(&message[..i + 1], 0);
     }
-    same(&rt, wanted[63], 0x2a2f_07ac_9381_0128, 63);
-    same_words(&rt, &wanted[79..94], &[0; 15], 79);
-    same(&rt, wanted[94], 6, 94);
-    runs::<v5::StreamedKomihash>(&rt, &calls, &wanted);
+    assert_same(&rt, wanted[63], 0x2a2f_07ac_9381_0128, 63);
+    assert_same_words(&rt, &wanted[79..94], &[0; 15], 79);
+    assert_same(&rt, wanted[94], 6, 94);
+    assert_runs::<v5::StreamedKomihash>(&rt, &calls, &wanted);
 }

@@ -1,6 +1,6 @@
 //! Saved texts: those of known streams, what is resumed from them, and bytes that are no text.
 
-use super::assertions::{same, same_bytes, same_count};
+use super::assertions::{assert_same, assert_same_bytes, assert_same_count};
 use super::messages::block_message;
 use super::rounds::LANES;
 use crate::stream::streamed::StreamedKomihash;
@@ -38,15 +38,15 @@ pub(crate) fn lanes_after_block() -> [u8; 64] {
 }
 
 // Saves a stream into 140 bytes 0xee, and compares them. Nothing is written after the text.
-fn saves<const V: u8>(rt: &impl Abort, stream: &StreamedKomihash<V>, text: &[u8])
+fn assert_saves<const V: u8>(rt: &impl Abort, stream: &StreamedKomihash<V>, text: &[u8])
 where
     Versions: IsVersion<V>,
 {
     assert!(rt; text.len() <= 140);
     let (mut out, mut wanted) = ([0xee; 140], [0xee; 140]);
     wanted[..text.len()].copy_from_slice(text);
-    same_count(rt, stream.save(&mut out), text.len(), 0);
-    same_bytes(rt, &out, &wanted, text.len());
+    assert_same_count(rt, stream.save(&mut out), text.len(), 0);
+    assert_same_bytes(rt, &out, &wanted, text.len());
 }
 
 // Returns the text of a stream of seed 0 after the bytes `abc`.
@@ -60,12 +60,12 @@ fn letters_text(version: u8) -> [u8; 71] {
 #[test]
 fn saves_streams_of_seed_zero(rt: HostRuntime) {
     let (mut four, mut five) = (v4::StreamedKomihash::new(), v5::StreamedKomihash::new());
-    saves(&rt, &four, &new_text(4));
-    saves(&rt, &five, &new_text(5));
+    assert_saves(&rt, &four, &new_text(4));
+    assert_saves(&rt, &five, &new_text(5));
     four.write(b"abc");
     five.write(b"abc");
-    saves(&rt, &four, &letters_text(4));
-    saves(&rt, &five, &letters_text(5));
+    assert_saves(&rt, &four, &letters_text(4));
+    assert_saves(&rt, &five, &letters_text(5));
 }
 
 #[test]
@@ -73,11 +73,11 @@ fn saves_the_top_bit_in_version_four(rt: HostRuntime) {
     let mut out = [0xee; 140];
     let (mut four, mut five) = (v4::StreamedKomihash::new(), v5::StreamedKomihash::new());
     four.write(&[0xff; 64]);
-    same_count(&rt, four.save(&mut out), 68, 4);
-    same_bytes(&rt, &out[..4], &[4, 1, 1, 0], 4);
+    assert_same_count(&rt, four.save(&mut out), 68, 4);
+    assert_same_bytes(&rt, &out[..4], &[4, 1, 1, 0], 4);
     five.write(&[0xff; 64]);
-    same_count(&rt, five.save(&mut out), 68, 5);
-    same_bytes(&rt, &out[..4], &[5, 1, 0, 0], 5);
+    assert_same_count(&rt, five.save(&mut out), 68, 5);
+    assert_same_bytes(&rt, &out[..4], &[5, 1, 0, 0], 5);
 }
 
 #[test]
@@ -86,10 +86,10 @@ fn resumes_in_mid_message(rt: HostRuntime) {
     let mut stream = v5::StreamedKomihash::new();
     stream.write(&message[..64]);
     let text = text_of([5, 1, 0, 0], &lanes_after_block());
-    saves(&rt, &stream, &text);
+    assert_saves(&rt, &stream, &text);
     let mut resumed = v5::StreamedKomihash::resume(&text).expect(&rt, "a stream");
     resumed.write(&message[64..]);
-    same(&rt, resumed.finish(), 6, 95);
+    assert_same(&rt, resumed.finish(), 6, 95);
 }
 
 // The lanes are 0, but for the top bit of s8. If the text's bit is set, the padding byte is 2.
@@ -98,8 +98,8 @@ fn resumes_lanes_of_zeros(rt: HostRuntime) {
     for (bit, hash) in [(1, 0xc000_0000_0000_0003), (0, 0x8000_0000_0000_0000)] {
         let text = text_of_zeros([4, 1, bit, 0], 0x80);
         let stream = v4::StreamedKomihash::resume(&text).expect(&rt, "a stream");
-        same(&rt, stream.finish(), hash, 68);
-        saves(&rt, &stream, &text);
+        assert_same(&rt, stream.finish(), hash, 68);
+        assert_saves(&rt, &stream, &text);
     }
 }
 
@@ -113,7 +113,7 @@ pub(crate) fn resumed(version: u8, text: &[u8]) -> Option<u64> {
 }
 
 // Refuses bytes that are the text of no stream of a version.
-fn refuses(rt: &impl Abort, version: u8, text: &[u8]) {
+fn assert_refuses(rt: &impl Abort, version: u8, text: &[u8]) {
     assert!(rt; resumed(version, text).is_none(), "{version}: {text:?}");
 }
 
@@ -124,30 +124,30 @@ fn resumes_63_pending_bytes(rt: HostRuntime) {
     text[..68].copy_from_slice(&text_of_zeros([5, 0, 0, 63], 0));
     let text: &[u8; 132] = &text;
     let stream = v5::StreamedKomihash::resume(&text[..131]).expect(&rt, "a stream");
-    saves(&rt, &stream, &text[..131]);
-    refuses(&rt, 5, &text[..130]);
-    refuses(&rt, 5, text);
+    assert_saves(&rt, &stream, &text[..131]);
+    assert_refuses(&rt, 5, &text[..130]);
+    assert_refuses(&rt, 5, text);
 }
 
 // Refuses the text of a new stream of a version, changed.
-fn refuses_changed(rt: &impl Abort, version: u8, text: &mut [u8; 132]) {
-    refuses(rt, version, &text[..67]);
-    refuses(rt, version, &text[..69]);
+fn assert_refuses_changed(rt: &impl Abort, version: u8, text: &mut [u8; 132]) {
+    assert_refuses(rt, version, &text[..67]);
+    assert_refuses(rt, version, &text[..69]);
     text[3] = 64;
-    refuses(rt, version, text);
+    assert_refuses(rt, version, text);
 }
 
 #[test]
 fn refuses_invalid_texts(rt: HostRuntime) {
     for version in [4u8, 5u8] {
-        refuses(&rt, 9 - version, &new_text(version));
-        refuses(&rt, version, &[]);
+        assert_refuses(&rt, 9 - version, &new_text(version));
+        assert_refuses(&rt, version, &[]);
         let mut text = [0; 132];
         text[..68].copy_from_slice(&new_text(version));
-        refuses_changed(&rt, version, &mut text);
-        refuses(&rt, version, &text_of([version, 2, 0, 0], &LANES));
-        refuses(&rt, version, &text_of([version, 0, 1, 0], &LANES));
+        assert_refuses_changed(&rt, version, &mut text);
+        assert_refuses(&rt, version, &text_of([version, 2, 0, 0], &LANES));
+        assert_refuses(&rt, version, &text_of([version, 0, 1, 0], &LANES));
     }
-    refuses(&rt, 5, &text_of_zeros([5, 1, 1, 0], 0));
-    refuses(&rt, 4, &text_of_zeros([4, 1, 2, 0], 0));
+    assert_refuses(&rt, 5, &text_of_zeros([5, 1, 1, 0], 0));
+    assert_refuses(&rt, 4, &text_of_zeros([4, 1, 2, 0], 0));
 }

@@ -1,7 +1,7 @@
 //! Streams of both versions in pieces of many sizes: `finish` against `komihash` of all bytes. The
 //! hashes of `komihash` are compared with the Rust crate's in `hash.rt`.
 
-use super::assertions::same_words;
+use super::assertions::assert_same_words;
 use super::hash::hashes;
 use super::messages::{HIGH_END, LONGEST, SIX, block_message, pattern};
 use crate::{v4, v5};
@@ -39,12 +39,12 @@ impl Streams {
     }
 
     // Calls `finish` twice. Compares both hashes with that of a message, and with each other.
-    fn finishes(&self, rt: &impl Abort, message: &[u8], seed: u64) {
+    fn assert_finishes(&self, rt: &impl Abort, message: &[u8], seed: u64) {
         let wanted = hashes(message, seed);
         let [first, second] = [self.finish(), self.finish()];
-        same_words(rt, &first, &wanted, message.len());
-        same_words(rt, &second, &wanted, message.len());
-        same_words(rt, &second, &first, message.len());
+        assert_same_words(rt, &first, &wanted, message.len());
+        assert_same_words(rt, &second, &wanted, message.len());
+        assert_same_words(rt, &second, &first, message.len());
     }
 }
 
@@ -58,7 +58,7 @@ fn finishes_alike_after_pieces_of_every_size(rt: HostRuntime) {
                 for piece in message[..n].chunks(size) {
                     streams.write(piece);
                 }
-                streams.finishes(&rt, &message[..n], seed);
+                streams.assert_finishes(&rt, &message[..n], seed);
             }
         }
     }
@@ -71,7 +71,7 @@ fn finishes_alike_after_one_write(rt: HostRuntime) {
         for seed in [0, u64::MAX] {
             let mut streams = Streams::new_with_seed(seed);
             streams.write(&message[..n]);
-            streams.finishes(&rt, &message[..n], seed);
+            streams.assert_finishes(&rt, &message[..n], seed);
         }
     }
 }
@@ -86,7 +86,7 @@ fn completes_a_partial_block(rt: HostRuntime) {
             let mut streams = Streams::new();
             streams.write(&message[..fill]);
             streams.write(&message[fill..end]);
-            streams.finishes(&rt, &message[..end], 0);
+            streams.assert_finishes(&rt, &message[..end], 0);
         }
     }
 }
@@ -99,7 +99,7 @@ fn continues_after_finish(rt: HostRuntime) {
     let mut streams = Streams::new();
     for (from, end) in [(0, 64), (64, 65)] {
         streams.write(&ones[from..end]);
-        streams.finishes(&rt, &ones[..end], 0);
+        streams.assert_finishes(&rt, &ones[..end], 0);
     }
     let mut letters = [0xaa; 65];
     letters[63] = 0xbb;
@@ -107,7 +107,7 @@ fn continues_after_finish(rt: HostRuntime) {
     let mut streams = Streams::new();
     for (from, end) in [(0, 63), (63, 64), (64, 65)] {
         streams.write(&letters[from..end]);
-        streams.finishes(&rt, &letters[..end], 0);
+        streams.assert_finishes(&rt, &letters[..end], 0);
     }
 }
 
@@ -118,7 +118,7 @@ fn keeps_the_top_bit_of_a_block_in_version_four(rt: HostRuntime) {
         message[63] = last;
         let mut streams = Streams::new();
         streams.write(&message);
-        streams.finishes(&rt, &message, 0);
+        streams.assert_finishes(&rt, &message, 0);
     }
 }
 
@@ -127,12 +127,12 @@ fn cut_in_two(rt: &impl Abort, message: &[u8], last: [u64; 2]) {
     for cut in 0..=message.len() {
         let mut streams = Streams::new();
         streams.write(&message[..cut]);
-        streams.finishes(rt, &message[..cut], 0);
+        streams.assert_finishes(rt, &message[..cut], 0);
         streams.write(&[]);
-        streams.finishes(rt, &message[..cut], 0);
+        streams.assert_finishes(rt, &message[..cut], 0);
         streams.write(&message[cut..]);
-        streams.finishes(rt, message, 0);
-        same_words(rt, &streams.finish(), &last, cut);
+        streams.assert_finishes(rt, message, 0);
+        assert_same_words(rt, &streams.finish(), &last, cut);
     }
 }
 
@@ -142,13 +142,13 @@ fn byte_by_byte(rt: &impl Abort, message: &[u8], last: [u64; 2], zero_from: [usi
     let mut streams = Streams::new();
     for n in 1..=message.len() {
         streams.write(&message[n - 1..n]);
-        streams.finishes(rt, &message[..n], 0);
+        streams.assert_finishes(rt, &message[..n], 0);
         let hashes = streams.finish();
         for i in 0..2usize {
             assert!(rt; n < zero_from[i] || n == message.len() || hashes[i] == 0);
         }
     }
-    same_words(rt, &streams.finish(), &last, message.len());
+    assert_same_words(rt, &streams.finish(), &last, message.len());
 }
 
 #[test]
@@ -175,7 +175,7 @@ fn a_thousand_empty_writes_change_nothing(rt: HostRuntime) {
         empty.write(&[]);
         block.write(&[]);
     }
-    same_words(&rt, &empty.finish(), &[0xb768_3ea7_4301_32b4; 2], 0);
+    assert_same_words(&rt, &empty.finish(), &[0xb768_3ea7_4301_32b4; 2], 0);
     let hashes = [0x960d_596d_aa68_e0ca, 0x2a2f_07ac_9381_0128];
-    same_words(&rt, &block.finish(), &hashes, 64);
+    assert_same_words(&rt, &block.finish(), &hashes, 64);
 }

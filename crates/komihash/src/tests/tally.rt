@@ -5,9 +5,9 @@ ghost use Rattle.std.specs.Prelude.{◌≡◌, ◌+◌, ◌%◌, ◌≤◌, IsTr
 ghost use Rattle.komihash.specs.Calls.{run_products, run_kept};
 ghost use Rattle.komihash.specs.Counts.{Costs, hash_products, kept_bytes};
 
-use super::assertions::{same, same_bytes, same_count, same_words};
+use super::assertions::{assert_same, assert_same_bytes, assert_same_count, assert_same_words};
 use super::messages::block_message;
-use super::runs::{CUT_ANSWERS, answers, at_cuts, byte_by_byte};
+use super::runs::{CUT_ANSWERS, assert_answers, at_cuts, byte_by_byte};
 use super::saved::{lanes_after_block, new_text, text_of_zeros};
 use crate::stream::{Call, KomiStream, LONGEST_TEXT, run, run_on};
 use crate::tally::Tally;
@@ -59,7 +59,7 @@ fn hashes_cost<const V: u8>(
 
 // Hashes `block_message` with five zeros after it, and beginnings of it.
 fn hashes_known<const V: u8>(rt: &impl Abort) {
-    same(rt, message_costs::<V>(&mut Tally::new()), 6, 95);
+    assert_same(rt, message_costs::<V>(&mut Tally::new()), 6, 95);
     let mut bytes = [0; 100];
     bytes[..95].copy_from_slice(&block_message(V));
     let hashes = hashes_cost::<V>(
@@ -72,7 +72,7 @@ fn hashes_known<const V: u8>(rt: &impl Abort) {
     );
     let [empty, pair] = [0xb768_3ea7_4301_32b4, 0x3cd8_23c0_93de_3eea];
     let block = 0x2a2f_07ac_9381_0128;
-    same_words(rt, &hashes, &[empty, pair, block, 6, 0], 0);
+    assert_same_words(rt, &hashes, &[empty, pair, block, 6, 0], 0);
 }
 
 #[test]
@@ -144,13 +144,13 @@ fn counted_runs_answer_known_hashes(rt: HostRuntime) {
     let (message, tally) = (&block_message(5), &mut Tally::new());
     let out = &mut [9; 200];
     let count = cuts_cost::<v5::StreamedKomihash>(message, out, tally);
-    answers(&rt, count, out, &CUT_ANSWERS);
+    assert_answers(&rt, count, out, &CUT_ANSWERS);
     let count = piece_costs::<v5::StreamedKomihash>(message, out, tally);
-    answers(&rt, count, out, &[6]);
+    assert_answers(&rt, count, out, &[6]);
     let count = bytes_cost::<v5::StreamedKomihash>(message, out, tally);
-    answers(&rt, count, out, &[6]);
+    assert_answers(&rt, count, out, &[6]);
     let count = nothing_costs::<v5::StreamedKomihash>(out, tally);
-    answers(&rt, count, out, &[]);
+    assert_answers(&rt, count, out, &[]);
 }
 
 // Saves a stream and resumes it. This succeeds in every state, and changes nothing.
@@ -214,15 +214,15 @@ fn saving_and_resuming_changes_nothing(rt: HostRuntime) {
     let (message, tally) = (&block_message(5), &mut Tally::new());
     let out = &mut [9; 200];
     let (stream, count) = resumed_cuts_cost::<v5::StreamedKomihash>(&rt, message, out, tally);
-    answers(&rt, count, out, &CUT_ANSWERS);
+    assert_answers(&rt, count, out, &CUT_ANSWERS);
     let mut text = [0; LONGEST_TEXT];
-    same_count(&rt, stream.store(&mut text), 99, 1);
-    same_bytes(&rt, &text[..4], &[5, 1, 0, 31], 0);
-    same_bytes(&rt, &text[4..68], &lanes_after_block(), 4);
-    same_bytes(&rt, &text[68..99], &message[64..], 68);
+    assert_same_count(&rt, stream.store(&mut text), 99, 1);
+    assert_same_bytes(&rt, &text[..4], &[5, 1, 0, 31], 0);
+    assert_same_bytes(&rt, &text[4..68], &lanes_after_block(), 4);
+    assert_same_bytes(&rt, &text[68..99], &message[64..], 68);
 
     let count = resumed_bytes_cost::<v5::StreamedKomihash>(&rt, message, out, tally);
-    answers(&rt, count, out, &[6]);
+    assert_answers(&rt, count, out, &[6]);
 }
 
 // Starts a stream, and makes no calls on it.
@@ -238,12 +238,12 @@ fn start_costs<S: KomiStream>(out: &mut [u64; 200], tally: &mut Tally) -> (S, us
 fn runs_no_calls(rt: HostRuntime) {
     let out = &mut [9; 200];
     let (stream, count) = start_costs::<v5::StreamedKomihash>(out, &mut Tally::new());
-    answers(&rt, count, out, &[]);
+    assert_answers(&rt, count, out, &[]);
     let mut text = [0xee; 131];
     let mut wanted = text;
     wanted[..68].copy_from_slice(&new_text(5));
-    same_count(&rt, stream.store(&mut text), 68, 1);
-    same_bytes(&rt, &text, &wanted, 68);
+    assert_same_count(&rt, stream.store(&mut text), 68, 1);
+    assert_same_bytes(&rt, &text, &wanted, 68);
 }
 
 // Makes an Answer on a stream that is resumed with no pending bytes.
@@ -264,5 +264,5 @@ fn answers_after_resuming(rt: HostRuntime) {
     let out = &mut [9; 200];
     let text = text_of_zeros([4, 1, 1, 0], 0x80);
     let count = resumed_answer_costs::<v4::StreamedKomihash>(&text, out, &mut Tally::new());
-    answers(&rt, count.unwrap_or(0), out, &[0xc000_0000_0000_0003]);
+    assert_answers(&rt, count.unwrap_or(0), out, &[0xc000_0000_0000_0003]);
 }
