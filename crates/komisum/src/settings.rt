@@ -1,10 +1,8 @@
 //! The version and the seed that the program's arguments ask for.
 
-ghost use Rattle.std.specs.Prelude.{◌≡◌, IsTrue, SomeIff, map, string_bytes};
-ghost use Rattle.std.specs.Char.{digit_value};
+ghost use Rattle.std.specs.Prelude.{◌≡◌, map, string_bytes};
 ghost use Rattle.std.specs.Vec.Iter.{into_iter_items};
-ghost use Rattle.komisum.specs.Settings.{is_hex_digit, seed_of, settings_of};
-ghost use Rattle.komisum.specs.Settings.{settings_or_refusal, version_of};
+ghost use Rattle.komisum.specs.Settings.{seed_of, settings_of, settings_or_refusal, version_of};
 
 use crate::ending::Refusal;
 use std::env::{Args, FillError};
@@ -17,17 +15,6 @@ use std::{env, io};
 pub enum Version {
     Four,
     Five,
-}
-
-// Returns the value of a digit.
-fn digit_of(character: u8) -> Option<u8>
-    ensures { SomeIff result (IsTrue (is_hex_digit character)) (digit_value character) }
-{
-    match character {
-        b'0'..=b'9' => Some(character - b'0'),
-        b'a'..=b'f' => Some(character - b'a' + 10),
-        _ => None,
-    }
 }
 
 // Returns the version that an argument asks for.
@@ -46,14 +33,13 @@ fn seed_in(argument: &str) -> Option<u64>
     ensures { result ≡ seed_of argument.now }
 {
     let digits = argument.as_bytes();
-    if digits.is_empty() || digits.len() > 16 {
+    let is_digit = |digit: &u8| matches!(digit, b'0'..=b'9' | b'a'..=b'f');
+    if digits.is_empty() || digits.len() > 16 || !digits.iter().all(is_digit) {
         return None;
     }
-    let mut seed = 0u64;
-    for digit in digits {
-        seed = seed * 16 + u64::from(digit_of(*digit)?);
-    }
-    Some(seed)
+
+    // This alone would also accept capital digits and a plus.
+    u64::from_str_radix(argument, 16).ok()
 }
 
 /// Returns the version and the seed that arguments ask for.
