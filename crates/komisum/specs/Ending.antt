@@ -1,5 +1,5 @@
 -- How the program ends: its message, and its status.
-use Rattle.std.specs.Prelude.{◌≡◌, ℕ, false, List, [], ◌∷◌, ◌++◌, codes, None, Some, Ok, Err}
+use Rattle.std.specs.Prelude.{◌≡◌, ℕ, false, List, [], ◌++◌, codes, None, Some, Ok, Err}
 use Rattle.std.specs.declared.option.Option.{Option}
 use Rattle.std.specs.declared.result.Result.{Result}
 use Rattle.std.specs.Io.KnownBytes.{Appends}
@@ -42,7 +42,7 @@ text_of (Refused refusal) = Some (refusal_text refusal)
 -- its line on standard error: the program's name, the message and a newline
 abbrev pub message_line : Option (List ℕ) → List ℕ
 message_line None = []
-message_line (Some text) = codes "komisum: " ++ text ++ 10 ∷ []
+message_line (Some text) = codes "komisum: " ++ text ++ codes "\n"
 
 -- this line is written, or a prefix of it if a write fails; without a message nothing happens
 pub record Reports {W : Type 0} (message : Option (List ℕ)) (contents : W → Option (List ℕ))

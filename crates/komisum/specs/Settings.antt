@@ -1,8 +1,8 @@
 -- The version and the seed that the program's arguments ask for.
-use Rattle.std.specs.Prelude.{ℕ, Bool, List, [], ◌∷◌, length, map, nat_le, ◌==◌, ◌&&◌, ◌||◌}
+use Rattle.std.specs.Prelude.{ℕ, Bool, List, [], ◌∷◌, length, map, nat_eq, ◌&&◌, bytes_eq, codes}
 use Rattle.std.specs.Prelude.{if◌then◌else◌, None, Some, Ok, Err, String, string_bytes}
 use Rattle.std.specs.Int.{is_in_range}
-use Rattle.std.specs.List.{list_all}
+use Rattle.std.specs.List.{list_all, list_any}
 use Rattle.std.specs.declared.option.Option.{Option}
 use Rattle.std.specs.declared.result.Result.{Result}
 use Rattle.std.specs.declared.io.Error.{Error}
@@ -10,7 +10,7 @@ use Rattle.std.specs.declared.io.ErrorKind.{ErrorKind}
 use Rattle.std.specs.declared.io.ErrorKind.TheVariants.{InvalidData}
 use Rattle.std.specs.declared.vec.IntoIter.{IntoIter}
 use Rattle.std.specs.IoError.{error_kind}
-use Rattle.std.specs.Option.{ok_or}
+use Rattle.std.specs.Option.{ok_or, option_zip}
 use Rattle.std.specs.Str.Parse.{digits_value}
 use Rattle.std.specs.Vec.Iter.{into_iter_items}
 use Rattle.komisum.specs.declared.ending.Refusal.{Refusal}
@@ -23,37 +23,29 @@ abbrev pub number_of : Version → ℕ
 number_of Four = 4
 number_of Five = 5
 
--- the version that a character names: 52 is `4`, and 53 is `5`
-abbrev pub version_named : ℕ → Option Version
-version_named c = if c == 52 then Some Four else if c == 53 then Some Five else None
-
--- the version that an argument asks for, by one character
+-- the version that an argument asks for
 abbrev pub version_of : List ℕ → Option Version
-version_of (c ∷ []) = version_named c
-version_of _ = None
+version_of argument =
+    if bytes_eq argument (codes "4") then Some Four
+    else if bytes_eq argument (codes "5") then Some Five
+    else None
 
--- a character from `0` to `9` or from `a` to `f`
+-- a hexadecimal digit that is no capital letter
 abbrev pub is_hex_digit : ℕ → Bool
-is_hex_digit c = is_in_range 48 57 c || is_in_range 97 102 c
+is_hex_digit c = list_any (nat_eq c) (codes "0123456789abcdef")
 
 -- one to sixteen digits
 abbrev pub is_seed : List ℕ → Bool
-is_seed argument =
-    nat_le 1 (length argument) && nat_le (length argument) 16 && list_all is_hex_digit argument
+is_seed argument = is_in_range 1 16 (length argument) && list_all is_hex_digit argument
 
 -- the seed that an argument asks for, its digits to base 16
 abbrev pub seed_of : List ℕ → Option ℕ
 seed_of argument = if is_seed argument then Some (digits_value 16 argument) else None
 
--- the version and the seed, if there are both
-abbrev pub both_of : Option Version → Option ℕ → Option (Version × ℕ)
-both_of (Some version) (Some seed) = Some (version, seed)
-both_of _ _ = None
-
 -- what arguments ask for: version 5 and seed 0 if there are none, or the version and seed of two
 abbrev pub settings_of : List (List ℕ) → Option (Version × ℕ)
 settings_of [] = Some (Five, 0)
-settings_of (version ∷ seed ∷ []) = both_of (version_of version) (seed_of seed)
+settings_of (version ∷ seed ∷ []) = option_zip (version_of version) (seed_of seed)
 settings_of _ = None
 
 -- the refusal for an error in place of the arguments: wrong usage if one isn't UTF-8
