@@ -7,7 +7,7 @@ use Rattle.std.specs.declared.option.Option.{Option}
 use Rattle.std.specs.declared.result.Result.{Result}
 use Rattle.std.specs.declared.io.Error.{Error}
 use Rattle.std.specs.declared.io.ErrorKind.{ErrorKind}
-use Rattle.std.specs.declared.io.ErrorKind.TheVariants.{InvalidData}
+use Rattle.std.specs.declared.io.ErrorKind.TheVariants.{OutOfMemory}
 use Rattle.std.specs.declared.vec.IntoIter.{IntoIter}
 use Rattle.std.specs.IoError.{error_kind}
 use Rattle.std.specs.Option.{ok_or, option_zip}
@@ -48,10 +48,10 @@ settings_of [] = Some (Five, 0)
 settings_of (version ∷ seed ∷ []) = option_zip (version_of version) (seed_of seed)
 settings_of _ = None
 
--- the refusal for an error in place of the arguments: wrong usage if one isn't UTF-8
+-- the refusal for an error in place of the arguments: wrong usage, unless memory was refused
 abbrev pub refusal_of : ErrorKind → Refusal
-refusal_of InvalidData = Usage
-refusal_of _ = NoMemory
+refusal_of OutOfMemory = NoMemory
+refusal_of _ = Usage
 
 -- what arguments ask for, or a refusal: wrong usage if there are some, but not exactly a version
 -- and a seed

@@ -92,17 +92,17 @@ fn settings_in(mut arguments: Args) -> Option<(Version, u64)>
 /// Returns the version and the seed that the arguments ask for. `given` is the result of
 /// `env::args`.
 ///
-/// Returns `Usage` if there are arguments, but not exactly a version and a seed, or if the kind of
-/// the error in their place is `InvalidData`, as for an argument that is not UTF-8. Returns
-/// `NoMemory` for all other errors, and allocates nothing.
+/// Returns `NoMemory` if the kind of the error in their place is `OutOfMemory`. Returns `Usage` for
+/// all other errors, as for an argument that is not UTF-8, and if there are arguments, but not
+/// exactly a version and a seed. Allocates nothing.
 pub fn settings_from_args(given: io::Result<Args>) -> Result<(Version, u64), Refusal>
     ensures { result ≡ settings_or_refusal given }
 {
     match given {
         Ok(arguments) => settings_in(arguments).ok_or(Refusal::Usage),
         Err(error) => Err(match error.kind() {
-            ErrorKind::InvalidData => Refusal::Usage,
-            _ => Refusal::NoMemory,
+            ErrorKind::OutOfMemory => Refusal::NoMemory,
+            _ => Refusal::Usage,
         }),
     }
 }
