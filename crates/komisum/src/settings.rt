@@ -1,7 +1,6 @@
 //! The version and the seed that the program's arguments ask for.
 
-ghost use Rattle.std.specs.Prelude.{◌≡◌, map, string_bytes};
-ghost use Rattle.std.specs.Vec.Iter.{into_iter_items};
+ghost use Rattle.std.specs.Prelude.{◌≡◌, map};
 ghost use Rattle.komisum.specs.Settings.{seed_of, settings_of, settings_or_refusal, version_of};
 
 use crate::ending::Refusal;
@@ -78,17 +77,6 @@ impl<H: Env> Env for AfterName<'_, H> {
     }
 }
 
-// Returns the version and the seed that arguments ask for.
-fn settings_in(mut arguments: Args) -> Option<(Version, u64)>
-    ensures { result ≡ settings_of (map string_bytes (into_iter_items arguments)) }
-{
-    match (arguments.next(), arguments.next(), arguments.next()) {
-        (None, _, _) => settings(&[]),
-        (Some(version), Some(seed), None) => settings(&[version.as_str(), seed.as_str()]),
-        _ => None,
-    }
-}
-
 /// Returns the version and the seed that the arguments ask for. `given` is the result of
 /// `env::args`.
 ///
@@ -98,13 +86,16 @@ fn settings_in(mut arguments: Args) -> Option<(Version, u64)>
 pub fn settings_from_args(given: io::Result<Args>) -> Result<(Version, u64), Refusal>
     ensures { result ≡ settings_or_refusal given }
 {
-    match given {
-        Ok(arguments) => settings_in(arguments).ok_or(Refusal::Usage),
-        Err(error) => Err(match error.kind() {
-            ErrorKind::OutOfMemory => Refusal::NoMemory,
-            _ => Refusal::Usage,
-        }),
-    }
+    let mut arguments = given.map_err(|error| match error.kind() {
+        ErrorKind::OutOfMemory => Refusal::NoMemory,
+        _ => Refusal::Usage,
+    })?;
+    let asked = match (arguments.next(), arguments.next(), arguments.next()) {
+        (None, _, _) => settings(&[]),
+        (Some(version), Some(seed), None) => settings(&[version.as_str(), seed.as_str()]),
+        _ => None,
+    };
+    asked.ok_or(Refusal::Usage)
 }
 
 /// Returns the version and the seed that the arguments after the program's name ask for, or a
