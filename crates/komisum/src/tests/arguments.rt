@@ -39,7 +39,7 @@ fn asked(alloc: Global, arguments: &[&[u8]]) -> Result<(Version, u64), Refusal> 
 
 // A program's name need not be UTF-8, may be long, and may be missing.
 #[test]
-fn versions_and_seeds(rt: HostRuntime) {
+fn any_program_name(rt: HostRuntime) {
     assert!(rt; matches!(asked(rt.alloc(), &[]), Ok((Version::Five, 0))));
     for name in [b"komisum".as_slice(), b"\xff", &[b'0'; 300]] {
         assert!(rt; matches!(asked(rt.alloc(), &[name]), Ok((Version::Five, 0))));
@@ -56,7 +56,7 @@ fn refuses(rt: &impl Abort, alloc: Global, arguments: &[&[u8]]) {
 }
 
 #[test]
-fn wrong_usage(rt: HostRuntime) {
+fn wrong_count_or_not_utf8(rt: HostRuntime) {
     refuses(&rt, rt.alloc(), &[b"komisum", b"5"]);
     refuses(&rt, rt.alloc(), &[b"komisum", b""]);
     refuses(&rt, rt.alloc(), &[b"komisum", b"5", b"\xff"]);

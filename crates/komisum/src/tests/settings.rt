@@ -3,7 +3,7 @@
 use crate::settings::{Version, settings};
 
 #[test]
-fn versions_and_seeds(rt: HostRuntime) {
+fn accepted_versions_and_seeds(rt: HostRuntime) {
     assert!(rt; matches!(settings(&[]), Some((Version::Five, 0))));
     assert!(rt; matches!(settings(&["4", "0"]), Some((Version::Four, 0))));
     let greatest = settings(&["5", "ffffffffffffffff"]);
@@ -15,7 +15,7 @@ fn versions_and_seeds(rt: HostRuntime) {
 }
 
 #[test]
-fn wrong_usage(rt: HostRuntime) {
+fn refused_counts_versions_and_seeds(rt: HostRuntime) {
     assert!(rt; settings(&["5"]).is_none());
     assert!(rt; settings(&["5", "0", "0"]).is_none());
     assert!(rt; settings(&["5", "00000000000000000"]).is_none());
