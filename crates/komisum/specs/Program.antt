@@ -1,5 +1,5 @@
 -- What the program reads and writes, and when it ends with a fault.
-use Rattle.std.specs.Prelude.{◌≡◌, ◌↔◌, ℕ, ◌+◌, ◌<◌, ◌≤◌, true, false, List}
+use Rattle.std.specs.Prelude.{◌≡◌, ◌↔◌, ℕ, ◌+◌, ◌^◌, ◌<◌, ◌≤◌, true, false, List}
 use Rattle.std.specs.Prelude.{Err, IfSome, IfErr, IsOkAnd}
 use Rattle.std.specs.declared.option.Option.{Option}
 use Rattle.std.specs.declared.result.Result.{Result}
@@ -12,9 +12,16 @@ use Rattle.komisum.specs.declared.ending.Ending.{Ending}
 use Rattle.komisum.specs.declared.ending.Ending.TheVariants.{Shown, Failed, Refused}
 use Rattle.komisum.specs.declared.ending.Fault.TheVariants.{Read, TooLong, Write}
 use Rattle.komisum.specs.declared.ending.Refusal.{Refusal}
-use Rattle.komisum.specs.declared.program.TheConstants.{CHUNK_LENGTH, LONGEST_INPUT}
 use Rattle.komisum.specs.declared.settings.Version.{Version}
 use Rattle.komisum.specs.declared.watched.Watched.{Watched}
+
+-- the most bytes that an input may have
+abbrev pub longest_input : ℕ
+longest_input = 2 ^ 40
+
+-- the most bytes that one read asks for
+abbrev pub chunk_length : ℕ
+chunk_length = 4096
 
 -- the line of the hash of a message with a seed in a version
 abbrev pub hash_line : Version → ℕ → List ℕ → List ℕ
@@ -35,7 +42,7 @@ pub record FaultsCome {R W : Type 0} (ending : Ending) (remaining : R → Option
     (old new : Watched R) (writer : Watched W) : Type 0 where
   pub read : (ending ≡ Failed Read) ↔ (new.failed ≡ true)
   pub too_long : Takes remaining old new (λ taken.
-      (ending ≡ Failed TooLong) ↔ ((new.failed ≡ false) × (LONGEST_INPUT < taken)))
+      (ending ≡ Failed TooLong) ↔ ((new.failed ≡ false) × (longest_input < taken)))
   pub write : (ending ≡ Failed Write) ↔ (writer.failed ≡ true)
 
 -- all of the input is read if the line is shown or a write fails, and never much beyond the limit
@@ -43,8 +50,8 @@ pub record ReadsEnough {R : Type 0} (ending : Ending) (remaining : R → Option 
     (old new : Watched R) : Type 0 where
   pub all : ending ≡ Shown → IsAtEnd (remaining new.inner)
   pub all_before : ending ≡ Failed Write → IsAtEnd (remaining new.inner)
-  pub bound : Takes remaining old new (λ taken. taken ≤ LONGEST_INPUT + CHUNK_LENGTH)
-  pub read_bound : ending ≡ Failed Read → Takes remaining old new (λ taken. taken ≤ LONGEST_INPUT)
+  pub bound : Takes remaining old new (λ taken. taken ≤ longest_input + chunk_length)
+  pub read_bound : ending ≡ Failed Read → Takes remaining old new (λ taken. taken ≤ longest_input)
 
 -- nothing is written if a read fails or the input is too long
 pub record WritesNothing {W : Type 0} (ending : Ending) (old new : Watched W) : Type 0 where
