@@ -1,16 +1,13 @@
 -- Lists that are cut, joined and written over piece by piece.
-use Rattle.std.proofs.Common.{zero, ◌≤◌, ◌-◌, ◌≡◌, ℕ, ◌+◌, List, [], ◌∷◌, ◌++◌, length, take, drop, set, ap, arith, ◌∙◌, sym, suc, rules, refl}
-use Rattle.std.proofs.lemmas.List.{length-append, take-append-drop, take-take, drop-take, drop-drop, take-append-le, length-drop, length-take-le, take_all}
+use Rattle.std.proofs.Common.{zero, ◌≤◌, ◌-◌, ◌≡◌, ℕ, ◌+◌, List, [], ◌∷◌, ◌++◌, length, take, drop, set, ap, arith, ◌∙◌, sym, suc, rules, refl, take-add}
+use Rattle.std.proofs.lemmas.List.{length-append, take-append-drop, take-take, drop-drop, take-append-le, length-drop, length-take-le, take_all}
 use Rattle.std.proofs.lemmas.Slice.{take-put_mid, drop-put_mid, overwrites}
 use Rattle.std.proofs.lemmas.Simd.{put_chunk_is}
 use Rattle.std.specs.Simd.Lanes.{put_chunk}
 use borrow.Rule.Slice.PartMut.{put_mid, mid_of}
 
 pub take-more : (m n : ℕ) (xs : List ℕ) → take m xs ++ take n (drop m xs) ≡ take (m + n) xs
-take-more m n xs =
-    ap (λ ys. ys ++ take n (drop m xs)) (sym (take-take m (m + n) xs (omega arith)))
-    ∙ ap (λ ys. take m (take (m + n) xs) ++ ys) (sym (drop-take m n xs))
-    ∙ take-append-drop m (take (m + n) xs)
+take-more m n xs = sym (take-add m n xs)
 
 -- the first n items of two pieces: those of the first, and as many of the second as are missing
 pub take-append : (n : ℕ) (xs ys : List ℕ) → take n (xs ++ ys) ≡ take n xs ++ take (n - length xs) ys
@@ -33,7 +30,7 @@ covers-put_mid a k n xs ys all old sum within fits is so =
     ap length is ∙ length-take-le k (drop a all) (omega (arith, length-drop a all)) in
     record {
       front = take-put_mid a k xs ys n (omega arith) (omega arith)
-          ∙ rw (so.front, is, take-more a k all, sum) refl;
+          ∙ rw (so.front, is, ← take-add a k all, sum) refl;
       others = drop-put_mid a k xs ys n (omega arith) (omega arith) size
           ∙ rw (← sum, ← drop-drop k a xs, so.others) (drop-drop k a old);
     }
@@ -55,10 +52,6 @@ two_pieces k n all whole out zs ys same enough len le most first second =
     let both = covers-put_mid (n - k) k n xs ys all xs (omega arith) (omega arith) fits (rw last at second) before in
     let long : length (put_mid (n - k) k xs ys) ≤ n = search (rules, overwrites) in
     rw (first, size, last) (sym (take_all n (put_mid (n - k) k xs ys) long) ∙ both.front ∙ ap (take n) same)
-
--- what was written whole
-pub written : (k : ℕ) (ys all : List ℕ) → length ys ≡ k → take k ys ≡ take k all → ys ≡ take k all
-written k ys all size same = sym (take_all k ys (omega arith)) ∙ same
 
 -- a vector of two items, stored at an index of a list
 pub two_put : (at k : ℕ) (xs : List ℕ) (v w : ℕ) → at + k ≡ length xs → 2 ≤ k

@@ -1,5 +1,5 @@
 -- What a stream's state says of its message, and the laws by which a stream's calls say it.
-use Rattle.std.proofs.Common.{◌≡◌, ℕ, List, [], ◌++◌, ap, ◌∙◌, subst, sym}
+use Rattle.std.proofs.Common.{◌≡◌, ℕ, List, [], ◌++◌, ap, ◌∙◌, sym}
 use Rattle.komihash.specs.Hash.{komi}
 use Rattle.komihash.specs.Saved.{text, IsTextAfter}
 use Rattle.komihash.specs.Stream.{State, IsState, HasAbsorbed, start, absorb, answer}
@@ -18,19 +18,11 @@ unfolding HasAbsorbed
 HasAbsorbed-more v seed s after m bytes is then =
     rw (then, is) (sym (absorb-append v (start seed) m bytes))
 
-pub HasAbsorbed-joined : (v seed : ℕ) (s after : State) (m bytes all : List ℕ) → HasAbsorbed v seed s m
-    → after ≡ absorb v s bytes → m ++ bytes ≡ all → HasAbsorbed v seed after all
-HasAbsorbed-joined v seed s after m bytes all is then same =
-    subst (HasAbsorbed v seed after) same (HasAbsorbed-more v seed s after m bytes is then)
-
 -- the answer is the message's hash
-pub komi-answer : (v seed : ℕ) (m : List ℕ) (s : State) → HasAbsorbed v seed s m → komi v seed m ≡ answer v s
-unfolding HasAbsorbed
-komi-answer v seed m s is = sym (answer-joined v seed m) ∙ ap (answer v) (sym is)
-
 pub answer-komi : (v seed result : ℕ) (m : List ℕ) (s : State) → HasAbsorbed v seed s m
     → result ≡ answer v s → result ≡ komi v seed m
-answer-komi v seed result m s is e = e ∙ sym (komi-answer v seed m s is)
+unfolding HasAbsorbed
+answer-komi v seed result m s is e = e ∙ ap (answer v) is ∙ answer-joined v seed m
 
 -- the saved text is one after the message
 pub IsTextAfter-saved : (v seed : ℕ) (m bytes : List ℕ) (s : State) → IsState v s → HasAbsorbed v seed s m
@@ -53,7 +45,6 @@ same_text_after v seed m x y (s, _, first, of_s) (t, _, second, of_t) =
 pub ruleset message_laws = (
   HasAbsorbed-start,
   HasAbsorbed-more,
-  HasAbsorbed-joined,
   answer-komi,
   IsTextAfter-saved,
 )

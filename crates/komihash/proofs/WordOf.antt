@@ -1,12 +1,11 @@
 -- Words of lists of bytes that are cut and joined.
-use Rattle.std.proofs.Common.{◌≡◌, ℕ, zero, suc, ◌+◌, ◌-◌, ◌*◌, ◌/◌, ◌%◌, ◌^◌, ◌<◌, ◌≤◌, List, [], ◌∷◌, ◌++◌, length, take, drop, get_or, ap, arith, ◌∙◌, sym, Fits, w8}
+use Rattle.std.proofs.Common.{◌≡◌, ℕ, zero, suc, ◌+◌, ◌-◌, ◌*◌, ◌/◌, ◌%◌, ◌^◌, ◌<◌, ◌≤◌, List, [], ◌∷◌, ◌++◌, length, take, drop, get_or, ap, arith, ◌∙◌, sym, take-add, Fits, w8}
 use Rattle.std.proofs.lemmas.List.{length-append, length-drop, length-take-le, take_all, get_or-drop, drop-drop, drop-append-le, take-append-le}
 use Rattle.std.proofs.lemmas.Nat.{pow-add, shl-shr, shr-shr, mod-pow-add, or_shifted, or_comm}
 use Rattle.std.proofs.Math.Nat.{mul-mod_left, zero-mod, zero-div}
 use Rattle.std.specs.Prelude.{bit_or}
 use Rattle.std.specs.Simd.Lanes.{number_l}
 use Rattle.komihash.specs.Words.{AreBytes, word_of}
-use Rattle.komihash.proofs.Lists.{take-more}
 
 pub AreBytes-append : (xs ys : List ℕ) → AreBytes xs → AreBytes ys → AreBytes (xs ++ ys)
 AreBytes-append [] ys h g k = g k
@@ -111,7 +110,7 @@ word_of-two_ends k s xs b h le most few small e =
     )
     (word_of-join (take k zs) (drop k zs) k (AreBytes-take k zs are) (AreBytes-drop k zs are)
     (length-take-le k zs (omega arith)) (omega arith)
-    ∙ ap word_of (take-more k (8 - k) zs ∙ take_all (k + (8 - k)) zs (omega arith)))
+    ∙ ap word_of (sym (take-add k (8 - k) zs) ∙ take_all (k + (8 - k)) zs (omega arith)))
 
 -- the bytes from index j on, read with the last eight: a shift drops those before
 pub word_of-last : (j s : ℕ) (xs : List ℕ) → AreBytes xs → 8 ≤ length xs → j ≤ length xs

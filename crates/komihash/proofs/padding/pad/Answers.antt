@@ -1,8 +1,7 @@
 -- The final word is read in one of three ways, and `padded_words-by_tail` puts it after whole words.
 use Rattle.std.proofs.Common.{◌≡◌, ◌++◌, [], ◌∷◌, ◌+◌, ◌/◌, ◌∙◌, ap, length, arith, refl, sym}
 use Rattle.std.proofs.lemmas.Bool.{eqb-true}
-use Rattle.std.proofs.lemmas.Grind.{drop_more_same}
-use Rattle.std.proofs.lemmas.List.{nil_from_length, take_more_set, drop-set-lt}
+use Rattle.std.proofs.lemmas.List.{nil_from_length, take_more_set}
 use Rattle.komihash.specs.Storage.{final_word, end_byte}
 use Rattle.komihash.specs.Words.{word_of}
 use Rattle.komihash.proofs.PaddedWords.{padded_words-by_tail}
@@ -27,9 +26,3 @@ returns-clause-padded g c =
     ] in
     take_more_set c.write_words.new.out (length bytes / 8) c.if-whole-gt0.last (omega arith)
     ∙ rw (c.write_words.ensures.words, last) (sym (padded_words-by_tail g.row.V bytes))
-
-pub returns-clause-rest : goal.returns-clause-rest
-returns-clause-rest g c =
-    let whole = length c.args.bytes.now / 8 in
-    drop-set-lt (whole + 1) c.write_words.new.out whole c.if-whole-gt0.last (omega arith)
-    ∙ drop_more_same c.write_words.new.out c.args.out.now whole c.write_words.ensures.rest
