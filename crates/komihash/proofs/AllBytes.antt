@@ -1,5 +1,6 @@
 -- The bytes of words: how many, by index, and as the standard library writes them.
-use Rattle.std.proofs.Common.{◌≡◌, ℕ, zero, suc, ◌+◌, ◌*◌, ◌/◌, ◌%◌, ◌<◌, ◌≤◌, List, [], ◌∷◌, ◌++◌, length, take, drop, get_or, set, refl, ap, arith, ◌∙◌, sym, w64}
+use Rattle.std.proofs.Common.{◌≡◌, ℕ, zero, suc, ◌+◌, ◌*◌, ◌/◌, ◌%◌, ◌<◌, ◌≤◌, List, [], ◌∷◌, ◌++◌}
+use Rattle.std.proofs.Common.{length, take, drop, get_or, set, refl, ap, arith, ◌∙◌, sym, w64}
 use Rattle.std.proofs.lemmas.List.{drop-drop, length-append, take-append-le}
 use Rattle.std.proofs.Math.Nat.{div-div-eq-div-mul}
 use Rattle.komihash.specs.Words.{AreBytes, word_of, bytes_of, all_bytes}
@@ -27,7 +28,8 @@ length-bytes_of (suc n) w = ap suc (length-bytes_of n (w / 256))
 pub length-all_bytes : (ws : List ℕ) → length (all_bytes ws) ≡ 8 * length ws
 length-all_bytes [] = refl
 length-all_bytes (w ∷ ws) =
-    omega (arith, length-append (bytes_of 8 w) (all_bytes ws), length-bytes_of 8 w, length-all_bytes ws)
+    omega (arith, length-append (bytes_of 8 w) (all_bytes ws), length-bytes_of 8 w,
+        length-all_bytes ws)
 
 AreBytes-bytes_of : (n w : ℕ) → AreBytes (bytes_of n w)
 unfolding bytes_of
@@ -48,7 +50,8 @@ drop-all_bytes (w ∷ ws) zero lt = refl
 drop-all_bytes (w ∷ ws) (suc i) lt =
     let here : 8 * suc i ≡ 8 + 8 * i = omega arith in
     let next : 8 * suc (suc i) ≡ 8 + 8 * suc i = omega arith in
-    rw (here, next, ← drop-drop (8 * i) 8 (all_bytes (w ∷ ws)), ← drop-drop (8 * suc i) 8 (all_bytes (w ∷ ws)))
+    rw (here, next, ← drop-drop (8 * i) 8 (all_bytes (w ∷ ws)),
+        ← drop-drop (8 * suc i) 8 (all_bytes (w ∷ ws)))
     (drop-all_bytes ws i (omega arith))
 
 -- the first bytes of the word at an index
@@ -56,7 +59,8 @@ pub take-all_bytes : (ws : List ℕ) (i over : ℕ) → i < length ws → over �
     → take over (drop (8 * i) (all_bytes ws)) ≡ take over (bytes_of 8 (get_or ws i 0))
 take-all_bytes ws i over lt le =
     ap (take over) (drop-all_bytes ws i lt)
-    ∙ take-append-le over (bytes_of 8 (get_or ws i 0)) _ (omega (arith, length-bytes_of 8 (get_or ws i 0)))
+    ∙ take-append-le over (bytes_of 8 (get_or ws i 0)) _
+        (omega (arith, length-bytes_of 8 (get_or ws i 0)))
 
 -- a word's bytes, as the standard library writes them
 pub to_le_bytes-word : (w : ℕ) → to_le_bytes w64 w ≡ bytes_of 8 w
@@ -69,7 +73,8 @@ all_bytes-flat (w ∷ ws) =
     ap (λ bs. bs ++ flat_map (λ v. to_le_bytes w64 v) ws) (to_le_bytes-word w)
     ∙ ap (λ bs. bytes_of 8 w ++ bs) (all_bytes-flat ws)
 
-pub one_byte : (out : List ℕ) (w : ℕ) → length out ≡ 1 → set out 0 (w % 256) ≡ take (length out) (bytes_of 8 w)
+pub one_byte : (out : List ℕ) (w : ℕ) → length out ≡ 1
+    → set out 0 (w % 256) ≡ take (length out) (bytes_of 8 w)
 unfolding bytes_of
 one_byte [] w one = absurd (omega arith)
 one_byte (x ∷ []) w one = refl

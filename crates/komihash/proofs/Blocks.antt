@@ -35,7 +35,8 @@ block_lanes-few_words v l ws lt = refl
 
 pub block_lanes-few_bytes : (v : ℕ) (l : Lanes) (xs : List ℕ) → length xs < 64
     → block_lanes v l (whole_words xs) ≡ l
-block_lanes-few_bytes v l xs lt = block_lanes-few_words v l (whole_words xs) (omega (arith, length-whole_words xs))
+block_lanes-few_bytes v l xs lt =
+    block_lanes-few_words v l (whole_words xs) (omega (arith, length-whole_words xs))
 
 -- ---- the bytes
 

@@ -1,8 +1,10 @@
 -- Calls on a stream, and then others: what they answer, absorb and cost together.
-use Rattle.std.proofs.Common.{◌≡◌, ℕ, ◌+◌, ◌%◌, ◌<◌, List, [], ◌∷◌, ◌++◌, length, refl, ap, arith, sym, inl, inr}
+use Rattle.std.proofs.Common.{◌≡◌, ℕ, ◌+◌, ◌%◌, ◌<◌, List, [], ◌∷◌, ◌++◌, length, refl, ap, arith}
+use Rattle.std.proofs.Common.{sym, inl, inr}
 use Rattle.std.proofs.lemmas.List.{append_assoc, append-nil, length-append}
 use Rattle.std.proofs.lemmas.Bool.{cases_lt}
-use Rattle.komihash.specs.Calls.{answers_after, onward, bytes_of_calls, AreAbsorbs, run_products, products_of_answers, onward_products, onward_kept}
+use Rattle.komihash.specs.Calls.{answers_after, onward, bytes_of_calls, AreAbsorbs, run_products}
+use Rattle.komihash.specs.Calls.{products_of_answers, onward_products, onward_kept}
 use Rattle.komihash.specs.Counts.{hash_products}
 use Rattle.komihash.specs.Hash.{komi}
 use Rattle.komihash.specs.Stream.{State, HasAbsorbed, start, absorb, answer}
@@ -57,7 +59,8 @@ answers_after-append f m xs ys =
     answers_after-then f f m (m ++ bytes_of_calls xs) xs ys (λ x. rw append_assoc refl)
 
 -- the answers of a stream that absorbed a message are hashes
-pub onward-message : (v seed : ℕ) (s : State) (m : List ℕ) (calls : List Call) → HasAbsorbed v seed s m
+pub onward-message : (v seed : ℕ) (s : State) (m : List ℕ) (calls : List Call)
+    → HasAbsorbed v seed s m
     → onward v s calls ≡ answers_after (komi v seed) m calls
 unfolding HasAbsorbed
 onward-message v seed s m calls is =
@@ -74,16 +77,19 @@ bytes_of_calls-append (Absorb bytes ∷ xs) ys =
 bytes_of_calls-append (Answer ∷ xs) ys = bytes_of_calls-append xs ys
 
 -- costs depend only on how many bytes came before, modulo 64
-products_of_answers-then : (p q : ℕ) (xs ys : List Call) → q % 64 ≡ (p + length (bytes_of_calls xs)) % 64
+products_of_answers-then : (p q : ℕ) (xs ys : List Call)
+    → q % 64 ≡ (p + length (bytes_of_calls xs)) % 64
     → products_of_answers p (xs ++ ys) ≡ products_of_answers p xs + products_of_answers q ys
 products_of_answers-then p q [] [] e = refl
 products_of_answers-then p q [] (Absorb bytes ∷ ys) e =
     products_of_answers-then (p + length bytes.now) (q + length bytes.now) [] ys (omega arith)
-products_of_answers-then p q [] (Answer ∷ ys) e = omega (arith, products_of_answers-then p q [] ys e)
+products_of_answers-then p q [] (Answer ∷ ys) e =
+    omega (arith, products_of_answers-then p q [] ys e)
 products_of_answers-then p q (Absorb bytes ∷ xs) ys e =
     let size = length-append bytes.now (bytes_of_calls xs) in
     products_of_answers-then (p + length bytes.now) q xs ys (omega arith)
-products_of_answers-then p q (Answer ∷ xs) ys e = omega (arith, products_of_answers-then p q xs ys e)
+products_of_answers-then p q (Answer ∷ xs) ys e =
+    omega (arith, products_of_answers-then p q xs ys e)
 
 onward_kept-then : (p q : ℕ) (xs ys : List Call) → q % 64 ≡ (p + length (bytes_of_calls xs)) % 64
     → onward_kept p (xs ++ ys) ≡ onward_kept p xs + onward_kept q ys
@@ -136,7 +142,8 @@ goes_on v first now xs ys few is =
     let pending : length now.pending ≡ (length first.pending + length bytes) % 64 =
     rw is (pending-absorb v first bytes few) in
     record {
-      answers = answers_after-then (λ m. answer v (absorb v first m)) (λ m. answer v (absorb v now m))
+      answers = answers_after-then (λ m. answer v (absorb v first m))
+          (λ m. answer v (absorb v now m))
           [] [] xs ys (λ m. rw is (ap (answer v) (absorb-append v first bytes m)));
       state = rw (is, bytes_of_calls-append) (absorb-append v first bytes (bytes_of_calls ys));
       products = onward_products-then (length first.pending) (length now.pending) xs ys pending;

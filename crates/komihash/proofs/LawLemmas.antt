@@ -4,7 +4,8 @@ use Rattle.komihash.proofs.Bounds.{komi-lt}
 use Rattle.komihash.proofs.CallLists.{answers_after-append, bytes_of_calls-append}
 use Rattle.komihash.proofs.CallLists.{run_products-pieces, HasAbsorbed-pending}
 use Rattle.komihash.proofs.GeneratorFills.{after_steps-add, outputs-add, fill-add, after_fill-add}
-use Rattle.komihash.proofs.GeneratorFills.{after_steps-none, outputs-none, after_steps-one, outputs-one}
+use Rattle.komihash.proofs.GeneratorFills.{after_steps-none, outputs-none, after_steps-one}
+use Rattle.komihash.proofs.GeneratorFills.{outputs-one}
 use Rattle.komihash.proofs.GeneratorFills.{length-outputs, output-at, fill-whole, after_fill-whole}
 use Rattle.komihash.proofs.Unpadding.{same_message}
 use Rattle.komihash.proofs.SavedTexts.{same_version, same_state, IsTextAfter-most}
@@ -15,7 +16,8 @@ use Rattle.komihash.proofs.StreamMessages.{same_state_after, same_text_after}
 pub ruleset of_hashes = (komi-lt, fold-append)
 
 pub ruleset of_streams =
-    (absorb-append, absorb-nothing, answer-joined, HasAbsorbed-pending, same_state_after, same_text_after)
+    (absorb-append, absorb-nothing, answer-joined, HasAbsorbed-pending, same_state_after,
+        same_text_after)
 
 pub ruleset of_calls = (answers_after-append, bytes_of_calls-append, run_products-pieces)
 

@@ -1,6 +1,8 @@
 -- The partial block, completed by the first bytes of a write, is the first block of all bytes.
-use Rattle.std.proofs.Common.{◌≡◌, ℕ, ◌+◌, ◌-◌, ◌<◌, ◌≤◌, List, ◌++◌, length, take, drop, ap, arith, ◌∙◌, sym}
-use Rattle.std.proofs.lemmas.List.{append_assoc, length-append, length-take-le, take-append-drop, drop_at}
+use Rattle.std.proofs.Common.{◌≡◌, ℕ, ◌+◌, ◌-◌, ◌<◌, ◌≤◌, List, ◌++◌, length, take, drop, ap, arith}
+use Rattle.std.proofs.Common.{◌∙◌, sym}
+use Rattle.std.proofs.lemmas.List.{append_assoc, length-append, length-take-le, take-append-drop}
+use Rattle.std.proofs.lemmas.List.{drop_at}
 use Rattle.komihash.specs.Rounds.{Lanes, block_round}
 use Rattle.komihash.specs.Storage.{whole_words, block_lanes, after_blocks}
 use Rattle.komihash.proofs.Blocks.{block_lanes-bytes, after_blocks_more}
@@ -14,7 +16,8 @@ module _ (xs bytes : List ℕ) (few : length xs < 64) (many : 64 ≤ length xs +
 
   length_block : length block ≡ 64
   length_block =
-      omega (arith, length-append xs (take (64 - length xs) bytes), length-take-le (64 - length xs) bytes (omega arith))
+      omega (arith, length-append xs (take (64 - length xs) bytes),
+          length-take-le (64 - length xs) bytes (omega arith))
 
   all_is_cut : xs ++ bytes ≡ block ++ rest
   all_is_cut =
@@ -28,5 +31,6 @@ module _ (xs bytes : List ℕ) (few : length xs < 64) (many : 64 ≤ length xs +
 
   pub completed_left : after_blocks (xs ++ bytes) ≡ after_blocks rest
   completed_left =
-      rw all_is_cut (after_blocks_more (block ++ rest) (omega (arith, length-append block rest, length_block))
+      rw all_is_cut (after_blocks_more (block ++ rest)
+          (omega (arith, length-append block rest, length_block))
       ∙ ap after_blocks (drop_at block rest 64 length_block))

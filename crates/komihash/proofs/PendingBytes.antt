@@ -1,6 +1,10 @@
 -- Pending bytes and the eight words that store them.
-use Rattle.std.proofs.Common.{◌≡◌, ℕ, zero, suc, ◌+◌, ◌-◌, ◌*◌, ◌/◌, ◌%◌, ◌^◌, ◌<◌, ◌≤◌, List, [], ◌∷◌, ◌++◌, length, take, drop, get_or, set, refl, ap, arith, ◌∙◌, sym, Fits, w8}
-use Rattle.std.proofs.lemmas.List.{append_assoc, length-append, length-drop, length-take, length-take-le, take_all, drop_all, drop_more, take-append-drop, take-append-le, drop-append-le, drop-drop}
+use Rattle.std.proofs.Common.{◌≡◌, ℕ, zero, suc, ◌+◌, ◌-◌, ◌*◌, ◌/◌, ◌%◌, ◌^◌, ◌<◌, ◌≤◌, List, []}
+use Rattle.std.proofs.Common.{◌∷◌, ◌++◌, length, take, drop, get_or, set, refl, ap, arith, ◌∙◌, sym}
+use Rattle.std.proofs.Common.{Fits, w8}
+use Rattle.std.proofs.lemmas.List.{append_assoc, length-append, length-drop, length-take}
+use Rattle.std.proofs.lemmas.List.{length-take-le, take_all, drop_all, drop_more, take-append-drop}
+use Rattle.std.proofs.lemmas.List.{take-append-le, drop-append-le, drop-drop}
 use Rattle.std.specs.Prelude.{bit_or}
 use Rattle.std.specs.Simd.Lanes.{number_l, put_chunk}
 use borrow.Rule.Slice.PartMut.{put_mid, mid_of}
@@ -9,9 +13,13 @@ use Rattle.komihash.specs.Storage.{whole_words, final_word}
 use Rattle.komihash.specs.Words.{AreBytes, word_of, bytes_of, all_bytes}
 use Rattle.komihash.proofs.Lists.{take-more, take-append, two_put}
 use Rattle.komihash.proofs.PaddedWords.{final_word_whole}
-use Rattle.komihash.proofs.WholeWords.{length-pending_words, pending_words-whole, get_or-pending_words, length-whole_words, slice_index-whole_words, after_words-drop}
-use Rattle.komihash.proofs.WordOf.{AreBytes-append, AreBytes-take, AreBytes-drop, AreBytes-typed, word_of-join, word_of-push, word_of-drop, two_words}
-use Rattle.komihash.proofs.AllBytes.{length-all_bytes, AreBytes-all_bytes, take-bytes_of-word_of, length-bytes_of}
+use Rattle.komihash.proofs.WholeWords.{length-pending_words, pending_words-whole}
+use Rattle.komihash.proofs.WholeWords.{get_or-pending_words, length-whole_words}
+use Rattle.komihash.proofs.WholeWords.{slice_index-whole_words, after_words-drop}
+use Rattle.komihash.proofs.WordOf.{AreBytes-append, AreBytes-take, AreBytes-drop, AreBytes-typed}
+use Rattle.komihash.proofs.WordOf.{word_of-join, word_of-push, word_of-drop, two_words}
+use Rattle.komihash.proofs.AllBytes.{length-all_bytes, AreBytes-all_bytes, take-bytes_of-word_of}
+use Rattle.komihash.proofs.AllBytes.{length-bytes_of}
 
 -- the words hold the bytes that they were made of
 bytes-pending_words : (n : ℕ) (xs : List ℕ) → AreBytes xs → length xs ≤ 8 * n
@@ -22,7 +30,8 @@ bytes-pending_words zero (x ∷ xs) are le = absurd (omega arith)
 bytes-pending_words (suc n) xs are le =
     let rest : length xs - 8 ≡ length (drop 8 xs) = omega (arith, length-drop 8 xs) in
     rw (
-      take-append (length xs) (bytes_of 8 (word_of (take 8 xs))) (all_bytes (pending_words n (drop 8 xs))),
+      take-append (length xs) (bytes_of 8 (word_of (take 8 xs)))
+          (all_bytes (pending_words n (drop 8 xs))),
       length-bytes_of 8 (word_of (take 8 xs)),
       take-bytes_of-word_of 8 xs are,
       rest,
@@ -31,17 +40,20 @@ bytes-pending_words (suc n) xs are le =
     (take-append-drop 8 xs)
 
 -- a word set to that of its old bytes and of more after them
-set-pending_words : (n i : ℕ) (xs ys : List ℕ) → i < n → 8 * i ≤ length xs → length xs + length ys ≤ 8 * i + 8
+set-pending_words : (n i : ℕ) (xs ys : List ℕ) → i < n → 8 * i ≤ length xs
+    → length xs + length ys ≤ 8 * i + 8
     → set (pending_words n xs) i (word_of (drop (8 * i) xs ++ ys)) ≡ pending_words n (xs ++ ys)
 unfolding pending_words
 set-pending_words zero i xs ys lt from few = absurd (omega arith)
 set-pending_words (suc n) zero xs ys lt from few =
     let size = length-append xs ys in
-    rw (take_all 8 (xs ++ ys) (omega arith), drop_all 8 (xs ++ ys) (omega arith), drop_all 8 xs (omega arith)) refl
+    rw (take_all 8 (xs ++ ys) (omega arith), drop_all 8 (xs ++ ys) (omega arith),
+        drop_all 8 xs (omega arith)) refl
 set-pending_words (suc n) (suc i) xs ys lt from few =
     let size = length-drop 8 xs in
     let next : 8 * suc i ≡ 8 + 8 * i = omega arith in
-    rw (next, ← drop-drop (8 * i) 8 xs, take-append-le 8 xs ys (omega arith), drop-append-le 8 xs ys (omega arith))
+    rw (next, ← drop-drop (8 * i) 8 xs, take-append-le 8 xs ys (omega arith),
+        drop-append-le 8 xs ys (omega arith))
     (ap (λ ws. word_of (take 8 xs) ∷ ws)
     (set-pending_words n i (drop 8 xs) ys (omega arith) (omega arith) (omega arith)))
 
@@ -55,23 +67,30 @@ extend-set old at from bytes lt within xs place is =
     omega (arith, length-append xs (take from bytes), length-take-le from bytes within) in
     let word : word_of next ≡ word_of (drop (8 * at) front ++ next) =
     ap (λ b. word_of (b ++ next)) (sym (drop_all (8 * at) front (omega arith))) in
-    rw (is, word, set-pending_words 8 at front next lt (omega arith) (omega (arith, length-take 8 (drop from bytes))))
-    (ap (pending_words 8) (append_assoc xs (take from bytes) next ∙ ap (λ b. xs ++ b) (take-more from 8 bytes)))
+    rw (is, word, set-pending_words 8 at front next lt (omega arith)
+        (omega (arith, length-take 8 (drop from bytes))))
+    (ap (pending_words 8)
+        (append_assoc xs (take from bytes) next ∙ ap (λ b. xs ++ b) (take-more from 8 bytes)))
 
 -- the next two words, stored as a vector
-pub extend-two : (old : List ℕ) (at from : ℕ) (bytes : List ℕ) → AreBytes bytes → at < 7 → from + 16 ≤ length bytes
+pub extend-two : (old : List ℕ) (at from : ℕ) (bytes : List ℕ) → AreBytes bytes → at < 7
+    → from + 16 ≤ length bytes
     → let n = number_l 256 (take 16 (drop from bytes)) in
     Extends old (put_mid at (8 - at) old
-    (put_chunk 0 (mid_of at (8 - at) old) (n % 2 ^ 64 ∷ n / 2 ^ 64 % 2 ^ 64 ∷ []))) at bytes from (from + 16)
+    (put_chunk 0 (mid_of at (8 - at) old) (n % 2 ^ 64 ∷ n / 2 ^ 64 % 2 ^ 64 ∷ []))) at bytes from
+        (from + 16)
 extend-two old at from bytes are lt within xs place is =
     let size : length old ≡ 8 = ap length is ∙ length-pending_words 8 (xs ++ take from bytes) in
     let (first, second) =
-    two_words (drop from bytes) (AreBytes-drop from bytes are) (omega (arith, length-drop from bytes)) in
+    two_words (drop from bytes) (AreBytes-drop from bytes are)
+        (omega (arith, length-drop from bytes)) in
     let next = word_of (take 8 (drop from bytes)) in
     let all : from + 16 ≡ from + 8 + 8 = omega arith in
     let second_at : 8 + from ≡ from + 8 = omega arith in
-    rw (two_put at (8 - at) old _ _ (omega arith) (omega arith), first, second, drop-drop 8 from bytes, all)
-    (extend-set (set old at next) (suc at) (from + 8) bytes (omega arith) (omega arith) xs (omega arith)
+    rw (two_put at (8 - at) old _ _ (omega arith) (omega arith), first, second,
+        drop-drop 8 from bytes, all)
+    (extend-set (set old at next) (suc at) (from + 8) bytes (omega arith) (omega arith) xs
+        (omega arith)
     (extend-set old at from bytes (omega arith) (omega arith) xs place is))
 
 -- ---- the bytes that words store up to a fill
@@ -109,9 +128,11 @@ module _ (ws : List ℕ) (fill : ℕ) (are : ArePending ws fill) where
     unfolding pending_bytes
     bytes_put =
         let typed_bytes =
-        AreBytes-append (pending_bytes ws fill) bytes (AreBytes_pending ws fill) (AreBytes-typed bytes typed) in
+        AreBytes-append (pending_bytes ws fill) bytes (AreBytes_pending ws fill)
+            (AreBytes-typed bytes typed) in
         rw (is, ← length_put)
-        (bytes-pending_words 8 (pending_bytes ws fill ++ bytes) typed_bytes (omega (arith, length_put)))
+        (bytes-pending_words 8 (pending_bytes ws fill ++ bytes) typed_bytes
+            (omega (arith, length_put)))
 
     pub ArePending_put : fill + length bytes < 64 → ArePending new (fill + length bytes)
     ArePending_put few = record { few = few; words = is ∙ ap (pending_words 8) (sym bytes_put) }
@@ -121,8 +142,10 @@ module _ (ws : List ℕ) (fill : ℕ) (are : ArePending ws fill) where
     words_put full = is ∙ pending_words-whole 8 (pending_bytes ws fill ++ bytes) (length_put ∙ full)
 
   -- the word at a place
-  get_or_pending : (i : ℕ) → i < 8 → get_or ws i 0 ≡ word_of (take 8 (drop (8 * i) (pending_bytes ws fill)))
-  get_or_pending i lt = ap (λ us. get_or us i 0) are.words ∙ get_or-pending_words 8 i (pending_bytes ws fill) lt
+  get_or_pending : (i : ℕ) → i < 8
+      → get_or ws i 0 ≡ word_of (take 8 (drop (8 * i) (pending_bytes ws fill)))
+  get_or_pending i lt = ap (λ us. get_or us i 0) are.words
+      ∙ get_or-pending_words 8 i (pending_bytes ws fill) lt
 
   pub count_pending : length (whole_words (pending_bytes ws fill)) ≡ fill / 8
   count_pending = length-whole_words (pending_bytes ws fill) ∙ ap (λ n. n / 8) length_pending
@@ -138,10 +161,12 @@ module _ (ws : List ℕ) (fill : ℕ) (are : ArePending ws fill) where
   partial = drop (8 * (fill / 8)) (pending_bytes ws fill)
 
   length_partial : length partial ≡ fill % 8
-  length_partial = omega (arith, length-drop (8 * (fill / 8)) (pending_bytes ws fill), length_pending)
+  length_partial =
+      omega (arith, length-drop (8 * (fill / 8)) (pending_bytes ws fill), length_pending)
 
   AreBytes_partial : AreBytes partial
-  AreBytes_partial = AreBytes-drop (8 * (fill / 8)) (pending_bytes ws fill) (AreBytes_pending ws fill)
+  AreBytes_partial =
+      AreBytes-drop (8 * (fill / 8)) (pending_bytes ws fill) (AreBytes_pending ws fill)
 
   get_or_partial : get_or ws (fill / 8) 0 ≡ word_of partial
   get_or_partial =
@@ -150,19 +175,23 @@ module _ (ws : List ℕ) (fill : ℕ) (are : ArePending ws fill) where
 
   -- a word joined to the partial word: as many of its bytes as fit
   pub join_pending : (w : ℕ) (bytes : List ℕ) → AreBytes bytes → w ≡ word_of bytes
-      → Stores (set ws (fill / 8) (bit_or (get_or ws (fill / 8) 0) (w * 2 ^ (8 * (fill % 8)) % 2 ^ 64)))
+      → Stores (set ws (fill / 8)
+          (bit_or (get_or ws (fill / 8) 0) (w * 2 ^ (8 * (fill % 8)) % 2 ^ 64)))
       (pending_bytes ws fill ++ take (8 - fill % 8) bytes)
   join_pending w bytes h is =
       let xs = pending_bytes ws fill in
       let fit = length-take (8 - fill % 8) bytes in
       let size = length_pending in
-      rw (get_or_partial, is, word_of-join partial bytes (fill % 8) AreBytes_partial h length_partial (omega arith))
+      rw (get_or_partial, is,
+          word_of-join partial bytes (fill % 8) AreBytes_partial h length_partial (omega arith))
       (ap (λ us. set us (fill / 8) (word_of (partial ++ take (8 - fill % 8) bytes))) are.words
-      ∙ set-pending_words 8 (fill / 8) xs (take (8 - fill % 8) bytes) (omega (arith, are.few)) (omega arith) (omega arith))
+      ∙ set-pending_words 8 (fill / 8) xs (take (8 - fill % 8) bytes) (omega (arith, are.few))
+          (omega arith) (omega arith))
 
   -- a byte after it
   pub final_word_pending : (end : ℕ) → end < 256
-      → bit_or (get_or ws (fill / 8) 0) (end * 2 ^ (8 * (fill % 8)) % 2 ^ 64) ≡ final_word (pending_bytes ws fill) end
+      → bit_or (get_or ws (fill / 8) 0) (end * 2 ^ (8 * (fill % 8)) % 2 ^ 64)
+          ≡ final_word (pending_bytes ws fill) end
   final_word_pending end small =
       let place : fill - fill % 8 ≡ 8 * (fill / 8) = omega arith in
       rw (get_or_partial, after_words-drop (pending_bytes ws fill), length_pending, place)
@@ -199,7 +228,8 @@ module _ (ws : List ℕ) (fill : ℕ) (are : ArePending ws fill) where
 
   -- otherwise it is the highest byte that the partial word stores
   pub last_of_partial : 0 < fill % 8
-      → get_or ws (fill / 8) 0 / 2 ^ (8 * (fill % 8) - 8) ≡ get_or (pending_bytes ws fill) (fill - 1) 0
+      → get_or ws (fill / 8) 0 / 2 ^ (8 * (fill % 8) - 8)
+          ≡ get_or (pending_bytes ws fill) (fill - 1) 0
   last_of_partial over =
       let word : (fill - 1) / 8 ≡ fill / 8 = omega arith in
       let place : 8 * ((fill - 1) % 8) ≡ 8 * (fill % 8) - 8 = omega arith in
@@ -221,11 +251,13 @@ module _ (ws : List ℕ) (fill : ℕ) (are : ArePending ws fill) where
       final_word_whole (pending_bytes ws fill) end (ap (λ n. n % 8) length_pending ∙ whole)
 
 -- the lemmas for functions that append, for those that read, and for all on pending bytes
-pub ruleset put_laws = (length_pending, bytes_put, ArePending_put, words_put, join_pending, extend-set)
+pub ruleset put_laws =
+    (length_pending, bytes_put, ArePending_put, words_put, join_pending, extend-set)
 
 pub ruleset last_laws = (last_of_whole, last_of_partial, last_fits_whole, last_fits_partial)
 
 pub ruleset read_laws =
     (count_pending, word_pending, final_word_pending, final_word_of_whole, last_laws)
 
-pub ruleset pending_laws = (put_laws, read_laws, take_all_bytes, pending_bytes_none, ArePending_none)
+pub ruleset pending_laws =
+    (put_laws, read_laws, take_all_bytes, pending_bytes_none, ArePending_none)

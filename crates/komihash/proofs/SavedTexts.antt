@@ -1,7 +1,10 @@
 -- The saved text: its state can be read back from it, and which bytes are a text.
-use Rattle.std.proofs.Common.{◌≡◌, ℕ, zero, suc, ◌+◌, ◌-◌, ◌*◌, ◌^◌, ◌<◌, ◌≤◌, ◌↔◌, Bool, List, [], ◌∷◌, ◌++◌, length, take, drop, get_or, refl, ap, arith, ◌∙◌, sym, subst}
+use Rattle.std.proofs.Common.{◌≡◌, ℕ, zero, suc, ◌+◌, ◌-◌, ◌*◌, ◌^◌, ◌<◌, ◌≤◌, ◌↔◌, Bool, List, []}
+use Rattle.std.proofs.Common.{◌∷◌, ◌++◌, length, take, drop, get_or, refl, ap, arith, ◌∙◌, sym}
+use Rattle.std.proofs.Common.{subst}
 use Rattle.std.proofs.lemmas.Bool.Decides.{nat_tests}
-use Rattle.std.proofs.lemmas.List.{append-nil, length-append, length-drop, length-take-le, take-append-drop, take_at, drop_at, take_all}
+use Rattle.std.proofs.lemmas.List.{append-nil, length-append, length-drop, length-take-le}
+use Rattle.std.proofs.lemmas.List.{take-append-drop, take_at, drop_at, take_all}
 use Rattle.std.proofs.lemmas.Slice.{take-put_mid, drop-put_mid}
 use borrow.Rule.Slice.PartMut.{put_mid}
 use Rattle.std.specs.Prelude.{slice_index, ◌==◌}
@@ -26,7 +29,8 @@ pub part-put : (a n : ℕ) (out part bytes : List ℕ) → a ≤ n → n ≤ len
 part-put a n out part bytes le within room is =
     let size = room ∙ length-take-le (n - a) (drop a out) (omega (arith, length-drop a out)) in
     let whole = sym (take_all (n - a) part (omega (arith, size))) ∙ is in (
-      take-put_mid a (n - a) out part n (omega (arith, size)) (omega arith) ∙ ap (λ xs. take a out ++ xs) whole,
+      take-put_mid a (n - a) out part n (omega (arith, size)) (omega arith)
+          ∙ ap (λ xs. take a out ++ xs) whole,
       λ m after. drop-put_mid a (n - a) out part m (omega arith) (omega arith) size,
     )
 
@@ -89,12 +93,15 @@ state_of-text v s are =
 pub length-text : (v : ℕ) (s : State) → length (text v s) ≡ 68 + length s.pending
 unfolding text
 length-text v s =
-    omega (arith, length-append (all_bytes (in_order s.lanes)) s.pending, length-all_bytes (in_order s.lanes))
+    omega (arith, length-append (all_bytes (in_order s.lanes)) s.pending,
+        length-all_bytes (in_order s.lanes))
 
-pub text-most : (v : ℕ) (s : State) (bytes : List ℕ) → IsState v s → text v s ≡ bytes → length bytes ≤ 131
+pub text-most : (v : ℕ) (s : State) (bytes : List ℕ) → IsState v s → text v s ≡ bytes
+    → length bytes ≤ 131
 text-most v s bytes is same = omega (arith, is.few, length-text v s, ap length same)
 
-pub IsTextAfter-most : (v seed : ℕ) (m bytes : List ℕ) → IsTextAfter v seed m bytes → length bytes ≤ 131
+pub IsTextAfter-most : (v seed : ℕ) (m bytes : List ℕ) → IsTextAfter v seed m bytes
+    → length bytes ≤ 131
 unfolding IsTextAfter
 IsTextAfter-most v seed m bytes (s, is, absorbed, same) = text-most v s bytes is same
 
@@ -105,7 +112,8 @@ module _ (v w : ℕ) (s t : State) (same : text v s ≡ text w t) where
   same_version = cc
 
   pub same_state : AreWords s.lanes → AreWords t.lanes → s ≡ t
-  same_state first second = sym (state_of-text v s first) ∙ ap state_of same ∙ state_of-text w t second
+  same_state first second = sym (state_of-text v s first) ∙ ap state_of same
+      ∙ state_of-text w t second
 
 -- ---- which bytes are a text
 
@@ -117,17 +125,21 @@ in_order-back ws eight = absurd (omega arith)
 pub ruleset lanes_back = (in_order-back, xor_again)
 
 -- the bytes of whole words
-all_bytes-whole_words : (k : ℕ) (xs : List ℕ) → AreBytes xs → length xs ≡ 8 * k → all_bytes (whole_words xs) ≡ xs
+all_bytes-whole_words : (k : ℕ) (xs : List ℕ) → AreBytes xs → length xs ≡ 8 * k
+    → all_bytes (whole_words xs) ≡ xs
 all_bytes-whole_words k [] are size = refl
 all_bytes-whole_words k (a ∷ b ∷ c ∷ d ∷ e ∷ f ∷ g ∷ h ∷ xs) are size =
     let eight = a ∷ b ∷ c ∷ d ∷ e ∷ f ∷ g ∷ h ∷ [] in
-    ap (λ bs. bs ++ all_bytes (whole_words xs)) (bytes_of-word_of_append eight [] (AreBytes-take 8 (eight ++ xs) are))
-    ∙ ap (λ bs. eight ++ bs) (all_bytes-whole_words (k - 1) xs (AreBytes-drop 8 (eight ++ xs) are) (omega arith))
+    ap (λ bs. bs ++ all_bytes (whole_words xs))
+        (bytes_of-word_of_append eight [] (AreBytes-take 8 (eight ++ xs) are))
+    ∙ ap (λ bs. eight ++ bs)
+        (all_bytes-whole_words (k - 1) xs (AreBytes-drop 8 (eight ++ xs) are) (omega arith))
 all_bytes-whole_words k xs are size = absurd (omega arith)
 
 whole_words-lt : (xs : List ℕ) → AreBytes xs → (i : ℕ) → slice_index (whole_words xs) i < 2 ^ 64
 whole_words-lt (a ∷ b ∷ c ∷ d ∷ e ∷ f ∷ g ∷ h ∷ xs) are zero =
-    word_of-lt (a ∷ b ∷ c ∷ d ∷ e ∷ f ∷ g ∷ h ∷ []) (AreBytes-take 8 (a ∷ b ∷ c ∷ d ∷ e ∷ f ∷ g ∷ h ∷ xs) are)
+    word_of-lt (a ∷ b ∷ c ∷ d ∷ e ∷ f ∷ g ∷ h ∷ [])
+        (AreBytes-take 8 (a ∷ b ∷ c ∷ d ∷ e ∷ f ∷ g ∷ h ∷ xs) are)
 whole_words-lt (a ∷ b ∷ c ∷ d ∷ e ∷ f ∷ g ∷ h ∷ xs) are (suc i) =
     whole_words-lt xs (AreBytes-drop 8 (a ∷ b ∷ c ∷ d ∷ e ∷ f ∷ g ∷ h ∷ xs) are) i
 whole_words-lt xs are i = omega arith
@@ -141,27 +153,34 @@ pub record IsLaidOut (v : ℕ) (bytes : List ℕ) : Type 0 where
   pub few : slice_index bytes 3 < 64
   pub size : length bytes ≡ 68 + slice_index bytes 3
 
-laid_out-text : (v : ℕ) (bytes : List ℕ) → AreBytes bytes → IsLaidOut v bytes → text v (state_of bytes) ≡ bytes
+laid_out-text : (v : ℕ) (bytes : List ℕ) → AreBytes bytes → IsLaidOut v bytes
+    → text v (state_of bytes) ≡ bytes
 unfolding text
 laid_out-text v (b0 ∷ b1 ∷ b2 ∷ b3 ∷ rest) are laid =
     let size : length (take 64 rest) ≡ 64 = length-take-le 64 rest (omega (arith, laid.size)) in
-    let words = in_order-back (whole_words (take 64 rest)) (length-whole_words (take 64 rest) ∙ omega arith) in
+    let words = in_order-back (whole_words (take 64 rest))
+        (length-whole_words (take 64 rest) ∙ omega arith) in
     let lanes =
     all_bytes-whole_words 8 (take 64 rest)
     (AreBytes-take 64 rest (AreBytes-drop 4 (b0 ∷ b1 ∷ b2 ∷ b3 ∷ rest) are)) size in
     let version : v ≡ b0 = sym laid.version in
     let absorbed : flag_byte (b1 == 1) ≡ b1 = grind (arith, nat_tests, laid.absorbed) in
-    let top_bit : flag_byte (b2 == 1) ≡ b2 = grind (arith, nat_tests, laid.top_bit, laid.absorbed) in
+    let top_bit : flag_byte (b2 == 1) ≡ b2 =
+        grind (arith, nat_tests, laid.top_bit, laid.absorbed) in
     let fill : length (drop 64 rest) ≡ b3 = omega (arith, laid.size, length-drop 64 rest) in
     cc (take-append-drop 64 rest)
 laid_out-text v bytes are laid = absurd (omega (arith, laid.size))
 
-laid_out-state : (v : ℕ) (bytes : List ℕ) → AreBytes bytes → IsLaidOut v bytes → IsState v (state_of bytes)
+laid_out-state : (v : ℕ) (bytes : List ℕ) → AreBytes bytes → IsLaidOut v bytes
+    → IsState v (state_of bytes)
 laid_out-state v bytes are laid =
     let lanes = take 64 (drop 4 bytes) in
     let fit = whole_words-lt lanes (AreBytes-take 64 (drop 4 bytes) (AreBytes-drop 4 bytes are)) in
     record {
-      words = record { s1 = fit 0; s2 = fit 1; s3 = fit 2; s4 = fit 3; s5 = fit 4; s6 = fit 5; s7 = fit 6; s8 = fit 7 };
+      words = record {
+        s1 = fit 0; s2 = fit 1; s3 = fit 2; s4 = fit 3;
+        s5 = fit 4; s6 = fit 5; s7 = fit 6; s8 = fit 7;
+      };
       bytes = AreBytes-drop 68 bytes are;
       few = omega (arith, laid.size, laid.few, length-drop 68 bytes);
       top_bit_absorbed = grind (arith, nat_tests, laid);
@@ -187,7 +206,10 @@ IsLaidOut-text v bytes are = (
 )
 
 -- what is read from a text is its state
-pub read_back : (v : ℕ) (bytes : List ℕ) (lanes : Lanes) (s : State) → IsState v s → text v s ≡ bytes
-    → in_order lanes ≡ whole_words (take 64 (drop 4 bytes)) → record (state_of bytes) { lanes = lanes } ≡ s
+pub read_back : (v : ℕ) (bytes : List ℕ) (lanes : Lanes) (s : State) → IsState v s
+    → text v s ≡ bytes
+    → in_order lanes ≡ whole_words (take 64 (drop 4 bytes))
+        → record (state_of bytes) { lanes = lanes } ≡ s
 read_back v bytes lanes s is same read =
-    ap (λ ws. record (state_of bytes) { lanes = lanes_of ws }) read ∙ ap state_of (sym same) ∙ state_of-text v s is.words
+    ap (λ ws. record (state_of bytes) { lanes = lanes_of ws }) read ∙ ap state_of (sym same)
+        ∙ state_of-text v s is.words

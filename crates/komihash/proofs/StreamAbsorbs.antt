@@ -1,6 +1,8 @@
 -- Absorbing byte by byte is absorbing whole blocks, and keeping what is left.
-use Rattle.std.proofs.Common.{◌≡◌, ℕ, suc, ◌+◌, ◌-◌, ◌%◌, ◌<◌, ◌≤◌, true, List, [], ◌∷◌, ◌++◌, length, refl, arith, ◌∙◌, sym, inl, inr}
-use Rattle.std.proofs.lemmas.List.{append_assoc, append-nil, length-append, drop_at, get_or-append-add}
+use Rattle.std.proofs.Common.{◌≡◌, ℕ, suc, ◌+◌, ◌-◌, ◌%◌, ◌<◌, ◌≤◌, true, List, [], ◌∷◌, ◌++◌}
+use Rattle.std.proofs.Common.{length, refl, arith, ◌∙◌, sym, inl, inr}
+use Rattle.std.proofs.lemmas.List.{append_assoc, append-nil, length-append, drop_at}
+use Rattle.std.proofs.lemmas.List.{get_or-append-add}
 use Rattle.std.proofs.lemmas.Bool.{cases_lt}
 use Rattle.std.proofs.lemmas.Bool.Decides.{nat_tests}
 use Rattle.std.specs.Prelude.{slice_index}
@@ -8,7 +10,8 @@ use Rattle.komihash.specs.Rounds.{Lanes, block_round}
 use Rattle.komihash.specs.Stream.{State, absorb, absorb_byte}
 use Rattle.komihash.specs.Storage.{whole_words, block_lanes, after_blocks}
 use Rattle.komihash.specs.Padding.{pads_with_two}
-use Rattle.komihash.proofs.Blocks.{block_lanes-bytes, block_lanes-few_bytes, after_blocks_few, after_blocks_more}
+use Rattle.komihash.proofs.Blocks.{block_lanes-bytes, block_lanes-few_bytes, after_blocks_few}
+use Rattle.komihash.proofs.Blocks.{after_blocks_more}
 use Rattle.komihash.proofs.WholeWords.{words_of-whole}
 
 -- nothing absorbed

@@ -1,7 +1,9 @@
 -- What a stream answers, from the words and the byte that its tail is made of.
-use Rattle.std.proofs.Common.{◌≡◌, ℕ, ◌+◌, ◌-◌, ◌*◌, ◌/◌, ◌%◌, ◌<◌, ◌≤◌, Bool, true, false, List, [], ◌∷◌, ◌++◌}
+use Rattle.std.proofs.Common.{◌≡◌, ℕ, ◌+◌, ◌-◌, ◌*◌, ◌/◌, ◌%◌, ◌<◌, ◌≤◌, Bool, true, false, List}
+use Rattle.std.proofs.Common.{[], ◌∷◌, ◌++◌}
 use Rattle.std.proofs.Common.{length, take, drop, refl, ap, arith, ◌∙◌, sym, inl, inr}
-use Rattle.std.proofs.lemmas.List.{length-append, length-drop, length-take-le, take-append-drop, get_or-append-add}
+use Rattle.std.proofs.lemmas.List.{length-append, length-drop, length-take-le, take-append-drop}
+use Rattle.std.proofs.lemmas.List.{get_or-append-add}
 use Rattle.std.proofs.lemmas.Bool.{cases_lt}
 use Rattle.std.specs.Prelude.{slice_index}
 use Rattle.komihash.specs.Hash.{komi, hash_from_pair}
@@ -62,7 +64,8 @@ tail_end-drop v n (b ∷ m) some le = go (drop n (b ∷ m)) refl where
       rw all
   go (c ∷ p) e =
       let cut : take n (b ∷ m) ++ (c ∷ p) ≡ b ∷ m = rw (sym e) (take-append-drop n (b ∷ m)) in
-      sym (ap (padding_byte v) (sym cut) ∙ padding_byte-append v (take n (b ∷ m)) (c ∷ p) (omega arith))
+      sym (ap (padding_byte v) (sym cut)
+          ∙ padding_byte-append v (take n (b ∷ m)) (c ∷ p) (omega arith))
 
 tail_end-start : (v : ℕ) (m : List ℕ) → tail_end v m false false ≡ end_byte v m
 tail_end-start v [] = refl
@@ -79,7 +82,8 @@ answer-joined v seed m =
           (answer-by_pair v (record (start seed) { pending = m }) ∙ cc)
       | inr le ↦
           let n = length m - length m % 64 in
-          let front : length (take n m) ≡ 8 * (n / 8) = length-take-le n m (omega arith) ∙ omega arith in
+          let front : length (take n m) ≡ 8 * (n / 8) = length-take-le n m (omega arith)
+              ∙ omega arith in
           let words = after_words-append (take n m) (drop n m) (n / 8) front in
           let cut = take-append-drop n m in
           let end = tail_end-drop v n m (omega arith) (omega arith) in

@@ -25,7 +25,8 @@ unfolding HasAbsorbed
 answer-komi v seed result m s is e = e ∙ ap (answer v) is ∙ answer-joined v seed m
 
 -- the saved text is one after the message
-pub IsTextAfter-saved : (v seed : ℕ) (m bytes : List ℕ) (s : State) → IsState v s → HasAbsorbed v seed s m
+pub IsTextAfter-saved : (v seed : ℕ) (m bytes : List ℕ) (s : State) → IsState v s
+    → HasAbsorbed v seed s m
     → bytes ≡ text v s → IsTextAfter v seed m bytes
 unfolding IsTextAfter
 IsTextAfter-saved v seed m bytes s is absorbed same = (s, is, absorbed, sym same)
@@ -36,7 +37,8 @@ pub same_state_after : (v seed : ℕ) (s t : State) (m : List ℕ) → HasAbsorb
 unfolding HasAbsorbed
 same_state_after v seed s t m first second = first ∙ sym second
 
-pub same_text_after : (v seed : ℕ) (m x y : List ℕ) → IsTextAfter v seed m x → IsTextAfter v seed m y
+pub same_text_after : (v seed : ℕ) (m x y : List ℕ) → IsTextAfter v seed m x
+    → IsTextAfter v seed m y
     → x ≡ y
 unfolding IsTextAfter HasAbsorbed
 same_text_after v seed m x y (s, _, first, of_s) (t, _, second, of_t) =

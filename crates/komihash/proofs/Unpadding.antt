@@ -1,5 +1,7 @@
 -- Padded words read back: the one message that they can come from.
-use Rattle.std.proofs.Common.{◌≡◌, ℕ, suc, ◌+◌, ◌-◌, ◌*◌, ◌/◌, ◌%◌, ◌^◌, ◌<◌, ◌≤◌, List, [], ◌∷◌, ◌++◌, length, take, get_or, refl, ap, arith, ◌∙◌, sym, subst, inl, inr, w64}
+use Rattle.std.proofs.Common.{◌≡◌, ℕ, suc, ◌+◌, ◌-◌, ◌*◌, ◌/◌, ◌%◌, ◌^◌, ◌<◌, ◌≤◌, List, [], ◌∷◌}
+use Rattle.std.proofs.Common.{◌++◌, length, take, get_or, refl, ap, arith, ◌∙◌, sym, subst, inl}
+use Rattle.std.proofs.Common.{inr, w64}
 use Rattle.std.proofs.Math.Nat.{pos_of_div-pos}
 use Rattle.std.proofs.Math.Pow.{pow_mono}
 use Rattle.std.proofs.lemmas.Bool.{cases_lt}
@@ -8,7 +10,8 @@ use Rattle.std.proofs.lemmas.Nat.{pow-add, pow_pos, shr-shr, shr_below, shr_le, 
 use Rattle.std.specs.Int.{to_le_bytes}
 use Rattle.std.specs.Prelude.{slice_index}
 use Rattle.komihash.specs.Storage.{whole_words, final_word}
-use Rattle.komihash.specs.Padding.{ArePadded, pads_with_two, padding_after, padded_words, padding_byte}
+use Rattle.komihash.specs.Padding.{ArePadded, pads_with_two, padding_after, padded_words}
+use Rattle.komihash.specs.Padding.{padding_byte}
 use Rattle.komihash.specs.Words.{AreBytes, word_of, bytes_of, all_bytes}
 use Rattle.komihash.proofs.AllBytes.{length-all_bytes, to_le_bytes-word}
 use Rattle.komihash.proofs.WholeWords.{whole_words-few}

@@ -1,6 +1,9 @@
 -- Words of lists of bytes that are cut and joined.
-use Rattle.std.proofs.Common.{◌≡◌, ℕ, zero, suc, ◌+◌, ◌-◌, ◌*◌, ◌/◌, ◌%◌, ◌^◌, ◌<◌, ◌≤◌, List, [], ◌∷◌, ◌++◌, length, take, drop, get_or, ap, arith, ◌∙◌, sym, take-add, Fits, w8}
-use Rattle.std.proofs.lemmas.List.{length-append, length-drop, length-take-le, take_all, get_or-drop, drop-drop, drop-append-le, take-append-le}
+use Rattle.std.proofs.Common.{◌≡◌, ℕ, zero, suc, ◌+◌, ◌-◌, ◌*◌, ◌/◌, ◌%◌, ◌^◌, ◌<◌, ◌≤◌, List, []}
+use Rattle.std.proofs.Common.{◌∷◌, ◌++◌, length, take, drop, get_or, ap, arith, ◌∙◌, sym, take-add}
+use Rattle.std.proofs.Common.{Fits, w8}
+use Rattle.std.proofs.lemmas.List.{length-append, length-drop, length-take-le, take_all}
+use Rattle.std.proofs.lemmas.List.{get_or-drop, drop-drop, drop-append-le, take-append-le}
 use Rattle.std.proofs.lemmas.Nat.{pow-add, shl-shr, shr-shr, mod-pow-add, or_shifted, or_comm}
 use Rattle.std.proofs.Math.Nat.{mul-mod_left, zero-mod, zero-div}
 use Rattle.std.specs.Prelude.{bit_or}
@@ -20,7 +23,8 @@ pow_byte : (n : ℕ) → 2 ^ (8 * suc n) ≡ 256 * 2 ^ (8 * n)
 pow_byte n = let e : 8 * suc n ≡ 8 + 8 * n = omega arith in ap (λ k. 2 ^ k) e ∙ pow-add 2 8 (8 * n)
 
 -- the word of two pieces, the second shifted by the length of the first
-word_of-append : (xs ys : List ℕ) → word_of (xs ++ ys) ≡ word_of ys * 2 ^ (8 * length xs) + word_of xs
+word_of-append : (xs ys : List ℕ)
+    → word_of (xs ++ ys) ≡ word_of ys * 2 ^ (8 * length xs) + word_of xs
 word_of-append [] ys = omega arith
 word_of-append (x ∷ xs) ys =
     omega (arith, word_of-append xs ys, ap (λ p. word_of ys * p) (pow_byte (length xs)))
@@ -49,7 +53,8 @@ word_of-take (suc k) (x ∷ xs) h =
     rw (bits, mod-pow-add (x + 256 * word_of xs) (8 * k) 8, high, low)
     (omega (arith, word_of-take k xs (λ j. h (suc j))))
 
-pub word_of-drop : (k : ℕ) (xs : List ℕ) → AreBytes xs → word_of (drop k xs) ≡ word_of xs / 2 ^ (8 * k)
+pub word_of-drop : (k : ℕ) (xs : List ℕ) → AreBytes xs
+    → word_of (drop k xs) ≡ word_of xs / 2 ^ (8 * k)
 word_of-drop zero xs h = omega arith
 word_of-drop (suc k) [] h = sym (zero-div (2 ^ (8 * suc k)))
 word_of-drop (suc k) (x ∷ xs) h =
@@ -65,7 +70,8 @@ word_of-join xs ys n h g size le =
     let bits : 64 ≡ 8 * (8 - n) + k = omega arith in
     let fit : word_of ys * 2 ^ k % 2 ^ 64 ≡ word_of (take (8 - n) ys) * 2 ^ k =
     ap (λ w. word_of ys * 2 ^ k % 2 ^ w) bits ∙ mod-pow-add (word_of ys * 2 ^ k) (8 * (8 - n)) k
-    ∙ rw (shl-shr (word_of ys) k, mul-mod_left (word_of ys) (2 ^ k), word_of-take (8 - n) ys g) (omega arith) in
+    ∙ rw (shl-shr (word_of ys) k, mul-mod_left (word_of ys) (2 ^ k),
+        word_of-take (8 - n) ys g) (omega arith) in
     let below : word_of xs < 2 ^ k = rw (← size) (word_of-lt xs h) in
     rw (fit, word_of-append xs (take (8 - n) ys), size)
     (or_comm (word_of xs) _ ∙ or_shifted (word_of (take (8 - n) ys)) k (word_of xs) below)
@@ -86,10 +92,12 @@ pub word_of-zero : (xs : List ℕ) → word_of (xs ++ 0 ∷ []) ≡ word_of xs
 word_of-zero xs = omega (arith, word_of-append xs (0 ∷ []))
 
 -- fewer than eight bytes, read from both ends in two pieces of k, and a byte b after them
-pub word_of-two_ends : (k s : ℕ) (xs : List ℕ) (b : ℕ) → AreBytes xs → k ≤ length xs → length xs ≤ k + k
+pub word_of-two_ends : (k s : ℕ) (xs : List ℕ) (b : ℕ) → AreBytes xs → k ≤ length xs
+    → length xs ≤ k + k
     → length xs < 8 → b < 256 → s ≡ 8 * (k + k - length xs)
     → bit_or (word_of (take k xs))
-    (bit_or (word_of (take k (drop (length xs - k) xs))) (b * 2 ^ (8 * k) % 2 ^ 64) / 2 ^ s * 2 ^ (8 * k) % 2 ^ 64)
+    (bit_or (word_of (take k (drop (length xs - k) xs))) (b * 2 ^ (8 * k) % 2 ^ 64)
+        / 2 ^ s * 2 ^ (8 * k) % 2 ^ 64)
     ≡ word_of (xs ++ b ∷ [])
 word_of-two_ends k s xs b h le most few small e =
     let n = length xs in
@@ -125,7 +133,8 @@ word_of-last j s xs h many within e most =
 
 -- the last r bytes, read with the last eight, and a byte b after them
 pub word_of-last_eight : (r : ℕ) (xs : List ℕ) (b : ℕ) → AreBytes xs → 8 ≤ length xs → r < 8 → b < 4
-    → bit_or (word_of (take 8 (drop (length xs - 8) xs)) / 2 ^ 1 / 2 ^ (63 - 8 * r)) (b * 2 ^ (8 * r) % 2 ^ 64)
+    → bit_or (word_of (take 8 (drop (length xs - 8) xs)) / 2 ^ 1 / 2 ^ (63 - 8 * r))
+        (b * 2 ^ (8 * r) % 2 ^ 64)
     ≡ word_of (drop (length xs - r) xs ++ b ∷ [])
 word_of-last_eight r xs b h many few small =
     let j = length xs - r in
@@ -133,7 +142,8 @@ word_of-last_eight r xs b h many few small =
       shr-shr (word_of (take 8 (drop (length xs - 8) xs))) 1 (63 - 8 * r),
       word_of-last j (1 + (63 - 8 * r)) xs h many (omega arith) (omega arith) (omega arith),
     )
-    (word_of-push (drop j xs) r b (AreBytes-drop j xs h) (omega (arith, length-drop j xs)) few (omega arith))
+    (word_of-push (drop j xs) r b (AreBytes-drop j xs h) (omega (arith, length-drop j xs)) few
+        (omega arith))
 
 -- the two words of sixteen bytes, as a vector of bytes becomes a vector of words
 pub two_words : (xs : List ℕ) → AreBytes xs → 16 ≤ length xs → let n = number_l 256 (take 16 xs) in

@@ -1,4 +1,4 @@
--- The final word is read in one of three ways, and `padded_words-by_tail` puts it after whole words.
+-- The final word is read in one of three ways. `padded_words-by_tail` puts it after whole words.
 use Rattle.std.proofs.Common.{◌≡◌, ◌++◌, [], ◌∷◌, ◌+◌, ◌/◌, ◌∙◌, ap, length, arith, refl, sym}
 use Rattle.std.proofs.lemmas.Bool.{eqb-true}
 use Rattle.std.proofs.lemmas.List.{nil_from_length, take_more_set}
@@ -7,7 +7,8 @@ use Rattle.komihash.specs.Words.{word_of}
 use Rattle.komihash.proofs.PaddedWords.{padded_words-by_tail}
 use Rattle.komihash.proofs.WholeWords.{after_words-few}
 use Rattle.komihash.proofs.padding.pad.Goals as goal
-use Rattle.komihash.proofs.padding.pad.Goals.{then-whole-gt0, else-whole-gt0+else-is_empty, else-whole-gt0+then-is_empty}
+use Rattle.komihash.proofs.padding.pad.Goals.{then-whole-gt0, else-whole-gt0+else-is_empty}
+use Rattle.komihash.proofs.padding.pad.Goals.{else-whole-gt0+then-is_empty}
 
 pub returns-clause-padded : goal.returns-clause-padded
 returns-clause-padded g c =
@@ -15,7 +16,8 @@ returns-clause-padded g c =
     let end = end_byte g.row.V bytes in
     let last : c.if-whole-gt0.last ≡ final_word bytes end = elim c.if-whole-gt0.branch [
       | then-whole-gt0 w ↦
-          w.last-is ∙ w.final_word_by_shift-last.ensures ∙ ap (final_word bytes) w.padding_byte.ensures.byte
+          w.last-is ∙ w.final_word_by_shift-last.ensures
+              ∙ ap (final_word bytes) w.padding_byte.ensures.byte
       | else-whole-gt0+then-is_empty w ↦
           let none = nil_from_length bytes (eqb-true _ _ (sym w.if-is_empty.ensures)) in
           w.last-is ∙ rw none refl

@@ -7,7 +7,8 @@ returns-clause-left g c =
     sym (after_blocks_few c.whole.rest.now (omega arith)) ∙ c.whole.invariant.left
 
 pub returns-clause-length : goal.returns-clause-length
-returns-clause-length g c = ap length (returns-clause-left g c) ∙ length-after_blocks c.args.bytes.now
+returns-clause-length g c = ap length (returns-clause-left g c)
+    ∙ length-after_blocks c.args.bytes.now
 
 pub returns-clause-lanes : goal.returns-clause-lanes
 returns-clause-lanes g c =

@@ -1,6 +1,8 @@
 -- The invariant says what the calls so far did, and `goes_on` adds one call to it.
-use Rattle.std.proofs.Common.{◌≡◌, ℕ, ◌<◌, List, refl, sym, slice_set, ◌+◌, ◌%◌, ◌++◌, length, get_or, take, drop, ap, arith, ◌∙◌, [], ◌∷◌}
-use Rattle.std.proofs.lemmas.List.{append_assoc, append-nil, take_more, drop_more, length-append, take_all}
+use Rattle.std.proofs.Common.{◌≡◌, ℕ, ◌<◌, List, refl, sym, slice_set, ◌+◌, ◌%◌, ◌++◌, length}
+use Rattle.std.proofs.Common.{get_or, take, drop, ap, arith, ◌∙◌, [], ◌∷◌}
+use Rattle.std.proofs.lemmas.List.{append_assoc, append-nil, take_more, drop_more, length-append}
+use Rattle.std.proofs.lemmas.List.{take_all}
 use Rattle.std.proofs.Math.Seq.{set-append_seam}
 use Rattle.komihash.specs.Calls.{onward}
 use Rattle.komihash.proofs.StreamAbsorbs.{absorb-nothing}
@@ -50,7 +52,8 @@ loop-call-preserved g c =
       | in-Absorb w ↦
           let bytes = w.in-Absorb.bytes in
           let next : take (i + 1) calls ≡ made ++ Absorb bytes ∷ [] =
-          take_more calls i _ c.loop-call-test.true ∙ ap (λ call. made ++ call ∷ []) w.in-Absorb.is in
+          take_more calls i _ c.loop-call-test.true
+              ∙ ap (λ call. made ++ call ∷ []) w.in-Absorb.is in
           let one = with (Absorb bytes) in
           let no_answer = one.answers ∙ append-nil answers in
           let pending : length now.pending % 64 ≡ length now.pending = omega arith in
@@ -66,7 +69,8 @@ loop-call-preserved g c =
       | in-Answer w ↦
           let answer = w.answer.result in
           let next : take (i + 1) calls ≡ made ++ Answer ∷ [] =
-          take_more calls i _ c.loop-call-test.true ∙ ap (λ call. made ++ call ∷ []) w.in-Answer.is in
+          take_more calls i _ c.loop-call-test.true
+              ∙ ap (λ call. made ++ call ∷ []) w.in-Answer.is in
           let one = with Answer in
           let same = absorb-nothing v now in
           let more : onward v first (made ++ Answer ∷ []) ≡ answers ++ answer ∷ [] =

@@ -14,6 +14,7 @@ invariant-loop-call g l =
       count : l.count ≡ length (onward v first made);
       answers : l.out ≡ onward v first made ++ drop l.count l.fn.out;
       state : g.S.KomiStream.state l.stream ≡ absorb v first (bytes_of_calls made);
-      products : l.tally.products ≡ l.fn.tally.products + onward_products (length first.pending) made;
+      products : l.tally.products
+          ≡ l.fn.tally.products + onward_products (length first.pending) made;
       kept : l.tally.kept ≡ l.fn.tally.kept + onward_kept (length first.pending) made;
     }
