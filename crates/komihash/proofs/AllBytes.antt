@@ -28,8 +28,12 @@ length-bytes_of (suc n) w = ap suc (length-bytes_of n (w / 256))
 pub length-all_bytes : (ws : List ℕ) → length (all_bytes ws) ≡ 8 * length ws
 length-all_bytes [] = refl
 length-all_bytes (w ∷ ws) =
-    omega (arith, length-append (bytes_of 8 w) (all_bytes ws), length-bytes_of 8 w,
-        length-all_bytes ws)
+    omega (
+      arith,
+      length-append (bytes_of 8 w) (all_bytes ws),
+      length-bytes_of 8 w,
+      length-all_bytes ws,
+    )
 
 AreBytes-bytes_of : (n w : ℕ) → AreBytes (bytes_of n w)
 unfolding bytes_of
@@ -50,8 +54,12 @@ drop-all_bytes (w ∷ ws) zero lt = refl
 drop-all_bytes (w ∷ ws) (suc i) lt =
     let here : 8 * suc i ≡ 8 + 8 * i = omega arith in
     let next : 8 * suc (suc i) ≡ 8 + 8 * suc i = omega arith in
-    rw (here, next, ← drop-drop (8 * i) 8 (all_bytes (w ∷ ws)),
-        ← drop-drop (8 * suc i) 8 (all_bytes (w ∷ ws)))
+    rw (
+      here,
+      next,
+      ← drop-drop (8 * i) 8 (all_bytes (w ∷ ws)),
+      ← drop-drop (8 * suc i) 8 (all_bytes (w ∷ ws)),
+    )
     (drop-all_bytes ws i (omega arith))
 
 -- the first bytes of the word at an index
@@ -60,7 +68,7 @@ pub take-all_bytes : (ws : List ℕ) (i over : ℕ) → i < length ws → over �
 take-all_bytes ws i over lt le =
     ap (take over) (drop-all_bytes ws i lt)
     ∙ take-append-le over (bytes_of 8 (get_or ws i 0)) _
-        (omega (arith, length-bytes_of 8 (get_or ws i 0)))
+    (omega (arith, length-bytes_of 8 (get_or ws i 0)))
 
 -- a word's bytes, as the standard library writes them
 pub to_le_bytes-word : (w : ℕ) → to_le_bytes w64 w ≡ bytes_of 8 w

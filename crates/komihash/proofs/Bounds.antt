@@ -31,7 +31,7 @@ pub AreWords-block_lanes : (v : ℕ) (s : Lanes) (ws : List ℕ) → AreWords s
     → AreWords (block_lanes v s ws)
 AreWords-block_lanes v s (w0 ∷ w1 ∷ w2 ∷ w3 ∷ w4 ∷ w5 ∷ w6 ∷ w7 ∷ ws) words =
     AreWords-block_lanes v (block_round v s (w0 ∷ w1 ∷ w2 ∷ w3 ∷ w4 ∷ w5 ∷ w6 ∷ w7 ∷ [])) ws
-        (AreWords-block v s _)
+    (AreWords-block v s _)
 AreWords-block_lanes v s ws words = words
 
 -- ---- hashes

@@ -118,14 +118,14 @@ module _ (v seed : ℕ) (m : List ℕ) where
   pub komi_two_words : 16 ≤ length m → length m < 24 → komi v seed m ≡ closing round (last ∷ [])
   komi_two_words le lt =
       let words : whole_words m ≡ words_from 2 0 m =
-          whole_words-from 2 0 m (omega arith) (omega arith) in
+      whole_words-from 2 0 m (omega arith) (omega arith) in
       rw (komi_short (omega arith), words) refl
 
   pub komi_three_words : 24 ≤ length m → length m < 32
       → komi v seed m ≡ closing round (word_of (take 8 (drop 16 m)) ∷ last ∷ [])
   komi_three_words le lt =
       let words : whole_words m ≡ words_from 3 0 m =
-          whole_words-from 3 0 m (omega arith) (omega arith) in
+      whole_words-from 3 0 m (omega arith) (omega arith) in
       rw (komi_short (omega arith), words) refl
 
   pub komi_four_to_seven_words : 32 ≤ length m → length m < 64

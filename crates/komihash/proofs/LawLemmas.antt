@@ -15,9 +15,14 @@ use Rattle.komihash.proofs.StreamMessages.{same_state_after, same_text_after}
 
 pub ruleset of_hashes = (komi-lt, fold-append)
 
-pub ruleset of_streams =
-    (absorb-append, absorb-nothing, answer-joined, HasAbsorbed-pending, same_state_after,
-        same_text_after)
+pub ruleset of_streams = (
+  absorb-append,
+  absorb-nothing,
+  answer-joined,
+  HasAbsorbed-pending,
+  same_state_after,
+  same_text_after,
+)
 
 pub ruleset of_calls = (answers_after-append, bytes_of_calls-append, run_products-pieces)
 

@@ -42,14 +42,14 @@ covers-put_mid a k n xs ys all old sum within fits is so =
 -- n bytes written in two pieces of k that may overlap
 pub two_pieces : (k n : ℕ) (all whole out zs ys : List ℕ) → all ≡ whole → n ≤ length whole
     → length out ≡ n → k ≤ n → n ≤ k + k → zs ≡ take k all
-        → ys ≡ take (n - (n - k)) (drop (n - k) all)
+    → ys ≡ take (n - (n - k)) (drop (n - k) all)
     → put_mid (n - k) (length (zs ++ drop k out) - (n - k)) (zs ++ drop k out) ys ≡ take n whole
 two_pieces k n all whole out zs ys same enough len le most first second =
     let fits : n ≤ length all = omega (arith, ap length same) in
     let xs = take k all ++ drop k out in
     let front = length-take-le k all (omega arith) in
     let size : length xs ≡ n =
-        omega (arith, length-append (take k all) (drop k out), front, length-drop k out) in
+    omega (arith, length-append (take k all) (drop k out), front, length-drop k out) in
     let last : n - (n - k) ≡ k = omega arith in
     let before : Covers (n - k) xs all xs = record {
       front = take-append-le (n - k) (take k all) (drop k out) (omega arith)
@@ -57,7 +57,7 @@ two_pieces k n all whole out zs ys same enough len le most first second =
       others = refl;
     } in
     let both = covers-put_mid (n - k) k n xs ys all xs (omega arith) (omega arith) fits
-        (rw last at second) before in
+    (rw last at second) before in
     let long : length (put_mid (n - k) k xs ys) ≤ n = search (rules, overwrites) in
     rw (first, size, last)
     (sym (take_all n (put_mid (n - k) k xs ys) long) ∙ both.front ∙ ap (take n) same)

@@ -16,8 +16,11 @@ module _ (xs bytes : List ℕ) (few : length xs < 64) (many : 64 ≤ length xs +
 
   length_block : length block ≡ 64
   length_block =
-      omega (arith, length-append xs (take (64 - length xs) bytes),
-          length-take-le (64 - length xs) bytes (omega arith))
+      omega (
+        arith,
+        length-append xs (take (64 - length xs) bytes),
+        length-take-le (64 - length xs) bytes (omega arith),
+      )
 
   all_is_cut : xs ++ bytes ≡ block ++ rest
   all_is_cut =
@@ -32,5 +35,5 @@ module _ (xs bytes : List ℕ) (few : length xs < 64) (many : 64 ≤ length xs +
   pub completed_left : after_blocks (xs ++ bytes) ≡ after_blocks rest
   completed_left =
       rw all_is_cut (after_blocks_more (block ++ rest)
-          (omega (arith, length-append block rest, length_block))
+      (omega (arith, length-append block rest, length_block))
       ∙ ap after_blocks (drop_at block rest 64 length_block))

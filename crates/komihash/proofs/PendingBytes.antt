@@ -47,13 +47,20 @@ unfolding pending_words
 set-pending_words zero i xs ys lt from few = absurd (omega arith)
 set-pending_words (suc n) zero xs ys lt from few =
     let size = length-append xs ys in
-    rw (take_all 8 (xs ++ ys) (omega arith), drop_all 8 (xs ++ ys) (omega arith),
-        drop_all 8 xs (omega arith)) refl
+    rw (
+      take_all 8 (xs ++ ys) (omega arith),
+      drop_all 8 (xs ++ ys) (omega arith),
+      drop_all 8 xs (omega arith),
+    ) refl
 set-pending_words (suc n) (suc i) xs ys lt from few =
     let size = length-drop 8 xs in
     let next : 8 * suc i ≡ 8 + 8 * i = omega arith in
-    rw (next, ← drop-drop (8 * i) 8 xs, take-append-le 8 xs ys (omega arith),
-        drop-append-le 8 xs ys (omega arith))
+    rw (
+      next,
+      ← drop-drop (8 * i) 8 xs,
+      take-append-le 8 xs ys (omega arith),
+      drop-append-le 8 xs ys (omega arith),
+    )
     (ap (λ ws. word_of (take 8 xs) ∷ ws)
     (set-pending_words n i (drop 8 xs) ys (omega arith) (omega arith) (omega arith)))
 
@@ -67,10 +74,14 @@ extend-set old at from bytes lt within xs place is =
     omega (arith, length-append xs (take from bytes), length-take-le from bytes within) in
     let word : word_of next ≡ word_of (drop (8 * at) front ++ next) =
     ap (λ b. word_of (b ++ next)) (sym (drop_all (8 * at) front (omega arith))) in
-    rw (is, word, set-pending_words 8 at front next lt (omega arith)
-        (omega (arith, length-take 8 (drop from bytes))))
+    rw (
+      is,
+      word,
+      set-pending_words 8 at front next lt (omega arith)
+          (omega (arith, length-take 8 (drop from bytes))),
+    )
     (ap (pending_words 8)
-        (append_assoc xs (take from bytes) next ∙ ap (λ b. xs ++ b) (take-more from 8 bytes)))
+    (append_assoc xs (take from bytes) next ∙ ap (λ b. xs ++ b) (take-more from 8 bytes)))
 
 -- the next two words, stored as a vector
 pub extend-two : (old : List ℕ) (at from : ℕ) (bytes : List ℕ) → AreBytes bytes → at < 7
@@ -78,19 +89,24 @@ pub extend-two : (old : List ℕ) (at from : ℕ) (bytes : List ℕ) → AreByte
     → let n = number_l 256 (take 16 (drop from bytes)) in
     Extends old (put_mid at (8 - at) old
     (put_chunk 0 (mid_of at (8 - at) old) (n % 2 ^ 64 ∷ n / 2 ^ 64 % 2 ^ 64 ∷ []))) at bytes from
-        (from + 16)
+    (from + 16)
 extend-two old at from bytes are lt within xs place is =
     let size : length old ≡ 8 = ap length is ∙ length-pending_words 8 (xs ++ take from bytes) in
     let (first, second) =
     two_words (drop from bytes) (AreBytes-drop from bytes are)
-        (omega (arith, length-drop from bytes)) in
+    (omega (arith, length-drop from bytes)) in
     let next = word_of (take 8 (drop from bytes)) in
     let all : from + 16 ≡ from + 8 + 8 = omega arith in
     let second_at : 8 + from ≡ from + 8 = omega arith in
-    rw (two_put at (8 - at) old _ _ (omega arith) (omega arith), first, second,
-        drop-drop 8 from bytes, all)
+    rw (
+      two_put at (8 - at) old _ _ (omega arith) (omega arith),
+      first,
+      second,
+      drop-drop 8 from bytes,
+      all,
+    )
     (extend-set (set old at next) (suc at) (from + 8) bytes (omega arith) (omega arith) xs
-        (omega arith)
+    (omega arith)
     (extend-set old at from bytes (omega arith) (omega arith) xs place is))
 
 -- ---- the bytes that words store up to a fill
@@ -129,10 +145,10 @@ module _ (ws : List ℕ) (fill : ℕ) (are : ArePending ws fill) where
     bytes_put =
         let typed_bytes =
         AreBytes-append (pending_bytes ws fill) bytes (AreBytes_pending ws fill)
-            (AreBytes-typed bytes typed) in
+        (AreBytes-typed bytes typed) in
         rw (is, ← length_put)
         (bytes-pending_words 8 (pending_bytes ws fill ++ bytes) typed_bytes
-            (omega (arith, length_put)))
+        (omega (arith, length_put)))
 
     pub ArePending_put : fill + length bytes < 64 → ArePending new (fill + length bytes)
     ArePending_put few = record { few = few; words = is ∙ ap (pending_words 8) (sym bytes_put) }
@@ -176,22 +192,25 @@ module _ (ws : List ℕ) (fill : ℕ) (are : ArePending ws fill) where
   -- a word joined to the partial word: as many of its bytes as fit
   pub join_pending : (w : ℕ) (bytes : List ℕ) → AreBytes bytes → w ≡ word_of bytes
       → Stores (set ws (fill / 8)
-          (bit_or (get_or ws (fill / 8) 0) (w * 2 ^ (8 * (fill % 8)) % 2 ^ 64)))
+      (bit_or (get_or ws (fill / 8) 0) (w * 2 ^ (8 * (fill % 8)) % 2 ^ 64)))
       (pending_bytes ws fill ++ take (8 - fill % 8) bytes)
   join_pending w bytes h is =
       let xs = pending_bytes ws fill in
       let fit = length-take (8 - fill % 8) bytes in
       let size = length_pending in
-      rw (get_or_partial, is,
-          word_of-join partial bytes (fill % 8) AreBytes_partial h length_partial (omega arith))
+      rw (
+        get_or_partial,
+        is,
+        word_of-join partial bytes (fill % 8) AreBytes_partial h length_partial (omega arith),
+      )
       (ap (λ us. set us (fill / 8) (word_of (partial ++ take (8 - fill % 8) bytes))) are.words
       ∙ set-pending_words 8 (fill / 8) xs (take (8 - fill % 8) bytes) (omega (arith, are.few))
-          (omega arith) (omega arith))
+      (omega arith) (omega arith))
 
   -- a byte after it
   pub final_word_pending : (end : ℕ) → end < 256
       → bit_or (get_or ws (fill / 8) 0) (end * 2 ^ (8 * (fill % 8)) % 2 ^ 64)
-          ≡ final_word (pending_bytes ws fill) end
+      ≡ final_word (pending_bytes ws fill) end
   final_word_pending end small =
       let place : fill - fill % 8 ≡ 8 * (fill / 8) = omega arith in
       rw (get_or_partial, after_words-drop (pending_bytes ws fill), length_pending, place)
@@ -229,7 +248,7 @@ module _ (ws : List ℕ) (fill : ℕ) (are : ArePending ws fill) where
   -- otherwise it is the highest byte that the partial word stores
   pub last_of_partial : 0 < fill % 8
       → get_or ws (fill / 8) 0 / 2 ^ (8 * (fill % 8) - 8)
-          ≡ get_or (pending_bytes ws fill) (fill - 1) 0
+      ≡ get_or (pending_bytes ws fill) (fill - 1) 0
   last_of_partial over =
       let word : (fill - 1) / 8 ≡ fill / 8 = omega arith in
       let place : 8 * ((fill - 1) % 8) ≡ 8 * (fill % 8) - 8 = omega arith in

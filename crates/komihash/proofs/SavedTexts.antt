@@ -93,8 +93,11 @@ state_of-text v s are =
 pub length-text : (v : ℕ) (s : State) → length (text v s) ≡ 68 + length s.pending
 unfolding text
 length-text v s =
-    omega (arith, length-append (all_bytes (in_order s.lanes)) s.pending,
-        length-all_bytes (in_order s.lanes))
+    omega (
+      arith,
+      length-append (all_bytes (in_order s.lanes)) s.pending,
+      length-all_bytes (in_order s.lanes),
+    )
 
 pub text-most : (v : ℕ) (s : State) (bytes : List ℕ) → IsState v s → text v s ≡ bytes
     → length bytes ≤ 131
@@ -131,15 +134,15 @@ all_bytes-whole_words k [] are size = refl
 all_bytes-whole_words k (a ∷ b ∷ c ∷ d ∷ e ∷ f ∷ g ∷ h ∷ xs) are size =
     let eight = a ∷ b ∷ c ∷ d ∷ e ∷ f ∷ g ∷ h ∷ [] in
     ap (λ bs. bs ++ all_bytes (whole_words xs))
-        (bytes_of-word_of_append eight [] (AreBytes-take 8 (eight ++ xs) are))
+    (bytes_of-word_of_append eight [] (AreBytes-take 8 (eight ++ xs) are))
     ∙ ap (λ bs. eight ++ bs)
-        (all_bytes-whole_words (k - 1) xs (AreBytes-drop 8 (eight ++ xs) are) (omega arith))
+    (all_bytes-whole_words (k - 1) xs (AreBytes-drop 8 (eight ++ xs) are) (omega arith))
 all_bytes-whole_words k xs are size = absurd (omega arith)
 
 whole_words-lt : (xs : List ℕ) → AreBytes xs → (i : ℕ) → slice_index (whole_words xs) i < 2 ^ 64
 whole_words-lt (a ∷ b ∷ c ∷ d ∷ e ∷ f ∷ g ∷ h ∷ xs) are zero =
     word_of-lt (a ∷ b ∷ c ∷ d ∷ e ∷ f ∷ g ∷ h ∷ [])
-        (AreBytes-take 8 (a ∷ b ∷ c ∷ d ∷ e ∷ f ∷ g ∷ h ∷ xs) are)
+    (AreBytes-take 8 (a ∷ b ∷ c ∷ d ∷ e ∷ f ∷ g ∷ h ∷ xs) are)
 whole_words-lt (a ∷ b ∷ c ∷ d ∷ e ∷ f ∷ g ∷ h ∷ xs) are (suc i) =
     whole_words-lt xs (AreBytes-drop 8 (a ∷ b ∷ c ∷ d ∷ e ∷ f ∷ g ∷ h ∷ xs) are) i
 whole_words-lt xs are i = omega arith
@@ -159,14 +162,14 @@ unfolding text
 laid_out-text v (b0 ∷ b1 ∷ b2 ∷ b3 ∷ rest) are laid =
     let size : length (take 64 rest) ≡ 64 = length-take-le 64 rest (omega (arith, laid.size)) in
     let words = in_order-back (whole_words (take 64 rest))
-        (length-whole_words (take 64 rest) ∙ omega arith) in
+    (length-whole_words (take 64 rest) ∙ omega arith) in
     let lanes =
     all_bytes-whole_words 8 (take 64 rest)
     (AreBytes-take 64 rest (AreBytes-drop 4 (b0 ∷ b1 ∷ b2 ∷ b3 ∷ rest) are)) size in
     let version : v ≡ b0 = sym laid.version in
     let absorbed : flag_byte (b1 == 1) ≡ b1 = grind (arith, nat_tests, laid.absorbed) in
     let top_bit : flag_byte (b2 == 1) ≡ b2 =
-        grind (arith, nat_tests, laid.top_bit, laid.absorbed) in
+    grind (arith, nat_tests, laid.top_bit, laid.absorbed) in
     let fill : length (drop 64 rest) ≡ b3 = omega (arith, laid.size, length-drop 64 rest) in
     cc (take-append-drop 64 rest)
 laid_out-text v bytes are laid = absurd (omega (arith, laid.size))
@@ -178,8 +181,14 @@ laid_out-state v bytes are laid =
     let fit = whole_words-lt lanes (AreBytes-take 64 (drop 4 bytes) (AreBytes-drop 4 bytes are)) in
     record {
       words = record {
-        s1 = fit 0; s2 = fit 1; s3 = fit 2; s4 = fit 3;
-        s5 = fit 4; s6 = fit 5; s7 = fit 6; s8 = fit 7;
+        s1 = fit 0;
+        s2 = fit 1;
+        s3 = fit 2;
+        s4 = fit 3;
+        s5 = fit 4;
+        s6 = fit 5;
+        s7 = fit 6;
+        s8 = fit 7;
       };
       bytes = AreBytes-drop 68 bytes are;
       few = omega (arith, laid.size, laid.few, length-drop 68 bytes);
@@ -209,7 +218,7 @@ IsLaidOut-text v bytes are = (
 pub read_back : (v : ℕ) (bytes : List ℕ) (lanes : Lanes) (s : State) → IsState v s
     → text v s ≡ bytes
     → in_order lanes ≡ whole_words (take 64 (drop 4 bytes))
-        → record (state_of bytes) { lanes = lanes } ≡ s
+    → record (state_of bytes) { lanes = lanes } ≡ s
 read_back v bytes lanes s is same read =
     ap (λ ws. record (state_of bytes) { lanes = lanes_of ws }) read ∙ ap state_of (sym same)
-        ∙ state_of-text v s is.words
+    ∙ state_of-text v s is.words

@@ -65,7 +65,7 @@ tail_end-drop v n (b ∷ m) some le = go (drop n (b ∷ m)) refl where
   go (c ∷ p) e =
       let cut : take n (b ∷ m) ++ (c ∷ p) ≡ b ∷ m = rw (sym e) (take-append-drop n (b ∷ m)) in
       sym (ap (padding_byte v) (sym cut)
-          ∙ padding_byte-append v (take n (b ∷ m)) (c ∷ p) (omega arith))
+      ∙ padding_byte-append v (take n (b ∷ m)) (c ∷ p) (omega arith))
 
 tail_end-start : (v : ℕ) (m : List ℕ) → tail_end v m false false ≡ end_byte v m
 tail_end-start v [] = refl
@@ -83,7 +83,7 @@ answer-joined v seed m =
       | inr le ↦
           let n = length m - length m % 64 in
           let front : length (take n m) ≡ 8 * (n / 8) = length-take-le n m (omega arith)
-              ∙ omega arith in
+          ∙ omega arith in
           let words = after_words-append (take n m) (drop n m) (n / 8) front in
           let cut = take-append-drop n m in
           let end = tail_end-drop v n m (omega arith) (omega arith) in

@@ -64,7 +64,7 @@ last_of_block : (xs ys : List ℕ) → length xs < 64 → 64 ≤ length xs + len
 last_of_block xs ys few many =
     let i = length ys - (length xs + length ys) % 64 - 1 in
     let k : length xs + i ≡ length (xs ++ ys) - length (xs ++ ys) % 64 - 1 =
-        omega (arith, length-append xs ys) in
+    omega (arith, length-append xs ys) in
     sym (get_or-append-add xs ys i 0) ∙ ap (slice_index (xs ++ ys)) k
 
 -- the state after a write that fills a block, by its parts
@@ -75,9 +75,9 @@ pub after_write : (v : ℕ) (s : State) (bytes : List ℕ) (lanes : Lanes) (left
     → left ≡ after_blocks (s.pending ++ bytes)
     → absorbed ≡ true
     → top_bit ≡ pads_with_two v
-        (slice_index bytes (length bytes - (length s.pending + length bytes) % 64 - 1))
+    (slice_index bytes (length bytes - (length s.pending + length bytes) % 64 - 1))
     → record { lanes = lanes; pending = left; absorbed = absorbed; top_bit = top_bit }
-        ≡ absorb v s bytes
+    ≡ absorb v s bytes
 after_write v s bytes lanes left absorbed top_bit few many after is flag top =
     let last = last_of_block s.pending bytes few many in
     let all = absorb-blocks v s bytes few many in

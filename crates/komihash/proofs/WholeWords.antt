@@ -28,7 +28,7 @@ whole_words-pending : (xs : List ℕ) → whole_words xs ≡ pending_words (leng
 unfolding pending_words
 whole_words-pending (a ∷ b ∷ c ∷ d ∷ e ∷ f ∷ g ∷ h ∷ bs) =
     let n : suc (suc (suc (suc (suc (suc (suc (suc (length bs)))))))) / 8 ≡ suc (length bs / 8) =
-        omega arith in
+    omega arith in
     rw n (ap (λ ws. word_of (a ∷ b ∷ c ∷ d ∷ e ∷ f ∷ g ∷ h ∷ []) ∷ ws) (whole_words-pending bs))
 whole_words-pending xs = refl
 
@@ -83,7 +83,7 @@ pub whole_words-append : (xs ys : List ℕ) (k : ℕ) → length xs ≡ 8 * k
 whole_words-append [] ys k e = refl
 whole_words-append (a ∷ b ∷ c ∷ d ∷ e ∷ f ∷ g ∷ h ∷ xs) ys k is =
     ap (λ ws. word_of (a ∷ b ∷ c ∷ d ∷ e ∷ f ∷ g ∷ h ∷ []) ∷ ws)
-        (whole_words-append xs ys (k - 1) (omega arith))
+    (whole_words-append xs ys (k - 1) (omega arith))
 whole_words-append xs ys k is = absurd (omega arith)
 
 -- n words from an index on
@@ -99,7 +99,7 @@ whole_words-from (suc n) at xs le lt =
     whole_words-more (drop at xs) (omega (arith, length-drop at xs))
     ∙ ap (λ ws. word_of (take 8 (drop at xs)) ∷ ws)
     (ap whole_words (drop-drop 8 at xs)
-        ∙ whole_words-from n (at + 8) xs (omega arith) (omega arith))
+    ∙ whole_words-from n (at + 8) xs (omega arith) (omega arith))
 
 -- the eight words of a block
 pub whole_words-block : (xs : List ℕ) → length xs ≡ 64 → whole_words xs ≡ words_from 8 0 xs
@@ -113,5 +113,5 @@ pub words_of-whole : (xs : List ℕ) (k : ℕ) → length xs ≡ 8 * k → words
 words_of-whole [] k e = refl
 words_of-whole (a ∷ b ∷ c ∷ d ∷ e ∷ f ∷ g ∷ h ∷ xs) k is =
     ap (λ ws. word_of (a ∷ b ∷ c ∷ d ∷ e ∷ f ∷ g ∷ h ∷ []) ∷ ws)
-        (words_of-whole xs (k - 1) (omega arith))
+    (words_of-whole xs (k - 1) (omega arith))
 words_of-whole xs k is = absurd (omega arith)

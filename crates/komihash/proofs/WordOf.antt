@@ -70,8 +70,11 @@ word_of-join xs ys n h g size le =
     let bits : 64 ≡ 8 * (8 - n) + k = omega arith in
     let fit : word_of ys * 2 ^ k % 2 ^ 64 ≡ word_of (take (8 - n) ys) * 2 ^ k =
     ap (λ w. word_of ys * 2 ^ k % 2 ^ w) bits ∙ mod-pow-add (word_of ys * 2 ^ k) (8 * (8 - n)) k
-    ∙ rw (shl-shr (word_of ys) k, mul-mod_left (word_of ys) (2 ^ k),
-        word_of-take (8 - n) ys g) (omega arith) in
+    ∙ rw (
+      shl-shr (word_of ys) k,
+      mul-mod_left (word_of ys) (2 ^ k),
+      word_of-take (8 - n) ys g,
+    ) (omega arith) in
     let below : word_of xs < 2 ^ k = rw (← size) (word_of-lt xs h) in
     rw (fit, word_of-append xs (take (8 - n) ys), size)
     (or_comm (word_of xs) _ ∙ or_shifted (word_of (take (8 - n) ys)) k (word_of xs) below)
@@ -97,7 +100,7 @@ pub word_of-two_ends : (k s : ℕ) (xs : List ℕ) (b : ℕ) → AreBytes xs →
     → length xs < 8 → b < 256 → s ≡ 8 * (k + k - length xs)
     → bit_or (word_of (take k xs))
     (bit_or (word_of (take k (drop (length xs - k) xs))) (b * 2 ^ (8 * k) % 2 ^ 64)
-        / 2 ^ s * 2 ^ (8 * k) % 2 ^ 64)
+    / 2 ^ s * 2 ^ (8 * k) % 2 ^ 64)
     ≡ word_of (xs ++ b ∷ [])
 word_of-two_ends k s xs b h le most few small e =
     let n = length xs in
@@ -134,7 +137,7 @@ word_of-last j s xs h many within e most =
 -- the last r bytes, read with the last eight, and a byte b after them
 pub word_of-last_eight : (r : ℕ) (xs : List ℕ) (b : ℕ) → AreBytes xs → 8 ≤ length xs → r < 8 → b < 4
     → bit_or (word_of (take 8 (drop (length xs - 8) xs)) / 2 ^ 1 / 2 ^ (63 - 8 * r))
-        (b * 2 ^ (8 * r) % 2 ^ 64)
+    (b * 2 ^ (8 * r) % 2 ^ 64)
     ≡ word_of (drop (length xs - r) xs ++ b ∷ [])
 word_of-last_eight r xs b h many few small =
     let j = length xs - r in
@@ -143,7 +146,7 @@ word_of-last_eight r xs b h many few small =
       word_of-last j (1 + (63 - 8 * r)) xs h many (omega arith) (omega arith) (omega arith),
     )
     (word_of-push (drop j xs) r b (AreBytes-drop j xs h) (omega (arith, length-drop j xs)) few
-        (omega arith))
+    (omega arith))
 
 -- the two words of sixteen bytes, as a vector of bytes becomes a vector of words
 pub two_words : (xs : List ℕ) → AreBytes xs → 16 ≤ length xs → let n = number_l 256 (take 16 xs) in

@@ -1,5 +1,5 @@
 -- The final word is read in one of three ways. `padded_words-by_tail` puts it after whole words.
-use Rattle.std.proofs.Common.{◌≡◌, ◌++◌, [], ◌∷◌, ◌+◌, ◌/◌, ◌∙◌, ap, length, arith, refl, sym}
+use Rattle.std.proofs.Common.{◌≡◌, ◌++◌, [], ◌∷◌, ◌/◌, ◌∙◌, ap, length, arith, refl, sym}
 use Rattle.std.proofs.lemmas.Bool.{eqb-true}
 use Rattle.std.proofs.lemmas.List.{nil_from_length, take_more_set}
 use Rattle.komihash.specs.Storage.{final_word, end_byte}
@@ -17,7 +17,7 @@ returns-clause-padded g c =
     let last : c.if-whole-gt0.last ≡ final_word bytes end = elim c.if-whole-gt0.branch [
       | then-whole-gt0 w ↦
           w.last-is ∙ w.final_word_by_shift-last.ensures
-              ∙ ap (final_word bytes) w.padding_byte.ensures.byte
+          ∙ ap (final_word bytes) w.padding_byte.ensures.byte
       | else-whole-gt0+then-is_empty w ↦
           let none = nil_from_length bytes (eqb-true _ _ (sym w.if-is_empty.ensures)) in
           w.last-is ∙ rw none refl

@@ -53,7 +53,7 @@ loop-call-preserved g c =
           let bytes = w.in-Absorb.bytes in
           let next : take (i + 1) calls ≡ made ++ Absorb bytes ∷ [] =
           take_more calls i _ c.loop-call-test.true
-              ∙ ap (λ call. made ++ call ∷ []) w.in-Absorb.is in
+          ∙ ap (λ call. made ++ call ∷ []) w.in-Absorb.is in
           let one = with (Absorb bytes) in
           let no_answer = one.answers ∙ append-nil answers in
           let pending : length now.pending % 64 ≡ length now.pending = omega arith in
@@ -70,7 +70,7 @@ loop-call-preserved g c =
           let answer = w.answer.result in
           let next : take (i + 1) calls ≡ made ++ Answer ∷ [] =
           take_more calls i _ c.loop-call-test.true
-              ∙ ap (λ call. made ++ call ∷ []) w.in-Answer.is in
+          ∙ ap (λ call. made ++ call ∷ []) w.in-Answer.is in
           let one = with Answer in
           let same = absorb-nothing v now in
           let more : onward v first (made ++ Answer ∷ []) ≡ answers ++ answer ∷ [] =

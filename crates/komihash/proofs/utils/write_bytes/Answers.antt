@@ -15,7 +15,7 @@ whole-preserved c =
     let size = length-all_bytes words in
     let eight : 8 * i + 8 - 8 * i ≡ 8 = omega arith in
     rw eight (covers-put_mid (8 * i) 8 (8 * (i + 1)) c.whole.out c.write_word.new.out
-        (all_bytes words) c.args.out.now
+    (all_bytes words) c.args.out.now
     (omega arith) (omega arith) (omega arith)
     (c.write_word.ensures
     ∙ sym (take_all 8 (bytes_of 8 word) (omega (arith, length-bytes_of 8 word)))
@@ -31,11 +31,11 @@ returns-then-count-gt0 c =
     let left : c.args.count - 8 * i ≡ over = omega arith in
     let room : length (take (c.args.count - 8 * i) (drop (8 * i) c.whole.out)) ≡ over =
     rw left (length-take-le over (drop (8 * i) c.whole.out)
-        (omega (arith, length-drop (8 * i) c.whole.out))) in
+    (omega (arith, length-drop (8 * i) c.whole.out))) in
     let all = covers-put_mid (8 * i) over c.args.count c.whole.out c.write_partial_word.new.out
-        (all_bytes words)
+    (all_bytes words)
     c.args.out.now (omega arith) (omega arith) (omega arith)
     (c.write_partial_word.ensures ∙ ap (λ n. take n (bytes_of 8 (get_or words i 0))) room
     ∙ sym (take-all_bytes words i over (omega arith) (omega arith)))
-        (rw same at c.whole.invariant) in
+    (rw same at c.whole.invariant) in
     rw left record { bytes = all.front; rest = all.others }

@@ -1,5 +1,6 @@
 -- What the reader gave grows by what a read gives.
-use Rattle.std.proofs.Common.{◌≡◌, ◌↔◌, ℕ, ◌+◌, ◌≤◌, ◌<◌, ◌++◌, false, Err, length, take, arith, refl, rules, length-append, length-take-le}
+use Rattle.std.proofs.Common.{◌≡◌, ◌↔◌, ℕ, ◌+◌, ◌≤◌, ◌<◌, ◌++◌, false, Err, length, take, arith}
+use Rattle.std.proofs.Common.{refl, rules, length-append, length-take-le}
 use Rattle.std.specs.declared.result.Result.{Result}
 use Rattle.komisum.specs.declared.ending.Fault.{Fault}
 use Rattle.komisum.specs.declared.ending.Fault.TheVariants.{TooLong}
@@ -37,7 +38,12 @@ loop-stream-preserved g c =
         message = c.absorb.ensures.message c.args.seed before kept.message;
         consumed = Consumes-trans _ _ _ before given kept.consumed c.in-Ok.ensures.bytes.0;
         count =
-            omega (arith, kept.count, length-append before given, length-take-le c.in-Ok.count c.read.new.buf c.in-Ok.ensures.bound.0);
+            omega (
+              arith,
+              kept.count,
+              length-append before given,
+              length-take-le c.in-Ok.count c.read.new.buf c.in-Ok.ensures.bound.0,
+            );
         within = search rules;
         room = search rules;
         sound = search rules;

@@ -1,5 +1,7 @@
 -- The line is the name, the message and a newline.
-use Rattle.std.proofs.Common.{◌≡◌, ℕ, ◌+◌, ◌<◌, List, codes, length, take, drop, set, replicate, ◌++◌, [], ◌∷◌, ◌∙◌, ap, arith, subst, append_assoc, length-drop, length-take-le, length-append}
+use Rattle.std.proofs.Common.{◌≡◌, ℕ, ◌+◌, ◌<◌, List, codes, length, take, drop, set, replicate}
+use Rattle.std.proofs.Common.{◌++◌, [], ◌∷◌, ◌∙◌, ap, arith, subst, append_assoc, length-drop}
+use Rattle.std.proofs.Common.{length-take-le, length-append}
 use Rattle.std.proofs.lemmas.List.{take_more_set}
 use Rattle.std.proofs.lemmas.Slice.{take-put_mid}
 use Rattle.std.specs.Prelude.{OnOk}
@@ -12,16 +14,20 @@ use Rattle.komisum.proofs.report.write_message.Goals as goal
 line_at : (a k n : ℕ) (xs ys : List ℕ) → k ≡ length ys → n ≡ a + k → n < length xs
     → take (n + 1) (set (put_mid a k xs ys) n 10) ≡ take a xs ++ (ys ++ 10 ∷ [])
 line_at a k n xs ys size end room =
-    let part : length (take k (drop a xs)) ≡ k = length-take-le k (drop a xs) (omega (arith, length-drop a xs)) in
-    let all : length (put_mid a k xs ys) ≡ length xs = same_len_mid a k xs ys (omega (arith, part, size)) in
+    let part : length (take k (drop a xs)) ≡ k =
+    length-take-le k (drop a xs) (omega (arith, length-drop a xs)) in
+    let all : length (put_mid a k xs ys) ≡ length xs =
+    same_len_mid a k xs ys (omega (arith, part, size)) in
     take_more_set (put_mid a k xs ys) n 10 (omega (arith, all))
     ∙ ap (λ l. l ++ 10 ∷ []) (take-put_mid a k xs ys n (omega (arith, size)) (omega arith))
     ∙ append_assoc (take a xs) ys (10 ∷ [])
 
 -- the name, copied into zeros, then the message
-line : (k n : ℕ) (name text copied : List ℕ) → name ≡ codes "komisum: " → copied ≡ text → k ≡ length text
+line : (k n : ℕ) (name text copied : List ℕ) → name ≡ codes "komisum: " → copied ≡ text
+    → k ≡ length text
     → n ≡ 9 + k → length text < 26
-    → take (n + 1) (set (put_mid 9 k (name ++ replicate 26 0) copied) n 10) ≡ codes "komisum: " ++ text ++ 10 ∷ []
+    → take (n + 1) (set (put_mid 9 k (name ++ replicate 26 0) copied) n 10)
+    ≡ codes "komisum: " ++ text ++ 10 ∷ []
 line k n name text copied is_name is_text size end short =
     line_at 9 k n (name ++ replicate 26 0) copied (omega (arith, size, ap length is_text)) end
     (omega (arith, length-append name (replicate 26 0), ap length is_name))
@@ -33,13 +39,15 @@ returns-clause-whole g c =
     let text = c.copy_from_slice-2.ensures.after ∙ c.as_bytes.ensures.value in
     subst
     (λ bytes. OnOk c.write_whole.result
-    (Appends (g.W.Write.contents c.args.errors.now.inner) (g.W.Write.contents c.write_whole.new.writer.inner) bytes))
+    (Appends (g.W.Write.contents c.args.errors.now.inner)
+    (g.W.Write.contents c.write_whole.new.writer.inner) bytes))
     (line _ _ _ _ _ c.copy_from_slice.ensures.after text (omega arith) (omega arith) (omega arith))
     c.write_whole.ensures.whole
 
 pub returns-clause-partial : goal.returns-clause-partial
 returns-clause-partial g c =
     let text = c.copy_from_slice-2.ensures.after ∙ c.as_bytes.ensures.value in
-    subst (AppendsPrefix (g.W.Write.contents c.args.errors.now.inner) (g.W.Write.contents c.write_whole.new.writer.inner))
+    subst (AppendsPrefix (g.W.Write.contents c.args.errors.now.inner)
+    (g.W.Write.contents c.write_whole.new.writer.inner))
     (line _ _ _ _ _ c.copy_from_slice.ensures.after text (omega arith) (omega arith) (omega arith))
     c.write_whole.ensures.partial

@@ -1,5 +1,6 @@
 -- A write of what is left accepts the bytes that follow those written.
-use Rattle.std.proofs.Common.{◌≡◌, ℕ, ◌+◌, ◌-◌, List, ◌++◌, take, drop, length, rules, arith, ap, sym, ◌∙◌, subst, length-drop}
+use Rattle.std.proofs.Common.{◌≡◌, ℕ, ◌+◌, ◌-◌, List, ◌++◌, take, drop, length, rules, arith, ap}
+use Rattle.std.proofs.Common.{sym, ◌∙◌, subst, length-drop}
 use Rattle.std.proofs.Math.Seq.{take-add}
 use Rattle.std.proofs.lemmas.List.{take_rest}
 use Rattle.std.proofs.KnownBytes.{Appends-trans}
@@ -7,7 +8,8 @@ use Rattle.std.specs.Io.KnownBytes.{Appends}
 use Rattle.komisum.proofs.watched.write_whole.Goals as goal
 
 -- the first bytes, and the first of what is left
-take_on : (i n : ℕ) (xs : List ℕ) → take i xs ++ take n (take (length xs - i) (drop i xs)) ≡ take (i + n) xs
+take_on : (i n : ℕ) (xs : List ℕ)
+    → take i xs ++ take n (take (length xs - i) (drop i xs)) ≡ take (i + n) xs
 take_on i n xs = ap (λ left. take i xs ++ take n left) (take_rest xs i) ∙ sym (take-add i n xs)
 
 pub loop-written-preserved : goal.loop-written-preserved
@@ -15,9 +17,15 @@ loop-written-preserved g c =
     let bytes = c.args.bytes.now in
     let i = c.loop-written.written in
     record {
-      within = omega (arith, ap length (take_rest bytes i), length-drop i bytes, c.in-Ok.ensures.bound);
+      within = omega (
+        arith,
+        ap length (take_rest bytes i),
+        length-drop i bytes,
+        c.in-Ok.ensures.bound,
+      );
       bytes =
-          subst (Appends (g.W.Write.contents c.args.writer.now.inner) (g.W.Write.contents c.write.new.self.inner))
+          subst (Appends (g.W.Write.contents c.args.writer.now.inner)
+          (g.W.Write.contents c.write.new.self.inner))
           (take_on i c.in-Ok.count bytes)
           (Appends-trans _ _ _ _ _ c.loop-written.invariant.bytes c.in-Ok.ensures.bytes);
       sound = search rules;

@@ -19,12 +19,16 @@ returns-then-over-bytes-gt8 g c =
     let word = c.read_partial_word-word.ensures ∙ word_of-zero bytes in
     let shift : 64 - 8 * (c.args.fill % 8) ≡ 8 * fit = omega arith in
     let left : c.read_partial_word-word.result / 2 ^ (64 - 8 * (c.args.fill % 8))
-        ≡ word_of (take 8 (drop fit bytes)) =
-    rw (word, shift, ← word_of-drop fit bytes are,
-        take_all 8 (drop fit bytes) (omega (arith, length-drop fit bytes))) in
+    ≡ word_of (take 8 (drop fit bytes)) =
+    rw (
+      word,
+      shift,
+      ← word_of-drop fit bytes are,
+      take_all 8 (drop fit bytes) (omega (arith, length-drop fit bytes)),
+    ) in
     rw (take_all (fit + 8) bytes (omega arith)) at
     (c.append_word.ensures bytes fit (omega arith) left (pending_bytes c.args.words.now c.args.fill)
-        (omega arith)
+    (omega arith)
     (c.append_within_word.ensures bytes are word))
 
 pub returns-else-not-this : goal.returns-else-not-this

@@ -13,7 +13,7 @@ returns-then-not-this g c =
     let size = length_pending c.args.words.now c.args.fill c.requires.pending in
     let partial = rw (take-take (8 - c.args.fill % 8) 8 bytes (omega arith)) at
     (c.append_within_word.ensures (take 8 bytes)
-        (AreBytes-take 8 bytes (AreBytes-typed bytes c.type_inv.bytes))
+    (AreBytes-take 8 bytes (AreBytes-typed bytes c.type_inv.bytes))
     c.read_word.ensures) in
     rw (take_all (length bytes) bytes (omega arith)) at
     (c.append_last.ensures xs (omega arith) (c.append_words.ensures xs (omega arith) partial))
@@ -25,7 +25,7 @@ returns-else-not-this g c =
     let size = length_pending c.args.words.now c.args.fill c.requires.pending in
     let partial = rw (take-take (8 - c.args.fill % 8) 8 bytes (omega arith)) at
     (c.append_within_word.ensures (take 8 bytes)
-        (AreBytes-take 8 bytes (AreBytes-typed bytes c.type_inv.bytes))
+    (AreBytes-take 8 bytes (AreBytes-typed bytes c.type_inv.bytes))
     c.read_word.ensures) in
     let full : c.args.fill + length bytes ≡ 64 = c.requires.full (search rules) in
     rw (take_all (length bytes - (c.args.fill + length bytes) % 8) bytes (omega arith)) at

@@ -25,11 +25,11 @@ pub returns : goal.returns
 returns c v bytes few =
     let message : List ℕ =
     0x23 ∷ 0xb7 ∷ 0xf5 ∷ 0x1b ∷ 0xf5 ∷ 0x11 ∷ 0x2d ∷ 0xfe ∷ 0xf1 ∷ 0xff ∷ 0xff ∷ 0xff ∷ 0xff ∷ 0xff
-        ∷ 0xff ∷ 0xff ∷ bytes in
+    ∷ 0xff ∷ 0xff ∷ bytes in
     let last = final_word message (end_byte v message) in
     komi_short v 0 message (omega arith)
     ∙ ap (λ ws. hash_from_pair (seed_pair 0)
-        (0xfe2d11f51bf5b723 ∷ 0xfffffffffffffff1 ∷ (ws ++ last ∷ [])))
+    (0xfe2d11f51bf5b723 ∷ 0xfffffffffffffff1 ∷ (ws ++ last ∷ [])))
     (whole_words-few bytes (omega arith))
     ∙ ap (λ s. closing s (last ∷ [])) round_of_zero
     ∙ closing-zero 0x4ef2e8526fea8bc8 last

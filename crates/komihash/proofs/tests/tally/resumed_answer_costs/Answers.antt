@@ -9,7 +9,11 @@ pub returns-clause-products : goal.returns-clause-products
 returns-clause-products g c =
     let s = g.S.KomiStream.state c.in_ok-stream.stream in
     let none : length s.pending ≡ 0 =
-    omega (arith, length-text g.S.KomiStream.VERSION s, ap length c.in_ok-stream.ensures.text,
-        c.told-text) in
+    omega (
+      arith,
+      length-text g.S.KomiStream.VERSION s,
+      ap length c.in_ok-stream.ensures.text,
+      c.told-text,
+    ) in
     c.run_on.ensures.products
-        ∙ ap (λ p. c.args.tally.now.products + onward_products p (Answer ∷ [])) none
+    ∙ ap (λ p. c.args.tally.now.products + onward_products p (Answer ∷ [])) none

@@ -7,8 +7,11 @@ use Rattle.komihash.proofs.stream.raw.RawStream.restore.Goals as goal
 
 pub returns-clause-same : goal.returns-clause-same
 returns-clause-same g c s is same =
-    rw (c.read_pending.ensures, c.read_flags-absorbed.ensures.absorbed,
-        c.read_flags-absorbed.ensures.top_bit)
+    rw (
+      c.read_pending.ensures,
+      c.read_flags-absorbed.ensures.absorbed,
+      c.read_flags-absorbed.ensures.top_bit,
+    )
     (read_back g.row.V c.args.bytes.now c.read_lanes.result s is same c.read_lanes.ensures)
 
 pub returns-clause-is_state : goal.returns-clause-is_state
