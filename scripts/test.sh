@@ -34,8 +34,7 @@ part python3 scripts/surface.py
 part python3 scripts/documents.py
 part rt ci
 # Some versions of `rt ci` pass over an edit that no longer applies or compiles.
-note 'every must-fail edit applies and compiles' \
-    awk '/BAD EDIT/ { print; bad = 1 } END { exit bad }' "$room/told"
+note 'each must-fail edit applies' awk '/BAD EDIT/ { print; bad = 1 } END { exit bad }' "$room/told"
 [ "$failed" = 0 ] || sum_up
 part bash scripts/program.sh
 part bash c/run.sh examples
