@@ -1,8 +1,9 @@
 -- The version and the seed that the program's arguments ask for.
-use Rattle.std.specs.Prelude.{ℕ, Bool, List, [], ◌∷◌, length, map, nat_eq, ◌&&◌, bytes_eq, codes}
+use Rattle.std.specs.Prelude.{ℕ, Bool, List, [], ◌∷◌, length, map, not, ◌&&◌, bytes_eq, codes}
 use Rattle.std.specs.Prelude.{if◌then◌else◌, None, Some, Ok, Err, String, string_bytes}
+use Rattle.std.specs.Char.{is_ascii_hexdigit, is_ascii_uppercase}
 use Rattle.std.specs.Int.{is_in_range}
-use Rattle.std.specs.List.{list_all, list_any}
+use Rattle.std.specs.List.{list_all}
 use Rattle.std.specs.declared.option.Option.{Option}
 use Rattle.std.specs.declared.result.Result.{Result}
 use Rattle.std.specs.declared.io.Error.{Error}
@@ -32,7 +33,7 @@ version_of argument =
 
 -- a hexadecimal digit that is no capital letter
 abbrev pub is_hex_digit : ℕ → Bool
-is_hex_digit c = list_any (nat_eq c) (codes "0123456789abcdef")
+is_hex_digit c = is_ascii_hexdigit c && not (is_ascii_uppercase c)
 
 -- one to sixteen digits
 abbrev pub is_seed : List ℕ → Bool

@@ -1,6 +1,6 @@
 -- What the reader gave grows by what a read gives.
-use Rattle.std.proofs.Common.{◌≡◌, ◌↔◌, ℕ, ◌+◌, ◌≤◌, ◌<◌, ◌++◌, false, Err, length, take, arith}
-use Rattle.std.proofs.Common.{refl, rules, length-append, length-take-le}
+use Rattle.std.proofs.Common.{◌≡◌, ◌↔◌, ℕ, ◌+◌, ◌≤◌, ◌<◌, ◌++◌, false, Err, length, take}
+use Rattle.std.proofs.Common.{arith, refl, rules, length-append, length-take-le}
 use Rattle.std.specs.declared.result.Result.{Result}
 use Rattle.komisum.specs.declared.ending.Fault.{Fault}
 use Rattle.komisum.specs.declared.ending.Fault.TheVariants.{TooLong}
@@ -32,18 +32,13 @@ pub loop-stream-preserved : goal.loop-stream-preserved
 loop-stream-preserved g c =
     let before = c.loop-stream.invariant.0 in
     let kept = c.loop-stream.invariant.1 in
-    let given = take c.in-Ok.count c.read.new.buf in (
+    let given = take c.in-Ok.count c.read.new.buf in
+    let size = length-take-le c.in-Ok.count c.read.new.buf c.in-Ok.ensures.bound.0 in (
       before ++ given,
       record {
         message = c.absorb.ensures.message c.args.seed before kept.message;
         consumed = Consumes-trans _ _ _ before given kept.consumed c.in-Ok.ensures.bytes.0;
-        count =
-            omega (
-              arith,
-              kept.count,
-              length-append before given,
-              length-take-le c.in-Ok.count c.read.new.buf c.in-Ok.ensures.bound.0,
-            );
+        count = omega (arith, kept.count, length-append before given);
         within = search rules;
         room = search rules;
         sound = search rules;

@@ -7,8 +7,8 @@ use Rattle.komisum.proofs.digest.digest.Given as goal
 abbrev pub invariant-loop-stream : goal.invariant-loop-stream
 invariant-loop-stream g l = (bytes : List ℕ) × record {
   message : HasAbsorbed g.S.KomiStream.VERSION l.seed (g.S.KomiStream.state l.stream) bytes;
-  consumed : Consumes (g.R.Read.remaining l.fn.reader.inner)
-      (g.R.Read.remaining l.reader.inner) bytes;
+  consumed :
+      Consumes (g.R.Read.remaining l.fn.reader.inner) (g.R.Read.remaining l.reader.inner) bytes;
   count : l.taken ≡ length bytes;
   within : l.taken ≤ l.most;
   room : length l.chunk ≡ length l.fn.chunk;

@@ -1,6 +1,7 @@
 -- One digit more is written, and what is above it is left.
-use Rattle.std.proofs.Common.{◌≡◌, ℕ, ◌+◌, ◌-◌, ◌/◌, ◌%◌, ◌^◌, ◌<◌, ◌≤◌, List, [], ◌∷◌, ◌++◌, map}
-use Rattle.std.proofs.Common.{length, get_or, slice_set, nat_lt, cond, rules, arith, ap, sym, ◌∙◌}
+use Rattle.std.proofs.Common.{◌≡◌, ℕ, ◌+◌, ◌-◌, ◌/◌, ◌%◌, ◌^◌, ◌<◌, ◌≤◌, nat_lt, cond}
+use Rattle.std.proofs.Common.{List, [], ◌∷◌, ◌++◌, map, length, get_or, slice_set}
+use Rattle.std.proofs.Common.{rules, arith, ap, sym, ◌∙◌}
 use Rattle.std.proofs.lemmas.Bool.Decides.{nat_tests}
 use Rattle.std.proofs.lemmas.Grind.{common_steps}
 use Rattle.std.proofs.lemmas.List.FromFn.{fill_by_all}
@@ -17,17 +18,13 @@ div-pow_more n k m e =
     div-div-eq-div-mul n (16 ^ k) 16 ∙ ap (λ p. n / p) (sym (pow-suc 16 k))
     ∙ ap (λ j. n / 16 ^ j) (omega arith)
 
--- an element of a list of seventeen
-element : (f : ℕ → ℕ) (xs : List ℕ) → ((k : ℕ) → k < 16 → get_or xs k 0 ≡ f k) → get_or xs 16 0 ≡ 10
-    → (k : ℕ) → k < 17 → get_or xs k 0 ≡ cond (nat_lt k 16) (f k) 10
-element f xs digits newline k h = grind (arith, nat_tests, digits)
-
 -- a list of seventeen, by its elements
-line_by : (f : ℕ → ℕ) (xs : List ℕ) → length xs ≡ 17 → ((k : ℕ) → k < 16 → get_or xs k 0 ≡ f k)
-    → get_or xs 16 0 ≡ 10
+line_by : (f : ℕ → ℕ) (xs : List ℕ) → length xs ≡ 17
+    → ((k : ℕ) → k < 16 → get_or xs k 0 ≡ f k) → get_or xs 16 0 ≡ 10
     → xs ≡ map f (range_with_len 0 16) ++ 10 ∷ []
 line_by f xs len digits newline =
-    fill_by_all (λ k. cond (nat_lt k 16) (f k) 10) xs 17 0 len (element f xs digits newline)
+    fill_by_all (λ k. cond (nat_lt k 16) (f k) 10) xs 17 0 len
+    (λ k h. grind (arith, nat_tests, digits))
 
 -- the digits from i - 1 on, once the one there is written
 digits_more : (f : ℕ → ℕ) (xs : List ℕ) (i d : ℕ) → 0 < i → i ≤ 16 → length xs ≡ 17 → d ≡ f (i - 1)
@@ -47,8 +44,8 @@ loop-i-preserved c = record {
   left = ap (λ n. n / 16) c.loop-i.invariant.left
       ∙ div-pow_more c.args.number (16 - c.loop-i.i) _ (omega arith);
   digits = digits_more (digit_at c.args.number) c.loop-i.line c.loop-i.i c.hex_character.result
-      (omega arith) (omega arith)
-      c.loop-i.invariant.length (same_digit c) c.loop-i.invariant.digits;
+      (omega arith) (omega arith) c.loop-i.invariant.length (same_digit c)
+      c.loop-i.invariant.digits;
   length = search rules;
   newline = search rules;
 }

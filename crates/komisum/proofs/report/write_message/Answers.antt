@@ -1,12 +1,9 @@
 -- The line is the name, the message and a newline.
-use Rattle.std.proofs.Common.{◌≡◌, ℕ, ◌+◌, ◌<◌, List, codes, length, take, drop, set, replicate}
-use Rattle.std.proofs.Common.{◌++◌, [], ◌∷◌, ◌∙◌, ap, arith, subst, append_assoc, length-drop}
-use Rattle.std.proofs.Common.{length-take-le, length-append}
+use Rattle.std.proofs.Common.{◌≡◌, ℕ, ◌+◌, ◌-◌, ◌<◌, List, [], ◌∷◌, ◌++◌, codes}
+use Rattle.std.proofs.Common.{length, take, drop, set, replicate, ap, arith, ◌∙◌}
+use Rattle.std.proofs.Common.{append_assoc, length-append, length-drop, length-take-le}
 use Rattle.std.proofs.lemmas.List.{take_more_set}
 use Rattle.std.proofs.lemmas.Slice.{take-put_mid}
-use Rattle.std.specs.Prelude.{OnOk}
-use Rattle.std.specs.Io.KnownBytes.{Appends}
-use Rattle.komisum.specs.Watched.{AppendsPrefix}
 use borrow.Rule.Slice.PartMut.{put_mid, same_len_mid}
 use Rattle.komisum.proofs.report.write_message.Goals as goal
 
@@ -23,13 +20,12 @@ line_at a k n xs ys size end room =
     ∙ append_assoc (take a xs) ys (10 ∷ [])
 
 -- the name, copied into zeros, then the message
-line : (k n : ℕ) (name text copied : List ℕ) → name ≡ codes "komisum: " → copied ≡ text
-    → k ≡ length text
-    → n ≡ 9 + k → length text < 26
-    → take (n + 1) (set (put_mid 9 k (name ++ replicate 26 0) copied) n 10)
+line : (name text copied : List ℕ) → name ≡ codes "komisum: " → copied ≡ text → length text < 26
+    → let end = 9 + length text in
+    take (end + 1) (set (put_mid 9 (end - 9) (name ++ replicate 26 0) copied) end 10)
     ≡ codes "komisum: " ++ text ++ 10 ∷ []
-line k n name text copied is_name is_text size end short =
-    line_at 9 k n (name ++ replicate 26 0) copied (omega (arith, size, ap length is_text)) end
+line name text copied is_name is_text short =
+    line_at 9 _ _ (name ++ replicate 26 0) copied (omega (arith, ap length is_text)) (omega arith)
     (omega (arith, length-append name (replicate 26 0), ap length is_name))
     ∙ ap (λ name. take 9 (name ++ replicate 26 0) ++ (copied ++ 10 ∷ [])) is_name
     ∙ ap (λ text. codes "komisum: " ++ text ++ 10 ∷ []) is_text
@@ -37,17 +33,11 @@ line k n name text copied is_name is_text size end short =
 pub returns-clause-whole : goal.returns-clause-whole
 returns-clause-whole g c =
     let text = c.copy_from_slice-2.ensures.after ∙ c.as_bytes.ensures.value in
-    subst
-    (λ bytes. OnOk c.write_whole.result
-    (Appends (g.W.Write.contents c.args.errors.now.inner)
-    (g.W.Write.contents c.write_whole.new.writer.inner) bytes))
-    (line _ _ _ _ _ c.copy_from_slice.ensures.after text (omega arith) (omega arith) (omega arith))
-    c.write_whole.ensures.whole
+    let same = line _ c.args.text.now _ c.copy_from_slice.ensures.after text (omega arith) in
+    rw same at c.write_whole.ensures.whole
 
 pub returns-clause-partial : goal.returns-clause-partial
 returns-clause-partial g c =
     let text = c.copy_from_slice-2.ensures.after ∙ c.as_bytes.ensures.value in
-    subst (AppendsPrefix (g.W.Write.contents c.args.errors.now.inner)
-    (g.W.Write.contents c.write_whole.new.writer.inner))
-    (line _ _ _ _ _ c.copy_from_slice.ensures.after text (omega arith) (omega arith) (omega arith))
-    c.write_whole.ensures.partial
+    let same = line _ c.args.text.now _ c.copy_from_slice.ensures.after text (omega arith) in
+    rw same at c.write_whole.ensures.partial

@@ -1,10 +1,9 @@
 -- A write of what is left accepts the bytes that follow those written.
-use Rattle.std.proofs.Common.{◌≡◌, ℕ, ◌+◌, ◌-◌, List, ◌++◌, take, drop, length, rules, arith, ap}
-use Rattle.std.proofs.Common.{sym, ◌∙◌, subst, length-drop}
+use Rattle.std.proofs.Common.{◌≡◌, ℕ, ◌+◌, ◌-◌, List, ◌++◌, take, drop, length}
+use Rattle.std.proofs.Common.{rules, arith, ap, sym, ◌∙◌, length-drop}
 use Rattle.std.proofs.Math.Seq.{take-add}
 use Rattle.std.proofs.lemmas.List.{take_rest}
 use Rattle.std.proofs.KnownBytes.{Appends-trans}
-use Rattle.std.specs.Io.KnownBytes.{Appends}
 use Rattle.komisum.proofs.watched.write_whole.Goals as goal
 
 -- the first bytes, and the first of what is left
@@ -17,16 +16,9 @@ loop-written-preserved g c =
     let bytes = c.args.bytes.now in
     let i = c.loop-written.written in
     record {
-      within = omega (
-        arith,
-        ap length (take_rest bytes i),
-        length-drop i bytes,
-        c.in-Ok.ensures.bound,
-      );
-      bytes =
-          subst (Appends (g.W.Write.contents c.args.writer.now.inner)
-          (g.W.Write.contents c.write.new.self.inner))
-          (take_on i c.in-Ok.count bytes)
+      within =
+          omega (arith, ap length (take_rest bytes i), length-drop i bytes, c.in-Ok.ensures.bound);
+      bytes = rw (← take_on i c.in-Ok.count bytes)
           (Appends-trans _ _ _ _ _ c.loop-written.invariant.bytes c.in-Ok.ensures.bytes);
       sound = search rules;
     }
