@@ -1,7 +1,7 @@
 -- The saved text: its state can be read back from it, and which bytes are a text.
 use Rattle.std.proofs.Common.{◌≡◌, ℕ, zero, suc, ◌+◌, ◌-◌, ◌*◌, ◌^◌, ◌<◌, ◌≤◌, ◌↔◌, Bool, List, []}
 use Rattle.std.proofs.Common.{◌∷◌, ◌++◌, length, take, drop, get_or, refl, ap, arith, ◌∙◌, sym}
-use Rattle.std.proofs.Common.{subst}
+use Rattle.std.proofs.Common.{subst, Fits, w8}
 use Rattle.std.proofs.lemmas.Bool.Decides.{nat_tests}
 use Rattle.std.proofs.lemmas.List.{append-nil, length-append, length-drop, length-take-le}
 use Rattle.std.proofs.lemmas.List.{take-append-drop, take_at, drop_at, take_all}
@@ -17,7 +17,7 @@ use Rattle.komihash.specs.Storage.{xor_again}
 use Rattle.komihash.proofs.WholeWords.{length-whole_words}
 use Rattle.komihash.proofs.AllBytes.{length-all_bytes}
 use Rattle.komihash.proofs.Unpadding.{bytes_of-word_of_append, whole_words-all_bytes}
-use Rattle.komihash.proofs.WordOf.{AreBytes-take, AreBytes-drop, word_of-lt}
+use Rattle.komihash.proofs.WordOf.{AreBytes-typed, AreBytes-take, AreBytes-drop, word_of-lt}
 
 -- ---- the parts of a text
 
@@ -33,9 +33,6 @@ part-put a n out part bytes le within room is =
           ∙ ap (λ xs. take a out ++ xs) whole,
       λ m after. drop-put_mid a (n - a) out part m (omega arith) (omega arith) size,
     )
-
--- what the proof of `read_lanes` needs
-pub ruleset cuts = (length-take-le, length-drop, take_all)
 
 -- ---- a text, and the state that is read from it
 
@@ -99,14 +96,11 @@ length-text v s =
       length-all_bytes (in_order s.lanes),
     )
 
-pub text-most : (v : ℕ) (s : State) (bytes : List ℕ) → IsState v s → text v s ≡ bytes
-    → length bytes ≤ 131
-text-most v s bytes is same = omega (arith, is.few, length-text v s, ap length same)
-
 pub IsTextAfter-most : (v seed : ℕ) (m bytes : List ℕ) → IsTextAfter v seed m bytes
     → length bytes ≤ 131
 unfolding IsTextAfter
-IsTextAfter-most v seed m bytes (s, is, absorbed, same) = text-most v s bytes is same
+IsTextAfter-most v seed m bytes (s, is, absorbed, same) =
+    omega (arith, is.few, length-text v s, ap length same)
 
 -- two states never share a text
 module _ (v w : ℕ) (s t : State) (same : text v s ≡ text w t) where
@@ -208,11 +202,13 @@ text-laid_out v s is =
       size = length-text v s;
     }
 
-pub IsLaidOut-text : (v : ℕ) (bytes : List ℕ) → AreBytes bytes → IsLaidOut v bytes ↔ IsText v bytes
-IsLaidOut-text v bytes are = (
-  λ laid. (state_of bytes, laid_out-state v bytes are laid, laid_out-text v bytes are laid),
-  λ is. subst (IsLaidOut v) is.2 (text-laid_out v is.0 is.1),
-)
+pub IsLaidOut-text : (v : ℕ) (bytes : List ℕ) → ((k : ℕ) → Fits w8 (get_or bytes k 0))
+    → IsLaidOut v bytes ↔ IsText v bytes
+IsLaidOut-text v bytes typed =
+    let are = AreBytes-typed bytes typed in (
+      λ laid. (state_of bytes, laid_out-state v bytes are laid, laid_out-text v bytes are laid),
+      λ is. subst (IsLaidOut v) is.2 (text-laid_out v is.0 is.1),
+    )
 
 -- what is read from a text is its state
 pub read_back : (v : ℕ) (bytes : List ℕ) (lanes : Lanes) (s : State) → IsState v s

@@ -5,7 +5,6 @@ use Rattle.komihash.specs.Storage.{pending_words}
 use Rattle.komihash.specs.Words.{word_of, words_of}
 use Rattle.komihash.specs.Storage.{whole_words, after_words}
 use Rattle.std.proofs.lemmas.List.{length-drop, drop-drop}
-use Rattle.std.proofs.lemmas.Bool.Decides.{nat_tests}
 use Rattle.std.specs.Prelude.{slice_index}
 
 -- the word at an index of those that store bytes
@@ -101,12 +100,8 @@ whole_words-from (suc n) at xs le lt =
     (ap whole_words (drop-drop 8 at xs)
     ∙ whole_words-from n (at + 8) xs (omega arith) (omega arith))
 
--- the eight words of a block
-pub whole_words-block : (xs : List ℕ) → length xs ≡ 64 → whole_words xs ≡ words_from 8 0 xs
-whole_words-block xs e = whole_words-from 8 0 xs (omega arith) (omega arith)
-
 -- what proofs that read whole words one by one need
-pub ruleset read_words = (length-whole_words, slice_index-whole_words, nat_tests)
+pub ruleset read_words = (length-whole_words, slice_index-whole_words)
 
 -- bytes that are all in whole words
 pub words_of-whole : (xs : List ℕ) (k : ℕ) → length xs ≡ 8 * k → words_of xs ≡ whole_words xs

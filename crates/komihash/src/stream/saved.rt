@@ -83,7 +83,6 @@ pub(crate) fn read_flags(bytes: &[u8]) -> (bool, bool)
 }
 
 #[inline(always)]
-#[tactic(auto, using(crate::proofs::SavedTexts::cuts))]
 pub(crate) fn read_lanes(bytes: &[u8]) -> Lanes
     requires { PENDING_AT ≤ length bytes.now }
     ensures { in_order result ≡ whole_words (take 64 (drop LANES_AT bytes.now)) }

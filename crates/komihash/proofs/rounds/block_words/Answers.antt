@@ -1,5 +1,6 @@
-use Rattle.komihash.proofs.WholeWords.{whole_words-block}
+use Rattle.std.proofs.Common.{arith}
+use Rattle.komihash.proofs.WholeWords.{whole_words-from}
 use Rattle.komihash.proofs.rounds.block_words.Goals as goal
 
 pub returns : goal.returns
-returns c = cc (whole_words-block c.args.block.now c.told-block)
+returns c = cc (whole_words-from 8 0 c.args.block.now (omega arith) (omega arith))

@@ -1,17 +1,14 @@
 use Rattle.std.proofs.Common.{rules, arith}
 use Rattle.std.proofs.lemmas.Bool.Decides.{nat_tests}
-use Rattle.komihash.proofs.WordOf.{AreBytes-typed}
 use Rattle.komihash.proofs.SavedTexts.{IsLaidOut-text}
 use Rattle.komihash.proofs.stream.saved.is_text.Goals as goal
 
 pub returns-then-bytes-lt64-clause-text : goal.returns-then-bytes-lt64-clause-text
 returns-then-bytes-lt64-clause-text g c =
-    let bytes = c.args.bytes.now in
-    let laid = IsLaidOut-text g.row.V bytes (AreBytes-typed bytes c.type_inv.bytes) in
+    let laid = IsLaidOut-text g.row.V c.args.bytes.now c.type_inv.bytes in
     ((λ is. laid.0 (search rules)), λ is. let l = laid.1 is in grind (arith, nat_tests))
 
 pub returns-else-bytes-lt64-clause-text : goal.returns-else-bytes-lt64-clause-text
 returns-else-bytes-lt64-clause-text g c =
-    let bytes = c.args.bytes.now in
-    let laid = IsLaidOut-text g.row.V bytes (AreBytes-typed bytes c.type_inv.bytes) in
+    let laid = IsLaidOut-text g.row.V c.args.bytes.now c.type_inv.bytes in
     ((λ is. absurd (grind (arith, nat_tests))), λ is. let l = laid.1 is in grind (arith, nat_tests))
