@@ -59,7 +59,7 @@ typedef struct {
 } komihash_v5_rand;
 
 /* A piece of a message. It is laid out like POSIX's `struct iovec`, so an array of those can be
- * cast to pieces. Leave out entries {NULL, 0} before. */
+ * cast to pieces. Remove entries {NULL, 0} from the array before the cast. */
 typedef struct {
     const void *bytes;
     size_t length;
