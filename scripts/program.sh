@@ -112,9 +112,8 @@ refuse_memory 5 4bde5bdc63771675 4 1f
 # Those tests alone fail that read arguments or write to a `Vec`, and none of the library's.
 wait
 note 'komihash allocates nothing' grep -q '^test result: ok\. [1-9]' "$room/komihash"
-allocating='arguments::any_program_name arguments::long_arguments'
-allocating+=' arguments::wrong_count_or_not_utf8 show::lines show::lines_of_zeros'
-note 'what allocates in the tests of komisum' equal "$allocating" \
+allocating=$(echo arguments::{any_program_name,long_arguments,wrong_count_or_not_utf8})
+note 'what allocates in the tests of komisum' equal "$allocating show::lines show::lines_of_zeros" \
     "$(sed -n 's/^test tests::\(.*\) \.\.\. FAILED$/\1/p' "$room/komisum" | paste -sd ' ')"
 
 counted

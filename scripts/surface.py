@@ -6,8 +6,7 @@
            unless it is the Prelude; all functions of exports.rt, which state the version of each
            public name; of komisum also whole functions that no contract holds, and constants;
            checksums of the definitions; and the seal of the tally.
-  twins    The modules v4.rt and v5.rt of a crate differ in a number alone, but for their first
-           lines, which begin with `//!`. So v4.rt is not listed.
+  twins    v4.rt and v5.rt of a crate differ in a number and lines `//!`, so v4.rt isn't listed.
 
 The seal (docs/DECISIONS.md) is a checksum of each proof that opens it, and all lines that name a
 part of it. No edit can break it without a change of the list as long as the following holds:
