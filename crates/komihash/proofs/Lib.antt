@@ -12,6 +12,7 @@ pub mod PendingBytes
 pub mod Propositions
 mod Raised
 pub mod SavedTexts
+pub mod StoredWords
 pub mod StreamAbsorbs
 pub mod StreamAnswers
 pub mod StreamMessages

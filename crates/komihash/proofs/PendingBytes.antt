@@ -8,7 +8,7 @@ use Rattle.std.proofs.lemmas.List.{take-append-le, drop-append-le, drop-drop}
 use Rattle.std.specs.Prelude.{bit_or}
 use Rattle.std.specs.Simd.Lanes.{number_l, put_chunk}
 use borrow.Rule.Slice.PartMut.{put_mid, mid_of}
-use Rattle.komihash.specs.Storage.{pending_words, pending_bytes, ArePending, Stores, Extends}
+use Rattle.komihash.specs.Storage.{pending_words, pending_bytes, ArePending, Stores}
 use Rattle.komihash.specs.Storage.{whole_words, final_word}
 use Rattle.komihash.specs.Words.{AreBytes, word_of, bytes_of, all_bytes}
 use Rattle.komihash.proofs.Lists.{take-more, take-append, two_put}
@@ -40,7 +40,7 @@ bytes-pending_words (suc n) xs are le =
     (take-append-drop 8 xs)
 
 -- a word set to that of its old bytes and of more after them
-set-pending_words : (n i : ℕ) (xs ys : List ℕ) → i < n → 8 * i ≤ length xs
+pub set-pending_words : (n i : ℕ) (xs ys : List ℕ) → i < n → 8 * i ≤ length xs
     → length xs + length ys ≤ 8 * i + 8
     → set (pending_words n xs) i (word_of (drop (8 * i) xs ++ ys)) ≡ pending_words n (xs ++ ys)
 unfolding pending_words
@@ -63,51 +63,6 @@ set-pending_words (suc n) (suc i) xs ys lt from few =
     )
     (ap (λ ws. word_of (take 8 xs) ∷ ws)
     (set-pending_words n i (drop 8 xs) ys (omega arith) (omega arith) (omega arith)))
-
--- a word set where the old bytes end on a whole word: the next eight bytes, or all that are left
-pub extend-set : (old : List ℕ) (at from : ℕ) (bytes : List ℕ) → at < 8 → from ≤ length bytes
-    → Extends old (set old at (word_of (take 8 (drop from bytes)))) at bytes from (from + 8)
-extend-set old at from bytes lt within xs place is =
-    let front = xs ++ take from bytes in
-    let next = take 8 (drop from bytes) in
-    let size : length front ≡ 8 * at =
-    omega (arith, length-append xs (take from bytes), length-take-le from bytes within) in
-    let word : word_of next ≡ word_of (drop (8 * at) front ++ next) =
-    ap (λ b. word_of (b ++ next)) (sym (drop_all (8 * at) front (omega arith))) in
-    rw (
-      is,
-      word,
-      set-pending_words 8 at front next lt (omega arith)
-          (omega (arith, length-take 8 (drop from bytes))),
-    )
-    (ap (pending_words 8)
-    (append_assoc xs (take from bytes) next ∙ ap (λ b. xs ++ b) (take-more from 8 bytes)))
-
--- the next two words, stored as a vector
-pub extend-two : (old : List ℕ) (at from : ℕ) (bytes : List ℕ) → AreBytes bytes → at < 7
-    → from + 16 ≤ length bytes
-    → let n = number_l 256 (take 16 (drop from bytes)) in
-    Extends old (put_mid at (8 - at) old
-    (put_chunk 0 (mid_of at (8 - at) old) (n % 2 ^ 64 ∷ n / 2 ^ 64 % 2 ^ 64 ∷ []))) at bytes from
-    (from + 16)
-extend-two old at from bytes are lt within xs place is =
-    let size : length old ≡ 8 = ap length is ∙ length-pending_words 8 (xs ++ take from bytes) in
-    let (first, second) =
-    two_words (drop from bytes) (AreBytes-drop from bytes are)
-    (omega (arith, length-drop from bytes)) in
-    let next = word_of (take 8 (drop from bytes)) in
-    let all : from + 16 ≡ from + 8 + 8 = omega arith in
-    let second_at : 8 + from ≡ from + 8 = omega arith in
-    rw (
-      two_put at (8 - at) old _ _ (omega arith) (omega arith),
-      first,
-      second,
-      drop-drop 8 from bytes,
-      all,
-    )
-    (extend-set (set old at next) (suc at) (from + 8) bytes (omega arith) (omega arith) xs
-    (omega arith)
-    (extend-set old at from bytes (omega arith) (omega arith) xs place is))
 
 -- ---- the bytes that words store up to a fill
 
@@ -270,8 +225,7 @@ module _ (ws : List ℕ) (fill : ℕ) (are : ArePending ws fill) where
       final_word_whole (pending_bytes ws fill) end (ap (λ n. n % 8) length_pending ∙ whole)
 
 -- the lemmas for functions that append, for those that read, and for all on pending bytes
-pub ruleset put_laws =
-    (length_pending, bytes_put, ArePending_put, words_put, join_pending, extend-set)
+pub ruleset put_laws = (length_pending, bytes_put, ArePending_put, words_put, join_pending)
 
 pub ruleset last_laws = (last_of_whole, last_of_partial, last_fits_whole, last_fits_partial)
 

@@ -4,7 +4,7 @@ use Rattle.std.proofs.Math.Nat.{mul_comm}
 use Rattle.std.proofs.lemmas.Nat.{and_comm, and_assoc, and-not}
 use Rattle.std.specs.Prelude.{bit_xor, bit_and}
 use Rattle.komihash.specs.Rounds.{mix}
-use Rattle.std.specs.Int.Bits.{xor_assoc, xor_comm, xor_disjoint}
+use Rattle.std.specs.Int.Bits.{xor_assoc, xor_comm, xor_disjoint, xor_zero_l}
 use Rattle.komihash.specs.Storage.{xor_again}
 
 -- a word is xored with a low half first, and then with the word that the half belongs to
@@ -27,6 +27,14 @@ pub factors_swap : (w last low e : ℕ)
 unfolding mix
 factors_swap w last low e =
     rw (xor_late_left w low e, mul_comm (bit_xor (bit_xor e low) w) (bit_xor e last)) refl
+
+-- the same with a last word of 0, and without the change
+pub factors_alone : (w last low e : ℕ) → last ≡ 0
+    → mix (bit_xor (bit_xor low w) e) (bit_xor e last) e ≡ mix (bit_xor (bit_xor e low) w) e e
+factors_alone w last low e none = rw (none, xor_comm e 0, xor_zero_l e, xor_late_left w low e) refl
+
+-- the two for the closing
+pub ruleset factors = (factors_swap, factors_alone)
 
 -- the first two change places
 pub xor_swap : (a b c : ℕ) → bit_xor a (bit_xor b c) ≡ bit_xor b (bit_xor a c)

@@ -3,7 +3,7 @@
 use Rattle.std.proofs.Common.{refl, ap, ◌∙◌, sym}
 use Rattle.std.proofs.lemmas.List.{length-take-le}
 use Rattle.std.specs.Prelude.{ℕ, zero, suc, Bool, ◌≡◌, ◌+◌, ◌-◌, ◌*◌, ◌%◌, ◌<◌, ◌≤◌, bit_xor}
-use Rattle.std.specs.Prelude.{List, [], ◌∷◌, ◌++◌, length, take, drop}
+use Rattle.std.specs.Prelude.{List, [], ◌∷◌, ◌++◌, length, take, drop, get_or}
 use Rattle.std.specs.Int.Bits.{xor_assoc, xor_self, xor_zero_l}
 use Rattle.komihash.specs.Padding.{padding_byte}
 use Rattle.komihash.specs.Rounds.{Lanes, block_round}
@@ -76,12 +76,15 @@ pub record ArePending (ws : List ℕ) (fill : ℕ) : Type 0 where
   pub few : fill < 64
   pub words : Stores ws (pending_bytes ws fill)
 
--- if the old words store some bytes xs and then the first `from` of `bytes`, in `at` whole words,
--- the new words store xs and then the first `to` of `bytes`
-abbrev pub Extends : List ℕ → List ℕ → ℕ → List ℕ → ℕ → ℕ → Type 0
-Extends old new at bytes from to =
-    (xs : List ℕ) → length xs + from ≡ 8 * at → Stores old (xs ++ take from bytes)
-    → Stores new (xs ++ take to bytes)
+-- the word at index k is the one that stores these bytes there
+abbrev pub StoresAt : List ℕ → List ℕ → ℕ → Type 0
+StoresAt ws bytes k = get_or ws k 0 ≡ word_of (take 8 (drop (8 * k) bytes))
+
+-- of eight words, all but those from index `low` on and below `high` store these bytes
+pub record StoresBut (ws bytes : List ℕ) (low high : ℕ) : Type 0 where
+  pub size : length ws ≡ 8
+  pub below : (k : ℕ) → k < low → k < 8 → StoresAt ws bytes k
+  pub above : (k : ℕ) → high ≤ k → k < 8 → StoresAt ws bytes k
 
 -- ---- lemmas by which a struct's value gives back its fields
 

@@ -1,7 +1,7 @@
 //! Words of eight bytes, the lowest byte first: read from bytes, written to bytes, multiplied.
 
-ghost use Rattle.std.specs.Prelude.{◌≡◌, ◌+◌, ◌*◌, ◌/◌, ◌^◌, ◌<◌, ◌≤◌};
-ghost use Rattle.std.specs.Prelude.{[], ◌∷◌, ◌++◌, length, take, drop};
+ghost use Rattle.std.specs.Prelude.{◌≡◌, ◌+◌, ◌-◌, ◌*◌, ◌/◌, ◌^◌, ◌<◌, ◌≤◌};
+ghost use Rattle.std.specs.Prelude.{[], ◌∷◌, ◌++◌, length, take, drop, slice_index};
 ghost use Rattle.komihash.specs.Counts.{Costs};
 ghost use Rattle.komihash.specs.Rounds.{low, high};
 ghost use Rattle.komihash.specs.Storage.{whole_words};
@@ -27,6 +27,16 @@ pub(crate) fn word_at(bytes: &[u8], at: usize) -> u64
     read_word(&bytes[at..])
 }
 
+/// Returns the last whole word of at least eight bytes.
+#[inline(always)]
+#[tactic(auto, using(crate::proofs::WholeWords::read_words))]
+pub(crate) fn last_whole_word(bytes: &[u8]) -> u64
+    requires { 8 ≤ length bytes.now }
+    ensures { result ≡ slice_index (whole_words bytes.now) (length bytes.now / 8 - 1) }
+{
+    word_at(bytes, bytes.len() / 8 * 8 - 8)
+}
+
 #[inline(always)]
 fn u32_at(bytes: &[u8], at: usize) -> u64
     requires { at + 4 ≤ length bytes.now }
@@ -36,19 +46,11 @@ fn u32_at(bytes: &[u8], at: usize) -> u64
     u64::from(u32::from_le_bytes([piece[0], piece[1], piece[2], piece[3]]))
 }
 
-#[inline(always)]
-fn u16_at(bytes: &[u8], at: usize) -> u64
-    requires { at + 2 ≤ length bytes.now }
-    ensures { result ≡ word_of (take 2 (drop at bytes.now)) }
-{
-    let piece = &bytes[at..];
-    u64::from(u16::from_le_bytes([piece[0], piece[1]]))
-}
-
 /// Returns the word of at most seven bytes and the byte `end` after them.
 ///
-/// Reads the bytes in two pieces, which may overlap. `end` follows the second piece, and a shift
-/// drops from this piece the bytes that the first has too.
+/// Reads four bytes or more in two pieces, which may overlap. `end` follows the second piece, and a
+/// shift drops from this piece the bytes that the first has too. Of fewer bytes, all three places
+/// are read in any case, since a choice between two values costs less than a jump.
 #[inline(always)]
 pub(crate) fn read_partial_word(bytes: &[u8], end: u64) -> u64
     requires few { length bytes.now ≤ 7 }
@@ -58,10 +60,12 @@ pub(crate) fn read_partial_word(bytes: &[u8], end: u64) -> u64
     let n = bytes.len();
     if n >= 4 {
         u32_at(bytes, 0) | (u32_at(bytes, n - 4) | end << 32) >> (64 - 8 * n) << 32
-    } else if n >= 2 {
-        u16_at(bytes, 0) | (u16_at(bytes, n - 2) | end << 16) >> (32 - 8 * n) << 16
-    } else if n == 1 {
-        u64::from(bytes[0]) | end << 8
+    } else if n > 0 {
+        let middle = u64::from(bytes[n / 2]) << 8;
+        let last = u64::from(bytes[n - 1]) << 16;
+        let second = if n > 1 { middle } else { 0 };
+        let third = if n > 2 { last } else { 0 };
+        u64::from(bytes[0]) | second | third | end << (8 * n)
     } else {
         end
     }

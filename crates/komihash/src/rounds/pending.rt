@@ -2,12 +2,12 @@
 
 #![tactic(auto, using(crate::proofs::PendingBytes::pending_laws))]
 
-ghost use Rattle.std.specs.Prelude.{◌≡◌, ℕ, ◌+◌, ◌-◌, ◌*◌, ◌/◌, ◌%◌, ◌<◌, ◌≤◌, IsTrue};
-ghost use Rattle.std.specs.Prelude.{List, [], ◌++◌, length, take, drop};
+ghost use Rattle.std.specs.Prelude.{◌≡◌, ℕ, ◌+◌, ◌-◌, ◌*◌, ◌/◌, ◌%◌, ◌<◌, ◌≤◌};
+ghost use Rattle.std.specs.Prelude.{List, [], ◌++◌, length, take, drop, slice_index};
 ghost use Rattle.std.proofs.Common.{arith, sym};
 ghost use Rattle.komihash.specs.Counts.{Costs};
 ghost use Rattle.komihash.specs.Padding.{padding_byte};
-ghost use Rattle.komihash.specs.Storage.{pending_bytes, ArePending, Stores, Extends};
+ghost use Rattle.komihash.specs.Storage.{pending_bytes, ArePending, Stores, StoresBut};
 ghost use Rattle.komihash.specs.Storage.{pending_words, length-eight_words, length-pending_bytes};
 ghost use Rattle.komihash.specs.Storage.{whole_words, final_word};
 ghost use Rattle.komihash.specs.Words.{AreBytes, word_of};
@@ -73,22 +73,8 @@ impl Pending {
         ensures bytes { self.new ≡ self.old ++ bytes.now }
         ensures costs { Costs tally 0 (length bytes.now) }
     {
-        append_bytes::<false>(&mut self.words, self.fill, bytes, tally);
+        append_bytes(&mut self.words, self.fill, bytes, tally);
         self.fill += bytes.len();
-    }
-
-    /// Appends bytes where none are stored, and counts them as kept.
-    #[inline(always)]
-    pub(crate) fn append_first(&mut self, bytes: &[u8], tally: &mut Tally)
-        requires none { self.old ≡ [] }
-        requires few { length bytes.now < 64 }
-        ensures bytes { self.new ≡ bytes.now }
-        ensures costs { Costs tally 0 (length bytes.now) }
-    {
-        if !bytes.is_empty() {
-            append_bytes::<false>(&mut self.words, 0, bytes, tally);
-            self.fill = bytes.len();
-        }
     }
 
     /// Returns the words of the block that bytes complete, and stores no bytes then. Counts the
@@ -100,10 +86,19 @@ impl Pending {
         ensures none { self.new ≡ [] }
         ensures costs { Costs tally 0 (length bytes.now) }
     {
-        append_bytes::<true>(&mut self.words, self.fill, bytes, tally);
+        append_bytes(&mut self.words, self.fill, bytes, tally);
         let block = self.words;
         *self = Pending::new();
         block
+    }
+
+    /// Returns the last whole word, or any word if there is none.
+    #[inline(always)]
+    pub(crate) fn last_whole_word(&self) -> u64
+        ensures { 8 ≤ length self.now
+            → result ≡ slice_index (whole_words self.now) (length self.now / 8 - 1) }
+    {
+        self.words[(self.fill / 8 + 7) % 8]
     }
 
     /// Returns the final word of at least one byte: those after the last whole word, and the
@@ -115,14 +110,12 @@ impl Pending {
     {
         let whole = self.fill / 8;
         let over = self.fill % 8;
-        // After whole words, the last byte is in the word before. A branch is faster here than an
-        // index that serves both cases.
-        if over == 0 {
-            let last_byte = (self.words[whole - 1] >> 56) as u8;
-            return padding_after(pads_with_two::<V>(last_byte));
-        }
         let word = self.words[whole];
-        let last_byte = (word >> (8 * over - 8)) as u8;
+        let last_byte = if over == 0 {
+            (self.words[whole - 1] >> 56) as u8
+        } else {
+            (word >> (8 * over - 8)) as u8
+        };
         word | padding_after(pads_with_two::<V>(last_byte)) << (8 * over)
     }
 
@@ -146,6 +139,11 @@ impl Words for Pending {
     }
 
     #[inline(always)]
+    fn is_odd(&self) -> bool {
+        self.fill / 8 % 2 == 1
+    }
+
+    #[inline(always)]
     fn word(&self, at: usize) -> u64 {
         self.words[at]
     }
@@ -161,142 +159,81 @@ fn append_within_word(words: &mut [u64; 8], fill: usize, word: u64)
     words[fill / 8] |= word << (8 * (fill % 8));
 }
 
-// Appends the next eight bytes or all that are left, as the first word that stores no bytes yet.
+// Appends fewer than eight bytes. What does not fit in the partial word is 0 if all fit.
 #[inline(always)]
-fn append_word(words: &mut [u64; 8], at: usize, word: u64)
-    requires { at < 8 }
-    ensures { (bytes : List ℕ) (from : ℕ) → from ≤ length bytes
-        → word ≡ word_of (take 8 (drop from bytes))
-        → Extends words.old words.new at bytes from (from + 8) }
+fn append_below_eight(words: &mut [u64; 8], fill: usize, bytes: &[u8])
+    requires pending { ArePending words.old fill }
+    requires few { length bytes.now < 8 }
+    requires room { fill + length bytes.now ≤ 64 }
+    ensures { Stores words.new (pending_bytes words.old fill ++ bytes.now) }
 {
-    words[at] = word;
+    let word = read_partial_word(bytes, 0);
+    append_within_word(words, fill, word);
+    words[(fill / 8 + 1) % 8] |= word >> 1 >> (63 - 8 * (fill % 8));
 }
 
-// Appends the next sixteen bytes, as the first two words that store no bytes yet.
+// Stores two whole words, of the sixteen bytes from `from` on, at index `at`.
 #[inline(always)]
-fn append_two_words(words: &mut [u64; 8], at: usize, bytes: &[u8], from: usize)
+fn store_two_words(words: &mut [u64; 8], at: usize, bytes: &[u8], from: usize)
     requires place { at < 7 }
     requires within { from + 16 ≤ length bytes.now }
-    ensures { Extends words.old words.new at bytes.now from (from + 16) }
+    ensures { (xs : List ℕ) (low high : ℕ) → length xs + from ≡ 8 * at → at ≤ low
+        → StoresBut words.old (xs ++ bytes.now) low high
+        → StoresBut words.new (xs ++ bytes.now) (at + 2) high }
 {
     let two = u64x2::from_le_bytes(u8x16::from_slice(&bytes[from..]));
     two.copy_to_slice(&mut words[at..]);
 }
 
-// Appends fewer than eight bytes. If FULL, they fill the block exactly.
+// Appends the bytes of eight or more that belong to whole words. Some complete the partial word, and
+// the words after it are stored two at a time, from both ends.
 #[inline(always)]
-fn append_below_eight<const FULL: bool>(words: &mut [u64; 8], fill: usize, bytes: &[u8])
-    requires pending { ArePending words.old fill }
-    requires few { length bytes.now < 8 }
-    requires room { fill + length bytes.now ≤ 64 }
-    requires full { IsTrue FULL → fill + length bytes.now ≡ 64 }
-    ensures { Stores words.new (pending_bytes words.old fill ++ bytes.now) }
-{
-    let word = read_partial_word(bytes, 0);
-    let over = fill % 8;
-    append_within_word(words, fill, word);
-    if !FULL && over + bytes.len() > 8 {
-        append_word(words, fill / 8 + 1, word >> (64 - 8 * over));
-    }
-}
-
-// Appends at most one whole word, `next` words after the partial word.
-#[inline(always)]
-fn append_below_two_words(words: &mut [u64; 8], fill: usize, bytes: &[u8], next: usize)
-    requires room { fill + length bytes.now ≤ 64 }
-    requires place { 0 < next }
-    requires within { 8 * next ≤ fill % 8 + length bytes.now }
-    requires few { fill % 8 + length bytes.now < 8 * next + 16 }
-    ensures { Extends words.old words.new (fill / 8 + next) bytes.now (8 * next - fill % 8)
-        (length bytes.now - (fill + length bytes.now) % 8) }
-{
-    if fill % 8 + bytes.len() >= 8 * next + 8 {
-        append_word(words, fill / 8 + next, word_at(bytes, 8 * next - fill % 8));
-    }
-}
-
-// Appends at most three whole words, from `next` words after the partial word on.
-#[inline(always)]
-fn append_below_four_words(words: &mut [u64; 8], fill: usize, bytes: &[u8], next: usize)
-    requires room { fill + length bytes.now ≤ 64 }
-    requires place { 0 < next }
-    requires within { 8 * next ≤ fill % 8 + length bytes.now }
-    requires few { fill % 8 + length bytes.now < 8 * next + 32 }
-    ensures { Extends words.old words.new (fill / 8 + next) bytes.now (8 * next - fill % 8)
-        (length bytes.now - (fill + length bytes.now) % 8) }
-{
-    if fill % 8 + bytes.len() >= 8 * next + 16 {
-        append_two_words(words, fill / 8 + next, bytes, 8 * next - fill % 8);
-        append_below_two_words(words, fill, bytes, next + 2);
-    } else {
-        append_below_two_words(words, fill, bytes, next);
-    }
-}
-
-// Appends the whole words after the partial word.
-//
-// Each index is `fill / 8` plus a constant. In a loop, each turn would wait for the index of the
-// turn before.
-#[inline(always)]
-fn append_words(words: &mut [u64; 8], fill: usize, bytes: &[u8])
-    requires many { 8 ≤ length bytes.now }
-    requires room { fill + length bytes.now ≤ 64 }
-    ensures { Extends words.old words.new (fill / 8 + 1) bytes.now (8 - fill % 8)
-        (length bytes.now - (fill + length bytes.now) % 8) }
-{
-    if fill % 8 + bytes.len() >= 40 {
-        append_two_words(words, fill / 8 + 1, bytes, 8 - fill % 8);
-        append_two_words(words, fill / 8 + 3, bytes, 24 - fill % 8);
-        append_below_four_words(words, fill, bytes, 5);
-    } else {
-        append_below_four_words(words, fill, bytes, 1);
-    }
-}
-
-// Appends the bytes after the last whole word, if any are left. Reads the last eight bytes.
-#[inline(always)]
-fn append_last(words: &mut [u64; 8], fill: usize, bytes: &[u8])
-    requires many { 8 ≤ length bytes.now }
-    requires room { fill + length bytes.now ≤ 64 }
-    ensures { Extends words.old words.new ((fill + length bytes.now) / 8) bytes.now
-        (length bytes.now - (fill + length bytes.now) % 8) (length bytes.now) }
-{
-    let all = fill % 8 + bytes.len();
-    if all % 8 > 0 {
-        let eight = word_at(bytes, bytes.len() - 8);
-        append_word(words, fill / 8 + all / 8, eight >> (64 - 8 * (all % 8)));
-    }
-}
-
-// Appends eight bytes or more: the first complete the partial word, then whole words follow, and
-// then fewer than eight bytes. If FULL, they fill the block exactly.
-#[inline(always)]
-fn append_eight_or_more<const FULL: bool>(words: &mut [u64; 8], fill: usize, bytes: &[u8])
+fn append_whole_words(words: &mut [u64; 8], fill: usize, bytes: &[u8])
     requires pending { ArePending words.old fill }
     requires many { 8 ≤ length bytes.now }
     requires room { fill + length bytes.now ≤ 64 }
-    requires full { IsTrue FULL → fill + length bytes.now ≡ 64 }
-    ensures { Stores words.new (pending_bytes words.old fill ++ bytes.now) }
+    ensures { StoresBut words.new (pending_bytes words.old fill ++ bytes.now)
+        ((fill + length bytes.now) / 8) ((fill + length bytes.now) / 8 + 1) }
 {
     append_within_word(words, fill, read_word(bytes));
-    append_words(words, fill, bytes);
-    if !FULL {
-        append_last(words, fill, bytes);
+    let at = fill / 8;
+    let over = fill % 8;
+    // How many words are whole with the bytes, from the partial word on.
+    let whole = (over + bytes.len()) / 8;
+    if whole >= 3 {
+        store_two_words(words, at + 1, bytes, 8 - over);
+        if whole >= 5 {
+            store_two_words(words, at + 3, bytes, 24 - over);
+            store_two_words(words, at + whole - 4, bytes, 8 * whole - 32 - over);
+        }
+        store_two_words(words, at + whole - 2, bytes, 8 * whole - 16 - over);
+    } else if whole == 2 || fill + bytes.len() < 64 {
+        // If only the partial word is whole, the bytes that are left take the place of this word.
+        words[at + 1] = word_at(bytes, (8 - over).min(bytes.len() - 8));
     }
 }
 
-// Appends bytes to those that the words store up to the fill, and counts them as kept. If FULL,
-// they fill the block exactly. Bytes come into the words only through this function.
+// Appends eight bytes or more: those of whole words, and then those that are left.
 #[inline(always)]
-fn append_bytes<const FULL: bool>(
-    words: &mut [u64; 8],
-    fill: usize,
-    bytes: &[u8],
-    tally: &mut Tally,
-)
+fn append_eight_or_more(words: &mut [u64; 8], fill: usize, bytes: &[u8])
+    requires pending { ArePending words.old fill }
+    requires many { 8 ≤ length bytes.now }
+    requires room { fill + length bytes.now ≤ 64 }
+    ensures { Stores words.new (pending_bytes words.old fill ++ bytes.now) }
+{
+    append_whole_words(words, fill, bytes);
+    let end = fill + bytes.len();
+    if end < 64 {
+        words[end / 8] = word_at(bytes, bytes.len() - 8) >> 1 >> (63 - 8 * (end % 8));
+    }
+}
+
+// Appends bytes to those that the words store up to the fill, and counts them as kept. Bytes come
+// into the words only through this function.
+#[inline(always)]
+fn append_bytes(words: &mut [u64; 8], fill: usize, bytes: &[u8], tally: &mut Tally)
     requires pending { ArePending words.old fill }
     requires room { fill + length bytes.now ≤ 64 }
-    requires full { IsTrue FULL → fill + length bytes.now ≡ 64 }
     ensures block { fill + length bytes.now ≡ 64
         → words.new ≡ whole_words (pending_bytes words.old fill ++ bytes.now) }
     ensures bytes { pending_bytes words.new (fill + length bytes.now)
@@ -307,8 +244,8 @@ fn append_bytes<const FULL: bool>(
 {
     tally.raise(0, bytes.len());
     if bytes.len() < 8 {
-        append_below_eight::<FULL>(words, fill, bytes);
+        append_below_eight(words, fill, bytes);
     } else {
-        append_eight_or_more::<FULL>(words, fill, bytes);
+        append_eight_or_more(words, fill, bytes);
     }
 }

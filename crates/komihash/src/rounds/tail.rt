@@ -1,6 +1,6 @@
 //! The end of a hash: fewer than eight whole words, and the final word.
 
-ghost use Rattle.std.specs.Prelude.{◌≡◌, ℕ, ◌+◌, ◌-◌, ◌/◌, ◌<◌, ◌≤◌, ◌↔◌, IsTrue};
+ghost use Rattle.std.specs.Prelude.{◌≡◌, ℕ, ◌+◌, ◌-◌, ◌*◌, ◌/◌, ◌%◌, ◌<◌, ◌≤◌, ◌↔◌, IsTrue};
 ghost use Rattle.std.specs.Prelude.{List, [], ◌∷◌, ◌++◌, length, drop, slice_index};
 ghost use Rattle.komihash.specs.Counts.{Costs};
 ghost use Rattle.komihash.specs.Hash.{hash_from_pair};
@@ -20,6 +20,10 @@ pub(crate) trait Words {
         requires few { count ≤ 8 }
         ensures { IsTrue result ↔ (count ≤ length (words self.now)) };
 
+    /// Returns whether the number of words is odd.
+    fn is_odd(&self) -> bool
+        ensures { IsTrue result ↔ (length (words self.now) % 2 ≡ 1) };
+
     /// Returns the word at index `at`.
     fn word(&self, at: usize) -> u64
         requires within { at < length (words self.now) }
@@ -36,6 +40,12 @@ impl Words for &[u8] {
     #[tactic(auto, using(crate::proofs::WholeWords::read_words))]
     fn holds(&self, count: usize) -> bool {
         8 * count <= self.len()
+    }
+
+    #[inline(always)]
+    #[tactic(auto, using(crate::proofs::WholeWords::read_words))]
+    fn is_odd(&self) -> bool {
+        self.len() / 8 % 2 == 1
     }
 
     #[inline(always)]
@@ -66,52 +76,25 @@ fn mix_again(pair: Pair, tally: &mut Tally) -> u64
     e ^ low
 }
 
-/// Returns the hash from a pair and the one word that is left.
+/// Returns the hash from a pair and the two words that are left, or the one that is left and 0.
 #[inline(always)]
-#[tactic(auto, using(crate::proofs::Xor::xor_late_left))]
-pub(crate) fn close_one(pair: Pair, word: u64, tally: &mut Tally) -> u64
-    ensures hash { result ≡ closing (pair_of pair) (word ∷ []) }
-    ensures costs { Costs tally 2 0 }
-{
-    let Pair(low, e) = pair;
-    mix_again(mix((low ^ word) ^ e, e, e, tally), tally)
-}
-
-/// Returns the hash from a pair and the two words that are left.
-#[inline(always)]
-#[tactic(auto, using(crate::proofs::Xor::factors_swap))]
-pub(crate) fn close_two(pair: Pair, word: u64, last: u64, tally: &mut Tally) -> u64
+#[tactic(auto, using(crate::proofs::Xor::factors))]
+pub(crate) fn close(pair: Pair, word: u64, last: u64, tally: &mut Tally) -> u64
     ensures hash { result ≡ closing (pair_of pair) (word ∷ last ∷ []) }
+    ensures alone { last ≡ 0 → result ≡ closing (pair_of pair) (word ∷ []) }
     ensures costs { Costs tally 2 0 }
 {
     let Pair(low, e) = pair;
     mix_again(mix((low ^ word) ^ e, e ^ last, e, tally), tally)
 }
 
-// Returns the hash from a pair, at most one word from index `at` on, and the final word.
-#[inline(always)]
-fn hash_below_two<W: Words>(pair: Pair, left: &W, at: usize, last: u64, tally: &mut Tally) -> u64
-    requires within { at ≤ length (W.words left.now) }
-    requires few { length (W.words left.now) < at + 2 }
-    requires place { at < 7 }
-    ensures hash { result
-        ≡ hash_from_pair (pair_of pair) (drop at (W.words left.now) ++ last ∷ []) }
-    ensures costs { Costs tally 2 0 }
-{
-    if left.holds(at + 1) {
-        close_two(pair, left.word(at), last, tally)
-    } else {
-        close_one(pair, last, tally)
-    }
-}
-
 // Returns the pair after a round on the two words from index `at`. From it, the words after these
 // give the hash that all give from `pair`. This is stated and proved here once, for three calls.
 #[inline(always)]
 #[tactic(auto, using(crate::proofs::HashSteps::hash_from_pair_two))]
-fn take_two<W: Words>(pair: Pair, left: &W, at: usize, tally: &mut Tally) -> Pair
+fn round_at<W: Words>(pair: Pair, left: &W, at: usize, tally: &mut Tally) -> Pair
     requires within { at + 2 ≤ length (W.words left.now) }
-    requires place { at < 5 }
+    requires place { at < 7 }
     ensures hash { (last : ℕ)
         → hash_from_pair (pair_of result) (drop (at + 2) (W.words left.now) ++ last ∷ [])
         ≡ hash_from_pair (pair_of pair) (drop at (W.words left.now) ++ last ∷ []) }
@@ -120,36 +103,52 @@ fn take_two<W: Words>(pair: Pair, left: &W, at: usize, tally: &mut Tally) -> Pai
     pair_round(pair, left.word(at), left.word(at + 1), tally)
 }
 
-// Returns the hash from a pair, at most three words from index `at` on, and the final word.
+// Returns the pair after a round on each two words. From it, the word that may be left gives the
+// hash that all give from `pair`.
 #[inline(always)]
-fn hash_below_four<W: Words>(pair: Pair, left: &W, at: usize, last: u64, tally: &mut Tally) -> u64
-    requires within { at ≤ length (W.words left.now) }
-    requires few { length (W.words left.now) < at + 4 }
-    requires place { at < 5 }
-    ensures hash { result
-        ≡ hash_from_pair (pair_of pair) (drop at (W.words left.now) ++ last ∷ []) }
-    ensures costs { Costs tally (2 + (length (W.words left.now) - at) / 2) 0 }
+fn round_each<W: Words>(pair: Pair, left: &W, tally: &mut Tally) -> Pair
+    requires { length (W.words left.now) < 8 }
+    ensures hash { (last : ℕ) → hash_from_pair (pair_of result)
+        (drop (length (W.words left.now) / 2 * 2) (W.words left.now) ++ last ∷ [])
+        ≡ hash_from_pair (pair_of pair) (W.words left.now ++ last ∷ []) }
+    ensures costs { Costs tally (length (W.words left.now) / 2) 0 }
 {
-    if left.holds(at + 2) {
-        let pair = take_two(pair, left, at, tally);
-        hash_below_two(pair, left, at + 2, last, tally)
-    } else {
-        hash_below_two(pair, left, at, last, tally)
+    if !left.holds(2) {
+        return pair;
     }
+    let pair = round_at(pair, left, 0, tally);
+    if !left.holds(4) {
+        return pair;
+    }
+    let pair = round_at(pair, left, 2, tally);
+    if !left.holds(6) {
+        return pair;
+    }
+    round_at(pair, left, 4, tally)
 }
 
-/// Returns the hash from a pair, fewer than eight words, and the final word.
+/// Returns the hash from a pair, fewer than eight words, and the final word. `word` is the last of
+/// the words, or any if there are none.
 #[inline(always)]
-pub(crate) fn hash_from_pair<W: Words>(pair: Pair, left: &W, last: u64, tally: &mut Tally) -> u64
-    requires { length (W.words left.now) < 8 }
+pub(crate) fn hash_from_pair<W: Words>(
+    pair: Pair,
+    left: &W,
+    word: u64,
+    last: u64,
+    tally: &mut Tally,
+) -> u64
+    requires few { length (W.words left.now) < 8 }
+    requires word { 0 < length (W.words left.now)
+        → word ≡ slice_index (W.words left.now) (length (W.words left.now) - 1) }
     ensures hash { result ≡ hash_from_pair (pair_of pair) (W.words left.now ++ last ∷ []) }
     ensures costs { Costs tally (2 + length (W.words left.now) / 2) 0 }
 {
-    if left.holds(4) {
-        let pair = take_two(pair, left, 0, tally);
-        let pair = take_two(pair, left, 2, tally);
-        hash_below_four(pair, left, 4, last, tally)
+    let pair = round_each(pair, left, tally);
+    // The closing of one word is that of two, the second of which is 0. So it needs no jump.
+    let (first, second) = if left.is_odd() {
+        (word, last)
     } else {
-        hash_below_four(pair, left, 0, last, tally)
-    }
+        (last, 0)
+    };
+    close(pair, first, second, tally)
 }

@@ -6,19 +6,19 @@ use Rattle.komihash.proofs.StreamAbsorbs.{absorb-few}
 use Rattle.komihash.proofs.StreamSteps.{IsState-absorb}
 use Rattle.komihash.proofs.stream.raw.RawStream.absorb.Goals as goal
 
-pub returns-then-bytes-len-clause-state : goal.returns-then-bytes-len-clause-state
-returns-then-bytes-len-clause-state g c =
+pub returns-then-len-bytes-lt64-clause-state : goal.returns-then-len-bytes-lt64-clause-state
+returns-then-len-bytes-lt64-clause-state g c =
     let bytes = c.args.bytes.now in
     rw c.append.ensures.bytes
     (sym (absorb-few g.row.V _ bytes (omega arith))
     ∙ ap (λ s. absorb g.row.V s bytes) c.self.view_is)
 
-pub returns-then-bytes-len-clause-is_state : goal.returns-then-bytes-len-clause-is_state
-returns-then-bytes-len-clause-is_state g c is =
-    subst (IsState g.row.V) (sym (returns-then-bytes-len-clause-state g c))
+pub returns-then-len-bytes-lt64-clause-is_state : goal.returns-then-len-bytes-lt64-clause-is_state
+returns-then-len-bytes-lt64-clause-is_state g c is =
+    subst (IsState g.row.V) (sym (returns-then-len-bytes-lt64-clause-state g c))
     (IsState-absorb g.row.V _ _ is (AreBytes-typed _ c.type_inv.bytes))
 
-pub returns-else-bytes-len-clause-is_state : goal.returns-else-bytes-len-clause-is_state
-returns-else-bytes-len-clause-is_state g c is =
+pub returns-else-len-bytes-lt64-clause-is_state : goal.returns-else-len-bytes-lt64-clause-is_state
+returns-else-len-bytes-lt64-clause-is_state g c is =
     subst (IsState g.row.V) (sym c.complete_blocks.ensures.state)
     (IsState-absorb g.row.V _ _ is (AreBytes-typed _ c.type_inv.bytes))
