@@ -1,13 +1,16 @@
 -- Words that are stored one by one, some of them out of order or twice.
 use Rattle.std.proofs.Common.{◌≡◌, ℕ, suc, ◌+◌, ◌-◌, ◌*◌, ◌/◌, ◌%◌, ◌^◌, ◌<◌, ◌≤◌, List, ◌∷◌, [], ◌++◌}
-use Rattle.std.proofs.Common.{length, take, drop, get_or, set, refl, ap, arith, ◌∙◌, sym, inl, inr, Fits, w8}
+use Rattle.std.proofs.Common.{length, take, drop, get_or, set, refl, ap, arith, subst, ◌∙◌, sym, inl, inr, Fits, w8, w64}
 use Rattle.std.proofs.lemmas.Bool.{cases_eq, cases_lt}
 use Rattle.std.proofs.lemmas.List.{get_or-set_same, get_or-set_other, length-set, ext_get_or}
 use Rattle.std.proofs.lemmas.List.{length-append, length-take, length-drop, drop-take, drop_all, drop-drop}
 use Rattle.std.proofs.lemmas.List.{take-take, take_all, take-append-drop, append_assoc, set-get_or}
-use Rattle.std.proofs.lemmas.Nat.{shr-shr}
+use Rattle.std.proofs.Math.Nat.{mul-mod_left}
+use Rattle.std.proofs.Math.Pow.{shr_lt}
+use Rattle.std.proofs.lemmas.Nat.{shr-shr, shl-shr, mod-pow-add, or_shifted}
+use Rattle.std.specs.Int.{rotate_left}
 use Rattle.std.proofs.Math.Seq.{drop-append-add}
-use Rattle.std.specs.Int.Bits.{or_zero_l, or_zero_r}
+use Rattle.std.specs.Int.Bits.{or_zero_l, or_zero_r, or_self}
 use Rattle.std.specs.Prelude.{bit_or}
 use Rattle.std.specs.Simd.Lanes.{number_l, put_chunk}
 use borrow.Rule.Slice.PartMut.{put_mid, mid_of}
@@ -149,20 +152,47 @@ word_of_rest xs bytes fill w are size many is =
     (word_of-last from (1 + (63 - 8 * rest)) bytes are many (omega arith) (omega arith)
     (omega arith))
 
+-- a rotation has the bits that a shift to the left keeps, and those that it drops
+pub rotated : (w k : ℕ) → w < 2 ^ 64 → k < 8
+    → rotate_left w64 w (8 * k) ≡ w * 2 ^ (8 * k) % 2 ^ 64 + w / 2 ^ (64 - 8 * k)
+rotated w k lt few =
+    let b = 8 * k in
+    let c = 64 - b in
+    let bits : 64 ≡ c + b = omega arith in
+    let turn : b % 64 ≡ b = omega arith in
+    elim (cases_lt 0 k) [
+      | inl some ↦
+          let sum : 64 ≡ b + c = omega arith in
+          let drop : (64 - b) % 64 ≡ c = omega arith in
+          let low : w * 2 ^ b % 2 ^ 64 ≡ w % 2 ^ c * 2 ^ b =
+          ap (λ n. w * 2 ^ b % 2 ^ n) bits ∙ mod-pow-add (w * 2 ^ b) c b
+          ∙ rw (shl-shr w b, mul-mod_left w (2 ^ b)) (omega arith) in
+          let high : w / 2 ^ c < 2 ^ b = shr_lt b c (subst (λ n. w < 2 ^ n) sum lt) in
+          rw (turn, drop, low) (or_shifted (w % 2 ^ c) b (w / 2 ^ c) high)
+      | inr none ↦
+          let zero : k ≡ 0 = omega arith in
+          let left : w * 1 % 2 ^ 64 ≡ w = omega arith in
+          let right : w / 1 ≡ w = omega arith in
+          rw (zero, left, right, or_self w) (omega arith)
+    ]
+
 -- fewer than eight bytes, of which as many are stored as fit in the partial word: those that do not
 -- fit are joined to the next word, which is 0, or to any word if there are none
 pub store_rest : (ws xs bytes : List ℕ) (fill w : ℕ) → AreBytes bytes → length xs ≡ fill
-    → length bytes < 8 → fill + length bytes ≤ 64 → fill < 64 → w ≡ word_of bytes
+    → length bytes < 8 → fill + length bytes ≤ 64 → fill < 64 → w < 2 ^ 64 → w ≡ word_of bytes
     → Stores ws (xs ++ take (8 - fill % 8) bytes)
     → let i = (fill / 8 + 1) % 8 in
-    Stores (set ws i (bit_or (get_or ws i 0) (w / 2 ^ 1 / 2 ^ (63 - 8 * (fill % 8))))) (xs ++ bytes)
-store_rest ws xs bytes fill w are size few room part is stored =
+    let bits = 8 * (fill % 8) in
+    Stores (set ws i (bit_or (get_or ws i 0) (rotate_left w64 w bits - w * 2 ^ bits % 2 ^ 64)))
+    (xs ++ bytes)
+store_rest ws xs bytes fill w are size short room few lt is stored =
     let fit = 8 - fill % 8 in
     let i = (fill / 8 + 1) % 8 in
-    let bits : 1 + (63 - 8 * (fill % 8)) ≡ 8 * fit = omega arith in
-    let left : w / 2 ^ 1 / 2 ^ (63 - 8 * (fill % 8)) ≡ word_of (drop fit bytes) =
-    rw (is, shr-shr (word_of bytes) 1 (63 - 8 * (fill % 8)), bits)
-    (sym (word_of-drop fit bytes are)) in
+    let bits : 64 - 8 * (fill % 8) ≡ 8 * fit = omega arith in
+    let part : w / 2 ^ (64 - 8 * (fill % 8)) ≡ word_of (drop fit bytes) =
+    rw (is, bits) (sym (word_of-drop fit bytes are)) in
+    let left : rotate_left w64 w (8 * (fill % 8)) - w * 2 ^ (8 * (fill % 8)) % 2 ^ 64
+    ≡ word_of (drop fit bytes) = omega (arith, rotated w (fill % 8) lt (omega arith), part) in
     rw left (elim (cases_lt fit (length bytes)) [
       | inl more ↦
           let front = xs ++ take fit bytes in

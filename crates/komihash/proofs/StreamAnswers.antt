@@ -8,7 +8,7 @@ use Rattle.std.proofs.lemmas.Bool.{cases_lt}
 use Rattle.std.specs.Prelude.{slice_index}
 use Rattle.komihash.specs.Hash.{komi, hash_from_pair}
 use Rattle.komihash.specs.Rounds.{lanes, seed_pair, join, closing}
-use Rattle.komihash.specs.Stream.{State, start, absorb, answer, tail_of, end_after_blocks}
+use Rattle.komihash.specs.Stream.{State, start, absorb, answer, tail_of}
 use Rattle.komihash.specs.Storage.{tail_end, whole_words, final_word, end_byte}
 use Rattle.komihash.specs.Padding.{pads_with_two, padding_byte}
 use Rattle.komihash.proofs.StreamAbsorbs.{blocks_state, absorb-few, absorb-blocks}
@@ -35,11 +35,11 @@ pub tail_end-pending : (v : ℕ) (m : List ℕ) (absorbed top_bit : Bool) → 0 
 tail_end-pending v [] absorbed top_bit some = absurd (omega arith)
 tail_end-pending v (b ∷ m) absorbed top_bit some = refl
 
--- the final word where nothing is pending
-pub final_word-none : (v : ℕ) (m : List ℕ) (absorbed top_bit : Bool) → length m ≡ 0
-    → final_word m (tail_end v m absorbed top_bit) ≡ end_after_blocks absorbed top_bit
-final_word-none v [] absorbed top_bit none = omega arith
-final_word-none v (b ∷ m) absorbed top_bit none = absurd (omega arith)
+-- an answer with nothing pending
+pub answer-none : (v : ℕ) (s : State) → s.pending ≡ []
+    → answer v s ≡ closing (join s.absorbed s.lanes) (tail_end v [] s.absorbed s.top_bit ∷ [])
+unfolding answer
+answer-none v s none = rw none
 
 -- ---- a new stream answers with a message's hash
 

@@ -47,10 +47,12 @@ fn hash_of_blocks<const V: u8>(bytes: &[u8], seed: u64, tally: &mut Tally) -> u6
     ensures costs { Costs tally (hash_products (length bytes.now)) 0 }
 {
     let pair = seed_pair(seed, tally);
+    // Both words come before the loop, which needs the registers of `bytes`.
     let last = final_word_by_branch(bytes, padding_byte::<V>(bytes));
+    let word = last_whole_word(bytes);
     let mut lanes = lanes_of(pair);
     let rest = absorb_blocks::<V>(&mut lanes, bytes, tally);
-    hash_from_pair(join(&lanes, true), &rest, last_whole_word(bytes), last, tally)
+    hash_from_pair(join(&lanes, true), &rest, word, last, tally)
 }
 
 /// Returns the hash of a message with a seed in version V, and counts its products in the tally.

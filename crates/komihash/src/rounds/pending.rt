@@ -77,6 +77,20 @@ impl Pending {
         self.fill += bytes.len();
     }
 
+    /// Appends bytes where none are stored, and counts them as kept.
+    #[inline(always)]
+    pub(crate) fn append_first(&mut self, bytes: &[u8], tally: &mut Tally)
+        requires none { self.old ≡ [] }
+        requires few { length bytes.now < 64 }
+        ensures bytes { self.new ≡ bytes.now }
+        ensures costs { Costs tally 0 (length bytes.now) }
+    {
+        if !bytes.is_empty() {
+            append_bytes(&mut self.words, 0, bytes, tally);
+            self.fill = bytes.len();
+        }
+    }
+
     /// Returns the words of the block that bytes complete, and stores no bytes then. Counts the
     /// bytes as kept.
     #[inline(always)]
@@ -168,8 +182,10 @@ fn append_below_eight(words: &mut [u64; 8], fill: usize, bytes: &[u8])
     ensures { Stores words.new (pending_bytes words.old fill ++ bytes.now) }
 {
     let word = read_partial_word(bytes, 0);
+    let bits = 8 * (fill % 8);
     append_within_word(words, fill, word);
-    words[(fill / 8 + 1) % 8] |= word >> 1 >> (63 - 8 * (fill % 8));
+    // A rotation has both parts of the word, and takes one shift.
+    words[(fill / 8 + 1) % 8] |= word.rotate_left(bits as u32) - (word << bits);
 }
 
 // Stores two whole words, of the sixteen bytes from `from` on, at index `at`.

@@ -9,7 +9,7 @@ ghost use Rattle.komihash.specs.Stream.{State, IsState, start, absorb, answer};
 use super::{LONGEST_TEXT, saved};
 use crate::padding::{padding_after, pads_with_two};
 use crate::rounds::pending::Pending;
-use crate::rounds::tail::hash_from_pair;
+use crate::rounds::tail::{close, hash_from_pair};
 use crate::rounds::{Lanes, absorb_blocks, block_round, join, lanes_of, places, seed_pair};
 use crate::tally::Tally;
 use std::marker::Model;
@@ -104,7 +104,7 @@ impl RawStream {
         }
         let left = absorb_blocks::<V>(&mut lanes, rest, tally);
         self.lanes = lanes;
-        self.pending.append(left, tally);
+        self.pending.append_first(left, tally);
     }
 
     #[inline(always)]
@@ -113,14 +113,18 @@ impl RawStream {
         ensures costs { Costs tally (answer_products (length self.now.pending)) 0 }
     {
         let pair = join(&self.lanes, self.absorbed);
-        let last = if self.pending.len() > 0 {
-            self.pending.final_word::<V>()
-        } else if self.absorbed {
-            padding_after(self.top_bit)
-        } else {
-            0
-        };
-        hash_from_pair(pair, &self.pending, self.pending.last_whole_word(), last, tally)
+        if self.pending.len() == 0 {
+            // The padding byte of the last block, or 0 if no block was absorbed.
+            let end = if self.absorbed {
+                padding_after(self.top_bit)
+            } else {
+                0
+            };
+            return close(pair, end, 0, tally);
+        }
+        let word = self.pending.last_whole_word();
+        let last = self.pending.final_word::<V>();
+        hash_from_pair(pair, &self.pending, word, last, tally)
     }
 
     #[inline(always)]

@@ -9,4 +9,4 @@ hash_from_pair-requires-clause-word g c some =
     let n = (length bytes - length bytes % 64) / 8 in
     let cut : length bytes - length bytes % 64 ≡ 8 * n = omega arith in
     let rest = c.absorb_blocks-rest.ensures.left ∙ ap (λ k. drop k bytes) cut in
-    rw rest (c.last_whole_word.ensures ∙ last_whole_word-drop bytes n (rw rest at some))
+    rw rest (c.last_whole_word-word.ensures ∙ last_whole_word-drop bytes n (rw rest at some))

@@ -1,22 +1,37 @@
--- An answer is that of its whole words and its final word, by `answer-by_pair`.
-use Rattle.std.proofs.Common.{◌≡◌, Bool, true, false, ◌-◌, ◌++◌, [], ◌∷◌, ◌∙◌, ap, arith, length, sym}
+-- With no pending bytes, one word is left. Otherwise the tail is read as its whole words and a
+-- final word, which is `answer-by_pair`.
+use Rattle.std.proofs.Common.{◌≡◌, ◌++◌, [], ◌∷◌, ◌∙◌, refl, ap, arith, length, sym}
+use Rattle.std.proofs.lemmas.List.{nil_from_length}
 use Rattle.komihash.specs.Hash.{hash_from_pair}
-use Rattle.komihash.specs.Rounds.{join}
+use Rattle.komihash.specs.Rounds.{join, closing}
 use Rattle.komihash.specs.Stream.{State, answer, end_after_blocks}
-use Rattle.komihash.specs.Storage.{whole_words, final_word, tail_end}
-use Rattle.komihash.proofs.StreamAnswers.{answer-by_pair, final_word-none, tail_end-pending}
+use Rattle.komihash.specs.Storage.{whole_words, final_word}
+use Rattle.komihash.proofs.StreamAnswers.{answer-by_pair, answer-none, tail_end-pending}
 use Rattle.komihash.proofs.WholeWords.{length-whole_words}
 use Rattle.komihash.proofs.stream.raw.RawStream.answer.Goals as goal
-use Rattle.komihash.proofs.stream.raw.RawStream.answer.Goals.{then-len-gt0}
-use Rattle.komihash.proofs.stream.raw.RawStream.answer.Goals.{else-len-gt0+then-self}
-use Rattle.komihash.proofs.stream.raw.RawStream.answer.Goals.{else-len-gt0+else-self}
+use Rattle.komihash.proofs.stream.raw.RawStream.answer.Goals.{then-self, else-self}
+
+pub returns-then-len-eq0-clause-answer : goal.returns-then-len-eq0-clause-answer
+returns-then-len-eq0-clause-answer g c =
+    let s = c.self.inside in
+    let none = nil_from_length s.pending (omega arith) in
+    let end : c.if-self.end ≡ end_after_blocks s.absorbed s.top_bit =
+    elim c.if-self.branch [
+      | then-self w ↦ rw (w.if-self.true) (w.end-is ∙ w.padding_after-end.ensures)
+      | else-self w ↦ rw (w.if-self.false) w.end-is
+    ] in
+    c.close.ensures.alone refl
+    ∙ ap (λ p. closing p (c.if-self.end ∷ [])) c.join-pair.ensures
+    ∙ ap (λ b. closing (join s.absorbed s.lanes) (b ∷ [])) end
+    ∙ sym (answer-none g.row.V _ none)
+    ∙ ap (answer g.row.V) c.self.view_is
 
 pub hash_from_pair-requires : goal.hash_from_pair-requires
 hash_from_pair-requires g c =
     let count = length-whole_words c.self.inside.pending in
     record {
       few = omega (arith, count);
-      word = λ some. rw count (c.last_whole_word.ensures (omega (arith, count)));
+      word = λ some. rw count (c.last_whole_word-word.ensures (omega (arith, count)));
     }
 
 pub returns-clause-costs : goal.returns-clause-costs
@@ -27,21 +42,10 @@ returns-clause-costs g c =
 pub returns-clause-answer : goal.returns-clause-answer
 returns-clause-answer g c =
     let s = c.self.inside in
-    let none = final_word-none g.row.V s.pending s.absorbed s.top_bit in
-    let by = λ (b : Bool) (is : s.absorbed ≡ b). ap (λ a. end_after_blocks a s.top_bit) is in
-    let word : c.if-len-gt0.last
-    ≡ final_word s.pending (tail_end g.row.V s.pending s.absorbed s.top_bit) =
-    elim c.if-len-gt0.branch [
-      | then-len-gt0 w ↦
-          let end = tail_end-pending g.row.V s.pending s.absorbed s.top_bit (omega arith) in
-          w.last-is ∙ w.final_word-last.ensures ∙ ap (final_word s.pending) (sym end)
-      | else-len-gt0+then-self w ↦
-          w.last-is ∙ w.padding_after.ensures ∙ sym (none (omega arith) ∙ by true w.if-self.true)
-      | else-len-gt0+else-self w ↦
-          w.last-is ∙ sym (none (omega arith) ∙ by false w.if-self.false)
-    ] in
+    let end = sym (tail_end-pending g.row.V s.pending s.absorbed s.top_bit (omega arith)) in
+    let word = c.final_word-last.ensures ∙ ap (final_word s.pending) end in
     c.hash_from_pair.ensures.hash
-    ∙ ap (λ p. hash_from_pair p (whole_words s.pending ++ c.if-len-gt0.last ∷ []))
+    ∙ ap (λ p. hash_from_pair p (whole_words s.pending ++ c.final_word-last.result ∷ []))
     c.join-pair.ensures
     ∙ ap
     (λ w. hash_from_pair (join s.absorbed s.lanes) (whole_words s.pending ++ w ∷ []))

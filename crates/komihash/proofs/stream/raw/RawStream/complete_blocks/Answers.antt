@@ -1,5 +1,5 @@
 -- The pending bytes and the first of the write are the first block, if any are pending.
-use Rattle.std.proofs.Common.{◌≡◌, [], ◌++◌, ◌+◌, ◌<◌, ◌≤◌, ◌∙◌, ap, arith, length}
+use Rattle.std.proofs.Common.{◌+◌, ◌<◌, ◌≤◌, ◌∙◌, ap, arith, length}
 use Rattle.std.proofs.lemmas.List.{nil_from_length}
 use Rattle.komihash.specs.Stream.{State, absorb}
 use Rattle.komihash.proofs.PendingBlocks.{completed_lanes, completed_left}
@@ -16,14 +16,12 @@ returns-clause-state g c =
     let many : 64 ≤ length s.pending + length bytes = omega arith in
     let top_bit = rw (c.len-fill.ensures.length) at c.pads_with_two-self-inside.ensures in
     let after = c.absorb_blocks-left.ensures in
-    let kept = λ (none : c.if-fill-eq0.self-inside.pending ≡ []).
-    c.append.ensures.bytes ∙ ap (λ p. p ++ c.absorb_blocks-left.result.now) none ∙ after.left in
     elim c.if-fill-eq0.branch [
       | then-fill-eq0 w ↦
           let none = nil_from_length s.pending (omega arith) in
           after_write g.row.V _ bytes _ _ _ _ few many
           (after.lanes ∙ rw (w.lanes-is, w.rest-is, none))
-          (kept (ap (λ s. s.pending) w.self-inside-is ∙ none) ∙ rw (w.rest-is, none))
+          (c.append_first.ensures.bytes ∙ after.left ∙ rw (w.rest-is, none))
           (ap (λ s. s.absorbed) w.self-inside-is)
           (ap (λ s. s.top_bit) w.self-inside-is ∙ top_bit)
       | else-fill-eq0 w ↦
@@ -39,7 +37,7 @@ returns-clause-state g c =
             w.split_at.ensures.back,
             c.len-fill.ensures.length,
           ))
-          (kept (ap (λ s. s.pending) w.self-inside-is ∙ w.complete-block.ensures.none) ∙ rw (
+          (c.append_first.ensures.bytes ∙ after.left ∙ rw (
             completed_left s.pending bytes few many,
             w.rest-is,
             w.split_at.ensures.back,
