@@ -106,6 +106,20 @@ module _ (v seed : ℕ) (m : List ℕ) where
   komi_partial_word some lt =
       rw (komi_short (omega arith), whole_words-few m lt, after_words-few m lt) refl
 
+  pub komi_one_word : 8 ≤ length m → length m < 16
+      → komi v seed m ≡ closing pair (word_of (take 8 m) ∷ last ∷ [])
+  komi_one_word le lt =
+      let none = whole_words-few (drop 8 m) (omega (arith, length-drop 8 m)) in
+      rw (komi_short (omega arith), whole_words-more m le, none) refl
+
+  pub komi_two_words : 16 ≤ length m → length m < 24
+      → komi v seed m
+      ≡ closing (pair_round pair (word_of (take 8 m)) (word_of (take 8 (drop 8 m)))) (last ∷ [])
+  komi_two_words le lt =
+      let words : whole_words m ≡ words_from 2 0 m =
+      whole_words-from 2 0 m (omega arith) (omega arith) in
+      rw (komi_short (omega arith), words) refl
+
 pub komi_empty : (v seed : ℕ) (m : List ℕ) → length m ≡ 0
     → komi v seed m ≡ closing (seed_pair seed) (0 ∷ [])
 unfolding komi
@@ -115,6 +129,8 @@ komi_empty v seed (b ∷ m) e = absurd (omega arith)
 pub ruleset hash_laws = (
   komi_empty,
   komi_partial_word,
+  komi_one_word,
+  komi_two_words,
   komi_short,
   komi_long,
   length-whole_words,

@@ -46,23 +46,6 @@ slice_index-whole_words xs at lt =
     ap (λ ws. get_or ws at 0) (whole_words-pending xs)
     ∙ get_or-pending_words (length xs / 8) at xs (omega (arith, length-whole_words xs))
 
--- the last whole word, also of what is left after the first n words
-pub last_whole_word-drop : (xs : List ℕ) (n : ℕ) → 0 < length (whole_words (drop (8 * n) xs))
-    → slice_index (whole_words xs) (length xs / 8 - 1)
-    ≡ slice_index (whole_words (drop (8 * n) xs)) (length (whole_words (drop (8 * n) xs)) - 1)
-last_whole_word-drop xs n some =
-    let rest = drop (8 * n) xs in
-    let k = length (whole_words rest) - 1 in
-    let count = length-whole_words rest in
-    let size = length-drop (8 * n) xs in
-    let place : 8 * n + 8 * k ≡ 8 * (length xs / 8 - 1) = omega arith in
-    rw (
-      slice_index-whole_words xs (length xs / 8 - 1) (omega (arith, length-whole_words xs)),
-      slice_index-whole_words rest k (omega arith),
-      drop-drop (8 * k) (8 * n) xs,
-      place,
-    ) refl
-
 -- the next whole word
 pub whole_words-more : (xs : List ℕ) → 8 ≤ length xs
     → whole_words xs ≡ word_of (take 8 xs) ∷ whole_words (drop 8 xs)

@@ -10,10 +10,10 @@ ghost use Rattle.komihash.specs.Counts.{Costs, hash_products};
 ghost use Rattle.komihash.specs.Hash.{komi};
 
 use crate::padding::{final_word_by_branch, final_word_by_shift, padding_byte};
-use crate::rounds::tail::{close, hash_from_pair};
+use crate::rounds::tail::{close, hash_from_pair, pair_round};
 use crate::rounds::{absorb_blocks, join, lanes_of, seed_pair};
 use crate::tally::Tally;
-use crate::utils::{last_whole_word, read_partial_word};
+use crate::utils::{last_whole_word, read_partial_word, read_word, word_at};
 
 #[inline(never)]
 fn hash_of_partial_word<const V: u8>(bytes: &[u8], seed: u64, tally: &mut Tally) -> u64
@@ -29,14 +29,39 @@ fn hash_of_partial_word<const V: u8>(bytes: &[u8], seed: u64, tally: &mut Tally)
 
 // The final word comes first, so that its shift doesn't take registers that the products need.
 #[inline(never)]
-fn hash_of_words<const V: u8>(bytes: &[u8], seed: u64, tally: &mut Tally) -> u64
+fn hash_of_one_word<const V: u8>(bytes: &[u8], seed: u64, tally: &mut Tally) -> u64
     requires least { 8 ≤ length bytes.now }
-    requires most { length bytes.now < 64 }
+    requires most { length bytes.now < 16 }
     ensures hash { result ≡ komi V seed bytes.now }
     ensures costs { Costs tally (hash_products (length bytes.now)) 0 }
 {
     let last = final_word_by_shift(bytes, padding_byte::<V>(bytes));
     let pair = seed_pair(seed, tally);
+    close(pair, read_word(bytes), last, tally)
+}
+
+#[inline(never)]
+fn hash_of_two_words<const V: u8>(bytes: &[u8], seed: u64, tally: &mut Tally) -> u64
+    requires least { 16 ≤ length bytes.now }
+    requires most { length bytes.now < 24 }
+    ensures hash { result ≡ komi V seed bytes.now }
+    ensures costs { Costs tally (hash_products (length bytes.now)) 0 }
+{
+    let pair = seed_pair(seed, tally);
+    let last = final_word_by_branch(bytes, padding_byte::<V>(bytes));
+    let pair = pair_round(pair, read_word(bytes), word_at(bytes, 8), tally);
+    close(pair, last, 0, tally)
+}
+
+#[inline(never)]
+fn hash_of_words<const V: u8>(bytes: &[u8], seed: u64, tally: &mut Tally) -> u64
+    requires least { 24 ≤ length bytes.now }
+    requires most { length bytes.now < 64 }
+    ensures hash { result ≡ komi V seed bytes.now }
+    ensures costs { Costs tally (hash_products (length bytes.now)) 0 }
+{
+    let pair = seed_pair(seed, tally);
+    let last = final_word_by_shift(bytes, padding_byte::<V>(bytes));
     hash_from_pair(pair, &bytes, last_whole_word(bytes), last, tally)
 }
 
@@ -47,11 +72,10 @@ fn hash_of_blocks<const V: u8>(bytes: &[u8], seed: u64, tally: &mut Tally) -> u6
     ensures costs { Costs tally (hash_products (length bytes.now)) 0 }
 {
     let pair = seed_pair(seed, tally);
-    // Both words come before the loop, which needs the registers of `bytes`.
     let last = final_word_by_branch(bytes, padding_byte::<V>(bytes));
-    let word = last_whole_word(bytes);
     let mut lanes = lanes_of(pair);
     let rest = absorb_blocks::<V>(&mut lanes, bytes, tally);
+    let word = if rest.len() >= 8 { last_whole_word(rest) } else { 0 };
     hash_from_pair(join(&lanes, true), &rest, word, last, tally)
 }
 
@@ -63,10 +87,15 @@ pub(crate) fn hash_message<const V: u8>(bytes: &[u8], seed: u64, tally: &mut Tal
     ensures hash { result ≡ komi V seed bytes.now }
     ensures costs { Costs tally (hash_products (length bytes.now)) 0 }
 {
-    if bytes.is_empty() {
-        close(seed_pair(seed, tally), 0, 0, tally)
-    } else if bytes.len() < 8 {
+    if bytes.len() < 8 {
+        if bytes.is_empty() {
+            return close(seed_pair(seed, tally), 0, 0, tally);
+        }
         hash_of_partial_word::<V>(bytes, seed, tally)
+    } else if bytes.len() < 16 {
+        hash_of_one_word::<V>(bytes, seed, tally)
+    } else if bytes.len() < 24 {
+        hash_of_two_words::<V>(bytes, seed, tally)
     } else if bytes.len() < 64 {
         hash_of_words::<V>(bytes, seed, tally)
     } else {
