@@ -2,22 +2,20 @@
 use Rattle.std.proofs.Common.{◌≡◌, ℕ, zero, suc, ◌+◌, ◌-◌, ◌*◌, ◌/◌, ◌%◌, ◌^◌, ◌<◌, ◌≤◌, List, []}
 use Rattle.std.proofs.Common.{◌∷◌, ◌++◌, length, take, drop, get_or, set, refl, ap, arith, ◌∙◌, sym}
 use Rattle.std.proofs.Common.{Fits, w8}
-use Rattle.std.proofs.lemmas.List.{append_assoc, length-append, length-drop, length-take}
+use Rattle.std.proofs.lemmas.List.{length-append, length-drop, length-take}
 use Rattle.std.proofs.lemmas.List.{length-take-le, take_all, drop_all, drop_more, take-append-drop}
 use Rattle.std.proofs.lemmas.List.{take-append-le, drop-append-le, drop-drop}
 use Rattle.std.specs.Prelude.{bit_or}
-use Rattle.std.specs.Simd.Lanes.{number_l, put_chunk}
-use borrow.Rule.Slice.PartMut.{put_mid, mid_of}
 use Rattle.komihash.specs.Storage.{pending_words, pending_bytes, ArePending, Stores}
 use Rattle.komihash.specs.Storage.{whole_words, final_word}
 use Rattle.komihash.specs.Words.{AreBytes, word_of, bytes_of, all_bytes}
-use Rattle.komihash.proofs.Lists.{take-more, take-append, two_put}
+use Rattle.komihash.proofs.Lists.{take-append}
 use Rattle.komihash.proofs.PaddedWords.{final_word_whole}
 use Rattle.komihash.proofs.WholeWords.{length-pending_words, pending_words-whole}
 use Rattle.komihash.proofs.WholeWords.{get_or-pending_words, length-whole_words}
 use Rattle.komihash.proofs.WholeWords.{slice_index-whole_words, after_words-drop}
 use Rattle.komihash.proofs.WordOf.{AreBytes-append, AreBytes-take, AreBytes-drop, AreBytes-typed}
-use Rattle.komihash.proofs.WordOf.{word_of-join, word_of-push, word_of-drop, two_words}
+use Rattle.komihash.proofs.WordOf.{word_of-join, word_of-push, word_of-drop}
 use Rattle.komihash.proofs.AllBytes.{length-all_bytes, AreBytes-all_bytes, take-bytes_of-word_of}
 use Rattle.komihash.proofs.AllBytes.{length-bytes_of}
 

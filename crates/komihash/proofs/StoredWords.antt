@@ -79,12 +79,12 @@ module _ (ws zs : List ℕ) (low high : ℕ) (but : StoresBut ws zs low high) wh
   all_stored none =
       ext_get_or 0 ws (pending_words 8 zs) (but.size ∙ sym (length-pending_words 8 zs))
       (λ k lt.
-          let few : k < 8 = omega (arith, but.size) in
-          let word = sym (get_or-pending_words 8 k zs few) in
-          elim (cases_lt k low) [
-            | inl less ↦ but.below k less few ∙ word
-            | inr least ↦ but.above k (none k few least) few ∙ word
-          ])
+      let few : k < 8 = omega (arith, but.size) in
+      let word = sym (get_or-pending_words 8 k zs few) in
+      elim (cases_lt k low) [
+        | inl less ↦ but.below k less few ∙ word
+        | inr least ↦ but.above k (none k few least) few ∙ word
+      ])
 
 -- the bytes from a word's index on
 pub drop_at_word : (xs bytes : List ℕ) (at from : ℕ) → length xs + from ≡ 8 * at

@@ -2,7 +2,7 @@
 -- no public contract cites it. Private contracts do, and lemmas prove that both say the same.
 use Rattle.std.proofs.Common.{refl, ap, ◌∙◌, sym}
 use Rattle.std.proofs.lemmas.List.{length-take-le}
-use Rattle.std.specs.Prelude.{ℕ, zero, suc, Bool, ◌≡◌, ◌+◌, ◌-◌, ◌*◌, ◌%◌, ◌<◌, ◌≤◌, bit_xor}
+use Rattle.std.specs.Prelude.{ℕ, zero, suc, Bool, ◌≡◌, ◌-◌, ◌*◌, ◌%◌, ◌<◌, ◌≤◌, bit_xor}
 use Rattle.std.specs.Prelude.{List, [], ◌∷◌, ◌++◌, length, take, drop, get_or}
 use Rattle.std.specs.Int.Bits.{xor_assoc, xor_self, xor_zero_l}
 use Rattle.komihash.specs.Padding.{padding_byte}

@@ -75,7 +75,11 @@ fn hash_of_blocks<const V: u8>(bytes: &[u8], seed: u64, tally: &mut Tally) -> u6
     let last = final_word_by_branch(bytes, padding_byte::<V>(bytes));
     let mut lanes = lanes_of(pair);
     let rest = absorb_blocks::<V>(&mut lanes, bytes, tally);
-    let word = if rest.len() >= 8 { last_whole_word(rest) } else { 0 };
+    let word = if rest.len() >= 8 {
+        last_whole_word(rest)
+    } else {
+        0
+    };
     hash_from_pair(join(&lanes, true), &rest, word, last, tally)
 }
 

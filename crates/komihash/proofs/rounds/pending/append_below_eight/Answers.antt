@@ -1,4 +1,4 @@
-use Rattle.std.proofs.Common.{◌*◌, ◌%◌, ◌∙◌, arith}
+use Rattle.std.proofs.Common.{◌%◌, ◌∙◌, arith}
 use Rattle.komihash.specs.Storage.{pending_bytes}
 use Rattle.komihash.proofs.WordOf.{AreBytes-typed, word_of-zero}
 use Rattle.komihash.proofs.PendingBytes.{length_pending}

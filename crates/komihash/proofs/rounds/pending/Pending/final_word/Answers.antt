@@ -1,5 +1,5 @@
 -- The padding byte is that of the last byte, wherever it lies.
-use Rattle.std.proofs.Common.{◌≡◌, ℕ, Bool, true, false, refl, ◌<◌, ◌-◌, ◌∙◌, sym, ap, arith, length, get_or}
+use Rattle.std.proofs.Common.{◌≡◌, ℕ, Bool, true, false, refl, ◌<◌, ◌-◌, ◌∙◌, ap, arith, length, get_or}
 use Rattle.komihash.specs.Padding.{padding_after, padding_byte}
 use Rattle.komihash.specs.Storage.{pending_bytes}
 use Rattle.komihash.proofs.PendingBytes.{length_pending, final_word_pending, last_of_whole, last_of_partial}
