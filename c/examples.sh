@@ -67,7 +67,7 @@ versions_agree() {
 # Prints the size of a type of the crate for C, as a file proves it.
 size_of() {
     sed -nE "s/^const _: \(\) = prove!\(size_of::<$1>\(\) == (.*)\);/\1/p" \
-        "../crates/komihash_c/src/$2.rt"
+        "../crates/komihash_rattle/src/$2.rt"
 }
 
 # Compiles calls.c for a version. The last argument is the compiler.

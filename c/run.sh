@@ -32,7 +32,7 @@ soname=libkomihash_rattle.so.${version%%.*}
 mkdir -p "$out"
 . ./build.sh
 
-build_archive() { build_static komihash_c "$library.a" --cpu "$cpu"; }
+build_archive() { build_static komihash_rattle "$library.a" --cpu "$cpu"; }
 
 # Links the shared object. Programs are linked to it by the name in `.so`, and run with the soname.
 link_shared() {
