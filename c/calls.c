@@ -1,11 +1,14 @@
 /* Calls every function of komihash_rattle.h in one version, and prints what each returns and
  * writes. calls.txt has what version 4 and then version 5 must print. The Rust crate gave the
  * hashes, outputs and filled bytes there; the padded words and saved texts follow from their rules.
+ * With an argument, it reads rows like those of docs/vectors.tsv instead, and prints the ones of
+ * its version, each with the hash that the library gives.
  *
  * VERSION is 4 or 5. STREAM_SIZE and RAND_SIZE are the sizes of the library's types. */
 #include "komihash_rattle.h"
 #include <inttypes.h>
 #include <stdio.h>
+#include <stdlib.h>
 #include <string.h>
 
 #define JOINED(version, rest) komihash_v##version##rest
@@ -185,7 +188,30 @@ static void padded(void) {
     printf("\n");
 }
 
-int main(void) {
+/* Prints a row with the hash of its message, whose digits begin there. */
+static void print_row(const char *row, char *digits, uint64_t row_seed) {
+    uint8_t bytes[512];
+    size_t length = 0;
+    for (; digits[0] != '\t'; digits += 2)
+        bytes[length++] = (uint8_t)strtoul((char[3]){digits[0], digits[1]}, NULL, 16);
+    printf("%.*s%016" PRIx64 "\n", (int)(digits + 1 - row), row, hash(bytes, length, row_seed));
+}
+
+static void rows(void) {
+    char row[1024], *end;
+    while (fgets(row, sizeof row, stdin) != NULL)
+        if (row[0] == '0' + VERSION) {
+            uint64_t row_seed = strtoull(row + 2, &end, 16);
+            print_row(row, end + 1, row_seed);
+        }
+}
+
+int main(int count, char **arguments) {
+    (void)arguments;
+    if (count > 1) {
+        rows();
+        return 0;
+    }
     for (size_t i = 0; i < sizeof message; i++)
         message[i] = (uint8_t)(7 * i + 3);
     printf("version %d\n", VERSION);
