@@ -7,7 +7,7 @@ cd "$(dirname "$0")/../c" || exit 1
 . ../scripts/cases.sh
 
 # Prints the compilers that the files in a folder name.
-compilers() { sed -nE '1,/\*\// s/^ \* (commit|compiler) .*/&/p' "$1"/*.s | sort -u; }
+compilers() { sed -nsE '1,/\*\// s/^ \* (commit|compiler) .*/&/p' "$1"/*.s | sort -u; }
 
 same() { diff -r assembly "$room/assembly" > "$room/differ" || { head -n 40 "$room/differ"; false; }; }
 
