@@ -6,10 +6,10 @@ set -uo pipefail
 cd "$(dirname "$0")/../c" || exit 1
 . ../scripts/cases.sh
 
-# Prints the compilers that the files in a folder name.
-compilers() { sed -nsE '1,/\*\// s/^ \* (commit|compiler) .*/&/p' "$1"/*.s | sort -u; }
+# Prints the compiler that a file names.
+compiler_of() { sed -nE '1,/\*\// s/^ \* (commit|compiler) .*/&/p' "$1"; }
 
-same() { diff -r assembly "$room/assembly" > "$room/differ" || { head -n 40 "$room/differ"; false; }; }
+same() { diff "$@" > "$room/differ" || { head -n 40 "$room/differ"; false; }; }
 
 wasm() {
     local option=--experimental-wasm-memory64 # which old versions of Node need
@@ -21,13 +21,18 @@ wasm() {
 
 note 'the assembly is made anew' make assembly ASSEMBLY="$room/assembly"
 [ "$failed" = 0 ] || { counted; exit; }
-if [ "$(compilers assembly)" = "$(compilers "$room/assembly")" ]; then
-    note 'c/assembly/ is what the compiler makes of the proved sources' same
-else
-    echo 'c/assembly/ is from another compiler than that of this kit, so it is not compared.'
-    note 'the library from the assembly made anew passes its tests' \
-        make check ASSEMBLY="$room/assembly" OUT="$room/out"
-fi
+differs=
+for made in "$room"/assembly/*.s; do
+    file=assembly/${made##*/}
+    if [ "$(compiler_of "$file")" = "$(compiler_of "$made")" ]; then
+        note "c/$file is what the compiler makes of the proved source code" same "$file" "$made"
+    else
+        echo "c/$file is not compared: it is from another compiler than that of this kit"
+        differs=1
+    fi
+done
+[ ! "$differs" ] || note 'the library from the assembly made anew passes its tests' \
+    make check ASSEMBLY="$room/assembly" OUT="$room/out"
 if command -v node > "$room/case"; then
     note 'the library for WebAssembly gives the hashes of docs/vectors.tsv' wasm
 else
