@@ -3,7 +3,7 @@
 # Rattle kit, whose compiler proves the crate before it makes anything of it.
 set -euo pipefail
 folder=$(realpath -m "$1")
-rt=$(command -v rt) || { echo 'assembly.sh: there is no rt: this needs the Rattle kit' >&2; exit 1; }
+rt=$(command -v rt) || { echo 'assembly.sh: there is no rt, the Rattle kit' >&2; exit 1; }
 kit=$(dirname "$(dirname "$(readlink -f "$rt")")")
 room=$(mktemp -d)
 trap 'rm -rf "$room"' EXIT
@@ -29,8 +29,8 @@ assembly_for() {
         --antt-project "$kit/rattle/logic/antt-project.json" --logic-built "$kit/logic_built" \
         --incremental out/incremental --toolchain "$room" "$@" -o "$room/library.a" \
         > "$room/log" 2>&1 || { tail -n 40 "$room/log" >&2; return 1; }
-    echo '/* `make assembly` made this file from the proved crate komihash_rattle. Do not edit it. The'
-    echo ' * flags are those of rt. A kit has its commit and its compiler in the file WHAT.'
+    echo '/* `make assembly` made this file from the proved crate komihash_rattle. Do not edit it.'
+    echo ' * The flags are those of rt. A kit has its commit and its compiler in the file WHAT.'
     echo " * flags $*"
     sed -n 's/.*\.ident.*"rattle logic=\([0-9a-f]*\)".*/ * logic \1/p' "$room/module.s"
     sed -nE 's/^(commit|compiler) / * &/p' "$kit/WHAT"

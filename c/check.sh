@@ -1,6 +1,6 @@
 #!/bin/sh
-# Tests the library for C; `make check` runs it, and passes what it builds with. Installs the library
-# below a folder with a space in its name, and compiles and runs programs with what is there.
+# Tests the library for C; `make check` runs it, and passes what it builds with. Installs the
+# library below a folder with a space in its name, and compiles and runs programs with it.
 set -u
 cd "$(dirname "$0")" || exit 1
 . ../scripts/cases.sh
@@ -73,7 +73,8 @@ calls() {
 }
 cases_of_calls() {
     note "calls.c prints what calls.txt has (${1##*/}, ${2##*/})" prints calls.txt calls "$@"
-    note "the hashes of docs/vectors.tsv (${1##*/}, ${2##*/})" prints "$room/vectors" calls "$@" rows
+    note "the hashes of docs/vectors.tsv (${1##*/}, ${2##*/})" \
+        prints "$room/vectors" calls "$@" rows
 }
 
 # Compiles an example with these arguments, and runs it.

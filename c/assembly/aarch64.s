@@ -1,5 +1,5 @@
-/* `make assembly` made this file from the proved crate komihash_rattle. Do not edit it. The
- * flags are those of rt. A kit has its commit and its compiler in the file WHAT.
+/* `make assembly` made this file from the proved crate komihash_rattle. Do not edit it.
+ * The flags are those of rt. A kit has its commit and its compiler in the file WHAT.
  * flags --target aarch64-unknown-linux-gnu
  * logic dac8208d650f15bf3e2dc313a14fa4c783a3acf887bdfab66e1714b038d9e11b
  * commit 2d87c71a1e03972d08576fcaddc081846f54381603d80e77896539d88ecc11ed
