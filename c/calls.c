@@ -1,13 +1,15 @@
 /* Calls every function of komihash_rattle.h in one version, and prints what each returns and
  * writes. calls.txt has what version 4 and then version 5 must print. The Rust crate gave the
  * hashes, outputs and filled bytes there; the padded words and saved texts follow from their rules.
+ * With an argument, it reads rows like those of docs/vectors.tsv instead, and prints the ones of
+ * its version, each with the hash that the library gives.
  *
  * VERSION is 4 or 5. STREAM_SIZE and RAND_SIZE are the sizes of the library's types. */
 #include "komihash_rattle.h"
 #include <inttypes.h>
 #include <stdio.h>
+#include <stdlib.h>
 #include <string.h>
-#include <sys/uio.h>
 
 #define JOINED(version, rest) komihash_v##version##rest
 #define NAMED(version, rest) JOINED(version, rest)
@@ -23,17 +25,11 @@ typedef KOMIHASH(_rand) Rand;
 
 _Static_assert(sizeof(Stream) == STREAM_SIZE, "the size of a stream");
 _Static_assert(sizeof(Rand) == RAND_SIZE, "the size of a generator");
-_Static_assert(sizeof(komihash_piece) == sizeof(struct iovec), "the size of a piece");
-_Static_assert(offsetof(komihash_piece, bytes) == offsetof(struct iovec, iov_base), "its pointer");
-_Static_assert(offsetof(komihash_piece, length) == offsetof(struct iovec, iov_len), "its length");
 
 /* The functions, with the types of the library's own. */
 static uint64_t (*const hash)(const void *, size_t, uint64_t) = KOMIHASH();
-static uint64_t (*const hash_pieces)(const komihash_piece *, size_t, uint64_t) = KOMIHASH(_pieces);
 static Stream (*const start)(uint64_t) = KOMIHASH(_start);
 static void (*const write_bytes)(Stream *, const void *, size_t) = KOMIHASH(_write);
-static void (*const write_pieces)(Stream *, const komihash_piece *, size_t) =
-    KOMIHASH(_write_pieces);
 static uint64_t (*const finish)(const Stream *) = KOMIHASH(_finish);
 static size_t (*const save)(const Stream *, void *, size_t) = KOMIHASH(_save);
 static bool (*const resume)(Stream *, const void *, size_t) = KOMIHASH(_resume);
@@ -43,8 +39,6 @@ static Rand (*const rand_init_with_extra_seed)(uint64_t, uint64_t) =
 static Rand (*const rand_init_words)(uint64_t, uint64_t) = KOMIHASH(_rand_init_words);
 static uint64_t (*const rand_next)(Rand *) = KOMIHASH(_rand_next);
 static void (*const rand_fill)(Rand *, void *, size_t) = KOMIHASH(_rand_fill);
-static void (*const fill)(void *, size_t, uint64_t, uint64_t) = KOMIHASH(_fill);
-static void (*const fill_seeded)(void *, size_t, uint64_t, uint64_t) = KOMIHASH(_fill_seeded);
 static size_t (*const pad)(const void *, size_t, uint64_t *, size_t) = KOMIHASH(_pad);
 static size_t (*const unpad)(const uint64_t *, size_t, void *, size_t) = KOMIHASH(_unpad);
 
@@ -52,10 +46,6 @@ static const uint64_t seed = 0x0123456789abcdef, other_seed = 0xfedcba9876543210
 
 /* Byte i is 7 * i + 3 modulo 256. */
 static uint8_t message[100];
-
-/* The message in four pieces, one of them empty. */
-static const komihash_piece pieces[4] = {
-    {message, 20}, {message + 20, 0}, {message + 20, 43}, {message + 63, 37}};
 
 static void print_word(const char *name, uint64_t word) {
     printf("%-26s %016" PRIx64 "\n", name, word);
@@ -77,8 +67,6 @@ static void print_bytes(const uint8_t *bytes, size_t length) {
 static void hashes(void) {
     print_word("hash", hash(message, 100, seed));
     print_word("hash of no bytes", hash(NULL, 0, seed));
-    print_word("pieces", hash_pieces(pieces, 4, seed));
-    print_word("pieces, none", hash_pieces(NULL, 0, seed));
 }
 
 /* Prints the length and the first four bytes of a stream's text, and its hash. */
@@ -103,11 +91,6 @@ static void streams(void) {
     write_bytes(&copy, message + 20, 44);
     print_stream("write to the copy", &copy);
     print_stream("the copied stream", &stream);
-    stream = start(seed);
-    write_pieces(&stream, pieces, 4);
-    print_stream("write_pieces", &stream);
-    write_pieces(&stream, NULL, 0);
-    print_stream("write_pieces, none", &stream);
 }
 
 /* Resumes a stream with a text that no stream has, and prints whether the stream is unchanged. */
@@ -176,19 +159,6 @@ static void generators(void) {
     print_rand("the copy before them", copy);
 }
 
-static void fills(void) {
-    uint8_t out[12];
-    memset(out, 0x5a, sizeof out);
-    fill(NULL, 0, seed, other_seed);
-    fill(out, 11, seed, other_seed);
-    print_length("fill", 11);
-    print_bytes(out, sizeof out);
-    fill_seeded(NULL, 0, seed, other_seed);
-    fill_seeded(out, 11, seed, other_seed);
-    print_length("fill_seeded", 11);
-    print_bytes(out, sizeof out);
-}
-
 static void pads(const char *name, const uint8_t *bytes, size_t length, size_t room) {
     uint64_t words[3] = {0x5a5a, 0x5a5a, 0x5a5a};
     print_length(name, pad(bytes, length, room == 0 ? NULL : words, room));
@@ -218,7 +188,30 @@ static void padded(void) {
     printf("\n");
 }
 
-int main(void) {
+/* Prints a row with the hash of its message, whose digits begin there. */
+static void print_row(const char *row, char *digits, uint64_t row_seed) {
+    uint8_t bytes[512];
+    size_t length = 0;
+    for (; digits[0] != '\t'; digits += 2)
+        bytes[length++] = (uint8_t)strtoul((char[3]){digits[0], digits[1]}, NULL, 16);
+    printf("%.*s%016" PRIx64 "\n", (int)(digits + 1 - row), row, hash(bytes, length, row_seed));
+}
+
+static void rows(void) {
+    char row[1024], *end;
+    while (fgets(row, sizeof row, stdin) != NULL)
+        if (row[0] == '0' + VERSION) {
+            uint64_t row_seed = strtoull(row + 2, &end, 16);
+            print_row(row, end + 1, row_seed);
+        }
+}
+
+int main(int count, char **arguments) {
+    (void)arguments;
+    if (count > 1) {
+        rows();
+        return 0;
+    }
     for (size_t i = 0; i < sizeof message; i++)
         message[i] = (uint8_t)(7 * i + 3);
     printf("version %d\n", VERSION);
@@ -226,6 +219,5 @@ int main(void) {
     streams();
     saves();
     generators();
-    fills();
     padded();
 }

@@ -4,12 +4,12 @@
  *
  * For every call:
  * - `length` and `room` are the number of bytes, or of words of eight bytes, at the pointer that
- *   precedes them in the arguments; `count` is a number of pieces. No single array takes more than
- *   PTRDIFF_MAX bytes; the pieces of one message may add up to more.
- * - A pointer may be null only if the length, room or count after it is 0. Never null are `stream`,
- *   `rand`, and the pointer in a piece, even in an empty one.
- * - A pointer to words, pieces, a stream or a generator is aligned to eight bytes. One to bytes
- *   needs no alignment.
+ *   precedes them in the arguments. No array takes more than PTRDIFF_MAX bytes; the writes to one
+ *   stream may add up to more.
+ * - A pointer may be null only if the length or room after it is 0. `stream` and `rand` are never
+ *   null.
+ * - A pointer to words, a stream or a generator is aligned to eight bytes. One to bytes needs no
+ *   alignment.
  * - What a call writes must not overlap anything else that the call is passed.
  * - No call allocates memory or sets errno. The library has no global state, so threads may make
  *   calls at the same time. Threads that share a stream or a generator need a lock if one of them
@@ -58,21 +58,10 @@ typedef struct {
     uint64_t state[2];
 } komihash_v5_rand;
 
-/* A piece of a message. It is laid out like POSIX's `struct iovec`, so an array of those can be
- * cast to pieces. Remove entries {NULL, 0} from the array before the cast. */
-typedef struct {
-    const void *bytes;
-    size_t length;
-} komihash_piece;
-
 /* Returns the hash of a message. Any seed will do: use 0 unless you need several hashes of one
  * message. A secret seed gives no security. */
 uint64_t komihash_v4(const void *bytes, size_t length, uint64_t seed);
 uint64_t komihash_v5(const void *bytes, size_t length, uint64_t seed);
-
-/* Returns the hash of pieces, joined in order. */
-uint64_t komihash_v4_pieces(const komihash_piece *pieces, size_t count, uint64_t seed);
-uint64_t komihash_v5_pieces(const komihash_piece *pieces, size_t count, uint64_t seed);
 
 /* Returns the new stream of a seed. */
 komihash_v4_stream komihash_v4_start(uint64_t seed);
@@ -81,12 +70,6 @@ komihash_v5_stream komihash_v5_start(uint64_t seed);
 /* Absorbs bytes. However a message is cut, its hash is the same. */
 void komihash_v4_write(komihash_v4_stream *stream, const void *bytes, size_t length);
 void komihash_v5_write(komihash_v5_stream *stream, const void *bytes, size_t length);
-
-/* Absorbs pieces in order. */
-void komihash_v4_write_pieces(
-    komihash_v4_stream *stream, const komihash_piece *pieces, size_t count);
-void komihash_v5_write_pieces(
-    komihash_v5_stream *stream, const komihash_piece *pieces, size_t count);
 
 /* Returns the hash of all bytes so far. The stream is unchanged, and may absorb more. */
 uint64_t komihash_v4_finish(const komihash_v4_stream *stream);
@@ -128,14 +111,6 @@ uint64_t komihash_v5_rand_next(komihash_v5_rand *rand);
  * are dropped. */
 void komihash_v4_rand_fill(komihash_v4_rand *rand, void *out, size_t length);
 void komihash_v5_rand_fill(komihash_v5_rand *rand, void *out, size_t length);
-
-/* Does what `rand_fill` does with the new generator of two words, which is not kept. */
-void komihash_v4_fill(void *out, size_t length, uint64_t s1, uint64_t s2);
-void komihash_v5_fill(void *out, size_t length, uint64_t s1, uint64_t s2);
-
-/* Does the same with the new generator of two seeds. For a single seed, pass it twice. */
-void komihash_v4_fill_seeded(void *out, size_t length, uint64_t seed, uint64_t extra_seed);
-void komihash_v5_fill_seeded(void *out, size_t length, uint64_t seed, uint64_t extra_seed);
 
 /* Writes the padded words of a message to the front of `out`, and returns their number, which is
  * length / 8 + 1. They are the words that the hash reads: different messages have different ones.

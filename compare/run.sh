@@ -18,13 +18,22 @@ cd "$(dirname "${BASH_SOURCE[0]}")"
 out=$PWD/out
 layouts=${LAYOUTS:-8}
 mkdir -p "$out"
-. ../c/build.sh
+
+stop() {
+    echo "run.sh: $1" >&2
+    exit 2
+}
+
+need() { command -v "$1" > /dev/null || stop "there is no $1, which $2"; }
 
 # Builds the library for C, the loops, and the other hashes whose headers are installed.
 build_libraries() {
-    ../c/run.sh library >&2
+    make --silent -C ../c >&2
     cp ../c/out/libkomihash_rattle.a "$out/"
-    build_static komihash_loops "$out/libloops.a"
+    need rt 'proves and builds the crate komihash_loops'
+    (cd ../crates/komihash_loops && rt lib) > "$out/loops.log" 2>&1 ||
+        stop "the crate komihash_loops is not proved or not built; see $out/loops.log"
+    cp ../crates/komihash_loops/out/libkomihash_loops.a "$out/libloops.a"
     build_peers v2 x86-64-v2
     build_peers v3 AVX2
     rm -f "$out/libpeers.a"

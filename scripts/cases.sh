@@ -1,28 +1,26 @@
-# Counts cases, for the scripts in bash that source this file. cases.py says how to add one.
+# Counts cases, for the scripts that source this file, in sh or bash. cases.py says how to add one.
 passed=0 failed=0 skipped=0
-room=$(realpath "$(mktemp -d)")
+room=$(mktemp -d) && room=$(realpath "$room") || exit
 trap 'rm -rf "$room"' EXIT
 
+# A case, which fails if its command does: note NAME COMMAND..
 note() {
-    if ("${@:2}") > "$room/case" 2>&1; then
+    case_name=$1
+    shift
+    if ("$@") > "$room/case" 2>&1; then
         passed=$((passed + 1))
-        echo "ok: $1"
+        echo "ok: $case_name"
     else
         failed=$((failed + 1))
-        echo "FAILED: $1"
+        echo "FAILED: $case_name"
         cat "$room/case"
     fi
 }
 
-# cases_with NAME TOOLS CASES: runs a function of cases with the tools that work here, or skips it
-# if there is none.
-cases_with() {
-    if [ -n "$2" ]; then
-        "$3" "$2"
-    else
-        skipped=$((skipped + 1))
-        echo "skipped: cases that need $1, which is missing or does not work here"
-    fi
+# A case that can't be run, since a tool is missing: skip NAME TOOL
+skip() {
+    skipped=$((skipped + 1))
+    echo "skipped: $1, since there is no $2"
 }
 
 counted() {

@@ -87,5 +87,5 @@ def findings(files):
     return {"products": products(functions), "tallies": list(tallies(functions)), "hidden": hidden}
 
 
-FILES = texts_of("crates/komihash/src/**/*.rt", "crates/komihash_c/src/**/*.rt")
+FILES = texts_of("crates/komihash/src/**/*.rt", "crates/komihash_rattle/src/**/*.rt")
 sys.exit(report("the sources", findings, FILES))

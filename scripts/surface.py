@@ -28,7 +28,7 @@ from cases import report
 from sources import KIND, OWNER, SCRIPTS, code_of, items_of, texts_of
 
 LIST = SCRIPTS / "surface.txt"
-LISTED = re.compile(r"crates/(?:komihash|komihash_c|komisum)/src/(?!tests\b|v4\.rt).*\.rt")
+LISTED = re.compile(r"crates/(?:komihash|komihash_rattle|komisum)/src/(?!tests\b|v4\.rt).*\.rt")
 EXPORTS = "crates/komihash/src/exports.rt"
 CHECKED = re.compile(r".*/komi\w+/specs/(?!Lib|Storage).*|.*/komihash/proofs/(?:Raised|tally/).*")
 

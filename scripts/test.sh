@@ -1,6 +1,7 @@
 #!/usr/bin/env bash
 # Runs every proof and test, up to the first part that fails: the rules for sources and documents,
-# which take seconds, `rt ci`, and the tests of the built program and of the library for C.
+# which take seconds, `rt ci`, and the tests of the built program and of the library for C, whose
+# assembly is made anew.
 #
 # The last line is 'N passed, M failed', the sum of all parts, with ', K skipped' if a tool is
 # missing; lines above it say which. With REQUIRE_ALL=1 in the environment, skipped is failed.
@@ -29,6 +30,16 @@ part() {
     [ "$failed" = 0 ] || { echo "FAILED: $*; later parts, if any, were not run"; sum_up; }
 }
 
+# Tests the library for C for ARM64, in an emulator.
+check_arm64() {
+    if type aarch64-linux-gnu-gcc qemu-aarch64 > "$room/case" 2>&1; then
+        make -C c --no-print-directory CROSS=aarch64-linux-gnu- RUN=qemu-aarch64 check
+    else
+        skip 'the library for C, for ARM64' 'cross compiler and emulator'
+        counted
+    fi
+}
+
 part python3 scripts/rules.py
 part python3 scripts/surface.py
 part python3 scripts/documents.py
@@ -39,5 +50,7 @@ note 'each must-fail edit is refused' grep "must-fail edits: ${#edits[@]} refuse
     <<< "must-fail edits: $refused refused"
 [ "$failed" = 0 ] || sum_up
 part bash scripts/program.sh
-part bash c/run.sh examples
+part bash scripts/assembly.sh
+part make -C c --no-print-directory check
+part check_arm64
 sum_up

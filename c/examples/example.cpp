@@ -1,31 +1,29 @@
-// Hashes a message at once, as a list of pieces, and in a stream.
-#include "komihash_rattle.h"
+// Hashes the keys of a std::unordered_map, and a message that comes in two parts.
 #include <cinttypes>
 #include <cstdio>
+#include <komihash_rattle.h>
+#include <string>
 #include <string_view>
-#include <vector>
+#include <unordered_map>
 
-// A stream that takes the pieces of a message.
-class Stream {
-  public:
-    explicit Stream(std::uint64_t seed) : stream(komihash_v5_start(seed)) {}
+// The hash of a key, for containers of the standard library.
+struct KomiHash {
+    std::uint64_t seed;
 
-    void write(std::string_view bytes) { komihash_v5_write(&stream, bytes.data(), bytes.size()); }
-
-    std::uint64_t finish() const { return komihash_v5_finish(&stream); }
-
-  private:
-    komihash_v5_stream stream;
+    std::size_t operator()(std::string_view key) const noexcept {
+        return komihash_v5(key.data(), key.size(), seed);
+    }
 };
 
 int main() {
-    const std::string_view message = "port", head = message.substr(0, 1), rest = message.substr(1);
-    const std::vector<komihash_piece> pieces = {
-        {head.data(), head.size()}, {rest.data(), rest.size()}};
-    Stream stream(7);
-    stream.write(head);
-    stream.write(rest);
-    std::printf("%016" PRIx64 "\n", komihash_v5(message.data(), message.size(), 7));
-    std::printf("%016" PRIx64 "\n", komihash_v5_pieces(pieces.data(), pieces.size(), 7));
-    std::printf("%016" PRIx64 "\n", stream.finish());
+    std::unordered_map<std::string, int, KomiHash> numbers(8, KomiHash{7});
+    numbers["port"] = 443;
+    if (numbers.count("port") != 1 || numbers.count("host") != 0)
+        return 1;
+    std::printf("%016" PRIx64 "\n", std::uint64_t{numbers.hash_function()("port")});
+
+    komihash_v5_stream stream = komihash_v5_start(7);
+    for (std::string_view part : {"p", "ort"})
+        komihash_v5_write(&stream, part.data(), part.size());
+    std::printf("%016" PRIx64 "\n", komihash_v5_finish(&stream));
 }

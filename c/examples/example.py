@@ -1,4 +1,4 @@
-"""Hashes a message at once, as a list of pieces, and in a stream: example.py LIBRARY."""
+"""Hashes a message at once, and in a stream: example.py LIBRARY."""
 import ctypes
 import sys
 from ctypes import POINTER, Structure, byref, c_size_t, c_uint64, c_void_p
@@ -6,10 +6,6 @@ from ctypes import POINTER, Structure, byref, c_size_t, c_uint64, c_void_p
 
 class Stream(Structure):
     _fields_ = [("state", c_uint64 * 18)]
-
-
-class Piece(Structure):
-    _fields_ = [("bytes", ctypes.c_char_p), ("length", c_size_t)]
 
 
 def function(name, result, *arguments):
@@ -21,16 +17,12 @@ def function(name, result, *arguments):
 
 library = ctypes.CDLL(sys.argv[1])
 komihash = function("", c_uint64, c_void_p, c_size_t, c_uint64)
-hash_pieces = function("_pieces", c_uint64, POINTER(Piece), c_size_t, c_uint64)
 start = function("_start", Stream, c_uint64)
 write = function("_write", None, POINTER(Stream), c_void_p, c_size_t)
 finish = function("_finish", c_uint64, POINTER(Stream))
 
-message = b"port"
-parts = [message[:1], message[1:]]
-pieces = (Piece * 2)(*((part, len(part)) for part in parts))
 stream = start(7)
-for part in parts:
+for part in (b"p", b"ort"):
     write(byref(stream), part, len(part))
-for value in (komihash(message, len(message), 7), hash_pieces(pieces, 2, 7), finish(byref(stream))):
+for value in (komihash(b"port", 4, 7), finish(byref(stream))):
     print(f"{value:016x}")

@@ -2,7 +2,6 @@
 //! caller must observe.
 #![tactic(auto)]
 
-mod pieces;
 mod rand;
 mod v4;
 mod v5;

@@ -4,7 +4,6 @@
 
 ghost use Rattle.std.specs.Prelude.{◌≡◌, ◌+◌, ◌-◌, ◌*◌, ◌/◌, ◌<◌, ◌≤◌, ◌^◌, ◌++◌, ◌↔◌, true, false};
 ghost use Rattle.std.specs.Prelude.{ℕ, List, [], length, take, drop};
-ghost use Rattle.std.specs.List.{flat_map};
 ghost use Rattle.komihash.specs.Generator.{next, after_steps, fill, after_fill};
 ghost use Rattle.komihash.specs.Hash.{komi};
 ghost use Rattle.komihash.specs.Padding.{ArePadded, padded_words};
@@ -12,7 +11,6 @@ ghost use Rattle.komihash.specs.Saved.{text, IsText, IsTextAfter};
 ghost use Rattle.komihash.specs.Stream.{State, IsState, HasAbsorbed, start, absorb, answer};
 ghost use Rattle.komihash.specs.Words.{AreBytes};
 
-use super::pieces::{Piece, absorb_pieces};
 use super::rand::Rand;
 use komihash::stream::LONGEST_TEXT;
 use komihash::stream::raw::RawStream;
@@ -35,33 +33,6 @@ pub extern "C" fn komihash_v4(bytes: &[u8], seed: u64) -> u64
     ensures { result ≡ komi 4 seed bytes.now }
 {
     v4::komihash(bytes, seed)
-}
-
-/// Returns the hash of pieces, joined.
-#[unsafe(no_mangle)]
-#[tactic(auto, using(crate::proofs::PieceLists::piece_laws))]
-pub extern "C" fn komihash_v4_pieces(pieces: &[Piece<'_>], seed: u64) -> u64
-    ensures { result ≡ komi 4 seed (flat_map (λ piece. piece.bytes.now) pieces.now) }
-{
-    let mut raw = RawStream::start::<4>(seed, &mut Tally::new());
-    absorb_pieces::<4>(&mut raw, pieces);
-    raw.answer::<4>(&mut Tally::new())
-}
-
-/// Fills the buffer from the generator of this pair.
-#[unsafe(no_mangle)]
-pub extern "C" fn komihash_v4_fill(out: &mut [u8], s1: u64, s2: u64)
-    ensures { out.new ≡ fill 4 (s1, s2) (length out.old) }
-{
-    Komirand::new(s1, s2).fill_bytes(out);
-}
-
-/// Fills the buffer from the generator of these seeds, which has taken four steps.
-#[unsafe(no_mangle)]
-pub extern "C" fn komihash_v4_fill_seeded(out: &mut [u8], seed: u64, extra_seed: u64)
-    ensures { out.new ≡ fill 4 (after_steps 4 4 (seed, extra_seed)) (length out.old) }
-{
-    Komirand::init_with_extra_seed(seed, extra_seed).fill_bytes(out);
 }
 
 /// Writes the padded words of a message to the front of `out`, and returns their number. Returns 0
@@ -124,18 +95,6 @@ pub extern "C" fn komihash_v4_write(stream: &mut Stream, bytes: &[u8])
         → HasAbsorbed 4 seed stream.new.raw (m ++ bytes.now) }
 {
     stream.raw.absorb::<4>(bytes, &mut Tally::new());
-}
-
-/// Absorbs pieces in order.
-#[unsafe(no_mangle)]
-pub extern "C" fn komihash_v4_write_pieces(stream: &mut Stream, pieces: &[Piece<'_>])
-    ensures state { stream.new.raw ≡ absorb 4 stream.old.raw
-        (flat_map (λ piece. piece.bytes.now) pieces.now) }
-    ensures message { (seed : ℕ) (m : List ℕ) → HasAbsorbed 4 seed stream.old.raw m
-        → HasAbsorbed 4 seed stream.new.raw
-        (m ++ flat_map (λ piece. piece.bytes.now) pieces.now) }
-{
-    absorb_pieces::<4>(&mut stream.raw, pieces);
 }
 
 /// Returns the hash of all bytes so far. The stream is unchanged.
