@@ -15,6 +15,7 @@ pub mod numbers;
 pub mod pieces;
 pub mod prefixes;
 pub mod readers;
+pub mod promises;
 pub mod records;
 pub mod samples;
 pub mod shards;
