@@ -1,4 +1,6 @@
-# Counts cases, for the scripts in bash that source this file. cases.py says how to add one.
+# Counts cases, for the scripts in bash that source this file. A case is `note NAME COMMAND`, which
+# prints `ok: NAME`, or `FAILED: NAME` and what the command printed. The last line of such a script
+# is 'N passed, M failed'.
 passed=0 failed=0 skipped=0
 room=$(realpath "$(mktemp -d)")
 trap 'rm -rf "$room"' EXIT

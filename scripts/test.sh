@@ -29,8 +29,7 @@ part() {
     [ "$failed" = 0 ] || { echo "FAILED: $*; later parts, if any, were not run"; sum_up; }
 }
 
-part python3 scripts/rules.py
-part python3 scripts/surface.py
+part bash scripts/rules.sh
 part python3 scripts/documents.py
 part rt ci
 edits=(crates/*/must-fail/*.edit)
@@ -38,6 +37,7 @@ refused=$(grep -c '\.edit: refused' "$room/told") # some versions of `rt ci` pri
 note 'each must-fail edit is refused' grep "must-fail edits: ${#edits[@]} refused" - "$room/told" \
     <<< "must-fail edits: $refused refused"
 [ "$failed" = 0 ] || sum_up
+part bash scripts/attacks.sh
 part bash scripts/program.sh
 part bash c/run.sh examples
 sum_up
