@@ -60,7 +60,8 @@ hidden() {
     local code
     code=$(sources "$1" | xargs sed -E 's|//.*||')
     {
-        grep -E '^ *(pub )?use .*\bas\b|\btype .*\bTally\b|/\*|\bFn|\bfn *\(|macro_rules' <<< "$code"
+        grep -E -e '^ *(pub )?use .*\bas\b|\btype .*\bTally\b|macro_rules' \
+            -e '/\*|\bFn|\bfn *\(' <<< "$code"
         grep -E '\bfn [a-z]' <<< "$code" |
             grep -vE '^ *(pub(\([a-z]+\))? )?(extern [^ ]+ )?fn [^}]*$'
     } | diff - /dev/null
