@@ -17,7 +17,8 @@ sources() {
 # if the function is passed a tally. Reads the layout that `rt fmt` gives.
 bodies() {
     sources "$1" | xargs awk '
-        FNR == 1 { file = FILENAME; sub(/.*src\//, "", file); end = ""; head = 0 }
+        FNR == 1 { file = FILENAME; sub(/.*crates\//, "", file); sub(/src\//, "", file) }
+        FNR == 1 { end = ""; head = 0 }
         { sub(/(^|[^:])\/\/.*/, "") }
         end != "" && $0 == end { end = "" }
         end != "" && NF { sub(/^ +/, ""); print file " " name ": " $0; next }
@@ -35,24 +36,41 @@ bodies() {
 products() {
     bodies "$1" | sed -E 's/([^/%*] |[[(]|\.\.)8 \* /\1/g' |
         grep -E ' \* |\*=|[iu]128|[mM]ul[^t]|_mul|pow|product\(|sum\(' |
-        diff - <(echo 'utils.rt multiply128*: let product = u128::from(x) * u128::from(y);')
+        diff - <(
+            echo 'komihash/utils.rt multiply128*: let product = u128::from(x) * u128::from(y);'
+        )
 }
 
 # Only the product and the one writer of pending bytes raise a tally.
 raises() {
     bodies "$1" | grep -E '\braise\b' | diff - <(
-        echo 'rounds/pending.rt append_bytes*: tally.raise(0, bytes.len());'
-        echo 'utils.rt multiply128*: tally.raise(1, 0);'
+        echo 'komihash/rounds/pending.rt append_bytes*: tally.raise(0, bytes.len());'
+        echo 'komihash/utils.rt multiply128*: tally.raise(1, 0);'
     )
 }
 
-# A function that is passed a tally makes none, and calls nothing that makes one.
+# A function that is passed a tally makes none, and calls nothing that makes one. These functions
+# name what makes a tally, or has such a name; none is passed one, which a star would show. In the
+# crate for C none is passed one at all.
 tallies() {
-    bodies "$1" | grep -E '^[^:]*\*: ' | sed 's/Pending::new()//' |
-        grep -E -e '\bTally\b|\b(v4|v5|crate|saved|hasher|generator)::|\b[dD]efault|Hash\b' \
-            -e '\b(new|new_with_seed|komihash|init\w*|restore|resume)\b[(:;]' \
-            -e '\.(write\w*|finish|next|fill_bytes|hash\w*|save|resume)\(|take\(' |
-        diff - /dev/null
+    bodies "$1" | sed 's/Pending::new()//' | grep -E '^komihash/|^[^:]*\*: ' |
+        grep -E -e ': .*(\bTally\b|\b(v4|v5|crate|saved|hasher|generator)::|\b[dD]efault|Hash\b)' \
+            -e ': .*\b(new|new_with_seed|komihash|init\w*|restore|resume)\b[(:;]' \
+            -e ': .*\.(write\w*|finish|next|fill_bytes|hash\w*|save|resume)\(|take\(' \
+            -e '^komihash_' |
+        cut -d: -f1 | LC_ALL=C sort -u |
+        awk '{ names[$1] = names[$1] " " $2 } END { for (file in names) print file names[file] }' |
+        LC_ALL=C sort | diff - <(
+            echo 'komihash/exports.rt hash_by_each_name step_by_each_name write_by_each_name'
+            echo 'komihash/generator.rt fill_bytes init init_with_extra_seed next'
+            echo 'komihash/hasher.rt default write'
+            echo 'komihash/stream/raw.rt restore store'
+            echo 'komihash/stream/saved.rt read_pending write_pending'
+            echo 'komihash/stream/streamed.rt default finish new new_with_seed restore resume write'
+            echo 'komihash/tally.rt new'
+            echo 'komihash/v4.rt komihash'
+            echo 'komihash/v5.rt komihash'
+        )
 }
 
 # No name is hidden from these rules, and no function from `bodies`.
@@ -101,6 +119,8 @@ note 'tallies: a new one' finds tallies stream.rt "s/$run/& S::start(0, \&mut Ta
 note 'tallies: a hash' finds tallies stream.rt "s/$run/& crate::komihash(\&[], 0);/"
 note 'tallies: a default stream' finds tallies stream/streamed.rt \
     's/self.raw.answer/Self::default().raw.answer/'
+note 'tallies: a function that makes one' finds tallies stream.rt \
+    '$ a fn hash() -> u64\n{\n    v5::komihash(\&[], 0)\n}'
 note 'tallies: a hasher' finds tallies stream.rt "s/$run/& hasher.write_u64(0);/"
 note 'hidden: a tally under another name' finds hidden stream.rt \
     's/use crate::tally::Tally;/use crate::tally::Tally as Count;/'
