@@ -1,9 +1,10 @@
-# Counts cases, for the scripts that source this file, in sh or bash. cases.py says how to add one.
+# Counts cases, for the scripts that source this file, in sh or bash. The last line of such a script
+# is 'N passed, M failed', with ', K skipped' if there are any.
 passed=0 failed=0 skipped=0
 room=$(mktemp -d) && room=$(realpath "$room") || exit
 trap 'rm -rf "$room"' EXIT
 
-# A case, which fails if its command does: note NAME COMMAND..
+# A case, which prints what its command printed if that fails: note NAME COMMAND..
 note() {
     case_name=$1
     shift

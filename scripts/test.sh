@@ -40,8 +40,7 @@ check_arm64() {
     fi
 }
 
-part python3 scripts/rules.py
-part python3 scripts/surface.py
+part bash scripts/rules.sh
 part python3 scripts/documents.py
 part rt ci
 edits=(crates/*/must-fail/*.edit)
@@ -49,6 +48,7 @@ refused=$(grep -c '\.edit: refused' "$room/told") # some versions of `rt ci` pri
 note 'each must-fail edit is refused' grep "must-fail edits: ${#edits[@]} refused" - "$room/told" \
     <<< "must-fail edits: $refused refused"
 [ "$failed" = 0 ] || sum_up
+part bash scripts/attacks.sh
 part bash scripts/program.sh
 part bash scripts/assembly.sh
 part make -C c --no-print-directory check

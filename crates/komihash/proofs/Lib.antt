@@ -1,23 +1,23 @@
-pub mod AllBytes
-pub mod Blocks
-pub mod Bounds
-pub mod CallLists
-pub mod GeneratorFills
-pub mod HashSteps
-pub mod LawLemmas
-pub mod Lists
-pub mod PaddedWords
-pub mod PendingBlocks
-pub mod PendingBytes
+mod AllBytes
+mod Blocks
+mod Bounds
+mod CallLists
+mod GeneratorFills
+mod HashSteps
+mod LawLemmas
+mod Lists
+mod PaddedWords
+mod PendingBlocks
+mod PendingBytes
 pub mod Propositions
 mod Raised
-pub mod SavedTexts
-pub mod StoredWords
+mod SavedTexts
+mod StoredWords
 pub mod StreamAbsorbs
 pub mod StreamAnswers
 pub mod StreamMessages
-pub mod StreamSteps
-pub mod Unpadding
-pub mod WholeWords
-pub mod WordOf
-pub mod Xor
+mod StreamSteps
+mod Unpadding
+mod WholeWords
+mod WordOf
+mod Xor

@@ -14,6 +14,7 @@ pub mod maps;
 pub mod numbers;
 pub mod pieces;
 pub mod prefixes;
+pub mod promises;
 pub mod readers;
 pub mod records;
 pub mod samples;

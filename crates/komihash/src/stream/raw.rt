@@ -12,6 +12,7 @@ use crate::rounds::pending::Pending;
 use crate::rounds::tail::{close, hash_from_pair};
 use crate::rounds::{Lanes, absorb_blocks, block_round, join, lanes_of, places, seed_pair};
 use crate::tally::Tally;
+use crate::version::{IsVersion, Versions};
 use std::marker::Model;
 
 /// A stream as C keeps it: its type does not name its version, so each call does. Rust callers use
@@ -49,6 +50,8 @@ impl Model for RawStream {
 impl RawStream {
     #[inline(always)]
     pub fn start<const V: u8>(seed: u64, tally: &mut Tally) -> RawStream
+    where
+        Versions: IsVersion<V>,
         ensures state { result ≡ start seed }
         ensures is_state { IsState V result }
         ensures costs { Costs tally 1 0 }
@@ -63,6 +66,8 @@ impl RawStream {
 
     #[inline(always)]
     pub fn absorb<const V: u8>(&mut self, bytes: &[u8], tally: &mut Tally)
+    where
+        Versions: IsVersion<V>,
         ensures state { self.new ≡ absorb V self.old bytes.now }
         ensures is_state { IsState V self.old → IsState V self.new }
         ensures costs { Costs tally
@@ -109,6 +114,8 @@ impl RawStream {
 
     #[inline(always)]
     pub fn answer<const V: u8>(&self, tally: &mut Tally) -> u64
+    where
+        Versions: IsVersion<V>,
         ensures answer { result ≡ answer V self.now }
         ensures costs { Costs tally (answer_products (length self.now.pending)) 0 }
     {
@@ -129,6 +136,8 @@ impl RawStream {
 
     #[inline(always)]
     pub fn store<const V: u8>(&self, out: &mut [u8]) -> usize
+    where
+        Versions: IsVersion<V>,
         requires { LONGEST_TEXT ≤ length out.old }
         ensures length { result ≡ length (text V self.now) }
         ensures most { result ≤ LONGEST_TEXT }
@@ -143,6 +152,8 @@ impl RawStream {
     /// Returns the stream that has these bytes as its saved text, or `None` if no stream has.
     #[inline(always)]
     pub fn restore<const V: u8>(bytes: &[u8]) -> Option<RawStream>
+    where
+        Versions: IsVersion<V>,
         ensures is_state { IfSome result (λ stream. IsState V stream) }
         ensures text { IfSome result (λ stream. text V stream ≡ bytes.now) }
         ensures same { (s : State) → IsState V s → text V s ≡ bytes.now

@@ -94,14 +94,14 @@ fn absorb_costs<S: KomiStream, const BEFORE: usize, const N: usize>(
     stream.absorb(bytes, tally);
 }
 
-// Starts a stream, and absorbs 10, 54, 64 and 3 bytes in turn, each with its own tally.
+// Starts a stream, and absorbs 10, 54, 64 and 3 zeros in turn, each with its own tally.
 fn absorbs_cost<S: KomiStream>(
     start: &mut Tally,
     ten: &mut Tally,
     filled: &mut Tally,
     block: &mut Tally,
     three: &mut Tally,
-)
+) -> S
     ensures start { start.new.products ≡ start.old.products + 1 }
     ensures ten { ten.new.kept ≡ ten.old.kept + 10 }
     ensures filled { filled.new.kept ≡ filled.old.kept + 54 }
@@ -113,6 +113,26 @@ fn absorbs_cost<S: KomiStream>(
     absorb_costs::<S, 10, 54>(&mut stream, &[0; 54], filled);
     absorb_costs::<S, 0, 64>(&mut stream, &[0; 64], block);
     absorb_costs::<S, 0, 3>(&mut stream, &[0; 3], three);
+    stream
+}
+
+// Returns the hash of the 131 zeros that `absorbs_cost` absorbs.
+fn hash_of_zeros<S: KomiStream>() -> u64 {
+    let stream = absorbs_cost::<S>(
+        &mut Tally::new(),
+        &mut Tally::new(),
+        &mut Tally::new(),
+        &mut Tally::new(),
+        &mut Tally::new(),
+    );
+    stream.answer(&mut Tally::new())
+}
+
+#[test]
+fn counted_absorbs_give_known_hashes(rt: HostRuntime) {
+    let hash = 0x5e6f_0a82_e7ff_edf6;
+    assert_same(&rt, hash_of_zeros::<v4::StreamedKomihash>(), hash, 4);
+    assert_same(&rt, hash_of_zeros::<v5::StreamedKomihash>(), hash, 5);
 }
 
 fn cuts_cost<S: KomiStream>(message: &[u8; 95], out: &mut [u64; 200], tally: &mut Tally) -> usize
