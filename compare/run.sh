@@ -37,6 +37,12 @@ build_peers() {
         -c driver/src/peers.c -o "$out/peers_$1.o" || stop 'driver/src/peers.c does not compile'
 }
 
+# Copies the library's build for x86-64-v3, under names of its own.
+rename_v3() {
+    objcopy --prefix-symbols=v3_ ../c/out/x86-64-v3/libkomihash_rattle.a \
+        "$out/libkomihash_rattle_v3.a"
+}
+
 # Builds the driver with the Rust crate in one of its builds, as the file that is named, with flags
 # for rustc.
 build_driver() {
@@ -90,9 +96,13 @@ measure() {
             ./table.py bench "$repeats" "$word" "${files[@]}"
             ;;
         count)
+            need valgrind 'counts instructions by its tool callgrind'
             build_driver lto "$out/count"
-            "$out/count" count > "$out/counts"
-            ./table.py count "$out/counts"
+            rm -f "$out"/counts*
+            valgrind -q --tool=callgrind --callgrind-out-file="$out/counts" --collect-atstart=no \
+                --toggle-collect='komihash_v?*' --toggle-collect='loop_v?*' \
+                --toggle-collect='driver::original::v?::*' "$out/count" count
+            ./table.py count "$out"/counts.*
             ;;
         peers)
             run_layouts lto peers "$repeats"
@@ -102,9 +112,10 @@ measure() {
 }
 
 case "$*" in
-    bench | 'bench '* | count | peers | 'peers '*) build_libraries && measure "$@" ;;
+    bench | 'bench '* | count | peers | 'peers '*) build_libraries && rename_v3 && measure "$@" ;;
     answers | edges | 'fuzz '*' '*)
         build_libraries
+        rename_v3
         build_driver release "$out/driver"
         exec "$out/driver" "$@"
         ;;

@@ -1,6 +1,6 @@
 //! The Rust crate, in the same loops as the port's, by functions that take what the port's take.
 //! None is inlined, since none of the port's is.
-use crate::side::{Piece, both_have};
+use crate::side::both_have;
 use std::arch::asm;
 
 /// Returns a pointer that isn't null, by the test that the port's functions make for callers in C.
@@ -31,7 +31,7 @@ macro_rules! original {
         // The functions are called by `both_have`, which says why that is safe.
         #[allow(improper_ctypes_definitions, reason = "only this driver calls them")]
         pub mod $module {
-            use super::{Piece, slice, slice_mut};
+            use super::{slice, slice_mut};
             use komihash::$module::{KomiHasher, Komirand, StreamedKomihash, komihash};
             use std::hash::Hasher;
 
@@ -54,33 +54,8 @@ macro_rules! original {
             }
 
             #[inline(never)]
-            pub unsafe extern "C" fn write_pieces(
-                stream: &mut Stream,
-                pieces: *const Piece,
-                count: usize,
-            ) {
-                for piece in unsafe { slice(pieces, count) } {
-                    stream.write(piece.bytes());
-                }
-            }
-
-            #[inline(never)]
             pub unsafe extern "C" fn finish(stream: &Stream) -> u64 {
                 stream.finish()
-            }
-
-            #[inline(never)]
-            pub unsafe extern "C" fn pieces(pieces: *const Piece, count: usize, seed: u64) -> u64 {
-                let mut stream = StreamedKomihash::new_with_seed(seed);
-                for piece in unsafe { slice(pieces, count) } {
-                    stream.write(piece.bytes());
-                }
-                stream.finish()
-            }
-
-            #[inline(never)]
-            pub unsafe extern "C" fn rand_init(seed: u64) -> Generator {
-                Komirand::init(seed)
             }
 
             #[inline(never)]
@@ -140,7 +115,8 @@ macro_rules! original {
                 hasher.finish()
             }
 
-            fn generator(s1: u64, s2: u64, start: u32) -> Komirand {
+            #[inline(always)]
+            pub unsafe fn generator(s1: u64, s2: u64, start: u32) -> Generator {
                 match start {
                     0 => Komirand::new(s1, s2),
                     1 => Komirand::init(s1),
@@ -156,7 +132,7 @@ macro_rules! original {
                 s2: u64,
                 start: u32,
             ) {
-                let mut generator = generator(s1, s2, start);
+                let mut generator = unsafe { generator(s1, s2, start) };
                 for word in unsafe { slice_mut(out, length) } {
                     *word = generator.next();
                 }
@@ -173,7 +149,7 @@ macro_rules! original {
                 start: u32,
             ) -> u64 {
                 let mut left = unsafe { slice_mut(out, length) };
-                let mut generator = generator(s1, s2, start);
+                let mut generator = unsafe { generator(s1, s2, start) };
                 for piece in unsafe { slice(pieces, count) } {
                     let length = left.len().min(*piece);
                     let (next, others) = left.split_at_mut(length);

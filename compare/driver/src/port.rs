@@ -1,5 +1,5 @@
 //! The port, by its static libraries. A slice is passed as a pointer and a length.
-use crate::side::{FromC, Generator, Once, Piece, Port, Stream, both_have};
+use crate::side::{Generator, Port, Side, Stream, both_have};
 
 macro_rules! port {
     ($name:ident, $module:ident, $version:literal) => {
@@ -7,7 +7,6 @@ macro_rules! port {
         pub mod $module {
             pub type Stream = super::Stream;
             pub type Generator = super::Generator;
-            use super::{Once, Piece};
 
             unsafe extern "C" {
                 #[link_name = concat!("komihash_v", $version)]
@@ -16,10 +15,6 @@ macro_rules! port {
                 pub fn start(seed: u64) -> Stream;
                 #[link_name = concat!("komihash_v", $version, "_write")]
                 pub fn write(stream: *mut Stream, bytes: *const u8, length: usize);
-                #[link_name = concat!("komihash_v", $version, "_write_pieces")]
-                pub fn write_pieces(stream: *mut Stream, pieces: *const Piece, count: usize);
-                #[link_name = concat!("komihash_v", $version, "_pieces")]
-                pub fn pieces(pieces: *const Piece, count: usize, seed: u64) -> u64;
                 #[link_name = concat!("komihash_v", $version, "_finish")]
                 pub fn finish(stream: *const Stream) -> u64;
                 #[link_name = concat!("komihash_v", $version, "_save")]
@@ -28,18 +23,22 @@ macro_rules! port {
                 pub fn resume(stream: *mut Stream, text: *const u8, length: usize) -> bool;
                 #[link_name = concat!("komihash_v", $version, "_rand_init")]
                 pub fn rand_init(seed: u64) -> Generator;
+                #[link_name = concat!("komihash_v", $version, "_rand_init_with_extra_seed")]
+                pub fn rand_init_with_extra_seed(seed: u64, extra_seed: u64) -> Generator;
+                #[link_name = concat!("komihash_v", $version, "_rand_init_words")]
+                pub fn rand_init_words(s1: u64, s2: u64) -> Generator;
                 #[link_name = concat!("komihash_v", $version, "_rand_next")]
                 pub fn rand_next(generator: *mut Generator) -> u64;
                 #[link_name = concat!("komihash_v", $version, "_rand_fill")]
                 pub fn rand_fill(generator: *mut Generator, out: *mut u8, length: usize);
-                #[link_name = concat!("komihash_v", $version, "_fill")]
-                pub fn fill(out: *mut u8, length: usize, s1: u64, s2: u64);
-                #[link_name = concat!("komihash_v", $version, "_fill_seeded")]
-                pub fn fill_seeded(out: *mut u8, length: usize, seed: u64, extra_seed: u64);
                 #[link_name = concat!("komihash_v", $version, "_pad")]
                 pub fn pad(bytes: *const u8, length: usize, out: *mut u64, room: usize) -> usize;
                 #[link_name = concat!("komihash_v", $version, "_unpad")]
                 pub fn unpad(words: *const u64, length: usize, out: *mut u8, room: usize) -> usize;
+                #[link_name = concat!("v3_komihash_v", $version)]
+                pub fn hash_v3(bytes: *const u8, length: usize, seed: u64) -> u64;
+                #[link_name = concat!("loop_v", $version, "_hash_by")]
+                pub fn hash_by(call: usize, bytes: *const u8, length: usize, seed: u64) -> u64;
                 #[link_name = concat!("loop_v", $version, "_stream")]
                 pub fn stream(
                     bytes: *const u8,
@@ -88,8 +87,15 @@ macro_rules! port {
                     s2: u64,
                     start: u32,
                 ) -> u64;
-                #[link_name = concat!("loop_v", $version, "_once")]
-                pub fn once(bytes: *const u8, length: usize, seed: u64, once: *mut Once);
+            }
+
+            #[inline(always)]
+            pub unsafe fn generator(s1: u64, s2: u64, start: u32) -> Generator {
+                match start {
+                    0 => unsafe { rand_init_words(s1, s2) },
+                    1 => unsafe { rand_init(s1) },
+                    _ => unsafe { rand_init_with_extra_seed(s1, s2) },
+                }
             }
         }
 
@@ -102,16 +108,18 @@ macro_rules! port {
         impl Port for $name {
             const VERSION: u8 = $version;
 
+            #[inline(always)]
+            fn hash_v3(bytes: &[u8], seed: u64) -> u64 {
+                unsafe { $module::hash_v3(bytes.as_ptr(), bytes.len(), seed) }
+            }
+            fn hash_by(call: usize, bytes: &[u8], seed: u64) -> u64 {
+                unsafe { $module::hash_by(call, bytes.as_ptr(), bytes.len(), seed) }
+            }
             fn calls(bytes: &[u8], pieces: &[usize], answers: &mut [u64], seed: u64) -> u64 {
                 let (bytes, length) = (bytes.as_ptr(), bytes.len());
                 let (answers, room) = (answers.as_mut_ptr(), answers.len());
                 let (pieces, count) = (pieces.as_ptr(), pieces.len());
                 unsafe { $module::calls(bytes, length, pieces, count, answers, room, seed) }
-            }
-            fn once(bytes: &[u8], seed: u64) -> Once {
-                let mut once = Once::default();
-                unsafe { $module::once(bytes.as_ptr(), bytes.len(), seed, &mut once) }
-                once
             }
             fn save(stream: &Stream) -> Vec<u8> {
                 let mut text = vec![0; 131];
@@ -125,12 +133,6 @@ macro_rules! port {
             }
             fn saves(bytes: &[u8], text: &mut [u8; 131], count: usize, seed: u64) -> u64 {
                 unsafe { $module::saves(bytes.as_ptr(), bytes.len(), text, count, seed) }
-            }
-            fn fill(out: &mut [u8], s1: u64, s2: u64) {
-                unsafe { $module::fill(out.as_mut_ptr(), out.len(), s1, s2) }
-            }
-            fn fill_seeded(out: &mut [u8], seed: u64, extra_seed: u64) {
-                unsafe { $module::fill_seeded(out.as_mut_ptr(), out.len(), seed, extra_seed) }
             }
             fn pad(bytes: &[u8], out: &mut [u64]) -> usize {
                 unsafe { $module::pad(bytes.as_ptr(), bytes.len(), out.as_mut_ptr(), out.len()) }
