@@ -101,7 +101,8 @@ measure() {
             rm -f "$out"/counts*
             valgrind -q --tool=callgrind --callgrind-out-file="$out/counts" --collect-atstart=no \
                 --toggle-collect='komihash_v?*' --toggle-collect='loop_v?*' \
-                --toggle-collect='driver::original::v?::*' "$out/count" count
+                --toggle-collect='driver::original::*' --toggle-collect='<driver::original::*' \
+                "$out/count" count
             ./table.py count "$out"/counts.*
             ;;
         peers)

@@ -2,9 +2,10 @@
 //! a length or a limit of lengths, the name of a hash, and the nanoseconds of a call, with tabs
 //! between; ../../table.py makes the tables.
 use crate::input::lengths;
+use crate::original::{OriginalFive, OriginalFour};
+use crate::port;
 use crate::rows::{LIMITS, is_v3, message};
 use crate::time::{calls_of_a_batch, time};
-use crate::{original, port};
 use std::ffi::{CStr, c_char};
 use std::hint::black_box;
 
@@ -76,8 +77,8 @@ fn peers() -> Vec<(String, Hash)> {
     let mut peers: Vec<(String, Hash)> = vec![
         ("komihash 5".to_string(), port::v5::hash),
         ("komihash 4".to_string(), port::v4::hash),
-        ("Rust crate, version 5".to_string(), original::v5::hash),
-        ("Rust crate, version 4".to_string(), original::v4::hash),
+        ("Rust crate, version 5".to_string(), OriginalFive::hash_at),
+        ("Rust crate, version 4".to_string(), OriginalFour::hash_at),
     ];
     peers.extend(listed(peers_v2));
     if is_v3() {
