@@ -4,10 +4,10 @@
 #   run.sh answers                  prints sums of reference hashes, by the Rust crate
 #   run.sh edges                    compares hashes and streams on every input of some small sets
 #   run.sh fuzz SEED N              compares every call on N random inputs
-#   run.sh bench [REPEATS]          times the calls; writes speed.md and the table in ../README.md
+#   run.sh bench [REPEATS]          times the calls; writes speed.md, and a table in ../README.md
 #   run.sh bench REPEATS WORD       times the rows whose version, group and name contain WORD
 #   run.sh count                    counts the instructions of single calls; writes count.md
-#   run.sh peers [REPEATS]          times other hashes too; writes peers.md and peers.svg
+#   run.sh peers [REPEATS]          times other hashes; writes peers.md and .svg, and ../README.md
 #
 # REPEATS is 61 if not given. LAYOUTS says in how many layouts of the machine code `bench` and
 # `peers` run, 8 if unset. KOMIHASH_CRATE names a folder with the Rust crate, where cargo has no
