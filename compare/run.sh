@@ -4,10 +4,10 @@
 #   run.sh answers                  prints sums of reference hashes, by the Rust crate
 #   run.sh edges                    compares hashes and streams on every input of some small sets
 #   run.sh fuzz SEED N              compares every call on N random inputs
-#   run.sh bench [REPEATS]          times the calls; writes speed.md and the table in ../README.md
+#   run.sh bench [REPEATS]          times the calls; writes speed.md, and a table in ../README.md
 #   run.sh bench REPEATS WORD       times the rows whose version, group and name contain WORD
 #   run.sh count                    counts the instructions of single calls; writes count.md
-#   run.sh peers [REPEATS]          times other hashes too; writes peers.md and peers.svg
+#   run.sh peers [REPEATS]          times other hashes; writes peers.md and .svg, and ../README.md
 #
 # REPEATS is 61 if not given. LAYOUTS says in how many layouts of the machine code `bench` and
 # `peers` run, 8 if unset. KOMIHASH_CRATE names a folder with the Rust crate, where cargo has no
@@ -44,6 +44,12 @@ build_libraries() {
 build_peers() {
     "${CC:-cc}" -O3 "-march=x86-64-$1" -ffunction-sections "-DPEERS=peers_$1" "-DCPU=\"$2\"" \
         -c driver/src/peers.c -o "$out/peers_$1.o" || stop 'driver/src/peers.c does not compile'
+}
+
+# Copies the library's build for x86-64-v3, under names of its own.
+rename_v3() {
+    objcopy --prefix-symbols=v3_ ../c/out/x86-64-v3/libkomihash_rattle.a \
+        "$out/libkomihash_rattle_v3.a"
 }
 
 # Builds the driver with the Rust crate in one of its builds, as the file that is named, with flags
@@ -99,9 +105,14 @@ measure() {
             ./table.py bench "$repeats" "$word" "${files[@]}"
             ;;
         count)
+            need valgrind 'counts instructions by its tool callgrind'
             build_driver lto "$out/count"
-            "$out/count" count > "$out/counts"
-            ./table.py count "$out/counts"
+            rm -f "$out"/counts*
+            valgrind -q --tool=callgrind --callgrind-out-file="$out/counts" --collect-atstart=no \
+                --toggle-collect='komihash_v?*' --toggle-collect='loop_v?*' \
+                --toggle-collect='driver::original::*' --toggle-collect='<driver::original::*' \
+                "$out/count" count
+            ./table.py count "$out"/counts.*
             ;;
         peers)
             run_layouts lto peers "$repeats"
@@ -111,9 +122,10 @@ measure() {
 }
 
 case "$*" in
-    bench | 'bench '* | count | peers | 'peers '*) build_libraries && measure "$@" ;;
+    bench | 'bench '* | count | peers | 'peers '*) build_libraries && rename_v3 && measure "$@" ;;
     answers | edges | 'fuzz '*' '*)
         build_libraries
+        rename_v3
         build_driver release "$out/driver"
         exec "$out/driver" "$@"
         ;;

@@ -2,10 +2,10 @@
 //! Rust crate lacks, are compared with rules.rs.
 use crate::input::{Input, Random};
 use crate::original::{OriginalFive, OriginalFour};
-use crate::parts;
 use crate::port::{PortFive, PortFour};
+use crate::rows::is_v3;
 use crate::rules::{is_text, padded, text_without_lanes, unpadded};
-use crate::side::{FromC, Piece, Port, Side};
+use crate::side::{OTHER_CALLS, Port, Side};
 use std::fmt::Debug;
 
 type Found = Result<(), String>;
@@ -30,7 +30,7 @@ pub fn run(seed: u64, count: u64) -> bool {
     true
 }
 
-fn case<P: Port, O: Side + FromC>(input: &Input, random: &mut Random) -> Found {
+fn case<P: Port, O: Side>(input: &Input, random: &mut Random) -> Found {
     hashes::<P, O>(input)?;
     streams::<P, O>(input)?;
     chains::<P, O>(input)?;
@@ -40,7 +40,6 @@ fn case<P: Port, O: Side + FromC>(input: &Input, random: &mut Random) -> Found {
     pads::<P>(input, random)?;
     unpads::<P>(input, random)?;
     saves::<P, O>(input)?;
-    lists::<P, O>(input, random)?;
     resumes::<P>(input, random)
 }
 
@@ -51,13 +50,14 @@ fn same<T: PartialEq + Debug>(what: &str, wanted: T, got: T) -> Found {
 fn hashes<P: Port, O: Side>(input: &Input) -> Found {
     let wanted = O::hash(input.bytes(), input.seed);
     same("hash", wanted, P::hash(input.bytes(), input.seed))?;
-    let once = P::once(input.bytes(), input.seed);
-    same("counted hash", wanted, once.counted)?;
-    same("list of two calls", wanted, once.run)?;
-    let wanted = O::hash(input.bytes(), 0);
-    same("new stream", wanted, once.new_stream)?;
-    same("default stream", wanted, once.default_stream)?;
-    same("default hasher", wanted, once.default_hasher)
+    if is_v3() {
+        same("hash, built for x86-64-v3", wanted, P::hash_v3(input.bytes(), input.seed))?;
+    }
+    for (call, (name, takes_seed)) in OTHER_CALLS.into_iter().enumerate() {
+        let seed = if takes_seed { input.seed } else { 0 };
+        same(name, O::hash(input.bytes(), seed), P::hash_by(call, input.bytes(), seed))?;
+    }
+    Ok(())
 }
 
 fn streams<P: Port, O: Side>(input: &Input) -> Found {
@@ -85,24 +85,17 @@ fn outputs<P: Port, O: Side>(input: &Input, count: usize) -> Found {
 }
 
 fn fills<P: Port, O: Side>(input: &Input) -> Found {
-    let by =
-        |fills: fn(&mut [u8], &[usize], u64, u64, u32) -> u64, pieces: &[usize], start: u32| {
-            let mut out = input.bytes().to_vec();
-            (fills(&mut out, pieces, input.s1, input.s2, start), out)
-        };
-    let (pieces, start) = (&input.pieces, input.start);
-    same("fills, next output and bytes", by(O::fills, pieces, start), by(P::fills, pieces, start))?;
-    let whole = [input.bytes().len()];
-    let mut out = input.bytes().to_vec();
-    P::fill(&mut out, input.s1, input.s2);
-    same("fill", by(O::fills, &whole, 0).1, out.clone())?;
-    P::fill_seeded(&mut out, input.s1, input.s2);
-    same("seeded fill", by(O::fills, &whole, 2).1, out)
+    let by = |fills: fn(&mut [u8], &[usize], u64, u64, u32) -> u64| {
+        let mut out = input.bytes().to_vec();
+        (fills(&mut out, &input.pieces, input.s1, input.s2, input.start), out)
+    };
+    same("fills, next output and bytes", by(O::fills), by(P::fills))
 }
 
 /// Fills of the pieces by a generator in memory, each with an output after it.
-fn generators<P: FromC, O: FromC>(input: &Input) -> Found {
-    let (mut x, mut y) = (O::generator(input.s1), P::generator(input.s1));
+fn generators<P: Side, O: Side>(input: &Input) -> Found {
+    let (s1, s2, start) = (input.s1, input.s2, input.start);
+    let (mut x, mut y) = (O::generator(s1, s2, start), P::generator(s1, s2, start));
     for piece in &input.pieces {
         let (mut wanted, mut got) = (vec![0; *piece], vec![0; *piece]);
         O::next_bytes(&mut x, &mut wanted);
@@ -166,20 +159,7 @@ fn saves<P: Port, O: Side>(input: &Input) -> Found {
     let shown = [&saved[..4], &saved[68..]].concat();
     same("saved text but its lanes", text_without_lanes(P::VERSION, input.bytes()), shown)?;
     let mut text = [0; 131];
-    same("answer after two texts", wanted, P::saves(input.bytes(), &mut text, 2, input.seed))?;
-    let length = parts::saves(P::VERSION, &saved, &mut text, 2);
-    same("text by plain Rust", Some(&saved[..]), length.map(|length| &text[..length]))
-}
-
-/// Lists of pieces, beside the message at once and the calls for one piece.
-fn lists<P: Port, O: Side>(input: &Input, random: &mut Random) -> Found {
-    let pieces: Vec<Piece> = input.parts().into_iter().map(Piece::from).collect();
-    same("hash of pieces", O::hash(input.bytes(), input.seed), P::pieces(&pieces, input.seed))?;
-    let mut stream = P::start(input.seed);
-    for list in pieces.chunks(1 + random.below(8)) {
-        P::write_pieces(&mut stream, list);
-    }
-    same("text after lists of pieces", saved::<P>(input), P::save(&stream))
+    same("answer after two texts", wanted, P::saves(input.bytes(), &mut text, 2, input.seed))
 }
 
 fn resumes<P: Port>(input: &Input, random: &mut Random) -> Found {
@@ -197,7 +177,6 @@ fn resumes<P: Port>(input: &Input, random: &mut Random) -> Found {
         return same(&format!("resume {text:x?}"), is_text(P::VERSION, &text), false);
     };
     same(&format!("resume {text:x?}"), is_text(P::VERSION, &text), true)?;
-    P::write_pieces(&mut stream, &[]);
     P::write(&mut stream, &[]);
-    same("text after writes of nothing", text, P::save(&stream))
+    same("text after a write of nothing", text, P::save(&stream))
 }

@@ -83,6 +83,12 @@ impl Random {
     }
 }
 
+/// Returns a million lengths below a limit, more than a branch predictor can remember.
+pub fn lengths(limit: usize) -> Vec<u16> {
+    let mut random = Random(limit as u64);
+    (0..1 << 20).map(|_| random.below(limit) as u16).collect()
+}
+
 /// The bytes as two hexadecimal digits each.
 pub fn hex(bytes: &[u8]) -> String {
     bytes.iter().map(|byte| format!("{byte:02x}")).collect()

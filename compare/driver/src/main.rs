@@ -5,7 +5,6 @@ mod edges;
 mod fuzz;
 mod input;
 mod original;
-mod parts;
 mod peers;
 mod port;
 mod rows;
@@ -36,9 +35,9 @@ fn run(arguments: &[&str]) -> Option<bool> {
     match *arguments {
         ["answers"] => answers::print(),
         ["bench", repeats, word] => {
-            rows::print(Measure::Time { repeats: positive(repeats)? }, word)
+            rows::measure(Measure::Time { repeats: positive(repeats)? }, word)
         }
-        ["count"] => rows::print(Measure::Count, ""),
+        ["count"] => rows::measure(Measure::Count, ""),
         ["peers", repeats] => peers::run(positive(repeats)?),
         ["edges"] => return Some(edges::run()),
         ["fuzz", seed, count] => return Some(fuzz::run(seed.parse().ok()?, count.parse().ok()?)),

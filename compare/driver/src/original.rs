@@ -1,116 +1,63 @@
-//! The Rust crate, in the same loops as the port's, by functions that take what the port's take.
-//! None is inlined, since none of the port's is.
-use crate::side::{Piece, both_have};
+//! The Rust crate, in the same loops as the port's. No function is inlined, since none of the
+//! port's is.
+use crate::side::Side;
+use komihash::{v4, v5};
 use std::arch::asm;
+use std::hash::Hasher;
+use std::slice::{from_raw_parts, from_raw_parts_mut};
 
 /// Returns a pointer that isn't null, by the test that the port's functions make for callers in C.
 #[inline(always)]
-fn tested<T>(mut items: *const T) -> *const T {
+fn not_null<T>(mut items: *const T) -> *const T {
     // SAFETY: there is no instruction in it. It hides where the pointer comes from: a compiler
     // that sees that no caller passes null drops the test, on this side alone.
     unsafe { asm!("/* {0} */", inout(reg) items, options(pure, readonly, nostack)) };
     items.wrapping_byte_add((items.is_null() as usize) << 12)
 }
 
-/// Returns the slice of a pointer and a length, of which the pointer is tested.
+/// Returns the slice, of which the pointer is tested.
 #[inline(always)]
-unsafe fn slice<'a, T>(items: *const T, length: usize) -> &'a [T] {
-    // SAFETY: the callers pass those of a slice.
-    unsafe { std::slice::from_raw_parts(tested(items), length) }
+fn tested<T>(items: &[T]) -> &[T] {
+    // SAFETY: the pointer of a slice isn't null, so it stays.
+    unsafe { from_raw_parts(not_null(items.as_ptr()), items.len()) }
 }
 
-/// Returns the slice of a pointer and a length, of which the pointer is tested.
+/// Returns the slice, of which the pointer is tested.
 #[inline(always)]
-unsafe fn slice_mut<'a, T>(items: *mut T, length: usize) -> &'a mut [T] {
-    // SAFETY: the callers pass those of a slice that they alone have.
-    unsafe { std::slice::from_raw_parts_mut(tested(items).cast_mut(), length) }
+fn tested_mut<T>(items: &mut [T]) -> &mut [T] {
+    // SAFETY: as above.
+    unsafe { from_raw_parts_mut(not_null(items.as_mut_ptr()).cast_mut(), items.len()) }
 }
 
 macro_rules! original {
     ($name:ident, $module:ident) => {
-        // The functions are called by `both_have`, which says why that is safe.
-        #[allow(improper_ctypes_definitions, reason = "only this driver calls them")]
-        pub mod $module {
-            use super::{Piece, slice, slice_mut};
-            use komihash::$module::{KomiHasher, Komirand, StreamedKomihash, komihash};
-            use std::hash::Hasher;
+        /// One version of the hash, by the Rust crate.
+        pub struct $name;
 
-            pub type Stream = StreamedKomihash;
-            pub type Generator = Komirand;
-
+        impl $name {
+            /// The hash, as C calls it.
             #[inline(never)]
-            pub unsafe extern "C" fn hash(bytes: *const u8, length: usize, seed: u64) -> u64 {
-                komihash(unsafe { slice(bytes, length) }, seed)
+            pub unsafe extern "C" fn hash_at(bytes: *const u8, length: usize, seed: u64) -> u64 {
+                // SAFETY: the callers pass the pointer and the length of a slice.
+                $module::komihash(unsafe { from_raw_parts(not_null(bytes), length) }, seed)
+            }
+        }
+
+        impl Side for $name {
+            type Stream = $module::StreamedKomihash;
+            type Generator = $module::Komirand;
+
+            #[inline(always)]
+            fn hash(bytes: &[u8], seed: u64) -> u64 {
+                // SAFETY: they are those of a slice.
+                unsafe { Self::hash_at(bytes.as_ptr(), bytes.len(), seed) }
             }
 
             #[inline(never)]
-            pub unsafe extern "C" fn start(seed: u64) -> Stream {
-                StreamedKomihash::new_with_seed(seed)
-            }
-
-            #[inline(never)]
-            pub unsafe extern "C" fn write(stream: &mut Stream, bytes: *const u8, length: usize) {
-                stream.write(unsafe { slice(bytes, length) });
-            }
-
-            #[inline(never)]
-            pub unsafe extern "C" fn write_pieces(
-                stream: &mut Stream,
-                pieces: *const Piece,
-                count: usize,
-            ) {
-                for piece in unsafe { slice(pieces, count) } {
-                    stream.write(piece.bytes());
-                }
-            }
-
-            #[inline(never)]
-            pub unsafe extern "C" fn finish(stream: &Stream) -> u64 {
-                stream.finish()
-            }
-
-            #[inline(never)]
-            pub unsafe extern "C" fn pieces(pieces: *const Piece, count: usize, seed: u64) -> u64 {
-                let mut stream = StreamedKomihash::new_with_seed(seed);
-                for piece in unsafe { slice(pieces, count) } {
-                    stream.write(piece.bytes());
-                }
-                stream.finish()
-            }
-
-            #[inline(never)]
-            pub unsafe extern "C" fn rand_init(seed: u64) -> Generator {
-                Komirand::init(seed)
-            }
-
-            #[inline(never)]
-            pub unsafe extern "C" fn rand_next(generator: &mut Generator) -> u64 {
-                generator.next()
-            }
-
-            #[inline(never)]
-            pub unsafe extern "C" fn rand_fill(
-                generator: &mut Generator,
-                out: *mut u8,
-                length: usize,
-            ) {
-                generator.fill_bytes(unsafe { slice_mut(out, length) });
-            }
-
-            #[inline(never)]
-            pub unsafe extern "C" fn stream(
-                bytes: *const u8,
-                length: usize,
-                pieces: *const usize,
-                count: usize,
-                answers: *mut u64,
-                room: usize,
-                seed: u64,
-            ) -> u64 {
-                let mut left = unsafe { slice(bytes, length) };
-                let answers = unsafe { slice_mut(answers, room) };
-                let mut stream = StreamedKomihash::new_with_seed(seed);
-                for (i, piece) in unsafe { slice(pieces, count) }.iter().enumerate() {
+            fn stream(bytes: &[u8], pieces: &[usize], answers: &mut [u64], seed: u64) -> u64 {
+                let (mut left, answers) = (tested(bytes), tested_mut(answers));
+                let mut stream = $module::StreamedKomihash::new_with_seed(seed);
+                for (i, piece) in tested(pieces).iter().enumerate() {
                     let (next, others) = left.split_at(left.len().min(*piece));
                     stream.write(next);
                     left = others;
@@ -123,16 +70,10 @@ macro_rules! original {
             }
 
             #[inline(never)]
-            pub unsafe extern "C" fn chain(
-                bytes: *const u8,
-                length: usize,
-                pieces: *const usize,
-                count: usize,
-                seed: u64,
-            ) -> u64 {
-                let mut left = unsafe { slice(bytes, length) };
-                let mut hasher = KomiHasher::new(seed);
-                for piece in unsafe { slice(pieces, count) } {
+            fn chain(bytes: &[u8], pieces: &[usize], seed: u64) -> u64 {
+                let mut left = tested(bytes);
+                let mut hasher = $module::KomiHasher::new(seed);
+                for piece in tested(pieces) {
                     let (next, others) = left.split_at(left.len().min(*piece));
                     hasher.write(next);
                     left = others;
@@ -140,41 +81,19 @@ macro_rules! original {
                 hasher.finish()
             }
 
-            fn generator(s1: u64, s2: u64, start: u32) -> Komirand {
-                match start {
-                    0 => Komirand::new(s1, s2),
-                    1 => Komirand::init(s1),
-                    _ => Komirand::init_with_extra_seed(s1, s2),
-                }
-            }
-
             #[inline(never)]
-            pub unsafe extern "C" fn outputs(
-                out: *mut u64,
-                length: usize,
-                s1: u64,
-                s2: u64,
-                start: u32,
-            ) {
-                let mut generator = generator(s1, s2, start);
-                for word in unsafe { slice_mut(out, length) } {
+            fn outputs(out: &mut [u64], s1: u64, s2: u64, start: u32) {
+                let mut generator = Self::generator(s1, s2, start);
+                for word in tested_mut(out) {
                     *word = generator.next();
                 }
             }
 
             #[inline(never)]
-            pub unsafe extern "C" fn fills(
-                out: *mut u8,
-                length: usize,
-                pieces: *const usize,
-                count: usize,
-                s1: u64,
-                s2: u64,
-                start: u32,
-            ) -> u64 {
-                let mut left = unsafe { slice_mut(out, length) };
-                let mut generator = generator(s1, s2, start);
-                for piece in unsafe { slice(pieces, count) } {
+            fn fills(out: &mut [u8], pieces: &[usize], s1: u64, s2: u64, start: u32) -> u64 {
+                let mut left = tested_mut(out);
+                let mut generator = Self::generator(s1, s2, start);
+                for piece in tested(pieces) {
                     let length = left.len().min(*piece);
                     let (next, others) = left.split_at_mut(length);
                     generator.fill_bytes(next);
@@ -182,12 +101,41 @@ macro_rules! original {
                 }
                 generator.next()
             }
+
+            #[inline(never)]
+            fn start(seed: u64) -> Self::Stream {
+                $module::StreamedKomihash::new_with_seed(seed)
+            }
+
+            #[inline(never)]
+            fn write(stream: &mut Self::Stream, bytes: &[u8]) {
+                stream.write(tested(bytes));
+            }
+
+            #[inline(never)]
+            fn finish(stream: &Self::Stream) -> u64 {
+                stream.finish()
+            }
+
+            #[inline(always)]
+            fn generator(s1: u64, s2: u64, start: u32) -> Self::Generator {
+                match start {
+                    0 => $module::Komirand::new(s1, s2),
+                    1 => $module::Komirand::init(s1),
+                    _ => $module::Komirand::init_with_extra_seed(s1, s2),
+                }
+            }
+
+            #[inline(never)]
+            fn next(generator: &mut Self::Generator) -> u64 {
+                generator.next()
+            }
+
+            #[inline(never)]
+            fn next_bytes(generator: &mut Self::Generator, out: &mut [u8]) {
+                generator.fill_bytes(tested_mut(out));
+            }
         }
-
-        /// One version of the hash, by the Rust crate.
-        pub struct $name;
-
-        both_have!($name, $module);
     };
 }
 

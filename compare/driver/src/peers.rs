@@ -1,9 +1,11 @@
 //! Times the hash beside others that are in use. Each row that is printed has the way of calling,
-//! a length, the name of a hash, and the nanoseconds of a call, with tabs between; ../table.py
-//! makes the tables.
-use crate::rows::message;
+//! a length or a limit of lengths, the name of a hash, and the nanoseconds of a call, with tabs
+//! between; ../../table.py makes the tables.
+use crate::input::lengths;
+use crate::original::{OriginalFive, OriginalFour};
+use crate::port;
+use crate::rows::{LIMITS, is_v3, message};
 use crate::time::{calls_of_a_batch, time};
-use crate::{original, port};
 use std::ffi::{CStr, c_char};
 use std::hint::black_box;
 
@@ -23,75 +25,79 @@ unsafe extern "C" {
     fn peers_v3() -> *const Listed;
 }
 
-/// A hash, how many calls make a batch, and the least nanoseconds of a batch.
-struct Peer {
-    name: String,
-    hash: Hash,
-    count: u64,
-    least: u128,
-}
-
 pub fn run(repeats: u64) {
     let room = message();
+    for limit in LIMITS {
+        let lengths = lengths(limit);
+        let calls = |hash| {
+            let mut messages = lengths.iter().cycle().map(|it| &room[..usize::from(*it)]);
+            move |_| call(hash, messages.next().unwrap(), 0)
+        };
+        row("mixed", limit, repeats, calls);
+    }
     for length in LENGTHS {
-        row("independent", repeats, &room[..length], |_| 0);
-        row("chained", repeats, &room[..length], |hash| hash);
+        let bytes = &room[..length];
+        row("independent", length, repeats, |hash| move |_| call(hash, bytes, 0));
+        let chained = |hash| {
+            let mut seed = 0;
+            move |_| {
+                seed = call(hash, bytes, seed);
+                seed
+            }
+        };
+        row("chained", length, repeats, chained);
     }
 }
 
-/// Prints the times of each hash. `seed_after` gives the next call's seed by the hash of this one.
-fn row(way: &str, repeats: u64, bytes: &[u8], seed_after: impl Fn(u64) -> u64) {
-    let call = |hash: Hash| {
-        let mut seed = 0;
-        let seed_after = &seed_after;
-        move |_| {
-            // SAFETY: the pointer and the length are those of a slice.
-            seed = seed_after(unsafe { hash(black_box(bytes.as_ptr()), bytes.len(), seed) });
-        }
-    };
-    let mut peers = peers();
-    for peer in &mut peers {
-        peer.count = calls_of_a_batch(&mut call(peer.hash));
-    }
+#[inline(always)]
+fn call(hash: Hash, bytes: &[u8], seed: u64) -> u64 {
+    // SAFETY: the pointer and the length are those of a slice.
+    unsafe { hash(black_box(bytes.as_ptr()), bytes.len(), seed) }
+}
+
+/// Prints the times of each hash. `calls_of` makes the calls of a hash, which go on from batch to
+/// batch.
+fn row<F: FnMut(u64) -> u64>(way: &str, length: usize, repeats: u64, calls_of: impl Fn(Hash) -> F) {
+    let mut peers: Vec<_> =
+        peers().into_iter().map(|(name, hash)| (name, calls_of(hash))).collect();
+    let counts: Vec<_> = peers.iter_mut().map(|(_, calls)| calls_of_a_batch(calls)).collect();
+    let mut least = vec![u128::MAX; peers.len()];
     for _ in 0..repeats {
-        for peer in &mut peers {
-            peer.least = peer.least.min(time(peer.count, &mut call(peer.hash)));
+        for (i, (_, calls)) in peers.iter_mut().enumerate() {
+            least[i] = least[i].min(time(counts[i], calls));
         }
     }
-    for Peer { name, count, least, .. } in peers {
-        println!("{way}\t{}\t{name}\t{}", bytes.len(), least as f64 / count as f64);
+    for (i, (name, _)) in peers.iter().enumerate() {
+        println!("{way}\t{length}\t{name}\t{}", least[i] as f64 / counts[i] as f64);
     }
 }
 
 /// Returns all hashes that this processor can execute.
-fn peers() -> Vec<Peer> {
-    let mut peers = vec![
-        peer("komihash 5", port::v5::hash),
-        peer("komihash 4", port::v4::hash),
-        peer("Rust crate, version 5", original::v5::hash),
-        peer("Rust crate, version 4", original::v4::hash),
+fn peers() -> Vec<(String, Hash)> {
+    let mut peers: Vec<(String, Hash)> = vec![
+        ("komihash 5".to_string(), port::v5::hash),
+        ("komihash 4".to_string(), port::v4::hash),
+        ("Rust crate, version 5".to_string(), OriginalFive::hash_at),
+        ("Rust crate, version 4".to_string(), OriginalFour::hash_at),
     ];
     peers.extend(listed(peers_v2));
-    if is_x86_feature_detected!("avx2") {
+    if is_v3() {
+        peers.push(("komihash 5, x86-64-v3".to_string(), port::v5::hash_v3));
         peers.extend(listed(peers_v3));
     }
     peers
 }
 
-fn peer(name: &str, hash: Hash) -> Peer {
-    Peer { name: name.to_string(), hash, count: 0, least: u128::MAX }
-}
-
 /// Returns the hashes of a list of `peers.c`.
-fn listed(list: unsafe extern "C" fn() -> *const Listed) -> Vec<Peer> {
-    let mut peers = Vec::new();
+fn listed(list: unsafe extern "C" fn() -> *const Listed) -> Vec<(String, Hash)> {
+    let mut hashes = Vec::new();
     // SAFETY: the list ends with an item without a hash, and each name is a string of C.
     unsafe {
         let mut item = list();
         while let Some(hash) = (*item).hash {
-            peers.push(peer(&CStr::from_ptr((*item).name).to_string_lossy(), hash));
+            hashes.push((CStr::from_ptr((*item).name).to_string_lossy().into_owned(), hash));
             item = item.add(1);
         }
     }
-    peers
+    hashes
 }

@@ -1,10 +1,10 @@
 //! The rows of the tables: the calls that are timed or counted on both sides. Each row that is
-//! printed has a group, a name, and what is measured of the Rust crate and of the port, with tabs
-//! between; ../table.py makes the tables.
+//! timed is printed: a group, a name, and the nanoseconds of the Rust crate and of the port, with
+//! tabs between. ../../table.py makes the tables.
+use crate::input::{Random, lengths};
 use crate::original::{OriginalFive, OriginalFour};
-use crate::parts;
 use crate::port::{PortFive, PortFour};
-use crate::side::{FromC, Piece, Port, Side};
+use crate::side::{Port, Side};
 use crate::{count, time};
 use std::hint::black_box;
 
@@ -13,8 +13,14 @@ const LENGTHS: [usize; 23] = [
     0x10_0000,
 ];
 
-/// What is printed of a call: the nanoseconds of the fastest of several batches, or the
-/// instructions and the taken jumps.
+/// The limits below which mixed lengths of messages are.
+pub const LIMITS: [usize; 5] = [16, 32, 64, 256, 1024];
+
+/// How many lists of pieces a stream of mixed pieces takes in turn.
+const LISTS: usize = 64;
+
+/// What is measured of a call: the nanoseconds of the fastest of several batches, or the
+/// instructions.
 #[derive(Clone, Copy, PartialEq)]
 pub enum Measure {
     Time { repeats: u64 },
@@ -28,8 +34,8 @@ struct Rows<'a> {
     bytes: &'a [u8],
 }
 
-/// Prints the rows whose group and name contain a word.
-pub fn print(measure: Measure, word: &str) {
+/// Measures the rows whose group and name contain a word.
+pub fn measure(measure: Measure, word: &str) {
     let bytes = message();
     Rows { measure, word, version: 5, bytes }.all::<PortFive, OriginalFive>();
     Rows { measure, word, version: 4, bytes }.all::<PortFour, OriginalFour>();
@@ -37,14 +43,18 @@ pub fn print(measure: Measure, word: &str) {
 
 /// Returns 1 MiB that begins where a block of 64 bytes does.
 pub fn message() -> &'static [u8] {
-    let room: Vec<u8> = (0..(1 << 20) + 64u64).map(|i| scattered(i) as u8).collect();
+    let mut random = Random(0);
+    let room: Vec<u8> = (0..(1 << 20) + 64).map(|_| random.word() as u8).collect();
     let start = room.as_ptr().align_offset(64);
     &room.leak()[start..start + (1 << 20)]
 }
 
-/// A number that no branch predictor knows.
-fn scattered(i: u64) -> usize {
-    ((i + 1).wrapping_mul(0x9e37_79b9_7f4a_7c15) >> 33) as usize
+/// Whether the processor can execute what is built for x86-64-v3.
+pub fn is_v3() -> bool {
+    is_x86_feature_detected!("avx2")
+        && is_x86_feature_detected!("bmi2")
+        && is_x86_feature_detected!("lzcnt")
+        && is_x86_feature_detected!("movbe")
 }
 
 /// A length with its unit.
@@ -57,29 +67,33 @@ fn size(length: usize) -> String {
     }
 }
 
-/// Lengths from 1 to `greatest`, 65,536 in sum.
-fn mixed_pieces(greatest: usize) -> Vec<usize> {
-    let (mut pieces, mut left) = (Vec::new(), 65536);
-    while left > 0 {
-        let piece = left.min(scattered(pieces.len() as u64) % greatest + 1);
-        pieces.push(piece);
-        left -= piece;
-    }
-    pieces
+/// Lists of random lengths from 1 to `greatest`, each 65,536 in sum.
+fn mixed_pieces(greatest: usize) -> Vec<Vec<usize>> {
+    let mut random = Random(greatest as u64);
+    let mut list = || {
+        let (mut pieces, mut left) = (Vec::new(), 65536);
+        while left > 0 {
+            let piece = left.min(random.below(greatest) + 1);
+            pieces.push(piece);
+            left -= piece;
+        }
+        pieces
+    };
+    (0..LISTS).map(|_| list()).collect()
 }
 
 impl Rows<'_> {
-    fn all<P: Port, O: Side + FromC>(&self) {
+    fn all<P: Port, O: Side>(&self) {
         let is_timed = self.measure != Measure::Count;
         self.hashes::<P, O>();
         if is_timed {
-            self.chained_hashes::<P, O>();
             self.mixed_hashes::<P, O>();
+            self.chained_hashes::<P, O>();
+            self.builds::<P>();
             self.streams::<P, O>();
         }
         self.short_streams::<P, O>();
         self.streams_from_c::<P, O>();
-        self.lists_from_c::<P, O>();
         self.generators_from_c::<P, O>();
         self.generators::<P, O>();
         if is_timed {
@@ -88,26 +102,28 @@ impl Rows<'_> {
         }
     }
 
-    /// Measures both sides, and prints their row.
+    /// Measures both sides of a row.
     fn row<T, U>(
         &self,
         group: &str,
         name: &str,
-        mut original: impl FnMut(u64) -> T,
-        mut port: impl FnMut(u64) -> U,
+        original: impl FnMut(u64) -> T,
+        port: impl FnMut(u64) -> U,
     ) {
         let group = format!("v{} {group}", self.version);
         if !format!("{group} {name}").contains(self.word) {
             return;
         }
-        let [original, port] = match self.measure {
+        match self.measure {
             Measure::Time { repeats } => {
-                time::both(repeats, original, port).map(|it| it.to_string())
+                let [original, port] = time::both(repeats, original, port);
+                println!("{group}\t{name}\t{original}\t{port}");
             }
-            Measure::Count => [count::count(&mut original), count::count(&mut port)]
-                .map(|it| format!("{} {}", it.instructions, it.jumps)),
-        };
-        println!("{group}\t{name}\t{original}\t{port}");
+            Measure::Count => {
+                count::count(&format!("{group}\t{name}\tcrate"), original);
+                count::count(&format!("{group}\t{name}\tport"), port);
+            }
+        }
     }
 
     /// One length, with another seed at each call.
@@ -118,6 +134,18 @@ impl Rows<'_> {
             let original = |i| O::hash(black_box(bytes), i);
             let port = |i| P::hash(black_box(bytes), i);
             self.row("hash", &size(length), original, port);
+        }
+    }
+
+    /// Random lengths. A batch begins where the one before it ended.
+    fn mixed_hashes<P: Port, O: Side>(&self) {
+        for limit in LIMITS {
+            let lengths = lengths(limit);
+            let mut messages = lengths.iter().cycle().map(|it| &self.bytes[..usize::from(*it)]);
+            let mut others = messages.clone();
+            let original = |i| O::hash(black_box(messages.next().unwrap()), i);
+            let port = |i| P::hash(black_box(others.next().unwrap()), i);
+            self.row("hash mixed", &format!("below {limit} bytes"), original, port);
         }
     }
 
@@ -138,53 +166,56 @@ impl Rows<'_> {
         }
     }
 
-    /// Lengths that no branch predictor knows.
-    fn mixed_hashes<P: Port, O: Side>(&self) {
-        for limit in [16, 64, 256] {
-            let lengths: Vec<usize> = (0..4096).map(|i| scattered(i) % limit).collect();
-            let bytes = |i: u64| black_box(&self.bytes[..lengths[i as usize % 4096]]);
-            let (original, port) = (|i| O::hash(bytes(i), i), |i| P::hash(bytes(i), i));
-            self.row("hash mixed", &format!("below {limit} bytes"), original, port);
+    /// The build for x86-64-v3, beside the one for x86-64-v2.
+    fn builds<P: Port>(&self) {
+        if !is_v3() {
+            return;
+        }
+        for length in [24, 64, 256, 1024, 1 << 20] {
+            let bytes = &self.bytes[..length];
+            let other = |i| P::hash(black_box(bytes), i);
+            let port = |i| P::hash_v3(black_box(bytes), i);
+            self.row("x86-64-v3 hash", &size(length), other, port);
         }
     }
 
-    /// 65,536 bytes in pieces of one length and of mixed lengths.
+    /// 65,536 bytes in pieces of one length, and in pieces of random lengths.
     fn streams<P: Port, O: Side>(&self) {
         for piece in [1, 3, 7, 8, 13, 16, 24, 32, 40, 64, 100, 250, 4096] {
-            self.stream::<P, O>(
-                "stream",
-                &format!("64 KiB by {piece}"),
-                65536,
-                &vec![piece; 65536 / piece],
-            );
+            let pieces = [vec![piece; 65536 / piece]];
+            self.stream::<P, O>("stream", &format!("64 KiB by {piece}"), 65536, &pieces);
         }
         for greatest in [8, 32, 64, 300] {
-            self.stream::<P, O>(
-                "stream mixed",
-                &format!("64 KiB by 1 to {greatest}"),
-                65536,
-                &mixed_pieces(greatest),
-            );
+            let name = format!("64 KiB by 1 to {greatest}");
+            self.stream::<P, O>("stream mixed", &name, 65536, &mixed_pieces(greatest));
         }
     }
 
     /// Short messages in one piece.
     fn short_streams<P: Port, O: Side>(&self) {
         for length in [0, 5, 13, 40, 64, 100, 200] {
-            self.stream::<P, O>("stream short", &size(length), length, &[]);
+            self.stream::<P, O>("stream short", &size(length), length, &[vec![]]);
         }
     }
 
-    fn stream<P: Port, O: Side>(&self, group: &str, name: &str, length: usize, pieces: &[usize]) {
+    /// Streams that take the lists of pieces in turn.
+    fn stream<P: Port, O: Side>(
+        &self,
+        group: &str,
+        name: &str,
+        length: usize,
+        lists: &[Vec<usize>],
+    ) {
         let bytes = &self.bytes[..length];
-        let original = |i| O::stream(black_box(bytes), pieces, &mut [], i);
-        let port = |i| P::stream(black_box(bytes), pieces, &mut [], i);
+        let (mut x, mut y) = (lists.iter().cycle(), lists.iter().cycle());
+        let original = |i| O::stream(black_box(bytes), x.next().unwrap(), &mut [], i);
+        let port = |i| P::stream(black_box(bytes), y.next().unwrap(), &mut [], i);
         self.row(group, name, original, port);
     }
 
     /// One call on a stream that is kept in memory between calls, and all calls of a short
     /// message.
-    fn streams_from_c<P: FromC, O: FromC>(&self) {
+    fn streams_from_c<P: Side, O: Side>(&self) {
         for length in [1, 8, 16, 64, 256, 1000, 4096] {
             let bytes = &self.bytes[..length];
             let (mut x, mut y) = (O::start(1), P::start(1));
@@ -204,35 +235,20 @@ impl Rows<'_> {
     }
 
     #[inline(always)]
-    fn start_to_finish<S: FromC>(&self, seed: u64) -> u64 {
+    fn start_to_finish<S: Side>(&self, seed: u64) -> u64 {
         let mut stream = S::start(seed);
         S::write(black_box(&mut stream), black_box(&self.bytes[..16]));
         S::finish(black_box(&stream))
     }
 
-    /// Lists of pieces of 16 bytes: hashed at once, and written to a stream that lies in memory.
-    fn lists_from_c<P: FromC, O: FromC>(&self) {
-        let pieces: Vec<Piece> = self.bytes[..1024].chunks(16).map(Piece::from).collect();
-        for count in [2, 8, 64] {
-            let (pieces, name) = (&pieces[..count], format!("{count} by 16"));
-            let original = |i| O::pieces(black_box(pieces), i);
-            let port = |i| P::pieces(black_box(pieces), i);
-            self.row("c pieces", &name, original, port);
-            let (mut x, mut y) = (O::start(1), P::start(1));
-            let original = |_| O::write_pieces(black_box(&mut x), black_box(pieces));
-            let port = |_| P::write_pieces(black_box(&mut y), black_box(pieces));
-            self.row("c write pieces", &name, original, port);
-        }
-    }
-
     /// One call on a generator that is kept in memory between calls.
-    fn generators_from_c<P: FromC, O: FromC>(&self) {
-        let (mut x, mut y) = (O::generator(1), P::generator(1));
+    fn generators_from_c<P: Side, O: Side>(&self) {
+        let (mut x, mut y) = (O::generator(1, 7, 0), P::generator(1, 7, 0));
         let original = |_| O::next(black_box(&mut x));
         let port = |_| P::next(black_box(&mut y));
         self.row("c generator", "next", original, port);
         for length in [7, 64, 4096] {
-            let (mut x, mut y) = (O::generator(1), P::generator(1));
+            let (mut x, mut y) = (O::generator(1, 7, 0), P::generator(1, 7, 0));
             let (mut first, mut second) = (vec![0; length], vec![0; length]);
             let original = |_| O::next_bytes(black_box(&mut x), black_box(&mut first));
             let port = |_| P::next_bytes(black_box(&mut y), black_box(&mut second));
@@ -254,22 +270,24 @@ impl Rows<'_> {
         }
     }
 
-    /// Streams that are saved and resumed 100 times, beside plain Rust that does so with the same
-    /// parts.
+    /// Streams that are saved and resumed 100 times, beside 100 copies of their texts and back.
     fn saves<P: Port>(&self) {
         for pending in [0, 16, 63] {
             let bytes = &self.bytes[..64 + pending];
-            let mut stream = P::start(1);
-            P::write(&mut stream, bytes);
-            let text = P::save(&stream);
-            let (mut x, mut y) = ([0; 131], [0; 131]);
-            let original = |_| parts::saves(P::VERSION, black_box(&text), &mut x, 100);
+            let (mut x, mut y, mut back) = ([0; 131], [0; 131], [0; 131]);
+            let length = 68 + pending;
+            let copied = |_| {
+                for _ in 0..100 {
+                    black_box(&mut x[..length]).copy_from_slice(black_box(&back[..length]));
+                    black_box(&mut back[..length]).copy_from_slice(black_box(&x[..length]));
+                }
+            };
             let port = |i| P::saves(black_box(bytes), &mut y, 100, i);
-            self.row("save and resume", &format!("100 times at {pending} pending"), original, port);
+            self.row("save and resume", &format!("100 times at {pending} pending"), copied, port);
         }
     }
 
-    /// Padded words beside a plain copy of as many bytes, since the Rust crate has none.
+    /// Padded words, beside a copy of as many bytes.
     fn words<P: Port>(&self) {
         for length in [64, 1024, 1 << 20] {
             let bytes = &self.bytes[..length];

@@ -1,8 +1,7 @@
-//! The loops of version 5. Each is proved safe, and has no contract: the driver compares what
-//! it returns.
+//! The loops of version 5.
 
-use super::{Once, Text, split};
-use komihash::stream::{Call, KomiStream, run, run_on};
+use super::{Text, calls, chain, split};
+use komihash::stream::{Call, run};
 use komihash::tally::Tally;
 use komihash::v5::{KomiHasher, Komirand, StreamedKomihash, komihash_counted};
 use std::hash::Hasher;
@@ -38,22 +37,7 @@ pub extern "C" fn loop_v5_calls(
     answers: &mut [u64],
     seed: u64,
 ) -> u64 {
-    let mut tally = Tally::new();
-    let mut out = [0; 2];
-    let mut stream = StreamedKomihash::start(seed, &mut tally);
-    let mut left = bytes;
-    for (i, piece) in pieces.iter().enumerate() {
-        let (next, others) = split(left, *piece);
-        let calls = [Call::Absorb(next), Call::Answer];
-        run_on(&mut stream, &calls, &mut out, &mut tally);
-        left = others;
-        if i < answers.len() {
-            answers[i] = out[0];
-        }
-    }
-    let calls = [Call::Absorb(left), Call::Answer];
-    run_on(&mut stream, &calls, &mut out, &mut tally);
-    out[0]
+    calls::<StreamedKomihash>(bytes, pieces, answers, seed)
 }
 
 /// The hash by a stream that is saved and resumed `count` times after the message. Returns 0 if it
@@ -75,14 +59,7 @@ pub extern "C" fn loop_v5_saves(bytes: &[u8], text: &mut Text, count: usize, see
 /// The number of a hasher that takes pieces of these lengths.
 #[unsafe(no_mangle)]
 pub extern "C" fn loop_v5_chain(bytes: &[u8], pieces: &[usize], seed: u64) -> u64 {
-    let mut hasher = KomiHasher::new(seed);
-    let mut left = bytes;
-    for piece in pieces {
-        let (next, others) = split(left, *piece);
-        hasher.write(next);
-        left = others;
-    }
-    hasher.finish()
+    chain(&mut KomiHasher::new(seed), bytes, pieces)
 }
 
 /// Writes a generator's outputs.
@@ -114,24 +91,20 @@ pub extern "C" fn loop_v5_fills(
     generator.next()
 }
 
-/// Takes the hash of a message by each call that `Once` names.
+/// The hash of a message by one of five calls, or pairs of calls. The last three have seed 0.
 #[unsafe(no_mangle)]
-pub extern "C" fn loop_v5_once(bytes: &[u8], seed: u64, once: &mut Once) {
-    let mut tally = Tally::new();
-    once.counted = komihash_counted(bytes, seed, &mut tally);
-    let mut out = [0; 2];
-    let calls = [Call::Absorb(bytes), Call::Answer];
-    run::<StreamedKomihash>(seed, &calls, &mut out, &mut tally);
-    once.run = out[0];
-    let mut stream = StreamedKomihash::new();
-    stream.write(bytes);
-    once.new_stream = stream.finish();
-    let mut stream = StreamedKomihash::default();
-    stream.write(bytes);
-    once.default_stream = stream.finish();
-    let mut hasher = KomiHasher::default();
-    hasher.write(bytes);
-    once.default_hasher = hasher.finish();
+pub extern "C" fn loop_v5_hash_by(call: usize, bytes: &[u8], seed: u64) -> u64 {
+    match call {
+        0 => komihash_counted(bytes, seed, &mut Tally::new()),
+        1 => {
+            let (calls, mut out) = ([Call::Absorb(bytes), Call::Answer], [0; 2]);
+            run::<StreamedKomihash>(seed, &calls, &mut out, &mut Tally::new());
+            out[0]
+        }
+        2 => stream_hash(StreamedKomihash::new(), bytes),
+        3 => stream_hash(StreamedKomihash::default(), bytes),
+        _ => chain(&mut KomiHasher::default(), bytes, &[bytes.len()]),
+    }
 }
 
 // The generator of a pair: as it is, from the first number as a seed, or from both as seeds.
@@ -141,4 +114,11 @@ fn generator(s1: u64, s2: u64, start: u32) -> Komirand {
         1 => Komirand::init(s1),
         _ => Komirand::init_with_extra_seed(s1, s2),
     }
+}
+
+// The hash by a new stream.
+fn stream_hash(new: StreamedKomihash, bytes: &[u8]) -> u64 {
+    let mut stream = new;
+    stream.write(bytes);
+    stream.finish()
 }
