@@ -34,7 +34,7 @@ pub(crate) fn last_whole_word(bytes: &[u8]) -> u64
     requires { 8 ≤ length bytes.now }
     ensures { result ≡ slice_index (whole_words bytes.now) (length bytes.now / 8 - 1) }
 {
-    word_at(bytes, bytes.len() / 8 * 8 - 8)
+    word_at(bytes, 8 * (bytes.len() / 8 - 1))
 }
 
 #[inline(always)]
