@@ -46,10 +46,11 @@ build_peers() {
         -c driver/src/peers.c -o "$out/peers_$1.o" || stop 'driver/src/peers.c does not compile'
 }
 
-# Copies the library's build for x86-64-v3, under names of its own.
+# Makes a library of the build for x86-64-v3, under names of its own.
 rename_v3() {
-    objcopy --prefix-symbols=v3_ ../c/out/x86-64-v3/libkomihash_rattle.a \
-        "$out/libkomihash_rattle_v3.a"
+    objcopy --prefix-symbols=v3_ ../c/out/x86_64_v3.o "$out/v3.o"
+    rm -f "$out/libkomihash_rattle_v3.a"
+    ar rc "$out/libkomihash_rattle_v3.a" "$out/v3.o"
 }
 
 # Builds the driver with the Rust crate in one of its builds, as the file that is named, with flags
