@@ -7,8 +7,6 @@
   speed    README and compare/speed.md have the same between `<!-- speed -->` and `<!-- /speed -->`.
   names    Each file that a document names is there, and each name with `_` or `-` in
            docs/DEFINITIONS.md stands in a source.
-
-Each rule must find nothing, and then the fault that FAULTS puts into a document.
 """
 
 import re
@@ -22,14 +20,6 @@ CODE = re.compile(r"^```(?:(?:rust|antt)\n|\w*\n(?=//!))(.*?)^```", re.DOTALL | 
 SPAN = re.compile(r"```.*?```|`([^`\n]+)`", re.DOTALL)
 ROW = re.compile(r"^\| (.+) \| (none|[\da-f]+) \| (none|[\da-f]+) \|$", re.MULTILINE)
 TESTED = re.compile(r"^ +// ([^\n]+)\n +let wanted\b[^=]*= \[(.*?)\];$", re.DOTALL | re.MULTILINE)
-
-# For each rule a document, a text that is in it, and the text that takes its place there.
-FAULTS = {
-    "callers": ("README.md", "```rust\n", "```rust\n// No file of `uses` has this line.\n"),
-    "values": ("docs/DEFINITIONS.md", "| 5117f5064cfd0faa |", "| 5117f5064cfd0fab |"),
-    "speed": ("README.md", "<!-- speed -->\n", "<!-- speed -->\n| no row of speed.md |\n"),
-    "names": ("docs/DEFINITIONS.md", "`hash_from_pair`", "`no_such_name`"),
-}
 
 
 def callers(texts):
@@ -78,17 +68,14 @@ def main():
     kinds = ("src/**/*.rt", "specs/*.antt", "proofs/**/*.antt", "must-fail/*.edit")
     crates = (f"crates/*/{kind}" for kind in kinds)
     texts = texts_of("*.md", "docs/*.md", "compare/*.md", "c/*.*", "scripts/*.*", "scripts/*/*", *crates)
+    rules = (callers, values, speed, names)
     failed = 0
-    for rule in (callers, values, speed, names):
-        document, old, new = FAULTS[rule.__name__]
+    for rule in rules:
         faults = list(rule(texts))
-        faulty = {**texts, document: texts[document].replace(old, new, 1)}
-        if len(list(rule(faulty))) <= len(faults):
-            faults.append(f"the rule doesn't find the fault in {document}")
         status = "FAILED" if faults else "ok"
         print(f"{status}: the documents, {rule.__name__}", *faults, sep="\n    ")
         failed += bool(faults)
-    print(f"{len(FAULTS) - failed} passed, {failed} failed")
+    print(f"{len(rules) - failed} passed, {failed} failed")
     return failed > 0
 
 

@@ -3,20 +3,19 @@
 # two words is counted, and nothing else; and that v4.rt and v5.rt differ in the number alone.
 #
 # The rules read names, not meanings. They can't see a product that is made of sums or shifts, what
-# the standard library does inside, or a function that an operator, a loop or a drop calls. After
-# the rules, each is tried on sources with a fault, which it must find.
+# the standard library does inside, or a function that an operator, a loop or a drop calls.
 set -u
 cd "$(dirname "$0")/.." || exit 1
 . scripts/cases.sh
 
 sources() {
-    find "$1"/crates/komihash*/src -name '*.rt' ! -path '*/tests*' ! -name laws.rt | sort
+    find crates/komihash*/src -name '*.rt' ! -path '*/tests*' ! -name laws.rt | sort
 }
 
 # Prints each line of a function's body, after the file and the function's name, which has a star
 # if the function is passed a tally. Reads the layout that `rt fmt` gives.
 bodies() {
-    sources "$1" | xargs awk '
+    sources | xargs awk '
         FNR == 1 { file = FILENAME; sub(/.*crates\//, "", file); sub(/src\//, "", file) }
         FNR == 1 { end = ""; head = 0 }
         { sub(/(^|[^:])\/\/.*/, "") }
@@ -34,7 +33,7 @@ bodies() {
 
 # Only `multiply128` multiplies. A length or an index may be multiplied by 8.
 products() {
-    bodies "$1" | sed -E 's/([^/%*] |[[(]|\.\.)8 \* /\1/g' |
+    bodies | sed -E 's/([^/%*] |[[(]|\.\.)8 \* /\1/g' |
         grep -E ' \* |\*=|[iu]128|[mM]ul[^t]|_mul|pow|product\(|sum\(' |
         diff - <(
             echo 'komihash/utils.rt multiply128*: let product = u128::from(x) * u128::from(y);'
@@ -43,7 +42,7 @@ products() {
 
 # Only the product and the one writer of pending bytes raise a tally.
 raises() {
-    bodies "$1" | grep -E '\braise\b' | diff - <(
+    bodies | grep -E '\braise\b' | diff - <(
         echo 'komihash/rounds/pending.rt append_bytes*: tally.raise(0, bytes.len());'
         echo 'komihash/utils.rt multiply128*: tally.raise(1, 0);'
     )
@@ -53,7 +52,7 @@ raises() {
 # name what makes a tally, or has such a name; none is passed one, which a star would show. In the
 # crate for C none is passed one at all.
 tallies() {
-    bodies "$1" | sed 's/Pending::new()//' | grep -E '^komihash/|^[^:]*\*: ' |
+    bodies | sed 's/Pending::new()//' | grep -E '^komihash/|^[^:]*\*: ' |
         grep -E -e ': .*(\bTally\b|\b(v4|v5|crate|saved|hasher|generator)::|\b[dD]efault|Hash\b)' \
             -e ': .*\b(new|new_with_seed|komihash|init\w*|restore|resume)\b[(:;]' \
             -e ': .*\.(write\w*|finish|next|fill_bytes|hash\w*|save|resume)\(|take\(' \
@@ -76,7 +75,7 @@ tallies() {
 # No name is hidden from these rules, and no function from `bodies`.
 hidden() {
     local code
-    code=$(sources "$1" | xargs sed -E 's|//.*||')
+    code=$(sources | xargs sed -E 's|//.*||')
     {
         grep -E -e '^ *(pub )?use .*\bas\b|\btype .*\bTally\b|macro_rules' \
             -e '/\*|\bFn|\bfn *\(' <<< "$code"
@@ -88,43 +87,13 @@ hidden() {
 # v4.rt and v5.rt of a crate differ in the number, and in their first lines.
 twins() {
     local file
-    for file in "$1"/crates/*/src/v5.rt; do
+    for file in crates/*/src/v5.rt; do
         sed -E ':a; s/(^|[^0-9])5([^0-9]|$)/\14\2/; ta' "$file" | grep -v '^//!' |
             diff - <(grep -v '^//!' "${file/v5/v4}") || return
     done
 }
 
-# finds RULE FILE FAULT: whether a rule finds the fault that a script for sed makes in a file.
-finds() {
-    local file=crates/komihash/src/$2
-    rm -rf "$room/crates"
-    cp -r --parents crates/komihash*/src "$room"
-    sed -i "$3" "$room/$file"
-    ! diff "$file" "$room/$file" && ! "$1" "$room"
-}
-
 for rule in products raises tallies hidden twins; do
-    note "the sources, $rule" "$rule" .
+    note "the sources, $rule" "$rule"
 done
-
-mix='let (low, high) = multiply128(x, y, tally);'
-note 'products: by an operator' finds products rounds.rt "s/$mix/& let low = low * 1;/"
-note 'products: by a method' finds products rounds.rt "s/$mix/& let low = low.wrapping_mul(1);/"
-note 'products: after a quotient' finds products rounds.rt "s/$mix/& let low = low \/ 8 * y;/"
-note 'products: a second one' finds products utils.rt 's/let product = /let product = 0 * /'
-note 'raises: one of its own' finds raises rounds.rt \
-    "s/$mix/if x == 0 { tally.raise(1, 0); return Pair(0, e); } &/"
-run='let mut count = 0;'
-note 'tallies: a new one' finds tallies stream.rt "s/$run/& S::start(0, \&mut Tally::new());/"
-note 'tallies: a hash' finds tallies stream.rt "s/$run/& crate::komihash(\&[], 0);/"
-note 'tallies: a default stream' finds tallies stream/streamed.rt \
-    's/self.raw.answer/Self::default().raw.answer/'
-note 'tallies: a function that makes one' finds tallies stream.rt \
-    '$ a fn hash() -> u64\n{\n    v5::komihash(\&[], 0)\n}'
-note 'tallies: a hasher' finds tallies stream.rt "s/$run/& hasher.write_u64(0);/"
-note 'hidden: a tally under another name' finds hidden stream.rt \
-    's/use crate::tally::Tally;/use crate::tally::Tally as Count;/'
-note 'hidden: a function on one line' finds hidden stream.rt '$ a fn one() -> u64 { 2 * 3 }'
-note 'hidden: a comment' finds hidden stream.rt "s|$run|/* & */ &|"
-note 'twins: a clause of the other version' finds twins v4.rt 's/komi 4 seed/komi 5 seed/'
 counted

@@ -1,7 +1,6 @@
 //! The hash of a whole message, which is read where it lies.
 //!
-//! Each range of lengths has a function of its own: code with almost no jumps, in which LLVM needs
-//! almost no copies between registers.
+//! Each range of lengths has a function of its own, with almost no jumps.
 
 #![tactic(auto, using(crate::proofs::HashSteps::hash_laws))]
 
