@@ -36,14 +36,18 @@ missing ws zs n high is most =
     ap (λ us. get_or us k 0) is ∙ get_or-pending_words 8 k front lt in
     record {
       size = ap length is ∙ length-pending_words 8 front;
-      below = λ k less lt.
-          let cut : 8 * n ≡ 8 * k + (8 + (8 * n - 8 * k - 8)) = omega arith in
-          word k lt ∙ ap word_of (ap (λ m. take 8 (drop (8 * k) (take m zs))) cut
-          ∙ ap (take 8) (drop-take (8 * k) (8 + (8 * n - 8 * k - 8)) zs)
-          ∙ take-take 8 (8 + (8 * n - 8 * k - 8)) (drop (8 * k) zs) (omega arith));
-      above = λ k least lt.
-          word k lt ∙ ap (λ b. word_of (take 8 b)) (drop_all (8 * k) front
-          (omega (arith, length-take (8 * n) zs)) ∙ sym (drop_all (8 * k) zs (omega arith)));
+      words = λ k few after. word k few ∙ elim (cases_lt k n) [
+        | inl less ↦
+            let m = 8 * n - 8 * k - 8 in
+            let cut : 8 * n ≡ 8 * k + (8 + m) = omega arith in
+            ap word_of (ap (λ j. take 8 (drop (8 * k) (take j zs))) cut
+            ∙ ap (take 8) (drop-take (8 * k) (8 + m) zs)
+            ∙ take-take 8 (8 + m) (drop (8 * k) zs) (omega arith))
+        | inr least ↦
+            let past = after least in
+            ap (λ b. word_of (take 8 b)) (drop_all (8 * k) front
+            (omega (arith, length-take (8 * n) zs)) ∙ sym (drop_all (8 * k) zs (omega arith)))
+      ];
     }
 
 module _ (ws zs : List ℕ) (low high : ℕ) (but : StoresBut ws zs low high) where
@@ -54,13 +58,10 @@ module _ (ws zs : List ℕ) (low high : ℕ) (but : StoresBut ws zs low high) wh
       get_or-set_same ws i x 0 (omega (arith, but.size)) ∙ is in
       record {
         size = length-set ws i x ∙ but.size;
-        below = λ k less few. elim (cases_eq k i) [
+        words = λ k few after. elim (cases_eq k i) [
           | inl same ↦ rw same here
-          | inr not ↦ get_or-set_other ws i k x 0 not ∙ but.below k (omega arith) few
-        ];
-        above = λ k least few. elim (cases_eq k i) [
-          | inl same ↦ rw same here
-          | inr not ↦ get_or-set_other ws i k x 0 not ∙ but.above k least few
+          | inr not ↦
+              get_or-set_other ws i k x 0 not ∙ but.words k few (λ least. after (omega arith))
         ];
       }
 
@@ -68,10 +69,8 @@ module _ (ws zs : List ℕ) (low high : ℕ) (but : StoresBut ws zs low high) wh
   pub store_any : (x : ℕ) → low < high → StoresBut (set ws low x) zs low high
   store_any x lt = record {
     size = length-set ws low x ∙ but.size;
-    below = λ k less few. get_or-set_other ws low k x 0 (λ e. omega arith)
-        ∙ but.below k less few;
-    above = λ k least few. get_or-set_other ws low k x 0 (λ e. omega arith)
-        ∙ but.above k least few;
+    words = λ k few after. get_or-set_other ws low k x 0
+        (λ same. let past = after (omega arith) in omega arith) ∙ but.words k few after;
   }
 
   -- none is missing
@@ -80,11 +79,7 @@ module _ (ws zs : List ℕ) (low high : ℕ) (but : StoresBut ws zs low high) wh
       ext_get_or 0 ws (pending_words 8 zs) (but.size ∙ sym (length-pending_words 8 zs))
       (λ k lt.
       let few : k < 8 = omega (arith, but.size) in
-      let word = sym (get_or-pending_words 8 k zs few) in
-      elim (cases_lt k low) [
-        | inl less ↦ but.below k less few ∙ word
-        | inr least ↦ but.above k (none k few least) few ∙ word
-      ])
+      but.words k few (none k few) ∙ sym (get_or-pending_words 8 k zs few))
 
 -- the bytes from a word's index on
 pub drop_at_word : (xs bytes : List ℕ) (at from : ℕ) → length xs + from ≡ 8 * at

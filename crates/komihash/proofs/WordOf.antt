@@ -1,12 +1,11 @@
 -- Words of lists of bytes that are cut and joined.
 use Rattle.std.proofs.Common.{◌≡◌, ℕ, zero, suc, ◌+◌, ◌-◌, ◌*◌, ◌/◌, ◌%◌, ◌^◌, ◌<◌, ◌≤◌, List, []}
 use Rattle.std.proofs.Common.{◌∷◌, ◌++◌, length, take, drop, get_or, ap, arith, ◌∙◌, sym, take-add}
-use Rattle.std.proofs.Common.{Fits, w8, refl}
+use Rattle.std.proofs.Common.{Fits, w8}
 use Rattle.std.proofs.lemmas.List.{length-append, length-drop, length-take-le, take_all}
 use Rattle.std.proofs.lemmas.List.{get_or-drop, drop-drop, drop-append-le, take-append-le}
 use Rattle.std.proofs.lemmas.Nat.{pow-add, shl-shr, shr-shr, mod-pow-add, or_shifted, or_comm}
 use Rattle.std.proofs.Math.Nat.{mul-mod_left, zero-mod, zero-div}
-use Rattle.std.specs.Int.Bits.{or_zero_r}
 use Rattle.std.specs.Prelude.{bit_or}
 use Rattle.std.specs.Simd.Lanes.{number_l}
 use Rattle.komihash.specs.Words.{AreBytes, word_of}
@@ -124,38 +123,23 @@ word_of-two_ends k s xs b h le most few small e =
     (length-take-le k zs (omega arith)) (omega arith)
     ∙ ap word_of (sym (take-add k (8 - k) zs) ∙ take_all (k + (8 - k)) zs (omega arith)))
 
--- one to three bytes, each read by itself, and a byte b after them
-pub word_of-few : (xs : List ℕ) (second third b : ℕ) → AreBytes xs → 0 < length xs
-    → length xs < 4 → b < 256
-    → (1 < length xs → second ≡ get_or xs (length xs / 2) 0 * 256) → (length xs ≤ 1 → second ≡ 0)
-    → (2 < length xs → third ≡ get_or xs (length xs - 1) 0 * 65536) → (length xs ≤ 2 → third ≡ 0)
-    → bit_or (bit_or (bit_or (get_or xs 0 0) second) third) (b * 2 ^ (8 * length xs) % 2 ^ 64)
-    ≡ word_of (xs ++ b ∷ [])
-word_of-few (x ∷ []) second third b are some few small two one three most =
-    let first : word_of (x ∷ []) ≡ x = omega arith in
-    rw (one (omega arith), most (omega arith), or_zero_r x, or_zero_r x)
-    (rw first at (word_of-push (x ∷ []) 1 b are refl (omega arith) small))
-word_of-few (x ∷ y ∷ []) second third b are some few small two one three most =
-    let first : word_of (x ∷ []) ≡ x = omega arith in
-    let shifted : y * 256 ≡ y * 2 ^ (8 * 1) % 2 ^ 64 = omega (arith, are 1) in
-    let word : bit_or x (y * 256) ≡ word_of (x ∷ y ∷ []) =
-    rw shifted (rw first at (word_of-push (x ∷ []) 1 y (λ k. AreBytes-take 1 (x ∷ y ∷ []) are k)
-    refl (omega arith) (are 1))) in
-    rw (two (omega arith), most (omega arith), word, or_zero_r (word_of (x ∷ y ∷ [])))
-    (word_of-push (x ∷ y ∷ []) 2 b are refl (omega arith) small)
-word_of-few (x ∷ y ∷ z ∷ []) second third b are some few small two one three most =
-    let first : word_of (x ∷ []) ≡ x = omega arith in
-    let shifted : y * 256 ≡ y * 2 ^ (8 * 1) % 2 ^ 64 = omega (arith, are 1) in
-    let last : z * 65536 ≡ z * 2 ^ (8 * 2) % 2 ^ 64 = omega (arith, are 2) in
-    let word : bit_or x (y * 256) ≡ word_of (x ∷ y ∷ []) =
-    rw shifted (rw first at (word_of-push (x ∷ []) 1 y (λ k. AreBytes-take 1 (x ∷ y ∷ z ∷ []) are k)
-    refl (omega arith) (are 1))) in
-    let words : bit_or (word_of (x ∷ y ∷ [])) (z * 65536) ≡ word_of (x ∷ y ∷ z ∷ []) =
-    rw last (word_of-push (x ∷ y ∷ []) 2 z (λ k. AreBytes-take 2 (x ∷ y ∷ z ∷ []) are k) refl
-    (omega arith) (are 2)) in
-    rw (two (omega arith), three (omega arith), word, words)
-    (word_of-push (x ∷ y ∷ z ∷ []) 3 b are refl (omega arith) small)
-word_of-few xs second third b are some few small two one three most = absurd (omega arith)
+-- one to three bytes, each read by itself
+pub word_of-few : (xs : List ℕ) (second third : ℕ) → AreBytes xs → 0 < length xs → length xs < 4
+    → (1 < length xs → second ≡ get_or xs (length xs / 2) 0 * 2 ^ 8 % 2 ^ 64)
+    × (length xs ≤ 1 → second ≡ 0)
+    → (2 < length xs → third ≡ get_or xs (length xs - 1) 0 * 2 ^ 16 % 2 ^ 64)
+    × (length xs ≤ 2 → third ≡ 0)
+    → get_or xs 0 0 + second + third ≡ word_of xs
+word_of-few (x ∷ []) second third are some few (two, one) (three, most) =
+    omega (arith, one (omega arith), most (omega arith))
+word_of-few (x ∷ y ∷ []) second third are some few (two, one) (three, most) =
+    let second-is : second ≡ y * 2 ^ 8 % 2 ^ 64 = two (omega arith) in
+    omega (arith, second-is, most (omega arith), are 1)
+word_of-few (x ∷ y ∷ z ∷ []) second third are some few (two, one) (three, most) =
+    let second-is : second ≡ y * 2 ^ 8 % 2 ^ 64 = two (omega arith) in
+    let third-is : third ≡ z * 2 ^ 16 % 2 ^ 64 = three (omega arith) in
+    omega (arith, second-is, third-is, are 1, are 2)
+word_of-few xs second third are some few second-is third-is = absurd (omega arith)
 
 -- the bytes from index j on, read with the last eight: a shift drops those before
 pub word_of-last : (j s : ℕ) (xs : List ℕ) → AreBytes xs → 8 ≤ length xs → j ≤ length xs

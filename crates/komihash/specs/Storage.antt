@@ -83,8 +83,7 @@ StoresAt ws bytes k = get_or ws k 0 ≡ word_of (take 8 (drop (8 * k) bytes))
 -- of eight words, all but those from index `low` on and below `high` store these bytes
 pub record StoresBut (ws bytes : List ℕ) (low high : ℕ) : Type 0 where
   pub size : length ws ≡ 8
-  pub below : (k : ℕ) → k < low → k < 8 → StoresAt ws bytes k
-  pub above : (k : ℕ) → high ≤ k → k < 8 → StoresAt ws bytes k
+  pub words : (k : ℕ) → k < 8 → (low ≤ k → high ≤ k) → StoresAt ws bytes k
 
 -- ---- lemmas by which a struct's value gives back its fields
 

@@ -74,12 +74,11 @@ fn hash_of_blocks<const V: u8>(bytes: &[u8], seed: u64, tally: &mut Tally) -> u6
     let last = final_word_by_branch(bytes, padding_byte::<V>(bytes));
     let mut lanes = lanes_of(pair);
     let rest = absorb_blocks::<V>(&mut lanes, bytes, tally);
-    let word = if rest.len() >= 8 {
-        last_whole_word(rest)
-    } else {
-        0
-    };
-    hash_from_pair(join(&lanes, true), &rest, word, last, tally)
+    let pair = join(&lanes, true);
+    if rest.len() < 8 {
+        return close(pair, last, 0, tally);
+    }
+    hash_from_pair(pair, &rest, last_whole_word(rest), last, tally)
 }
 
 /// Returns the hash of a message with a seed in version V, and counts its products in the tally.

@@ -65,7 +65,7 @@ pub(crate) fn read_partial_word(bytes: &[u8], end: u64) -> u64
         let last = u64::from(bytes[n - 1]) << 16;
         let second = if n > 1 { middle } else { 0 };
         let third = if n > 2 { last } else { 0 };
-        u64::from(bytes[0]) | second | third | end << (8 * n)
+        (u64::from(bytes[0]) + second + third) | end << (8 * n)
     } else {
         end
     }
