@@ -314,19 +314,12 @@
 	eor	x12, x9, x11
 	eor	x14, x16, x14
 	eor	x11, x9, x18
-	tbnz	w1, #6, .LBB4_6
+	tbnz	w1, #6, .LBB4_4
 	eor	x16, x16, x17
 	cmp	x1, #128
-	b.hs	.LBB4_7
+	b.hs	.LBB4_5
+	b	.LBB4_7
 .LBB4_4:
-	cmp	x1, #8
-	b.lo	.LBB4_9
-.LBB4_5:
-	and	x17, x1, #0x78
-	add	x17, x0, x17
-	ldur	x17, [x17, #-8]
-	b	.LBB4_10
-.LBB4_6:
 	ldp	x17, x18, [x0, #16]
 	sub	x1, x1, #64
 	ldp	x2, x3, [x0, #32]
@@ -358,8 +351,8 @@
 	add	x9, x9, x2
 	add	x10, x10, x4
 	cmp	x1, #128
-	b.lo	.LBB4_4
-.LBB4_7:
+	b.lo	.LBB4_7
+.LBB4_5:
 	ldp	x17, x18, [x0, #16]
 	eor	x13, x13, x9
 	ldp	x2, x3, [x0, #32]
@@ -420,52 +413,65 @@
 	add	x9, x9, x4
 	mov	x0, x17
 	add	x10, x10, x3
-	b.hi	.LBB4_7
+	b.hi	.LBB4_5
 	mov	x0, x17
-	cmp	x1, #8
-	b.hs	.LBB4_5
-.LBB4_9:
-	mov	x17, xzr
-.LBB4_10:
+.LBB4_7:
 	eor	x15, x16, x15
 	eor	x13, x13, x14
 	eor	x9, x9, x10
-	eor	x11, x12, x11
+	eor	x10, x12, x11
+	cmp	x1, #8
+	eor	x11, x15, x13
+	eor	x9, x9, x10
+	b.hs	.LBB4_9
+	eor	x10, x9, x11
+	eor	x8, x10, x8
+	umulh	x10, x8, x9
+	mul	x8, x8, x9
+	add	x9, x9, x10
+	eor	x8, x9, x8
+	umulh	x10, x8, x9
+	mul	x8, x8, x9
+	add	x9, x9, x10
+	eor	x0, x9, x8
+	ret
+.LBB4_9:
+	and	x10, x1, #0x78
 	cmp	x1, #16
-	eor	x10, x15, x13
-	eor	x9, x9, x11
-	b.lo	.LBB4_14
-	ldp	x11, x12, [x0]
+	add	x10, x0, x10
+	ldur	x10, [x10, #-8]
+	b.lo	.LBB4_13
+	ldp	x12, x13, [x0]
 	cmp	x1, #32
-	eor	x10, x10, x11
-	eor	x11, x12, x9
-	eor	x10, x10, x9
-	umulh	x12, x10, x11
-	mul	x10, x10, x11
-	add	x9, x9, x12
-	b.lo	.LBB4_14
-	ldp	x11, x12, [x0, #16]
+	eor	x11, x11, x12
+	eor	x12, x13, x9
+	eor	x11, x11, x9
+	umulh	x13, x11, x12
+	mul	x11, x11, x12
+	add	x9, x9, x13
+	b.lo	.LBB4_13
+	ldp	x12, x13, [x0, #16]
 	cmp	x1, #48
-	eor	x10, x11, x10
-	eor	x11, x12, x9
-	eor	x10, x10, x9
-	umulh	x12, x10, x11
-	mul	x10, x10, x11
-	add	x9, x9, x12
-	b.lo	.LBB4_14
-	ldp	x11, x12, [x0, #32]
-	eor	x10, x11, x10
-	eor	x11, x12, x9
-	eor	x10, x10, x9
-	umulh	x12, x10, x11
-	mul	x10, x10, x11
-	add	x9, x9, x12
-.LBB4_14:
-	lsl	x11, x1, #60
+	eor	x11, x12, x11
+	eor	x12, x13, x9
+	eor	x11, x11, x9
+	umulh	x13, x11, x12
+	mul	x11, x11, x12
+	add	x9, x9, x13
+	b.lo	.LBB4_13
+	ldp	x12, x13, [x0, #32]
+	eor	x11, x12, x11
+	eor	x12, x13, x9
+	eor	x11, x11, x9
+	umulh	x13, x11, x12
+	mul	x11, x11, x12
+	add	x9, x9, x13
+.LBB4_13:
+	lsl	x12, x1, #60
 	tst	x1, #0x8
-	csel	x12, x8, x17, eq
-	and	x8, x8, x11, asr #63
-	eor	x10, x10, x12
+	csel	x10, x8, x10, eq
+	and	x8, x8, x12, asr #63
+	eor	x10, x11, x10
 	eor	x10, x10, x9
 	eor	x8, x9, x8
 	umulh	x11, x10, x8
@@ -1152,19 +1158,12 @@
 	eor	x12, x9, x11
 	eor	x15, x16, x15
 	eor	x11, x9, x18
-	tbnz	w1, #6, .LBB10_7
+	tbnz	w1, #6, .LBB10_5
 	eor	x16, x16, x17
 	cmp	x1, #128
-	b.hs	.LBB10_8
+	b.hs	.LBB10_6
+	b	.LBB10_8
 .LBB10_5:
-	cmp	x1, #8
-	b.lo	.LBB10_10
-.LBB10_6:
-	and	x17, x1, #0x78
-	add	x17, x0, x17
-	ldur	x17, [x17, #-8]
-	b	.LBB10_11
-.LBB10_7:
 	ldp	x17, x2, [x0, #8]
 	sub	x1, x1, #64
 	ldp	x18, x3, [x0, #40]
@@ -1196,8 +1195,8 @@
 	add	x9, x9, x3
 	add	x10, x10, x4
 	cmp	x1, #128
-	b.lo	.LBB10_5
-.LBB10_8:
+	b.lo	.LBB10_8
+.LBB10_6:
 	ldp	x17, x3, [x0, #8]
 	eor	x13, x13, x9
 	ldp	x18, x2, [x0, #40]
@@ -1259,52 +1258,65 @@
 	add	x9, x9, x4
 	mov	x0, x17
 	add	x10, x10, x2
-	b.hi	.LBB10_8
+	b.hi	.LBB10_6
 	mov	x0, x17
-	cmp	x1, #8
-	b.hs	.LBB10_6
-.LBB10_10:
-	mov	x17, xzr
-.LBB10_11:
+.LBB10_8:
 	eor	x14, x16, x14
 	eor	x13, x13, x15
 	eor	x9, x9, x10
-	eor	x11, x12, x11
+	eor	x10, x12, x11
+	cmp	x1, #8
+	eor	x11, x14, x13
+	eor	x9, x9, x10
+	b.hs	.LBB10_10
+	eor	x10, x9, x11
+	eor	x8, x10, x8
+	umulh	x10, x8, x9
+	mul	x8, x8, x9
+	add	x9, x9, x10
+	eor	x8, x9, x8
+	umulh	x10, x8, x9
+	mul	x8, x8, x9
+	add	x9, x9, x10
+	eor	x0, x9, x8
+	ret
+.LBB10_10:
+	and	x10, x1, #0x78
 	cmp	x1, #16
-	eor	x10, x14, x13
-	eor	x9, x9, x11
-	b.lo	.LBB10_15
-	ldp	x11, x12, [x0]
+	add	x10, x0, x10
+	ldur	x10, [x10, #-8]
+	b.lo	.LBB10_14
+	ldp	x12, x13, [x0]
 	cmp	x1, #32
-	eor	x10, x10, x11
-	eor	x11, x12, x9
-	eor	x10, x10, x9
-	umulh	x12, x10, x11
-	mul	x10, x10, x11
-	add	x9, x9, x12
-	b.lo	.LBB10_15
-	ldp	x11, x12, [x0, #16]
+	eor	x11, x11, x12
+	eor	x12, x13, x9
+	eor	x11, x11, x9
+	umulh	x13, x11, x12
+	mul	x11, x11, x12
+	add	x9, x9, x13
+	b.lo	.LBB10_14
+	ldp	x12, x13, [x0, #16]
 	cmp	x1, #48
-	eor	x10, x11, x10
-	eor	x11, x12, x9
-	eor	x10, x10, x9
-	umulh	x12, x10, x11
-	mul	x10, x10, x11
-	add	x9, x9, x12
-	b.lo	.LBB10_15
-	ldp	x11, x12, [x0, #32]
-	eor	x10, x11, x10
-	eor	x11, x12, x9
-	eor	x10, x10, x9
-	umulh	x12, x10, x11
-	mul	x10, x10, x11
-	add	x9, x9, x12
-.LBB10_15:
-	lsl	x11, x1, #60
+	eor	x11, x12, x11
+	eor	x12, x13, x9
+	eor	x11, x11, x9
+	umulh	x13, x11, x12
+	mul	x11, x11, x12
+	add	x9, x9, x13
+	b.lo	.LBB10_14
+	ldp	x12, x13, [x0, #32]
+	eor	x11, x12, x11
+	eor	x12, x13, x9
+	eor	x11, x11, x9
+	umulh	x13, x11, x12
+	mul	x11, x11, x12
+	add	x9, x9, x13
+.LBB10_14:
+	lsl	x12, x1, #60
 	tst	x1, #0x8
-	csel	x12, x8, x17, eq
-	and	x8, x8, x11, asr #63
-	eor	x10, x10, x12
+	csel	x10, x8, x10, eq
+	and	x8, x8, x12, asr #63
+	eor	x10, x11, x10
 	eor	x10, x10, x9
 	eor	x8, x9, x8
 	umulh	x11, x10, x8

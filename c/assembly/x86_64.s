@@ -230,12 +230,12 @@
 	xorq	%rcx, %rax
 	movabsq	$-6148914691236517206, %rcx
 	andq	%rdx, %rcx
-	movabsq	$4983270260364809079, %r10
-	xorq	%rcx, %r10
-	mulq	%r10
+	movabsq	$4983270260364809079, %r8
+	xorq	%rcx, %r8
+	mulq	%r8
 	movq	%rax, %r9
-	movq	%rdx, %r8
-	addq	%r10, %r8
+	movq	%rdx, %rbp
+	addq	%r8, %rbp
 	movzbl	-1(%rdi,%rsi), %r13d
 	shrl	$7, %r13d
 	incq	%r13
@@ -245,204 +245,208 @@
 	leal	(,%rsi,8), %ecx
 	shldq	%cl, %rax, %r13
 .LBB4_2:
-	movabsq	$-3998401319710606252, %r14
-	xorq	%r9, %r14
-	movabsq	$4577018097722394903, %rax
-	movq	%r8, %r11
-	xorq	%rax, %r11
-	movabsq	$1376283091369227076, %r10
+	movabsq	$-3998401319710606252, %r10
 	xorq	%r9, %r10
-	movabsq	$-4732044268327596948, %rbp
-	xorq	%r8, %rbp
+	movabsq	$4577018097722394903, %rax
+	movq	%rbp, %rcx
+	xorq	%rax, %rcx
+	movabsq	$1376283091369227076, %r14
+	xorq	%r9, %r14
+	movabsq	$-4732044268327596948, %r11
+	xorq	%rbp, %r11
 	movabsq	$1899778990314765756, %r15
 	xorq	%r9, %r15
 	movabsq	$-4563226453097033507, %rbx
-	xorq	%r8, %rbx
+	xorq	%rbp, %rbx
 	testb	$64, %sil
 	jne	.LBB4_4
 	xorq	%rax, %r9
 	cmpq	$128, %rsi
 	jae	.LBB4_6
-.LBB4_9:
-	cmpq	$8, %rsi
-	jb	.LBB4_10
-.LBB4_11:
-	movl	%esi, %eax
-	andl	$120, %eax
-	movq	-8(%rdi,%rax), %r12
-	jmp	.LBB4_12
+	jmp	.LBB4_9
 .LBB4_4:
-	xorq	16(%rdi), %r10
-	xorq	%r8, %r10
+	xorq	16(%rdi), %r14
+	xorq	%rbp, %r14
 	xorq	32(%rdi), %r15
 	xorq	(%rdi), %r9
-	xorq	%rbp, %r15
-	xorq	48(%rdi), %r14
+	xorq	%r11, %r15
+	xorq	48(%rdi), %r10
 	movq	24(%rdi), %rax
-	xorq	%rbp, %rax
-	mulq	%r10
+	xorq	%r11, %rax
+	mulq	%r14
 	movq	%rdx, %r12
-	xorq	%rbx, %r14
+	xorq	%rbx, %r10
 	movq	40(%rdi), %rdx
 	xorq	%rbx, %rdx
-	movq	%rax, %r10
+	movq	%rax, %r14
 	movq	%rdx, %rax
 	mulq	%r15
-	addq	%r12, %rbp
+	addq	%r12, %r11
 	addq	%rdx, %rbx
 	movq	8(%rdi), %rdx
 	movq	56(%rdi), %r12
 	addq	$64, %rdi
-	xorq	%r8, %r9
-	xorq	%r8, %rdx
+	xorq	%rbp, %r9
+	xorq	%rbp, %rdx
 	movq	%rax, %r15
 	movq	%rdx, %rax
 	mulq	%r9
 	addq	$-64, %rsi
-	addq	%rdx, %r8
-	xorq	%r11, %r12
+	addq	%rdx, %rbp
+	xorq	%rcx, %r12
 	movq	%rax, %r9
 	movq	%r12, %rax
-	mulq	%r14
-	addq	%rdx, %r11
-	movq	%rax, %r14
+	mulq	%r10
+	addq	%rdx, %rcx
+	movq	%rax, %r10
 	cmpq	$128, %rsi
 	jb	.LBB4_9
 .LBB4_6:
 	movq	%r13, -8(%rsp)
 	.p2align	4
 .LBB4_7:
-	xorq	16(%rdi), %r10
-	xorq	%r8, %r10
+	xorq	16(%rdi), %r14
+	xorq	%rbp, %r14
 	xorq	32(%rdi), %r15
 	xorq	(%rdi), %r9
-	xorq	%rbp, %r15
-	xorq	%r11, %r9
-	xorq	48(%rdi), %r14
-	xorq	%rbx, %r14
+	xorq	%r11, %r15
+	xorq	%rcx, %r9
+	xorq	48(%rdi), %r10
+	xorq	%rbx, %r10
 	movq	24(%rdi), %rax
-	xorq	%rbp, %rax
-	mulq	%r10
-	movq	%rax, %r10
-	movq	%rdx, %rcx
-	addq	%rbp, %rcx
+	xorq	%r11, %rax
+	mulq	%r14
+	movq	%rax, %r14
+	movq	%rdx, %r8
+	addq	%r11, %r8
 	movq	40(%rdi), %rax
 	xorq	%rbx, %rax
 	mulq	%r15
+	movq	%rbp, %r11
 	movq	%rax, %rbp
 	movq	%rdx, %r15
 	addq	%rbx, %r15
 	movq	8(%rdi), %rax
-	xorq	%r8, %rax
+	xorq	%r11, %rax
 	mulq	%r9
 	movq	%rax, %r12
 	movq	%rdx, %r9
-	addq	%r8, %r9
+	addq	%r11, %r9
 	movq	56(%rdi), %rax
-	xorq	%r11, %rax
-	mulq	%r14
+	xorq	%rcx, %rax
+	mulq	%r10
 	movq	%rax, %r13
-	movq	%rdx, %r14
-	addq	%r11, %r14
-	xorq	80(%rdi), %r10
+	movq	%rdx, %r10
+	addq	%rcx, %r10
+	xorq	80(%rdi), %r14
 	xorq	96(%rdi), %rbp
-	xorq	%r9, %r10
-	xorq	%rcx, %rbp
+	xorq	%r9, %r14
+	xorq	%r8, %rbp
 	xorq	64(%rdi), %r12
 	xorq	112(%rdi), %r13
 	movq	88(%rdi), %rax
-	xorq	%rcx, %rax
-	mulq	%r10
+	xorq	%r8, %rax
+	mulq	%r14
 	xorq	%r15, %r13
-	movq	104(%rdi), %r8
-	xorq	%r15, %r8
-	movq	%rax, %r10
+	movq	104(%rdi), %rcx
+	xorq	%r15, %rcx
+	movq	%rax, %r14
 	movq	%rdx, %r11
-	movq	%r8, %rax
+	movq	%rcx, %rax
 	mulq	%rbp
-	movq	%r11, %rbp
-	addq	%rcx, %rbp
+	addq	%r8, %r11
 	movq	%rdx, %rbx
 	addq	%r15, %rbx
-	movq	72(%rdi), %rcx
-	movq	120(%rdi), %r11
+	movq	72(%rdi), %rdx
+	movq	120(%rdi), %rcx
 	addq	$128, %rdi
-	xorq	%r14, %r12
-	xorq	%r9, %rcx
+	xorq	%r10, %r12
+	xorq	%r9, %rdx
 	movq	%rax, %r15
 	movq	%r12, %rax
-	mulq	%rcx
+	mulq	%rdx
 	addq	$-128, %rsi
-	movq	%rdx, %r8
-	addq	%r9, %r8
-	xorq	%r14, %r11
+	movq	%rdx, %rbp
+	addq	%r9, %rbp
+	xorq	%r10, %rcx
 	movq	%rax, %r9
-	movq	%r11, %rax
+	movq	%rcx, %rax
 	mulq	%r13
-	movq	%rdx, %r11
-	addq	%r14, %r11
-	movq	%rax, %r14
+	movq	%rdx, %rcx
+	addq	%r10, %rcx
+	movq	%rax, %r10
 	cmpq	$127, %rsi
 	ja	.LBB4_7
 	movq	-8(%rsp), %r13
-	cmpq	$8, %rsi
-	jae	.LBB4_11
-.LBB4_10:
-	xorl	%r12d, %r12d
-.LBB4_12:
-	xorq	%r14, %r9
-	xorq	%r15, %r10
+.LBB4_9:
+	xorq	%rbx, %r11
+	xorq	%rbp, %rcx
+	xorq	%r11, %rcx
+	xorq	%r15, %r14
 	xorq	%r9, %r10
-	xorq	%r11, %r8
-	xorq	%rbx, %rbp
-	xorq	%r8, %rbp
+	xorq	%r14, %r10
+	cmpq	$8, %rsi
+	jae	.LBB4_12
+	xorq	%rcx, %r10
+	xorq	%r13, %r10
+	movq	%r10, %rax
+	mulq	%rcx
+	jmp	.LBB4_11
+.LBB4_12:
+	movl	%esi, %eax
+	andl	$120, %eax
+	movq	-8(%rdi,%rax), %r8
 	cmpq	$16, %rsi
 	jb	.LBB4_16
 	xorq	(%rdi), %r10
-	xorq	%rbp, %r10
-	movq	8(%rdi), %rcx
-	xorq	%rbp, %rcx
+	xorq	%rcx, %r10
+	movq	8(%rdi), %rdx
+	xorq	%rcx, %rdx
 	movq	%r10, %rax
-	mulq	%rcx
-	addq	%rdx, %rbp
+	mulq	%rdx
+	addq	%rdx, %rcx
 	movq	%rax, %r10
 	cmpq	$32, %rsi
 	jb	.LBB4_16
 	xorq	16(%rdi), %r10
-	xorq	%rbp, %r10
-	movq	24(%rdi), %rcx
-	xorq	%rbp, %rcx
+	xorq	%rcx, %r10
+	movq	24(%rdi), %rdx
+	xorq	%rcx, %rdx
 	movq	%r10, %rax
-	mulq	%rcx
-	addq	%rdx, %rbp
+	mulq	%rdx
+	addq	%rdx, %rcx
 	movq	%rax, %r10
 	cmpq	$48, %rsi
 	jb	.LBB4_16
 	xorq	32(%rdi), %r10
-	xorq	%rbp, %r10
-	movq	40(%rdi), %rcx
-	xorq	%rbp, %rcx
+	xorq	%rcx, %r10
+	movq	40(%rdi), %rdx
+	xorq	%rcx, %rdx
 	movq	%r10, %rax
-	mulq	%rcx
-	addq	%rdx, %rbp
+	mulq	%rdx
+	addq	%rdx, %rcx
 	movq	%rax, %r10
 .LBB4_16:
-	movq	%rsi, %rcx
-	shlq	$60, %rcx
-	sarq	$63, %rcx
+	movq	%rsi, %rdx
+	shlq	$60, %rdx
+	sarq	$63, %rdx
 	testb	$8, %sil
-	cmoveq	%r13, %r12
-	andq	%r13, %rcx
-	xorq	%rbp, %r12
-	xorq	%r10, %r12
-	xorq	%rbp, %rcx
-	movq	%r12, %rax
-	mulq	%rcx
-	addq	%rdx, %rbp
-	xorq	%rbp, %rax
-	mulq	%rbp
-	addq	%rdx, %rbp
-	xorq	%rbp, %rax
+	cmoveq	%r13, %r8
+	andq	%r13, %rdx
+	xorq	%rcx, %r8
+	xorq	%r10, %r8
+	xorq	%rcx, %rdx
+	movq	%r8, %rax
+	mulq	%rdx
+.LBB4_11:
+	movq	%rdx, %rsi
+	addq	%rcx, %rsi
+	xorq	%rsi, %rax
+	mulq	%rsi
+	movq	%rax, %rcx
+	movq	%rdx, %rax
+	addq	%rsi, %rax
+	xorq	%rcx, %rax
 	popq	%rbx
 	popq	%r12
 	popq	%r13
@@ -1076,12 +1080,12 @@
 	xorq	%rcx, %rax
 	movabsq	$-6148914691236517206, %rcx
 	andq	%rdx, %rcx
-	movabsq	$4983270260364809079, %r9
-	xorq	%rcx, %r9
-	mulq	%r9
+	movabsq	$4983270260364809079, %r8
+	xorq	%rcx, %r8
+	mulq	%r8
 	movq	%rax, %r10
-	movq	%rdx, %r8
-	addq	%r9, %r8
+	movq	%rdx, %r9
+	addq	%r8, %r9
 	testb	$7, %sil
 	je	.LBB10_1
 	movq	-8(%rdi,%rsi), %rax
@@ -1092,87 +1096,81 @@
 .LBB10_1:
 	movl	$1, %r13d
 .LBB10_3:
-	movabsq	$-3998401319710606252, %r14
-	xorq	%r10, %r14
+	movabsq	$-3998401319710606252, %r8
+	xorq	%r10, %r8
 	movabsq	$4577018097722394903, %rax
-	movq	%r8, %r11
-	xorq	%rax, %r11
-	movabsq	$1376283091369227076, %r9
-	xorq	%r10, %r9
-	movabsq	$-4732044268327596948, %rbp
-	xorq	%r8, %rbp
+	movq	%r9, %rcx
+	xorq	%rax, %rcx
+	movabsq	$1376283091369227076, %r14
+	xorq	%r10, %r14
+	movabsq	$-4732044268327596948, %r11
+	xorq	%r9, %r11
 	movabsq	$1899778990314765756, %r15
 	xorq	%r10, %r15
 	movabsq	$-4563226453097033507, %rbx
-	xorq	%r8, %rbx
+	xorq	%r9, %rbx
 	testb	$64, %sil
 	jne	.LBB10_5
 	xorq	%rax, %r10
 	cmpq	$128, %rsi
 	jae	.LBB10_7
-.LBB10_10:
-	cmpq	$8, %rsi
-	jb	.LBB10_11
-.LBB10_12:
-	movl	%esi, %eax
-	andl	$120, %eax
-	movq	-8(%rdi,%rax), %r12
-	jmp	.LBB10_13
+	jmp	.LBB10_10
 .LBB10_5:
-	xorq	8(%rdi), %r9
-	xorq	%r8, %r9
+	xorq	8(%rdi), %r14
+	xorq	%r9, %r14
 	xorq	16(%rdi), %r15
 	xorq	(%rdi), %r10
-	xorq	%rbp, %r15
-	xorq	24(%rdi), %r14
+	xorq	%r11, %r15
+	xorq	24(%rdi), %r8
 	movq	40(%rdi), %rax
-	xorq	%rbp, %rax
-	mulq	%r9
+	xorq	%r11, %rax
+	mulq	%r14
 	movq	%rdx, %r12
-	xorq	%rbx, %r14
+	xorq	%rbx, %r8
 	movq	48(%rdi), %rdx
 	xorq	%rbx, %rdx
-	movq	%rax, %r9
+	movq	%rax, %r14
 	movq	%rdx, %rax
 	mulq	%r15
-	addq	%r12, %rbp
+	addq	%r12, %r11
 	addq	%rdx, %rbx
 	movq	32(%rdi), %rdx
 	movq	56(%rdi), %r12
 	addq	$64, %rdi
-	xorq	%r8, %r10
-	xorq	%r8, %rdx
+	xorq	%r9, %r10
+	xorq	%r9, %rdx
 	movq	%rax, %r15
 	movq	%rdx, %rax
 	mulq	%r10
 	addq	$-64, %rsi
-	addq	%rdx, %r8
-	xorq	%r11, %r12
+	addq	%rdx, %r9
+	xorq	%rcx, %r12
 	movq	%rax, %r10
 	movq	%r12, %rax
-	mulq	%r14
-	addq	%rdx, %r11
-	movq	%rax, %r14
+	mulq	%r8
+	addq	%rdx, %rcx
+	movq	%rax, %r8
 	cmpq	$128, %rsi
 	jb	.LBB10_10
 .LBB10_7:
 	movq	%r13, -8(%rsp)
 	.p2align	4
 .LBB10_8:
-	xorq	8(%rdi), %r9
-	xorq	%r8, %r9
+	xorq	8(%rdi), %r14
+	xorq	%r9, %r14
 	xorq	16(%rdi), %r15
 	xorq	(%rdi), %r10
-	xorq	%rbp, %r15
-	xorq	%r11, %r10
-	xorq	24(%rdi), %r14
-	xorq	%rbx, %r14
+	xorq	%r11, %r15
+	xorq	%rcx, %r10
+	xorq	24(%rdi), %r8
+	xorq	%rbx, %r8
 	movq	40(%rdi), %rax
-	xorq	%rbp, %rax
-	mulq	%r9
-	movq	%rax, %r9
-	movq	%rdx, %rcx
-	addq	%rbp, %rcx
+	xorq	%r11, %rax
+	mulq	%r14
+	movq	%rax, %r14
+	movq	%r9, %r13
+	movq	%rdx, %r9
+	addq	%r11, %r9
 	movq	48(%rdi), %rax
 	xorq	%rbx, %rax
 	mulq	%r15
@@ -1180,116 +1178,126 @@
 	movq	%rdx, %r15
 	addq	%rbx, %r15
 	movq	32(%rdi), %rax
-	xorq	%r8, %rax
+	xorq	%r13, %rax
 	mulq	%r10
 	movq	%rax, %r12
 	movq	%rdx, %r10
-	addq	%r8, %r10
+	addq	%r13, %r10
 	movq	56(%rdi), %rax
-	xorq	%r11, %rax
-	mulq	%r14
+	xorq	%rcx, %rax
+	mulq	%r8
 	movq	%rax, %r13
-	movq	%rdx, %r14
-	addq	%r11, %r14
-	xorq	72(%rdi), %r9
+	movq	%rdx, %r8
+	addq	%rcx, %r8
+	xorq	72(%rdi), %r14
 	xorq	80(%rdi), %rbp
-	xorq	%r10, %r9
-	xorq	%rcx, %rbp
+	xorq	%r10, %r14
+	xorq	%r9, %rbp
 	xorq	64(%rdi), %r12
 	xorq	88(%rdi), %r13
 	movq	104(%rdi), %rax
-	xorq	%rcx, %rax
-	mulq	%r9
+	xorq	%r9, %rax
+	mulq	%r14
 	xorq	%r15, %r13
-	movq	112(%rdi), %r8
-	xorq	%r15, %r8
-	movq	%rax, %r9
+	movq	112(%rdi), %rcx
+	xorq	%r15, %rcx
+	movq	%rax, %r14
 	movq	%rdx, %r11
-	movq	%r8, %rax
+	movq	%rcx, %rax
 	mulq	%rbp
-	movq	%r11, %rbp
-	addq	%rcx, %rbp
+	addq	%r9, %r11
 	movq	%rdx, %rbx
 	addq	%r15, %rbx
-	movq	96(%rdi), %rcx
-	movq	120(%rdi), %r11
+	movq	96(%rdi), %rdx
+	movq	120(%rdi), %rcx
 	addq	$128, %rdi
-	xorq	%r14, %r12
-	xorq	%r10, %rcx
+	xorq	%r8, %r12
+	xorq	%r10, %rdx
 	movq	%rax, %r15
 	movq	%r12, %rax
-	mulq	%rcx
+	mulq	%rdx
 	addq	$-128, %rsi
-	movq	%rdx, %r8
-	addq	%r10, %r8
-	xorq	%r14, %r11
+	movq	%rdx, %r9
+	addq	%r10, %r9
+	xorq	%r8, %rcx
 	movq	%rax, %r10
-	movq	%r11, %rax
+	movq	%rcx, %rax
 	mulq	%r13
-	movq	%rdx, %r11
-	addq	%r14, %r11
-	movq	%rax, %r14
+	movq	%rdx, %rcx
+	addq	%r8, %rcx
+	movq	%rax, %r8
 	cmpq	$127, %rsi
 	ja	.LBB10_8
 	movq	-8(%rsp), %r13
+.LBB10_10:
+	xorq	%rbx, %r11
+	xorq	%r9, %rcx
+	xorq	%r11, %rcx
+	xorq	%r15, %r14
+	xorq	%r10, %r8
+	xorq	%r14, %r8
 	cmpq	$8, %rsi
-	jae	.LBB10_12
-.LBB10_11:
-	xorl	%r12d, %r12d
+	jae	.LBB10_13
+	xorq	%rcx, %r8
+	xorq	%r13, %r8
+	movq	%r8, %rax
+	mulq	%rcx
+	jmp	.LBB10_12
 .LBB10_13:
-	xorq	%r14, %r10
-	xorq	%r15, %r9
-	xorq	%r10, %r9
-	xorq	%r11, %r8
-	xorq	%rbx, %rbp
-	xorq	%r8, %rbp
+	movl	%esi, %eax
+	andl	$120, %eax
+	movq	-8(%rdi,%rax), %r9
 	cmpq	$16, %rsi
 	jb	.LBB10_17
-	xorq	(%rdi), %r9
-	xorq	%rbp, %r9
-	movq	8(%rdi), %rcx
-	xorq	%rbp, %rcx
-	movq	%r9, %rax
-	mulq	%rcx
-	addq	%rdx, %rbp
-	movq	%rax, %r9
+	xorq	(%rdi), %r8
+	xorq	%rcx, %r8
+	movq	8(%rdi), %rdx
+	xorq	%rcx, %rdx
+	movq	%r8, %rax
+	mulq	%rdx
+	addq	%rdx, %rcx
+	movq	%rax, %r8
 	cmpq	$32, %rsi
 	jb	.LBB10_17
-	xorq	16(%rdi), %r9
-	xorq	%rbp, %r9
-	movq	24(%rdi), %rcx
-	xorq	%rbp, %rcx
-	movq	%r9, %rax
-	mulq	%rcx
-	addq	%rdx, %rbp
-	movq	%rax, %r9
+	xorq	16(%rdi), %r8
+	xorq	%rcx, %r8
+	movq	24(%rdi), %rdx
+	xorq	%rcx, %rdx
+	movq	%r8, %rax
+	mulq	%rdx
+	addq	%rdx, %rcx
+	movq	%rax, %r8
 	cmpq	$48, %rsi
 	jb	.LBB10_17
-	xorq	32(%rdi), %r9
-	xorq	%rbp, %r9
-	movq	40(%rdi), %rcx
-	xorq	%rbp, %rcx
-	movq	%r9, %rax
-	mulq	%rcx
-	addq	%rdx, %rbp
-	movq	%rax, %r9
+	xorq	32(%rdi), %r8
+	xorq	%rcx, %r8
+	movq	40(%rdi), %rdx
+	xorq	%rcx, %rdx
+	movq	%r8, %rax
+	mulq	%rdx
+	addq	%rdx, %rcx
+	movq	%rax, %r8
 .LBB10_17:
-	movq	%rsi, %rcx
-	shlq	$60, %rcx
-	sarq	$63, %rcx
+	movq	%rsi, %rdx
+	shlq	$60, %rdx
+	sarq	$63, %rdx
 	testb	$8, %sil
-	cmoveq	%r13, %r12
-	andq	%r13, %rcx
-	xorq	%rbp, %r12
-	xorq	%r9, %r12
-	xorq	%rbp, %rcx
-	movq	%r12, %rax
-	mulq	%rcx
-	addq	%rdx, %rbp
-	xorq	%rbp, %rax
-	mulq	%rbp
-	addq	%rdx, %rbp
-	xorq	%rbp, %rax
+	cmoveq	%r13, %r9
+	andq	%r13, %rdx
+	xorq	%rcx, %r9
+	xorq	%r8, %r9
+	xorq	%rcx, %rdx
+	movq	%r9, %rax
+	mulq	%rdx
+.LBB10_12:
+	movq	%rdx, %rsi
+	addq	%rcx, %rsi
+	xorq	%rsi, %rax
+	mulq	%rsi
+	movq	%rax, %rcx
+	movq	%rdx, %rax
+	addq	%rsi, %rax
+	xorq	%rcx, %rax
 	popq	%rbx
 	popq	%r12
 	popq	%r13

@@ -215,12 +215,6 @@
 	.p2align	4
 	.type	"komihash::hash::hash_of_blocks::<=4>",@function
 "komihash::hash::hash_of_blocks::<=4>":
-	pushq	%rbp
-	pushq	%r15
-	pushq	%r14
-	pushq	%r13
-	pushq	%r12
-	pushq	%rbx
 	movabsq	$6148914691236517205, %rcx
 	andq	%rdx, %rcx
 	movabsq	$2611923443488327891, %rax
@@ -230,8 +224,9 @@
 	movabsq	$4983270260364809079, %r8
 	xorq	%rcx, %r8
 	movq	%rax, %rdx
-	mulxq	%r8, %rbx, %r11
-	addq	%r8, %r11
+	mulxq	%r8, %r10, %rax
+	addq	%r8, %rax
+	movq	%rax, %r8
 	movzbl	-1(%rdi,%rsi), %r9d
 	shrl	$7, %r9d
 	incq	%r9
@@ -241,159 +236,166 @@
 	leal	(,%rsi,8), %ecx
 	shldq	%cl, %rax, %r9
 .LBB4_2:
-	movabsq	$-3998401319710606252, %r15
-	xorq	%rbx, %r15
+	pushq	%rbp
+	pushq	%r15
+	pushq	%r14
+	pushq	%r13
+	pushq	%r12
+	pushq	%rbx
+	movabsq	$-3998401319710606252, %rax
+	xorq	%r10, %rax
 	movabsq	$4577018097722394903, %rcx
-	movq	%r11, %r8
-	xorq	%rcx, %r8
-	movabsq	$1376283091369227076, %rax
-	xorq	%rbx, %rax
-	movabsq	$-4732044268327596948, %r10
-	xorq	%r11, %r10
+	movq	%r8, %r11
+	xorq	%rcx, %r11
+	movabsq	$1376283091369227076, %rbx
+	xorq	%r10, %rbx
+	movabsq	$-4732044268327596948, %r14
+	xorq	%r8, %r14
 	movabsq	$1899778990314765756, %r12
-	xorq	%rbx, %r12
-	movabsq	$-4563226453097033507, %r14
-	xorq	%r11, %r14
+	xorq	%r10, %r12
+	movabsq	$-4563226453097033507, %r15
+	xorq	%r8, %r15
 	testb	$64, %sil
 	jne	.LBB4_4
-	xorq	%rcx, %rbx
+	xorq	%rcx, %r10
 	cmpq	$128, %rsi
 	jae	.LBB4_6
-.LBB4_9:
-	cmpq	$8, %rsi
-	jb	.LBB4_10
-.LBB4_11:
-	movl	%esi, %ecx
-	andl	$120, %ecx
-	movq	-8(%rdi,%rcx), %rcx
-	jmp	.LBB4_12
+	jmp	.LBB4_9
 .LBB4_4:
-	xorq	16(%rdi), %rax
-	xorq	%r11, %rax
+	xorq	16(%rdi), %rbx
+	xorq	%r8, %rbx
 	xorq	32(%rdi), %r12
-	xorq	%r10, %r12
-	xorq	(%rdi), %rbx
-	xorq	48(%rdi), %r15
-	xorq	%r11, %rbx
-	xorq	%r14, %r15
+	xorq	%r14, %r12
+	xorq	(%rdi), %r10
+	xorq	48(%rdi), %rax
+	xorq	%r8, %r10
+	xorq	%r15, %rax
 	movq	24(%rdi), %rdx
-	xorq	%r10, %rdx
-	mulxq	%rax, %rax, %rcx
-	movq	40(%rdi), %rdx
 	xorq	%r14, %rdx
-	mulxq	%r12, %r12, %rdx
-	addq	%rcx, %r10
-	addq	%rdx, %r14
-	movq	8(%rdi), %rdx
-	xorq	%r11, %rdx
 	mulxq	%rbx, %rbx, %rcx
+	movq	40(%rdi), %rdx
+	xorq	%r15, %rdx
+	mulxq	%r12, %r12, %rdx
+	addq	%rcx, %r14
+	addq	%rdx, %r15
+	movq	8(%rdi), %rdx
+	xorq	%r8, %rdx
+	mulxq	%r10, %r10, %rcx
 	movq	56(%rdi), %rdx
 	addq	$64, %rdi
 	addq	$-64, %rsi
-	addq	%rcx, %r11
-	xorq	%r8, %rdx
-	mulxq	%r15, %r15, %rcx
 	addq	%rcx, %r8
+	xorq	%r11, %rdx
+	mulxq	%rax, %rax, %rcx
+	addq	%rcx, %r11
 	cmpq	$128, %rsi
 	jb	.LBB4_9
 .LBB4_6:
 	movq	%r9, -8(%rsp)
 	.p2align	4
 .LBB4_7:
-	xorq	16(%rdi), %rax
-	xorq	%r11, %rax
-	xorq	32(%rdi), %r12
-	xorq	(%rdi), %rbx
-	xorq	%r10, %r12
-	xorq	48(%rdi), %r15
-	movq	24(%rdi), %rdx
-	xorq	%r10, %rdx
-	mulxq	%rax, %rax, %r9
+	xorq	16(%rdi), %rbx
 	xorq	%r8, %rbx
-	addq	%r10, %r9
-	movq	40(%rdi), %rdx
+	xorq	32(%rdi), %r12
+	xorq	(%rdi), %r10
+	xorq	%r14, %r12
+	xorq	48(%rdi), %rax
+	movq	24(%rdi), %rdx
 	xorq	%r14, %rdx
-	mulxq	%r12, %r12, %r10
+	movq	%r8, %r9
+	mulxq	%rbx, %rbx, %r8
+	xorq	%r11, %r10
+	addq	%r14, %r8
+	movq	40(%rdi), %rdx
+	xorq	%r15, %rdx
+	movq	%r11, %r14
+	mulxq	%r12, %r12, %r11
 	movq	8(%rdi), %rdx
-	xorq	%r11, %rdx
-	mulxq	%rbx, %rcx, %r13
-	xorq	%r14, %r15
-	addq	%r14, %r10
-	addq	%r11, %r13
+	xorq	%r9, %rdx
+	mulxq	%r10, %rcx, %r13
+	xorq	%r15, %rax
+	addq	%r15, %r11
+	addq	%r9, %r13
 	movq	56(%rdi), %rdx
-	xorq	%r8, %rdx
-	mulxq	%r15, %r15, %rbp
-	addq	%r8, %rbp
-	xorq	80(%rdi), %rax
-	xorq	%r13, %rax
+	xorq	%r14, %rdx
+	mulxq	%rax, %r9, %rbp
+	addq	%r14, %rbp
+	xorq	80(%rdi), %rbx
+	xorq	%r13, %rbx
 	xorq	96(%rdi), %r12
 	xorq	64(%rdi), %rcx
-	xorq	%r9, %r12
-	xorq	112(%rdi), %r15
+	xorq	%r8, %r12
+	xorq	112(%rdi), %r9
 	movq	88(%rdi), %rdx
-	xorq	%r9, %rdx
-	mulxq	%rax, %rax, %r8
-	xorq	%r10, %r15
-	addq	%r9, %r8
+	xorq	%r8, %rdx
+	mulxq	%rbx, %rbx, %r14
+	xorq	%r11, %r9
+	addq	%r8, %r14
 	movq	104(%rdi), %rdx
-	xorq	%r10, %rdx
-	mulxq	%r12, %r12, %r14
-	addq	%r10, %r14
-	movq	%r8, %r10
-	movq	72(%rdi), %r9
-	movq	120(%rdi), %r8
+	xorq	%r11, %rdx
+	mulxq	%r12, %r12, %r15
+	addq	%r11, %r15
+	movq	72(%rdi), %r8
+	movq	120(%rdi), %rax
 	addq	$128, %rdi
 	xorq	%rbp, %rcx
-	xorq	%r13, %r9
+	xorq	%r13, %r8
 	movq	%rcx, %rdx
-	mulxq	%r9, %rbx, %r11
-	xorq	%rbp, %r8
-	movq	%r8, %rdx
-	mulxq	%r15, %r15, %r8
+	mulxq	%r8, %r10, %r8
+	xorq	%rbp, %rax
+	movq	%rax, %rdx
+	mulxq	%r9, %rax, %r11
 	addq	$-128, %rsi
-	addq	%r13, %r11
-	addq	%rbp, %r8
+	addq	%r13, %r8
+	addq	%rbp, %r11
 	cmpq	$127, %rsi
 	ja	.LBB4_7
 	movq	-8(%rsp), %r9
-	cmpq	$8, %rsi
-	jae	.LBB4_11
-.LBB4_10:
-	xorl	%ecx, %ecx
-.LBB4_12:
-	xorq	%r15, %rbx
-	xorq	%r12, %rax
-	xorq	%rbx, %rax
+.LBB4_9:
+	xorq	%r15, %r14
 	xorq	%r8, %r11
-	xorq	%r14, %r10
-	xorq	%r11, %r10
+	xorq	%r14, %r11
+	xorq	%r12, %rbx
+	xorq	%r10, %rax
+	xorq	%rbx, %rax
+	cmpq	$8, %rsi
+	jae	.LBB4_12
+	xorq	%r11, %rax
+	xorq	%r9, %rax
+	movq	%rax, %rdx
+	mulxq	%r11, %rdx, %rcx
+	jmp	.LBB4_11
+.LBB4_12:
+	movl	%esi, %ecx
+	andl	$120, %ecx
+	movq	-8(%rdi,%rcx), %rcx
 	cmpq	$16, %rsi
 	jb	.LBB4_16
 	xorq	(%rdi), %rax
-	xorq	%r10, %rax
+	xorq	%r11, %rax
 	movq	8(%rdi), %r8
-	xorq	%r10, %r8
+	xorq	%r11, %r8
 	movq	%rax, %rdx
 	mulxq	%r8, %rax, %rdx
-	addq	%rdx, %r10
+	addq	%rdx, %r11
 	cmpq	$32, %rsi
 	jb	.LBB4_16
 	xorq	16(%rdi), %rax
-	xorq	%r10, %rax
+	xorq	%r11, %rax
 	movq	24(%rdi), %r8
-	xorq	%r10, %r8
+	xorq	%r11, %r8
 	movq	%rax, %rdx
 	mulxq	%r8, %rax, %rdx
-	addq	%rdx, %r10
+	addq	%rdx, %r11
 	cmpq	$48, %rsi
 	jb	.LBB4_16
 	xorq	32(%rdi), %rax
-	xorq	%r10, %rax
+	xorq	%r11, %rax
 	movq	40(%rdi), %rdi
-	xorq	%r10, %rdi
+	xorq	%r11, %rdi
 	movq	%rax, %rdx
 	mulxq	%rdi, %rax, %rdx
-	addq	%rdx, %r10
+	addq	%rdx, %r11
 .LBB4_16:
 	movq	%rsi, %rdi
 	shlq	$60, %rdi
@@ -402,11 +404,12 @@
 	cmoveq	%r9, %rcx
 	andq	%r9, %rdi
 	xorq	%rax, %rcx
-	xorq	%r10, %rcx
-	xorq	%r10, %rdi
+	xorq	%r11, %rcx
+	xorq	%r11, %rdi
 	movq	%rcx, %rdx
 	mulxq	%rdi, %rdx, %rcx
-	addq	%r10, %rcx
+.LBB4_11:
+	addq	%r11, %rcx
 	xorq	%rcx, %rdx
 	mulxq	%rcx, %rdx, %rax
 	addq	%rcx, %rax
@@ -994,12 +997,6 @@
 	.p2align	4
 	.type	"komihash::hash::hash_of_blocks::<=5>",@function
 "komihash::hash::hash_of_blocks::<=5>":
-	pushq	%rbp
-	pushq	%r15
-	pushq	%r14
-	pushq	%r13
-	pushq	%r12
-	pushq	%rbx
 	movabsq	$6148914691236517205, %rcx
 	andq	%rdx, %rcx
 	movabsq	$2611923443488327891, %rax
@@ -1009,7 +1006,7 @@
 	movabsq	$4983270260364809079, %r8
 	xorq	%rcx, %r8
 	movq	%rax, %rdx
-	mulxq	%r8, %rbx, %r11
+	mulxq	%r8, %r10, %r11
 	addq	%r8, %r11
 	testb	$7, %sil
 	je	.LBB10_1
@@ -1021,138 +1018,151 @@
 .LBB10_1:
 	movl	$1, %r9d
 .LBB10_3:
-	movabsq	$-3998401319710606252, %r15
-	xorq	%rbx, %r15
+	pushq	%rbp
+	pushq	%r15
+	pushq	%r14
+	pushq	%r13
+	pushq	%r12
+	pushq	%rbx
+	movabsq	$-3998401319710606252, %rax
+	xorq	%r10, %rax
 	movabsq	$4577018097722394903, %rcx
 	movq	%r11, %r8
 	xorq	%rcx, %r8
-	movabsq	$1376283091369227076, %rax
-	xorq	%rbx, %rax
-	movabsq	$-4732044268327596948, %r10
-	xorq	%r11, %r10
-	movabsq	$1899778990314765756, %r12
-	xorq	%rbx, %r12
-	movabsq	$-4563226453097033507, %r14
+	movabsq	$1376283091369227076, %rbx
+	xorq	%r10, %rbx
+	movabsq	$-4732044268327596948, %r14
 	xorq	%r11, %r14
+	movabsq	$1899778990314765756, %r12
+	xorq	%r10, %r12
+	movabsq	$-4563226453097033507, %r15
+	xorq	%r11, %r15
 	testb	$64, %sil
 	jne	.LBB10_5
-	xorq	%rcx, %rbx
+	xorq	%rcx, %r10
+	movq	%r8, %rcx
 	cmpq	$128, %rsi
 	jae	.LBB10_7
-.LBB10_10:
-	cmpq	$8, %rsi
-	jb	.LBB10_11
-.LBB10_12:
-	movl	%esi, %ecx
-	andl	$120, %ecx
-	movq	-8(%rdi,%rcx), %rcx
-	jmp	.LBB10_13
+	jmp	.LBB10_10
 .LBB10_5:
-	xorq	8(%rdi), %rax
-	xorq	%r11, %rax
-	xorq	16(%rdi), %r12
-	xorq	%r10, %r12
-	xorq	(%rdi), %rbx
-	xorq	24(%rdi), %r15
+	xorq	8(%rdi), %rbx
 	xorq	%r11, %rbx
-	xorq	%r14, %r15
+	xorq	16(%rdi), %r12
+	xorq	%r14, %r12
+	xorq	(%rdi), %r10
+	xorq	24(%rdi), %rax
+	xorq	%r11, %r10
+	xorq	%r15, %rax
 	movq	40(%rdi), %rdx
-	xorq	%r10, %rdx
-	mulxq	%rax, %rax, %rcx
-	movq	48(%rdi), %rdx
 	xorq	%r14, %rdx
+	mulxq	%rbx, %rbx, %rcx
+	movq	48(%rdi), %rdx
+	xorq	%r15, %rdx
 	mulxq	%r12, %r12, %rdx
-	addq	%rcx, %r10
-	addq	%rdx, %r14
+	addq	%rcx, %r14
+	addq	%rdx, %r15
 	movq	32(%rdi), %rdx
 	xorq	%r11, %rdx
-	mulxq	%rbx, %rbx, %rcx
+	mulxq	%r10, %r10, %rcx
 	movq	56(%rdi), %rdx
 	addq	$64, %rdi
 	addq	$-64, %rsi
 	addq	%rcx, %r11
 	xorq	%r8, %rdx
-	mulxq	%r15, %r15, %rcx
+	mulxq	%rax, %rax, %rcx
 	addq	%rcx, %r8
+	movq	%r8, %rcx
 	cmpq	$128, %rsi
 	jb	.LBB10_10
 .LBB10_7:
-	movq	%r9, -8(%rsp)
+	movq	%r9, -16(%rsp)
 	.p2align	4
 .LBB10_8:
-	xorq	8(%rdi), %rax
-	xorq	%r11, %rax
+	movq	%rsi, -8(%rsp)
+	xorq	8(%rdi), %rbx
+	xorq	%r11, %rbx
 	xorq	16(%rdi), %r12
-	xorq	(%rdi), %rbx
-	xorq	%r10, %r12
-	xorq	24(%rdi), %r15
+	xorq	(%rdi), %r10
+	xorq	%r14, %r12
+	xorq	24(%rdi), %rax
 	movq	40(%rdi), %rdx
-	xorq	%r10, %rdx
-	mulxq	%rax, %rax, %r9
-	xorq	%r8, %rbx
-	addq	%r10, %r9
-	movq	48(%rdi), %rdx
 	xorq	%r14, %rdx
-	mulxq	%r12, %r12, %r10
+	mulxq	%rbx, %rbx, %r8
+	xorq	%rcx, %r10
+	addq	%r14, %r8
+	movq	48(%rdi), %rdx
+	xorq	%r15, %rdx
+	mulxq	%r12, %r12, %rsi
 	movq	32(%rdi), %rdx
 	xorq	%r11, %rdx
-	mulxq	%rbx, %rcx, %r13
-	xorq	%r14, %r15
-	addq	%r14, %r10
+	movq	%rcx, %r14
+	mulxq	%r10, %rcx, %r13
+	xorq	%r15, %rax
+	addq	%r15, %rsi
 	addq	%r11, %r13
 	movq	56(%rdi), %rdx
-	xorq	%r8, %rdx
-	mulxq	%r15, %r15, %rbp
-	addq	%r8, %rbp
-	xorq	72(%rdi), %rax
-	xorq	%r13, %rax
+	xorq	%r14, %rdx
+	mulxq	%rax, %r9, %rbp
+	addq	%r14, %rbp
+	xorq	72(%rdi), %rbx
+	xorq	%r13, %rbx
 	xorq	80(%rdi), %r12
 	xorq	64(%rdi), %rcx
-	xorq	%r9, %r12
-	xorq	88(%rdi), %r15
+	xorq	%r8, %r12
+	xorq	88(%rdi), %r9
 	movq	104(%rdi), %rdx
-	xorq	%r9, %rdx
-	mulxq	%rax, %rax, %r8
-	xorq	%r10, %r15
-	addq	%r9, %r8
+	xorq	%r8, %rdx
+	mulxq	%rbx, %rbx, %r14
+	xorq	%rsi, %r9
+	addq	%r8, %r14
 	movq	112(%rdi), %rdx
-	xorq	%r10, %rdx
-	mulxq	%r12, %r12, %r14
-	addq	%r10, %r14
-	movq	%r8, %r10
-	movq	96(%rdi), %r9
-	movq	120(%rdi), %r8
+	xorq	%rsi, %rdx
+	mulxq	%r12, %r12, %r15
+	addq	%rsi, %r15
+	movq	96(%rdi), %rsi
+	movq	120(%rdi), %rax
 	addq	$128, %rdi
 	xorq	%rbp, %rcx
-	xorq	%r13, %r9
+	xorq	%r13, %rsi
 	movq	%rcx, %rdx
-	mulxq	%r9, %rbx, %r11
-	xorq	%rbp, %r8
-	movq	%r8, %rdx
-	mulxq	%r15, %r15, %r8
+	mulxq	%rsi, %r10, %r11
+	xorq	%rbp, %rax
+	movq	%rax, %rdx
+	mulxq	%r9, %rax, %rcx
+	movq	-8(%rsp), %rsi
 	addq	$-128, %rsi
 	addq	%r13, %r11
-	addq	%rbp, %r8
+	addq	%rbp, %rcx
 	cmpq	$127, %rsi
 	ja	.LBB10_8
-	movq	-8(%rsp), %r9
-	cmpq	$8, %rsi
-	jae	.LBB10_12
-.LBB10_11:
-	xorl	%ecx, %ecx
-.LBB10_13:
-	xorq	%r15, %rbx
-	xorq	%r12, %rax
-	xorq	%rbx, %rax
-	xorq	%r8, %r11
-	xorq	%r14, %r10
-	xorq	%r11, %r10
-	cmpq	$16, %rsi
-	jb	.LBB10_17
-	xorq	(%rdi), %rax
+	movq	-16(%rsp), %r9
+.LBB10_10:
+	xorq	%r15, %r14
+	xorq	%r11, %rcx
+	xorq	%r14, %rcx
+	xorq	%r12, %rbx
 	xorq	%r10, %rax
+	xorq	%rbx, %rax
+	cmpq	$8, %rsi
+	jae	.LBB10_13
+	xorq	%rcx, %rax
+	xorq	%r9, %rax
+	movq	%rax, %rdx
+	movq	%rcx, %rax
+	mulxq	%rcx, %rdx, %rcx
+	jmp	.LBB10_12
+.LBB10_13:
+	movq	%rcx, %rdx
+	movl	%esi, %ecx
+	andl	$120, %ecx
+	movq	-8(%rdi,%rcx), %rcx
+	cmpq	$16, %rsi
+	jb	.LBB10_18
+	xorq	(%rdi), %rax
+	movq	%rdx, %r10
+	xorq	%rdx, %rax
 	movq	8(%rdi), %r8
-	xorq	%r10, %r8
+	xorq	%rdx, %r8
 	movq	%rax, %rdx
 	mulxq	%r8, %rax, %rdx
 	addq	%rdx, %r10
@@ -1175,6 +1185,8 @@
 	mulxq	%rdi, %rax, %rdx
 	addq	%rdx, %r10
 .LBB10_17:
+	movq	%r10, %rdx
+.LBB10_18:
 	movq	%rsi, %rdi
 	shlq	$60, %rdi
 	sarq	$63, %rdi
@@ -1182,11 +1194,13 @@
 	cmoveq	%r9, %rcx
 	andq	%r9, %rdi
 	xorq	%rax, %rcx
-	xorq	%r10, %rcx
-	xorq	%r10, %rdi
+	movq	%rdx, %rax
+	xorq	%rdx, %rcx
+	xorq	%rdx, %rdi
 	movq	%rcx, %rdx
 	mulxq	%rdi, %rdx, %rcx
-	addq	%r10, %rcx
+.LBB10_12:
+	addq	%rax, %rcx
 	xorq	%rcx, %rdx
 	mulxq	%rcx, %rdx, %rax
 	addq	%rcx, %rax

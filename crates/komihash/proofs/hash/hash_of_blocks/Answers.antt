@@ -1,7 +1,7 @@
 -- No whole word is left after the blocks.
 use Rattle.std.proofs.Common.{◌≡◌, [], ◌∷◌, ◌∙◌, true, ap, refl}
 use Rattle.komihash.specs.Rounds.{closing, join, lanes, seed_pair}
-use Rattle.komihash.specs.Storage.{block_lanes, end_byte, final_word, pair_of, whole_words}
+use Rattle.komihash.specs.Storage.{block_lanes, final_word, pair_of, whole_words}
 use Rattle.komihash.proofs.HashSteps.{komi_long}
 use Rattle.komihash.proofs.WholeWords.{whole_words-few}
 use Rattle.komihash.proofs.hash.hash_of_blocks.Goals as goal

@@ -17,13 +17,17 @@ returns-after-n-gt2 c =
     let are = AreBytes-typed bytes c.type_inv.bytes in
     let few = word_of-few bytes c.if-n-gt1.second c.if-n-gt2.third are (omega arith) (omega arith)
     (elim c.if-n-gt1.branch [
-      | then-n-gt1 w ↦ (λ _. w.second-is ∙ ap (λ b. b * 2 ^ 8 % 2 ^ 64) c.from-middle.ensures,
-          λ less. absurd (omega arith))
+      | then-n-gt1 w ↦ (
+        λ _. w.second-is ∙ ap (λ b. b * 2 ^ 8 % 2 ^ 64) c.from-middle.ensures,
+        λ less. absurd (omega arith),
+      )
       | else-n-gt1 w ↦ (λ more. absurd (omega arith), λ _. w.second-is)
     ])
     (elim c.if-n-gt2.branch [
-      | then-n-gt2 w ↦ (λ _. w.third-is ∙ ap (λ b. b * 2 ^ 16 % 2 ^ 64) c.from-last.ensures,
-          λ less. absurd (omega arith))
+      | then-n-gt2 w ↦ (
+        λ _. w.third-is ∙ ap (λ b. b * 2 ^ 16 % 2 ^ 64) c.from-last.ensures,
+        λ less. absurd (omega arith),
+      )
       | else-n-gt2 w ↦ (λ more. absurd (omega arith), λ _. w.third-is)
     ]) in
     rw (c.from.ensures, few)
