@@ -2,8 +2,8 @@
 # Checks that no other crate can make a stream or a hash of a version 3, or set a tally. Each file
 # in attacks/ tries one way to do so, and must be refused for the reason in its line 'Refused:'.
 #
-# A file .rt is the source of a crate above `komihash`, and a file .antt one of its proofs.
-# control.rt and control.antt do what is allowed, and must be accepted in the same way.
+# A file .rt.txt is the source of a crate above `komihash`, and a file .antt.txt one of its proofs.
+# control.rt.txt and control.antt.txt do what is allowed, and must be accepted in the same way.
 set -uo pipefail
 cd "$(dirname "$0")/.." || exit 1
 . scripts/cases.sh
@@ -20,8 +20,11 @@ crate_of() {
     mkdir -p "$crates/$1/src" "$crates/$1/proofs"
     echo "$1: komihash" >> "$room/root/crates.txt"
     cp "$2" "$crates/$1/src/lib.rt"
-    cp "${@:3}" "$crates/$1/proofs"
-    basename -s .antt "${@:3}" | sed 's/^/mod /' > "$crates/$1/proofs/Lib.antt"
+    local proof
+    for proof in $(basename -s .antt.txt "${@:3}"); do
+        cp "$attacks/$proof.antt.txt" "$crates/$1/proofs/$proof.antt"
+        echo "mod $proof" >> "$crates/$1/proofs/Lib.antt"
+    done
 }
 
 check() { (cd "$crates/$1" && rt check; echo "status $?") > "$crates/$1/told" 2>&1; }
@@ -34,7 +37,7 @@ is_accepted() {
 # is_refused ATTACK CRATE: whether the check of the crate refuses the attack for its reason.
 is_refused() {
     local at=src/lib.rt reason found
-    [ "$2" != proofs ] || at=proofs/${1##*/}
+    [ "$2" != proofs ] || at=proofs/$(basename "$1" .txt)
     reason=$(sed -n 's/^[-/!]* Refused: //p' "$1")
     found=$(grep -F "$at:" "$crates/$2/told" | grep ': error')
     printf '    wanted: %s\n    found: %s\n' "$reason" "${found:-no error}"
@@ -42,19 +45,19 @@ is_refused() {
 }
 
 attacks=scripts/attacks
-crate_of control $attacks/control.rt $attacks/control.antt
-crate_of proofs $attacks/control.rt $attacks/*.antt
-for attack in "$attacks"/*_*.rt; do
-    crate_of "$(basename "$attack" .rt)" "$attack" $attacks/control.antt
+crate_of control $attacks/control.rt.txt control.antt.txt
+crate_of proofs $attacks/control.rt.txt $attacks/*.antt.txt
+for attack in "$attacks"/*_*.rt.txt; do
+    crate_of "$(basename "$attack" .rt.txt)" "$attack" control.antt.txt
 done
 export -f check
 ls "$crates" | grep -vx komihash | xargs -P "$(nproc)" -I {} bash -c 'check {}'
 
 note 'what another crate may do is accepted' is_accepted control
 for attack in "$attacks"/*_*; do
-    name=$(basename "${attack%.*}")
+    name=$(basename "${attack%%.*}")
     crate=$name
-    [[ $attack == *.rt ]] || crate=proofs
+    [[ $attack == *.rt.txt ]] || crate=proofs
     note "${name//_/ }: refused" is_refused "$attack" "$crate"
 done
 counted
