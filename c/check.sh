@@ -15,11 +15,12 @@ sed -n '/^```c$/,/^```$/{/^```/!p;}' README.md > "$room/example.c"
 grep -o 'komihash_v[a-z0-9_]*(' komihash_rattle.h | tr -d '(' | sort > "$room/declared"
 for number in 4 5; do grep "^$number" ../docs/vectors.tsv; done > "$room/vectors"
 
-# A case that is skipped where its tool is missing: needs TOOL NAME COMMAND..
+# Whether a tool is there. Without it, a case is skipped: has TOOL NAME; needs TOOL NAME COMMAND..
+has() { command -v "$1" > "$room/case" || { skip "$2" "$1" && false; }; }
 needs() {
     tool=$1
     shift
-    if command -v "$tool" > "$room/case"; then note "$@"; else skip "$1" "$tool"; fi
+    ! has "$tool" "$1" || note "$@"
 }
 
 # Whether a command prints what a file has.
@@ -118,18 +119,16 @@ while read -r file; do
 done < "$room/libraries"
 
 note 'calls.c calls every function' prints "$room/declared" called
-for compiler in "$CC" $([ "$CROSS" ] || command -v clang); do
+for compiler in "$CC" $([ "$CROSS" ] || echo clang); do
+    has "$compiler" 'calls.c and the example in C' || continue
     cases_of_calls "$compiler" "$archive"
     cases_of_calls "$compiler" "$lib/$soname"
     example C "$compiler" -std=c11 "$room/example.c"
 done
 if [ ! "$CROSS" ]; then
-    for compiler in "$CXX" $(command -v clang++); do
-        if command -v "$compiler" > "$room/case"; then
-            example C++ "$compiler" -std=c++17 examples/example.cpp
-        else
-            skip 'the example in C++' "$compiler"
-        fi
+    for compiler in "$CXX" clang++; do
+        has "$compiler" 'the example in C++' || continue
+        example C++ "$compiler" -std=c++17 examples/example.cpp
     done
     needs rustc 'the example in Rust' by_rustc
     needs python3 'the example in Python' \

@@ -1,11 +1,16 @@
-/* komihash_rattle.h: komihash versions 4 and 5, a fast hash of 64 bits that is not cryptographic.
+/* SPDX-License-Identifier: MIT
+ * Copyright (c) 2026 the authors of komihash_rattle
+ *
+ * komihash_rattle.h: komihash versions 4 and 5, a fast hash of 64 bits that is not cryptographic.
  * Link with libkomihash_rattle. Each function exists for both versions: the names for version 4
- * begin with komihash_v4, those for version 5 with komihash_v5.
+ * begin with komihash_v4, those for version 5 with komihash_v5. Use version 5 for new data; version
+ * 4 is for hashes that exist already. Use neither where an attacker may choose the messages: it is
+ * easy to find many that have one hash, and a secret seed gives no security.
  *
  * For every call:
- * - `length` and `room` are the number of bytes, or of words of eight bytes, at the pointer that
- *   precedes them in the arguments. No array takes more than PTRDIFF_MAX bytes; the writes to one
- *   stream may add up to more.
+ * - `length` and `room` are the number of bytes at the pointer that precedes them in the arguments,
+ *   or of words if it points to words. No array takes more than PTRDIFF_MAX bytes; the writes to
+ *   one stream may add up to more.
  * - A pointer may be null only if the length or room after it is 0. `stream` and `rand` are never
  *   null.
  * - A pointer to words, a stream or a generator is aligned to eight bytes. One to bytes needs no
@@ -59,7 +64,7 @@ typedef struct {
 } komihash_v5_rand;
 
 /* Returns the hash of a message. Any seed will do: use 0 unless you need several hashes of one
- * message. A secret seed gives no security. */
+ * message. */
 uint64_t komihash_v4(const void *bytes, size_t length, uint64_t seed);
 uint64_t komihash_v5(const void *bytes, size_t length, uint64_t seed);
 
@@ -114,13 +119,14 @@ void komihash_v5_rand_fill(komihash_v5_rand *rand, void *out, size_t length);
 
 /* Writes the padded words of a message to the front of `out`, and returns their number, which is
  * length / 8 + 1. They are the words that the hash reads: different messages have different ones.
- * Returns 0, and writes nothing, if `out` has no room for them. */
+ * Returns 0, and writes nothing, if `out` has no room for them. `length` counts bytes, and `room`
+ * counts words. */
 size_t komihash_v4_pad(const void *bytes, size_t length, uint64_t *out, size_t room);
 size_t komihash_v5_pad(const void *bytes, size_t length, uint64_t *out, size_t room);
 
 /* Writes the message that has these padded words to the front of `out`, and returns its length.
  * Returns KOMIHASH_NONE, and writes nothing, if no message has them, or if `out` has fewer than
- * eight bytes for each word. */
+ * eight bytes for each word. `length` counts words, and `room` counts bytes. */
 size_t komihash_v4_unpad(const uint64_t *words, size_t length, void *out, size_t room);
 size_t komihash_v5_unpad(const uint64_t *words, size_t length, void *out, size_t room);
 
