@@ -1,182 +1,233 @@
-//! Compares the port with the Rust crate on random inputs. Padded words and saved texts, which the
-//! Rust crate lacks, are compared with rules.rs.
-use crate::input::{Input, Random};
-use crate::original::{OriginalFive, OriginalFour};
-use crate::port::{PortFive, PortFour};
-use crate::rows::is_v3;
-use crate::rules::{is_text, padded, text_without_lanes, unpadded};
-use crate::side::{OTHER_CALLS, Port, Side};
+//! Compares the calls of the library with those of the Rust crate. Saved texts and padded words,
+//! which the Rust crate lacks, are compared with rules that are written here once more.
+use crate::calls::{Calls, Generator, Stream, is_v3, sides};
+use crate::random::Random;
 use std::fmt::Debug;
 
 type Found = Result<(), String>;
 
-/// Tries cases up to the first difference, and returns whether there was none. Each case is drawn
-/// from the seed and its number.
-pub fn run(seed: u64, count: u64) -> bool {
-    for number in 0..count {
-        let mut random = Random(Random(seed).word() ^ number);
-        let input = Input::draw(&mut random);
-        let (version, found) = match number % 2 {
-            0 => (5, case::<PortFive, OriginalFive>(&input, &mut random)),
-            _ => (4, case::<PortFour, OriginalFour>(&input, &mut random)),
-        };
-        if let Err(difference) = found {
-            println!("case {number}, version {version}: {difference}\ninput: {input}");
-            println!("{number} passed, 1 failed");
-            return false;
+const SEEDS: [u64; 5] = [0, 1, u64::MAX, 0x5555_5555_5555_5555, 0x0123_4567_89ab_cdef];
+
+/// Bytes at the edges of what the padding depends on.
+const ENDS: [u8; 5] = [0x00, 0x01, 0x7f, 0x80, 0xff];
+
+/// A build of the library beside the Rust crate.
+struct Pair {
+    version: u8,
+    library: Calls,
+    rust_crate: Calls,
+}
+
+/// Compares every message of a small set, and random inputs. Returns the first difference.
+pub fn run(seed: u64, count: u64) -> Found {
+    let sides = sides();
+    let pairs = [(5, 0, 1), (4, 2, 3), (5, 4, 1), (4, 5, 3)];
+    for (version, ours, theirs) in pairs.into_iter().take(if is_v3() { 4 } else { 2 }) {
+        let (name, library) = sides[ours];
+        let pair = Pair { version, library, rust_crate: sides[theirs].1 };
+        let mut random = Random(seed);
+        pair.edges()
+            .and_then(|_| (0..count).try_for_each(|_| pair.random(&mut random)))
+            .map_err(|difference| format!("{name}: {difference}"))?;
+    }
+    Ok(())
+}
+
+fn same<T: PartialEq + Debug>(call: &str, wanted: T, got: T) -> Found {
+    if wanted == got { Ok(()) } else { Err(format!("{call}: wanted {wanted:x?}, got {got:x?}")) }
+}
+
+/// Returns a message whose blocks end in bytes below 128 and above.
+pub fn pattern(length: usize) -> Vec<u8> {
+    (0..length).map(|i| (7 * i + 3) as u8).collect()
+}
+
+/// Returns the padded words of a message: its bytes, its padding byte, and zeros; 0 for no bytes.
+fn padded(version: u8, bytes: &[u8]) -> Vec<u64> {
+    let Some(last) = bytes.last() else { return vec![0] };
+    let mut all = bytes.to_vec();
+    all.push(if version == 4 && *last >= 128 { 2 } else { 1 });
+    all.resize(8 * all.len().div_ceil(8), 0);
+    all.chunks(8).map(|eight| u64::from_le_bytes(eight.try_into().unwrap())).collect()
+}
+
+/// Returns the message that has these padded words, if there is one. It tries every length.
+fn unpadded(version: u8, words: &[u64]) -> Option<Vec<u8>> {
+    let all: Vec<u8> = words.iter().flat_map(|word| word.to_le_bytes()).collect();
+    let length = (0..=all.len()).find(|it| padded(version, &all[..*it]) == words)?;
+    Some(all[..length].to_vec())
+}
+
+/// Returns the text of the stream of a message but its lanes: four bytes, and the pending ones.
+fn text_without_lanes(version: u8, bytes: &[u8]) -> Vec<u8> {
+    let (blocks, pending) = bytes.split_at(bytes.len() - bytes.len() % 64);
+    let has_high_end = version == 4 && blocks.last().is_some_and(|last| *last >= 128);
+    let head = [version, u8::from(!blocks.is_empty()), u8::from(has_high_end), pending.len() as u8];
+    [&head, pending].concat()
+}
+
+impl Random {
+    /// Draws a length, mostly next to a multiple of 8, 16, 32 or 64.
+    fn length(&mut self) -> usize {
+        let unit = self.one_of(&[8, 16, 32, 64]);
+        let next = (unit * self.below(640 / unit) + self.below(3)).saturating_sub(1);
+        let (short, long) = (self.below(20), self.below(3000));
+        self.one_of(&[short, long, next, next, next, next])
+    }
+
+    fn number(&mut self) -> u64 {
+        let (word, seed) = (self.word(), self.one_of(&SEEDS));
+        self.one_of(&[seed, 1 << (word % 64), word, word])
+    }
+
+    fn bytes(&mut self, length: usize) -> Vec<u8> {
+        let are_ends = self.below(4) == 0;
+        let mut byte = |_| if are_ends { self.one_of(&ENDS) } else { self.word() as u8 };
+        let mut bytes: Vec<u8> = (0..length).map(&mut byte).collect();
+        if let Some(last) = bytes.last_mut().filter(|_| self.below(3) == 0) {
+            *last = self.one_of(&ENDS);
         }
+        bytes
     }
-    println!("{count} passed, 0 failed");
-    true
-}
 
-fn case<P: Port, O: Side>(input: &Input, random: &mut Random) -> Found {
-    hashes::<P, O>(input)?;
-    streams::<P, O>(input)?;
-    chains::<P, O>(input)?;
-    outputs::<P, O>(input, random.below(40))?;
-    fills::<P, O>(input)?;
-    generators::<P, O>(input)?;
-    pads::<P>(input, random)?;
-    unpads::<P>(input, random)?;
-    saves::<P, O>(input)?;
-    resumes::<P>(input, random)
-}
-
-fn same<T: PartialEq + Debug>(what: &str, wanted: T, got: T) -> Found {
-    if wanted == got { Ok(()) } else { Err(format!("{what}: wanted {wanted:x?}, got {got:x?}")) }
-}
-
-fn hashes<P: Port, O: Side>(input: &Input) -> Found {
-    let wanted = O::hash(input.bytes(), input.seed);
-    same("hash", wanted, P::hash(input.bytes(), input.seed))?;
-    if is_v3() {
-        same("hash, built for x86-64-v3", wanted, P::hash_v3(input.bytes(), input.seed))?;
+    /// Cuts a length into pieces, of which some may be 0.
+    fn pieces(&mut self, length: usize) -> Vec<usize> {
+        let (mut pieces, mut left) = (vec![0; self.below(2)], length);
+        let limit = self.one_of(&[2, 10, 70, 130, 700]);
+        while left > 0 {
+            let piece = if self.below(8) == 0 { 64 } else { self.below(limit) };
+            pieces.push(piece.min(left));
+            left -= piece.min(left);
+        }
+        pieces
     }
-    for (call, (name, takes_seed)) in OTHER_CALLS.into_iter().enumerate() {
-        let seed = if takes_seed { input.seed } else { 0 };
-        same(name, O::hash(input.bytes(), seed), P::hash_by(call, input.bytes(), seed))?;
+}
+
+impl Pair {
+    /// Compares messages that are cut twice, that have one bit, and that have each last byte.
+    fn edges(&self) -> Found {
+        for length in 0..=260 {
+            let bytes = pattern(length);
+            let cuts = (0..=length).flat_map(|it| (0..=it).map(move |first| (first, it - first)));
+            for (first, second) in cuts {
+                let pieces = [first, second, length - first - second];
+                self.message(&bytes, &pieces, SEEDS[second % 5])?;
+            }
+            for bit in 0..8 * length {
+                let mut bytes = vec![0; length];
+                bytes[bit / 8] = 1 << (bit % 8);
+                self.message(&bytes, &[length], SEEDS[bit % 5])?;
+            }
+            for last in 0..=255 {
+                self.message(&[&bytes[..], &[last]].concat(), &[length + 1], SEEDS[length % 5])?;
+            }
+        }
+        Ok(())
     }
-    Ok(())
-}
 
-fn streams<P: Port, O: Side>(input: &Input) -> Found {
-    let by = |stream: fn(&[u8], &[usize], &mut [u64], u64) -> u64| {
-        let mut answers = vec![0; input.answers];
-        (stream(input.bytes(), &input.pieces, &mut answers, input.seed), answers)
-    };
-    let wanted = by(O::stream);
-    same("stream, last answer and those before", &wanted, &by(P::stream))?;
-    same("calls, last answer and those before", &wanted, &by(P::calls))
-}
-
-fn chains<P: Port, O: Side>(input: &Input) -> Found {
-    let wanted = O::chain(input.bytes(), &input.pieces, input.seed);
-    same("chain", wanted, P::chain(input.bytes(), &input.pieces, input.seed))
-}
-
-fn outputs<P: Port, O: Side>(input: &Input, count: usize) -> Found {
-    let by = |outputs: fn(&mut [u64], u64, u64, u32)| {
-        let mut out = vec![0; count];
-        outputs(&mut out, input.s1, input.s2, input.start);
-        out
-    };
-    same("outputs", by(O::outputs), by(P::outputs))
-}
-
-fn fills<P: Port, O: Side>(input: &Input) -> Found {
-    let by = |fills: fn(&mut [u8], &[usize], u64, u64, u32) -> u64| {
-        let mut out = input.bytes().to_vec();
-        (fills(&mut out, &input.pieces, input.s1, input.s2, input.start), out)
-    };
-    same("fills, next output and bytes", by(O::fills), by(P::fills))
-}
-
-/// Fills of the pieces by a generator in memory, each with an output after it.
-fn generators<P: Side, O: Side>(input: &Input) -> Found {
-    let (s1, s2, start) = (input.s1, input.s2, input.start);
-    let (mut x, mut y) = (O::generator(s1, s2, start), P::generator(s1, s2, start));
-    for piece in &input.pieces {
-        let (mut wanted, mut got) = (vec![0; *piece], vec![0; *piece]);
-        O::next_bytes(&mut x, &mut wanted);
-        P::next_bytes(&mut y, &mut got);
-        same("fill of a generator in memory", wanted, got)?;
-        same("output of a generator in memory", O::next(&mut x), P::next(&mut y))?;
+    fn random(&self, random: &mut Random) -> Found {
+        let (offset, length) = (random.below(64), random.length());
+        let room = random.bytes(offset + length);
+        let (bytes, seed) = (&room[offset..], random.number());
+        self.message(bytes, &random.pieces(length), seed)?;
+        self.generators(random)?;
+        self.pads(bytes, random)?;
+        self.unpads(&bytes[..length.min(200)], random)
     }
-    Ok(())
-}
 
-fn pads<P: Port>(input: &Input, random: &mut Random) -> Found {
-    let words = padded(P::VERSION, input.bytes());
-    let mut wanted = vec![random.word(); words.len() + random.below(3)];
-    let mut out = wanted.clone();
-    wanted[..words.len()].copy_from_slice(&words);
-    let short = &mut out.clone()[..words.len() - 1];
-    same("pad with too little room", 0, P::pad(input.bytes(), short))?;
-    let count = P::pad(input.bytes(), &mut out);
-    same("pad, count and words", (words.len(), wanted), (count, out))
-}
-
-fn unpads<P: Port>(input: &Input, random: &mut Random) -> Found {
-    let bytes = &input.bytes()[..input.bytes().len().min(200)];
-    let mut words = padded(P::VERSION, bytes);
-    let at = random.below(words.len());
-    match random.below(6) {
-        0 => words.push(0),
-        1 => words[at] ^= 1 << random.below(64),
-        2 => words[at] = random.one_of(&[0, 1, 2, 3, 0x100, 0x180, 0x200, 0x201, 0x280]),
-        3 => drop(words.pop()),
-        _ => {}
+    /// Compares the hash, and the answers of streams.
+    fn message(&self, bytes: &[u8], pieces: &[usize], seed: u64) -> Found {
+        let hash = |calls: &Calls| (calls.hash)(bytes.into(), seed);
+        same("hash", hash(&self.rust_crate), hash(&self.library))
+            .and_then(|_| self.streams(bytes, pieces, seed))
+            .map_err(|it| format!("{it}\nseed {seed:#x}, pieces {pieces:?}, message {bytes:x?}"))
     }
-    let message = unpadded(P::VERSION, &words);
-    let mut wanted = vec![0x5a; 8 * words.len() + random.below(9)];
-    let mut out = wanted.clone();
-    if let Some(message) = &message {
-        wanted[..message.len()].copy_from_slice(message);
-    }
-    let got = P::unpad(&words, &mut out);
-    same(
-        &format!("unpad {words:x?}, length and bytes"),
-        (message.map(|it| it.len()), wanted),
-        (got, out),
-    )
-}
 
-/// The saved text of the stream after the whole message, piece by piece.
-fn saved<P: Port>(input: &Input) -> Vec<u8> {
-    let mut stream = P::start(input.seed);
-    for part in input.parts() {
-        P::write(&mut stream, part);
+    /// Compares the answers after each piece, of a stream and of one that is saved and resumed
+    /// after each piece.
+    fn streams(&self, bytes: &[u8], pieces: &[usize], seed: u64) -> Found {
+        let mut wanted = (self.rust_crate.start)(seed);
+        let mut streams = [(self.library.start)(seed); 2];
+        let mut length = 0;
+        for piece in pieces {
+            let part = &bytes[length..length + piece];
+            length += piece;
+            (self.rust_crate.write)(&mut wanted, part.into());
+            for stream in &mut streams {
+                (self.library.write)(stream, part.into());
+                same("finish", (self.rust_crate.finish)(&wanted), (self.library.finish)(stream))?;
+            }
+            let [mut text, resumed] = streams.each_ref().map(|it| self.saved(it));
+            same("save of a resumed stream", &text, &resumed)?;
+            let got = text.get(68..).map(|pending| [&text[..4], pending].concat());
+            same("save", Some(text_without_lanes(self.version, &bytes[..length])), got)?;
+            streams[1] = (self.library.start)(!seed);
+            same("resume", true, (self.library.resume)(&mut streams[1], (&text).into()))?;
+            text[0] = 9 - self.version;
+            let is_resumed = (self.library.resume)(&mut streams[1], (&text).into());
+            same("resume of the other version's text", false, is_resumed)?;
+        }
+        Ok(())
     }
-    P::save(&stream)
-}
 
-fn saves<P: Port, O: Side>(input: &Input) -> Found {
-    let saved = saved::<P>(input);
-    let wanted = O::hash(input.bytes(), input.seed);
-    same("answer of a resumed stream", Some(wanted), P::resume(&saved).as_ref().map(P::finish))?;
-    same("length of a saved text", 68 + input.bytes().len() % 64, saved.len())?;
-    let shown = [&saved[..4], &saved[68..]].concat();
-    same("saved text but its lanes", text_without_lanes(P::VERSION, input.bytes()), shown)?;
-    let mut text = [0; 131];
-    same("answer after two texts", wanted, P::saves(input.bytes(), &mut text, 2, input.seed))
-}
-
-fn resumes<P: Port>(input: &Input, random: &mut Random) -> Found {
-    let mut text = saved::<P>(input);
-    let at = random.below(text.len());
-    match random.below(6) {
-        0 => text.truncate(random.below(132)),
-        1 => text.push(random.word() as u8),
-        2 => drop(text.pop()),
-        3 => text[random.below(4)] = random.one_of(&[0, 1, 2, 4, 5, 6, 63, 64, 128, 255]),
-        4 => text[at] = random.word() as u8,
-        _ => {}
+    fn saved(&self, stream: &Stream) -> Vec<u8> {
+        let mut text = vec![0; 131];
+        let length = (self.library.save)(stream, (&mut text).into());
+        text.truncate(length);
+        text
     }
-    let Some(mut stream) = P::resume(&text) else {
-        return same(&format!("resume {text:x?}"), is_text(P::VERSION, &text), false);
-    };
-    same(&format!("resume {text:x?}"), is_text(P::VERSION, &text), true)?;
-    P::write(&mut stream, &[]);
-    same("text after a write of nothing", text, P::save(&stream))
+
+    fn generators(&self, random: &mut Random) -> Found {
+        let (s1, s2, kind) = (random.number(), random.number(), random.below(3));
+        let start = |calls: &Calls| match kind {
+            0 => (calls.rand_init)(s1),
+            1 => (calls.rand_init_with_extra_seed)(s1, s2),
+            _ => (calls.rand_init_words)(s1, s2),
+        };
+        let (mut wanted, mut got) = (start(&self.rust_crate), start(&self.library));
+        for _ in 0..random.below(8) {
+            let (offset, length) = (random.below(9), random.length());
+            let fill = |calls: &Calls, rand: &mut Generator| {
+                let mut out = vec![0; offset + length + 9];
+                (calls.rand_fill)(rand, (&mut out[offset..offset + length]).into());
+                ((calls.rand_next)(rand), out)
+            };
+            let name = format!("output after a fill of generator {kind} of {s1:#x} and {s2:#x}");
+            same(&name, fill(&self.rust_crate, &mut wanted), fill(&self.library, &mut got))?;
+        }
+        Ok(())
+    }
+
+    fn pads(&self, bytes: &[u8], random: &mut Random) -> Found {
+        let words = padded(self.version, bytes);
+        let mut out = vec![random.word(); words.len() + random.below(4) - 1];
+        let mut wanted = (0, out.clone());
+        if out.len() >= words.len() {
+            wanted.0 = words.len();
+            wanted.1[..words.len()].copy_from_slice(&words);
+        }
+        let count = (self.library.pad)(bytes.into(), (&mut out).into());
+        same(&format!("pad {bytes:x?}"), wanted, (count, out))
+    }
+
+    fn unpads(&self, bytes: &[u8], random: &mut Random) -> Found {
+        let mut words = padded(self.version, bytes);
+        let at = random.below(words.len());
+        match random.below(6) {
+            0 => words.push(0),
+            1 => words[at] ^= 1 << random.below(64),
+            2 => words[at] = random.one_of(&[0, 1, 2, 3, 0x100, 0x180, 0x200, 0x201, 0x280]),
+            3 => drop(words.pop()),
+            _ => {}
+        }
+        let mut out = vec![0x5a; (8 * words.len() + random.below(4)).saturating_sub(1)];
+        let mut wanted = (usize::MAX, out.clone());
+        let message = unpadded(self.version, &words);
+        if let Some(message) = message.filter(|_| out.len() >= 8 * words.len()) {
+            wanted.0 = message.len();
+            wanted.1[..message.len()].copy_from_slice(&message);
+        }
+        let length = (self.library.unpad)((&words).into(), (&mut out).into());
+        same(&format!("unpad {words:x?}"), wanted, (length, out))
+    }
 }

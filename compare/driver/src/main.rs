@@ -1,51 +1,34 @@
-//! The port beside the Rust crate: see ../README.md.
-mod answers;
-mod count;
-mod edges;
+//! The library for C beside the Rust crate: see ../README.md.
+mod calls;
 mod fuzz;
-mod input;
-mod original;
-mod peers;
-mod port;
+mod random;
 mod rows;
-mod rules;
-mod side;
-mod time;
 
-use rows::Measure;
-use std::process::ExitCode;
-
-fn main() -> ExitCode {
+fn main() {
     let arguments: Vec<String> = std::env::args().skip(1).collect();
     let arguments: Vec<&str> = arguments.iter().map(String::as_str).collect();
-    match run(&arguments) {
-        Some(true) => ExitCode::SUCCESS,
-        Some(false) => ExitCode::FAILURE,
-        None => {
-            eprintln!(
-                "usage: answers | edges | fuzz SEED N | bench REPEATS WORD | count | peers REPEATS"
-            );
-            ExitCode::from(2)
-        }
+    let number = |text: &str| text.parse().expect("a number");
+    match arguments[..] {
+        ["bench", repeats, word] => rows::run(number(repeats), word),
+        ["answers"] => answers(),
+        ["fuzz", seed, count] => match fuzz::run(number(seed), number(count)) {
+            Ok(()) => println!("There is no difference."),
+            Err(difference) => panic!("{difference}"),
+        },
+        _ => panic!("usage: bench REPEATS WORD | answers | fuzz SEED N"),
     }
 }
 
-/// Returns whether nothing failed, or `None` if the arguments ask for nothing.
-fn run(arguments: &[&str]) -> Option<bool> {
-    match *arguments {
-        ["answers"] => answers::print(),
-        ["bench", repeats, word] => {
-            rows::measure(Measure::Time { repeats: positive(repeats)? }, word)
-        }
-        ["count"] => rows::measure(Measure::Count, ""),
-        ["peers", repeats] => peers::run(positive(repeats)?),
-        ["edges"] => return Some(edges::run()),
-        ["fuzz", seed, count] => return Some(fuzz::run(seed.parse().ok()?, count.parse().ok()?)),
-        _ => return None,
+/// Prints the sums of `crates/komihash/src/tests/hash.rt`, by the Rust crate: for each seed, those
+/// of versions 4 and 5.
+fn answers() {
+    let [_, (_, five), _, (_, four), ..] = calls::sides();
+    let message = fuzz::pattern(300);
+    for seed in [0, u64::MAX, 0x1d5c_8e2b_60f3_97a4] {
+        let sums = [four, five].map(|calls| {
+            let hashes = (0..=300).map(|length| (calls.hash)(message[..length].into(), seed));
+            hashes.fold(0u64, |sum, hash| sum.rotate_left(1) ^ hash)
+        });
+        println!("{seed:#x}: {:#018x}, {:#018x}", sums[0], sums[1]);
     }
-    Some(true)
-}
-
-fn positive(number: &str) -> Option<u64> {
-    number.parse().ok().filter(|it| *it > 0)
 }
