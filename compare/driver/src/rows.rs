@@ -5,7 +5,7 @@ use crate::random::Random;
 use std::hint::black_box;
 use std::time::{Duration, Instant};
 
-/// A batch takes half of this time or more.
+/// A batch takes half of this time or more. Three must, lest an interrupt make one seem long.
 const BATCH: Duration = Duration::from_micros(60);
 
 struct Rows<'a> {
@@ -71,7 +71,7 @@ impl Rows<'_> {
         }
         let mut calls: Vec<F> = columns.iter().map(|(_, it)| call_of(*it)).collect();
         let mut count = 1;
-        while time(count, &mut calls[0]) < BATCH / 2 {
+        while (0..3).any(|_| time(count, &mut calls[0]) < BATCH / 2) {
             count *= 2;
         }
         let mut least = vec![Duration::MAX; calls.len()];
