@@ -4,7 +4,7 @@ mod Bounds
 mod CallLists
 mod GeneratorFills
 mod HashSteps
-mod LawLemmas
+pub mod LawLemmas
 mod Lists
 mod PaddedWords
 mod PendingBlocks

@@ -24,12 +24,6 @@ use crate::stream::LONGEST_TEXT;
 
 // ---- Hashes, seeds and padded words
 
-/// Proves that every hash is a word, below 2^64. Those who store hashes as eight bytes and read
-/// them back need it.
-pub fn hash_bound()
-    ensures { (v seed : ℕ) (m : List ℕ) → komi v seed m < 2 ^ 64 }
-{}
-
 /// Proves that the two words that a seed is made into give the seed back, so no two seeds share
 /// both of their words. Those who derive seeds and need them distinct need it.
 pub fn seed_back()
@@ -67,27 +61,11 @@ pub fn empty_write()
         number_after v number ([] ∷ writes) ≡ number_after v (komi v number []) writes }
 {}
 
-/// Proves that streams from one seed that absorbed equal bytes, however cut, are in equal states
-/// and have equal saved texts. Those who compare streams or their texts need it.
-pub fn same_bytes()
-    ensures state { (v seed : ℕ) (s t : State) (m : List ℕ) → HasAbsorbed v seed s m →
-        HasAbsorbed v seed t m → s ≡ t }
-    ensures text { (v seed : ℕ) (m x y : List ℕ) → IsTextAfter v seed m x →
-        IsTextAfter v seed m y → x ≡ y }
-{}
-
 /// Proves that a stream that has absorbed n bytes has n modulo 64 of them pending. What its calls
 /// cost depends on this number alone, so a loop of writes that states its cost needs it.
 pub fn pending_remainder()
     ensures { (v seed : ℕ) (s : State) (m : List ℕ) → HasAbsorbed v seed s m →
         length s.pending ≡ length m % 64 }
-{}
-
-/// Proves that a hasher's writes can be cut anywhere: the number after all of them is the one that
-/// the later writes lead to from the number after the earlier ones. A loop of writes needs it.
-pub fn chain_cut()
-    ensures { (v number : ℕ) (x y : List (List ℕ)) →
-        number_after v number (x ++ y) ≡ number_after v (number_after v number x) y }
 {}
 
 // ---- Saved texts
@@ -99,13 +77,6 @@ pub fn saved_once()
         text v s ≡ text w t → v ≡ w }
     ensures state { (v w : ℕ) (s t : State) → IsState v s → IsState w t →
         text v s ≡ text w t → s ≡ t }
-{}
-
-/// Proves that the saved text of a stream has at most `LONGEST_TEXT` bytes. Those who copy one into
-/// a slot of this size need it.
-pub fn text_bound()
-    ensures { (v seed : ℕ) (m bytes : List ℕ) → IsTextAfter v seed m bytes →
-        length bytes ≤ LONGEST_TEXT }
 {}
 
 // ---- Lists of calls
@@ -140,23 +111,6 @@ pub fn step_by_step()
         after_steps v (n + 1) s ≡ next v (after_steps v n s) }
     ensures outputs { (v n : ℕ) (s : ℕ × ℕ) →
         outputs v (n + 1) s ≡ outputs v n s ++ (next v (after_steps v n s)).0 ∷ [] }
-{}
-
-/// Proves that a generator's steps can be cut anywhere: m + n steps are m steps and then n. Those
-/// who draw numbers in parts need it.
-pub fn steps_cut()
-    ensures pair { (v m n : ℕ) (s : ℕ × ℕ) →
-        after_steps v (m + n) s ≡ after_steps v n (after_steps v m s) }
-    ensures outputs { (v m n : ℕ) (s : ℕ × ℕ) →
-        outputs v (m + n) s ≡ outputs v m s ++ outputs v n (after_steps v m s) }
-{}
-
-/// Proves that n steps output n numbers, and that the one at index k is what `next` returns after k
-/// steps. Those who take single numbers from a list of outputs need it.
-pub fn each_output()
-    ensures length { (v n : ℕ) (s : ℕ × ℕ) → length (outputs v n s) ≡ n }
-    ensures output { (v n k : ℕ) (s : ℕ × ℕ) → k < n →
-        slice_index (outputs v n s) k ≡ (next v (after_steps v k s)).0 }
 {}
 
 /// Proves that a fill of x bytes and then one of y bytes write what one fill of x + y bytes writes,

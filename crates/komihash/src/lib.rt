@@ -15,7 +15,6 @@
 
 pub use v5::{KomiHasher, Komirand, StreamedKomihash, komihash};
 
-mod exports;
 mod generator;
 mod hash;
 mod hasher;

@@ -1,0 +1,13 @@
+use Rattle.std.proofs.Common.{◌≤◌, take}
+use Rattle.std.specs.List.{flat_map}
+use Rattle.komihash.specs.Saved.{IsTextAfter}
+use Rattle.examples.proofs.checkpoints.upload.Given as goal
+
+-- the checkpoint is that of the parts so far
+abbrev pub invariant-loop-part : goal.invariant-loop-part
+invariant-loop-part l = record {
+  most : l.count ≤ 131;
+  saved :
+      IsTextAfter 5 l.seed (flat_map (λ part. part.now) (take l.part-index l.parts))
+      (take l.count l.checkpoint);
+}

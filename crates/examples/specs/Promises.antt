@@ -1,0 +1,41 @@
+-- What a stream promises, whether a method of its type is called or one of the trait.
+use Rattle.std.specs.Prelude.{ℕ, ◌≡◌, ◌≤◌, ◌↔◌, List, [], ◌++◌, length, take, drop}
+use Rattle.std.specs.Prelude.{Option, IfSome, IsSomeAnd, IsNone}
+use Rattle.komihash.specs.Hash.{komi}
+use Rattle.komihash.specs.Saved.{text, IsText, IsTextAfter}
+use Rattle.komihash.specs.Stream.{State, IsState, HasAbsorbed, start, absorb, answer}
+
+-- the state is that of the new stream of a seed
+pub record IsNew (v seed : ℕ) (s : State) : Type 0 where
+  pub state : s ≡ start seed
+  pub message : HasAbsorbed v seed s []
+
+-- a write of bytes leads from the state s to the state t
+pub record Writes (v : ℕ) (s t : State) (bytes : List ℕ) : Type 0 where
+  pub state : t ≡ absorb v s bytes
+  pub message : (seed : ℕ) (m : List ℕ) → HasAbsorbed v seed s m → HasAbsorbed v seed t (m ++ bytes)
+
+-- the number is what a stream in this state answers
+pub record Answers (v : ℕ) (s : State) (number : ℕ) : Type 0 where
+  pub state : number ≡ answer v s
+  pub message : (seed : ℕ) (m : List ℕ) → HasAbsorbed v seed s m → number ≡ komi v seed m
+
+-- the first n bytes become the saved text of the state, and the rest is unchanged
+pub record Saves (v : ℕ) (s : State) (n : ℕ) (old new : List ℕ) : Type 0 where
+  pub count : n ≡ length (text v s)
+  pub most : n ≤ 131
+  pub saved : take n new ≡ text v s
+  pub message : (seed : ℕ) (m : List ℕ) → HasAbsorbed v seed s m → IsTextAfter v seed m (take n new)
+  pub rest : drop n new ≡ drop n old
+
+-- the result is the stream whose saved text the bytes are, or none if they are the text of none
+pub record Resumes (A : Type 0) (state : A → State) (v : ℕ) (bytes : List ℕ) (result : Option A)
+    : Type 0 where
+  pub saved : IfSome result (λ stream. text v (state stream) ≡ bytes)
+  pub most : IfSome result (λ _. length bytes ≤ 131)
+  pub same :
+      (s : State) → IsState v s → text v s ≡ bytes → IsSomeAnd result (λ stream. state stream ≡ s)
+  pub message :
+      (seed : ℕ) (m : List ℕ) → IsTextAfter v seed m bytes
+      → IsSomeAnd result (λ stream. HasAbsorbed v seed (state stream) m)
+  pub none : IsNone result ↔ ¬ IsText v bytes

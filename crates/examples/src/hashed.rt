@@ -1,0 +1,64 @@
+//! Hashes of values of any type that implements `Hash`, and maps that hash their keys.
+
+ghost use Rattle.std.specs.Prelude.{◌≡◌, IfOk, fold};
+ghost use Rattle.std.specs.Hash.{le_bytes};
+ghost use Rattle.komihash.specs.Hash.{komi};
+
+use komihash::KomiHasher;
+use std::alloc::{AllocFailed, Global};
+use std::collections::HashMap;
+use std::hash::{BuildHasher, Hash, Hasher};
+
+/// Hashes a value. Each of its writes is hashed with the hash so far as the seed.
+pub fn hash_of<T: Hash>(value: &T) -> u64
+    ensures { result ≡ fold (komi 5) 0 (T.hash_input value.now) }
+{
+    let mut hasher = KomiHasher::default();
+    value.hash(&mut hasher);
+    hasher.finish()
+}
+
+/// A point. Its derived `Hash` writes each number once.
+#[derive(Clone, Copy, PartialEq, Eq, Hash)]
+pub struct Point {
+    pub x: u32,
+    pub y: u64,
+}
+
+/// Hashes a point.
+pub fn hash_of_point(point: &Point) -> u64
+    ensures { result ≡ komi 5 (komi 5 0 (le_bytes 4 point.now.x)) (le_bytes 8 point.now.y) }
+{
+    hash_of(point)
+}
+
+/// Makes a hasher of a seed for each key. A map takes it in place of the standard library's
+/// `BuildHasherDefault<KomiHasher>`, which needs a hasher that is `Copy`.
+#[derive(Clone, Copy)]
+pub struct Seeded {
+    pub seed: u64,
+}
+
+impl BuildHasher for Seeded {
+    type Hasher = KomiHasher;
+
+    ghost build_hasher = { λ seeded. seeded.seed };
+
+    fn build_hasher(&self) -> KomiHasher {
+        KomiHasher::new(self.seed)
+    }
+}
+
+/// Puts a value under a point into a new map, and returns what the map then has under it.
+pub fn put_and_get(
+    alloc: Global,
+    seed: u64,
+    point: Point,
+    value: u64,
+) -> Result<Option<u64>, AllocFailed<(Point, u64)>>
+    ensures { IfOk result (λ found. found ≡ Some value) }
+{
+    let mut map = HashMap::with_hasher(alloc, Seeded { seed });
+    map.insert(point, value)?;
+    Ok(map.get(&point).copied())
+}

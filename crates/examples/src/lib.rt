@@ -1,0 +1,17 @@
+//! Callers of `komihash`, one file for each subject, and its promises as a caller proves them.
+#![tactic(auto)]
+
+pub mod calls;
+pub mod checkpoints;
+pub mod costs;
+pub mod hashed;
+pub mod laws;
+pub mod lists;
+pub mod pieces;
+pub mod promises;
+pub mod readers;
+pub mod samples;
+pub mod shards;
+pub mod stores;
+#[cfg(test)]
+mod tests;

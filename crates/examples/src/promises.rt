@@ -1,0 +1,281 @@
+//! The promises of `komihash` in both versions, stated again and proved from its public contracts
+//! alone. If a contract no longer says what a promise needs, this file is no longer proved.
+
+ghost use Rattle.std.specs.Prelude.{◌≡◌, ◌+◌, ◌*◌, ◌/◌, ◌%◌, ◌≤◌, ◌↔◌, ◌⊎◌, ◌++◌, ◌∷◌, []};
+ghost use Rattle.std.specs.Prelude.{ℕ, List, length, take, drop, IfSome, IfNone, IsNone, IsSomeAnd};
+ghost use Rattle.komihash.specs.Calls.{AreAbsorbs, answers, answers_after, onward, bytes_of_calls};
+ghost use Rattle.komihash.specs.Calls.{onward_products, onward_kept, run_products, run_kept};
+ghost use Rattle.komihash.specs.Counts.{write_products, answer_products, kept_bytes};
+ghost use Rattle.komihash.specs.Generator.{next, after_steps, fill, after_fill};
+ghost use Rattle.komihash.specs.Hash.{komi};
+ghost use Rattle.komihash.specs.Padding.{ArePadded, padded_words};
+ghost use Rattle.komihash.specs.Stream.{IsState, HasAbsorbed};
+ghost use Rattle.komihash.specs.Words.{AreBytes};
+ghost use Rattle.komihash.specs.declared.stream.Call.{Call};
+ghost use Rattle.komihash.specs.declared.stream.Call.TheVariants.{Answer};
+ghost use Rattle.examples.specs.Promises.{IsNew, Writes, Answers, Saves, Resumes};
+
+use komihash::stream::{Call, KomiStream, LONGEST_TEXT, run, run_on};
+use komihash::tally::Tally;
+use komihash::{laws, v4, v5};
+use std::hash::Hasher;
+
+/// The promises of a version, for the methods of its stream, and for what stands beside it.
+pub trait Promises: KomiStream {
+    /// Returns the new stream of a seed, and the two of seed 0.
+    fn new_streams(seed: u64) -> (Self, Self, Self)
+        ensures seed { IsNew Self.VERSION seed (Self.state result.0) }
+        ensures new { IsNew Self.VERSION 0 (Self.state result.1) }
+        ensures default { IsNew Self.VERSION 0 (Self.state result.2) };
+
+    /// Writes bytes to the stream, and returns the hash of all bytes so far.
+    fn written(&mut self, bytes: &[u8]) -> u64
+        ensures write { Writes Self.VERSION (Self.state self.old) (Self.state self.new) bytes.now }
+        ensures finish { Answers Self.VERSION (Self.state self.new) result };
+
+    /// Writes the saved text of the stream to the front of `out`.
+    fn saved(&self, out: &mut [u8]) -> usize
+        requires { LONGEST_TEXT ≤ length out.old }
+        ensures { Saves Self.VERSION (Self.state self.now) result out.old out.new };
+
+    /// Returns the stream of a saved text, and accepts nothing else.
+    fn resumed(bytes: &[u8]) -> Option<Self>
+        ensures { Resumes _ Self.state Self.VERSION bytes.now result };
+
+    /// Returns the hash of a message twice. The second is counted, and copies no byte.
+    fn hashed(bytes: &[u8], seed: u64, tally: &mut Tally) -> (u64, u64)
+        ensures hash { result.0 ≡ komi Self.VERSION seed bytes.now }
+        ensures counted { result.1 ≡ komi Self.VERSION seed bytes.now }
+        ensures products { tally.new.products ≡ tally.old.products
+            + (3 + 4 * (length bytes.now / 64) + length bytes.now % 64 / 16) }
+        ensures kept { tally.new.kept ≡ tally.old.kept };
+
+    /// Writes the padded words of a message to the front of `out`.
+    fn padded(bytes: &[u8], out: &mut [u64]) -> usize
+        requires { length bytes.now / 8 + 1 ≤ length out.old }
+        ensures count { result ≡ length bytes.now / 8 + 1 }
+        ensures padded { take result out.new ≡ padded_words Self.VERSION bytes.now }
+        ensures rest { drop result out.new ≡ drop result out.old };
+
+    /// Writes the message that has these padded words, and accepts no other words.
+    fn unpadded(words: &[u64], out: &mut [u8]) -> Option<usize>
+        requires { 8 * length words.now ≤ length out.old }
+        ensures length { IfSome result (λ n. n / 8 + 1 ≡ length words.now) }
+        ensures message { IfSome result
+            (λ n. padded_words Self.VERSION (take n out.new) ≡ words.now) }
+        ensures rest { IfSome result (λ n. drop n out.new ≡ drop n out.old) }
+        ensures same { (m : List ℕ) → AreBytes m → padded_words Self.VERSION m ≡ words.now
+            → IsSomeAnd result (λ n. take n out.new ≡ m) }
+        ensures none { IsNone result ↔ ¬ ArePadded Self.VERSION words.now }
+        ensures unchanged { IfNone result (out.new ≡ out.old) };
+
+    /// Returns the words of the generators of a seed and of two seeds. Takes a step from the words
+    /// `s1` and `s2`, fills the buffer, and returns the output and the words.
+    fn drawn(s1: u64, s2: u64, buffer: &mut [u8]) -> ((u64, u64), (u64, u64), u64, (u64, u64))
+        ensures one { result.0 ≡ after_steps Self.VERSION 4 (s1, s1) }
+        ensures two { result.1 ≡ after_steps Self.VERSION 4 (s1, s2) }
+        ensures output { result.2 ≡ (next Self.VERSION (s1, s2)).0 }
+        ensures bytes { buffer.new
+            ≡ fill Self.VERSION (next Self.VERSION (s1, s2)) (length buffer.old) }
+        ensures pair { result.3
+            ≡ after_fill Self.VERSION (next Self.VERSION (s1, s2)) (length buffer.old) };
+
+    /// Returns the numbers of the hasher of a number and of the default one, after a write.
+    fn chained(number: u64, bytes: &[u8]) -> (u64, u64)
+        ensures chain { result.0 ≡ komi Self.VERSION number bytes.now }
+        ensures default { result.1 ≡ komi Self.VERSION 0 bytes.now };
+}
+
+impl Promises for v4::StreamedKomihash {
+    fn new_streams(seed: u64) -> (Self, Self, Self) {
+        (Self::new_with_seed(seed), Self::new(), Self::default())
+    }
+
+    fn written(&mut self, bytes: &[u8]) -> u64 {
+        self.write(bytes);
+        self.finish()
+    }
+
+    fn saved(&self, out: &mut [u8]) -> usize {
+        self.save(out)
+    }
+
+    fn resumed(bytes: &[u8]) -> Option<Self> {
+        Self::resume(bytes)
+    }
+
+    fn hashed(bytes: &[u8], seed: u64, tally: &mut Tally) -> (u64, u64) {
+        let hash = v4::komihash(bytes, seed);
+        (hash, v4::komihash_counted(bytes, seed, tally))
+    }
+
+    fn padded(bytes: &[u8], out: &mut [u64]) -> usize {
+        v4::pad(bytes, out)
+    }
+
+    fn unpadded(words: &[u64], out: &mut [u8]) -> Option<usize> {
+        v4::unpad(words, out)
+    }
+
+    fn drawn(s1: u64, s2: u64, buffer: &mut [u8]) -> ((u64, u64), (u64, u64), u64, (u64, u64)) {
+        let one = v4::Komirand::init(s1);
+        let two = v4::Komirand::init_with_extra_seed(s1, s2);
+        let mut generator = v4::Komirand::new(s1, s2);
+        let output = generator.next();
+        generator.fill_bytes(buffer);
+        (one.words(), two.words(), output, generator.words())
+    }
+
+    fn chained(number: u64, bytes: &[u8]) -> (u64, u64) {
+        let mut hasher = v4::KomiHasher::new(number);
+        let mut default = v4::KomiHasher::default();
+        hasher.write(bytes);
+        default.write(bytes);
+        (hasher.finish(), default.finish())
+    }
+}
+
+impl Promises for v5::StreamedKomihash {
+    fn new_streams(seed: u64) -> (Self, Self, Self) {
+        (Self::new_with_seed(seed), Self::new(), Self::default())
+    }
+
+    fn written(&mut self, bytes: &[u8]) -> u64 {
+        self.write(bytes);
+        self.finish()
+    }
+
+    fn saved(&self, out: &mut [u8]) -> usize {
+        self.save(out)
+    }
+
+    fn resumed(bytes: &[u8]) -> Option<Self> {
+        Self::resume(bytes)
+    }
+
+    fn hashed(bytes: &[u8], seed: u64, tally: &mut Tally) -> (u64, u64) {
+        let hash = v5::komihash(bytes, seed);
+        (hash, v5::komihash_counted(bytes, seed, tally))
+    }
+
+    fn padded(bytes: &[u8], out: &mut [u64]) -> usize {
+        v5::pad(bytes, out)
+    }
+
+    fn unpadded(words: &[u64], out: &mut [u8]) -> Option<usize> {
+        v5::unpad(words, out)
+    }
+
+    fn drawn(s1: u64, s2: u64, buffer: &mut [u8]) -> ((u64, u64), (u64, u64), u64, (u64, u64)) {
+        let one = v5::Komirand::init(s1);
+        let two = v5::Komirand::init_with_extra_seed(s1, s2);
+        let mut generator = v5::Komirand::new(s1, s2);
+        let output = generator.next();
+        generator.fill_bytes(buffer);
+        (one.words(), two.words(), output, generator.words())
+    }
+
+    fn chained(number: u64, bytes: &[u8]) -> (u64, u64) {
+        let mut hasher = v5::KomiHasher::new(number);
+        let mut default = v5::KomiHasher::default();
+        hasher.write(bytes);
+        default.write(bytes);
+        (hasher.finish(), default.finish())
+    }
+}
+
+/// Shows that the names of the root are those of version 5.
+pub fn by_the_names_of_the_root(
+    bytes: &[u8],
+    stream: komihash::StreamedKomihash,
+    hasher: komihash::KomiHasher,
+    generator: komihash::Komirand,
+) -> (u64, v5::StreamedKomihash, v5::KomiHasher, v5::Komirand)
+    ensures { result.0 ≡ komi 5 0 bytes.now }
+{
+    (komihash::komihash(bytes, 0), stream, hasher, generator)
+}
+
+/// Returns a new stream and a new tally, at the cost of one product.
+pub fn started<S: KomiStream>(seed: u64) -> (S, Tally)
+    ensures version { (S.VERSION ≡ 4) ⊎ (S.VERSION ≡ 5) }
+    ensures state { IsState S.VERSION (S.state result.0) }
+    ensures start { IsNew S.VERSION seed (S.state result.0) }
+    ensures products { result.1.products ≡ 1 }
+    ensures kept { result.1.kept ≡ 0 }
+{
+    let mut tally = Tally::new();
+    (S::start(seed, &mut tally), tally)
+}
+
+/// Absorbs bytes, and answers. Counts the products and the copied bytes of both.
+pub fn absorbed<S: KomiStream>(stream: &mut S, bytes: &[u8], tally: &mut Tally) -> u64
+    ensures absorb { Writes S.VERSION (S.state stream.old) (S.state stream.new) bytes.now }
+    ensures answer { Answers S.VERSION (S.state stream.new) result }
+    ensures products { tally.new.products ≡ tally.old.products
+        + write_products (length (S.state stream.old).pending) (length bytes.now)
+        + answer_products (length (S.state stream.new).pending) }
+    ensures kept { tally.new.kept
+        ≡ tally.old.kept + kept_bytes (length (S.state stream.old).pending) (length bytes.now) }
+{
+    stream.absorb(bytes, tally);
+    stream.answer(tally)
+}
+
+/// Writes the saved text of a stream to the front of `out`.
+pub fn stored<S: KomiStream>(stream: &S, out: &mut [u8]) -> usize
+    requires { LONGEST_TEXT ≤ length out.old }
+    ensures { Saves S.VERSION (S.state stream.now) result out.old out.new }
+{
+    stream.store(out)
+}
+
+/// Returns the stream of a saved text, and accepts nothing else.
+pub fn restored<S: KomiStream>(bytes: &[u8]) -> Option<S>
+    ensures { Resumes _ S.state S.VERSION bytes.now result }
+{
+    S::restore(bytes)
+}
+
+/// Runs calls on a new stream. Each answer is the hash of the bytes so far. If the last call alone
+/// is an answer, the products depend on the number of bytes alone, and not on the cuts.
+pub fn run_of_calls<S: KomiStream>(
+    seed: u64,
+    calls: &[Call<'_>],
+    out: &mut [u64],
+    tally: &mut Tally,
+) -> usize
+    requires { length calls.now ≤ length out.old }
+    ensures answers { take result out.new ≡ answers S.VERSION seed calls.now }
+    ensures rest { drop result out.new ≡ drop result out.old }
+    ensures products { tally.new.products ≡ tally.old.products + run_products calls.now }
+    ensures kept { tally.new.kept ≡ tally.old.kept + run_kept calls.now }
+    ensures digest { (pieces : List Call) → AreAbsorbs pieces → calls.now ≡ pieces ++ Answer ∷ []
+        → tally.new.products ≡ tally.old.products + (3 + 4 * (length (bytes_of_calls pieces) / 64)
+        + length (bytes_of_calls pieces) % 64 / 16) }
+{
+    laws::cost_of_pieces();
+    run::<S>(seed, calls, out, tally)
+}
+
+/// Runs calls on a stream that is in any state.
+pub fn run_of_further_calls<S: KomiStream>(
+    stream: &mut S,
+    calls: &[Call<'_>],
+    out: &mut [u64],
+    tally: &mut Tally,
+) -> usize
+    requires { length calls.now ≤ length out.old }
+    ensures answers { take result out.new ≡ onward S.VERSION (S.state stream.old) calls.now }
+    ensures hashes { (seed : ℕ) (m : List ℕ) → HasAbsorbed S.VERSION seed (S.state stream.old) m
+        → take result out.new ≡ answers_after (komi S.VERSION seed) m calls.now }
+    ensures rest { drop result out.new ≡ drop result out.old }
+    ensures absorbed { Writes S.VERSION (S.state stream.old) (S.state stream.new)
+        (bytes_of_calls calls.now) }
+    ensures products { tally.new.products
+        ≡ tally.old.products + onward_products (length (S.state stream.old).pending) calls.now }
+    ensures kept { tally.new.kept
+        ≡ tally.old.kept + onward_kept (length (S.state stream.old).pending) calls.now }
+{
+    run_on(stream, calls, out, tally)
+}

@@ -1,0 +1,38 @@
+//! Reproducible samples.
+
+ghost use Rattle.std.specs.Prelude.{◌≡◌, ◌+◌, ◌++◌, length};
+ghost use Rattle.std.specs.Int.{to_le_bytes, w64};
+ghost use Rattle.std.specs.List.{flat_map};
+ghost use Rattle.komihash.specs.Generator.{after_steps, fill, outputs};
+
+use komihash::{Komirand, laws};
+
+/// Writes the next outputs of a generator.
+pub fn draw(generator: &mut Komirand, out: &mut [u64])
+    ensures outputs { out.new ≡ outputs 5 (length out.old) generator.old }
+    ensures pair { generator.new ≡ after_steps 5 (length out.old) generator.old }
+{
+    laws::step_by_step();
+    for number in out {
+        *number = generator.next();
+    }
+}
+
+/// Writes the sample of a seed in two parts, the first of 32 bytes.
+pub fn sample_in_two(seed: u64, first: &mut [u8; 32], second: &mut [u8])
+    ensures { first.new ++ second.new
+        ≡ fill 5 (after_steps 5 4 (seed, seed)) (32 + length second.old) }
+{
+    laws::fill_cut();
+    let mut generator = Komirand::init(seed);
+    generator.fill_bytes(first);
+    generator.fill_bytes(second);
+}
+
+/// Writes the bytes of eight numbers.
+pub fn sample_of_numbers(generator: &mut Komirand, out: &mut [u8; 64])
+    ensures { out.new ≡ flat_map (λ number. to_le_bytes w64 number) (outputs 5 8 generator.old) }
+{
+    laws::fill_of_outputs();
+    generator.fill_bytes(out);
+}

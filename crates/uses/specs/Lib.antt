@@ -1,5 +1,0 @@
-pub mod Counts
-pub mod Prefixes
-pub mod Profiles
-pub mod Records
-pub mod Tree
