@@ -247,6 +247,7 @@ pub fn run_of_calls<S: KomiStream>(
 ) -> usize
     requires { length calls.now ≤ length out.old }
     ensures answers { take result out.new ≡ answers S.VERSION seed calls.now }
+    ensures count { result ≡ length (answers S.VERSION seed calls.now) }
     ensures rest { drop result out.new ≡ drop result out.old }
     ensures products { tally.new.products ≡ tally.old.products + run_products calls.now }
     ensures kept { tally.new.kept ≡ tally.old.kept + run_kept calls.now }
@@ -267,6 +268,7 @@ pub fn run_of_further_calls<S: KomiStream>(
 ) -> usize
     requires { length calls.now ≤ length out.old }
     ensures answers { take result out.new ≡ onward S.VERSION (S.state stream.old) calls.now }
+    ensures count { result ≡ length (onward S.VERSION (S.state stream.old) calls.now) }
     ensures hashes { (seed : ℕ) (m : List ℕ) → HasAbsorbed S.VERSION seed (S.state stream.old) m
         → take result out.new ≡ answers_after (komi S.VERSION seed) m calls.now }
     ensures rest { drop result out.new ≡ drop result out.old }
