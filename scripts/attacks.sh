@@ -20,14 +20,10 @@ check() {
     done
     (cd "$above" && rt check 2>&1)
 }
-
-is_refused() {
-    check "$1" | tee /dev/stderr | grep -F "$(sed '1!d; s/^[-/]* //' "$1")"
-}
+refused() { check "$1" | tee /dev/stderr | grep -F "$(sed '1!d; s/^[-/]* //' "$1")"; }
 
 note 'the controls are accepted' check
 for attack in *_*; do
-    name=${attack%%.*}
-    note "${name//_/ } is refused" is_refused "$attack"
+    note "$attack is refused" refused "$attack"
 done
 counted
