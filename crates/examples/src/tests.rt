@@ -1,16 +1,12 @@
 //! What the contracts of callers leave open: that a reader in memory, a list and a map give no
-//! error, and that generic callers serve both versions. The hash is that of the Rust crate.
+//! error. The hash is that of the Rust crate `komihash` 0.5.0.
 
-use crate::costs::counted_digest;
 use crate::hashed::{Point, put_and_get};
 use crate::readers::digest_of_reader;
 use crate::stores::Journal;
-use komihash::tally::Tally;
-use komihash::{v4, v5};
 use std::alloc::{AllocError, AllocFailed};
 use std::io;
 
-// A message that ends in a byte below 128, and its hash in both versions.
 const MESSAGE: [u8; 16] = [
     3, 10, 17, 24, 31, 38, 45, 52, 59, 66, 73, 80, 87, 94, 101, 108,
 ];
@@ -36,24 +32,8 @@ fn a_journal_takes_entries(rt: HostRuntime) -> Result<(), AllocError> {
 }
 
 #[test]
-fn a_map_takes_points(rt: HostRuntime) -> Result<(), AllocFailed<(Point, u64)>> {
-    assert_eq!(rt;
-        put_and_get(rt.alloc(), 7, Point { x: 1, y: 2 }, 3)?,
-        Some(3)
-    );
+fn a_map_takes_a_point(rt: HostRuntime) -> Result<(), AllocFailed<(Point, u64)>> {
+    let found = put_and_get(rt.alloc(), 7, Point { x: 1, y: 2 }, 3)?;
+    assert_eq!(rt; found, Some(3));
     Ok(())
-}
-
-#[test]
-fn one_caller_serves_both_versions(rt: HostRuntime) {
-    let slices: [&[u8]; 3] = [&MESSAGE[..1], &[], &MESSAGE[1..]];
-    let tally = &mut Tally::new();
-    assert_eq!(rt;
-        counted_digest::<v4::StreamedKomihash>(&slices, 0, tally),
-        HASH
-    );
-    assert_eq!(rt;
-        counted_digest::<v5::StreamedKomihash>(&slices, 0, tally),
-        HASH
-    );
 }
