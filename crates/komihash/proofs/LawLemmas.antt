@@ -1,4 +1,5 @@
--- The lemmas that prove the laws of `src/laws.rt`.
+-- Lemmas about the definitions. They prove the laws of `src/laws.rt`, and a caller may name the
+-- ruleset `laws` for what no law states.
 use Rattle.std.proofs.lemmas.List.Sums.{fold-append}
 use Rattle.komihash.proofs.Bounds.{komi-lt}
 use Rattle.komihash.proofs.CallLists.{answers_after-append, bytes_of_calls-append}
