@@ -1,136 +1,123 @@
 //! The generators of both versions: known outputs and bytes, and fill_bytes against `next`.
 
-use super::assertions::{assert_same, assert_same_bytes, assert_same_words};
+use crate::generator::Komirand;
 use crate::{v4, v5};
 use std::process::Abort;
 
-fn generators(number: usize) -> (v4::Komirand, v5::Komirand) {
-    const SEED: u64 = 0x1234_5678_90ab_cdef;
+fn generator<const V: u8>(number: usize) -> Komirand<V> {
     match number {
-        0 => (v4::Komirand::new(0, 0), v5::Komirand::new(0, 0)),
-        1 => (v4::Komirand::new(42, 42), v5::Komirand::new(42, 42)),
-        2 => (v4::Komirand::init(0), v5::Komirand::init(0)),
-        _ => (v4::Komirand::init(SEED), v5::Komirand::init(SEED)),
+        0 => Komirand::new(0, 0),
+        1 => Komirand::new(42, 42),
+        2 => Komirand::init(0),
+        3 => Komirand::init(0x1234_5678_90ab_cdef),
+        4 => Komirand::new(0x1_0000_0000, 0x1_0000_0000),
+        5 => Komirand::new(u64::MAX, u64::MAX),
+        _ => Komirand::init_with_extra_seed(3, 5),
     }
 }
 
-// Returns the next 13 outputs of one of the four generators, in each version.
-fn outputs(number: usize) -> ([u64; 13], [u64; 13]) {
-    let (mut four, mut five) = generators(number);
-    let (mut of_four, mut of_five) = ([0; 13], [0; 13]);
+// Returns the next 13 outputs of one of the generators.
+fn outputs<const V: u8>(number: usize) -> [u64; 13] {
+    let mut generator = generator::<V>(number);
+    let mut outputs = [0; 13];
     for i in 0..13usize {
-        of_four[i] = four.next();
-        of_five[i] = five.next();
+        outputs[i] = generator.next();
     }
-    (of_four, of_five)
+    outputs
 }
 
-#[test]
-fn steps_from_known_pairs(rt: HostRuntime) {
-    let cases = [
-        (0x1_0000_0000, 0xaaaa_aaab_aaaa_aaab, 0x5555_5555_5555_5556),
-        (u64::MAX, 0xaaaa_aaaa_aaaa_aaa6, 0x5555_5555_5555_5554),
-    ];
-    for (word, four, five) in cases {
-        assert_same(&rt, v4::Komirand::new(word, word).next(), four, 4);
-        assert_same(&rt, v5::Komirand::new(word, word).next(), five, 5);
-    }
-}
-
+// Each row is a generator, the index of an output, and the output in version 4 and in version 5.
 #[test]
 fn gives_known_outputs(rt: HostRuntime) {
-    let (four, five) = outputs(0);
-    let wanted = [0xaaaa_aaaa_aaaa_aaaa, 0xffff_ffff_ffff_fffe];
-    assert_same_words(&rt, &four[..2], &wanted, 4);
-    let wanted = [0x5555_5555_5555_5555, 0x79e7_9e79_e79e_79e6];
-    assert_same_words(&rt, &five[..2], &wanted, 5);
-    assert_same(&rt, outputs(2).1[0], 0x1c42_877a_440a_e8ee, 5);
-    let wanted = [0xb1b3_fa0c_e9e8_fc12, 0x873b_3a41_c1b9_ada4];
-    assert_same_words(&rt, &outputs(3).1[..2], &wanted, 5);
-    let wanted = [0x90ad_e4d9_d482_8c88, 0x4887_cba6_4ef5_5ec4];
-    assert_same_words(&rt, &outputs(3).1[2..4], &wanted, 5);
+    let rows = [
+        (0, 0, 0xaaaa_aaaa_aaaa_aaaa, 0x5555_5555_5555_5555),
+        (0, 1, 0xffff_ffff_ffff_fffe, 0x79e7_9e79_e79e_79e6),
+        (2, 0, 0x400c_62cc_4727_496b, 0x1c42_877a_440a_e8ee),
+        (3, 0, 0x2264_0def_aa9a_f646, 0xb1b3_fa0c_e9e8_fc12),
+        (3, 1, 0x76f7_6cc6_c889_7b4a, 0x873b_3a41_c1b9_ada4),
+        (3, 2, 0x8162_20b8_3085_14cd, 0x90ad_e4d9_d482_8c88),
+        (3, 3, 0x0fad_d75e_5ac5_9286, 0x4887_cba6_4ef5_5ec4),
+        (4, 0, 0xaaaa_aaab_aaaa_aaab, 0x5555_5555_5555_5556),
+        (5, 0, 0xaaaa_aaaa_aaaa_aaa6, 0x5555_5555_5555_5554),
+        (6, 0, 0xa0b0_1c26_bba9_307a, 0x0d2f_8edd_6aff_b42b),
+    ];
+    for (number, at, four, five) in rows {
+        assert!(rt; at < 13);
+        let given = [outputs::<4>(number)[at], outputs::<5>(number)[at]];
+        assert_eq!(rt; given, [four, five], "generator {number}");
+    }
 }
 
-// Makes fills of these sizes from a pair of equal words in each version. Compares all their bytes,
-// and the next output.
-fn assert_fills(rt: &impl Abort, word: u64, sizes: &[usize], bytes: [&[u8]; 2], next: [u64; 2]) {
-    let mut four = v4::Komirand::new(word, word);
-    let mut five = v5::Komirand::new(word, word);
-    let mut given = ([0xee; 16], [0xee; 16]);
-    let mut end = 0;
+// Makes fills in turn. Compares all their bytes, and the next output with the first unused one.
+fn assert_fills<const V: u8>(rt: &impl Abort, number: usize, sizes: &[usize], wanted: &[u8]) {
+    let mut generator = generator::<V>(number);
+    let mut bytes = [0xee; 96];
+    let (mut end, mut used) = (0, 0);
     for size in sizes {
-        assert!(rt; end <= 16 && *size <= 16 - end);
-        four.fill_bytes(&mut given.0[end..end + size]);
-        five.fill_bytes(&mut given.1[end..end + size]);
+        assert!(rt; end <= 96 && *size <= 96 - end && used < 13);
+        generator.fill_bytes(&mut bytes[end..end + size]);
         end += size;
+        used += size.div_ceil(8);
     }
-    assert!(rt; end <= 16);
-    assert_same_bytes(rt, &given.0[..end], bytes[0], end);
-    assert_same_bytes(rt, &given.1[..end], bytes[1], end);
-    assert_same_words(rt, &[four.next(), five.next()], &next, end);
+    assert!(rt; end <= 96 && used < 13);
+    assert_eq!(rt; bytes[..end], *wanted, "{sizes:?}");
+    assert_eq!(rt; generator.next(), outputs::<V>(number)[used], "{sizes:?}");
 }
 
-// Fills from the pair (0, 0), also after a fill of no bytes, which changes nothing. A fill and the
-// next output don't use the bytes that the fill before has dropped.
-#[test]
-fn fill_bytes_drops_unused_bytes(rt: HostRuntime) {
-    let second = [0xffff_ffff_ffff_fffe, 0x79e7_9e79_e79e_79e6];
-    let third = [0x4924_9249_2492_4910, 0xaf5b_2bd6_caf5_b2bc];
-    let four = [0xaa, 0xaa, 0xaa, 0xfe, 0xff, 0xff];
-    let five = [0x55, 0x55, 0x55, 0xe6, 0x79, 0x9e];
-    assert_fills(&rt, 0, &[3], [&four[..3], &five[..3]], second);
-    assert_fills(&rt, 0, &[0, 3], [&four[..3], &five[..3]], second);
-    assert_fills(&rt, 0, &[3, 3], [&four, &five], third);
-    assert_fills(&rt, 0, &[0, 3, 3], [&four, &five], third);
-    let mut four = [0xaa; 11];
-    four[8..].copy_from_slice(&[0xfe, 0xff, 0xff]);
-    let mut five = [0x55; 11];
-    five[8..].copy_from_slice(&[0xe6, 0x79, 0x9e]);
-    assert_fills(&rt, 0, &[9], [&four[..9], &five[..9]], third);
-    assert_fills(&rt, 0, &[0, 9], [&four[..9], &five[..9]], third);
-    assert_fills(&rt, 0, &[11], [&four, &five], third);
-    assert_fills(&rt, 0, &[0, 11], [&four, &five], third);
-}
-
-// One fill of 16 bytes is two of 8, from a second generator of the same pair.
-#[test]
-fn continues_after_fill_bytes(rt: HostRuntime) {
-    for (word, number) in [(0, 0), (42, 1)] {
-        let (mut four, mut five) = generators(number);
-        let mut whole = ([0; 16], [0; 16]);
-        four.fill_bytes(&mut whole.0);
-        five.fill_bytes(&mut whole.1);
-        let next = [four.next(), five.next()];
-        assert_fills(&rt, word, &[8, 8], [&whole.0, &whole.1], next);
+// Compares fills of every length with outputs, and two fills of 8 bytes with one of 16.
+fn assert_fills_every_length<const V: u8>(rt: &impl Abort) {
+    for number in 0..4usize {
+        let outputs = outputs::<V>(number);
+        let mut bytes = [0; 96];
+        for i in 0..12usize {
+            bytes[8 * i..8 * i + 8].copy_from_slice(&outputs[i].to_le_bytes());
+        }
+        for n in 0..96usize {
+            assert_fills::<V>(rt, number, &[n], &bytes[..n]);
+        }
+        assert_fills::<V>(rt, number, &[8, 8], &bytes[..16]);
     }
-    let first = [0xaaaa_aaaa_aaaa_aaaa, 0x5555_5555_5555_5555];
-    assert_fills(&rt, 0, &[0, 0], [&[], &[]], first);
-    let (mut four, mut five) = generators(1);
-    assert_fills(&rt, 42, &[0], [&[], &[]], [four.next(), five.next()]);
-}
-
-// Compares the bytes of a fill with outputs, and the next output with the first that it didn't use.
-fn filled_from(rt: &impl Abort, bytes: &[u8], next: u64, outputs: &[u64; 13]) {
-    let n = bytes.len();
-    assert!(rt; n < 96);
-    for i in 0..n {
-        let byte = outputs[i / 8] >> (8 * (i % 8)) & 0xff;
-        assert_same(rt, u64::from(bytes[i]), byte, n);
-    }
-    assert_same(rt, next, outputs[(n + 7) / 8], n);
 }
 
 #[test]
 fn fills_every_length(rt: HostRuntime) {
-    for number in 0..4usize {
-        let (of_four, of_five) = outputs(number);
-        for n in 0..96usize {
-            let (mut four, mut five) = generators(number);
-            let mut bytes = [0xee; 96];
-            four.fill_bytes(&mut bytes[..n]);
-            filled_from(&rt, &bytes[..n], four.next(), &of_four);
-            five.fill_bytes(&mut bytes[..n]);
-            filled_from(&rt, &bytes[..n], five.next(), &of_five);
-        }
+    assert_fills_every_length::<4>(&rt);
+    assert_fills_every_length::<5>(&rt);
+}
+
+// Returns 27 bytes of a fill, and the 8 of the next output.
+fn filled<const V: u8>() -> [u8; 35] {
+    let mut generator = generator::<V>(3);
+    let mut bytes = [0; 35];
+    generator.fill_bytes(&mut bytes[..27]);
+    bytes[27..].copy_from_slice(&generator.next().to_le_bytes());
+    bytes
+}
+
+// A fill doesn't use the bytes that the fill before has dropped. One of no bytes changes nothing.
+#[test]
+fn fills_known_bytes(rt: HostRuntime) {
+    let four = *b"\xaa\xaa\xaa\xaa\xaa\xaa\xaa\xaa\xfe\xff\xff";
+    let five = *b"\x55\x55\x55\x55\x55\x55\x55\x55\xe6\x79\x9e";
+    let rows: [(&[usize], &[u8], &[u8]); 9] = [
+        (&[0, 0], &[], &[]),
+        (&[3], &four[..3], &five[..3]),
+        (&[0, 3], &four[..3], &five[..3]),
+        (&[3, 3], &four[5..], &five[5..]),
+        (&[0, 3, 3], &four[5..], &five[5..]),
+        (&[9], &four[..9], &five[..9]),
+        (&[0, 9], &four[..9], &five[..9]),
+        (&[11], &four, &five),
+        (&[0, 11], &four, &five),
+    ];
+    for (sizes, four, five) in rows {
+        assert_fills::<4>(&rt, 0, sizes, four);
+        assert_fills::<5>(&rt, 0, sizes, five);
     }
+    let four = b"\x46\xf6\x9a\xaa\xef\x0d\x64\x22\x4a\x7b\x89";
+    let five = b"\x12\xfc\xe8\xe9\x0c\xfa\xb3\xb1\xa4\xad\xb9";
+    assert_fills::<4>(&rt, 3, &[11], four);
+    assert_fills::<5>(&rt, 3, &[11], five);
+    assert_eq!(rt; v4::komihash(&filled::<4>(), 0), 0xcfc6_6047_0d0c_2829);
+    assert_eq!(rt; v5::komihash(&filled::<5>(), 0), 0x5d6e_3cc3_a689_590f);
 }

@@ -1,51 +1,31 @@
 //! Streams of both versions in pieces of many sizes: `finish` against `komihash` of all bytes. The
 //! hashes of `komihash` are compared with the Rust crate's in `hash.rt`.
 
-use super::assertions::assert_same_words;
 use super::hash::hashes;
-use super::messages::{HIGH_END, LONGEST, SIX, block_message, pattern};
+use super::messages::{BLOCK_HASH, EMPTY_HASH, HIGH_END, SIX, SIX_IN_FIVE, SIX_IN_FOUR, pattern};
 use crate::{v4, v5};
 use std::process::Abort;
 
-/// A stream of each version. Both get the same calls.
-#[derive(Drop)]
-pub(crate) struct Streams {
-    pub(crate) four: v4::StreamedKomihash,
-    pub(crate) five: v5::StreamedKomihash,
+fn new_streams(seed: u64) -> (v4::StreamedKomihash, v5::StreamedKomihash) {
+    let four = v4::StreamedKomihash::new_with_seed(seed);
+    (four, v5::StreamedKomihash::new_with_seed(seed))
 }
 
-impl Streams {
-    pub(crate) fn new() -> Self {
-        Streams {
-            four: v4::StreamedKomihash::new(),
-            five: v5::StreamedKomihash::new(),
-        }
+// Writes the pieces of a message that end at these indices. After each, calls `finish` twice, and
+// compares both with the hash of the bytes so far. Returns the last.
+fn finish_pieces(rt: &impl Abort, message: &[u8], seed: u64, ends: &[usize]) -> [u64; 2] {
+    let (mut four, mut five) = new_streams(seed);
+    let mut from = 0;
+    for end in ends {
+        assert!(rt; from <= *end && *end <= message.len());
+        four.write(&message[from..*end]);
+        five.write(&message[from..*end]);
+        from = *end;
+        let wanted = hashes(&message[..from], seed);
+        assert_eq!(rt; [four.finish(), five.finish()], wanted, "{ends:?}");
+        assert_eq!(rt; [four.finish(), five.finish()], wanted, "{ends:?}");
     }
-
-    pub(crate) fn new_with_seed(seed: u64) -> Self {
-        Streams {
-            four: v4::StreamedKomihash::new_with_seed(seed),
-            five: v5::StreamedKomihash::new_with_seed(seed),
-        }
-    }
-
-    pub(crate) fn write(&mut self, bytes: &[u8]) {
-        self.four.write(bytes);
-        self.five.write(bytes);
-    }
-
-    pub(crate) fn finish(&self) -> [u64; 2] {
-        [self.four.finish(), self.five.finish()]
-    }
-
-    // Calls `finish` twice. Compares both hashes with that of a message, and with each other.
-    fn assert_finishes(&self, rt: &impl Abort, message: &[u8], seed: u64) {
-        let wanted = hashes(message, seed);
-        let [first, second] = [self.finish(), self.finish()];
-        assert_same_words(rt, &first, &wanted, message.len());
-        assert_same_words(rt, &second, &wanted, message.len());
-        assert_same_words(rt, &second, &first, message.len());
-    }
+    [four.finish(), five.finish()]
 }
 
 #[test]
@@ -54,25 +34,19 @@ fn finishes_alike_after_pieces_of_every_size(rt: HostRuntime) {
     for n in 0..=200usize {
         for size in 1..=126usize {
             for seed in [0, u64::MAX] {
-                let mut streams = Streams::new_with_seed(seed);
+                let (mut four, mut five) = new_streams(seed);
                 for piece in message[..n].chunks(size) {
-                    streams.write(piece);
+                    four.write(piece);
+                    five.write(piece);
                 }
-                streams.assert_finishes(&rt, &message[..n], seed);
+                let wanted = hashes(&message[..n], seed);
+                assert_eq!(rt; [four.finish(), five.finish()], wanted, "{n} by {size}");
             }
         }
     }
-}
-
-#[test]
-fn finishes_alike_after_one_write(rt: HostRuntime) {
-    let message = pattern();
-    for n in 0..=LONGEST {
-        for seed in [0, u64::MAX] {
-            let mut streams = Streams::new_with_seed(seed);
-            streams.write(&message[..n]);
-            streams.assert_finishes(&rt, &message[..n], seed);
-        }
+    for n in 0..=300usize {
+        finish_pieces(&rt, &message, 0, &[n]);
+        finish_pieces(&rt, &message, u64::MAX, &[n]);
     }
 }
 
@@ -83,99 +57,60 @@ fn completes_a_partial_block(rt: HostRuntime) {
         let mut message = [0; 193];
         message[..fill].copy_from_slice(&pattern()[..fill]);
         for end in fill..=fill + 130 {
-            let mut streams = Streams::new();
-            streams.write(&message[..fill]);
-            streams.write(&message[fill..end]);
-            streams.assert_finishes(&rt, &message[..end], 0);
+            finish_pieces(&rt, &message, 0, &[fill, end]);
         }
     }
 }
 
-// Old bytes of the buffer don't show in the next block.
+// Old bytes of the buffer don't show in the next block, and version 4 keeps the top bit of a block.
 #[test]
 fn continues_after_finish(rt: HostRuntime) {
-    let mut ones = [0xff; 65];
+    let (mut ones, mut letters, mut zeros) = ([0xff; 65], [0xaa; 65], [0; 64]);
     ones[64] = 0;
-    let mut streams = Streams::new();
-    for (from, end) in [(0, 64), (64, 65)] {
-        streams.write(&ones[from..end]);
-        streams.assert_finishes(&rt, &ones[..end], 0);
-    }
-    let mut letters = [0xaa; 65];
-    letters[63] = 0xbb;
-    letters[64] = 0xcc;
-    let mut streams = Streams::new();
-    for (from, end) in [(0, 63), (63, 64), (64, 65)] {
-        streams.write(&letters[from..end]);
-        streams.assert_finishes(&rt, &letters[..end], 0);
-    }
-}
-
-#[test]
-fn keeps_the_top_bit_of_a_block_in_version_four(rt: HostRuntime) {
+    letters[63..].copy_from_slice(&[0xbb, 0xcc]);
+    finish_pieces(&rt, &ones, 0, &[64, 65]);
+    finish_pieces(&rt, &letters, 0, &[63, 64, 65]);
     for last in [0x80, 0x7f] {
-        let mut message = [0; 64];
-        message[63] = last;
-        let mut streams = Streams::new();
-        streams.write(&message);
-        streams.assert_finishes(&rt, &message, 0);
+        zeros[63] = last;
+        finish_pieces(&rt, &zeros, 0, &[64]);
     }
 }
 
-// Writes a message cut in two at every index, with an empty write between.
-fn cut_in_two(rt: &impl Abort, message: &[u8], last: [u64; 2]) {
-    for cut in 0..=message.len() {
-        let mut streams = Streams::new();
-        streams.write(&message[..cut]);
-        streams.assert_finishes(rt, &message[..cut], 0);
-        streams.write(&[]);
-        streams.assert_finishes(rt, &message[..cut], 0);
-        streams.write(&message[cut..]);
-        streams.assert_finishes(rt, message, 0);
-        assert_same_words(rt, &streams.finish(), &last, cut);
-    }
-}
-
-// Writes a message byte by byte. In each version, the hash is 0 from a number of bytes on, until
-// the last byte.
-fn byte_by_byte(rt: &impl Abort, message: &[u8], last: [u64; 2], zero_from: [usize; 2]) {
-    let mut streams = Streams::new();
-    for n in 1..=message.len() {
-        streams.write(&message[n - 1..n]);
-        streams.assert_finishes(rt, &message[..n], 0);
-        let hashes = streams.finish();
-        for i in 0..2usize {
-            assert!(rt; n < zero_from[i] || n == message.len() || hashes[i] == 0);
-        }
-    }
-    assert_same_words(rt, &streams.finish(), &last, message.len());
-}
-
+// Each row has a message, its hashes, and the numbers of bytes from which on the hash is 0 until the
+// last byte. The message is cut in two at every index, with an empty write between, and into bytes.
 #[test]
 fn finishes_alike_however_known_messages_are_cut(rt: HostRuntime) {
-    let (four, five) = (block_message(4), block_message(5));
-    let cases: [(&[u8], [u64; 2], [usize; 2]); 4] = [
+    let rows: [(&[u8], [u64; 2], [usize; 2]); 4] = [
         (&HIGH_END, [7, 0x8000_0000_0000_0000], [31, 31]),
         (&SIX, [6, 6], [16, 16]),
-        (&four, [6, 0x2073_08aa_ff8b_afbd], [80, 95]),
-        (&five, [0x3d7d_a009_d026_8f13, 6], [95, 80]),
+        (&SIX_IN_FOUR, [6, 0x2073_08aa_ff8b_afbd], [80, 95]),
+        (&SIX_IN_FIVE, [0x3d7d_a009_d026_8f13, 6], [95, 80]),
     ];
-    for (message, last, zero_from) in cases {
-        cut_in_two(&rt, message, last);
-        byte_by_byte(&rt, message, last, zero_from);
+    let mut ends = [0; 95];
+    for i in 0..95usize {
+        ends[i] = i + 1;
+    }
+    for (message, last, zero_from) in rows {
+        let length = message.len();
+        for cut in 0..=length {
+            let given = finish_pieces(&rt, message, 0, &[cut, cut, length]);
+            assert_eq!(rt; given, last, "{cut}");
+        }
+        assert!(rt; length <= 95);
+        for n in 1..=length {
+            let given = finish_pieces(&rt, message, 0, &ends[..n]);
+            for i in 0..2usize {
+                let wanted = if n == length { last[i] } else { 0 };
+                assert!(rt; n < zero_from[i] || given[i] == wanted, "{n}");
+            }
+        }
     }
 }
 
 #[test]
 fn a_thousand_empty_writes_change_nothing(rt: HostRuntime) {
-    let message: &[u8; 95] = &block_message(5);
-    let (mut empty, mut block) = (Streams::new(), Streams::new());
-    block.write(&message[..64]);
-    for _ in 0..1000usize {
-        empty.write(&[]);
-        block.write(&[]);
-    }
-    assert_same_words(&rt, &empty.finish(), &[0xb768_3ea7_4301_32b4; 2], 0);
-    let hashes = [0x960d_596d_aa68_e0ca, 0x2a2f_07ac_9381_0128];
-    assert_same_words(&rt, &block.finish(), &hashes, 64);
+    let given = finish_pieces(&rt, &[], 0, &[0; 1000]);
+    assert_eq!(rt; given, [EMPTY_HASH; 2]);
+    let given = finish_pieces(&rt, &SIX_IN_FIVE, 0, &[64; 1001]);
+    assert_eq!(rt; given, [0x960d_596d_aa68_e0ca, BLOCK_HASH]);
 }

@@ -1,18 +1,20 @@
-//! What calls cost. No program can read a tally, so the counts are clauses of functions here, which
-//! are proved. The tests compare what they answer, also on streams that are saved and resumed.
+//! Runs of calls, and what calls cost. No program can read a tally, so the counts are clauses of
+//! functions here. Where they are parameters, it is proved at each call that they are right.
 
-ghost use Rattle.std.specs.Prelude.{◌≡◌, ◌+◌, ◌%◌, ◌≤◌, IsTrue, IfSome, length};
+ghost use Rattle.std.specs.Prelude.{◌≡◌, ◌+◌, ◌%◌, ◌≤◌, length};
 ghost use Rattle.komihash.specs.Calls.{run_products, run_kept};
 ghost use Rattle.komihash.specs.Counts.{Costs, hash_products, kept_bytes};
 
-use super::assertions::{assert_same, assert_same_bytes, assert_same_count, assert_same_words};
-use super::messages::block_message;
-use super::runs::{CUT_ANSWERS, assert_answers, at_cuts, byte_by_byte};
-use super::saved::{lanes_after_block, new_text, text_of_zeros};
+use super::messages::{BLOCK_HASH, EMPTY_HASH, LANES, SIX_IN_FIVE, SIX_IN_FOUR, ZERO};
+use super::saved::{assert_text, lanes_after_block};
 use crate::stream::{Call, KomiStream, LONGEST_TEXT, run, run_on};
 use crate::tally::Tally;
 use crate::{v4, v5};
 use std::process::Abort;
+
+type Four = v4::StreamedKomihash;
+
+type Five = v5::StreamedKomihash;
 
 // Hashes a message with seed 0 by the counted call of a version, for this many products.
 fn hash_costs<const V: u8, const PRODUCTS: usize>(bytes: &[u8], tally: &mut Tally) -> u64
@@ -26,263 +28,219 @@ fn hash_costs<const V: u8, const PRODUCTS: usize>(bytes: &[u8], tally: &mut Tall
     }
 }
 
-// Hashes `block_message`.
-fn message_costs<const V: u8>(tally: &mut Tally) -> u64
-    ensures costs { Costs tally 8 0 }
-{
-    hash_costs::<V, 8>(&block_message(V), tally)
+// Hashes a message with five zeros after it, and beginnings of it.
+fn hashes_cost<const V: u8>(rt: &impl Abort, message: &[u8; 95]) {
+    let tally = &mut Tally::new();
+    let bytes = &mut [0; 100];
+    bytes[..95].copy_from_slice(message);
+    let hashes = [
+        hash_costs::<V, 3>(&[], tally),
+        hash_costs::<V, 4>(&bytes[..16], tally),
+        hash_costs::<V, 7>(&bytes[..64], tally),
+        hash_costs::<V, 8>(message, tally),
+        hash_costs::<V, 9>(bytes, tally),
+    ];
+    let pair = 0x3cd8_23c0_93de_3eea;
+    assert_eq!(rt; hashes, [EMPTY_HASH, pair, BLOCK_HASH, 6, 0]);
 }
 
-// Hashes 0, 16, 64, 95 and 100 bytes, each with its own tally.
-fn hashes_cost<const V: u8>(
-    bytes: &[u8; 100],
-    none: &mut Tally,
-    two_words: &mut Tally,
-    block: &mut Tally,
-    end: &mut Tally,
-    all: &mut Tally,
-) -> [u64; 5]
-    ensures none { Costs none 3 0 }
-    ensures two_words { Costs two_words 4 0 }
-    ensures block { Costs block 7 0 }
-    ensures end { Costs end 8 0 }
-    ensures all { Costs all 9 0 }
-{
-    [
-        hash_costs::<V, 3>(&[], none),
-        hash_costs::<V, 4>(&bytes[..16], two_words),
-        hash_costs::<V, 7>(&bytes[..64], block),
-        hash_costs::<V, 8>(&bytes[..95], end),
-        hash_costs::<V, 9>(bytes, all),
-    ]
-}
-
-// Hashes `block_message` with five zeros after it, and beginnings of it.
-fn hashes_known<const V: u8>(rt: &impl Abort) {
-    assert_same(rt, message_costs::<V>(&mut Tally::new()), 6, 95);
-    let mut bytes = [0; 100];
-    bytes[..95].copy_from_slice(&block_message(V));
-    let hashes = hashes_cost::<V>(
-        &bytes,
-        &mut Tally::new(),
-        &mut Tally::new(),
-        &mut Tally::new(),
-        &mut Tally::new(),
-        &mut Tally::new(),
-    );
-    let [empty, pair] = [0xb768_3ea7_4301_32b4, 0x3cd8_23c0_93de_3eea];
-    let block = 0x2a2f_07ac_9381_0128;
-    assert_same_words(rt, &hashes, &[empty, pair, block, 6, 0], 0);
-}
-
-#[test]
-fn counted_hashes_are_known(rt: HostRuntime) {
-    hashes_known::<4>(&rt);
-    hashes_known::<5>(&rt);
-}
-
-// Absorbs N bytes where BEFORE are pending.
-fn absorb_costs<S: KomiStream, const BEFORE: usize, const N: usize>(
+// Absorbs N bytes where BEFORE are pending. This keeps KEPT bytes.
+fn absorb_costs<S: KomiStream, const BEFORE: usize, const N: usize, const KEPT: usize>(
     stream: &mut S,
     bytes: &[u8; N],
     tally: &mut Tally,
 )
-    requires { length (S.state stream.old).pending ≡ BEFORE }
+    requires pending { length (S.state stream.old).pending ≡ BEFORE }
+    requires kept { kept_bytes BEFORE N ≡ KEPT }
     ensures pending { length (S.state stream.new).pending ≡ (BEFORE + N) % 64 }
-    ensures kept { tally.new.kept ≡ tally.old.kept + kept_bytes BEFORE N }
+    ensures kept { tally.new.kept ≡ tally.old.kept + KEPT }
 {
     stream.absorb(bytes, tally);
 }
 
-// Starts a stream, and absorbs 10, 54, 64 and 3 zeros in turn, each with its own tally.
-fn absorbs_cost<S: KomiStream>(
-    start: &mut Tally,
-    ten: &mut Tally,
-    filled: &mut Tally,
-    block: &mut Tally,
-    three: &mut Tally,
-) -> S
-    ensures start { start.new.products ≡ start.old.products + 1 }
-    ensures ten { ten.new.kept ≡ ten.old.kept + 10 }
-    ensures filled { filled.new.kept ≡ filled.old.kept + 54 }
-    ensures block { block.new.kept ≡ block.old.kept }
-    ensures three { three.new.kept ≡ three.old.kept + 3 }
-{
-    let mut stream = S::start(0, start);
-    absorb_costs::<S, 0, 10>(&mut stream, &[0; 10], ten);
-    absorb_costs::<S, 10, 54>(&mut stream, &[0; 54], filled);
-    absorb_costs::<S, 0, 64>(&mut stream, &[0; 64], block);
-    absorb_costs::<S, 0, 3>(&mut stream, &[0; 3], three);
-    stream
-}
-
-// Returns the hash of the 131 zeros that `absorbs_cost` absorbs.
-fn hash_of_zeros<S: KomiStream>() -> u64 {
-    let stream = absorbs_cost::<S>(
-        &mut Tally::new(),
-        &mut Tally::new(),
-        &mut Tally::new(),
-        &mut Tally::new(),
-        &mut Tally::new(),
-    );
-    stream.answer(&mut Tally::new())
+// Absorbs 10, 54, 64 and 3 zeros in turn, and returns the hash of all.
+fn absorbs_cost<S: KomiStream>() -> u64 {
+    let tally = &mut Tally::new();
+    let mut stream = S::start(0, tally);
+    absorb_costs::<S, 0, 10, 10>(&mut stream, &[0; 10], tally);
+    absorb_costs::<S, 10, 54, 54>(&mut stream, &[0; 54], tally);
+    absorb_costs::<S, 0, 64, 0>(&mut stream, &[0; 64], tally);
+    absorb_costs::<S, 0, 3, 3>(&mut stream, &[0; 3], tally);
+    stream.answer(tally)
 }
 
 #[test]
-fn counted_absorbs_give_known_hashes(rt: HostRuntime) {
-    let hash = 0x5e6f_0a82_e7ff_edf6;
-    assert_same(&rt, hash_of_zeros::<v4::StreamedKomihash>(), hash, 4);
-    assert_same(&rt, hash_of_zeros::<v5::StreamedKomihash>(), hash, 5);
+fn counted_calls_give_known_hashes(rt: HostRuntime) {
+    hashes_cost::<4>(&rt, &SIX_IN_FOUR);
+    hashes_cost::<5>(&rt, &SIX_IN_FIVE);
+    assert_eq!(rt; absorbs_cost::<Four>(), 0x5e6f_0a82_e7ff_edf6);
+    assert_eq!(rt; absorbs_cost::<Five>(), 0x5e6f_0a82_e7ff_edf6);
 }
 
-fn cuts_cost<S: KomiStream>(message: &[u8; 95], out: &mut [u64; 200], tally: &mut Tally) -> usize
-    ensures costs { Costs tally 16 95 }
+// Returns an Absorb of 1, 63, 0 and 31 bytes, with an Answer before and after each.
+fn at_cuts() -> [Call<'static>; 9]
+    ensures products { run_products result ≡ 16 }
+    ensures kept { run_kept result ≡ 95 }
 {
-    run::<S>(0, &at_cuts(message), out, tally)
+    let ask = Call::Answer;
+    let (one, block) = (&SIX_IN_FIVE[..1], &SIX_IN_FIVE[1..64]);
+    let (one, block) = (Call::Absorb(one), Call::Absorb(block));
+    let (none, last) = (Call::Absorb(&[]), Call::Absorb(&SIX_IN_FIVE[64..]));
+    [ask, one, ask, block, ask, none, ask, last, ask]
 }
 
-fn piece_costs<S: KomiStream>(message: &[u8; 95], out: &mut [u64; 200], tally: &mut Tally) -> usize
-    ensures costs { Costs tally 8 31 }
+// The answers to `at_cuts` in version 5 with seed 0.
+const CUT_ANSWERS: [u64; 5] = [EMPTY_HASH, 0xfd45_482d_180d_0441, BLOCK_HASH, BLOCK_HASH, 6];
+
+// Returns an Absorb of each byte of `SIX_IN_FIVE`, and one Answer at the end.
+fn byte_by_byte() -> [Call<'static>; 96]
+    ensures products { run_products result ≡ 8 }
+    ensures kept { run_kept result ≡ 95 }
 {
-    run::<S>(0, &[Call::Absorb(message), Call::Answer], out, tally)
+    let mut calls = [Call::Answer; 96];
+    for i in (0..95usize).rev() {
+        calls[i] = Call::Absorb(&SIX_IN_FIVE[i..i + 1]);
+    }
+    calls
 }
 
-fn bytes_cost<S: KomiStream>(message: &[u8; 95], out: &mut [u64; 200], tally: &mut Tally) -> usize
-    ensures costs { Costs tally 8 95 }
-{
-    run::<S>(0, &byte_by_byte(message), out, tally)
+// Compares the answers that calls wrote into words 9. The others are still 9.
+fn assert_answers(rt: &impl Abort, count: usize, out: &[u64; 200], answers: &[u64]) {
+    assert!(rt; answers.len() <= 200);
+    let mut wanted = [9; 200];
+    wanted[..answers.len()].copy_from_slice(answers);
+    assert_eq!(rt; count, answers.len());
+    assert_eq!(rt; *out, wanted);
 }
 
-fn nothing_costs<S: KomiStream>(out: &mut [u64; 200], tally: &mut Tally) -> usize
-    ensures costs { Costs tally 1 0 }
+// Runs calls on a new stream of seed 0, for this many products and kept bytes. Compares the answers.
+fn run_costs<S: KomiStream, const PRODUCTS: usize, const KEPT: usize>(
+    rt: &impl Abort,
+    calls: &[Call<'_>],
+    answers: &[u64],
+    tally: &mut Tally,
+)
+    requires length { length calls.now ≤ 200 }
+    requires products { run_products calls.now ≡ PRODUCTS }
+    requires kept { run_kept calls.now ≡ KEPT }
+    ensures costs { Costs tally PRODUCTS KEPT }
 {
-    run::<S>(0, &[], out, tally)
+    let mut out = [9; 200];
+    let count = run::<S>(0, calls, &mut out, tally);
+    assert_answers(rt, count, &out, answers);
 }
 
 #[test]
-fn counted_runs_answer_known_hashes(rt: HostRuntime) {
-    let (message, tally) = (&block_message(5), &mut Tally::new());
-    let out = &mut [9; 200];
-    let count = cuts_cost::<v5::StreamedKomihash>(message, out, tally);
-    assert_answers(&rt, count, out, &CUT_ANSWERS);
-    let count = piece_costs::<v5::StreamedKomihash>(message, out, tally);
-    assert_answers(&rt, count, out, &[6]);
-    let count = bytes_cost::<v5::StreamedKomihash>(message, out, tally);
-    assert_answers(&rt, count, out, &[6]);
-    let count = nothing_costs::<v5::StreamedKomihash>(out, tally);
-    assert_answers(&rt, count, out, &[]);
+fn runs_calls_in_order(rt: HostRuntime) {
+    let (tally, ask) = (&mut Tally::new(), Call::Answer);
+    run_costs::<Five, 16, 95>(&rt, &at_cuts(), &CUT_ANSWERS, tally);
+    run_costs::<Five, 8, 31>(&rt, &[Call::Absorb(&SIX_IN_FIVE), ask], &[6], tally);
+    run_costs::<Five, 8, 95>(&rt, &byte_by_byte(), &[6], tally);
+    run_costs::<Five, 1, 0>(&rt, &[], &[], tally);
+    let calls = [Call::Absorb(&ZERO), ask, Call::Absorb(&[]), ask];
+    run_costs::<Five, 7, 16>(&rt, &calls, &[0, 0], tally);
+    let (block, others) = (&SIX_IN_FOUR[..64], &SIX_IN_FOUR[64..]);
+    let calls = [ask, Call::Absorb(block), ask, Call::Absorb(others), ask];
+    run_costs::<Four, 12, 31>(&rt, &calls, &[EMPTY_HASH, BLOCK_HASH, 6], tally);
+    let mut out = [9; 2];
+    assert_eq!(rt; run::<Five>(0, &[], &mut out, tally), 0);
+    assert_eq!(rt; out, [9; 2]);
 }
 
-// Saves a stream and resumes it. This succeeds in every state, and changes nothing.
-fn save_and_resume<S: KomiStream>(stream: &mut S) -> bool
-    ensures resumed { IsTrue result }
-    ensures state { S.state stream.new ≡ S.state stream.old }
+#[test]
+fn answers_after_every_byte(rt: HostRuntime) {
+    let absorbs = byte_by_byte();
+    let mut calls = [Call::Answer; 190];
+    let mut answers = [0; 95];
+    for i in 0..95usize {
+        calls[2 * i] = absorbs[i];
+        answers[i] = v5::komihash(&SIX_IN_FIVE[..i + 1], 0);
+    }
+    assert_eq!(rt; answers[63], BLOCK_HASH);
+    assert_eq!(rt; &answers[79..94], [0; 15].as_slice());
+    assert_eq!(rt; answers[94], 6);
+    let mut out = [9; 200];
+    let count = run::<Five>(0, &calls, &mut out, &mut Tally::new());
+    assert_answers(&rt, count, &out, &answers);
+}
+
+// Saves a stream and resumes it.
+fn save_and_resume<S: KomiStream>(rt: &impl Abort, stream: &mut S)
+    ensures { S.state stream.new ≡ S.state stream.old }
 {
     let mut text = [0; LONGEST_TEXT];
     let end = stream.store(&mut text);
-    let Some(resumed) = S::restore(&text[..end]) else {
-        return false;
-    };
-    *stream = resumed;
-    true
+    *stream = S::restore(&text[..end]).expect(rt, "a stream");
 }
 
 // Makes calls on a new stream of seed 0, each in its own run, and saves and resumes the stream
-// after each. They cost what one run does. Returns the stream and the number of answers.
-fn run_resumed<S: KomiStream>(
+// after each. They cost what one run does. Compares the answers, and returns the stream.
+fn run_resumed<S: KomiStream, const PRODUCTS: usize, const KEPT: usize>(
     rt: &impl Abort,
     calls: &[Call<'_>],
-    out: &mut [u64],
+    answers: &[u64],
     tally: &mut Tally,
-) -> (S, usize)
-    requires { length calls.now ≤ length out.old }
-    ensures costs { Costs tally (run_products calls.now) (run_kept calls.now) }
+) -> S
+    requires products { run_products calls.now ≡ PRODUCTS }
+    requires kept { run_kept calls.now ≡ KEPT }
+    ensures costs { Costs tally PRODUCTS KEPT }
 {
-    let mut stream = S::start(0, tally);
+    let mut out = [9; 200];
     let mut count = 0;
-    for i in 0..calls.len() {
-        count += run_on(&mut stream, &calls[i..i + 1], &mut out[count..], tally);
-        assert!(rt; save_and_resume(&mut stream));
+    let mut stream = S::start(0, tally);
+    for call in calls {
+        assert!(rt; count < 200);
+        count += run_on(&mut stream, &[*call], &mut out[count..], tally);
+        save_and_resume(rt, &mut stream);
     }
-    (stream, count)
+    assert_answers(rt, count, &out, answers);
+    stream
 }
 
-fn resumed_cuts_cost<S: KomiStream>(
-    rt: &impl Abort,
-    message: &[u8; 95],
-    out: &mut [u64; 200],
-    tally: &mut Tally,
-) -> (S, usize)
-    ensures costs { Costs tally 16 95 }
+// Starts a stream, makes no calls on it, and saves it.
+fn start_costs(rt: &impl Abort, tally: &mut Tally)
+    ensures costs { Costs tally 1 0 }
 {
-    run_resumed::<S>(rt, &at_cuts(message), out, tally)
+    let (mut stream, mut out) = (Five::start(0, tally), [9; 2]);
+    assert_eq!(rt; run_on(&mut stream, &[], &mut out, tally), 0);
+    assert_eq!(rt; out, [9; 2]);
+    let mut text = [0xee; 140];
+    let length = stream.store(&mut text);
+    assert_text(rt, &text, length, [&[5, 0, 0, 0], &LANES, &[]]);
 }
 
-fn resumed_bytes_cost<S: KomiStream>(
-    rt: &impl Abort,
-    message: &[u8; 95],
-    out: &mut [u64; 200],
-    tally: &mut Tally,
-) -> usize
-    ensures costs { Costs tally 8 95 }
+// Resumes a stream from a text that has no pending bytes.
+fn resume_none_pending<S: KomiStream>(rt: &impl Abort, text: &[u8; 68]) -> S
+    ensures { length (S.state result).pending ≡ 0 }
 {
-    run_resumed::<S>(rt, &byte_by_byte(message), out, tally).1
+    S::restore(text).expect(rt, "a stream")
+}
+
+// Makes an Answer on a resumed stream.
+fn resumed_answer_costs(rt: &impl Abort, tally: &mut Tally)
+    ensures costs { Costs tally 2 0 }
+{
+    let (mut text, mut out) = ([0; 68], [9; 200]);
+    text[..4].copy_from_slice(&[4, 1, 1, 0]);
+    text[67] = 0x80;
+    let mut stream = resume_none_pending::<Four>(rt, &text);
+    let count = run_on(&mut stream, &[Call::Answer], &mut out, tally);
+    assert_answers(rt, count, &out, &[0xc000_0000_0000_0003]);
 }
 
 #[test]
 fn saving_and_resuming_changes_nothing(rt: HostRuntime) {
-    let (message, tally) = (&block_message(5), &mut Tally::new());
-    let out = &mut [9; 200];
-    let (stream, count) = resumed_cuts_cost::<v5::StreamedKomihash>(&rt, message, out, tally);
-    assert_answers(&rt, count, out, &CUT_ANSWERS);
-    let mut text = [0; LONGEST_TEXT];
-    assert_same_count(&rt, stream.store(&mut text), 99, 1);
-    assert_same_bytes(&rt, &text[..4], &[5, 1, 0, 31], 0);
-    assert_same_bytes(&rt, &text[4..68], &lanes_after_block(), 4);
-    assert_same_bytes(&rt, &text[68..99], &message[64..], 68);
-
-    let count = resumed_bytes_cost::<v5::StreamedKomihash>(&rt, message, out, tally);
-    assert_answers(&rt, count, out, &[6]);
-}
-
-// Starts a stream, and makes no calls on it.
-fn start_costs<S: KomiStream>(out: &mut [u64; 200], tally: &mut Tally) -> (S, usize)
-    ensures costs { Costs tally 1 0 }
-{
-    let mut stream = S::start(0, tally);
-    let count = run_on(&mut stream, &[], out, tally);
-    (stream, count)
-}
-
-#[test]
-fn runs_no_calls(rt: HostRuntime) {
-    let out = &mut [9; 200];
-    let (stream, count) = start_costs::<v5::StreamedKomihash>(out, &mut Tally::new());
-    assert_answers(&rt, count, out, &[]);
-    let mut text = [0xee; 131];
-    let mut wanted = text;
-    wanted[..68].copy_from_slice(&new_text(5));
-    assert_same_count(&rt, stream.store(&mut text), 68, 1);
-    assert_same_bytes(&rt, &text, &wanted, 68);
-}
-
-// Makes an Answer on a stream that is resumed with no pending bytes.
-fn resumed_answer_costs<S: KomiStream>(
-    text: &[u8; 68],
-    out: &mut [u64; 200],
-    tally: &mut Tally,
-) -> Option<usize>
-    ensures products { IfSome result (λ _. tally.new.products ≡ tally.old.products + 2) }
-    ensures kept { tally.new.kept ≡ tally.old.kept }
-{
-    let mut stream = S::restore(text)?;
-    Some(run_on(&mut stream, &[Call::Answer], out, tally))
-}
-
-#[test]
-fn answers_after_resuming(rt: HostRuntime) {
-    let out = &mut [9; 200];
-    let text = text_of_zeros([4, 1, 1, 0], 0x80);
-    let count = resumed_answer_costs::<v4::StreamedKomihash>(&text, out, &mut Tally::new());
-    assert_answers(&rt, count.unwrap_or(0), out, &[0xc000_0000_0000_0003]);
+    let tally = &mut Tally::new();
+    let stream = run_resumed::<Five, 16, 95>(&rt, &at_cuts(), &CUT_ANSWERS, tally);
+    let (mut text, lanes) = ([0xee; 140], lanes_after_block());
+    let length = stream.store(&mut text);
+    assert_text(
+        &rt,
+        &text,
+        length,
+        [&[5, 1, 0, 31], &lanes, &SIX_IN_FIVE[64..]],
+    );
+    run_resumed::<Five, 8, 95>(&rt, &byte_by_byte(), &[6], tally);
+    start_costs(&rt, tally);
+    resumed_answer_costs(&rt, tally);
 }

@@ -8,4 +8,4 @@ returns-clause-pending g c =
     let few = (g.met.S.KomiStream.is_state c.args.stream.now).few in
     ap (λ t. length t.pending) c.absorb.ensures.state
     ∙ pending-absorb g.S.KomiStream.VERSION s c.args.bytes.now few
-    ∙ omega (arith, c.requires, c.told-bytes)
+    ∙ omega (arith, c.requires.pending, c.told-bytes)

@@ -1,15 +1,15 @@
--- what was counted, and what the remaining calls cost, make the cost of all calls
-use Rattle.std.proofs.Common.{◌≡◌, ◌+◌, ◌≤◌, length, drop}
-use Rattle.komihash.specs.Calls.{onward_products, onward_kept, run_products, run_kept}
+-- what the calls so far have absorbed and cost
+use Rattle.std.proofs.Common.{◌≡◌, ◌+◌, take}
+use Rattle.komihash.specs.Calls.{bytes_of_calls, run_products, run_kept}
+use Rattle.komihash.specs.Stream.{start, absorb}
 use Rattle.komihash.proofs.tests.tally.run_resumed.Given as goal
 
-abbrev pub invariant-loop-i : goal.invariant-loop-i
-invariant-loop-i g l =
-    let fill = length (g.S.KomiStream.state l.stream).pending in
-    let left = drop l.i l.calls in
+abbrev pub invariant-loop-call : goal.invariant-loop-call
+invariant-loop-call g l =
+    let made = take l.call-index l.calls in
     record {
-      count : l.count ≤ l.i;
-      products : l.tally.products + onward_products fill left
-          ≡ l.fn.tally.products + run_products l.calls;
-      kept : l.tally.kept + onward_kept fill left ≡ l.fn.tally.kept + run_kept l.calls;
+      state : g.S.KomiStream.state l.stream
+          ≡ absorb g.S.KomiStream.VERSION (start 0) (bytes_of_calls made);
+      products : l.tally.products ≡ l.fn.tally.products + run_products made;
+      kept : l.tally.kept ≡ l.fn.tally.kept + run_kept made;
     }
