@@ -70,11 +70,11 @@ fn stays_at_zero_with_few_more_bytes(rt: HostRuntime) {
 // version 5, as the Rust crate gives them. A sum depends on the order.
 #[test]
 fn hashes_every_length_as_the_rust_crate_does(rt: HostRuntime) {
-    let (message, random) = (pattern(), 0x1d5c_8e2b_60f3_97a4);
+    let (message, arbitrary) = (pattern(), 0x1d5c_8e2b_60f3_97a4);
     for (seed, wanted) in [
         (0, [0xc761_e2fb_2ab7_2cce, 0x209a_11db_4b56_10a5]),
         (u64::MAX, [0x36a1_5401_f459_b836, 0x2b42_7819_8267_30bd]),
-        (random, [0x92af_eeab_c2ee_4ec0, 0x5bd6_0463_d324_c22f]),
+        (arbitrary, [0x92af_eeab_c2ee_4ec0, 0x5bd6_0463_d324_c22f]),
     ] {
         let mut sums = [0u64; 2];
         for n in 0..=300usize {

@@ -58,7 +58,8 @@ pub(crate) const EMPTY_HASH: u64 = 0xb768_3ea7_4301_32b4;
 /// The hash of the first 64 bytes of `SIX_IN_FOUR` in version 4, and of `SIX_IN_FIVE` in version 5.
 pub(crate) const BLOCK_HASH: u64 = 0x2a2f_07ac_9381_0128;
 
-/// Returns a message of 300 bytes, whose prefixes the tests hash: byte i is 7 * i + 3, modulo 256.
+/// Returns a message of 300 bytes: byte i is 7 * i + 3, modulo 256. The tests hash its prefixes,
+/// which docs/DEFINITIONS.md calls B(n).
 pub(crate) fn pattern() -> [u8; 300] {
     let mut bytes = [0; 300];
     for i in 0..300usize {

@@ -1,5 +1,5 @@
 -- `goes_on` adds one call to what the calls so far have done
-use Rattle.std.proofs.Common.{◌+◌, ◌∙◌, ◌∷◌, [], sym, take, get_or, arith}
+use Rattle.std.proofs.Common.{◌∷◌, [], take, get_or, arith}
 use Rattle.std.proofs.lemmas.List.{take_more}
 use Rattle.komihash.specs.Stream.{start}
 use Rattle.komihash.specs.declared.stream.Call.TheVariants.{Absorb}
@@ -8,11 +8,7 @@ use Rattle.komihash.proofs.CallLists.{goes_on}
 use Rattle.komihash.proofs.tests.tally.run_resumed.Goals as goal
 
 pub loop-call-init : goal.loop-call-init
-loop-call-init g c = record {
-  state = c.start-stream.ensures.state ∙ sym (absorb-nothing _ _);
-  products = c.start-stream.ensures.products;
-  kept = omega arith;
-}
+loop-call-init g c = grind (arith, absorb-nothing)
 
 pub loop-call-preserved : goal.loop-call-preserved
 loop-call-preserved g c =
@@ -20,13 +16,8 @@ loop-call-preserved g c =
     let i = c.loop-call.call-index in
     let calls = c.args.calls.now in
     let absent = Absorb record { ref_ptr = (0, 0); now = [] } in
-    let is = c.loop-call.invariant in
-    let run = c.run_on-count.ensures in
     let one =
     goes_on g.S.KomiStream.VERSION (start 0) now (take i calls) (get_or calls i absent ∷ [])
-    (omega arith) is.state in
-    rw (take_more calls i absent c.loop-call-test.true) record {
-      state = c.save_and_resume.ensures ∙ run.state ∙ sym one.state;
-      products = omega (arith, one.products, run.products, is.products);
-      kept = omega (arith, one.kept, run.kept, is.kept);
-    }
+    (omega arith) c.loop-call.invariant.state in
+    rw (take_more calls i absent c.loop-call-test.true)
+    record { state = cc; products = omega arith; kept = omega arith }
