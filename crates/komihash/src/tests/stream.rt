@@ -76,7 +76,7 @@ fn continues_after_finish(rt: HostRuntime) {
     }
 }
 
-// Each row has a message, its hashes, and the numbers of bytes from which on the hash is 0 until the
+// Each row has a message, its hashes, and the number of bytes from which on the hash is 0 until the
 // last byte. The message is cut in two at every index, with an empty write between, and into bytes.
 #[test]
 fn finishes_alike_however_known_messages_are_cut(rt: HostRuntime) {

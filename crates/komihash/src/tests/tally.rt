@@ -113,7 +113,7 @@ fn assert_answers(rt: &impl Abort, count: usize, out: &[u64; 200], answers: &[u6
     assert_eq!(rt; *out, wanted);
 }
 
-// Runs calls on a new stream of seed 0, for this many products and kept bytes. Compares the answers.
+// Runs calls on a new stream of seed 0, for these products and kept bytes. Compares the answers.
 fn run_costs<S: KomiStream, const PRODUCTS: usize, const KEPT: usize>(
     rt: &impl Abort,
     calls: &[Call<'_>],
