@@ -1,5 +1,6 @@
 -- The saved text of a stream, which is a list of bytes.
-use Rattle.std.specs.Prelude.{ℕ, ◌≡◌, Bool, List, [], ◌∷◌, ◌++◌, length, if◌then◌else◌}
+use Rattle.std.specs.Prelude.{ℕ, ◌≡◌, ◌≤◌, ◌↔◌, Bool, List, [], ◌∷◌, ◌++◌, length, take, drop}
+use Rattle.std.specs.Prelude.{Option, IfSome, IsSomeAnd, IsNone, if◌then◌else◌}
 use Rattle.komihash.specs.Rounds.{Lanes}
 use Rattle.komihash.specs.Stream.{State, IsState, HasAbsorbed}
 use Rattle.komihash.specs.Words.{all_bytes}
@@ -28,3 +29,27 @@ IsText v bytes = (s : State) × IsState v s × (text v s ≡ bytes)
 -- the bytes are the text of a stream of version v that began from the seed and has absorbed m
 unfoldable pub IsTextAfter : ℕ → ℕ → List ℕ → List ℕ → Type 0
 IsTextAfter v seed m bytes = (s : State) × IsState v s × HasAbsorbed v seed s m × (text v s ≡ bytes)
+
+-- ---- what a call does, which the trait and each stream state alike; 131 is `LONGEST_TEXT`
+
+-- a call writes the text of a stream to the front of `old`, which is then `new`, leaves the rest,
+-- and returns the length of the text
+pub record Stored (v : ℕ) (now : State) (old new : List ℕ) (result : ℕ) : Type 0 where
+  pub length : result ≡ length (text v now)
+  pub most : result ≤ 131
+  pub text : take result new ≡ text v now
+  pub message : (seed : ℕ) (m : List ℕ) → HasAbsorbed v seed now m
+      → IsTextAfter v seed m (take result new)
+  pub rest : drop result new ≡ drop result old
+
+-- a call returns the stream whose text the bytes are, where `state` gives its state, or None if
+-- they are the text of no state
+pub record Restored {A : Type 0} (v : ℕ) (state : A → State) (bytes : List ℕ) (result : Option A)
+    : Type 0 where
+  pub same : (s : State) → IsState v s → text v s ≡ bytes
+      → IsSomeAnd result (λ stream. state stream ≡ s)
+  pub message : (seed : ℕ) (m : List ℕ) → IsTextAfter v seed m bytes
+      → IsSomeAnd result (λ stream. HasAbsorbed v seed (state stream) m)
+  pub most : IfSome result (λ _. length bytes ≤ 131)
+  pub text : IfSome result (λ stream. text v (state stream) ≡ bytes)
+  pub none : IsNone result ↔ ¬ IsText v bytes

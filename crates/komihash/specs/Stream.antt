@@ -1,7 +1,7 @@
 -- A stream: its state, how it absorbs bytes one after the other, and what it answers.
 use Rattle.std.specs.Prelude.{ℕ, ◌<◌, ◌^◌, ◌≡◌, ◌==◌, Bool, true, false, if◌then◌else◌}
 use Rattle.std.specs.Prelude.{List, [], ◌∷◌, ◌++◌, length}
-use Rattle.komihash.specs.Hash.{hash_from_pair}
+use Rattle.komihash.specs.Hash.{komi, hash_from_pair}
 use Rattle.komihash.specs.Rounds.{Lanes, seed_pair, lanes, block_round, join}
 use Rattle.komihash.specs.Padding.{pads_with_two, padding_after, padded_words}
 use Rattle.komihash.specs.Words.{AreBytes, words_of}
@@ -84,3 +84,24 @@ pub record IsState (v : ℕ) (s : State) : Type 0 where
 pub record StateOf (v : ℕ) : Type 0 where
   pub state : State
   pub is_state : IsState v state
+
+-- ---- what a call does, which the trait, the stream of Rust and that of C state alike
+
+-- a new stream has absorbed nothing
+pub record Started (v seed : ℕ) (new : State) : Type 0 where
+  pub state : new ≡ start seed
+  pub message : HasAbsorbed v seed new []
+
+-- a stream absorbs bytes: they follow the message that it had absorbed
+pub record Absorbed (v : ℕ) (old new : State) (bytes : List ℕ) : Type 0 where
+  pub state : new ≡ absorb v old bytes
+  pub message : (seed : ℕ) (m : List ℕ) → HasAbsorbed v seed old m
+      → HasAbsorbed v seed new (m ++ bytes)
+  -- the same, where the message is known in another form
+  pub joined : (seed : ℕ) (m all : List ℕ) → HasAbsorbed v seed old m → m ++ bytes ≡ all
+      → HasAbsorbed v seed new all
+
+-- a stream answers the hash of the message that it has absorbed
+pub record Answered (v : ℕ) (now : State) (result : ℕ) : Type 0 where
+  pub answer : result ≡ answer v now
+  pub hash : (seed : ℕ) (m : List ℕ) → HasAbsorbed v seed now m → result ≡ komi v seed m

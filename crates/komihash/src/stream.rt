@@ -1,13 +1,13 @@
 //! The trait of streams, and runs of calls on one.
 
-ghost use Rattle.std.specs.Prelude.{◌≡◌, ◌+◌, ◌<◌, ◌≤◌, ◌⊎◌, ◌↔◌, ℕ, IfSome, IsSomeAnd, IsNone};
-ghost use Rattle.std.specs.Prelude.{List, [], ◌++◌, length, take, drop};
+ghost use Rattle.std.specs.Prelude.{◌≡◌, ◌<◌, ◌≤◌, ◌⊎◌, ℕ, List, ◌++◌, length, drop};
 ghost use Rattle.komihash.specs.Calls.{answers_after, answers, onward, bytes_of_calls};
 ghost use Rattle.komihash.specs.Calls.{onward_products, onward_kept, run_products, run_kept};
-ghost use Rattle.komihash.specs.Counts.{write_products, answer_products, kept_bytes};
+ghost use Rattle.komihash.specs.Counts.{Costs, write_products, answer_products, kept_bytes};
 ghost use Rattle.komihash.specs.Hash.{komi};
-ghost use Rattle.komihash.specs.Saved.{text, IsText, IsTextAfter};
-ghost use Rattle.komihash.specs.Stream.{State, IsState, HasAbsorbed, start, absorb, answer};
+ghost use Rattle.komihash.specs.Saved.{Stored, Restored};
+ghost use Rattle.komihash.specs.Stream.{State, IsState, HasAbsorbed};
+ghost use Rattle.komihash.specs.Stream.{Started, Absorbed, Answered};
 
 use crate::tally::Tally;
 
@@ -35,33 +35,22 @@ pub trait KomiStream: Sized + Drop {
 
     /// Returns the new stream of a seed. Counts one product.
     fn start(seed: u64, tally: &mut Tally) -> Self
-        ensures state { state result ≡ start seed }
-        ensures message { HasAbsorbed VERSION seed (state result) [] }
-        ensures products { tally.new.products ≡ tally.old.products + 1 }
-        ensures kept { tally.new.kept ≡ tally.old.kept };
+        ensures started { Started VERSION seed (state result) }
+        ensures costs { Costs tally 1 0 };
 
     /// Absorbs bytes. Counts four products for each block of 64 bytes that they complete, and the
     /// bytes that are copied.
     fn absorb(&mut self, bytes: &[u8], tally: &mut Tally)
-        ensures state { state self.new ≡ absorb VERSION (state self.old) bytes.now }
-        ensures message { (seed : ℕ) (m : List ℕ) → HasAbsorbed VERSION seed (state self.old) m
-            → HasAbsorbed VERSION seed (state self.new) (m ++ bytes.now) }
-        ensures joined { (seed : ℕ) (m all : List ℕ) → HasAbsorbed VERSION seed (state self.old) m
-            → m ++ bytes.now ≡ all → HasAbsorbed VERSION seed (state self.new) all }
-        ensures products { tally.new.products ≡ tally.old.products
-            + write_products (length (state self.old).pending) (length bytes.now) }
-        ensures kept { tally.new.kept ≡ tally.old.kept
-            + kept_bytes (length (state self.old).pending) (length bytes.now) };
+        ensures absorbed { Absorbed VERSION (state self.old) (state self.new) bytes.now }
+        ensures costs { Costs tally
+            (write_products (length (state self.old).pending) (length bytes.now))
+            (kept_bytes (length (state self.old).pending) (length bytes.now)) };
 
     /// Returns the hash of all bytes so far. The stream is unchanged. Counts two products, and one
     /// for each 16 pending bytes.
     fn answer(&self, tally: &mut Tally) -> u64
-        ensures answer { result ≡ answer VERSION (state self.now) }
-        ensures hash { (seed : ℕ) (m : List ℕ) → HasAbsorbed VERSION seed (state self.now) m
-            → result ≡ komi VERSION seed m }
-        ensures products { tally.new.products
-            ≡ tally.old.products + answer_products (length (state self.now).pending) }
-        ensures kept { tally.new.kept ≡ tally.old.kept };
+        ensures answered { Answered VERSION (state self.now) result }
+        ensures costs { Costs tally (answer_products (length (state self.now).pending)) 0 };
 
     /// Writes the saved text of the stream to the front of `out`, whose rest is unchanged. Returns
     /// the text's length in bytes.
@@ -69,23 +58,12 @@ pub trait KomiStream: Sized + Drop {
     /// `out` needs room for `LONGEST_TEXT` bytes, whatever is pending.
     fn store(&self, out: &mut [u8]) -> usize
         requires { LONGEST_TEXT ≤ length out.old }
-        ensures length { result ≡ length (text VERSION (state self.now)) }
-        ensures most { result ≤ LONGEST_TEXT }
-        ensures text { take result out.new ≡ text VERSION (state self.now) }
-        ensures message { (seed : ℕ) (m : List ℕ) → HasAbsorbed VERSION seed (state self.now) m
-            → IsTextAfter VERSION seed m (take result out.new) }
-        ensures rest { drop result out.new ≡ drop result out.old };
+        ensures { Stored VERSION (state self.now) out.old out.new result };
 
     /// Returns the stream that has these bytes as its saved text, or `None` if no stream of this
     /// version has.
     fn restore(bytes: &[u8]) -> Option<Self>
-        ensures text { IfSome result (λ stream. text VERSION (state stream) ≡ bytes.now) }
-        ensures same { (s : State) → IsState VERSION s → text VERSION s ≡ bytes.now
-            → IsSomeAnd result (λ stream. state stream ≡ s) }
-        ensures message { (seed : ℕ) (m : List ℕ) → IsTextAfter VERSION seed m bytes.now
-            → IsSomeAnd result (λ stream. HasAbsorbed VERSION seed (state stream) m) }
-        ensures most { IfSome result (λ _. length bytes.now ≤ LONGEST_TEXT) }
-        ensures none { IsNone result ↔ ¬ IsText VERSION bytes.now };
+        ensures { Restored VERSION state bytes.now result };
 
     ghost versions: { (VERSION ≡ 4) ⊎ (VERSION ≡ 5) };
 
@@ -121,14 +99,11 @@ pub fn run_on<S: KomiStream>(
     ensures count { result ≡ length (onward S.VERSION (S.state stream.old) calls.now) }
     ensures hashes { (seed : ℕ) (m : List ℕ) → HasAbsorbed S.VERSION seed (S.state stream.old) m
         → out.new ≡ answers_after (komi S.VERSION seed) m calls.now ++ drop result out.old }
-    ensures state { S.state stream.new
-        ≡ absorb S.VERSION (S.state stream.old) (bytes_of_calls calls.now) }
-    ensures message { (seed : ℕ) (m : List ℕ) → HasAbsorbed S.VERSION seed (S.state stream.old) m
-        → HasAbsorbed S.VERSION seed (S.state stream.new) (m ++ bytes_of_calls calls.now) }
-    ensures products { tally.new.products
-        ≡ tally.old.products + onward_products (length (S.state stream.old).pending) calls.now }
-    ensures kept { tally.new.kept
-        ≡ tally.old.kept + onward_kept (length (S.state stream.old).pending) calls.now }
+    ensures absorbed { Absorbed S.VERSION (S.state stream.old) (S.state stream.new)
+        (bytes_of_calls calls.now) }
+    ensures costs { Costs tally
+        (onward_products (length (S.state stream.old).pending) calls.now)
+        (onward_kept (length (S.state stream.old).pending) calls.now) }
 {
     let mut count = 0;
     for call in calls {
@@ -157,8 +132,7 @@ pub fn run<S: KomiStream>(
     requires { length calls.now ≤ length out.old }
     ensures answers { out.new ≡ answers S.VERSION seed calls.now ++ drop result out.old }
     ensures count { result ≡ length (answers S.VERSION seed calls.now) }
-    ensures products { tally.new.products ≡ tally.old.products + run_products calls.now }
-    ensures kept { tally.new.kept ≡ tally.old.kept + run_kept calls.now }
+    ensures costs { Costs tally (run_products calls.now) (run_kept calls.now) }
 {
     let mut stream = S::start(seed, tally);
     run_on(&mut stream, calls, out, tally)

@@ -2,12 +2,9 @@
 
 #![tactic(auto, using(crate::proofs::StreamMessages::message_laws))]
 
-ghost use Rattle.std.specs.Prelude.{◌≡◌, ◌+◌, ◌<◌, ◌≤◌, ◌↔◌, ℕ, IfSome, IsSomeAnd, IsNone};
-ghost use Rattle.std.specs.Prelude.{List, [], ◌++◌, length, take, drop};
-ghost use Rattle.komihash.specs.Hash.{komi};
-ghost use Rattle.komihash.specs.Saved.{text, IsText, IsTextAfter};
-ghost use Rattle.komihash.specs.Stream.{State, StateOf, IsState, HasAbsorbed};
-ghost use Rattle.komihash.specs.Stream.{start, absorb, answer};
+ghost use Rattle.std.specs.Prelude.{◌≤◌, length};
+ghost use Rattle.komihash.specs.Saved.{Stored, Restored};
+ghost use Rattle.komihash.specs.Stream.{StateOf, IsState, Started, Absorbed, Answered};
 
 use super::raw::RawStream;
 use super::{KomiStream, LONGEST_TEXT};
@@ -50,8 +47,7 @@ where
     /// Returns the new stream of seed 0.
     #[inline]
     pub fn new() -> Self
-        ensures state { result.state ≡ start 0 }
-        ensures message { HasAbsorbed V 0 result.state [] }
+        ensures { Started V 0 result.state }
     {
         StreamedKomihash::new_with_seed(0)
     }
@@ -59,8 +55,7 @@ where
     /// Returns the new stream of a seed.
     #[inline]
     pub fn new_with_seed(seed: u64) -> StreamedKomihash<V>
-        ensures state { result.state ≡ start seed }
-        ensures message { HasAbsorbed V seed result.state [] }
+        ensures { Started V seed result.state }
     {
         StreamedKomihash::start(seed, &mut Tally::new())
     }
@@ -68,11 +63,7 @@ where
     /// Absorbs bytes.
     #[inline(always)]
     pub fn write(&mut self, bytes: &[u8])
-        ensures state { self.new.state ≡ absorb V self.old.state bytes.now }
-        ensures message { (seed : ℕ) (m : List ℕ) → HasAbsorbed V seed self.old.state m
-            → HasAbsorbed V seed self.new.state (m ++ bytes.now) }
-        ensures joined { (seed : ℕ) (m all : List ℕ) → HasAbsorbed V seed self.old.state m
-            → m ++ bytes.now ≡ all → HasAbsorbed V seed self.new.state all }
+        ensures { Absorbed V self.old.state self.new.state bytes.now }
     {
         self.absorb(bytes, &mut Tally::new());
     }
@@ -80,9 +71,7 @@ where
     /// Returns the hash of all bytes so far. The stream is unchanged, and may absorb more.
     #[inline]
     pub fn finish(&self) -> u64
-        ensures answer { result ≡ answer V self.now.state }
-        ensures hash { (seed : ℕ) (m : List ℕ) → HasAbsorbed V seed self.now.state m
-            → result ≡ komi V seed m }
+        ensures { Answered V self.now.state result }
     {
         self.answer(&mut Tally::new())
     }
@@ -95,12 +84,7 @@ where
     #[inline(always)]
     pub fn save(&self, out: &mut [u8]) -> usize
         requires { LONGEST_TEXT ≤ length out.old }
-        ensures length { result ≡ length (text V self.now.state) }
-        ensures most { result ≤ LONGEST_TEXT }
-        ensures text { take result out.new ≡ text V self.now.state }
-        ensures message { (seed : ℕ) (m : List ℕ) → HasAbsorbed V seed self.now.state m
-            → IsTextAfter V seed m (take result out.new) }
-        ensures rest { drop result out.new ≡ drop result out.old }
+        ensures { Stored V self.now.state out.old out.new result }
     {
         self.store(out)
     }
@@ -109,13 +93,7 @@ where
     /// version has.
     #[inline(always)]
     pub fn resume(bytes: &[u8]) -> Option<Self>
-        ensures text { IfSome result (λ stream. text V stream.state ≡ bytes.now) }
-        ensures same { (s : State) → IsState V s → text V s ≡ bytes.now
-            → IsSomeAnd result (λ stream. stream.state ≡ s) }
-        ensures message { (seed : ℕ) (m : List ℕ) → IsTextAfter V seed m bytes.now
-            → IsSomeAnd result (λ stream. HasAbsorbed V seed stream.state m) }
-        ensures most { IfSome result (λ _. length bytes.now ≤ LONGEST_TEXT) }
-        ensures none { IsNone result ↔ ¬ IsText V bytes.now }
+        ensures { Restored V (λ stream. stream.state) bytes.now result }
     {
         StreamedKomihash::restore(bytes)
     }
@@ -125,7 +103,7 @@ impl<const V: u8> Default for StreamedKomihash<V>
 where
     Versions: IsVersion<V>,
 {
-    ghost is_default = { λ s. (s.state ≡ start 0) × HasAbsorbed V 0 s.state [] };
+    ghost is_default = { λ s. Started V 0 s.state };
 
     /// Returns the new stream of seed 0.
     #[inline]

@@ -1,10 +1,11 @@
 -- The invariant says what the calls so far did, and `goes_on` adds one call to it.
 use Rattle.std.proofs.Common.{◌≡◌, ℕ, ◌<◌, List, refl, sym, slice_set, ◌+◌, ◌%◌, ◌++◌, length}
-use Rattle.std.proofs.Common.{get_or, take, drop, ap, arith, ◌∙◌, [], ◌∷◌}
+use Rattle.std.proofs.Common.{get_or, take, drop, subst, ap, arith, ◌∙◌, [], ◌∷◌}
 use Rattle.std.proofs.lemmas.List.{append_assoc, append-nil, take_more, drop_more, length-append}
 use Rattle.std.proofs.lemmas.List.{take_all}
 use Rattle.std.proofs.Math.Seq.{set-append_seam}
 use Rattle.komihash.specs.Calls.{onward}
+use Rattle.komihash.specs.Stream.{HasAbsorbed}
 use Rattle.komihash.proofs.StreamAbsorbs.{absorb-nothing}
 use Rattle.komihash.proofs.CallLists.{goes_on, onward-message}
 use Rattle.komihash.proofs.StreamMessages.{HasAbsorbed-more}
@@ -62,7 +63,7 @@ loop-call-preserved g c =
             few = omega arith;
             count = is.count;
             answers = is.answers;
-            state = rw (one.state, append-nil bytes.now) w.absorb.ensures.state;
+            state = rw (one.state, append-nil bytes.now) w.absorb.ensures.absorbed.state;
             products = omega (arith, length-append bytes.now []);
             kept = omega arith;
           }
@@ -74,7 +75,7 @@ loop-call-preserved g c =
           let one = with Answer in
           let same = absorb-nothing v now in
           let more : onward v first (made ++ Answer ∷ []) ≡ answers ++ answer ∷ [] =
-          rw (one.answers, same, w.answer.ensures.answer) in
+          rw (one.answers, same, w.answer.ensures.answered.answer) in
           rw (next, w.stream-is, w.out-is, w.tally-is, w.count-is, more) record {
             few = omega arith;
             count = omega (arith, length-append answers (answer ∷ []));
@@ -97,8 +98,11 @@ returns g c =
       count = did.count;
       hashes = λ seed m is.
           did.answers ∙ ap (λ made. made ++ left) (onward-message v seed _ m calls is);
-      state = did.state;
-      message = λ seed m is. HasAbsorbed-more v seed _ _ m _ is did.state;
-      products = did.products;
-      kept = did.kept;
+      absorbed = record {
+        state = did.state;
+        message = λ seed m is. HasAbsorbed-more v seed _ _ m _ is did.state;
+        joined = λ seed m all is same.
+            subst (HasAbsorbed v seed _) same (HasAbsorbed-more v seed _ _ m _ is did.state);
+      };
+      costs = record { products = did.products; kept = did.kept };
     }

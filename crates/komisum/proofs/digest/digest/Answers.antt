@@ -36,7 +36,7 @@ loop-stream-preserved g c =
     let size = length-take-le c.in-Ok.count c.read.new.buf c.in-Ok.ensures.bound.0 in (
       before ++ given,
       record {
-        message = c.absorb.ensures.message c.args.seed before kept.message;
+        message = c.absorb.ensures.absorbed.message c.args.seed before kept.message;
         consumed = Consumes-trans _ _ _ before given kept.consumed c.in-Ok.ensures.bytes.0;
         count = omega (arith, kept.count, length-append before given);
         within = search rules;
