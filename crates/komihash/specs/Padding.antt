@@ -1,6 +1,7 @@
 -- The padding of a message: its padding byte, and its padded words.
-use Rattle.std.specs.Prelude.{◌≡◌, ℕ, Bool, ◌-◌, ◌%◌, ◌==◌, ◌&&◌, nat_le, if◌then◌else◌}
-use Rattle.std.specs.Prelude.{List, [], ◌∷◌, ◌++◌, length, replicate, slice_index}
+use Rattle.std.specs.Prelude.{◌≡◌, ◌↔◌, ℕ, Bool, ◌+◌, ◌-◌, ◌/◌, ◌%◌, ◌==◌, ◌&&◌, nat_le}
+use Rattle.std.specs.Prelude.{List, [], ◌∷◌, ◌++◌, length, take, drop, replicate, slice_index}
+use Rattle.std.specs.Prelude.{Option, IfSome, IfNone, IsSomeAnd, IsNone, if◌then◌else◌}
 use Rattle.komihash.specs.Words.{AreBytes, words_of}
 
 -- whether the version is 4 and a last byte is at least 128
@@ -28,3 +29,24 @@ padded_words v (b ∷ m) = words_of (padded_bytes v (b ∷ m))
 -- the words are the padded words of some message in version v
 abbrev pub ArePadded : ℕ → List ℕ → Type 0
 ArePadded v ws = (m : List ℕ) × AreBytes m × (padded_words v m ≡ ws)
+
+-- ---- what a call does, which each version states alike
+
+-- a call writes the padded words of a message to the front of `old`, which is then `new`, leaves
+-- the rest, and returns how many they are
+pub record Padded (v : ℕ) (bytes old new : List ℕ) (result : ℕ) : Type 0 where
+  pub count : result ≡ length bytes / 8 + 1
+  pub padded : take result new ≡ padded_words v bytes
+  pub rest : drop result new ≡ drop result old
+
+-- a call writes the message with these padded words to the front of `old`, which is then `new`,
+-- leaves the rest, and returns the message's length, or None, with nothing written, if there is
+-- no such message
+pub record Unpadded (v : ℕ) (words old new : List ℕ) (result : Option ℕ) : Type 0 where
+  pub message : IfSome result (λ n. padded_words v (take n new) ≡ words)
+  pub same : (m : List ℕ) → AreBytes m → padded_words v m ≡ words
+      → IsSomeAnd result (λ n. take n new ≡ m)
+  pub rest : IfSome result (λ n. drop n new ≡ drop n old)
+  pub length : IfSome result (λ n. n / 8 + 1 ≡ length words)
+  pub none : IsNone result ↔ ¬ ArePadded v words
+  pub unchanged : IfNone result (new ≡ old)

@@ -2,12 +2,11 @@
 //! whose padded words are given.
 
 ghost use Rattle.std.specs.Prelude.{◌≡◌, ℕ, ◌+◌, ◌*◌, ◌/◌, ◌^◌, ◌<◌, ◌≤◌, ◌↔◌, IsTrue};
-ghost use Rattle.std.specs.Prelude.{IfSome, IfNone, IsNone, IsSomeAnd};
-ghost use Rattle.std.specs.Prelude.{List, length, take, drop, slice_index};
-ghost use Rattle.komihash.specs.Padding.{ArePadded, padded_words};
+ghost use Rattle.std.specs.Prelude.{IfSome, IfNone, length, take, slice_index};
+ghost use Rattle.komihash.specs.Padding.{ArePadded, Padded, Unpadded, padded_words};
 ghost use Rattle.komihash.specs.Padding.{pads_with_two, padding_after, padding_byte};
 ghost use Rattle.komihash.specs.Storage.{end_byte, final_word};
-ghost use Rattle.komihash.specs.Words.{AreBytes, all_bytes};
+ghost use Rattle.komihash.specs.Words.{all_bytes};
 
 use crate::utils::{read_partial_word, word_at, write_bytes, write_words};
 
@@ -73,9 +72,7 @@ pub(crate) fn final_word_by_branch(bytes: &[u8], end: u64) -> u64
 #[inline(always)]
 pub(crate) fn pad<const V: u8>(bytes: &[u8], out: &mut [u64]) -> usize
     requires { length bytes.now / 8 + 1 ≤ length out.old }
-    ensures count { result ≡ length bytes.now / 8 + 1 }
-    ensures padded { take result out.new ≡ padded_words V bytes.now }
-    ensures rest { drop result out.new ≡ drop result out.old }
+    ensures { Padded V bytes.now out.old out.new result }
 {
     let whole = bytes.len() / 8;
     let last = if whole > 0 {
@@ -161,13 +158,7 @@ fn message_length<const V: u8>(words: &[u64]) -> Option<usize>
 #[inline(always)]
 pub(crate) fn unpad<const V: u8>(words: &[u64], out: &mut [u8]) -> Option<usize>
     requires { 8 * length words.now ≤ length out.old }
-    ensures length { IfSome result (λ n. n / 8 + 1 ≡ length words.now) }
-    ensures message { IfSome result (λ n. padded_words V (take n out.new) ≡ words.now) }
-    ensures rest { IfSome result (λ n. drop n out.new ≡ drop n out.old) }
-    ensures same { (m : List ℕ) → AreBytes m → padded_words V m ≡ words.now
-        → IsSomeAnd result (λ n. take n out.new ≡ m) }
-    ensures none { IsNone result ↔ ¬ ArePadded V words.now }
-    ensures unchanged { IfNone result (out.new ≡ out.old) }
+    ensures { Unpadded V words.now out.old out.new result }
 {
     let count = message_length::<V>(words)?;
     write_bytes(words, count, out);

@@ -3,12 +3,10 @@
 //! It differs from version 5 in which words of a block are multiplied with each other, in the
 //! padding of messages that end in a byte of 128 or more, and in the generator's step.
 
-ghost use Rattle.std.specs.Prelude.{◌≡◌, ◌+◌, ◌*◌, ◌/◌, ◌≤◌, ◌↔◌, List, ℕ, length, take, drop};
-ghost use Rattle.std.specs.Prelude.{IfSome, IfNone, IsNone, IsSomeAnd};
-ghost use Rattle.komihash.specs.Counts.{hash_products};
+ghost use Rattle.std.specs.Prelude.{◌≡◌, ◌+◌, ◌*◌, ◌/◌, ◌≤◌, length};
+ghost use Rattle.komihash.specs.Counts.{Costs, hash_products};
 ghost use Rattle.komihash.specs.Hash.{komi};
-ghost use Rattle.komihash.specs.Words.{AreBytes};
-ghost use Rattle.komihash.specs.Padding.{ArePadded, padded_words};
+ghost use Rattle.komihash.specs.Padding.{Padded, Unpadded};
 
 use crate::tally::Tally;
 use crate::{generator, hash, hasher, padding, stream};
@@ -37,8 +35,7 @@ pub fn komihash(bytes: &[u8], seed: u64) -> u64
 #[inline]
 pub fn komihash_counted(bytes: &[u8], seed: u64, tally: &mut Tally) -> u64
     ensures hash { result ≡ komi 4 seed bytes.now }
-    ensures products { tally.new.products ≡ tally.old.products + hash_products (length bytes.now) }
-    ensures kept { tally.new.kept ≡ tally.old.kept }
+    ensures costs { Costs tally (hash_products (length bytes.now)) 0 }
 {
     hash::hash_message::<4>(bytes, seed, tally)
 }
@@ -51,9 +48,7 @@ pub fn komihash_counted(bytes: &[u8], seed: u64, tally: &mut Tally) -> u64
 #[inline]
 pub fn pad(bytes: &[u8], out: &mut [u64]) -> usize
     requires { length bytes.now / 8 + 1 ≤ length out.old }
-    ensures count { result ≡ length bytes.now / 8 + 1 }
-    ensures padded { take result out.new ≡ padded_words 4 bytes.now }
-    ensures rest { drop result out.new ≡ drop result out.old }
+    ensures { Padded 4 bytes.now out.old out.new result }
 {
     padding::pad::<4>(bytes, out)
 }
@@ -65,13 +60,7 @@ pub fn pad(bytes: &[u8], out: &mut [u64]) -> usize
 #[inline]
 pub fn unpad(words: &[u64], out: &mut [u8]) -> Option<usize>
     requires { 8 * length words.now ≤ length out.old }
-    ensures length { IfSome result (λ n. n / 8 + 1 ≡ length words.now) }
-    ensures message { IfSome result (λ n. padded_words 4 (take n out.new) ≡ words.now) }
-    ensures rest { IfSome result (λ n. drop n out.new ≡ drop n out.old) }
-    ensures same { (m : List ℕ) → AreBytes m → padded_words 4 m ≡ words.now
-        → IsSomeAnd result (λ n. take n out.new ≡ m) }
-    ensures none { IsNone result ↔ ¬ ArePadded 4 words.now }
-    ensures unchanged { IfNone result (out.new ≡ out.old) }
+    ensures { Unpadded 4 words.now out.old out.new result }
 {
     padding::unpad::<4>(words, out)
 }

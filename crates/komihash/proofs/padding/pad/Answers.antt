@@ -1,6 +1,7 @@
 -- The final word is read in one of three ways. `padded_words-by_tail` puts it after whole words.
 use Rattle.std.proofs.Common.{◌≡◌, ◌++◌, [], ◌∷◌, ◌/◌, ◌∙◌, ap, length, arith, refl, sym}
 use Rattle.std.proofs.lemmas.Bool.{eqb-true}
+use Rattle.std.proofs.lemmas.Grind.{common_steps}
 use Rattle.std.proofs.lemmas.List.{nil_from_length, take_more_set}
 use Rattle.komihash.specs.Storage.{final_word, end_byte}
 use Rattle.komihash.specs.Words.{word_of}
@@ -10,8 +11,8 @@ use Rattle.komihash.proofs.padding.pad.Goals as goal
 use Rattle.komihash.proofs.padding.pad.Goals.{then-whole-gt0, else-whole-gt0+else-is_empty}
 use Rattle.komihash.proofs.padding.pad.Goals.{else-whole-gt0+then-is_empty}
 
-pub returns-clause-padded : goal.returns-clause-padded
-returns-clause-padded g c =
+pub returns : goal.returns
+returns g c =
     let bytes = c.args.bytes.now in
     let end = end_byte g.row.V bytes in
     let last : c.if-whole-gt0.last ≡ final_word bytes end = elim c.if-whole-gt0.branch [
@@ -26,5 +27,9 @@ returns-clause-padded g c =
           ∙ ap (λ b. word_of (bytes ++ b ∷ [])) w.padding_byte-else-is_empty.ensures.byte
           ∙ sym (ap (λ b. word_of (b ++ end ∷ [])) (after_words-few bytes (omega arith)))
     ] in
-    take_more_set c.write_words.new.out (length bytes / 8) c.if-whole-gt0.last (omega arith)
-    ∙ rw (c.write_words.ensures.words, last) (sym (padded_words-by_tail g.row.V bytes))
+    record {
+      count = refl;
+      padded = take_more_set c.write_words.new.out (length bytes / 8) c.if-whole-gt0.last (omega arith)
+          ∙ rw (c.write_words.ensures.words, last) (sym (padded_words-by_tail g.row.V bytes));
+      rest = grind (arith, common_steps);
+    }
