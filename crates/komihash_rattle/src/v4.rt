@@ -2,13 +2,13 @@
 
 #![tactic(auto, using(komihash::proofs::StreamMessages::message_laws))]
 
-ghost use Rattle.std.specs.Prelude.{◌≡◌, ◌+◌, ◌-◌, ◌*◌, ◌/◌, ◌<◌, ◌≤◌, ◌^◌, ◌++◌, ◌↔◌, true, false};
-ghost use Rattle.std.specs.Prelude.{ℕ, List, [], length, take, drop};
+ghost use Rattle.std.specs.Prelude.{◌≡◌, ◌+◌, ◌-◌, ◌*◌, ◌/◌, ◌<◌, ◌≤◌, ◌^◌, ◌↔◌, true, false};
+ghost use Rattle.std.specs.Prelude.{ℕ, List, length, take, drop};
 ghost use Rattle.komihash.specs.Generator.{next, after_steps, fill, after_fill};
 ghost use Rattle.komihash.specs.Hash.{komi};
-ghost use Rattle.komihash.specs.Padding.{ArePadded, padded_words};
-ghost use Rattle.komihash.specs.Saved.{text, IsText, IsTextAfter};
-ghost use Rattle.komihash.specs.Stream.{State, IsState, HasAbsorbed, start, absorb, answer};
+ghost use Rattle.komihash.specs.Padding.{ArePadded, Padded, padded_words};
+ghost use Rattle.komihash.specs.Saved.{text, IsText, IsTextAfter, Stored};
+ghost use Rattle.komihash.specs.Stream.{State, IsState, HasAbsorbed, Started, Absorbed, Answered};
 ghost use Rattle.komihash.specs.Words.{AreBytes};
 
 use super::rand::Rand;
@@ -40,10 +40,9 @@ pub extern "C" fn komihash_v4(bytes: &[u8], seed: u64) -> u64
 #[unsafe(no_mangle)]
 pub extern "C" fn komihash_v4_pad(bytes: &[u8], out: &mut [u64]) -> usize
     ensures padded { length bytes.now / 8 < length out.old
-        → take result out.new ≡ padded_words 4 bytes.now }
-    ensures count { length bytes.now / 8 < length out.old → result ≡ length bytes.now / 8 + 1 }
-    ensures rest { drop result out.new ≡ drop result out.old }
+        → Padded 4 bytes.now out.old out.new result }
     ensures no_room { length out.old ≤ length bytes.now / 8 → result ≡ 0 }
+    ensures unchanged { length out.old ≤ length bytes.now / 8 → out.new ≡ out.old }
 {
     if out.len() <= bytes.len() / 8 {
         return 0;
@@ -79,8 +78,7 @@ pub extern "C" fn komihash_v4_unpad(words: &[u64], out: &mut [u8]) -> usize
 /// Returns the new stream of a seed.
 #[unsafe(no_mangle)]
 pub extern "C" fn komihash_v4_start(seed: u64) -> Stream
-    ensures state { result.raw ≡ start seed }
-    ensures message { HasAbsorbed 4 seed result.raw [] }
+    ensures { Started 4 seed result.raw }
 {
     Stream {
         raw: RawStream::start::<4>(seed, &mut Tally::new()),
@@ -90,9 +88,7 @@ pub extern "C" fn komihash_v4_start(seed: u64) -> Stream
 /// Absorbs bytes.
 #[unsafe(no_mangle)]
 pub extern "C" fn komihash_v4_write(stream: &mut Stream, bytes: &[u8])
-    ensures state { stream.new.raw ≡ absorb 4 stream.old.raw bytes.now }
-    ensures message { (seed : ℕ) (m : List ℕ) → HasAbsorbed 4 seed stream.old.raw m
-        → HasAbsorbed 4 seed stream.new.raw (m ++ bytes.now) }
+    ensures { Absorbed 4 stream.old.raw stream.new.raw bytes.now }
 {
     stream.raw.absorb::<4>(bytes, &mut Tally::new());
 }
@@ -100,9 +96,7 @@ pub extern "C" fn komihash_v4_write(stream: &mut Stream, bytes: &[u8])
 /// Returns the hash of all bytes so far. The stream is unchanged.
 #[unsafe(no_mangle)]
 pub extern "C" fn komihash_v4_finish(stream: &Stream) -> u64
-    ensures answer { result ≡ answer 4 stream.now.raw }
-    ensures hash { (seed : ℕ) (m : List ℕ) → HasAbsorbed 4 seed stream.now.raw m
-        → result ≡ komi 4 seed m }
+    ensures { Answered 4 stream.now.raw result }
 {
     stream.raw.answer::<4>(&mut Tally::new())
 }
@@ -111,15 +105,10 @@ pub extern "C" fn komihash_v4_finish(stream: &Stream) -> u64
 /// `out` has no room for the longest text.
 #[unsafe(no_mangle)]
 pub extern "C" fn komihash_v4_save(stream: &Stream, out: &mut [u8]) -> usize
-    ensures text { LONGEST_TEXT ≤ length out.old
-        → take result out.new ≡ text 4 stream.now.raw }
-    ensures message { LONGEST_TEXT ≤ length out.old
-        → (seed : ℕ) (m : List ℕ) → HasAbsorbed 4 seed stream.now.raw m
-        → IsTextAfter 4 seed m (take result out.new) }
-    ensures length { LONGEST_TEXT ≤ length out.old → result ≡ length (text 4 stream.now.raw) }
-    ensures most { result ≤ LONGEST_TEXT }
-    ensures rest { drop result out.new ≡ drop result out.old }
+    ensures stored { LONGEST_TEXT ≤ length out.old
+        → Stored 4 stream.now.raw out.old out.new result }
     ensures no_room { length out.old < LONGEST_TEXT → result ≡ 0 }
+    ensures unchanged { length out.old < LONGEST_TEXT → out.new ≡ out.old }
 {
     if out.len() < LONGEST_TEXT {
         return 0;
