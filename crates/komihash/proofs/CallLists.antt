@@ -11,8 +11,7 @@ use Rattle.komihash.specs.Stream.{State, HasAbsorbed, start, absorb, answer}
 use Rattle.komihash.specs.declared.stream.Call.{Call}
 use Rattle.komihash.specs.declared.stream.Call.TheVariants.{Absorb, Answer}
 use Rattle.komihash.proofs.Blocks.{length-after_blocks}
-use Rattle.komihash.proofs.StreamAbsorbs.{absorb-append, absorb-few, absorb-blocks}
-use Rattle.komihash.proofs.StreamAnswers.{answer-joined}
+use Rattle.komihash.proofs.Streams.{absorb-append, absorb-few, absorb-blocks, answer-joined}
 
 -- how many bytes are pending
 pub pending-absorb : (v : ℕ) (s : State) (bytes : List ℕ) → length s.pending < 64

@@ -1,7 +1,6 @@
 -- Lemmas about the definitions. They prove the laws of `src/laws.rt`, and a caller may name the
 -- ruleset `laws` for what no law states.
 use Rattle.std.proofs.lemmas.List.Sums.{fold-append}
-use Rattle.komihash.proofs.Bounds.{komi-lt}
 use Rattle.komihash.proofs.CallLists.{answers_after-append, bytes_of_calls-append}
 use Rattle.komihash.proofs.CallLists.{run_products-pieces, HasAbsorbed-pending}
 use Rattle.komihash.proofs.GeneratorFills.{after_steps-add, outputs-add, fill-add, after_fill-add}
@@ -10,9 +9,8 @@ use Rattle.komihash.proofs.GeneratorFills.{outputs-one}
 use Rattle.komihash.proofs.GeneratorFills.{length-outputs, output-at, fill-whole, after_fill-whole}
 use Rattle.komihash.proofs.Unpadding.{same_message}
 use Rattle.komihash.proofs.SavedTexts.{same_version, same_state, IsTextAfter-most}
-use Rattle.komihash.proofs.StreamAbsorbs.{absorb-append, absorb-nothing}
-use Rattle.komihash.proofs.StreamAnswers.{answer-joined}
-use Rattle.komihash.proofs.StreamMessages.{same_state_after, same_text_after}
+use Rattle.komihash.proofs.Streams.{absorb-append, absorb-nothing, answer-joined}
+use Rattle.komihash.proofs.Streams.{same_state_after, same_text_after, komi-lt}
 
 pub ruleset of_hashes = (komi-lt, fold-append)
 

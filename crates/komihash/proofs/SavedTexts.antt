@@ -1,7 +1,8 @@
 -- The saved text: its state can be read back from it, and which bytes are a text.
 use Rattle.std.proofs.Common.{◌≡◌, ℕ, zero, suc, ◌+◌, ◌-◌, ◌*◌, ◌^◌, ◌<◌, ◌≤◌, ◌↔◌, Bool, List, []}
 use Rattle.std.proofs.Common.{◌∷◌, ◌++◌, length, take, drop, get_or, refl, ap, arith, ◌∙◌, sym}
-use Rattle.std.proofs.Common.{subst, Fits, w8}
+use Rattle.std.proofs.Common.{subst, Fits, w8, Some, None, rules}
+use Rattle.std.proofs.lemmas.Bool.{false≢true}
 use Rattle.std.proofs.lemmas.Bool.Decides.{nat_tests}
 use Rattle.std.proofs.lemmas.List.{append-nil, length-append, length-drop, length-take-le}
 use Rattle.std.proofs.lemmas.List.{take-append-drop, take_at, drop_at, take_all}
@@ -9,8 +10,8 @@ use Rattle.std.proofs.lemmas.Slice.{take-put_mid, drop-put_mid}
 use borrow.Rule.Slice.PartMut.{put_mid}
 use Rattle.std.specs.Prelude.{slice_index, ◌==◌}
 use Rattle.komihash.specs.Rounds.{Lanes}
-use Rattle.komihash.specs.Saved.{flag_byte, in_order, text, IsText, IsTextAfter}
-use Rattle.komihash.specs.Stream.{AreWords, State, IsState}
+use Rattle.komihash.specs.Saved.{flag_byte, in_order, text, IsText, IsTextAfter, Stored, Restored}
+use Rattle.komihash.specs.Stream.{AreWords, State, IsState, HasAbsorbed}
 use Rattle.komihash.specs.Storage.{whole_words}
 use Rattle.komihash.specs.Words.{AreBytes, all_bytes}
 use Rattle.komihash.specs.Storage.{xor_again}
@@ -210,11 +211,50 @@ IsLaidOut-text v bytes typed =
       λ is. subst (IsLaidOut v) is.2 (text-laid_out v is.0 is.1),
     )
 
--- what is read from a text is its state
-pub read_back : (v : ℕ) (bytes : List ℕ) (lanes : Lanes) (s : State) → IsState v s
-    → text v s ≡ bytes
+-- ---- what the calls say
+
+pub stored : (v : ℕ) (now : State) (old new : List ℕ) (result : ℕ) → IsState v now
+    → result ≡ 68 + length now.pending → take result new ≡ text v now
+    → drop result new ≡ drop result old → Stored v now old new result
+unfolding IsTextAfter
+stored v now old new result is size same rest = record {
+  length = omega (arith, length-text v now);
+  most = omega (arith, is.few);
+  text = same;
+  message = λ seed m after. (now, is, after, sym same);
+  rest = rest;
+}
+
+-- lanes read from a text
+pub read_state : (bytes : List ℕ) (lanes : Lanes)
     → in_order lanes ≡ whole_words (take 64 (drop 4 bytes))
-    → record (state_of bytes) { lanes = lanes } ≡ s
-read_back v bytes lanes s is same read =
-    ap (λ ws. record (state_of bytes) { lanes = lanes_of ws }) read ∙ ap state_of (sym same)
-    ∙ state_of-text v s is.words
+    → record (state_of bytes) { lanes = lanes } ≡ state_of bytes
+read_state bytes lanes read = ap (λ ws. record (state_of bytes) { lanes = lanes_of ws }) read
+
+pub restored : (v : ℕ) (bytes : List ℕ) (now : State) → IsText v bytes → now ≡ state_of bytes
+    → IsState v now × Restored v (λ (s : State). s) bytes (Some now)
+unfolding IsTextAfter
+restored v bytes now (s, is, of_s) read =
+    let back = λ (t : State) (is : IsState v t) (of : text v t ≡ bytes).
+    read ∙ ap state_of (sym of) ∙ state_of-text v t is.words in (
+      subst (IsState v) (sym (back s is of_s)) is,
+      record {
+        same = back;
+        message = λ seed m (t, is, after, of).
+            subst (λ u. HasAbsorbed v seed u m) (sym (back t is of)) after;
+        most = omega (arith, length-text v s, is.few, ap length of_s);
+        text = ap (text v) (back s is of_s) ∙ of_s;
+        none = ((λ e _. false≢true (sym e)), λ none. absurd (none (s, is, of_s)));
+      },
+    )
+
+pub refused : {A : Type 0} (v : ℕ) (state : A → State) (bytes : List ℕ) → ¬ IsText v bytes
+    → Restored v state bytes None
+unfolding IsTextAfter
+refused v state bytes not = record {
+  same = λ s is of. absurd (not (s, is, of));
+  message = λ seed m (s, is, after, of). absurd (not (s, is, of));
+  most = search rules;
+  text = search rules;
+  none = search rules;
+}

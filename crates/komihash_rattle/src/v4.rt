@@ -1,7 +1,5 @@
 //! The functions of version 4, as C calls them. `komihash_rattle.h` declares them.
 
-#![tactic(auto, using(komihash::proofs::StreamMessages::message_laws))]
-
 ghost use Rattle.std.specs.Prelude.{◌≡◌, ◌+◌, ◌-◌, ◌*◌, ◌/◌, ◌<◌, ◌≤◌, ◌^◌, ◌↔◌, true, false};
 ghost use Rattle.std.specs.Prelude.{ℕ, List, length, take, drop};
 ghost use Rattle.komihash.specs.Generator.{next, after_steps, fill, after_fill};
@@ -119,7 +117,6 @@ pub extern "C" fn komihash_v4_save(stream: &Stream, out: &mut [u8]) -> usize
 /// Sets the stream to the one that has these bytes as its saved text, and returns true. Changes
 /// nothing, and returns false, if no stream of this version has.
 #[unsafe(no_mangle)]
-#[tactic(auto, unfolding(komihash::specs::Saved::IsTextAfter))]
 pub extern "C" fn komihash_v4_resume(stream: &mut Stream, bytes: &[u8]) -> bool
     ensures text { result ≡ true → text 4 stream.new.raw ≡ bytes.now }
     ensures state { (s : State) → IsState 4 s → text 4 s ≡ bytes.now → stream.new.raw ≡ s }

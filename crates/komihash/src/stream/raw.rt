@@ -1,10 +1,9 @@
 //! A stream whose type does not name its version, which is how C keeps one.
 
-ghost use Rattle.std.specs.Prelude.{◌≡◌, ◌+◌, ◌<◌, ◌≤◌, ◌↔◌, IfSome, IsSomeAnd, IsNone};
-ghost use Rattle.std.specs.Prelude.{length, take, drop};
+ghost use Rattle.std.specs.Prelude.{◌≡◌, ◌+◌, ◌<◌, ◌≤◌, IfSome, length};
 ghost use Rattle.komihash.specs.Counts.{Costs, write_products, answer_products, kept_bytes};
-ghost use Rattle.komihash.specs.Saved.{text, IsText};
-ghost use Rattle.komihash.specs.Stream.{State, IsState, start, absorb, answer};
+ghost use Rattle.komihash.specs.Saved.{Stored, Restored};
+ghost use Rattle.komihash.specs.Stream.{State, IsState, Started, Absorbed, Answered, absorb};
 
 use super::{LONGEST_TEXT, saved};
 use crate::padding::{padding_after, pads_with_two};
@@ -52,7 +51,7 @@ impl RawStream {
     pub fn start<const V: u8>(seed: u64, tally: &mut Tally) -> RawStream
     where
         Versions: IsVersion<V>,
-        ensures state { result ≡ start seed }
+        ensures started { Started V seed result }
         ensures is_state { IsState V result }
         ensures costs { Costs tally 1 0 }
     {
@@ -68,7 +67,7 @@ impl RawStream {
     pub fn absorb<const V: u8>(&mut self, bytes: &[u8], tally: &mut Tally)
     where
         Versions: IsVersion<V>,
-        ensures state { self.new ≡ absorb V self.old bytes.now }
+        ensures absorbed { Absorbed V self.old self.new bytes.now }
         ensures is_state { IsState V self.old → IsState V self.new }
         ensures costs { Costs tally
             (write_products (length self.old.pending) (length bytes.now))
@@ -116,7 +115,7 @@ impl RawStream {
     pub fn answer<const V: u8>(&self, tally: &mut Tally) -> u64
     where
         Versions: IsVersion<V>,
-        ensures answer { result ≡ answer V self.now }
+        ensures answered { Answered V self.now result }
         ensures costs { Costs tally (answer_products (length self.now.pending)) 0 }
     {
         let pair = join(&self.lanes, self.absorbed);
@@ -139,10 +138,7 @@ impl RawStream {
     where
         Versions: IsVersion<V>,
         requires { LONGEST_TEXT ≤ length out.old }
-        ensures length { result ≡ length (text V self.now) }
-        ensures most { result ≤ LONGEST_TEXT }
-        ensures text { take result out.new ≡ text V self.now }
-        ensures rest { drop result out.new ≡ drop result out.old }
+        ensures { IsState V self.now → Stored V self.now out.old out.new result }
     {
         saved::write_head::<V>(self.absorbed, self.top_bit, self.pending.len(), out);
         saved::write_lanes(&self.lanes, out);
@@ -155,11 +151,7 @@ impl RawStream {
     where
         Versions: IsVersion<V>,
         ensures is_state { IfSome result (λ stream. IsState V stream) }
-        ensures text { IfSome result (λ stream. text V stream ≡ bytes.now) }
-        ensures same { (s : State) → IsState V s → text V s ≡ bytes.now
-            → IsSomeAnd result (λ stream. stream ≡ s) }
-        ensures most { IfSome result (λ _. length bytes.now ≤ LONGEST_TEXT) }
-        ensures none { IsNone result ↔ ¬ IsText V bytes.now }
+        ensures restored { Restored V (λ stream. stream) bytes.now result }
     {
         if !saved::is_text::<V>(bytes) {
             return None;

@@ -1,7 +1,5 @@
 //! The stream of both versions.
 
-#![tactic(auto, using(crate::proofs::StreamMessages::message_laws))]
-
 ghost use Rattle.std.specs.Prelude.{◌≤◌, length};
 ghost use Rattle.komihash.specs.Saved.{Stored, Restored};
 ghost use Rattle.komihash.specs.Stream.{StateOf, IsState, Started, Absorbed, Answered};
@@ -145,7 +143,6 @@ where
     }
 
     #[inline(always)]
-    #[tactic(auto, unfolding(crate::specs::Saved::IsTextAfter))]
     fn restore(bytes: &[u8]) -> Option<Self> {
         Some(StreamedKomihash {
             raw: RawStream::restore::<V>(bytes)?,

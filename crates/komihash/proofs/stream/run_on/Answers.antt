@@ -1,14 +1,12 @@
 -- The invariant says what the calls so far did, and `goes_on` adds one call to it.
 use Rattle.std.proofs.Common.{◌≡◌, ℕ, ◌<◌, List, refl, sym, slice_set, ◌+◌, ◌%◌, ◌++◌, length}
-use Rattle.std.proofs.Common.{get_or, take, drop, subst, ap, arith, ◌∙◌, [], ◌∷◌}
+use Rattle.std.proofs.Common.{get_or, take, drop, ap, arith, ◌∙◌, [], ◌∷◌}
 use Rattle.std.proofs.lemmas.List.{append_assoc, append-nil, take_more, drop_more, length-append}
 use Rattle.std.proofs.lemmas.List.{take_all}
 use Rattle.std.proofs.Math.Seq.{set-append_seam}
 use Rattle.komihash.specs.Calls.{onward}
-use Rattle.komihash.specs.Stream.{HasAbsorbed}
-use Rattle.komihash.proofs.StreamAbsorbs.{absorb-nothing}
 use Rattle.komihash.proofs.CallLists.{goes_on, onward-message}
-use Rattle.komihash.proofs.StreamMessages.{HasAbsorbed-more}
+use Rattle.komihash.proofs.Streams.{absorb-nothing, absorbed}
 use Rattle.komihash.specs.declared.stream.Call.{Call}
 use Rattle.komihash.specs.declared.stream.Call.TheVariants.{Absorb, Answer}
 use Rattle.komihash.proofs.stream.run_on.Goals as goal
@@ -98,11 +96,6 @@ returns g c =
       count = did.count;
       hashes = λ seed m is.
           did.answers ∙ ap (λ made. made ++ left) (onward-message v seed _ m calls is);
-      absorbed = record {
-        state = did.state;
-        message = λ seed m is. HasAbsorbed-more v seed _ _ m _ is did.state;
-        joined = λ seed m all is same.
-            subst (HasAbsorbed v seed _) same (HasAbsorbed-more v seed _ _ m _ is did.state);
-      };
+      absorbed = absorbed v _ _ _ did.state;
       costs = record { products = did.products; kept = did.kept };
     }

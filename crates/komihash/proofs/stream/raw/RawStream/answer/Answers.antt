@@ -1,18 +1,16 @@
 -- With no pending bytes, one word is left. Otherwise the tail is read as its whole words and a
 -- final word, which is `answer-by_pair`.
-use Rattle.std.proofs.Common.{◌≡◌, ◌++◌, [], ◌∷◌, ◌∙◌, refl, ap, arith, length, sym}
+use Rattle.std.proofs.Common.{◌≡◌, [], ◌∷◌, ◌∙◌, refl, ap, arith, length, sym}
 use Rattle.std.proofs.lemmas.List.{nil_from_length}
-use Rattle.komihash.specs.Hash.{hash_from_pair}
-use Rattle.komihash.specs.Rounds.{join, closing}
+use Rattle.komihash.specs.Rounds.{closing}
 use Rattle.komihash.specs.Stream.{State, answer, end_after_blocks}
-use Rattle.komihash.specs.Storage.{whole_words, final_word}
-use Rattle.komihash.proofs.StreamAnswers.{answer-by_pair, answer-none, tail_end-pending}
+use Rattle.komihash.proofs.Streams.{answer-by_pair, answer-none, tail_end-pending, answered}
 use Rattle.komihash.proofs.WholeWords.{length-whole_words}
 use Rattle.komihash.proofs.stream.raw.RawStream.answer.Goals as goal
 use Rattle.komihash.proofs.stream.raw.RawStream.answer.Goals.{then-self, else-self}
 
-pub returns-then-len-eq0-clause-answer : goal.returns-then-len-eq0-clause-answer
-returns-then-len-eq0-clause-answer g c =
+pub returns-then-len-eq0-clause-answered : goal.returns-then-len-eq0-clause-answered
+returns-then-len-eq0-clause-answered g c =
     let s = c.self.inside in
     let none = nil_from_length s.pending (omega arith) in
     let end : c.if-self.end ≡ end_after_blocks s.absorbed s.top_bit =
@@ -20,11 +18,9 @@ returns-then-len-eq0-clause-answer g c =
       | then-self w ↦ rw (w.if-self.true) (w.end-is ∙ w.padding_after-end.ensures)
       | else-self w ↦ rw (w.if-self.false) w.end-is
     ] in
-    c.close.ensures.alone refl
+    answered g.row.V _ _ (c.close.ensures.alone refl
     ∙ ap (λ p. closing p (c.if-self.end ∷ [])) c.join-pair.ensures
-    ∙ ap (λ b. closing (join s.absorbed s.lanes) (b ∷ [])) end
-    ∙ sym (answer-none g.row.V _ none)
-    ∙ ap (answer g.row.V) c.self.view_is
+    ∙ rw end (sym (answer-none g.row.V _ none)) ∙ ap (answer g.row.V) c.self.view_is)
 
 pub hash_from_pair-requires : goal.hash_from_pair-requires
 hash_from_pair-requires g c =
@@ -39,16 +35,10 @@ returns-clause-costs g c =
     let same = ap (λ (s : State). length s.pending) c.self.view_is in
     search (arith, length-whole_words c.self.inside.pending)
 
-pub returns-clause-answer : goal.returns-clause-answer
-returns-clause-answer g c =
+pub returns-clause-answered : goal.returns-clause-answered
+returns-clause-answered g c =
     let s = c.self.inside in
-    let end = sym (tail_end-pending g.row.V s.pending s.absorbed s.top_bit (omega arith)) in
-    let word = c.final_word-last.ensures ∙ ap (final_word s.pending) end in
-    c.hash_from_pair.ensures.hash
-    ∙ ap (λ p. hash_from_pair p (whole_words s.pending ++ c.final_word-last.result ∷ []))
-    c.join-pair.ensures
-    ∙ ap
-    (λ w. hash_from_pair (join s.absorbed s.lanes) (whole_words s.pending ++ w ∷ []))
-    word
-    ∙ sym (answer-by_pair g.row.V _)
-    ∙ ap (answer g.row.V) c.self.view_is
+    let end = tail_end-pending g.row.V s.pending s.absorbed s.top_bit (omega arith) in
+    answered g.row.V _ _ (c.hash_from_pair.ensures.hash
+    ∙ rw (c.join-pair.ensures, c.final_word-last.ensures, ← end) (sym (answer-by_pair g.row.V _))
+    ∙ ap (answer g.row.V) c.self.view_is)

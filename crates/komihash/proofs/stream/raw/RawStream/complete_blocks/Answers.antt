@@ -1,33 +1,31 @@
 -- The pending bytes and the first of the write are the first block, if any are pending.
-use Rattle.std.proofs.Common.{◌+◌, ◌<◌, ◌≤◌, ◌∙◌, ap, arith, length}
+use Rattle.std.proofs.Common.{◌+◌, ◌-◌, ◌<◌, ◌≤◌, ◌∙◌, refl, ap, arith, length}
 use Rattle.std.proofs.lemmas.List.{nil_from_length}
 use Rattle.komihash.specs.Stream.{State, absorb}
-use Rattle.komihash.proofs.PendingBlocks.{completed_lanes, completed_left}
-use Rattle.komihash.proofs.StreamSteps.{after_write}
+use Rattle.komihash.proofs.Streams.{after_write, completed}
 use Rattle.komihash.proofs.stream.raw.RawStream.complete_blocks.Goals as goal
 use Rattle.komihash.proofs.stream.raw.RawStream.complete_blocks.Goals.{then-fill-eq0, else-fill-eq0}
 
 pub returns-clause-state : goal.returns-clause-state
 returns-clause-state g c =
-    let s = c.self.inside in
+    let v = g.row.V in
+    let lanes = c.self.inside.lanes in
+    let xs = c.self.inside.pending in
     let bytes = c.args.bytes.now in
     let same = ap (λ (s : State). length s.pending) c.self.view_is in
-    let few : length s.pending < 64 = omega arith in
-    let many : 64 ≤ length s.pending + length bytes = omega arith in
-    let top_bit = rw (c.len-fill.ensures.length) at c.pads_with_two-self-inside.ensures in
+    let few : length xs < 64 = omega arith in
+    let many : 64 ≤ length xs + length bytes = omega arith in
+    let size = c.len-fill.ensures.length in
+    let top_bit = c.pads_with_two-self-inside.ensures in
     let after = c.absorb_blocks-left.ensures in
-    elim c.if-fill-eq0.branch [
+    rw (c.append_first.ensures.bytes, after.left, after.lanes) (elim c.if-fill-eq0.branch [
       | then-fill-eq0 w ↦
-          let none = nil_from_length s.pending (omega arith) in
-          after_write g.row.V _ bytes _ _ _ _ few many
-          (after.lanes ∙ rw (w.lanes-is, w.rest-is, none))
-          (c.append_first.ensures.bytes ∙ after.left ∙ rw (w.rest-is, none))
-          (ap (λ s. s.absorbed) w.self-inside-is)
-          (ap (λ s. s.top_bit) w.self-inside-is ∙ top_bit)
+          let none = nil_from_length xs (omega arith) in
+          rw (w.self-inside-is, w.lanes-is, w.rest-is, top_bit, size)
+          (after_write v _ bytes lanes bytes few many (rw none record { lanes = refl; left = refl }))
       | else-fill-eq0 w ↦
-          after_write g.row.V _ bytes _ _ _ _ few many
-          (after.lanes ∙ rw (
-            completed_lanes s.pending bytes few many g.row.V s.lanes,
+          rw (
+            w.self-inside-is,
             w.lanes-is,
             w.rest-is,
             w.block_round.ensures.lanes,
@@ -35,15 +33,10 @@ returns-clause-state g c =
             w.complete-block.ensures.block,
             w.split_at.ensures.front,
             w.split_at.ensures.back,
-            c.len-fill.ensures.length,
-          ))
-          (c.append_first.ensures.bytes ∙ after.left ∙ rw (
-            completed_left s.pending bytes few many,
-            w.rest-is,
-            w.split_at.ensures.back,
-            c.len-fill.ensures.length,
-          ))
-          (ap (λ s. s.absorbed) w.self-inside-is)
-          (ap (λ s. s.top_bit) w.self-inside-is ∙ top_bit)
-    ]
-    ∙ ap (λ s. absorb g.row.V s bytes) c.self.view_is
+            top_bit,
+            size,
+          )
+          (after_write v _ bytes _ _ few many
+          (completed v lanes xs bytes (64 - length xs) (omega arith) (omega arith)))
+    ])
+    ∙ ap (λ s. absorb v s bytes) c.self.view_is

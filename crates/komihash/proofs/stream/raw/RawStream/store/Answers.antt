@@ -1,11 +1,9 @@
 use Rattle.std.proofs.Common.{arith, append_assoc}
 use Rattle.komihash.specs.Saved.{text}
-use Rattle.komihash.proofs.SavedTexts.{length-text}
+use Rattle.komihash.proofs.SavedTexts.{stored}
 use Rattle.komihash.proofs.stream.raw.RawStream.store.Goals as goal
 
-pub returns-clause-length : goal.returns-clause-length
-returns-clause-length g c = grind (arith, length-text)
-
-pub returns-clause-text : goal.returns-clause-text
+pub returns : goal.returns
 unfolding text
-returns-clause-text g c = grind (arith, append_assoc)
+returns g c is =
+    stored g.row.V _ _ _ _ is (grind arith) (grind (arith, append_assoc)) (grind arith)

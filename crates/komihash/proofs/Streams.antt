@@ -1,0 +1,334 @@
+-- A stream absorbs whole blocks and keeps what is left, its state stays one of its version, and it
+-- answers the hash of its message.
+use Rattle.std.proofs.Common.{◌≡◌, ℕ, suc, ◌+◌, ◌-◌, ◌*◌, ◌/◌, ◌%◌, ◌^◌, ◌<◌, ◌≤◌, Bool, true, false}
+use Rattle.std.proofs.Common.{List, [], ◌∷◌, ◌++◌, length, take, drop, refl, ap, arith, ◌∙◌, sym}
+use Rattle.std.proofs.Common.{inl, inr}
+use Rattle.std.proofs.lemmas.Bool.{false≢true, cases_lt}
+use Rattle.std.proofs.lemmas.Bool.Decides.{nat_tests}
+use Rattle.std.proofs.lemmas.List.{append_assoc, append-nil, length-append, length-drop, drop_at}
+use Rattle.std.proofs.lemmas.List.{length-take-le, take-append-drop, get_or-drop}
+use Rattle.std.proofs.lemmas.Nat.{xor_lt}
+use Rattle.std.specs.Prelude.{slice_index, bit_xor}
+use Rattle.komihash.specs.Hash.{komi, hash_from_pair, hash_from_lanes}
+use Rattle.komihash.specs.Padding.{pads_with_two, padding_byte, padded_words}
+use Rattle.komihash.specs.Rounds.{Lanes, low, plus, mix, seed_pair, lanes, block_round}
+use Rattle.komihash.specs.Rounds.{block_round_by, join, pair_round, closing}
+use Rattle.komihash.specs.Saved.{text, IsTextAfter}
+use Rattle.komihash.specs.Storage.{whole_words, block_lanes, after_blocks, tail_end, final_word}
+use Rattle.komihash.specs.Storage.{end_byte}
+use Rattle.komihash.specs.Stream.{State, IsState, AreWords, HasAbsorbed, start, absorb, absorb_byte}
+use Rattle.komihash.specs.Stream.{answer, tail_of, Started, Absorbed, Answered}
+use Rattle.komihash.specs.Words.{AreBytes}
+use Rattle.komihash.proofs.Blocks.{block_lanes-bytes, block_lanes-few_bytes, after_blocks_few}
+use Rattle.komihash.proofs.Blocks.{after_blocks_more, length-after_blocks}
+use Rattle.komihash.proofs.HashSteps.{komi_short, komi_long}
+use Rattle.komihash.proofs.PaddedWords.{padded_words-by_tail}
+use Rattle.komihash.proofs.WholeWords.{words_of-whole, after_words-append}
+use Rattle.komihash.proofs.WordOf.{AreBytes-append, AreBytes-drop}
+
+-- ---- what is absorbed
+
+pub absorb-nothing : (v : ℕ) (s : State) → absorb v s [] ≡ s
+unfolding absorb
+absorb-nothing v s = refl
+
+-- a cut anywhere
+pub absorb-append : (v : ℕ) (s : State) (x y : List ℕ)
+    → absorb v s (x ++ y) ≡ absorb v (absorb v s x) y
+unfolding absorb
+absorb-append v s [] y = refl
+absorb-append v s (b ∷ x) y = absorb-append v (absorb_byte v s b) x y
+
+-- the state after a byte that fills no block
+abbrev byte_state : State → ℕ → State
+byte_state s b = record s { pending = s.pending ++ b ∷ [] }
+
+absorb-byte : (v : ℕ) (s : State) (b : ℕ) (bytes : List ℕ) → length s.pending < 63
+    → absorb v s (b ∷ bytes) ≡ absorb v (byte_state s b) bytes
+unfolding absorb
+absorb-byte v s b bytes few = grind (arith, nat_tests, length-append s.pending (b ∷ []))
+
+-- the state after a byte that fills a block
+abbrev block_state : ℕ → State → ℕ → State
+block_state v s b = record {
+  lanes = block_round v s.lanes (whole_words (s.pending ++ b ∷ []));
+  pending = [];
+  absorbed = true;
+  top_bit = pads_with_two v b;
+}
+
+absorb-block : (v : ℕ) (s : State) (b : ℕ) (bytes : List ℕ) → length s.pending ≡ 63
+    → absorb v s (b ∷ bytes) ≡ absorb v (block_state v s b) bytes
+unfolding absorb
+absorb-block v s b bytes full =
+    let all = s.pending ++ b ∷ [] in
+    let size : length all ≡ 64 = omega (arith, length-append s.pending (b ∷ [])) in
+    rw (size, words_of-whole all 8 size)
+
+-- bytes that fill no block
+pub absorb-few : (v : ℕ) (s : State) (bytes : List ℕ) → length s.pending + length bytes < 64
+    → absorb v s bytes ≡ record s { pending = s.pending ++ bytes }
+absorb-few v s [] few = rw (absorb-nothing, append-nil)
+absorb-few v s (b ∷ bytes) few =
+    let size = length-append s.pending (b ∷ []) in
+    absorb-byte v s b bytes (omega arith) ∙ absorb-few v (byte_state s b) bytes (omega arith)
+    ∙ rw append_assoc
+
+-- the blocks of bytes xs and then of others are those that lanes l and the bytes `rest` go on with
+pub record GoesOn (v : ℕ) (before : Lanes) (xs bytes : List ℕ) (l : Lanes) (rest : List ℕ)
+    : Type 0 where
+  pub lanes : block_lanes v before (whole_words (xs ++ bytes)) ≡ block_lanes v l (whole_words rest)
+  pub left : after_blocks (xs ++ bytes) ≡ after_blocks rest
+
+-- k bytes complete the block of those before them
+pub completed : (v : ℕ) (l : Lanes) (xs bytes : List ℕ) (k : ℕ) → length xs + k ≡ 64
+    → k ≤ length bytes
+    → GoesOn v l xs bytes (block_round v l (whole_words (xs ++ take k bytes))) (drop k bytes)
+completed v l xs bytes k full enough =
+    let block = xs ++ take k bytes in
+    let rest = drop k bytes in
+    let size : length block ≡ 64 =
+    omega (arith, length-append xs (take k bytes), length-take-le k bytes enough) in
+    let cut : xs ++ bytes ≡ block ++ rest = rw (append_assoc, take-append-drop) refl in
+    record {
+      lanes = rw cut (block_lanes-bytes v l block rest size);
+      left = rw cut (after_blocks_more (block ++ rest) (omega (arith, length-append block rest))
+          ∙ ap after_blocks (drop_at block rest 64 size));
+    }
+
+-- the state after bytes that fill at least one block
+abbrev pub blocks_state : ℕ → State → List ℕ → State
+blocks_state v s bytes = record {
+  lanes = block_lanes v s.lanes (whole_words (s.pending ++ bytes));
+  pending = after_blocks (s.pending ++ bytes);
+  absorbed = true;
+  top_bit = pads_with_two v
+      (slice_index bytes (length bytes - (length s.pending + length bytes) % 64 - 1));
+}
+
+pub absorb-blocks : (v : ℕ) (s : State) (bytes : List ℕ) → length s.pending < 64
+    → 64 ≤ length s.pending + length bytes → absorb v s bytes ≡ blocks_state v s bytes
+absorb-blocks v s [] few le = absurd (omega arith)
+absorb-blocks v s (b ∷ bytes) few le =
+    let size = length-append s.pending (b ∷ []) in
+    let last = λ (n : ℕ). length (b ∷ bytes) - (length s.pending + length (b ∷ bytes)) % 64 - 1 ≡ n in
+    elim (cases_lt (length s.pending) 63) [
+      | inl lt ↦
+          let all = append_assoc s.pending (b ∷ []) bytes in
+          let at : last (suc (length bytes - (length (s.pending ++ b ∷ []) + length bytes) % 64 - 1)) = omega arith in
+          absorb-byte v s b bytes lt
+          ∙ absorb-blocks v (byte_state s b) bytes (omega arith) (omega arith)
+          ∙ cc
+      | inr ge ↦
+          let full : length s.pending + 1 ≡ 64 = omega arith in
+          let after = block_state v s b in
+          let on = completed v s.lanes s.pending (b ∷ bytes) 1 full (omega arith) in
+          absorb-block v s b bytes (omega arith) ∙ elim (cases_lt (length bytes) 64) [
+            | inl lt ↦
+                let at : last 0 = omega arith in
+                let same = block_lanes-few_bytes v after.lanes bytes lt in
+                let all = after_blocks_few bytes lt in
+                absorb-few v after bytes (omega arith) ∙ cc
+            | inr more ↦
+                let at : last (suc (length bytes - (0 + length bytes) % 64 - 1)) = omega arith in
+                absorb-blocks v after bytes (omega arith) (omega arith) ∙ cc
+          ]
+    ]
+
+-- the state after a write that completes a block, from what is left after that block
+pub after_write : (v : ℕ) (s : State) (bytes : List ℕ) (l : Lanes) (rest : List ℕ)
+    → length s.pending < 64 → 64 ≤ length s.pending + length bytes
+    → GoesOn v s.lanes s.pending bytes l rest
+    → record (blocks_state v s bytes) {
+      lanes = block_lanes v l (whole_words rest);
+      pending = after_blocks rest;
+    } ≡ absorb v s bytes
+after_write v s bytes l rest few many on =
+    rw (absorb-blocks v s bytes few many, on.lanes, on.left) refl
+
+-- ---- it stays a state
+
+-- a sum xor a low half is a word
+mixed-lt : (a b p : ℕ) → bit_xor (plus a b) (low p) < 2 ^ 64
+mixed-lt a b p = xor_lt 64 (plus a b) (low p) (omega arith) (omega arith)
+
+AreWords-lanes : (s : ℕ × ℕ) → s.0 < 2 ^ 64 → s.1 < 2 ^ 64 → AreWords (lanes s)
+AreWords-lanes s a e = search (arith, xor_lt 64)
+
+AreWords-seed_pair : (seed : ℕ) → AreWords (lanes (seed_pair seed))
+unfolding mix
+AreWords-seed_pair seed = AreWords-lanes (seed_pair seed) (mixed-lt _ _ _) (omega arith)
+
+AreWords-block : (v : ℕ) (s : Lanes) (ws : List ℕ) → AreWords (block_round v s ws)
+unfolding block_round_by
+AreWords-block v s ws = search (arith, mixed-lt)
+
+AreWords-block_lanes : (v : ℕ) (s : Lanes) (ws : List ℕ) → AreWords s
+    → AreWords (block_lanes v s ws)
+AreWords-block_lanes v s (w0 ∷ w1 ∷ w2 ∷ w3 ∷ w4 ∷ w5 ∷ w6 ∷ w7 ∷ ws) words =
+    AreWords-block_lanes v (block_round v s (w0 ∷ w1 ∷ w2 ∷ w3 ∷ w4 ∷ w5 ∷ w6 ∷ w7 ∷ [])) ws
+    (AreWords-block v s _)
+AreWords-block_lanes v s ws words = words
+
+pub IsState-start : (v seed : ℕ) (s : State) → s ≡ start seed → IsState v s
+IsState-start v seed s is =
+    rw is record {
+      words = AreWords-seed_pair seed;
+      bytes = λ k. omega arith;
+      few = omega arith;
+      top_bit_absorbed = λ h. absurd (false≢true h);
+      top_bit_version = λ h. absurd (false≢true h);
+    }
+
+pads_with_two-version : (v b : ℕ) → pads_with_two v b ≡ true → v ≡ 4
+pads_with_two-version v b h = grind (arith, nat_tests)
+
+pub IsState-absorb : (v : ℕ) (s new : State) (bytes : List ℕ) → IsState v s → AreBytes bytes
+    → new ≡ absorb v s bytes → IsState v new
+IsState-absorb v s new bytes is are same =
+    let all = s.pending ++ bytes in
+    let are_all = AreBytes-append s.pending bytes is.bytes are in
+    rw same (elim (cases_lt (length s.pending + length bytes) 64) [
+      | inl lt ↦
+          rw (absorb-few v s bytes lt) record {
+            words = is.words;
+            bytes = are_all;
+            few = omega (arith, length-append s.pending bytes);
+            top_bit_absorbed = is.top_bit_absorbed;
+            top_bit_version = is.top_bit_version;
+          }
+      | inr le ↦
+          rw (absorb-blocks v s bytes is.few le) record {
+            words = AreWords-block_lanes v s.lanes (whole_words all) is.words;
+            bytes = AreBytes-drop _ all are_all;
+            few = omega (arith, length-after_blocks all);
+            top_bit_absorbed = λ _. refl;
+            top_bit_version = pads_with_two-version v _;
+          }
+    ])
+
+-- ---- what it answers
+
+tail_of-words : (v : ℕ) (m : List ℕ) (absorbed top_bit : Bool)
+    → tail_of v m absorbed top_bit
+    ≡ whole_words m ++ final_word m (tail_end v m absorbed top_bit) ∷ []
+tail_of-words v [] absorbed top_bit = grind arith
+tail_of-words v (b ∷ m) absorbed top_bit = padded_words-by_tail v (b ∷ m)
+
+-- an answer, from the pair of its lanes, its whole words and its final word
+pub answer-by_pair : (v : ℕ) (s : State)
+    → answer v s ≡ hash_from_pair (join s.absorbed s.lanes)
+    (whole_words s.pending ++ final_word s.pending (tail_end v s.pending s.absorbed s.top_bit) ∷ [])
+unfolding answer
+answer-by_pair v s =
+    ap (hash_from_pair (join s.absorbed s.lanes)) (tail_of-words v s.pending s.absorbed s.top_bit)
+
+pub tail_end-pending : (v : ℕ) (m : List ℕ) (absorbed top_bit : Bool) → 0 < length m
+    → tail_end v m absorbed top_bit ≡ padding_byte v m
+tail_end-pending v [] absorbed top_bit some = absurd (omega arith)
+tail_end-pending v (b ∷ m) absorbed top_bit some = refl
+
+-- an answer with nothing pending
+pub answer-none : (v : ℕ) (s : State) → s.pending ≡ []
+    → answer v s ≡ closing (join s.absorbed s.lanes) (tail_end v [] s.absorbed s.top_bit ∷ [])
+unfolding answer
+answer-none v s none = rw none
+
+-- what ends the tail after n bytes, the last of them the last of a block
+tail_end-drop : (v n : ℕ) (m : List ℕ) → 0 < n → n ≤ length m
+    → tail_end v (drop n m) true (pads_with_two v (slice_index m (n - 1))) ≡ end_byte v m
+tail_end-drop v n [] some le = absurd (omega arith)
+tail_end-drop v n (b ∷ m) some le = go (drop n (b ∷ m)) refl where
+  go : (p : List ℕ) → drop n (b ∷ m) ≡ p
+      → tail_end v p true (pads_with_two v (slice_index (b ∷ m) (n - 1))) ≡ padding_byte v (b ∷ m)
+  go [] e =
+      let all : n ≡ length (b ∷ m) = omega (arith, length-drop n (b ∷ m), ap length e) in rw all
+  go (c ∷ p) e =
+      let size : n + (length (c ∷ p) - 1) ≡ length (b ∷ m) - 1 =
+      omega (arith, length-drop n (b ∷ m), ap length e) in
+      let last = get_or-drop n (b ∷ m) (length (c ∷ p) - 1) 0 in
+      cc
+
+tail_end-start : (v : ℕ) (m : List ℕ) → tail_end v m false false ≡ end_byte v m
+tail_end-start v [] = refl
+tail_end-start v (b ∷ m) = refl
+
+-- the answer of a new stream that absorbed a message is the message's hash
+pub answer-joined : (v seed : ℕ) (m : List ℕ) → answer v (absorb v (start seed) m) ≡ komi v seed m
+answer-joined v seed m =
+    elim (cases_lt (length m) 64) [
+      | inl lt ↦
+          let end = tail_end-start v m in
+          let hash = komi_short v seed m lt in
+          rw (absorb-few v (start seed) m (omega arith))
+          (answer-by_pair v (record (start seed) { pending = m }) ∙ cc)
+      | inr le ↦
+          let n = length m - length m % 64 in
+          let front : length (take n m) ≡ 8 * (n / 8) = length-take-le n m (omega arith)
+          ∙ omega arith in
+          let words = after_words-append (take n m) (drop n m) (n / 8) front in
+          let cut = take-append-drop n m in
+          let last : length m - (0 + length m) % 64 - 1 ≡ n - 1 = omega arith in
+          let end = tail_end-drop v n m (omega arith) (omega arith) in
+          let hash = komi_long v seed m le in
+          rw (absorb-blocks v (start seed) m (omega arith) (omega arith))
+          (answer-by_pair v (blocks_state v (start seed) m) ∙ cc)
+    ]
+
+-- ---- what its calls say
+
+pub started : (v seed : ℕ) (new : State) → new ≡ start seed → Started v seed new
+unfolding HasAbsorbed absorb
+started v seed new is = record { state = is; message = is }
+
+pub absorbed : (v : ℕ) (old new : State) (bytes : List ℕ) → new ≡ absorb v old bytes
+    → Absorbed v old new bytes
+unfolding HasAbsorbed
+absorbed v old new bytes is = record {
+  state = is;
+  message = λ seed m before. rw (is, before) (sym (absorb-append v (start seed) m bytes));
+  joined = λ seed m all before same.
+      rw (is, before, ← same) (sym (absorb-append v (start seed) m bytes));
+}
+
+pub answered : (v : ℕ) (now : State) (result : ℕ) → result ≡ answer v now → Answered v now result
+unfolding HasAbsorbed
+answered v now result is = record {
+  answer = is;
+  hash = λ seed m before. is ∙ ap (answer v) before ∙ answer-joined v seed m;
+}
+
+-- equal messages lead to equal states and texts
+pub same_state_after : (v seed : ℕ) (s t : State) (m : List ℕ) → HasAbsorbed v seed s m
+    → HasAbsorbed v seed t m → s ≡ t
+unfolding HasAbsorbed
+same_state_after v seed s t m first second = first ∙ sym second
+
+pub same_text_after : (v seed : ℕ) (m x y : List ℕ) → IsTextAfter v seed m x
+    → IsTextAfter v seed m y → x ≡ y
+unfolding IsTextAfter HasAbsorbed
+same_text_after v seed m x y (s, _, first, of_s) (t, _, second, of_t) =
+    sym of_s ∙ ap (text v) (first ∙ sym second) ∙ of_t
+
+-- ---- hashes are words
+
+closing-lt : (s : ℕ × ℕ) (ws : List ℕ) → closing s ws < 2 ^ 64
+unfolding mix
+closing-lt s (p ∷ []) = mixed-lt _ _ _
+closing-lt s (w ∷ p ∷ []) = mixed-lt _ _ _
+closing-lt s ws = omega arith
+
+hash_from_pair-lt : (s : ℕ × ℕ) (ws : List ℕ) → hash_from_pair s ws < 2 ^ 64
+hash_from_pair-lt s (w0 ∷ w1 ∷ w ∷ ws) = hash_from_pair-lt (pair_round s w0 w1) (w ∷ ws)
+hash_from_pair-lt s ws = closing-lt s ws
+
+hash_from_lanes-lt : (v : ℕ) (s : Lanes) (absorbed : Bool) (ws : List ℕ)
+    → hash_from_lanes v s absorbed ws < 2 ^ 64
+hash_from_lanes-lt v s absorbed (w0 ∷ w1 ∷ w2 ∷ w3 ∷ w4 ∷ w5 ∷ w6 ∷ w7 ∷ w ∷ ws) =
+    let block = w0 ∷ w1 ∷ w2 ∷ w3 ∷ w4 ∷ w5 ∷ w6 ∷ w7 ∷ [] in
+    hash_from_lanes-lt v (block_round v s block) true (w ∷ ws)
+hash_from_lanes-lt v s absorbed ws = hash_from_pair-lt (join absorbed s) ws
+
+pub komi-lt : (v seed : ℕ) (m : List ℕ) → komi v seed m < 2 ^ 64
+unfolding komi
+komi-lt v seed m = hash_from_lanes-lt v (lanes (seed_pair seed)) _ (padded_words v m)
