@@ -4,6 +4,7 @@ use Rattle.std.specs.Prelude.{Option, IfSome, IsSomeAnd, IsNone, if◌then◌els
 use Rattle.komihash.specs.Rounds.{Lanes}
 use Rattle.komihash.specs.Stream.{State, IsState, HasAbsorbed}
 use Rattle.komihash.specs.Words.{all_bytes}
+use Rattle.komihash.specs.declared.stream.saved.TheConstants.{LONGEST_TEXT}
 
 -- a flag as a byte
 abbrev pub flag_byte : Bool → ℕ
@@ -30,13 +31,13 @@ IsText v bytes = (s : State) × IsState v s × (text v s ≡ bytes)
 unfoldable pub IsTextAfter : ℕ → ℕ → List ℕ → List ℕ → Type 0
 IsTextAfter v seed m bytes = (s : State) × IsState v s × HasAbsorbed v seed s m × (text v s ≡ bytes)
 
--- ---- what a call does, which the trait and each stream state alike; 131 is `LONGEST_TEXT`
+-- ---- what a call does, which the trait and each stream state alike
 
 -- a call writes the text of a stream to the front of `old`, which is then `new`, leaves the rest,
 -- and returns the length of the text
 pub record Stored (v : ℕ) (now : State) (old new : List ℕ) (result : ℕ) : Type 0 where
   pub length : result ≡ length (text v now)
-  pub most : result ≤ 131
+  pub most : result ≤ LONGEST_TEXT
   pub text : take result new ≡ text v now
   pub message : (seed : ℕ) (m : List ℕ) → HasAbsorbed v seed now m
       → IsTextAfter v seed m (take result new)
@@ -50,6 +51,6 @@ pub record Restored {A : Type 0} (v : ℕ) (state : A → State) (bytes : List �
       → IsSomeAnd result (λ stream. state stream ≡ s)
   pub message : (seed : ℕ) (m : List ℕ) → IsTextAfter v seed m bytes
       → IsSomeAnd result (λ stream. HasAbsorbed v seed (state stream) m)
-  pub most : IfSome result (λ _. length bytes ≤ 131)
+  pub most : IfSome result (λ _. length bytes ≤ LONGEST_TEXT)
   pub text : IfSome result (λ stream. text v (state stream) ≡ bytes)
   pub none : IsNone result ↔ ¬ IsText v bytes

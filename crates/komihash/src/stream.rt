@@ -11,13 +11,12 @@ ghost use Rattle.komihash.specs.Stream.{Started, Absorbed, Answered};
 
 use crate::tally::Tally;
 
+pub use saved::LONGEST_TEXT;
+
 #[doc(hidden)]
 pub mod raw;
 mod saved;
 pub(crate) mod streamed;
-
-/// The length of the longest saved text, in bytes: 68, and 63 pending ones.
-pub const LONGEST_TEXT: usize = saved::PENDING_AT + 63;
 
 /// A stream of either version, for generic code.
 ///

@@ -7,7 +7,6 @@ ghost use Rattle.komihash.specs.Saved.{flag_byte, in_order, IsText};
 ghost use Rattle.komihash.specs.Storage.{whole_words};
 ghost use Rattle.komihash.specs.Words.{all_bytes};
 
-use super::LONGEST_TEXT;
 use crate::rounds::pending::Pending;
 use crate::rounds::{Lanes, from_order, in_order};
 use crate::tally::Tally;
@@ -15,7 +14,10 @@ use crate::utils::{write_bytes, write_words};
 
 const LANES_AT: usize = 4;
 
-pub(super) const PENDING_AT: usize = 68;
+const PENDING_AT: usize = 68;
+
+/// The length of the longest saved text, in bytes: 68, and 63 pending ones.
+pub const LONGEST_TEXT: usize = PENDING_AT + 63;
 
 /// Writes the first four bytes: the version, the two flags, and the number of pending bytes.
 #[inline(always)]
