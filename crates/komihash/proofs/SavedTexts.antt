@@ -13,7 +13,7 @@ use Rattle.komihash.specs.Rounds.{Lanes}
 use Rattle.komihash.specs.Saved.{flag_byte, in_order, text, IsText, IsTextAfter, Stored, Restored}
 use Rattle.komihash.specs.Stream.{AreWords, State, IsState, HasAbsorbed}
 use Rattle.komihash.specs.Storage.{whole_words}
-use Rattle.komihash.specs.Words.{AreBytes, all_bytes}
+use Rattle.komihash.specs.Words.{AreBytes, all_bytes, bytes_of}
 use Rattle.komihash.specs.Storage.{xor_again}
 use Rattle.komihash.proofs.WholeWords.{length-whole_words}
 use Rattle.komihash.proofs.AllBytes.{length-all_bytes}
@@ -28,10 +28,9 @@ pub part-put : (a n : ℕ) (out part bytes : List ℕ) → a ≤ n → n ≤ len
     → (take n (put_mid a (n - a) out part) ≡ take a out ++ bytes)
     × ((m : ℕ) → n ≤ m → drop m (put_mid a (n - a) out part) ≡ drop m out)
 part-put a n out part bytes le within room is =
-    let size = room ∙ length-take-le (n - a) (drop a out) (omega (arith, length-drop a out)) in
-    let whole = sym (take_all (n - a) part (omega (arith, size))) ∙ is in (
+    let size = room ∙ length-take-le (n - a) (drop a out) (omega (arith, length-drop a out)) in (
       take-put_mid a (n - a) out part n (omega (arith, size)) (omega arith)
-          ∙ ap (λ xs. take a out ++ xs) whole,
+          ∙ ap (λ xs. take a out ++ xs) (sym (take_all (n - a) part (omega arith)) ∙ is),
       λ m after. drop-put_mid a (n - a) out part m (omega arith) (omega arith) size,
     )
 
@@ -89,13 +88,8 @@ state_of-text v s are =
     )
 
 pub length-text : (v : ℕ) (s : State) → length (text v s) ≡ 68 + length s.pending
-unfolding text
-length-text v s =
-    omega (
-      arith,
-      length-append (all_bytes (in_order s.lanes)) s.pending,
-      length-all_bytes (in_order s.lanes),
-    )
+unfolding text bytes_of
+length-text v s = omega arith
 
 pub IsTextAfter-most : (v seed : ℕ) (m bytes : List ℕ) → IsTextAfter v seed m bytes
     → length bytes ≤ 131
@@ -175,16 +169,7 @@ laid_out-state v bytes are laid =
     let lanes = take 64 (drop 4 bytes) in
     let fit = whole_words-lt lanes (AreBytes-take 64 (drop 4 bytes) (AreBytes-drop 4 bytes are)) in
     record {
-      words = record {
-        s1 = fit 0;
-        s2 = fit 1;
-        s3 = fit 2;
-        s4 = fit 3;
-        s5 = fit 4;
-        s6 = fit 5;
-        s7 = fit 6;
-        s8 = fit 7;
-      };
+      words = search (rules, fit);
       bytes = AreBytes-drop 68 bytes are;
       few = omega (arith, laid.size, laid.few, length-drop 68 bytes);
       top_bit_absorbed = grind (arith, nat_tests, laid);
