@@ -1,10 +1,11 @@
 -- The invariant says what the calls so far did, and `goes_on` adds one call to it.
 use Rattle.std.proofs.Common.{◌≡◌, ℕ, ◌<◌, List, refl, sym, slice_set, ◌+◌, ◌%◌, ◌++◌, length}
-use Rattle.std.proofs.Common.{get_or, take, drop, ap, arith, ◌∙◌, [], ◌∷◌}
+use Rattle.std.proofs.Common.{get_or, take, drop, ap, arith, rules, ◌∙◌, [], ◌∷◌}
 use Rattle.std.proofs.lemmas.List.{append_assoc, append-nil, take_more, drop_more, length-append}
 use Rattle.std.proofs.lemmas.List.{take_all}
 use Rattle.std.proofs.Math.Seq.{set-append_seam}
 use Rattle.komihash.specs.Calls.{onward}
+use Rattle.komihash.specs.Stream.{absorb}
 use Rattle.komihash.proofs.CallLists.{goes_on, onward-message}
 use Rattle.komihash.proofs.Streams.{absorb-nothing, absorbed}
 use Rattle.komihash.specs.declared.stream.Call.{Call}
@@ -23,14 +24,8 @@ put_answer answers out now count answer now_is is room =
 pub loop-call-init : goal.loop-call-init
 loop-call-init g c =
     let few = (g.met.S.KomiStream.is_state c.args.stream.now).few in
-    record {
-      few = omega arith;
-      count = refl;
-      answers = refl;
-      state = sym (absorb-nothing g.S.KomiStream.VERSION _);
-      products = omega arith;
-      kept = omega arith;
-    }
+    let same = sym (absorb-nothing g.S.KomiStream.VERSION (g.S.KomiStream.state c.args.stream.now)) in
+    search rules
 
 pub loop-call-preserved : goal.loop-call-preserved
 loop-call-preserved g c =
@@ -38,50 +33,36 @@ loop-call-preserved g c =
     let first = g.S.KomiStream.state c.args.stream.now in
     let now = g.S.KomiStream.state c.loop-call.stream in
     let i = c.loop-call.call-index in
-    let count = c.loop-call.count in
     let calls = c.args.calls.now in
-    let out = c.args.out.now in
     let made = take i calls in
     let answers = onward v first made in
     let is = c.loop-call.invariant in
     let few = (g.met.S.KomiStream.is_state c.args.stream.now).few in
     let few_now = (g.met.S.KomiStream.is_state c.loop-call.stream).few in
+    let next = λ (d call : Call) (is : get_or calls i d ≡ call).
+    take_more calls i d c.loop-call-test.true ∙ ap (λ x. made ++ x ∷ []) is in
     let with = λ (call : Call). goes_on v first now made (call ∷ []) few is.state in
     elim c.match-call.branch [
       | in-Absorb w ↦
           let bytes = w.in-Absorb.bytes in
-          let next : take (i + 1) calls ≡ made ++ Absorb bytes ∷ [] =
-          take_more calls i _ c.loop-call-test.true
-          ∙ ap (λ call. made ++ call ∷ []) w.in-Absorb.is in
           let one = with (Absorb bytes) in
           let no_answer = one.answers ∙ append-nil answers in
           let pending : length now.pending % 64 ≡ length now.pending = omega arith in
           let kept = rw pending at one.kept in
-          rw (next, w.stream-is, w.out-is, w.tally-is, w.count-is, no_answer) record {
-            few = omega arith;
-            count = is.count;
-            answers = is.answers;
-            state = rw (one.state, append-nil bytes.now) w.absorb.ensures.absorbed.state;
-            products = omega (arith, length-append bytes.now []);
-            kept = omega arith;
-          }
+          let state = w.absorb.ensures.absorbed.state
+          ∙ sym (one.state ∙ ap (absorb v now) (append-nil bytes.now)) in
+          rw (next _ _ w.in-Absorb.is, w.stream-is, w.out-is, w.tally-is, w.count-is, no_answer)
+          (search (rules, length-append bytes.now []))
       | in-Answer w ↦
           let answer = w.answer.result in
-          let next : take (i + 1) calls ≡ made ++ Answer ∷ [] =
-          take_more calls i _ c.loop-call-test.true
-          ∙ ap (λ call. made ++ call ∷ []) w.in-Answer.is in
           let one = with Answer in
           let same = absorb-nothing v now in
           let more : onward v first (made ++ Answer ∷ []) ≡ answers ++ answer ∷ [] =
           rw (one.answers, same, w.answer.ensures.answered.answer) in
-          rw (next, w.stream-is, w.out-is, w.tally-is, w.count-is, more) record {
-            few = omega arith;
-            count = omega (arith, length-append answers (answer ∷ []));
-            answers = put_answer answers out _ _ answer is.answers is.count (omega arith);
-            state = sym (one.state ∙ same);
-            products = omega arith;
-            kept = omega arith;
-          }
+          let put = put_answer answers c.args.out.now _ _ answer is.answers is.count (omega arith) in
+          let state = sym (one.state ∙ same) in
+          rw (next _ _ w.in-Answer.is, w.stream-is, w.out-is, w.tally-is, w.count-is, more)
+          (search (rules, length-append answers (answer ∷ [])))
     ]
 
 pub returns : goal.returns
