@@ -71,12 +71,4 @@ returns g c =
     let calls = c.args.calls.now in
     let all = take_all c.loop-call.call-index calls c.loop-call-test.false in
     let did = rw all at c.loop-call.invariant in
-    let left = drop c.loop-call.count c.args.out.now in
-    record {
-      answers = did.answers;
-      count = did.count;
-      hashes = λ seed m is.
-          did.answers ∙ ap (λ made. made ++ left) (onward-message v seed _ m calls is);
-      absorbed = absorbed v _ _ _ did.state;
-      costs = record { products = did.products; kept = did.kept };
-    }
+    search (rules, onward-message, absorbed)
