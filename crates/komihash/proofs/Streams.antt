@@ -152,12 +152,9 @@ after_write v s bytes l rest few many on =
 mixed-lt : (a b p : ℕ) → bit_xor (plus a b) (low p) < 2 ^ 64
 mixed-lt a b p = xor_lt 64 (plus a b) (low p) (omega arith) (omega arith)
 
-AreWords-lanes : (s : ℕ × ℕ) → s.0 < 2 ^ 64 → s.1 < 2 ^ 64 → AreWords (lanes s)
-AreWords-lanes s a e = search (arith, xor_lt 64)
-
 AreWords-seed_pair : (seed : ℕ) → AreWords (lanes (seed_pair seed))
 unfolding mix
-AreWords-seed_pair seed = AreWords-lanes (seed_pair seed) (mixed-lt _ _ _) (omega arith)
+AreWords-seed_pair seed = search (arith, xor_lt 64, mixed-lt)
 
 AreWords-block : (v : ℕ) (s : Lanes) (ws : List ℕ) → AreWords (block_round v s ws)
 unfolding block_round_by
@@ -171,14 +168,7 @@ AreWords-block_lanes v s (w0 ∷ w1 ∷ w2 ∷ w3 ∷ w4 ∷ w5 ∷ w6 ∷ w7 �
 AreWords-block_lanes v s ws words = words
 
 pub IsState-start : (v seed : ℕ) (s : State) → s ≡ start seed → IsState v s
-IsState-start v seed s is =
-    rw is record {
-      words = AreWords-seed_pair seed;
-      bytes = λ k. omega arith;
-      few = omega arith;
-      top_bit_absorbed = λ h. absurd (false≢true h);
-      top_bit_version = λ h. absurd (false≢true h);
-    }
+IsState-start v seed s is = rw is (search (arith, AreWords-seed_pair, false≢true))
 
 pads_with_two-version : (v b : ℕ) → pads_with_two v b ≡ true → v ≡ 4
 pads_with_two-version v b h = grind (arith, nat_tests)
@@ -189,22 +179,12 @@ IsState-absorb v s new bytes is are same =
     let all = s.pending ++ bytes in
     let are_all = AreBytes-append s.pending bytes is.bytes are in
     rw same (elim (cases_lt (length s.pending + length bytes) 64) [
-      | inl lt ↦
-          rw (absorb-few v s bytes lt) record {
-            words = is.words;
-            bytes = are_all;
-            few = omega (arith, length-append s.pending bytes);
-            top_bit_absorbed = is.top_bit_absorbed;
-            top_bit_version = is.top_bit_version;
-          }
+      | inl lt ↦ rw (absorb-few v s bytes lt) (search (arith, length-append s.pending bytes))
       | inr le ↦
-          rw (absorb-blocks v s bytes is.few le) record {
-            words = AreWords-block_lanes v s.lanes (whole_words all) is.words;
-            bytes = AreBytes-drop _ all are_all;
-            few = omega (arith, length-after_blocks all);
-            top_bit_absorbed = λ _. refl;
-            top_bit_version = pads_with_two-version v _;
-          }
+          let words = AreWords-block_lanes v s.lanes (whole_words all) is.words in
+          let left = AreBytes-drop (length all - length all % 64) all are_all in
+          rw (absorb-blocks v s bytes is.few le)
+          (search (arith, length-after_blocks all, pads_with_two-version))
     ])
 
 -- ---- what it answers
