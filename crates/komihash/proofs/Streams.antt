@@ -181,10 +181,13 @@ IsState-absorb v s new bytes is are same =
     rw same (elim (cases_lt (length s.pending + length bytes) 64) [
       | inl lt ↦ rw (absorb-few v s bytes lt) (search (arith, length-append s.pending bytes))
       | inr le ↦
-          let words = AreWords-block_lanes v s.lanes (whole_words all) is.words in
-          let left = AreBytes-drop (length all - length all % 64) all are_all in
-          rw (absorb-blocks v s bytes is.few le)
-          (search (arith, length-after_blocks all, pads_with_two-version))
+          rw (absorb-blocks v s bytes is.few le) (search (
+            arith,
+            AreWords-block_lanes,
+            AreBytes-drop,
+            length-after_blocks all,
+            pads_with_two-version,
+          ))
     ])
 
 -- ---- what it answers
@@ -244,9 +247,8 @@ answer-joined v seed m =
           (answer-by_pair v (record (start seed) { pending = m }) ∙ cc)
       | inr le ↦
           let n = length m - length m % 64 in
-          let front : length (take n m) ≡ 8 * (n / 8) = length-take-le n m (omega arith)
-          ∙ omega arith in
-          let words = after_words-append (take n m) (drop n m) (n / 8) front in
+          let size = length-take-le n m (omega arith) in
+          let words = after_words-append (take n m) (drop n m) (n / 8) (omega arith) in
           let cut = take-append-drop n m in
           let last : length m - (0 + length m) % 64 - 1 ≡ n - 1 = omega arith in
           let end = tail_end-drop v n m (omega arith) (omega arith) in
