@@ -74,8 +74,8 @@ absorb-few v s (b ∷ bytes) few =
     absorb-byte v s b bytes (omega arith) ∙ absorb-few v (byte_state s b) bytes (omega arith)
     ∙ rw append_assoc
 
--- the blocks of bytes xs and then of others are those that lanes l and the bytes `rest` go on with
-pub record GoesOn (v : ℕ) (before : Lanes) (xs bytes : List ℕ) (l : Lanes) (rest : List ℕ)
+-- from lanes l, the bytes `rest` lead where xs and then `bytes` lead from the lanes `before`
+pub record SameBlocks (v : ℕ) (before : Lanes) (xs bytes : List ℕ) (l : Lanes) (rest : List ℕ)
     : Type 0 where
   pub lanes : block_lanes v before (whole_words (xs ++ bytes)) ≡ block_lanes v l (whole_words rest)
   pub left : after_blocks (xs ++ bytes) ≡ after_blocks rest
@@ -83,7 +83,7 @@ pub record GoesOn (v : ℕ) (before : Lanes) (xs bytes : List ℕ) (l : Lanes) (
 -- k bytes complete the block of those before them
 pub completed : (v : ℕ) (l : Lanes) (xs bytes : List ℕ) (k : ℕ) → length xs + k ≡ 64
     → k ≤ length bytes
-    → GoesOn v l xs bytes (block_round v l (whole_words (xs ++ take k bytes))) (drop k bytes)
+    → SameBlocks v l xs bytes (block_round v l (whole_words (xs ++ take k bytes))) (drop k bytes)
 completed v l xs bytes k full enough =
     let block = xs ++ take k bytes in
     let rest = drop k bytes in
@@ -96,14 +96,17 @@ completed v l xs bytes k full enough =
           ∙ ap after_blocks (drop_at block rest 64 size));
     }
 
+-- the index, in n bytes that follow f pending ones, of the last byte of the last block
+abbrev last_at : ℕ → ℕ → ℕ
+last_at f n = n - (f + n) % 64 - 1
+
 -- the state after bytes that fill at least one block
 abbrev pub blocks_state : ℕ → State → List ℕ → State
 blocks_state v s bytes = record {
   lanes = block_lanes v s.lanes (whole_words (s.pending ++ bytes));
   pending = after_blocks (s.pending ++ bytes);
   absorbed = true;
-  top_bit = pads_with_two v
-      (slice_index bytes (length bytes - (length s.pending + length bytes) % 64 - 1));
+  top_bit = pads_with_two v (slice_index bytes (last_at (length s.pending) (length bytes)));
 }
 
 pub absorb-blocks : (v : ℕ) (s : State) (bytes : List ℕ) → length s.pending < 64
@@ -111,26 +114,27 @@ pub absorb-blocks : (v : ℕ) (s : State) (bytes : List ℕ) → length s.pendin
 absorb-blocks v s [] few le = absurd (omega arith)
 absorb-blocks v s (b ∷ bytes) few le =
     let size = length-append s.pending (b ∷ []) in
-    let last = λ (n : ℕ). length (b ∷ bytes) - (length s.pending + length (b ∷ bytes)) % 64 - 1 ≡ n in
-    elim (cases_lt (length s.pending) 63) [
+    let f = length s.pending in
+    let n = length bytes in
+    elim (cases_lt f 63) [
       | inl lt ↦
-          let all = append_assoc s.pending (b ∷ []) bytes in
-          let at : last (suc (length bytes - (length (s.pending ++ b ∷ []) + length bytes) % 64 - 1)) = omega arith in
+          let all = s.pending ++ b ∷ [] in
+          let last : last_at f (suc n) ≡ suc (last_at (length all) n) = omega arith in
           absorb-byte v s b bytes lt
           ∙ absorb-blocks v (byte_state s b) bytes (omega arith) (omega arith)
-          ∙ cc
+          ∙ rw (append_assoc, last) refl
       | inr ge ↦
-          let full : length s.pending + 1 ≡ 64 = omega arith in
+          let full : f + 1 ≡ 64 = omega arith in
           let after = block_state v s b in
           let on = completed v s.lanes s.pending (b ∷ bytes) 1 full (omega arith) in
-          absorb-block v s b bytes (omega arith) ∙ elim (cases_lt (length bytes) 64) [
+          absorb-block v s b bytes (omega arith) ∙ elim (cases_lt n 64) [
             | inl lt ↦
-                let at : last 0 = omega arith in
+                let last : last_at f (suc n) ≡ 0 = omega arith in
                 let same = block_lanes-few_bytes v after.lanes bytes lt in
                 let all = after_blocks_few bytes lt in
                 absorb-few v after bytes (omega arith) ∙ cc
             | inr more ↦
-                let at : last (suc (length bytes - (0 + length bytes) % 64 - 1)) = omega arith in
+                let last : last_at f (suc n) ≡ suc (last_at 0 n) = omega arith in
                 absorb-blocks v after bytes (omega arith) (omega arith) ∙ cc
           ]
     ]
@@ -138,7 +142,7 @@ absorb-blocks v s (b ∷ bytes) few le =
 -- the state after a write that completes a block, from what is left after that block
 pub after_write : (v : ℕ) (s : State) (bytes : List ℕ) (l : Lanes) (rest : List ℕ)
     → length s.pending < 64 → 64 ≤ length s.pending + length bytes
-    → GoesOn v s.lanes s.pending bytes l rest
+    → SameBlocks v s.lanes s.pending bytes l rest
     → record (blocks_state v s bytes) {
       lanes = block_lanes v l (whole_words rest);
       pending = after_blocks rest;
@@ -250,7 +254,7 @@ answer-joined v seed m =
           let size = length-take-le n m (omega arith) in
           let words = after_words-append (take n m) (drop n m) (n / 8) (omega arith) in
           let cut = take-append-drop n m in
-          let last : length m - (0 + length m) % 64 - 1 ≡ n - 1 = omega arith in
+          let last : last_at 0 (length m) ≡ n - 1 = omega arith in
           let end = tail_end-drop v n m (omega arith) (omega arith) in
           let hash = komi_long v seed m le in
           rw (absorb-blocks v (start seed) m (omega arith) (omega arith))
