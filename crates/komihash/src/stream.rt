@@ -10,7 +10,6 @@ ghost use Rattle.komihash.specs.Stream.{State, IsState, HasAbsorbed};
 ghost use Rattle.komihash.specs.Stream.{Started, Absorbed, Answered};
 
 use crate::tally::Tally;
-
 pub use saved::LONGEST_TEXT;
 
 #[doc(hidden)]

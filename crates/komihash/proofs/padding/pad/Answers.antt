@@ -29,7 +29,7 @@ returns g c =
     ] in
     record {
       count = refl;
-      padded = take_more_set c.write_words.new.out (length bytes / 8) c.if-whole-gt0.last (omega arith)
+      padded = take_more_set c.write_words.new.out (length bytes / 8) _ (omega arith)
           ∙ rw (c.write_words.ensures.words, last) (sym (padded_words-by_tail g.row.V bytes));
       rest = grind (arith, common_steps);
     }

@@ -1,5 +1,5 @@
 -- The invariant says what the calls so far did, and `goes_on` adds one call to it.
-use Rattle.std.proofs.Common.{◌≡◌, ℕ, ◌<◌, List, refl, sym, slice_set, ◌+◌, ◌%◌, ◌++◌, length}
+use Rattle.std.proofs.Common.{◌≡◌, ℕ, ◌<◌, List, sym, slice_set, ◌+◌, ◌%◌, ◌++◌, length}
 use Rattle.std.proofs.Common.{get_or, take, drop, ap, arith, rules, ◌∙◌, [], ◌∷◌}
 use Rattle.std.proofs.lemmas.List.{append_assoc, append-nil, take_more, drop_more, length-append}
 use Rattle.std.proofs.lemmas.List.{take_all}
@@ -23,8 +23,9 @@ put_answer answers out now count answer now_is is room =
 
 pub loop-call-init : goal.loop-call-init
 loop-call-init g c =
+    let first = g.S.KomiStream.state c.args.stream.now in
     let few = (g.met.S.KomiStream.is_state c.args.stream.now).few in
-    let same = sym (absorb-nothing g.S.KomiStream.VERSION (g.S.KomiStream.state c.args.stream.now)) in
+    let same = sym (absorb-nothing g.S.KomiStream.VERSION first) in
     search rules
 
 pub loop-call-preserved : goal.loop-call-preserved
@@ -59,7 +60,8 @@ loop-call-preserved g c =
           let same = absorb-nothing v now in
           let more : onward v first (made ++ Answer ∷ []) ≡ answers ++ answer ∷ [] =
           rw (one.answers, same, w.answer.ensures.answered.answer) in
-          let put = put_answer answers c.args.out.now _ _ answer is.answers is.count (omega arith) in
+          let out = c.args.out.now in
+          let put = put_answer answers out _ _ answer is.answers is.count (omega arith) in
           let state = sym (one.state ∙ same) in
           rw (next _ _ w.in-Answer.is, w.stream-is, w.out-is, w.tally-is, w.count-is, more)
           (search (rules, length-append answers (answer ∷ [])))

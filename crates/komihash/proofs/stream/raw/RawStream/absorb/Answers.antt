@@ -23,4 +23,5 @@ returns-else-len-bytes-lt64-clause-absorbed g c =
 
 pub returns-else-len-bytes-lt64-clause-is_state : goal.returns-else-len-bytes-lt64-clause-is_state
 returns-else-len-bytes-lt64-clause-is_state g c is =
-    IsState-absorb g.row.V _ _ _ is (AreBytes-typed _ c.type_inv.bytes) c.complete_blocks.ensures.state
+    IsState-absorb g.row.V _ _ _ is (AreBytes-typed _ c.type_inv.bytes)
+    c.complete_blocks.ensures.state

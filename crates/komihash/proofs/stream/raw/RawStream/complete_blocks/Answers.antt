@@ -22,7 +22,8 @@ returns-clause-state g c =
       | then-fill-eq0 w ↦
           let none = nil_from_length xs (omega arith) in
           rw (w.self-inside-is, w.lanes-is, w.rest-is, top_bit, size)
-          (after_write v _ bytes lanes bytes few many (rw none record { lanes = refl; left = refl }))
+          (after_write v _ bytes lanes bytes few many
+          (rw none record { lanes = refl; left = refl }))
       | else-fill-eq0 w ↦
           rw (
             w.self-inside-is,
