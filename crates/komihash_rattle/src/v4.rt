@@ -1,13 +1,12 @@
 //! The functions of version 4, as C calls them. `komihash_rattle.h` declares them.
 
 ghost use Rattle.std.specs.Prelude.{◌≡◌, ◌+◌, ◌-◌, ◌*◌, ◌/◌, ◌<◌, ◌≤◌, ◌^◌, ◌↔◌, true, false};
-ghost use Rattle.std.specs.Prelude.{ℕ, List, length, take, drop};
+ghost use Rattle.std.specs.Prelude.{length, Some};
 ghost use Rattle.komihash.specs.Generator.{next, after_steps, fill, after_fill};
 ghost use Rattle.komihash.specs.Hash.{komi};
-ghost use Rattle.komihash.specs.Padding.{ArePadded, Padded, padded_words};
-ghost use Rattle.komihash.specs.Saved.{text, IsText, IsTextAfter, Stored};
-ghost use Rattle.komihash.specs.Stream.{State, IsState, HasAbsorbed, Started, Absorbed, Answered};
-ghost use Rattle.komihash.specs.Words.{AreBytes};
+ghost use Rattle.komihash.specs.Padding.{ArePadded, Padded, Unpadded};
+ghost use Rattle.komihash.specs.Saved.{IsText, Stored, Restored};
+ghost use Rattle.komihash.specs.Stream.{IsState, Started, Absorbed, Answered};
 
 use super::rand::Rand;
 use komihash::stream::LONGEST_TEXT;
@@ -53,11 +52,8 @@ pub extern "C" fn komihash_v4_pad(bytes: &[u8], out: &mut [u64]) -> usize
 /// word.
 #[unsafe(no_mangle)]
 pub extern "C" fn komihash_v4_unpad(words: &[u64], out: &mut [u8]) -> usize
-    ensures length { result < 2 ^ 64 - 1 → result / 8 + 1 ≡ length words.now }
-    ensures message { result < 2 ^ 64 - 1 → padded_words 4 (take result out.new) ≡ words.now }
-    ensures same { (m : List ℕ) → AreBytes m → padded_words 4 m ≡ words.now
-        → result < 2 ^ 64 - 1 → take result out.new ≡ m }
-    ensures rest { drop result out.new ≡ drop result out.old }
+    ensures unpadded { result < 2 ^ 64 - 1
+        → Unpadded 4 words.now out.old out.new (Some result) }
     ensures unchanged { result ≡ 2 ^ 64 - 1 → out.new ≡ out.old }
     ensures no_room { length out.old < 8 * length words.now → result ≡ 2 ^ 64 - 1 }
     ensures none { ¬ ArePadded 4 words.now → result ≡ 2 ^ 64 - 1 }
@@ -118,10 +114,8 @@ pub extern "C" fn komihash_v4_save(stream: &Stream, out: &mut [u8]) -> usize
 /// nothing, and returns false, if no stream of this version has.
 #[unsafe(no_mangle)]
 pub extern "C" fn komihash_v4_resume(stream: &mut Stream, bytes: &[u8]) -> bool
-    ensures text { result ≡ true → text 4 stream.new.raw ≡ bytes.now }
-    ensures state { (s : State) → IsState 4 s → text 4 s ≡ bytes.now → stream.new.raw ≡ s }
-    ensures message { (seed : ℕ) (m : List ℕ) → IsTextAfter 4 seed m bytes.now
-        → HasAbsorbed 4 seed stream.new.raw m }
+    ensures restored { result ≡ true
+        → Restored 4 (λ state. state) bytes.now (Some stream.new.raw) }
     ensures refused { result ≡ false ↔ ¬ IsText 4 bytes.now }
     ensures same { result ≡ false → stream.new ≡ stream.old }
 {
