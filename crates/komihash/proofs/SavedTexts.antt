@@ -76,9 +76,8 @@ unfolding text
 state_of-text v s are =
     let lanes = all_bytes (in_order s.lanes) in
     let size : length lanes ≡ 64 = length-all_bytes (in_order s.lanes) in
-    let words : whole_words lanes ≡ in_order s.lanes =
-    ap whole_words (sym (append-nil lanes))
-    ∙ whole_words-all_bytes (in_order s.lanes) [] (in_order-words s.lanes are) (omega arith) in
+    let words = rw (append-nil lanes) at
+    (whole_words-all_bytes (in_order s.lanes) [] (in_order-words s.lanes are) (omega arith)) in
     rw (
       take_at lanes s.pending 64 size,
       drop_at lanes s.pending 64 size,
@@ -172,21 +171,14 @@ laid_out-state v bytes are laid =
       words = search (rules, fit);
       bytes = AreBytes-drop 68 bytes are;
       few = omega (arith, laid.size, laid.few, length-drop 68 bytes);
-      top_bit_absorbed = grind (arith, nat_tests, laid);
-      top_bit_version = grind (arith, nat_tests, laid);
+      top_bit_absorbed = grind (arith, nat_tests);
+      top_bit_version = grind (arith, nat_tests);
     }
 
 text-laid_out : (v : ℕ) (s : State) → IsState v s → IsLaidOut v (text v s)
 unfolding text
 text-laid_out v s is =
-    record {
-      version = refl;
-      absorbed = grind arith;
-      top_bit = grind (arith, is);
-      top_bit_version = grind (arith, is);
-      few = is.few;
-      size = length-text v s;
-    }
+    let size = length-text v s in grind (arith, is)
 
 pub IsLaidOut-text : (v : ℕ) (bytes : List ℕ) → ((k : ℕ) → Fits w8 (get_or bytes k 0))
     → IsLaidOut v bytes ↔ IsText v bytes
@@ -236,10 +228,4 @@ restored v bytes now (s, is, of_s) read =
 pub refused : {A : Type 0} (v : ℕ) (state : A → State) (bytes : List ℕ) → ¬ IsText v bytes
     → Restored v state bytes None
 unfolding IsTextAfter
-refused v state bytes not = record {
-  same = λ s is of. absurd (not (s, is, of));
-  message = λ seed m (s, is, after, of). absurd (not (s, is, of));
-  most = search rules;
-  text = search rules;
-  none = search rules;
-}
+refused v state bytes not = search rules
