@@ -76,39 +76,30 @@ bytes_of_calls-append (Absorb bytes ∷ xs) ys =
 bytes_of_calls-append (Answer ∷ xs) ys = bytes_of_calls-append xs ys
 
 -- costs depend only on how many bytes came before, modulo 64
-products_of_answers-then : (p q : ℕ) (xs ys : List Call)
-    → q % 64 ≡ (p + length (bytes_of_calls xs)) % 64
-    → products_of_answers p (xs ++ ys) ≡ products_of_answers p xs + products_of_answers q ys
-products_of_answers-then p q [] [] e = refl
-products_of_answers-then p q [] (Absorb bytes ∷ ys) e =
-    products_of_answers-then (p + length bytes.now) (q + length bytes.now) [] ys (omega arith)
-products_of_answers-then p q [] (Answer ∷ ys) e =
-    omega (arith, products_of_answers-then p q [] ys e)
-products_of_answers-then p q (Absorb bytes ∷ xs) ys e =
-    let size = length-append bytes.now (bytes_of_calls xs) in
-    products_of_answers-then (p + length bytes.now) q xs ys (omega arith)
-products_of_answers-then p q (Answer ∷ xs) ys e =
-    omega (arith, products_of_answers-then p q xs ys e)
-
-onward_kept-then : (p q : ℕ) (xs ys : List Call) → q % 64 ≡ (p + length (bytes_of_calls xs)) % 64
-    → onward_kept p (xs ++ ys) ≡ onward_kept p xs + onward_kept q ys
-onward_kept-then p q [] [] e = refl
-onward_kept-then p q [] (Absorb bytes ∷ ys) e =
+costs-then : (p q : ℕ) (xs ys : List Call) → q % 64 ≡ (p + length (bytes_of_calls xs)) % 64
+    → (products_of_answers p (xs ++ ys) ≡ products_of_answers p xs + products_of_answers q ys)
+    × (onward_kept p (xs ++ ys) ≡ onward_kept p xs + onward_kept q ys)
+costs-then p q [] [] e = (refl, refl)
+costs-then p q [] (Absorb bytes ∷ ys) e =
     let same : q % 64 ≡ p % 64 = omega arith in
-    let rest = onward_kept-then (p + length bytes.now) (q + length bytes.now) [] ys (omega arith) in
-    rw same (omega arith)
-onward_kept-then p q [] (Answer ∷ ys) e = onward_kept-then p q [] ys e
-onward_kept-then p q (Absorb bytes ∷ xs) ys e =
+    let rest = costs-then (p + length bytes.now) (q + length bytes.now) [] ys (omega arith) in
+    (rest.0, rw same (omega arith))
+costs-then p q [] (Answer ∷ ys) e =
+    let same : q % 64 ≡ p % 64 = omega arith in
+    let rest = costs-then p q [] ys e in
+    (rw same (omega arith), rest.1)
+costs-then p q (Absorb bytes ∷ xs) ys e =
     let size = length-append bytes.now (bytes_of_calls xs) in
-    omega (arith, onward_kept-then (p + length bytes.now) q xs ys (omega arith))
-onward_kept-then p q (Answer ∷ xs) ys e = onward_kept-then p q xs ys e
+    let rest = costs-then (p + length bytes.now) q xs ys (omega arith) in
+    (rest.0, omega arith)
+costs-then p q (Answer ∷ xs) ys e = let rest = costs-then p q xs ys e in (omega arith, rest.1)
 
 onward_products-then : (p q : ℕ) (xs ys : List Call) → q ≡ (p + length (bytes_of_calls xs)) % 64
     → onward_products p (xs ++ ys) ≡ onward_products p xs + onward_products q ys
 onward_products-then p q xs ys is =
     let bytes = ap length (bytes_of_calls-append xs ys) in
     let size = length-append (bytes_of_calls xs) (bytes_of_calls ys) in
-    omega (arith, products_of_answers-then p q xs ys (omega arith))
+    omega (arith, (costs-then p q xs ys (omega arith)).0)
 
 products_of_answers-none : (n : ℕ) (pieces : List Call) → AreAbsorbs pieces
     → products_of_answers n pieces ≡ 0
@@ -146,5 +137,5 @@ goes_on v first now xs ys few is =
           [] [] xs ys (λ m. rw is (ap (answer v) (absorb-append v first bytes m)));
       state = rw (is, bytes_of_calls-append) (absorb-append v first bytes (bytes_of_calls ys));
       products = onward_products-then (length first.pending) (length now.pending) xs ys pending;
-      kept = onward_kept-then (length first.pending) (length now.pending) xs ys (omega arith);
+      kept = (costs-then (length first.pending) (length now.pending) xs ys (omega arith)).1;
     }
