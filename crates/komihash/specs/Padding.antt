@@ -44,6 +44,7 @@ pub record Padded (v : ℕ) (bytes old new : List ℕ) (result : ℕ) : Type 0 w
 -- no such message
 pub record Unpadded (v : ℕ) (words old new : List ℕ) (result : Option ℕ) : Type 0 where
   pub message : IfSome result (λ n. padded_words v (take n new) ≡ words)
+  -- a message with these words is the one that is written
   pub same : (m : List ℕ) → AreBytes m → padded_words v m ≡ words
       → IsSomeAnd result (λ n. take n new ≡ m)
   pub rest : IfSome result (λ n. drop n new ≡ drop n old)

@@ -39,6 +39,7 @@ pub record Stored (v : ℕ) (now : State) (old new : List ℕ) (result : ℕ) : 
   pub length : result ≡ length (text v now)
   pub most : result ≤ LONGEST_TEXT
   pub text : take result new ≡ text v now
+  -- so it is a text after the message that the stream has absorbed
   pub message : (seed : ℕ) (m : List ℕ) → HasAbsorbed v seed now m
       → IsTextAfter v seed m (take result new)
   pub rest : drop result new ≡ drop result old
@@ -47,10 +48,13 @@ pub record Stored (v : ℕ) (now : State) (old new : List ℕ) (result : ℕ) : 
 -- they are the text of no state
 pub record Restored {A : Type 0} (v : ℕ) (state : A → State) (bytes : List ℕ) (result : Option A)
     : Type 0 where
+  -- the text of a state gives that state
   pub same : (s : State) → IsState v s → text v s ≡ bytes
       → IsSomeAnd result (λ stream. state stream ≡ s)
+  -- so a text after a message gives a stream that has absorbed it
   pub message : (seed : ℕ) (m : List ℕ) → IsTextAfter v seed m bytes
       → IsSomeAnd result (λ stream. HasAbsorbed v seed (state stream) m)
+  -- nothing else gives a stream
   pub most : IfSome result (λ _. length bytes ≤ LONGEST_TEXT)
   pub text : IfSome result (λ stream. text v (state stream) ≡ bytes)
   pub none : IsNone result ↔ ¬ IsText v bytes

@@ -87,21 +87,22 @@ pub record StateOf (v : ℕ) : Type 0 where
 
 -- ---- what a call does, which the trait, the stream of Rust and that of C state alike
 
--- a new stream has absorbed nothing
+-- a new stream is in the first state of its seed, and has absorbed nothing
 pub record Started (v seed : ℕ) (new : State) : Type 0 where
   pub state : new ≡ start seed
   pub message : HasAbsorbed v seed new []
 
--- a stream absorbs bytes: they follow the message that it had absorbed
+-- a stream absorbs bytes
 pub record Absorbed (v : ℕ) (old new : State) (bytes : List ℕ) : Type 0 where
   pub state : new ≡ absorb v old bytes
+  -- the message is then longer by these bytes
   pub message : (seed : ℕ) (m : List ℕ) → HasAbsorbed v seed old m
       → HasAbsorbed v seed new (m ++ bytes)
-  -- the same, where the message is known in another form
+  -- the same, for a message that is known in another form
   pub joined : (seed : ℕ) (m all : List ℕ) → HasAbsorbed v seed old m → m ++ bytes ≡ all
       → HasAbsorbed v seed new all
 
--- a stream answers the hash of the message that it has absorbed
+-- a stream answers: with the hash of the message that it has absorbed, if there is one
 pub record Answered (v : ℕ) (now : State) (result : ℕ) : Type 0 where
   pub answer : result ≡ answer v now
   pub hash : (seed : ℕ) (m : List ℕ) → HasAbsorbed v seed now m → result ≡ komi v seed m

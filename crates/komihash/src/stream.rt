@@ -22,6 +22,9 @@ pub(crate) mod streamed;
 /// `start`, `absorb` and `answer` also count their cost in a tally that the caller passes: products
 /// of two words, and bytes that are copied into the stream. The methods have other names than those
 /// of `StreamedKomihash`, so that the name alone tells which of the two a call means.
+///
+/// What a call promises is a record, such as `Absorbed`, in `specs/Stream.antt` or
+/// `specs/Saved.antt`.
 pub trait KomiStream: Sized + Drop {
     /// The version: 4 or 5.
     const VERSION: u8;
