@@ -10,7 +10,7 @@ use Rattle.std.proofs.lemmas.Slice.{take-put_mid, drop-put_mid}
 use borrow.Rule.Slice.PartMut.{put_mid}
 use Rattle.std.specs.Prelude.{slice_index, ◌==◌}
 use Rattle.komihash.specs.Rounds.{Lanes}
-use Rattle.komihash.specs.Saved.{flag_byte, in_order, text, IsText, IsTextAfter, Stored, Restored}
+use Rattle.komihash.specs.Saved.{flag_byte, in_order, text, IsText, IsTextAfter, Restored}
 use Rattle.komihash.specs.Stream.{AreWords, State, IsState, HasAbsorbed}
 use Rattle.komihash.specs.Storage.{whole_words}
 use Rattle.komihash.specs.Words.{AreBytes, all_bytes, bytes_of}
@@ -189,18 +189,6 @@ IsLaidOut-text v bytes typed =
     )
 
 -- ---- what the calls say
-
-pub stored : (v : ℕ) (now : State) (old new : List ℕ) (result : ℕ) → IsState v now
-    → result ≡ 68 + length now.pending → take result new ≡ text v now
-    → drop result new ≡ drop result old → Stored v now old new result
-unfolding IsTextAfter
-stored v now old new result is size same rest = record {
-  length = omega (arith, length-text v now);
-  most = omega (arith, is.few);
-  text = same;
-  message = λ seed m after. (now, is, after, sym same);
-  rest = rest;
-}
 
 -- lanes read from a text
 pub read_state : (bytes : List ℕ) (lanes : Lanes)

@@ -1,9 +1,10 @@
 //! A stream whose type does not name its version, which is how C keeps one.
 
-ghost use Rattle.std.specs.Prelude.{◌≡◌, ◌+◌, ◌<◌, ◌≤◌, IfSome, length};
+ghost use Rattle.std.specs.Prelude.{◌≡◌, ◌+◌, ◌<◌, ◌≤◌, ℕ, List, IfSome, length, take, drop};
 ghost use Rattle.komihash.specs.Counts.{Costs, write_products, answer_products, kept_bytes};
-ghost use Rattle.komihash.specs.Saved.{Stored, Restored};
-ghost use Rattle.komihash.specs.Stream.{State, IsState, Started, Absorbed, Answered, absorb};
+ghost use Rattle.komihash.specs.Saved.{text, IsTextAfter, Restored};
+ghost use Rattle.komihash.specs.Stream.{State, IsState, HasAbsorbed, absorb};
+ghost use Rattle.komihash.specs.Stream.{Started, Absorbed, Answered};
 
 use super::{LONGEST_TEXT, saved};
 use crate::padding::{padding_after, pads_with_two};
@@ -138,7 +139,12 @@ impl RawStream {
     where
         Versions: IsVersion<V>,
         requires { LONGEST_TEXT ≤ length out.old }
-        ensures { IsState V self.now → Stored V self.now out.old out.new result }
+        ensures length { result ≡ length (text V self.now) }
+        ensures most { result ≤ LONGEST_TEXT }
+        ensures text { take result out.new ≡ text V self.now }
+        ensures message { IsState V self.now → (seed : ℕ) (m : List ℕ)
+            → HasAbsorbed V seed self.now m → IsTextAfter V seed m (take result out.new) }
+        ensures rest { drop result out.new ≡ drop result out.old }
     {
         saved::write_head::<V>(self.absorbed, self.top_bit, self.pending.len(), out);
         saved::write_lanes(&self.lanes, out);
