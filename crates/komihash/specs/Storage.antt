@@ -1,14 +1,13 @@
 -- How the code reads and stores what the other definitions speak of. An auditor may skip this file:
 -- no public contract cites it. Private contracts do, and lemmas prove that both say the same.
-use Rattle.std.proofs.Common.{refl, ap, ◌∙◌, sym}
-use Rattle.std.proofs.lemmas.List.{length-take-le}
+use Rattle.std.proofs.Common.{ap, ◌∙◌, sym}
 use Rattle.std.specs.Prelude.{ℕ, zero, suc, Bool, ◌≡◌, ◌-◌, ◌*◌, ◌%◌, ◌<◌, ◌≤◌, bit_xor}
 use Rattle.std.specs.Prelude.{List, [], ◌∷◌, ◌++◌, length, take, drop, get_or}
 use Rattle.std.specs.Int.Bits.{xor_assoc, xor_self, xor_zero_l}
 use Rattle.komihash.specs.Padding.{padding_byte}
 use Rattle.komihash.specs.Rounds.{Lanes, block_round}
 use Rattle.komihash.specs.Stream.{end_after_blocks}
-use Rattle.komihash.specs.Words.{word_of, bytes_of, all_bytes}
+use Rattle.komihash.specs.Words.{word_of, all_bytes}
 use Rattle.komihash.specs.declared.rounds.Pair.{Pair}
 
 -- ---- a message: its whole words, the bytes after them, and its whole blocks
@@ -74,32 +73,20 @@ pending_bytes ws fill = take fill (all_bytes ws)
 -- what is true of the fields that store pending bytes
 pub record ArePending (ws : List ℕ) (fill : ℕ) : Type 0 where
   pub few : fill < 64
+  pub count : length (pending_bytes ws fill) ≡ fill
   pub words : Stores ws (pending_bytes ws fill)
 
--- the word at index k is the one that stores these bytes there
-abbrev pub StoresAt : List ℕ → List ℕ → ℕ → Type 0
-StoresAt ws bytes k = get_or ws k 0 ≡ word_of (take 8 (drop (8 * k) bytes))
+-- the word at index k of those that store these bytes
+abbrev pub word_at : List ℕ → ℕ → ℕ
+word_at bytes k = word_of (take 8 (drop (8 * k) bytes))
 
 -- of eight words, all but those from index `low` on and below `high` store these bytes
 pub record StoresBut (ws bytes : List ℕ) (low high : ℕ) : Type 0 where
   pub size : length ws ≡ 8
-  pub words : (k : ℕ) → k < 8 → (low ≤ k → high ≤ k) → StoresAt ws bytes k
+  pub words : (k : ℕ) → k < 8 → (low ≤ k → high ≤ k) → get_or ws k 0 ≡ word_at bytes k
 
 -- ---- lemmas by which a struct's value gives back its fields
 
 -- xor with the same word twice cancels
 pub xor_again : (c x : ℕ) → bit_xor c (bit_xor c x) ≡ x
 xor_again c x = sym (xor_assoc c c x) ∙ ap (λ n. bit_xor n x) (xor_self c) ∙ xor_zero_l x
-
-pub length-stored : (xs : List ℕ) → length (all_bytes (pending_words 8 xs)) ≡ 64
-unfolding pending_words bytes_of
-length-stored xs = refl
-
--- eight words that store bytes have 64
-pub length-eight_words : (ws xs : List ℕ) → ws ≡ pending_words 8 xs → length (all_bytes ws) ≡ 64
-length-eight_words ws xs is = ap (λ us. length (all_bytes us)) is ∙ length-stored xs
-
-pub length-pending_bytes : (ws : List ℕ) (fill : ℕ) → fill ≤ length (all_bytes ws)
-    → length (pending_bytes ws fill) ≡ fill
-unfolding pending_bytes
-length-pending_bytes ws fill room = length-take-le fill (all_bytes ws) room

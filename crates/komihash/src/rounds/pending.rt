@@ -8,8 +8,7 @@ ghost use Rattle.std.proofs.Common.{arith, sym};
 ghost use Rattle.komihash.specs.Counts.{Costs};
 ghost use Rattle.komihash.specs.Padding.{padding_byte};
 ghost use Rattle.komihash.specs.Storage.{pending_bytes, ArePending, Stores, StoresBut};
-ghost use Rattle.komihash.specs.Storage.{pending_words, length-eight_words, length-pending_bytes};
-ghost use Rattle.komihash.specs.Storage.{whole_words, final_word};
+ghost use Rattle.komihash.specs.Storage.{pending_words, whole_words, final_word};
 ghost use Rattle.komihash.specs.Words.{AreBytes, word_of};
 
 use super::tail::Words;
@@ -41,9 +40,7 @@ impl Model for Pending {
 
     ghost inverse_ok = { λ p are i. record {
       words = sym are.words i;
-      fill =
-          let size = length-eight_words p.words _ are.words in
-          length-pending_bytes p.words p.fill (omega (arith, are.few, size)) i;
+      fill = are.count i;
     } };
 }
 
@@ -126,9 +123,9 @@ impl Pending {
         let over = self.fill % 8;
         let word = self.words[whole];
         let last_byte = if over == 0 {
-            (self.words[whole - 1] >> 56) as u8
+            (self.words[whole - 1] >> 56 & 0xff) as u8
         } else {
-            (word >> (8 * over - 8)) as u8
+            (word >> (8 * over - 8) & 0xff) as u8
         };
         word | padding_after(pads_with_two::<V>(last_byte)) << (8 * over)
     }
@@ -167,8 +164,10 @@ impl Words for Pending {
 #[inline(always)]
 fn append_within_word(words: &mut [u64; 8], fill: usize, word: u64)
     requires { ArePending words.old fill }
-    ensures { (bytes : List ℕ) → AreBytes bytes → word ≡ word_of bytes
-        → Stores words.new (pending_bytes words.old fill ++ take (8 - fill % 8) bytes) }
+    ensures words { (bytes : List ℕ) (low high : ℕ) → AreBytes bytes
+        → word ≡ word_of (take 8 bytes) → low ≤ fill / 8 + 1 → fill + length bytes ≤ 8 * high
+        → StoresBut words.new (pending_bytes words.old fill ++ bytes) low high }
+    ensures zeros { (k : ℕ) → fill / 8 < k → k < 8 → slice_index words.new k ≡ 0 }
 {
     words[fill / 8] |= word << (8 * (fill % 8));
 }
@@ -193,9 +192,9 @@ fn append_below_eight(words: &mut [u64; 8], fill: usize, bytes: &[u8])
 fn store_two_words(words: &mut [u64; 8], at: usize, bytes: &[u8], from: usize)
     requires place { at < 7 }
     requires within { from + 16 ≤ length bytes.now }
-    ensures { (xs : List ℕ) (low high : ℕ) → length xs + from ≡ 8 * at → at ≤ low
+    ensures { (xs : List ℕ) (low high n : ℕ) → length xs + from ≡ 8 * at → at ≤ low → n ≤ at + 2
         → StoresBut words.old (xs ++ bytes.now) low high
-        → StoresBut words.new (xs ++ bytes.now) (at + 2) high }
+        → StoresBut words.new (xs ++ bytes.now) n high }
 {
     let two = u64x2::from_le_bytes(u8x16::from_slice(&bytes[from..]));
     two.copy_to_slice(&mut words[at..]);

@@ -1,8 +1,11 @@
-use Rattle.std.proofs.Common.{◌+◌, ◌/◌, ◌++◌, length, arith}
+-- The bytes after the last whole word are read with the last eight.
+use Rattle.std.proofs.Common.{◌+◌, ◌-◌, ◌/◌, ◌%◌, ◌*◌, ◌++◌, length, drop, take, arith}
+use Rattle.std.proofs.lemmas.List.{take_all, length-drop}
+use Rattle.std.proofs.lemmas.Nat.{shr-shr}
 use Rattle.komihash.specs.Storage.{pending_bytes}
-use Rattle.komihash.proofs.WordOf.{AreBytes-typed}
-use Rattle.komihash.proofs.PendingBytes.{length_pending}
-use Rattle.komihash.proofs.StoredWords.{word_of_rest, store, all_stored}
+use Rattle.komihash.specs.Words.{word_of}
+use Rattle.komihash.proofs.WordOf.{AreBytes-typed, word_of-last}
+use Rattle.komihash.proofs.StoredWords.{store, all_stored, drop_at_word}
 use Rattle.komihash.proofs.rounds.pending.append_eight_or_more.Goals as goal
 
 pub returns-then-end-lt64 : goal.returns-then-end-lt64
@@ -10,14 +13,16 @@ returns-then-end-lt64 c =
     let bytes = c.args.bytes.now in
     let xs = pending_bytes c.args.words.now c.args.fill in
     let end = (c.args.fill + length bytes) / 8 in
-    let word =
-    word_of_rest xs bytes c.args.fill _ (AreBytes-typed bytes c.type_inv.bytes)
-    (length_pending c.args.words.now c.args.fill c.requires.pending) c.requires.many
-    c.word_at.ensures in
-    let all = store _ (xs ++ bytes) end (end + 1) c.append_whole_words.ensures end _ (omega arith)
-    (omega arith) word in
-    all_stored _ (xs ++ bytes) (end + 1) (end + 1) all (λ k few least. least)
+    let over = (c.args.fill + length bytes) % 8 in
+    let from = length bytes - over in
+    all_stored _ (xs ++ bytes) _ _
+    (store _ (xs ++ bytes) end (end + 1) c.append_whole_words.ensures end (end + 1) _ (omega arith) (omega arith) (λ _. rw (
+      c.word_at.ensures,
+      shr-shr (word_of (take 8 (drop (length bytes - 8) bytes))) 1 (63 - 8 * over),
+      drop_at_word xs bytes end from (omega arith),
+      take_all 8 (drop from bytes) (omega (arith, length-drop from bytes)),
+    ) (word_of-last from (1 + (63 - 8 * over)) bytes (AreBytes-typed bytes c.type_inv.bytes) c.requires.many (omega arith) (omega arith)
+    (omega arith)))) (omega arith)
 
 pub returns-else-end-lt64 : goal.returns-else-end-lt64
-returns-else-end-lt64 c =
-    all_stored _ _ _ _ c.append_whole_words.ensures (λ k few least. omega arith)
+returns-else-end-lt64 c = all_stored _ _ _ _ c.append_whole_words.ensures (omega arith)
