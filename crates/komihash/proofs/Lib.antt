@@ -10,7 +10,6 @@ mod PendingBytes
 pub mod Propositions
 mod Raised
 mod SavedTexts
-mod StoredWords
 mod Streams
 mod Unpadding
 mod WholeWords

@@ -1,11 +1,9 @@
 -- The bytes after the last whole word are read with the last eight.
-use Rattle.std.proofs.Common.{◌+◌, ◌-◌, ◌/◌, ◌%◌, ◌*◌, ◌++◌, length, drop, take, arith}
-use Rattle.std.proofs.lemmas.List.{take_all, length-drop}
-use Rattle.std.proofs.lemmas.Nat.{shr-shr}
+use Rattle.std.proofs.Common.{◌+◌, ◌-◌, ◌/◌, ◌%◌, ◌*◌, length, drop, take, arith, take_all, length-drop, shr-shr}
 use Rattle.komihash.specs.Storage.{pending_bytes}
 use Rattle.komihash.specs.Words.{word_of}
 use Rattle.komihash.proofs.WordOf.{AreBytes-typed, word_of-last}
-use Rattle.komihash.proofs.StoredWords.{store, all_stored, drop_at_word}
+use Rattle.komihash.proofs.PendingBytes.{store, all_stored, drop_at_word}
 use Rattle.komihash.proofs.rounds.pending.append_eight_or_more.Goals as goal
 
 pub returns-then-end-lt64 : goal.returns-then-end-lt64
@@ -15,8 +13,7 @@ returns-then-end-lt64 c =
     let end = (c.args.fill + length bytes) / 8 in
     let over = (c.args.fill + length bytes) % 8 in
     let from = length bytes - over in
-    all_stored _ (xs ++ bytes) _ _
-    (store _ (xs ++ bytes) end (end + 1) c.append_whole_words.ensures end (end + 1) _ (omega arith) (omega arith) (λ _. rw (
+    all_stored (store c.append_whole_words.ensures end (end + 1) _ (omega arith) (omega arith) (λ _. rw (
       c.word_at.ensures,
       shr-shr (word_of (take 8 (drop (length bytes - 8) bytes))) 1 (63 - 8 * over),
       drop_at_word xs bytes end from (omega arith),
@@ -25,4 +22,4 @@ returns-then-end-lt64 c =
     (omega arith)))) (omega arith)
 
 pub returns-else-end-lt64 : goal.returns-else-end-lt64
-returns-else-end-lt64 c = all_stored _ _ _ _ c.append_whole_words.ensures (omega arith)
+returns-else-end-lt64 c = all_stored c.append_whole_words.ensures (omega arith)
