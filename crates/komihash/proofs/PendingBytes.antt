@@ -1,19 +1,19 @@
 -- Pending bytes, and the eight words that store them.
-use Rattle.std.proofs.Common.{◌≡◌, ℕ, zero, suc, ◌+◌, ◌*◌, ◌/◌, ◌%◌, ◌<◌, ◌≤◌, List, []}
-use Rattle.std.proofs.Common.{◌∷◌, ◌++◌, length, take, drop, get_or, set, refl, ap, arith, ◌∙◌, sym}
-use Rattle.std.proofs.Common.{Fits, w8, length-append, length-drop, length-set, length-take}
-use Rattle.std.proofs.Common.{take-append-drop, get_or-set_same, get_or-set_other}
+use Rattle.std.proofs.Common.{◌≡◌, ℕ, zero, suc, ◌+◌, ◌*◌, ◌<◌, ◌≤◌, List}
+use Rattle.std.proofs.Common.{◌++◌, length, take, drop, get_or, set, refl, ap, arith, ◌∙◌, sym}
+use Rattle.std.proofs.Common.{Fits, w8, length-append, length-drop}
+use Rattle.std.proofs.Common.{take-append-drop}
 use Rattle.std.proofs.lemmas.Bool.{cases_eq}
 use Rattle.std.proofs.lemmas.Grind.{elements}
 use Rattle.std.proofs.lemmas.List.{nil_from_length}
 use Rattle.std.proofs.Math.Seq.{drop-append-add}
 use Rattle.komihash.specs.Storage.{pending_words, pending_bytes, ArePending, Stores, StoresBut}
 use Rattle.komihash.specs.Storage.{whole_words, word_at}
-use Rattle.komihash.specs.Words.{AreBytes, all_bytes}
+use Rattle.komihash.specs.Words.{AreBytes, word_of, all_bytes}
 use Rattle.komihash.proofs.Lists.{take-append}
 use Rattle.komihash.proofs.WholeWords.{length-pending_words, pending_words-whole}
 use Rattle.komihash.proofs.WholeWords.{get_or-pending_words, length-whole_words}
-use Rattle.komihash.proofs.WholeWords.{slice_index-whole_words}
+use Rattle.komihash.proofs.WholeWords.{read_words}
 use Rattle.komihash.proofs.WordOf.{AreBytes-append, AreBytes-take, AreBytes-drop, AreBytes-typed}
 use Rattle.komihash.proofs.AllBytes.{AreBytes-all_bytes, take-bytes_of-word_of, length-bytes_of}
 
@@ -39,17 +39,7 @@ bytes-pending_words (suc n) xs are le =
 pub store : {ws zs : List ℕ} {low high : ℕ} → StoresBut ws zs low high → (i n x : ℕ)
     → i ≤ low → n ≤ i + 1 → ((n ≤ i → high ≤ i) → x ≡ word_at zs i)
     → StoresBut (set ws i x) zs n high
-store but i n x le most is =
-    grind (
-      arith,
-      cases_eq,
-      get_or-set_same {A = ℕ},
-      get_or-set_other {A = ℕ},
-      length-set {A = ℕ},
-      but.words,
-      but.size,
-      is,
-    )
+store but i n x le most is = grind (arith, elements, cases_eq, but.words, but.size, is)
 
 -- none is missing
 pub all_stored : {ws zs : List ℕ} {low high : ℕ} → StoresBut ws zs low high
@@ -57,28 +47,16 @@ pub all_stored : {ws zs : List ℕ} {low high : ℕ} → StoresBut ws zs low hig
 all_stored but none =
     grind (arith, elements, but.words, but.size, length-pending_words, get_or-pending_words)
 
--- the bytes from a word's index on
-pub drop_at_word : (xs bytes : List ℕ) (at from : ℕ) → length xs + from ≡ 8 * at
-    → drop (8 * at) (xs ++ bytes) ≡ drop from bytes
-drop_at_word xs bytes at from place = rw (sym place) (drop-append-add xs bytes from)
+-- a word of bytes that are put after others
+pub word_after : (xs bytes : List ℕ) (at from : ℕ) → length xs + from ≡ 8 * at
+    → word_of (take 8 (drop from bytes)) ≡ word_at (xs ++ bytes) at
+word_after xs bytes at from place = rw (← place, drop-append-add xs bytes from) refl
 
 -- ---- the bytes that words store up to a fill
 
 AreBytes_pending : (ws : List ℕ) (fill : ℕ) → AreBytes (pending_bytes ws fill)
 unfolding pending_bytes
 AreBytes_pending ws fill = AreBytes-take fill (all_bytes ws) (AreBytes-all_bytes ws)
-
-pub take_all_bytes : (ws : List ℕ) (fill : ℕ) → take fill (all_bytes ws) ≡ pending_bytes ws fill
-unfolding pending_bytes
-take_all_bytes ws fill = refl
-
--- no bytes
-pub pending_bytes_none : (ws : List ℕ) → pending_bytes ws 0 ≡ []
-pending_bytes_none ws = sym (take_all_bytes ws 0)
-
-pub ArePending_none : ArePending (0 ∷ 0 ∷ 0 ∷ 0 ∷ 0 ∷ 0 ∷ 0 ∷ 0 ∷ []) 0
-unfolding pending_words pending_bytes
-ArePending_none = record { few = omega arith; count = refl; words = refl }
 
 module _ {ws : List ℕ} {fill : ℕ} (are : ArePending ws fill) where
   abbrev stored : List ℕ
@@ -111,24 +89,8 @@ module _ {ws : List ℕ} {fill : ℕ} (are : ArePending ws fill) where
   pub get_or_pending : (i : ℕ) → i < 8 → get_or ws i 0 ≡ word_at stored i
   get_or_pending i lt = ap (λ us. get_or us i 0) are.words ∙ get_or-pending_words 8 i stored lt
 
-  pub count_pending : length (whole_words stored) ≡ fill / 8
-  count_pending = length-whole_words stored ∙ ap (λ n. n / 8) are.count
-
-  pub word_pending : (at : ℕ) → at < length (whole_words stored)
-      → get_or ws at 0 ≡ get_or (whole_words stored) at 0
-  word_pending at lt =
-      get_or_pending at (omega (arith, count_pending)) ∙ sym (slice_index-whole_words stored at lt)
-
   pub AreBytes_word : (i : ℕ) → AreBytes (take 8 (drop (8 * i) stored))
   AreBytes_word i = AreBytes-take 8 (drop (8 * i) stored)
       (AreBytes-drop (8 * i) stored (AreBytes_pending ws fill))
 
-  -- the partial word
-  pub length_partial : length (take 8 (drop (8 * (fill / 8)) stored)) ≡ fill % 8
-  length_partial = omega (arith, length-take {A = ℕ}, length-drop {A = ℕ})
-
--- the lemmas for functions that append, and for all on pending bytes
-pub ruleset put_laws = (bytes_put, ArePending_put, words_put)
-
-pub ruleset pending_laws =
-    (put_laws, count_pending, word_pending, take_all_bytes, pending_bytes_none, ArePending_none)
+pub ruleset pending_laws = (bytes_put, ArePending_put, words_put, get_or_pending, read_words)

@@ -1,6 +1,6 @@
 //! The pending bytes of a stream: those after its last whole block.
 
-#![tactic(auto, using(crate::proofs::PendingBytes::pending_laws))]
+#![tactic(auto, using(crate::proofs::PendingBytes::pending_laws), unfolding(crate::specs::Storage::pending_bytes, crate::specs::Storage::pending_words))]
 
 ghost use Rattle.std.specs.Prelude.{◌≡◌, ℕ, ◌+◌, ◌-◌, ◌*◌, ◌/◌, ◌%◌, ◌<◌, ◌≤◌};
 ghost use Rattle.std.specs.Prelude.{List, [], ◌++◌, length, take, drop, slice_index};

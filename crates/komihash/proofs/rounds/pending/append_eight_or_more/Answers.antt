@@ -3,7 +3,7 @@ use Rattle.std.proofs.Common.{◌+◌, ◌-◌, ◌/◌, ◌%◌, ◌*◌, lengt
 use Rattle.komihash.specs.Storage.{pending_bytes}
 use Rattle.komihash.specs.Words.{word_of}
 use Rattle.komihash.proofs.WordOf.{AreBytes-typed, word_of-last}
-use Rattle.komihash.proofs.PendingBytes.{store, all_stored, drop_at_word}
+use Rattle.komihash.proofs.PendingBytes.{store, all_stored, word_after}
 use Rattle.komihash.proofs.rounds.pending.append_eight_or_more.Goals as goal
 
 pub returns-then-end-lt64 : goal.returns-then-end-lt64
@@ -16,7 +16,7 @@ returns-then-end-lt64 c =
     all_stored (store c.append_whole_words.ensures end (end + 1) _ (omega arith) (omega arith) (λ _. rw (
       c.word_at.ensures,
       shr-shr (word_of (take 8 (drop (length bytes - 8) bytes))) 1 (63 - 8 * over),
-      drop_at_word xs bytes end from (omega arith),
+      ← word_after xs bytes end from (omega arith),
       take_all 8 (drop from bytes) (omega (arith, length-drop from bytes)),
     ) (word_of-last from (1 + (63 - 8 * over)) bytes (AreBytes-typed bytes c.type_inv.bytes) c.requires.many (omega arith) (omega arith)
     (omega arith)))) (omega arith)

@@ -1,44 +1,41 @@
 -- The padding byte is that of the last byte, wherever it lies.
-use Rattle.std.proofs.Common.{◌≡◌, ℕ, [], ◌∷◌, List, Bool, true, false, refl, ◌<◌, ◌-◌, ◌*◌, ◌/◌, ◌%◌, ◌^◌, ◌∙◌, ap, arith, length, get_or, take, drop, bit_and, get_or-drop, get_or-take, take_all, length-drop}
+use Rattle.std.proofs.Common.{◌≡◌, ℕ, Bool, ◌<◌, ◌-◌, ◌*◌, ◌/◌, ◌%◌, ◌^◌, List, [], ◌∷◌}
+use Rattle.std.proofs.Common.{length, get_or, take, drop, bit_and, refl, ap, arith, ◌∙◌, take_all}
+use Rattle.std.proofs.Common.{length-take, length-drop}
+use Rattle.std.proofs.lemmas.List.{places}
 use Rattle.std.proofs.lemmas.Nat.{and_mask}
 use Rattle.komihash.specs.Padding.{padding_after, padding_byte}
 use Rattle.komihash.specs.Storage.{pending_bytes, ArePending, after_words}
 use Rattle.komihash.specs.Words.{AreBytes, word_of}
 use Rattle.komihash.proofs.WholeWords.{after_words-drop}
 use Rattle.komihash.proofs.WordOf.{AreBytes-drop, word_of-drop, word_of-push}
-use Rattle.komihash.proofs.PendingBytes.{get_or_pending, AreBytes_word, length_partial}
+use Rattle.komihash.proofs.PendingBytes.{get_or_pending, AreBytes_word}
 use Rattle.komihash.proofs.rounds.pending.Pending.final_word.Goals as goal
 use Rattle.komihash.proofs.rounds.pending.Pending.final_word.Goals.{then-over-eq0, else-over-eq0}
 
 small : (top_bit : Bool) → padding_after top_bit < 256
-small true = omega arith
-small false = omega arith
+small top_bit = grind arith
 
 low_byte : (xs : List ℕ) → AreBytes xs → word_of xs % 256 ≡ get_or xs 0 0
 low_byte [] are = refl
 low_byte (x ∷ xs) are = omega (arith, are 0)
 
--- a byte of a word
-byte_of : (k : ℕ) (xs : List ℕ) → AreBytes xs → word_of xs / 2 ^ (8 * k) % 256 ≡ get_or xs k 0
-byte_of k xs are =
-    grind (arith, word_of-drop k xs are, low_byte (drop k xs) (AreBytes-drop k xs are), get_or-drop k xs 0 0)
+-- a byte of a word, and one of the words
+byte_of : (k : ℕ) (xs : List ℕ) → AreBytes xs
+    → word_of xs / 2 ^ (8 * k) % 256 ≡ get_or (drop k xs) 0 0
+byte_of k xs are = rw (← word_of-drop k xs are) (low_byte (drop k xs) (AreBytes-drop k xs are))
 
-index : (i : ℕ) (xs : List ℕ) → get_or (take 8 (drop (8 * (i / 8)) xs)) (i % 8) 0 ≡ get_or xs i 0
-index i xs = grind (arith, get_or-drop {A = ℕ}, get_or-take {A = ℕ})
-
--- a byte of the words
 byte_at : {ws : List ℕ} {fill : ℕ} → ArePending ws fill → (i at s : ℕ) → i < fill → at ≡ i / 8
     → s ≡ 8 * (i % 8) → bit_and (get_or ws at 0 / 2 ^ s) 255 ≡ get_or (pending_bytes ws fill) i 0
-byte_at {ws} {fill} are i at s lt here place =
+byte_at are i at s lt here place =
     rw (and_mask _ 8, here, place, get_or_pending are (i / 8) (omega arith))
-    (byte_of (i % 8) _ (AreBytes_word are (i / 8)) ∙ index i (pending_bytes ws fill))
+    (byte_of (i % 8) _ (AreBytes_word are (i / 8)) ∙ grind (arith, places))
 
 pub returns : goal.returns
 returns g c =
-    let ws = c.self.inside.words in
-    let fill = c.self.inside.fill in
     let are = c.self.invariant in
-    let xs = pending_bytes ws fill in
+    let fill = c.self.inside.fill in
+    let xs = pending_bytes c.self.inside.words fill in
     let some : 0 < fill = omega (arith, ap length c.self.view_is) in
     let byte : c.if-over-eq0.last_byte ≡ get_or xs (fill - 1) 0 = elim c.if-over-eq0.branch [
       | then-over-eq0 w ↦ w.last_byte-is
@@ -49,9 +46,9 @@ returns g c =
     ] in
     let padding : c.padding_after.result ≡ padding_byte g.row.V xs =
     rw (c.padding_after.ensures, c.pads_with_two.ensures, byte, are.count) refl in
-    let place : length xs - length xs % 8 ≡ 8 * (fill / 8) = omega arith in
-    let rest : take 8 (drop (8 * (fill / 8)) xs) ≡ after_words xs =
-    take_all 8 (drop (8 * (fill / 8)) xs) (omega (arith, length-drop (8 * (fill / 8)) xs))
-    ∙ rw (after_words-drop xs, place) refl in
-    rw (← c.self.view_is, padding, get_or_pending are (fill / 8) (omega arith), ← rest)
-    (word_of-push (take 8 (drop (8 * (fill / 8)) xs)) (fill % 8) _ (AreBytes_word are (fill / 8)) (length_partial are) (omega arith) (small _))
+    let rest = drop (8 * (fill / 8)) xs in
+    let size : length rest ≡ fill % 8 = omega (arith, length-drop (8 * (fill / 8)) xs) in
+    let after : take 8 rest ≡ after_words xs = grind (arith, take_all 8 rest, after_words-drop xs) in
+    rw (← c.self.view_is, padding, get_or_pending are (fill / 8) (omega arith), ← after)
+    (word_of-push (take 8 rest) (fill % 8) _ (AreBytes_word are (fill / 8))
+    (omega (arith, length-take {A = ℕ})) (omega arith) (small _))
