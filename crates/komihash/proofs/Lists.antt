@@ -8,9 +8,6 @@ use Rattle.std.proofs.lemmas.Simd.{put_chunk_is}
 use Rattle.std.specs.Simd.Lanes.{put_chunk}
 use borrow.Rule.Slice.PartMut.{put_mid, mid_of}
 
-pub take-more : (m n : ℕ) (xs : List ℕ) → take m xs ++ take n (drop m xs) ≡ take (m + n) xs
-take-more m n xs = sym (take-add m n xs)
-
 -- the first n items of two pieces: those of the first, and as many of the second as are missing
 pub take-append : (n : ℕ) (xs ys : List ℕ)
     → take n (xs ++ ys) ≡ take n xs ++ take (n - length xs) ys
