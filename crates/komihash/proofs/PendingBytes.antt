@@ -1,8 +1,7 @@
 -- Pending bytes, and the eight words that store them.
-use Rattle.std.proofs.Common.{◌≡◌, ℕ, zero, suc, ◌+◌, ◌*◌, ◌<◌, ◌≤◌, List}
-use Rattle.std.proofs.Common.{◌++◌, length, take, drop, get_or, set, refl, ap, arith, ◌∙◌, sym}
-use Rattle.std.proofs.Common.{Fits, w8, length-append, length-drop}
-use Rattle.std.proofs.Common.{take-append-drop}
+use Rattle.std.proofs.Common.{◌≡◌, ℕ, zero, suc, ◌+◌, ◌-◌, ◌*◌, ◌<◌, ◌≤◌, List, [], ◌∷◌, ◌++◌, Fits}
+use Rattle.std.proofs.Common.{length, take, drop, get_or, set, refl, ap, arith, ◌∙◌, w8}
+use Rattle.std.proofs.Common.{length-append, length-drop, take-append-drop}
 use Rattle.std.proofs.lemmas.Bool.{cases_eq}
 use Rattle.std.proofs.lemmas.Grind.{elements}
 use Rattle.std.proofs.lemmas.List.{nil_from_length}
@@ -10,12 +9,11 @@ use Rattle.std.proofs.Math.Seq.{drop-append-add}
 use Rattle.komihash.specs.Storage.{pending_words, pending_bytes, ArePending, Stores, StoresBut}
 use Rattle.komihash.specs.Storage.{whole_words, word_at}
 use Rattle.komihash.specs.Words.{AreBytes, word_of, all_bytes}
-use Rattle.komihash.proofs.Lists.{take-append}
-use Rattle.komihash.proofs.WholeWords.{length-pending_words, pending_words-whole}
-use Rattle.komihash.proofs.WholeWords.{get_or-pending_words, length-whole_words}
-use Rattle.komihash.proofs.WholeWords.{read_words}
-use Rattle.komihash.proofs.WordOf.{AreBytes-append, AreBytes-take, AreBytes-drop, AreBytes-typed}
 use Rattle.komihash.proofs.AllBytes.{AreBytes-all_bytes, take-bytes_of-word_of, length-bytes_of}
+use Rattle.komihash.proofs.Lists.{take-append}
+use Rattle.komihash.proofs.WholeWords.{length-pending_words, get_or-pending_words}
+use Rattle.komihash.proofs.WholeWords.{pending_words-whole, read_words}
+use Rattle.komihash.proofs.WordOf.{AreBytes-append, AreBytes-take, AreBytes-drop, AreBytes-typed}
 
 -- the words hold the bytes that they were made of
 bytes-pending_words : (n : ℕ) (xs : List ℕ) → AreBytes xs → length xs ≤ 8 * n
@@ -23,23 +21,19 @@ bytes-pending_words : (n : ℕ) (xs : List ℕ) → AreBytes xs → length xs �
 unfolding pending_words
 bytes-pending_words zero xs are le = rw (nil_from_length xs (omega arith)) refl
 bytes-pending_words (suc n) xs are le =
-    grind (
-      arith,
-      take-append,
-      length-bytes_of,
-      length-drop 8 xs,
-      take-append-drop 8 xs,
-      take-bytes_of-word_of 8 xs are,
-      bytes-pending_words n (drop 8 xs) (AreBytes-drop 8 xs are),
-    )
+    let size = length-drop 8 xs in
+    let left : length xs - 8 ≡ length (drop 8 xs) = omega arith in
+    let rest = bytes-pending_words n (drop 8 xs) (AreBytes-drop 8 xs are) (omega arith) in
+    let first = take-bytes_of-word_of 8 xs are in
+    rw (take-append, length-bytes_of, first, left, rest) (take-append-drop 8 xs)
 
 -- ---- words that are stored one by one, some of them out of order or twice
 
 -- a word that is stored at its index, or in place of one that is missing still
 pub store : {ws zs : List ℕ} {low high : ℕ} → StoresBut ws zs low high → (i n x : ℕ)
-    → i ≤ low → n ≤ i + 1 → ((n ≤ i → high ≤ i) → x ≡ word_at zs i)
+    → (i ≤ low) × (n ≤ i + 1) → ((n ≤ i → high ≤ i) → x ≡ word_at zs i)
     → StoresBut (set ws i x) zs n high
-store but i n x le most is = grind (arith, elements, cases_eq, but.words, but.size, is)
+store but i n x within is = grind (arith, elements, cases_eq, but.words, but.size, is)
 
 -- none is missing
 pub all_stored : {ws zs : List ℕ} {low high : ℕ} → StoresBut ws zs low high
@@ -54,9 +48,12 @@ word_after xs bytes at from place = rw (← place, drop-append-add xs bytes from
 
 -- ---- the bytes that words store up to a fill
 
-AreBytes_pending : (ws : List ℕ) (fill : ℕ) → AreBytes (pending_bytes ws fill)
-unfolding pending_bytes
-AreBytes_pending ws fill = AreBytes-take fill (all_bytes ws) (AreBytes-all_bytes ws)
+pub ArePending_none : ArePending (0 ∷ 0 ∷ 0 ∷ 0 ∷ 0 ∷ 0 ∷ 0 ∷ 0 ∷ []) 0
+unfolding pending_words
+ArePending_none = record { few = omega arith; count = refl; words = refl }
+
+ruleset bytes_typed =
+    (AreBytes-append, AreBytes-take, AreBytes-drop, AreBytes-typed, AreBytes-all_bytes)
 
 module _ {ws : List ℕ} {fill : ℕ} (are : ArePending ws fill) where
   abbrev stored : List ℕ
@@ -69,17 +66,12 @@ module _ {ws : List ℕ} {fill : ℕ} (are : ArePending ws fill) where
     length_put = omega (arith, length-append stored bytes)
 
     pub bytes_put : pending_bytes new (fill + length bytes) ≡ stored ++ bytes
-    unfolding pending_bytes
-    bytes_put = rw (is, ← length_put) (bytes-pending_words 8 (stored ++ bytes) (AreBytes-append
-        stored bytes (AreBytes_pending ws fill) (AreBytes-typed bytes typed))
-        (omega (arith, length_put)))
+    bytes_put =
+        let typed_bytes : AreBytes (stored ++ bytes) = search bytes_typed in
+        rw (is, ← length_put) (bytes-pending_words 8 _ typed_bytes (omega (arith, length_put)))
 
     pub ArePending_put : fill + length bytes < 64 → ArePending new (fill + length bytes)
-    ArePending_put few = record {
-      few = few;
-      count = ap length bytes_put ∙ length_put;
-      words = is ∙ ap (pending_words 8) (sym bytes_put);
-    }
+    ArePending_put few = grind (arith, bytes_put, length_put, is)
 
     -- as many as fill a block
     pub words_put : fill + length bytes ≡ 64 → new ≡ whole_words (stored ++ bytes)
@@ -90,7 +82,7 @@ module _ {ws : List ℕ} {fill : ℕ} (are : ArePending ws fill) where
   get_or_pending i lt = ap (λ us. get_or us i 0) are.words ∙ get_or-pending_words 8 i stored lt
 
   pub AreBytes_word : (i : ℕ) → AreBytes (take 8 (drop (8 * i) stored))
-  AreBytes_word i = AreBytes-take 8 (drop (8 * i) stored)
-      (AreBytes-drop (8 * i) stored (AreBytes_pending ws fill))
+  AreBytes_word i = search bytes_typed
 
-pub ruleset pending_laws = (bytes_put, ArePending_put, words_put, get_or_pending, read_words)
+pub ruleset pending_laws =
+    (ArePending_none, bytes_put, ArePending_put, words_put, get_or_pending, read_words)

@@ -1,11 +1,12 @@
 -- Words of lists of bytes that are cut and joined.
 use Rattle.std.proofs.Common.{◌≡◌, ℕ, zero, suc, ◌+◌, ◌-◌, ◌*◌, ◌/◌, ◌%◌, ◌^◌, ◌<◌, ◌≤◌, List, []}
 use Rattle.std.proofs.Common.{◌∷◌, ◌++◌, length, take, drop, get_or, ap, arith, ◌∙◌, sym, take-add}
-use Rattle.std.proofs.Common.{Fits, w8}
+use Rattle.std.proofs.Common.{Fits, w8, refl, take-take}
 use Rattle.std.proofs.lemmas.List.{length-append, length-drop, length-take-le, take_all}
-use Rattle.std.proofs.lemmas.List.{get_or-drop, drop-drop, drop-append-le, take-append-le}
+use Rattle.std.proofs.lemmas.List.{get_or-drop, drop-drop, drop-take, drop-append-le, take-append-le}
 use Rattle.std.proofs.lemmas.Nat.{pow-add, shl-shr, shr-shr, mod-pow-add, or_shifted, or_comm}
 use Rattle.std.proofs.Math.Nat.{mul-mod_left, zero-mod, zero-div}
+use Rattle.std.proofs.lemmas.Simd.{get_or_wider, Each1-from_get_or}
 use Rattle.std.specs.Prelude.{bit_or}
 use Rattle.std.specs.Simd.Lanes.{number_l}
 use Rattle.komihash.specs.Words.{AreBytes, word_of}
@@ -166,29 +167,18 @@ word_of-last_eight r xs b h many few small =
     (word_of-push (drop j xs) r b (AreBytes-drop j xs h) (omega (arith, length-drop j xs)) few
     (omega arith))
 
+number_word : (xs : List ℕ) → number_l 256 xs ≡ word_of xs
+number_word [] = refl
+number_word (x ∷ xs) = ap (λ n. x + 256 * n) (number_word xs)
+
 -- the two words of sixteen bytes, as a vector of bytes becomes a vector of words
-pub two_words : (xs : List ℕ) → AreBytes xs → 16 ≤ length xs → let n = number_l 256 (take 16 xs) in
+pub two_words : (xs : List ℕ) → AreBytes xs → let n = number_l 256 (take 16 xs) in
     (n % 2 ^ 64 ≡ word_of (take 8 xs)) × (n / 2 ^ 64 % 2 ^ 64 ≡ word_of (take 8 (drop 8 xs)))
-two_words (a ∷ b ∷ c ∷ d ∷ e ∷ f ∷ g ∷ h ∷ a' ∷ b' ∷ c' ∷ d' ∷ e' ∷ f' ∷ g' ∷ h' ∷ xs) are le = (
-  omega (arith, are 0, are 1, are 2, are 3, are 4, are 5, are 6, are 7),
-  omega (
-    arith,
-    are 0,
-    are 1,
-    are 2,
-    are 3,
-    are 4,
-    are 5,
-    are 6,
-    are 7,
-    are 8,
-    are 9,
-    are 10,
-    are 11,
-    are 12,
-    are 13,
-    are 14,
-    are 15,
-  ),
-)
-two_words xs are le = absurd (omega arith)
+two_words xs are =
+    let bytes = Each1-from_get_or (λ x. x < 256) (take 16 xs) 0 (λ k _. AreBytes-take 16 xs are k)
+    in
+    let word = λ (k : ℕ) (lt : k < 2). get_or_wider 256 8 (2 ^ 64) 2 (take 16 xs) k refl bytes lt
+    ∙ number_word (take 8 (drop (8 * k) (take 16 xs))) in
+    let first = word 0 (omega arith) ∙ ap word_of (take-take 8 16 xs (omega arith)) in
+    let second = word 1 (omega arith) ∙ ap (λ b. word_of (take 8 b)) (drop-take 8 8 xs) in
+    (first, second ∙ ap word_of (take-take 8 8 (drop 8 xs) (omega arith)))

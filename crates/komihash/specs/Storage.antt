@@ -67,7 +67,7 @@ abbrev pub Stores : List ℕ → List ℕ → Type 0
 Stores ws bytes = ws ≡ pending_words 8 bytes
 
 -- the bytes that words store up to a fill
-unfoldable pub pending_bytes : List ℕ → ℕ → List ℕ
+abbrev pub pending_bytes : List ℕ → ℕ → List ℕ
 pending_bytes ws fill = take fill (all_bytes ws)
 
 -- what is true of the fields that store pending bytes

@@ -1,6 +1,6 @@
 //! The pending bytes of a stream: those after its last whole block.
 
-#![tactic(auto, using(crate::proofs::PendingBytes::pending_laws), unfolding(crate::specs::Storage::pending_bytes, crate::specs::Storage::pending_words))]
+#![tactic(auto, using(crate::proofs::PendingBytes::pending_laws))]
 
 ghost use Rattle.std.specs.Prelude.{◌≡◌, ℕ, ◌+◌, ◌-◌, ◌*◌, ◌/◌, ◌%◌, ◌<◌, ◌≤◌};
 ghost use Rattle.std.specs.Prelude.{List, [], ◌++◌, length, take, drop, slice_index};
@@ -165,7 +165,8 @@ impl Words for Pending {
 fn append_within_word(words: &mut [u64; 8], fill: usize, word: u64)
     requires { ArePending words.old fill }
     ensures words { (bytes : List ℕ) (low high : ℕ) → AreBytes bytes
-        → word ≡ word_of (take 8 bytes) → low ≤ fill / 8 + 1 → fill + length bytes ≤ 8 * high
+        → word ≡ word_of (take 8 bytes)
+        → (low ≤ fill / 8 + 1) × (fill + length bytes ≤ 8 * high)
         → StoresBut words.new (pending_bytes words.old fill ++ bytes) low high }
     ensures zeros { (k : ℕ) → fill / 8 < k → k < 8 → slice_index words.new k ≡ 0 }
 {
@@ -183,7 +184,8 @@ fn append_below_eight(words: &mut [u64; 8], fill: usize, bytes: &[u8])
     let word = read_partial_word(bytes, 0);
     let bits = 8 * (fill % 8);
     append_within_word(words, fill, word);
-    // A rotation has both parts of the word, and takes one shift.
+    // A rotation has the bytes that the shift keeps, and as its lowest bytes those that the shift
+    // drops. Without the former it is what goes into the next word.
     words[(fill / 8 + 1) % 8] |= word.rotate_left(bits as u32) - (word << bits);
 }
 
@@ -192,8 +194,8 @@ fn append_below_eight(words: &mut [u64; 8], fill: usize, bytes: &[u8])
 fn store_two_words(words: &mut [u64; 8], at: usize, bytes: &[u8], from: usize)
     requires place { at < 7 }
     requires within { from + 16 ≤ length bytes.now }
-    ensures { (xs : List ℕ) (low high n : ℕ) → length xs + from ≡ 8 * at → at ≤ low → n ≤ at + 2
-        → StoresBut words.old (xs ++ bytes.now) low high
+    ensures { (xs : List ℕ) (low high n : ℕ) → StoresBut words.old (xs ++ bytes.now) low high
+        → (length xs + from ≡ 8 * at) × (at ≤ low) × (n ≤ at + 2)
         → StoresBut words.new (xs ++ bytes.now) n high }
 {
     let two = u64x2::from_le_bytes(u8x16::from_slice(&bytes[from..]));

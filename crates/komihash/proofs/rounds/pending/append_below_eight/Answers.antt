@@ -3,7 +3,7 @@ use Rattle.std.proofs.Common.{◌≡◌, ℕ, zero, suc, ◌+◌, ◌-◌, ◌*�
 use Rattle.std.proofs.Common.{refl, ap, arith, ◌∙◌, sym, inl, inr, w64, take_all, length-drop}
 use Rattle.std.proofs.lemmas.Bool.{cases_lt}
 use Rattle.std.proofs.lemmas.List.{drop_all, set-get_or}
-use Rattle.std.proofs.lemmas.Nat.{shl-shr, mod-pow-add, or_shifted, shr_below}
+use Rattle.std.proofs.lemmas.Nat.{shl-shr, mod-pow-add, or_shifted, shr_below, le_or_l}
 use Rattle.std.proofs.Math.Nat.{mul-mod_left}
 use Rattle.std.specs.Int.{rotate_left}
 use Rattle.std.specs.Int.Bits.{or_zero_l, or_zero_r, or_self}
@@ -18,10 +18,10 @@ kept : (w b c : ℕ) → w * 2 ^ b % 2 ^ (c + b) ≡ w % 2 ^ c * 2 ^ b
 kept w b c = simp (mod-pow-add, shl-shr, mul-mod_left) (omega arith)
 
 -- a rotation has the bits that a shift to the left keeps, and those that it drops
-rotated : (w b c : ℕ) → w < 2 ^ 64 → b + c ≡ 64 → 0 < c
+rotated : (w b c : ℕ) → w < 2 ^ 64 → (b + c ≡ 64) × (0 < c)
     → rotate_left w64 w b ≡ w * 2 ^ b % 2 ^ 64 + w / 2 ^ c
-rotated w zero c lt sum some = let all : c ≡ 64 = omega arith in rw all (grind (arith, or_self))
-rotated w (suc b) c lt sum some =
+rotated w zero c lt places = let all : c ≡ 64 = omega arith in rw all (grind (arith, or_self))
+rotated w (suc b) c lt (sum, some) =
     let turn : suc b % 64 ≡ suc b = omega arith in
     let back : (64 - suc b % 64) % 64 ≡ c = omega arith in
     let total : c + suc b ≡ 64 = omega arith in
@@ -32,30 +32,29 @@ pub returns : goal.returns
 returns c =
     let bytes = c.args.bytes.now in
     let xs = pending_bytes c.args.words.now c.args.fill in
-    let fit = 8 - c.args.fill % 8 in
+    let over = c.args.fill % 8 in
+    let fit = 8 - over in
     let at = (c.args.fill / 8 + 1) % 8 in
     let are = AreBytes-typed bytes c.type_inv.bytes in
     let word = c.read_partial_word-word.ensures ∙ word_of-zero bytes in
     let but = c.append_within_word.ensures.words bytes (c.args.fill / 8 + 1)
     ((c.args.fill + length bytes + 7) / 8) are
-    (word ∙ ap word_of (sym (take_all 8 bytes (omega arith)))) (omega arith) (omega arith) in
-    let parts = rotated _ (8 * (c.args.fill % 8)) (8 * fit) c.read_partial_word-word.type_inv
-    (omega arith) (omega arith) in
-    let rest : c.rotate_left.result - c.read_partial_word-word.result * 2 ^ (8 * (c.args.fill % 8)) % 2 ^ 64
-    ≡ word_of (drop fit bytes) = grind (arith, parts, word, word_of-drop fit bytes are) in
+    (word ∙ ap word_of (sym (take_all 8 bytes (omega arith)))) (omega arith) in
+    let parts = rotated _ (8 * over) (8 * fit) c.read_partial_word-word.type_inv (omega arith) in
+    let left = c.read_partial_word-word.result * 2 ^ (8 * over) % 2 ^ 64 in
+    let rest : c.rotate_left.result - left ≡ word_of (drop fit bytes) =
+    grind (arith, parts, word, word_of-drop fit bytes are) in
     rw rest (elim (cases_lt fit (length bytes)) [
-      | inl more ↦ all_stored (store but at (at + 1) _ (omega arith) (omega arith) (λ _. rw (
-        c.append_within_word.ensures.zeros at (omega arith) (omega arith),
-        or_zero_l (word_of (drop fit bytes)),
-        ← word_after xs bytes at fit (omega arith),
-        take_all 8 (drop fit bytes) (omega (arith, length-drop fit bytes)),
-      ) refl)) (omega arith)
+      | inl more ↦
+          let zero = c.append_within_word.ensures.zeros at (omega arith) (omega arith) in
+          let whole = take_all 8 (drop fit bytes) (omega (arith, length-drop fit bytes)) in
+          let next = word_after xs bytes at fit (omega arith) in
+          all_stored (store but at (at + 1) _ (omega arith)
+          (λ _. rw (zero, or_zero_l (word_of (drop fit bytes)), ← next, whole) refl)) (omega arith)
       | inr all ↦ rw (drop_all fit bytes all, or_zero_r, set-get_or) (all_stored but (omega arith))
     ])
 
 pub overflow_sub-words : goal.overflow_sub-words
 overflow_sub-words c =
-    let over = c.args.fill % 8 in
-    let parts = rotated _ (8 * over) (64 - 8 * over) c.read_partial_word-word.type_inv (omega arith)
-    (omega arith) in
-    omega arith
+    let turn : 8 * (c.args.fill % 8) % 64 ≡ 8 * (c.args.fill % 8) = omega arith in
+    rw (c.rotate_left.ensures, turn) (le_or_l _ _)

@@ -1,5 +1,6 @@
 -- The bytes after the last whole word are read with the last eight.
-use Rattle.std.proofs.Common.{◌+◌, ◌-◌, ◌/◌, ◌%◌, ◌*◌, length, drop, take, arith, take_all, length-drop, shr-shr}
+use Rattle.std.proofs.Common.{◌+◌, ◌-◌, ◌*◌, ◌/◌, ◌%◌, length, drop, ap, arith, ◌∙◌, sym}
+use Rattle.std.proofs.Common.{take_all, length-drop, shr-shr}
 use Rattle.komihash.specs.Storage.{pending_bytes}
 use Rattle.komihash.specs.Words.{word_of}
 use Rattle.komihash.proofs.WordOf.{AreBytes-typed, word_of-last}
@@ -10,16 +11,15 @@ pub returns-then-end-lt64 : goal.returns-then-end-lt64
 returns-then-end-lt64 c =
     let bytes = c.args.bytes.now in
     let xs = pending_bytes c.args.words.now c.args.fill in
-    let end = (c.args.fill + length bytes) / 8 in
-    let over = (c.args.fill + length bytes) % 8 in
-    let from = length bytes - over in
-    all_stored (store c.append_whole_words.ensures end (end + 1) _ (omega arith) (omega arith) (λ _. rw (
-      c.word_at.ensures,
-      shr-shr (word_of (take 8 (drop (length bytes - 8) bytes))) 1 (63 - 8 * over),
-      ← word_after xs bytes end from (omega arith),
-      take_all 8 (drop from bytes) (omega (arith, length-drop from bytes)),
-    ) (word_of-last from (1 + (63 - 8 * over)) bytes (AreBytes-typed bytes c.type_inv.bytes) c.requires.many (omega arith) (omega arith)
-    (omega arith)))) (omega arith)
+    let end = c.args.fill + length bytes in
+    let from = length bytes - end % 8 in
+    let are = AreBytes-typed bytes c.type_inv.bytes in
+    let last = word_of-last from (1 + (63 - 8 * (end % 8))) bytes are c.requires.many (omega arith)
+    (omega arith) (omega arith) in
+    let whole = take_all 8 (drop from bytes) (omega (arith, length-drop from bytes)) in
+    let word = last ∙ ap word_of (sym whole) ∙ word_after xs bytes (end / 8) from (omega arith) in
+    all_stored (store c.append_whole_words.ensures (end / 8) (end / 8 + 1) _ (omega arith)
+    (λ _. rw (c.word_at.ensures, shr-shr) word)) (omega arith)
 
 pub returns-else-end-lt64 : goal.returns-else-end-lt64
 returns-else-end-lt64 c = all_stored c.append_whole_words.ensures (omega arith)

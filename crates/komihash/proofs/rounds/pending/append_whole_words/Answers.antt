@@ -11,24 +11,18 @@ returns-after-whole-ge5 c =
     let bytes = c.args.bytes.now in
     let xs = pending_bytes c.args.words.now c.args.fill in
     let at = c.args.fill / 8 in
-    let whole = (c.args.fill % 8 + length bytes) / 8 in
+    let back = at + (c.args.fill % 8 + length bytes) / 8 - 2 in
     let end = (c.args.fill + length bytes) / 8 in
     let but = c.append_within_word.ensures.words bytes (at + 1) (end + 1)
-    (AreBytes-typed bytes c.type_inv.bytes) c.read_word.ensures (omega arith) (omega arith) in
-    let first = c.store_two_words.ensures xs (at + 1) (end + 1) (at + 3) (omega arith) (omega arith)
-    (omega arith) but in
+    (AreBytes-typed bytes c.type_inv.bytes) c.read_word.ensures (omega arith) in
+    let first = c.store_two_words.ensures xs _ _ (at + 3) but (omega arith) in
     let last = c.store_two_words-then-whole-ge3.ensures xs in
     elim c.if-whole-ge5.branch [
       | then-whole-ge5 w ↦
-          let second = w.store_two_words-then-whole-ge5.ensures xs (at + 3) (end + 1) (at + 5)
-          (omega arith) (omega arith) (omega arith) first in
-          let third = w.store_two_words-then-whole-ge5-2.ensures xs (at + 5) (end + 1)
-          (at + whole - 2) (omega arith) (omega arith) (omega arith) second in
-          last (at + whole - 2) (end + 1) end (omega arith) (omega arith) (omega arith)
-          (rw (w.words-is) third)
-      | else-whole-ge5 w ↦
-          last (at + 3) (end + 1) end (omega arith) (omega arith) (omega arith)
-          (rw (w.words-is) first)
+          let next = w.store_two_words-then-whole-ge5.ensures xs _ _ (at + 5) first (omega arith) in
+          let over = w.store_two_words-then-whole-ge5-2.ensures xs _ _ back next (omega arith) in
+          last back _ end (rw (w.words-is) over) (omega arith)
+      | else-whole-ge5 w ↦ last (at + 3) _ end (rw (w.words-is) first) (omega arith)
     ]
 
 pub returns-then-whole-eq2 : goal.returns-then-whole-eq2
@@ -38,11 +32,10 @@ returns-then-whole-eq2 c =
     let at = c.args.fill / 8 + 1 in
     let end = (c.args.fill + length bytes) / 8 in
     let but = c.append_within_word.ensures.words bytes at (end + 1)
-    (AreBytes-typed bytes c.type_inv.bytes) c.read_word.ensures (omega arith) (omega arith) in
-    store but at end _ (omega arith) (omega arith)
+    (AreBytes-typed bytes c.type_inv.bytes) c.read_word.ensures (omega arith) in
+    store but at end _ (omega arith)
     (λ last. c.word_at.ensures ∙ word_after xs bytes at c.min.result (grind arith))
 
 pub returns-else-fill-bytes-lt64 : goal.returns-else-fill-bytes-lt64
-returns-else-fill-bytes-lt64 c =
-    c.append_within_word.ensures.words c.args.bytes.now _ _
-    (AreBytes-typed c.args.bytes.now c.type_inv.bytes) c.read_word.ensures (omega arith) (omega arith)
+returns-else-fill-bytes-lt64 c = c.append_within_word.ensures.words c.args.bytes.now _ _
+    (AreBytes-typed c.args.bytes.now c.type_inv.bytes) c.read_word.ensures (omega arith)

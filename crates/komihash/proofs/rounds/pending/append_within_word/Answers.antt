@@ -20,7 +20,7 @@ returns c =
     let partial = drop (8 * i) xs in
     let size : length partial ≡ c.args.fill % 8 = omega (arith, length-drop (8 * i) xs) in
     record {
-      words = λ bytes low high are is le most.
+      words = λ bytes low high are is within.
           let before : StoresBut c.args.words.now (xs ++ bytes) i high = record {
             size = ap length pending.words ∙ length-pending_words 8 xs;
             words = λ k few after. get_or_pending pending k few ∙ ap word_of (elim (cases_lt k i) [
@@ -28,11 +28,11 @@ returns c =
               | inr least ↦ grind (arith, drop_all, length-append {A = ℕ}, after least)
             ]);
           } in
-          store before i low _ (omega arith) (omega arith) (λ _. rw (
-            get_or_pending pending i (omega arith),
-            is,
-            word_of-join (take 8 partial) (take 8 bytes) (c.args.fill % 8) (AreBytes_word pending i)
-                (AreBytes-take 8 bytes are) (omega (arith, length-take {A = ℕ})) (omega arith),
-          ) (ap word_of (grind (arith, take-take {A = ℕ}, drop-append-le, take-append))));
-      zeros = λ k lt few. grind (arith, elements, get_or_pending pending k few, drop_all (8 * k) xs);
+          let join = word_of-join (take 8 partial) (take 8 bytes) (c.args.fill % 8)
+          (AreBytes_word pending i) (AreBytes-take 8 bytes are) (omega (arith, length-take {A = ℕ}))
+          (omega arith) in
+          store before i low _ (omega arith)
+          (λ _. rw (get_or_pending pending i (omega arith), is, join)
+          (ap word_of (grind (arith, take-take {A = ℕ}, drop-append-le, take-append))));
+      zeros = λ k lt few. grind (arith, elements, get_or_pending pending k, drop_all (8 * k) xs);
     }

@@ -1,10 +1,10 @@
 -- The padding byte is that of the last byte, wherever it lies.
-use Rattle.std.proofs.Common.{◌≡◌, ℕ, Bool, ◌<◌, ◌-◌, ◌*◌, ◌/◌, ◌%◌, ◌^◌, List, [], ◌∷◌}
+use Rattle.std.proofs.Common.{◌≡◌, ℕ, ◌<◌, ◌-◌, ◌*◌, ◌/◌, ◌%◌, ◌^◌, List, [], ◌∷◌}
 use Rattle.std.proofs.Common.{length, get_or, take, drop, bit_and, refl, ap, arith, ◌∙◌, take_all}
 use Rattle.std.proofs.Common.{length-take, length-drop}
 use Rattle.std.proofs.lemmas.List.{places}
 use Rattle.std.proofs.lemmas.Nat.{and_mask}
-use Rattle.komihash.specs.Padding.{padding_after, padding_byte}
+use Rattle.komihash.specs.Padding.{padding_byte}
 use Rattle.komihash.specs.Storage.{pending_bytes, ArePending, after_words}
 use Rattle.komihash.specs.Words.{AreBytes, word_of}
 use Rattle.komihash.proofs.WholeWords.{after_words-drop}
@@ -12,9 +12,6 @@ use Rattle.komihash.proofs.WordOf.{AreBytes-drop, word_of-drop, word_of-push}
 use Rattle.komihash.proofs.PendingBytes.{get_or_pending, AreBytes_word}
 use Rattle.komihash.proofs.rounds.pending.Pending.final_word.Goals as goal
 use Rattle.komihash.proofs.rounds.pending.Pending.final_word.Goals.{then-over-eq0, else-over-eq0}
-
-small : (top_bit : Bool) → padding_after top_bit < 256
-small top_bit = grind arith
 
 low_byte : (xs : List ℕ) → AreBytes xs → word_of xs % 256 ≡ get_or xs 0 0
 low_byte [] are = refl
@@ -25,10 +22,10 @@ byte_of : (k : ℕ) (xs : List ℕ) → AreBytes xs
     → word_of xs / 2 ^ (8 * k) % 256 ≡ get_or (drop k xs) 0 0
 byte_of k xs are = rw (← word_of-drop k xs are) (low_byte (drop k xs) (AreBytes-drop k xs are))
 
-byte_at : {ws : List ℕ} {fill : ℕ} → ArePending ws fill → (i at s : ℕ) → i < fill → at ≡ i / 8
-    → s ≡ 8 * (i % 8) → bit_and (get_or ws at 0 / 2 ^ s) 255 ≡ get_or (pending_bytes ws fill) i 0
-byte_at are i at s lt here place =
-    rw (and_mask _ 8, here, place, get_or_pending are (i / 8) (omega arith))
+byte_at : {ws : List ℕ} {fill : ℕ} → ArePending ws fill → (i : ℕ) → i < fill
+    → bit_and (get_or ws (i / 8) 0 / 2 ^ (8 * (i % 8))) 255 ≡ get_or (pending_bytes ws fill) i 0
+byte_at are i lt =
+    rw (and_mask _ 8, get_or_pending are (i / 8) (omega arith))
     (byte_of (i % 8) _ (AreBytes_word are (i / 8)) ∙ grind (arith, places))
 
 pub returns : goal.returns
@@ -37,18 +34,15 @@ returns g c =
     let fill = c.self.inside.fill in
     let xs = pending_bytes c.self.inside.words fill in
     let some : 0 < fill = omega (arith, ap length c.self.view_is) in
-    let byte : c.if-over-eq0.last_byte ≡ get_or xs (fill - 1) 0 = elim c.if-over-eq0.branch [
-      | then-over-eq0 w ↦ w.last_byte-is
-          ∙ byte_at are (fill - 1) (fill / 8 - 1) 56 (omega arith) (omega arith) (omega arith)
-      | else-over-eq0 w ↦ w.last_byte-is
-          ∙ byte_at are (fill - 1) (fill / 8) (8 * (fill % 8) - 8) (omega arith) (omega arith)
-          (omega arith)
-    ] in
+    let last = byte_at are (fill - 1) (omega arith) in
+    let byte : c.if-over-eq0.last_byte ≡ get_or xs (fill - 1) 0 =
+    grind (arith, c.if-over-eq0.branch, last) in
     let padding : c.padding_after.result ≡ padding_byte g.row.V xs =
     rw (c.padding_after.ensures, c.pads_with_two.ensures, byte, are.count) refl in
     let rest = drop (8 * (fill / 8)) xs in
     let size : length rest ≡ fill % 8 = omega (arith, length-drop (8 * (fill / 8)) xs) in
-    let after : take 8 rest ≡ after_words xs = grind (arith, take_all 8 rest, after_words-drop xs) in
+    let whole = take_all 8 rest (omega arith) in
+    let after : take 8 rest ≡ after_words xs = grind (arith, whole, after_words-drop xs) in
     rw (← c.self.view_is, padding, get_or_pending are (fill / 8) (omega arith), ← after)
     (word_of-push (take 8 rest) (fill % 8) _ (AreBytes_word are (fill / 8))
-    (omega (arith, length-take {A = ℕ})) (omega arith) (small _))
+    (omega (arith, length-take {A = ℕ})) (omega arith) (grind arith))
