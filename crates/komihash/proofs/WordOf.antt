@@ -1,9 +1,9 @@
 -- Words of lists of bytes that are cut and joined.
 use Rattle.std.proofs.Common.{◌≡◌, ℕ, zero, suc, ◌+◌, ◌-◌, ◌*◌, ◌/◌, ◌%◌, ◌^◌, ◌<◌, ◌≤◌, List, []}
 use Rattle.std.proofs.Common.{◌∷◌, ◌++◌, length, take, drop, get_or, ap, arith, ◌∙◌, sym, take-add}
-use Rattle.std.proofs.Common.{Fits, w8, refl, take-take}
+use Rattle.std.proofs.Common.{Fits, w8, refl, take-take, drop-drop}
 use Rattle.std.proofs.lemmas.List.{length-append, length-drop, length-take-le, take_all}
-use Rattle.std.proofs.lemmas.List.{get_or-drop, drop-drop, drop-take, drop-append-le, take-append-le}
+use Rattle.std.proofs.lemmas.List.{get_or-drop, drop-take, drop-append-le, take-append-le}
 use Rattle.std.proofs.lemmas.Nat.{pow-add, shl-shr, shr-shr, mod-pow-add, or_shifted, or_comm}
 use Rattle.std.proofs.Math.Nat.{mul-mod_left, zero-mod, zero-div}
 use Rattle.std.proofs.lemmas.Simd.{get_or_wider, Each1-from_get_or}

@@ -4,7 +4,7 @@
 
 ghost use Rattle.std.specs.Prelude.{◌≡◌, ℕ, ◌+◌, ◌-◌, ◌*◌, ◌/◌, ◌%◌, ◌<◌, ◌≤◌};
 ghost use Rattle.std.specs.Prelude.{List, [], ◌++◌, length, take, drop, slice_index};
-ghost use Rattle.std.proofs.Common.{arith, sym};
+ghost use Rattle.std.proofs.Common.{sym};
 ghost use Rattle.komihash.specs.Counts.{Costs};
 ghost use Rattle.komihash.specs.Padding.{padding_byte};
 ghost use Rattle.komihash.specs.Storage.{pending_bytes, ArePending, Stores, StoresBut};
@@ -184,8 +184,8 @@ fn append_below_eight(words: &mut [u64; 8], fill: usize, bytes: &[u8])
     let word = read_partial_word(bytes, 0);
     let bits = 8 * (fill % 8);
     append_within_word(words, fill, word);
-    // A rotation has the bytes that the shift keeps, and as its lowest bytes those that the shift
-    // drops. Without the former it is what goes into the next word.
+    // The rotation has what the shift keeps, in its place, and below that, from the lowest byte on,
+    // what the shift drops. The difference is therefore what goes to the front of the next word.
     words[(fill / 8 + 1) % 8] |= word.rotate_left(bits as u32) - (word << bits);
 }
 
@@ -202,8 +202,8 @@ fn store_two_words(words: &mut [u64; 8], at: usize, bytes: &[u8], from: usize)
     two.copy_to_slice(&mut words[at..]);
 }
 
-// Appends the bytes of eight or more that belong to whole words. Some complete the partial word, and
-// the words after it are stored two at a time, from both ends.
+// Appends the bytes of eight or more that belong to whole words. Some complete the partial word,
+// and the words after it are stored two at a time, from both ends.
 #[inline(always)]
 fn append_whole_words(words: &mut [u64; 8], fill: usize, bytes: &[u8])
     requires pending { ArePending words.old fill }

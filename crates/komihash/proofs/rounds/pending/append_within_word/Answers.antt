@@ -7,7 +7,6 @@ use Rattle.std.proofs.lemmas.List.{drop_all, take-append-le, drop-append-le}
 use Rattle.komihash.specs.Storage.{StoresBut, pending_bytes}
 use Rattle.komihash.specs.Words.{word_of}
 use Rattle.komihash.proofs.Lists.{take-append}
-use Rattle.komihash.proofs.WholeWords.{length-pending_words}
 use Rattle.komihash.proofs.WordOf.{AreBytes-take, word_of-join}
 use Rattle.komihash.proofs.PendingBytes.{store, get_or_pending, AreBytes_word}
 use Rattle.komihash.proofs.rounds.pending.append_within_word.Goals as goal
@@ -22,7 +21,7 @@ returns c =
     record {
       words = λ bytes low high are is within.
           let before : StoresBut c.args.words.now (xs ++ bytes) i high = record {
-            size = ap length pending.words ∙ length-pending_words 8 xs;
+            size = omega arith;
             words = λ k few after. get_or_pending pending k few ∙ ap word_of (elim (cases_lt k i) [
               | inl less ↦ grind (arith, drop-append-le, take-append-le, length-drop {A = ℕ})
               | inr least ↦ grind (arith, drop_all, length-append {A = ℕ}, after least)
