@@ -1,8 +1,7 @@
 -- The padding byte is that of the last byte, wherever it lies.
 use Rattle.std.proofs.Common.{◌≡◌, ℕ, ◌<◌, ◌-◌, ◌*◌, ◌/◌, ◌%◌, ◌^◌, List, [], ◌∷◌}
 use Rattle.std.proofs.Common.{length, get_or, take, drop, bit_and, refl, ap, arith, ◌∙◌, take_all}
-use Rattle.std.proofs.Common.{length-take, length-drop}
-use Rattle.std.proofs.lemmas.List.{places}
+use Rattle.std.proofs.Common.{length-take, length-drop, get_or-take, get_or-drop}
 use Rattle.std.proofs.lemmas.Nat.{and_mask}
 use Rattle.komihash.specs.Padding.{padding_byte}
 use Rattle.komihash.specs.Storage.{pending_bytes, ArePending, after_words}
@@ -17,16 +16,15 @@ low_byte : (xs : List ℕ) → AreBytes xs → word_of xs % 256 ≡ get_or xs 0 
 low_byte [] are = refl
 low_byte (x ∷ xs) are = omega (arith, are 0)
 
--- a byte of a word, and one of the words
-byte_of : (k : ℕ) (xs : List ℕ) → AreBytes xs
-    → word_of xs / 2 ^ (8 * k) % 256 ≡ get_or (drop k xs) 0 0
-byte_of k xs are = rw (← word_of-drop k xs are) (low_byte (drop k xs) (AreBytes-drop k xs are))
-
+-- a byte of the words
 byte_at : {ws : List ℕ} {fill : ℕ} → ArePending ws fill → (i : ℕ) → i < fill
     → bit_and (get_or ws (i / 8) 0 / 2 ^ (8 * (i % 8))) 255 ≡ get_or (pending_bytes ws fill) i 0
 byte_at are i lt =
-    rw (and_mask _ 8, get_or_pending are (i / 8) (omega arith))
-    (byte_of (i % 8) _ (AreBytes_word are (i / 8)) ∙ grind (arith, places))
+    let of_word = AreBytes_word are (i / 8) in
+    let rest = word_of-drop (i % 8) _ of_word in
+    rw (and_mask _ 8, get_or_pending are (i / 8) (omega arith), ← rest)
+    (low_byte _ (AreBytes-drop (i % 8) _ of_word)
+    ∙ grind (arith, get_or-drop {A = ℕ}, get_or-take {A = ℕ}))
 
 pub returns : goal.returns
 returns g c =
