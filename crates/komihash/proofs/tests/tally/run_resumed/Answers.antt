@@ -3,7 +3,7 @@ use Rattle.std.proofs.Common.{◌∷◌, [], take, get_or, arith}
 use Rattle.std.proofs.lemmas.List.{take_more}
 use Rattle.komihash.specs.Stream.{start}
 use Rattle.komihash.specs.declared.stream.Call.TheVariants.{Absorb}
-use Rattle.komihash.proofs.StreamAbsorbs.{absorb-nothing}
+use Rattle.komihash.proofs.Streams.{absorb-nothing}
 use Rattle.komihash.proofs.CallLists.{goes_on}
 use Rattle.komihash.proofs.tests.tally.run_resumed.Goals as goal
 
