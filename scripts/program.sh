@@ -1,79 +1,70 @@
 #!/usr/bin/env bash
-# Tests the program as `rt ci` or `rt run` built it: its arguments, the test vectors, inputs of many
-# sizes from files and pipes, and faults. Needs a C compiler. Half a minute, mostly to build tests.
+# Tests what no contract holds of the program that `rt ci` or `rt run` built: what `main` passes on,
+# arguments, faults of the system, and refused allocations. Needs a C compiler. Half a minute, mostly
+# to build tests.
 set -uo pipefail
 cd "$(dirname "$0")/../crates/komisum" || exit 1
 . ../../scripts/cases.sh
 
 program=out/komisum
-usage='usage: komisum [4|5 SEED]'
-whole=$(cat stdout)
-printf a > "$room/a"
+long=$(printf '%0300d' 0)
 
 # Runs the tests of both crates, each with its first allocation refused, while the cases below run.
 for crate in komihash komisum; do
     (cd "../$crate" && rt try --test --fail-alloc 1 --seconds 600) > "$room/$crate" 2>&1 &
 done
 
-# Runs a command, or the program, and prints its status, standard output and standard error.
+# Runs a command, and then prints its status and its standard error.
 ran() {
-    "$@" > "$room/output" 2> "$room/errors"
+    "$@" 2> "$room/errors"
     printf 'status %s\n' $?
-    printf 'output %s|\n' "$(cat "$room/output"; printf .)"
-    printf 'errors %s|\n' "$(cat "$room/errors"; printf .)"
+    cat "$room/errors"
 }
-run() { ran "$program" "$@"; }
 
 # Print what `ran` prints for a line and for a fault.
-line() { printf 'status 0\noutput %s\n.|\nerrors .|\n' "$1"; }
-fault() { printf 'status %s\noutput .|\nerrors komisum: %s\n.|\n' "$1" "$2"; }
+line() { printf '%s\nstatus 0\n' "$1"; }
+fault() { printf 'status %s\nkomisum: %s\n' "$1" "$2"; }
 
-# Whether the output is the expected one, which is never empty: a command that fails prints nothing.
-equal() { [ -n "$1" ] && diff <(echo "$1") <(echo "$2"); }
-
-message() { seq 1 1000000 | head -c "$1"; }
-
-# Arguments that it accepts. The hashes are those of the Rust crate.
-note 'the stored run' equal "$(line "$whole")" "$(run < stdin)"
-note 'version 5 and seed 0' equal "$(line 5117f5064cfd0faa)" "$(run 5 0 < "$room/a")"
-note 'version 4 and a seed' equal "$(line 4bde5bdc63771675)" "$(run 4 1f < "$room/a")"
-note 'the greatest seed' equal "$(line 4bcc041f3f885859)" "$(run 5 ffffffffffffffff < /dev/null)"
-
-# Prints rows of test vectors, each with the hash that the program prints.
+# Rows of test vectors, with which every version and many seeds are arguments: prints each with the
+# hash that the program prints.
 hashed() {
     while IFS='|' read -r version seed message _; do
         printf '%s|%s|%s|%s\n' "$version" "$seed" "$message" \
             "$(printf "$(sed 's/../\\x&/g' <<< "$message")" | "$program" "$version" "$seed")"
     done
 }
-vectors=$(grep -v '^#' ../../docs/vectors.tsv | tr '\t' '|')
-note 'docs/vectors.tsv' equal "$vectors" "$(hashed <<< "$vectors")"
+grep -v '^#' ../../docs/vectors.tsv | tr '\t' '|' > "$room/vectors" || exit
+note 'docs/vectors.tsv' diff "$room/vectors" <(hashed < "$room/vectors")
+
+# The program's name need not be UTF-8, may be long, and may be empty.
+named() { (exec -a "$1" "$program" 4 1f); }
+for name in '' $'\xff' "$long"; do
+    note "a name of ${#name} characters" diff <(line 4bde5bdc63771675) <(printf a | ran named "$name")
+done
 
 # Arguments that it refuses. It then leaves all of the input to `cat`.
 refuse() {
-    local name=$1
-    shift
-    note "refused: $name" equal "$(fault 2 "$usage"; echo 'left a')" \
-        "$({ run "$@"; printf 'left %s\n' "$(cat)"; } < "$room/a")"
+    local arguments=${*@Q}
+    note "refused: ${arguments:0:40}" \
+        diff <(fault 2 'usage: komisum [4|5 SEED]'; echo input) <({ ran "$program" "$@"; cat; } <<< input)
 }
-long=$(printf '%0300d' 0)
-refuse 'one argument' 5
-refuse 'three arguments' 5 0 0
-refuse 'an empty version' '' 0
-refuse 'an empty seed' 5 ''
-refuse 'capital digits' 5 FF
-refuse 'an argument that is not UTF-8' 5 $'\xff'
-refuse 'a third argument that is not UTF-8' 5 0 $'\xff'
-refuse 'a first argument of 300 digits' "$long"
-refuse 'a third argument of 300 digits' 5 0 "$long"
-refuse --help --help
+refuse 5
+refuse ''
+refuse 5 0 0
+refuse 5 FF
+refuse 5 $'\xff'
+refuse 5 0 $'\xff'
+refuse "$long"
+refuse 5 0 "$long"
 
-# Sizes around 4,096 bytes, the buffer's 65,536 and above 2^20. The longest input, 2^40 zero bytes,
-# takes 7 minutes and was tried by hand: its line in version 5 is b105583901d0a6f8.
+# Sizes around 4,096 bytes, the buffer's 65,536 and above 2^20. The hashes are those of the Rust
+# crate. The longest input, 2^40 zero bytes, takes 7 minutes and was tried by hand: its line in
+# version 5 is b105583901d0a6f8.
+message() { seq 1 1000000 | head -c "$1"; }
 while read -r size five four; do
     message "$size" > "$room/message"
-    note "$size bytes from a file" equal "$(line "$five")" "$(run < "$room/message")"
-    note "$size bytes from a pipe" equal "$(line "$four")" "$(message "$size" | run 4 1f)"
+    note "$size bytes from a file" diff <(line "$five") <(ran "$program" < "$room/message")
+    note "$size bytes from a pipe" diff <(line "$four") <(message "$size" | ran "$program" 4 1f)
 done << 'SIZES'
 0 b7683ea7430132b4 f80fbf600441f1bd
 1 7f7f0c9b903d173d 1b8661ed829a60b5
@@ -86,34 +77,31 @@ done << 'SIZES'
 1048577 388de716583121be d577466f23642771
 SIZES
 
-note 'the input is a folder' equal "$(fault 1 'read failed')" "$(run < /)"
-note 'a closed input' equal "$(fault 1 'read failed')" "$(run <&-)"
-note 'a full output' equal $'komisum: write failed\nstatus 1' \
-    "$("$program" < stdin 2>&1 > /dev/full; echo "status $?")"
+full() { "$program" > /dev/full; }
+note 'the input is a folder' diff <(fault 1 'read failed') <(ran "$program" < /)
+note 'a closed input' diff <(fault 1 'read failed') <(ran "$program" <&-)
+note 'a full output' diff <(fault 1 'write failed') <(ran full < stdin)
 
-# Refuses all allocations of a command, from the one of this number on.
-refusing() { REFUSE_FROM=$1 LD_PRELOAD=$room/refuse.so "${@:2}"; }
-
-# The program allocates its arguments and the buffer of its input, and nothing after it has read.
+# Refuses all allocations of the program, from the one of this number on. It allocates its arguments
+# and the buffer of its input, and nothing after it has read.
+refusing() { REFUSE_FROM=$1 LD_PRELOAD=$room/refuse.so "$program" "${@:2}"; }
 refuse_memory() {
     local count=$1 line=$2 request
     shift 2
     for ((request = 1; request <= count; request++)); do
         note "no memory from allocation $request on: ${*:-no arguments}" \
-            equal "$(fault 1 'no memory')" "$(ran refusing "$request" "$program" "$@" < stdin)"
+            diff <(fault 1 'no memory') <(ran refusing "$request" "$@" < stdin)
     done
     note "memory for $count allocations: ${*:-no arguments}" \
-        equal "$(line "$line")" "$(ran refusing "$request" "$program" "$@" < stdin)"
+        diff <(line "$line") <(ran refusing "$request" "$@" < stdin)
 }
 note 'refuse.c compiles' "${CC:-cc}" -shared -fPIC -o "$room/refuse.so" ../../scripts/refuse.c
-refuse_memory 2 "$whole"
+refuse_memory 2 "$(cat stdout)"
 refuse_memory 5 4bde5bdc63771675 4 1f
 
-# Those tests alone fail that read arguments or write to a `Vec`, and none of the library's.
 wait
-note 'komihash allocates nothing' grep -q '^test result: ok\. [1-9]' "$room/komihash"
-allocating=$(echo arguments::{any_program_name,long_arguments,wrong_count_or_not_utf8})
-note 'what allocates in the tests of komisum' equal "$allocating show::lines show::lines_of_zeros" \
-    "$(sed -n 's/^test tests::\(.*\) \.\.\. FAILED$/\1/p' "$room/komisum" | paste -sd ' ')"
+for crate in komihash komisum; do
+    note "the tests of $crate allocate nothing" grep -q '^test result: ok\. [1-9]' "$room/$crate"
+done
 
 counted

@@ -1,7 +1,6 @@
 -- The version and the seed that the program's arguments ask for.
-use Rattle.std.specs.Prelude.{ℕ, Bool, List, [], ◌∷◌, length, map, not, ◌&&◌, bytes_eq, codes}
+use Rattle.std.specs.Prelude.{ℕ, Bool, List, [], ◌∷◌, length, map, ◌&&◌, ◌||◌, bytes_eq, codes}
 use Rattle.std.specs.Prelude.{if◌then◌else◌, None, Some, Ok, Err, String, string_bytes}
-use Rattle.std.specs.Char.{is_ascii_hexdigit, is_ascii_uppercase}
 use Rattle.std.specs.Int.{is_in_range}
 use Rattle.std.specs.List.{list_all}
 use Rattle.std.specs.declared.option.Option.{Option}
@@ -31,17 +30,16 @@ version_of argument =
     else if bytes_eq argument (codes "5") then Some Five
     else None
 
--- a hexadecimal digit that is no capital letter
+-- one of the characters `0-9a-f`
 abbrev pub is_hex_digit : ℕ → Bool
-is_hex_digit c = is_ascii_hexdigit c && not (is_ascii_uppercase c)
+is_hex_digit c = is_in_range 48 57 c || is_in_range 97 102 c
 
--- one to sixteen digits
-abbrev pub is_seed : List ℕ → Bool
-is_seed argument = is_in_range 1 16 (length argument) && list_all is_hex_digit argument
-
--- the seed that an argument asks for, its digits to base 16
+-- the seed that an argument asks for, by one to sixteen digits to base 16
 abbrev pub seed_of : List ℕ → Option ℕ
-seed_of argument = if is_seed argument then Some (digits_value 16 argument) else None
+seed_of argument =
+    if is_in_range 1 16 (length argument) && list_all is_hex_digit argument
+    then Some (digits_value 16 argument)
+    else None
 
 -- what arguments ask for: version 5 and seed 0 if there are none, or the version and seed of two
 abbrev pub settings_of : List (List ℕ) → Option (Version × ℕ)

@@ -1,9 +1,10 @@
-//! The hash of all bytes that a reader gives.
+//! The hash of all bytes that a reader gives, and its line of hexadecimal digits.
 
 ghost use Rattle.std.specs.Prelude.{◌≡◌, ◌≢◌, ◌↔◌, ◌+◌, ◌^◌, ◌<◌, ◌≤◌};
 ghost use Rattle.std.specs.Prelude.{length, true, false, OnOk, IfOk, IfSome};
 ghost use Rattle.std.specs.Io.KnownBytes.{IsAtEnd};
 ghost use Rattle.komihash.specs.Hash.{komi};
+ghost use Rattle.komisum.specs.Program.{line};
 ghost use Rattle.komisum.specs.Watched.{Takes};
 
 use crate::ending::Fault;
@@ -63,4 +64,17 @@ pub fn digest<R: Read, S: KomiStream>(
             Err(_) => return Err(Fault::Read),
         }
     }
+}
+
+/// Returns the line of a number: 16 lower-case hexadecimal digits, the highest first, and a
+/// newline.
+pub fn hex_line(number: u64) -> [u8; 17]
+    ensures { result ≡ line number }
+{
+    let mut line = [b'\n'; 17];
+    for i in 0..16u32 {
+        let digit = number / 16u64.pow(15 - i) % 16;
+        line[i as usize] = b"0123456789abcdef"[digit as usize];
+    }
+    line
 }

@@ -1,11 +1,14 @@
-//! How the program ends: its message on standard error, and its status.
+//! How the program ends: its line on standard error, and its status.
 
-ghost use Rattle.std.specs.Prelude.{◌≡◌, ◌≤◌, length, None, Some, IfSome, MatchOption};
-ghost use Rattle.komisum.specs.Ending.{ending_of, fault_text, refusal_status, refusal_text};
-ghost use Rattle.komisum.specs.Ending.{status_of, text_of};
+ghost use Rattle.std.specs.Prelude.{◌≡◌, false};
+ghost use Rattle.std.specs.Io.KnownBytes.{Appends};
+ghost use Rattle.std.specs.Process.{exit_status};
+ghost use Rattle.komisum.specs.Ending.{fault_text, line_of, status_of};
+ghost use Rattle.komisum.specs.Watched.{AppendsPrefix};
 
-/// The length of the longest message, in bytes.
-pub const LONGEST_MESSAGE: usize = 25;
+use crate::watched::{Watched, write_whole};
+use std::io::Write;
+use std::process::ExitCode;
 
 /// Why the whole line was not written and flushed.
 #[derive(Drop)]
@@ -21,8 +24,7 @@ pub enum Fault {
 impl Fault {
     /// Returns the message.
     pub fn text(&self) -> &'static str
-        ensures text { result.now ≡ fault_text self.now }
-        ensures short { length result.now ≤ LONGEST_MESSAGE }
+        ensures { result.now ≡ fault_text self.now }
     {
         match self {
             Fault::Read => "read failed",
@@ -42,29 +44,6 @@ pub enum Refusal {
     Usage,
 }
 
-impl Refusal {
-    /// Returns the message.
-    pub fn text(&self) -> &'static str
-        ensures text { result.now ≡ refusal_text self.now }
-        ensures short { length result.now ≤ LONGEST_MESSAGE }
-    {
-        match self {
-            Refusal::NoMemory => "no memory",
-            Refusal::Usage => "usage: komisum [4|5 SEED]",
-        }
-    }
-
-    /// Returns the program's status: 1 if out of memory, 2 for wrong usage.
-    pub fn status(&self) -> u8
-        ensures { result ≡ refusal_status self.now }
-    {
-        match self {
-            Refusal::NoMemory => 1,
-            Refusal::Usage => 2,
-        }
-    }
-}
-
 /// How the program ends.
 #[derive(Drop)]
 pub enum Ending {
@@ -77,37 +56,39 @@ pub enum Ending {
 }
 
 impl Ending {
-    /// Converts the result of `show`.
-    pub fn of(shown: Result<(), Fault>) -> Self
-        ensures { result ≡ ending_of shown }
-    {
-        match shown {
-            Ok(()) => Ending::Shown,
-            Err(fault) => Ending::Failed(fault),
-        }
-    }
-
-    /// Returns the message, or `None` if the line was shown.
-    pub fn text(&self) -> Option<&'static str>
-        ensures text { MatchOption result (text_of self.now ≡ None)
-            (λ text. text_of self.now ≡ Some text.now) }
-        ensures short { IfSome result (λ text. length text.now ≤ LONGEST_MESSAGE) }
+    // Returns the program's status, and its line on standard error, which is empty if there is none.
+    fn told(&self) -> (u8, &'static str)
+        ensures status { result.0 ≡ status_of self.now }
+        ensures line { result.1.now ≡ line_of self.now }
     {
         match self {
-            Ending::Shown => None,
-            Ending::Failed(fault) => Some(fault.text()),
-            Ending::Refused(refusal) => Some(refusal.text()),
+            Ending::Shown => (0, ""),
+            Ending::Failed(Fault::Read) => (1, "komisum: read failed\n"),
+            Ending::Failed(Fault::TooLong) => (1, "komisum: too long\n"),
+            Ending::Failed(Fault::Write) => (1, "komisum: write failed\n"),
+            Ending::Refused(Refusal::NoMemory) => (1, "komisum: no memory\n"),
+            Ending::Refused(Refusal::Usage) => (2, "komisum: usage: komisum [4|5 SEED]\n"),
         }
     }
+}
 
-    /// Returns the program's status: 0 if the line was shown, 1 after a fault, or the refusal's.
-    pub fn status(&self) -> u8
-        ensures { result ≡ status_of self.now }
-    {
-        match self {
-            Ending::Shown => 0,
-            Ending::Failed(_) => 1,
-            Ending::Refused(refusal) => refusal.status(),
-        }
+/// Writes the message of an ending, if it has one, as a line: the program's name, the message and a
+/// newline. Returns the program's status, even if that line could not be written.
+///
+/// If the writer accepts the line in one call, no other output can come between its parts. The
+/// writer must not have failed before.
+pub fn report<W: Write>(errors: &mut Watched<W>, ending: &Ending) -> ExitCode
+    requires { errors.old.failed ≡ false }
+    ensures status { exit_status result ≡ status_of ending.now }
+    ensures line { errors.new.failed ≡ false → Appends (W.contents errors.old.inner)
+        (W.contents errors.new.inner) (line_of ending.now) }
+    ensures partial { AppendsPrefix (W.contents errors.old.inner) (W.contents errors.new.inner)
+        (line_of ending.now) }
+    ensures silent { ending.now ≡ Ending.Shown → errors.new ≡ errors.old }
+{
+    let (status, line) = ending.told();
+    if !line.is_empty() {
+        let _ = write_whole(errors, line.as_bytes());
     }
+    ExitCode::from(status)
 }

@@ -6,9 +6,7 @@
 
 mod digest;
 mod ending;
-mod hex;
 mod program;
-mod report;
 mod settings;
 #[cfg(test)]
 mod tests;
@@ -27,5 +25,5 @@ fn main(rt: HostRuntime) -> ExitCode {
         &mut BufReader::with_capacity(rt.alloc(), BUFFER_LENGTH, rt.stdin()).map(Watched::new),
         &mut Watched::new(rt.stdout()),
     );
-    report::report(&mut Watched::new(rt.stderr()), &ending)
+    ending::report(&mut Watched::new(rt.stderr()), &ending)
 }

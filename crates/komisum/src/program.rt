@@ -1,13 +1,11 @@
 //! The program, over any reader and writer.
 
-ghost use Rattle.std.specs.Prelude.{◌≡◌, false, OnOk, IfOk, IsErr, IsOkAnd};
+ghost use Rattle.std.specs.Prelude.{◌≡◌, false, IfOk, IsErr, IsOkAnd};
 ghost use Rattle.komisum.specs.Ending.{ending_of};
-ghost use Rattle.komisum.specs.Program.{AppendsLine, AppendsLinePrefix};
-ghost use Rattle.komisum.specs.Program.{EndsAsAsked, FaultsCome, ReadsEnough, WritesNothing};
+ghost use Rattle.komisum.specs.Program.{EndsAsAsked, Shows};
 
-use crate::digest::digest;
+use crate::digest::{digest, hex_line};
 use crate::ending::{Ending, Fault, Refusal};
-use crate::hex::hex_line;
 use crate::settings::Version;
 use crate::watched::{Watched, flush, write_whole};
 use komihash::{v4, v5};
@@ -36,14 +34,8 @@ pub fn show<R: Read, W: Write>(
 ) -> Result<(), Fault>
     requires reader { reader.old.failed ≡ false }
     requires writer { writer.old.failed ≡ false }
-    ensures line { OnOk result (AppendsLine version seed (R.remaining reader.old.inner)
-        (W.contents writer.old.inner) (W.contents writer.new.inner)) }
-    ensures partial { result ≡ Err Fault.Write
-        → AppendsLinePrefix version seed (R.remaining reader.old.inner)
-        (W.contents writer.old.inner) (W.contents writer.new.inner) }
-    ensures faults { FaultsCome (ending_of result) R.remaining reader.old reader.new writer.new }
-    ensures reads { ReadsEnough (ending_of result) R.remaining reader.old reader.new }
-    ensures unwritten { WritesNothing (ending_of result) writer.old writer.new }
+    ensures { Shows version seed (ending_of result) R.remaining reader.old reader.new
+        W.contents writer.old writer.new }
 {
     let mut chunk = [0u8; CHUNK_LENGTH];
     let hash = match version {
@@ -52,23 +44,6 @@ pub fn show<R: Read, W: Write>(
     }?;
     write_whole(writer, &hex_line(hash))?;
     flush(writer)
-}
-
-// Shows the line for the version and the seed that the arguments ask for, or passes on the refusal.
-fn show_asked<R: Read, W: Write>(
-    asked: Result<(Version, u64), Refusal>,
-    input: &mut Watched<R>,
-    output: &mut Watched<W>,
-) -> Ending
-    requires input { input.old.failed ≡ false }
-    requires output { output.old.failed ≡ false }
-    ensures { EndsAsAsked result asked R.remaining input.old input.new
-        W.contents output.old output.new }
-{
-    match asked {
-        Ok((version, seed)) => Ending::of(show(input, output, version, seed)),
-        Err(refusal) => Ending::Refused(refusal),
-    }
 }
 
 /// Runs the program on what `main` got from its host. Returns how it ended.
@@ -90,8 +65,14 @@ pub fn run<R: Read, W: Write>(
     ensures no_buffer { IsErr input.old → (result ≡ Ending.Refused Refusal.NoMemory)
         × (input.new ≡ input.old) × (output.new ≡ output.old) }
 {
-    match input {
-        Ok(input) => show_asked(asked, input, output),
-        Err(_) => Ending::Refused(Refusal::NoMemory),
+    let Ok(input) = input else {
+        return Ending::Refused(Refusal::NoMemory);
+    };
+    match asked {
+        Err(refusal) => Ending::Refused(refusal),
+        Ok((version, seed)) => match show(input, output, version, seed) {
+            Ok(()) => Ending::Shown,
+            Err(fault) => Ending::Failed(fault),
+        },
     }
 }

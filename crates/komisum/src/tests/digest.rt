@@ -1,67 +1,62 @@
 //! Hashes of what readers give, and what a fault leaves.
 
-ghost use Rattle.std.specs.Prelude.{◌≡◌, ◌<◌, ◌≤◌, ◌^◌, false};
+ghost use Rattle.std.specs.Prelude.{◌<◌, ◌≤◌};
 
 use super::fakes::{Calls, ERRORS, FakeReader};
-use super::messages::{BLOCK_MESSAGE, ZERO};
+use super::{BLOCK_MESSAGE, ZERO};
 use crate::digest::digest;
 use crate::ending::Fault;
 use crate::watched::Watched;
 use komihash::stream::{Call, KomiStream, LONGEST_TEXT, run_on};
 use komihash::tally::Tally;
 use komihash::v5::StreamedKomihash;
-use std::io::Read;
+use std::process::Abort;
 
-// Calls `digest` in version 5 with seed 0 and a chunk of `size` bytes.
-fn digested<R: Read>(reader: &mut Watched<R>, most: u64, size: usize) -> Result<u64, Fault>
-    requires most { most < 2 ^ 63 }
-    requires some { 0 < size }
-    requires fits { size ≤ 96 }
-    requires sound { reader.old.failed ≡ false }
-{
-    let mut chunk = [0xeeu8; 96];
-    digest::<R, StreamedKomihash>(reader, 0, &mut chunk[..size], most)
-}
-
-// Hashes bytes in memory.
-fn of_bytes(bytes: &[u8], most: u64, size: usize) -> Result<u64, Fault>
-    requires most { most < 2 ^ 63 }
+// Calls `digest` in version 5 with seed 0 and a chunk of `size` bytes. Also returns the number of
+// reads.
+fn digested(bytes: &[u8], calls: Calls, most: u32, size: usize) -> (Result<u64, Fault>, usize)
     requires some { 0 < size }
     requires fits { size ≤ 96 }
 {
-    digested(&mut Watched::new(bytes), most, size)
+    let mut chunk = [0xee; 96];
+    let mut reader = Watched::new(FakeReader::new(bytes, calls));
+    let most = u64::from(most);
+    let result = digest::<FakeReader, StreamedKomihash>(&mut reader, 0, &mut chunk[..size], most);
+    (result, reader.into_inner().calls.made)
 }
+
+// What `digest` returns of at most this many bytes, some of which come per read. `None` is `TooLong`.
+const ROWS: [(&[u8], u32, usize, Option<u64>); 7] = [
+    (ZERO, 16, 96, Some(0)),
+    (ZERO, 15, 96, None),
+    (BLOCK_MESSAGE, 95, 96, Some(6)),
+    (BLOCK_MESSAGE, 94, 96, None),
+    (BLOCK_MESSAGE, 95, 1, Some(6)),
+    (b"", 0, 96, Some(0xb7683ea7430132b4)),
+    (b"a", 0, 96, None),
+];
 
 #[test]
 fn chunks_of_every_size(rt: HostRuntime) {
     for size in [1, 7, 64, 95, 96] {
-        assert!(rt; matches!(of_bytes(&ZERO, 16, size), Ok(0)));
-        assert!(rt; matches!(of_bytes(&BLOCK_MESSAGE, 95, size), Ok(6)));
-        let mut by_one = Watched::new(FakeReader::new(&BLOCK_MESSAGE, Calls::endless(1)));
-        assert!(rt; matches!(digested(&mut by_one, 95, size), Ok(6)));
+        for (bytes, most, per_read, hash) in ROWS {
+            let calls = Calls::new(per_read, 0, None);
+            match digested(bytes, calls, most, size).0 {
+                Ok(given) => assert_eq!(rt; Some(given), hash),
+                Err(fault) => assert!(rt; matches!(fault, Fault::TooLong) && hash.is_none()),
+            }
+        }
     }
-    assert!(rt; matches!(of_bytes(b"", 0, 96), Ok(0xb7683ea7430132b4)));
-}
-
-#[test]
-fn inputs_that_are_too_long(rt: HostRuntime) {
-    for size in [1, 7, 64, 95, 96] {
-        assert!(rt; matches!(of_bytes(&ZERO, 15, size), Err(Fault::TooLong)));
-        assert!(rt; matches!(of_bytes(&BLOCK_MESSAGE, 94, size), Err(Fault::TooLong)));
-    }
-    assert!(rt; matches!(of_bytes(b"a", 0, 96), Err(Fault::TooLong)));
 }
 
 #[test]
 fn nothing_is_read_after_a_fault(rt: HostRuntime) {
     for error in ERRORS {
-        let mut reader = Watched::new(FakeReader::new(&ZERO, Calls::stopping(8, error, 2)));
-        assert!(rt; matches!(digested(&mut reader, 16, 96), Err(Fault::Read)));
-        assert_eq!(rt; reader.into_inner().calls.made, 2);
+        let (result, reads) = digested(ZERO, Calls::new(8, 2, Some(error)), 16, 96);
+        assert!(rt; matches!(result, Err(Fault::Read)) && reads == 2);
     }
-    let mut reader = Watched::new(FakeReader::new(&BLOCK_MESSAGE, Calls::endless(7)));
-    assert!(rt; matches!(digested(&mut reader, 20, 96), Err(Fault::TooLong)));
-    assert_eq!(rt; reader.into_inner().calls.made, 3);
+    let (result, reads) = digested(BLOCK_MESSAGE, Calls::new(7, 0, None), 20, 96);
+    assert!(rt; matches!(result, Err(Fault::TooLong)) && reads == 3);
 }
 
 // Returns the hash of bytes that come in pieces. After each piece the stream is saved, and another
@@ -85,11 +80,8 @@ fn of_resumed_streams(bytes: &[u8], size: usize) -> Option<u64>
 #[test]
 fn saving_changes_nothing(rt: HostRuntime) {
     for size in [1, 7, 63, 64, 95] {
-        assert_eq!(rt;
-            of_resumed_streams(&BLOCK_MESSAGE, size),
-            Some(6),
-            "pieces of {size}"
-        );
-        assert!(rt; matches!(of_bytes(&BLOCK_MESSAGE, 95, size), Ok(6)));
+        let calls = Calls::new(96, 0, None);
+        let hash = digested(BLOCK_MESSAGE, calls, 95, size).0.ok();
+        assert!(rt; hash == Some(6) && of_resumed_streams(BLOCK_MESSAGE, size) == hash);
     }
 }

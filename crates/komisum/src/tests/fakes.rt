@@ -2,57 +2,31 @@
 
 ghost use Rattle.std.specs.Prelude.{◌≤◌, IfOk};
 
-use std::io::{Error, ErrorKind, Read, Result, Write};
+use std::io::{Error, Read, Result, Write};
 
-/// What a fake returns at the call at which it stops.
-#[derive(Clone, Copy)]
-pub enum Stop {
-    /// The error of the system that has this number.
-    Number(i32),
-    /// An error of this kind, without a number.
-    Kind(ErrorKind),
-    /// `Ok(0)`, with no byte moved.
-    MovesNone,
-}
-
-impl Stop {
-    /// Returns the error, or `None` if there is none.
-    pub fn error(self) -> Option<Error> {
-        match self {
-            Stop::Number(number) => Some(Error::from_raw_os_error(number)),
-            Stop::Kind(kind) => Some(Error::from(kind)),
-            Stop::MovesNone => None,
-        }
-    }
-}
-
-/// A kind and a number: an interrupted call, and a fault of the device.
-pub const ERRORS: [Stop; 2] = [Stop::Kind(ErrorKind::Interrupted), Stop::Number(5)];
+/// Numbers of the system's errors: an interrupted call, and a fault of the device.
+pub const ERRORS: [i32; 2] = [4, 5];
 
 /// The calls of a fake: how many bytes each moves at most, and which one, counted from 1, stops.
 #[derive(Drop)]
 pub struct Calls {
     most: usize,
-    stop: Stop,
     stops_at: usize,
+    error: Option<i32>,
     /// The number of calls so far.
     pub made: usize,
 }
 
 impl Calls {
-    /// Stops at one call. Those after it move bytes again.
-    pub fn stopping(most: usize, stop: Stop, stops_at: usize) -> Self {
+    /// Call number `stops_at`, if it comes, returns the error of this number, or else moves nothing.
+    /// Those after it move bytes again.
+    pub fn new(most: usize, stops_at: usize, error: Option<i32>) -> Self {
         Calls {
             most,
-            stop,
             stops_at,
+            error,
             made: 0,
         }
-    }
-
-    /// Never stops.
-    pub fn endless(most: usize) -> Self {
-        Calls::stopping(most, Stop::MovesNone, 0)
     }
 
     // Counts a call that could move this many bytes. Returns how many it moves.
@@ -63,7 +37,10 @@ impl Calls {
         if self.made != self.stops_at {
             return Ok(self.most.min(bytes));
         }
-        self.stop.error().map_or(Ok(0), Err)
+        match self.error {
+            Some(number) => Err(Error::from_raw_os_error(number)),
+            None => Ok(0),
+        }
     }
 }
 

@@ -1,25 +1,117 @@
-//! The program, from what its arguments ask for to its end.
+//! Lines of inputs, what a fault leaves, and the lines on standard error.
 
-use super::fakes::{Calls, FakeWriter};
-use crate::ending::Ending;
-use crate::program::run;
+use super::fakes::{Calls, ERRORS, FakeReader, FakeWriter};
+use super::{BLOCK_MESSAGE, HIGH_END, ZERO};
+use crate::digest::hex_line;
+use crate::ending::Ending::{self, Failed, Refused};
+use crate::ending::{Fault, Refusal, report};
+use crate::program::show;
 use crate::settings::Version;
 use crate::watched::Watched;
-use std::process::Abort;
+use komihash::v5;
+use std::process::{Abort, ExitCode};
 
-// Runs the program over the byte `a`. Compares the line, which is one write and a flush.
-fn shows(rt: &impl Abort, version: Version, seed: u64, line: &[u8; 17]) {
-    let mut input = Ok(Watched::new(b"a".as_slice()));
-    let mut output = Watched::new(FakeWriter::new(Calls::endless(17)));
-    let ending = run(Ok((version, seed)), &mut input, &mut output);
-    assert!(rt; matches!(ending, Ending::Shown));
-    let output = output.into_inner();
-    assert_eq!(rt; output.taken(), line.as_slice());
-    assert_eq!(rt; output.calls.made, 2);
+// What a call of `show` left: its result, the reader and the writer.
+type Left<'a> = (Result<(), Fault>, FakeReader<'a>, FakeWriter);
+
+// Calls `show` on fakes.
+fn shown<'a>(reader: FakeReader<'a>, writer: Calls, version: Version, seed: u64) -> Left<'a> {
+    let mut reader = Watched::new(reader);
+    let mut writer = Watched::new(FakeWriter::new(writer));
+    let result = show(&mut reader, &mut writer, version, seed);
+    (result, reader.into_inner(), writer.into_inner())
+}
+
+// Shows a line and compares it. It takes reads of 4,096 bytes, one write and a flush.
+fn shows(rt: &impl Abort, bytes: &[u8], version: Version, seed: u64, line: &[u8; 17]) {
+    let reader = FakeReader::new(bytes, Calls::new(usize::MAX, 0, None));
+    let (result, reader, writer) = shown(reader, Calls::new(17, 0, None), version, seed);
+    assert!(rt; result.is_ok());
+    assert_eq!(rt; writer.taken(), line.as_slice());
+    assert_eq!(rt; reader.calls.made, bytes.len().div_ceil(4096) + 1);
+    assert_eq!(rt; writer.calls.made, 2);
 }
 
 #[test]
 fn lines(rt: HostRuntime) {
-    shows(&rt, Version::Five, 0, b"5117f5064cfd0faa\n");
-    shows(&rt, Version::Four, 0x1f, b"4bde5bdc63771675\n");
+    assert_eq!(rt; &hex_line(0), b"0000000000000000\n");
+    shows(&rt, ZERO, Version::Five, 0, b"0000000000000000\n");
+    shows(&rt, b"", Version::Five, 0, b"b7683ea7430132b4\n");
+    shows(&rt, b"", Version::Five, u64::MAX, b"4bcc041f3f885859\n");
+    shows(&rt, BLOCK_MESSAGE, Version::Five, 0, b"0000000000000006\n");
+    shows(&rt, HIGH_END, Version::Four, 0, b"0000000000000007\n");
+    let zeros = [0; 5000];
+    for length in [63, 4096, 4097, 5000] {
+        let bytes = &zeros[..length];
+        shows(
+            &rt,
+            bytes,
+            Version::Five,
+            0,
+            &hex_line(v5::komihash(bytes, 0)),
+        );
+    }
+}
+
+#[test]
+fn reads_that_fail(rt: HostRuntime) {
+    for error in ERRORS {
+        for call in 1..=16usize {
+            let reader = FakeReader::new(BLOCK_MESSAGE, Calls::new(7, call, Some(error)));
+            let (result, reader, writer) = shown(reader, Calls::new(17, 0, None), Version::Five, 0);
+            if call == 16 {
+                assert!(rt; result.is_ok());
+                assert_eq!(rt; writer.taken(), b"0000000000000006\n".as_slice());
+            } else {
+                assert!(rt; matches!(result, Err(Fault::Read)));
+                assert_eq!(rt; reader.calls.made, call);
+                assert_eq!(rt; writer.calls.made, 0);
+            }
+        }
+    }
+}
+
+// Compares what `show` writes of a line if one call of the writer, which is the last, stops.
+fn fails(rt: &impl Abort, bytes: &[u8], calls: (usize, usize, Option<i32>), written: &[u8]) {
+    let reader = FakeReader::new(bytes, Calls::new(usize::MAX, 0, None));
+    let writer = Calls::new(calls.0, calls.1, calls.2);
+    let (result, _, writer) = shown(reader, writer, Version::Five, 0);
+    assert!(rt; matches!(result, Err(Fault::Write)));
+    assert_eq!(rt; writer.taken(), written);
+    assert_eq!(rt; writer.calls.made, calls.1);
+}
+
+#[test]
+fn writes_and_flushes_that_fail(rt: HostRuntime) {
+    let line = hex_line(0);
+    fails(&rt, ZERO, (17, 1, None), b"");
+    for error in ERRORS {
+        for call in 1..=17usize {
+            fails(&rt, ZERO, (1, call, Some(error)), &line[..call - 1]);
+        }
+        fails(&rt, ZERO, (17, 2, Some(error)), &line);
+        fails(&rt, b"", (5, 2, Some(error)), b"b7683");
+    }
+}
+
+// Compares the line of an ending on standard error, which is one write, and the status.
+fn reports(rt: &impl Abort, ending: Ending, line: &[u8], status: u8) {
+    let mut errors = Watched::new(FakeWriter::new(Calls::new(usize::MAX, 0, None)));
+    assert!(rt; report(&mut errors, &ending) == ExitCode::from(status));
+    let errors = errors.into_inner();
+    assert_eq!(rt; errors.taken(), line);
+    assert_eq!(rt; errors.calls.made, 1);
+}
+
+#[test]
+fn messages(rt: HostRuntime) {
+    assert_eq!(rt; Fault::Read.text(), "read failed");
+    assert_eq!(rt; Fault::TooLong.text(), "too long");
+    assert_eq!(rt; Fault::Write.text(), "write failed");
+    reports(&rt, Failed(Fault::Read), b"komisum: read failed\n", 1);
+    reports(&rt, Failed(Fault::TooLong), b"komisum: too long\n", 1);
+    reports(&rt, Failed(Fault::Write), b"komisum: write failed\n", 1);
+    reports(&rt, Refused(Refusal::NoMemory), b"komisum: no memory\n", 1);
+    let usage = b"komisum: usage: komisum [4|5 SEED]\n";
+    reports(&rt, Refused(Refusal::Usage), usage, 2);
 }

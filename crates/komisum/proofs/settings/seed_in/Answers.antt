@@ -1,6 +1,5 @@
 -- The standard library parses these digits as they are. It would also take capitals and a plus.
-use Rattle.std.proofs.Common.{◌≡◌, ℕ, ◌^◌, ◌<◌, ◌≤◌, List, [], ◌∷◌, length, true, Ok}
-use Rattle.std.proofs.Common.{arith, refl, rules}
+use Rattle.std.proofs.Common.{◌≡◌, ℕ, ◌<◌, ◌≤◌, List, [], ◌∷◌, length, true, Ok, arith, refl, rules}
 use Rattle.std.proofs.Math.Nat.{pow-le-pow_right}
 use Rattle.std.proofs.lemmas.Bool.Decides.{nat_tests}
 use Rattle.std.proofs.lemmas.Int.Digits.{digits_value-lt}
@@ -13,25 +12,23 @@ use Rattle.std.specs.declared.result.Result.{Result}
 use Rattle.komisum.specs.Settings.{is_hex_digit}
 use Rattle.komisum.proofs.settings.seed_in.Goals as goal
 
--- each has a value below 16
-all_digits : (bs : List ℕ) → list_all is_hex_digit bs ≡ true → AllDigits 16 bs
-all_digits [] h = tt
-all_digits (b ∷ bs) h = (grind (arith, nat_tests), all_digits bs (grind arith))
-
--- none is a plus
-no_plus : (bs : List ℕ) → list_all is_hex_digit bs ≡ true → without_leading_plus bs ≡ bs
-no_plus [] h = refl
-no_plus (b ∷ bs) h = grind (arith, nat_tests)
+-- each has a value below 16, and none is a plus
+plain : (bs : List ℕ) → list_all is_hex_digit bs ≡ true
+    → AllDigits 16 bs × (without_leading_plus bs ≡ bs)
+plain [] h = (tt, refl)
+plain (b ∷ bs) h =
+    ((grind (arith, nat_tests), (plain bs (grind arith)).0), grind (arith, nat_tests))
 
 -- the number that up to sixteen of them write fits a word
 parsed : {E : Type 0} (bs : List ℕ) (r : Result ℕ E) → ParsesUnsigned 64 16 bs r
     → list_all is_hex_digit bs ≡ true → 0 < length bs → length bs ≤ 16
     → r ≡ Ok (digits_value 16 bs)
 parsed bs r parses digits some few =
-    let all : AllDigits 16 bs = all_digits bs digits in
-    let most : 16 ^ length bs ≤ 16 ^ 16 = pow-le-pow_right {n = 16} (omega arith) few in
-    Ok-from_Ok_iff r _ _ (rw (no_plus bs digits) at parses)
-    ((some, all), omega (arith, digits_value-lt 16 bs all, most))
+    let all = plain bs digits in
+    Ok-from_Ok_iff r _ _ (rw all.1 at parses) (
+      (some, all.0),
+      omega (arith, digits_value-lt 16 bs all.0, pow-le-pow_right {n = 16} (omega arith) few),
+    )
 
 pub returns : goal.returns
 returns c =
