@@ -78,9 +78,12 @@ done << 'SIZES'
 SIZES
 
 full() { "$program" > /dev/full; }
+closed() { "$program" >&-; }
 note 'the input is a folder' diff <(fault 1 'read failed') <(ran "$program" < /)
 note 'a closed input' diff <(fault 1 'read failed') <(ran "$program" <&-)
-note 'a full output' diff <(fault 1 'write failed') <(ran full < stdin)
+for output in full closed; do
+    note "a $output output" diff <(fault 1 'write failed') <(ran "$output" < stdin)
+done
 
 # Refuses all allocations of the program, from the one of this number on. It allocates its arguments
 # and the buffer of its input, and nothing after it has read.

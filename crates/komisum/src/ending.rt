@@ -57,7 +57,7 @@ pub enum Ending {
 
 impl Ending {
     // Returns the program's status, and its line on standard error, which is empty if there is none.
-    fn told(&self) -> (u8, &'static str)
+    fn status_and_line(&self) -> (u8, &'static str)
         ensures status { result.0 ≡ status_of self.now }
         ensures line { result.1.now ≡ line_of self.now }
     {
@@ -86,7 +86,7 @@ pub fn report<W: Write>(errors: &mut Watched<W>, ending: &Ending) -> ExitCode
         (line_of ending.now) }
     ensures silent { ending.now ≡ Ending.Shown → errors.new ≡ errors.old }
 {
-    let (status, line) = ending.told();
+    let (status, line) = ending.status_and_line();
     if !line.is_empty() {
         let _ = write_whole(errors, line.as_bytes());
     }

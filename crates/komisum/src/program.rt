@@ -7,7 +7,7 @@ ghost use Rattle.komisum.specs.Program.{EndsAsAsked, Shows};
 use crate::digest::{digest, hex_line};
 use crate::ending::{Ending, Fault, Refusal};
 use crate::settings::Version;
-use crate::watched::{Watched, flush, write_whole};
+use crate::watched::{Watched, write_whole};
 use komihash::{v4, v5};
 use std::io::{self, Read, Write};
 
@@ -42,8 +42,8 @@ pub fn show<R: Read, W: Write>(
         Version::Four => digest::<R, v4::StreamedKomihash>(reader, seed, &mut chunk, LONGEST_INPUT),
         Version::Five => digest::<R, v5::StreamedKomihash>(reader, seed, &mut chunk, LONGEST_INPUT),
     }?;
-    write_whole(writer, &hex_line(hash))?;
-    flush(writer)
+    write_whole(writer, &hex_line(hash)).map_err(|_| Fault::Write)?;
+    writer.flush().map_err(|_| Fault::Write)
 }
 
 /// Runs the program on what `main` got from its host. Returns how it ended.

@@ -1,13 +1,12 @@
 //! Readers and writers that remember whether a call through them has failed, and calls that write.
 
 ghost use Rattle.std.specs.Prelude.{◌≡◌, ◌↔◌, ◌||◌, true, false, is_err, length};
-ghost use Rattle.std.specs.Prelude.{OnOk, IfErr, IsErr};
+ghost use Rattle.std.specs.Prelude.{OnOk, IsErr};
 ghost use Rattle.std.specs.Io.{ReadsAtMost, WritesAtMost};
 ghost use Rattle.std.specs.Io.KnownBytes.{ReadConsumes, WriteAppends, Appends, Keeps};
 ghost use Rattle.komisum.specs.Watched.{AppendsPrefix, write_failed};
 
-use crate::ending::Fault;
-use std::io::{self, Read, Write};
+use std::io::{self, ErrorKind, Read, Write};
 
 /// A reader or a writer, and whether a call through it has failed.
 ///
@@ -91,38 +90,22 @@ impl<W: Write> Write for Watched<W> {
 
 /// Writes all bytes, however few of them a write accepts.
 ///
-/// Returns `Fault::Write` if a write fails or is interrupted. Some of the bytes may then have been
+/// Returns an error if a write fails or is interrupted. Some of the bytes may then have been
 /// written. The writer must not have failed before.
-pub fn write_whole<W: Write>(writer: &mut Watched<W>, bytes: &[u8]) -> Result<(), Fault>
+pub fn write_whole<W: Write>(writer: &mut Watched<W>, bytes: &[u8]) -> io::Result<()>
     requires { writer.old.failed ≡ false }
     ensures whole { OnOk result
         (Appends (W.contents writer.old.inner) (W.contents writer.new.inner) bytes.now) }
     ensures partial { AppendsPrefix (W.contents writer.old.inner) (W.contents writer.new.inner)
         bytes.now }
     ensures failed { IsErr result ↔ (writer.new.failed ≡ true) }
-    ensures fault { IfErr result (λ fault. fault ≡ Fault.Write) }
 {
     let mut written = 0;
     while written < bytes.len() {
-        match writer.write(&bytes[written..]) {
-            Ok(0) | Err(_) => return Err(Fault::Write),
-            Ok(count) => written += count,
+        match writer.write(&bytes[written..])? {
+            0 => return Err(ErrorKind::WriteZero.into()),
+            count => written += count,
         }
     }
     Ok(())
-}
-
-/// Flushes a writer. Returns `Fault::Write` if the flush fails.
-///
-/// The writer must not have failed before.
-pub fn flush<W: Write>(writer: &mut Watched<W>) -> Result<(), Fault>
-    requires { writer.old.failed ≡ false }
-    ensures kept { Keeps (W.contents writer.old.inner) (W.contents writer.new.inner) }
-    ensures failed { IsErr result ↔ (writer.new.failed ≡ true) }
-    ensures fault { IfErr result (λ fault. fault ≡ Fault.Write) }
-{
-    match writer.flush() {
-        Ok(()) => Ok(()),
-        Err(_) => Err(Fault::Write),
-    }
 }

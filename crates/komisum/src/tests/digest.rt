@@ -40,7 +40,7 @@ const ROWS: [(&[u8], u32, usize, Option<u64>); 7] = [
 fn chunks_of_every_size(rt: HostRuntime) {
     for size in [1, 7, 64, 95, 96] {
         for (bytes, most, per_read, hash) in ROWS {
-            let calls = Calls::new(per_read, 0, None);
+            let calls = Calls::endless(per_read);
             match digested(bytes, calls, most, size).0 {
                 Ok(given) => assert_eq!(rt; Some(given), hash),
                 Err(fault) => assert!(rt; matches!(fault, Fault::TooLong) && hash.is_none()),
@@ -52,10 +52,10 @@ fn chunks_of_every_size(rt: HostRuntime) {
 #[test]
 fn nothing_is_read_after_a_fault(rt: HostRuntime) {
     for error in ERRORS {
-        let (result, reads) = digested(ZERO, Calls::new(8, 2, Some(error)), 16, 96);
+        let (result, reads) = digested(ZERO, Calls::stopping(8, 2, Some(error)), 16, 96);
         assert!(rt; matches!(result, Err(Fault::Read)) && reads == 2);
     }
-    let (result, reads) = digested(BLOCK_MESSAGE, Calls::new(7, 0, None), 20, 96);
+    let (result, reads) = digested(BLOCK_MESSAGE, Calls::endless(7), 20, 96);
     assert!(rt; matches!(result, Err(Fault::TooLong)) && reads == 3);
 }
 
@@ -80,7 +80,7 @@ fn of_resumed_streams(bytes: &[u8], size: usize) -> Option<u64>
 #[test]
 fn saving_changes_nothing(rt: HostRuntime) {
     for size in [1, 7, 63, 64, 95] {
-        let calls = Calls::new(96, 0, None);
+        let calls = Calls::endless(96);
         let hash = digested(BLOCK_MESSAGE, calls, 95, size).0.ok();
         assert!(rt; hash == Some(6) && of_resumed_streams(BLOCK_MESSAGE, size) == hash);
     }

@@ -11,22 +11,28 @@ pub const ERRORS: [i32; 2] = [4, 5];
 #[derive(Drop)]
 pub struct Calls {
     most: usize,
-    stops_at: usize,
     error: Option<i32>,
+    /// The call that stops.
+    pub stops_at: usize,
     /// The number of calls so far.
     pub made: usize,
 }
 
 impl Calls {
-    /// Call number `stops_at`, if it comes, returns the error of this number, or else moves nothing.
-    /// Those after it move bytes again.
-    pub fn new(most: usize, stops_at: usize, error: Option<i32>) -> Self {
+    /// Stops at one call, which returns the error of this number, or without one moves nothing. Those
+    /// after it move bytes again.
+    pub fn stopping(most: usize, stops_at: usize, error: Option<i32>) -> Self {
         Calls {
             most,
-            stops_at,
             error,
+            stops_at,
             made: 0,
         }
+    }
+
+    /// Never stops.
+    pub fn endless(most: usize) -> Self {
+        Calls::stopping(most, 0, None)
     }
 
     // Counts a call that could move this many bytes. Returns how many it moves.

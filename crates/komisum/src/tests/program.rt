@@ -11,24 +11,27 @@ use crate::watched::Watched;
 use komihash::v5;
 use std::process::{Abort, ExitCode};
 
-// What a call of `show` left: its result, the reader and the writer.
-type Left<'a> = (Result<(), Fault>, FakeReader<'a>, FakeWriter);
-
-// Calls `show` on fakes.
-fn shown<'a>(reader: FakeReader<'a>, writer: Calls, version: Version, seed: u64) -> Left<'a> {
-    let mut reader = Watched::new(reader);
-    let mut writer = Watched::new(FakeWriter::new(writer));
+// Calls `show` on fakes. Returns its result, the number of reads and the writer.
+fn shown(
+    bytes: &[u8],
+    reads: Calls,
+    writes: Calls,
+    version: Version,
+    seed: u64,
+) -> (Result<(), Fault>, usize, FakeWriter) {
+    let mut reader = Watched::new(FakeReader::new(bytes, reads));
+    let mut writer = Watched::new(FakeWriter::new(writes));
     let result = show(&mut reader, &mut writer, version, seed);
-    (result, reader.into_inner(), writer.into_inner())
+    (result, reader.into_inner().calls.made, writer.into_inner())
 }
 
 // Shows a line and compares it. It takes reads of 4,096 bytes, one write and a flush.
 fn shows(rt: &impl Abort, bytes: &[u8], version: Version, seed: u64, line: &[u8; 17]) {
-    let reader = FakeReader::new(bytes, Calls::new(usize::MAX, 0, None));
-    let (result, reader, writer) = shown(reader, Calls::new(17, 0, None), version, seed);
+    let calls = Calls::endless(usize::MAX);
+    let (result, reads, writer) = shown(bytes, calls, Calls::endless(17), version, seed);
     assert!(rt; result.is_ok());
     assert_eq!(rt; writer.taken(), line.as_slice());
-    assert_eq!(rt; reader.calls.made, bytes.len().div_ceil(4096) + 1);
+    assert_eq!(rt; reads, bytes.len().div_ceil(4096) + 1);
     assert_eq!(rt; writer.calls.made, 2);
 }
 
@@ -57,46 +60,51 @@ fn lines(rt: HostRuntime) {
 fn reads_that_fail(rt: HostRuntime) {
     for error in ERRORS {
         for call in 1..=16usize {
-            let reader = FakeReader::new(BLOCK_MESSAGE, Calls::new(7, call, Some(error)));
-            let (result, reader, writer) = shown(reader, Calls::new(17, 0, None), Version::Five, 0);
+            let calls = Calls::stopping(7, call, Some(error));
+            let (result, reads, writer) = shown(
+                BLOCK_MESSAGE,
+                calls,
+                Calls::endless(17),
+                Version::Five,
+                0,
+            );
             if call == 16 {
                 assert!(rt; result.is_ok());
                 assert_eq!(rt; writer.taken(), b"0000000000000006\n".as_slice());
             } else {
-                assert!(rt; matches!(result, Err(Fault::Read)));
-                assert_eq!(rt; reader.calls.made, call);
+                assert!(rt; matches!(result, Err(Fault::Read)) && reads == call);
                 assert_eq!(rt; writer.calls.made, 0);
             }
         }
     }
 }
 
-// Compares what `show` writes of a line if one call of the writer, which is the last, stops.
-fn fails(rt: &impl Abort, bytes: &[u8], calls: (usize, usize, Option<i32>), written: &[u8]) {
-    let reader = FakeReader::new(bytes, Calls::new(usize::MAX, 0, None));
-    let writer = Calls::new(calls.0, calls.1, calls.2);
-    let (result, _, writer) = shown(reader, writer, Version::Five, 0);
+// Compares what `show` writes of a line if one call of the writer stops, after which none comes.
+fn fails(rt: &impl Abort, bytes: &[u8], writes: Calls, written: &[u8]) {
+    let calls = Calls::endless(usize::MAX);
+    let (result, _, writer) = shown(bytes, calls, writes, Version::Five, 0);
     assert!(rt; matches!(result, Err(Fault::Write)));
     assert_eq!(rt; writer.taken(), written);
-    assert_eq!(rt; writer.calls.made, calls.1);
+    assert_eq!(rt; writer.calls.made, writer.calls.stops_at);
 }
 
 #[test]
 fn writes_and_flushes_that_fail(rt: HostRuntime) {
     let line = hex_line(0);
-    fails(&rt, ZERO, (17, 1, None), b"");
+    fails(&rt, ZERO, Calls::stopping(17, 1, None), b"");
     for error in ERRORS {
         for call in 1..=17usize {
-            fails(&rt, ZERO, (1, call, Some(error)), &line[..call - 1]);
+            let calls = Calls::stopping(1, call, Some(error));
+            fails(&rt, ZERO, calls, &line[..call - 1]);
         }
-        fails(&rt, ZERO, (17, 2, Some(error)), &line);
-        fails(&rt, b"", (5, 2, Some(error)), b"b7683");
+        fails(&rt, ZERO, Calls::stopping(17, 2, Some(error)), &line);
+        fails(&rt, b"", Calls::stopping(5, 2, Some(error)), b"b7683");
     }
 }
 
 // Compares the line of an ending on standard error, which is one write, and the status.
 fn reports(rt: &impl Abort, ending: Ending, line: &[u8], status: u8) {
-    let mut errors = Watched::new(FakeWriter::new(Calls::new(usize::MAX, 0, None)));
+    let mut errors = Watched::new(FakeWriter::new(Calls::endless(usize::MAX)));
     assert!(rt; report(&mut errors, &ending) == ExitCode::from(status));
     let errors = errors.into_inner();
     assert_eq!(rt; errors.taken(), line);

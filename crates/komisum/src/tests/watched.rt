@@ -13,7 +13,7 @@ fn error_of(returned: Result<usize>) -> Option<i32> {
 #[test]
 fn reads(rt: HostRuntime) {
     for error in ERRORS {
-        let mut reader = Watched::new(FakeReader::new(ZERO, Calls::new(8, 3, Some(error))));
+        let mut reader = Watched::new(FakeReader::new(ZERO, Calls::stopping(8, 3, Some(error))));
         let mut bytes = [0u8; 16];
         for half in ZERO.chunks(8) {
             assert!(rt; matches!(reader.read(&mut bytes), Ok(8)));
@@ -29,7 +29,7 @@ fn reads(rt: HostRuntime) {
 #[test]
 fn writes_and_a_flush(rt: HostRuntime) {
     for error in ERRORS {
-        let mut writer = Watched::new(FakeWriter::new(Calls::new(3, 3, Some(error))));
+        let mut writer = Watched::new(FakeWriter::new(Calls::stopping(3, 3, Some(error))));
         for bytes in [b"12345", b"45678"] {
             assert!(rt; matches!(writer.write(bytes), Ok(3)));
             assert!(rt; !writer.failed());
@@ -46,7 +46,7 @@ fn writes_and_a_flush(rt: HostRuntime) {
 #[test]
 fn a_write_that_fails(rt: HostRuntime) {
     for error in ERRORS {
-        let mut writer = Watched::new(FakeWriter::new(Calls::new(3, 1, Some(error))));
+        let mut writer = Watched::new(FakeWriter::new(Calls::stopping(3, 1, Some(error))));
         assert_eq!(rt; error_of(writer.write(ZERO)), Some(error));
     }
 }

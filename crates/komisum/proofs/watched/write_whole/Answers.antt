@@ -10,9 +10,9 @@ loop-written-preserved g c =
     let bytes = c.args.bytes.now in
     let i = c.loop-written.written in
     let rest = take_rest bytes i in
-    let more = Appends-trans _ _ _ _ _ c.loop-written.invariant.bytes c.in-Ok.ensures.bytes in
+    let more = Appends-trans _ _ _ _ _ c.loop-written.invariant.bytes c.in_ok-count.ensures.bytes in
     record {
-      within = omega (arith, ap length rest, length-drop i bytes, c.in-Ok.ensures.bound);
-      bytes = rw (rest, ← take-add i c.in-Ok.count bytes) at more;
+      within = omega (arith, ap length rest, length-drop i bytes, c.in_ok-count.ensures.bound);
+      bytes = rw (rest, ← take-add i c.in_ok-count.count bytes) at more;
       sound = search rules;
     }
