@@ -1,7 +1,7 @@
 #!/usr/bin/env bash
 # Tests what no contract holds of the program that `rt ci` or `rt run` built: what `main` passes on,
-# arguments, faults of the system, and refused allocations. Needs a C compiler. Half a minute, mostly
-# to build tests.
+# arguments, faults of the system, and refused allocations. Needs a C compiler. Takes half a minute,
+# mostly to build tests.
 set -uo pipefail
 cd "$(dirname "$0")/../crates/komisum" || exit 1
 . ../../scripts/cases.sh
@@ -25,8 +25,8 @@ ran() {
 line() { printf '%s\nstatus 0\n' "$1"; }
 fault() { printf 'status %s\nkomisum: %s\n' "$1" "$2"; }
 
-# Rows of test vectors, with which every version and many seeds are arguments: prints each with the
-# hash that the program prints.
+# Prints rows of test vectors, each with the hash that the program prints for its version, seed and
+# message.
 hashed() {
     while IFS='|' read -r version seed message _; do
         printf '%s|%s|%s|%s\n' "$version" "$seed" "$message" \
@@ -39,14 +39,15 @@ note 'docs/vectors.tsv' diff "$room/vectors" <(hashed < "$room/vectors")
 # The program's name need not be UTF-8, may be long, and may be empty.
 named() { (exec -a "$1" "$program" 4 1f); }
 for name in '' $'\xff' "$long"; do
-    note "a name of ${#name} characters" diff <(line 4bde5bdc63771675) <(printf a | ran named "$name")
+    note "a name of ${#name} characters" \
+        diff <(line 4bde5bdc63771675) <(printf a | ran named "$name")
 done
 
 # Arguments that it refuses. It then leaves all of the input to `cat`.
 refuse() {
     local arguments=${*@Q}
-    note "refused: ${arguments:0:40}" \
-        diff <(fault 2 'usage: komisum [4|5 SEED]'; echo input) <({ ran "$program" "$@"; cat; } <<< input)
+    note "refused: ${arguments:0:40}" diff <(fault 2 'usage: komisum [4|5 SEED]'; echo input) \
+        <({ ran "$program" "$@"; cat; } <<< input)
 }
 refuse 5
 refuse ''

@@ -35,7 +35,7 @@ line number = map (digit_at number) (range_with_len 0 16) ++ codes "\n"
 abbrev pub hash_line : Version → ℕ → List ℕ → List ℕ
 hash_line version seed message = line (komi (number_of version) seed message)
 
--- what `show` did, from how it ended: between old and new it read, between before and after it wrote
+-- how `show` ends, which took the reader from old to new and the writer from before to after
 pub record Shows {R W : Type 0} (version : Version) (seed : ℕ) (ending : Ending)
     (remaining : R → Option (List ℕ)) (old new : Watched R)
     (contents : W → Option (List ℕ)) (before after : Watched W) : Type 0 where

@@ -56,7 +56,7 @@ pub enum Ending {
 }
 
 impl Ending {
-    // Returns the program's status, and its line on standard error, which is empty if there is none.
+    // Returns the program's status, and the line on standard error, which is empty for no message.
     fn status_and_line(&self) -> (u8, &'static str)
         ensures status { result.0 ≡ status_of self.now }
         ensures line { result.1.now ≡ line_of self.now }

@@ -3,7 +3,6 @@
 mod digest;
 mod fakes;
 mod program;
-mod settings;
 mod watched;
 
 /// The hash is 0 with seed 0, in both versions.

@@ -25,7 +25,7 @@ fn digested(bytes: &[u8], calls: Calls, most: u32, size: usize) -> (Result<u64, 
     (result, reader.into_inner().calls.made)
 }
 
-// What `digest` returns of at most this many bytes, some of which come per read. `None` is `TooLong`.
+// Messages, the most bytes accepted, and how many come per read. The hash is `None` for `TooLong`.
 const ROWS: [(&[u8], u32, usize, Option<u64>); 7] = [
     (ZERO, 16, 96, Some(0)),
     (ZERO, 15, 96, None),

@@ -19,8 +19,8 @@ pub struct Calls {
 }
 
 impl Calls {
-    /// Stops at one call, which returns the error of this number, or without one moves nothing. Those
-    /// after it move bytes again.
+    /// Stops at one call, which returns the error of this number, or without one moves nothing.
+    /// Those after it move bytes again.
     pub fn stopping(most: usize, stops_at: usize, error: Option<i32>) -> Self {
         Calls {
             most,

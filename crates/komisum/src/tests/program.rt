@@ -1,4 +1,4 @@
-//! Lines of inputs, what a fault leaves, and the lines on standard error.
+//! What arguments ask for, lines of inputs, what a fault leaves, and the lines on standard error.
 
 use super::fakes::{Calls, ERRORS, FakeReader, FakeWriter};
 use super::{BLOCK_MESSAGE, HIGH_END, ZERO};
@@ -6,10 +6,32 @@ use crate::digest::hex_line;
 use crate::ending::Ending::{self, Failed, Refused};
 use crate::ending::{Fault, Refusal, report};
 use crate::program::show;
-use crate::settings::Version;
+use crate::settings::{Version, settings};
 use crate::watched::Watched;
 use komihash::v5;
 use std::process::{Abort, ExitCode};
+
+#[test]
+fn accepted_arguments(rt: HostRuntime) {
+    assert!(rt; matches!(settings(&[]), Some((Version::Five, 0))));
+    assert!(rt; matches!(settings(&["4", "0"]), Some((Version::Four, 0))));
+    let zeros = settings(&["4", "0000000000000001"]);
+    assert!(rt; matches!(zeros, Some((Version::Four, 1))));
+    let greatest = settings(&["5", "ffffffffffffffff"]);
+    assert!(rt; matches!(greatest, Some((Version::Five, 0xffffffffffffffff))));
+}
+
+#[test]
+fn refused_arguments(rt: HostRuntime) {
+    assert!(rt; settings(&["5"]).is_none());
+    assert!(rt; settings(&["5", "0", "0"]).is_none());
+    for version in ["", "6", "55"] {
+        assert!(rt; settings(&[version, "0"]).is_none(), "version {version}");
+    }
+    for seed in ["", "FF", "g", "-1", "0x1", " 1", "00000000000000000"] {
+        assert!(rt; settings(&["5", seed]).is_none(), "seed {seed}");
+    }
+}
 
 // Calls `show` on fakes. Returns its result, the number of reads and the writer.
 fn shown(
@@ -46,13 +68,8 @@ fn lines(rt: HostRuntime) {
     let zeros = [0; 5000];
     for length in [63, 4096, 4097, 5000] {
         let bytes = &zeros[..length];
-        shows(
-            &rt,
-            bytes,
-            Version::Five,
-            0,
-            &hex_line(v5::komihash(bytes, 0)),
-        );
+        let line = hex_line(v5::komihash(bytes, 0));
+        shows(&rt, bytes, Version::Five, 0, &line);
     }
 }
 

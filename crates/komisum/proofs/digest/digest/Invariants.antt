@@ -11,7 +11,6 @@ invariant-loop-stream g l = (bytes : List ℕ) × record {
       Consumes (g.R.Read.remaining l.fn.reader.inner) (g.R.Read.remaining l.reader.inner) bytes;
   count : l.taken ≡ length bytes;
   within : l.taken ≤ l.most;
-  room : length l.chunk ≡ length l.fn.chunk;
   sound : l.reader.failed ≡ false;
 }
 
