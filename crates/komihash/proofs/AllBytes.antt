@@ -1,89 +1,106 @@
--- The bytes of words: how many, by index, and as the standard library writes them.
-use Rattle.std.proofs.Common.{◌≡◌, ℕ, zero, suc, ◌+◌, ◌*◌, ◌/◌, ◌%◌, ◌<◌, ◌≤◌, List, [], ◌∷◌, ◌++◌}
-use Rattle.std.proofs.Common.{length, take, drop, get_or, set, refl, ap, arith, ◌∙◌, sym, w64}
-use Rattle.std.proofs.lemmas.List.{drop-drop, length-append, take-append-le}
+-- The bytes of words: how many, by index, and those of words that store bytes.
+use Rattle.std.proofs.Common.{◌≡◌, ℕ, zero, suc, ◌+◌, ◌*◌, ◌/◌, ◌%◌, ◌<◌, ◌≤◌, List, [], ◌∷◌, ◌-◌}
+use Rattle.std.proofs.Common.{length, take, drop, get_or, refl, ap, arith, ◌∙◌, sym, take-add, w64}
+use Rattle.std.proofs.lemmas.List.{drop-drop, length-drop, length-take, length-take-le}
+use Rattle.std.proofs.lemmas.List.{take-append-drop, take-append-le, take_all}
+use Rattle.std.proofs.lemmas.Slice.{take-put_mid, drop-put_mid}
+use borrow.Rule.Slice.PartMut.{put_mid}
+use Rattle.std.proofs.Math.Pow.{pow_mono}
 use Rattle.std.proofs.Math.Nat.{div-div-eq-div-mul}
-use Rattle.komihash.specs.Words.{AreBytes, word_of, bytes_of, all_bytes}
-use Rattle.komihash.proofs.WordOf.{AreBytes-append}
 use Rattle.std.specs.Int.{to_le_bytes}
-use Rattle.std.specs.List.{flat_map}
-
--- a word's first bytes are those that it was made of
-pub take-bytes_of-word_of : (n : ℕ) (xs : List ℕ) → AreBytes xs
-    → take (length xs) (bytes_of n (word_of (take n xs))) ≡ take n xs
-unfolding bytes_of
-take-bytes_of-word_of zero [] h = refl
-take-bytes_of-word_of zero (x ∷ xs) h = refl
-take-bytes_of-word_of (suc n) [] h = refl
-take-bytes_of-word_of (suc n) (x ∷ xs) h =
-    let low : (x + 256 * word_of (take n xs)) % 256 ≡ x = omega (arith, h 0) in
-    let high : (x + 256 * word_of (take n xs)) / 256 ≡ word_of (take n xs) = omega (arith, h 0) in
-    rw (low, high) (ap (λ bs. x ∷ bs) (take-bytes_of-word_of n xs (λ k. h (suc k))))
-
-pub length-bytes_of : (n w : ℕ) → length (bytes_of n w) ≡ n
-unfolding bytes_of
-length-bytes_of zero w = refl
-length-bytes_of (suc n) w = ap suc (length-bytes_of n (w / 256))
+use Rattle.std.specs.Simd.Lanes.{digits_l}
+use Rattle.komihash.specs.Storage.{pending_words, whole_words}
+use Rattle.komihash.specs.Words.{AreBytes, AreWords, word_of, all_bytes}
+use Rattle.komihash.proofs.Lists.{Covers, take-append}
+use Rattle.komihash.proofs.WholeWords.{length-whole_words}
+use Rattle.komihash.proofs.WordOf.{AreBytes-drop, AreBytes-take, word_of-lt}
 
 pub length-all_bytes : (ws : List ℕ) → length (all_bytes ws) ≡ 8 * length ws
 length-all_bytes [] = refl
-length-all_bytes (w ∷ ws) =
-    omega (
-      arith,
-      length-append (bytes_of 8 w) (all_bytes ws),
-      length-bytes_of 8 w,
-      length-all_bytes ws,
-    )
-
-AreBytes-bytes_of : (n w : ℕ) → AreBytes (bytes_of n w)
-unfolding bytes_of
-AreBytes-bytes_of zero w k = omega arith
-AreBytes-bytes_of (suc n) w zero = omega arith
-AreBytes-bytes_of (suc n) w (suc k) = AreBytes-bytes_of n (w / 256) k
+length-all_bytes (w ∷ ws) = omega (arith, length-all_bytes ws)
 
 pub AreBytes-all_bytes : (ws : List ℕ) → AreBytes (all_bytes ws)
 AreBytes-all_bytes [] k = omega arith
-AreBytes-all_bytes (w ∷ ws) k =
-    AreBytes-append (bytes_of 8 w) (all_bytes ws) (AreBytes-bytes_of 8 w) (AreBytes-all_bytes ws) k
-
-drop-all_bytes : (ws : List ℕ) (i : ℕ) → i < length ws
-    → drop (8 * i) (all_bytes ws) ≡ bytes_of 8 (get_or ws i 0) ++ drop (8 * suc i) (all_bytes ws)
-unfolding bytes_of
-drop-all_bytes [] i lt = absurd (omega arith)
-drop-all_bytes (w ∷ ws) zero lt = refl
-drop-all_bytes (w ∷ ws) (suc i) lt =
-    let here : 8 * suc i ≡ 8 + 8 * i = omega arith in
-    let next : 8 * suc (suc i) ≡ 8 + 8 * suc i = omega arith in
-    rw (
-      here,
-      next,
-      ← drop-drop (8 * i) 8 (all_bytes (w ∷ ws)),
-      ← drop-drop (8 * suc i) 8 (all_bytes (w ∷ ws)),
-    )
-    (drop-all_bytes ws i (omega arith))
+AreBytes-all_bytes (w ∷ ws) (suc (suc (suc (suc (suc (suc (suc (suc k)))))))) =
+    AreBytes-all_bytes ws k
+AreBytes-all_bytes (w ∷ ws) k = omega arith
 
 -- the first bytes of the word at an index
 pub take-all_bytes : (ws : List ℕ) (i over : ℕ) → i < length ws → over ≤ 8
-    → take over (drop (8 * i) (all_bytes ws)) ≡ take over (bytes_of 8 (get_or ws i 0))
-take-all_bytes ws i over lt le =
-    ap (take over) (drop-all_bytes ws i lt)
-    ∙ take-append-le over (bytes_of 8 (get_or ws i 0)) _
-    (omega (arith, length-bytes_of 8 (get_or ws i 0)))
+    → take over (drop (8 * i) (all_bytes ws)) ≡ take over (to_le_bytes w64 (get_or ws i 0))
+take-all_bytes [] i over lt le = absurd (omega arith)
+take-all_bytes (w ∷ ws) zero over lt le = take-append-le over (to_le_bytes w64 w) (all_bytes ws) le
+take-all_bytes (w ∷ ws) (suc i) over lt le =
+    let next : 8 * suc i ≡ 8 + 8 * i = omega arith in
+    rw (next, ← drop-drop (8 * i) 8 (all_bytes (w ∷ ws)))
+    (take-all_bytes ws i over (omega arith) le)
 
--- a word's bytes, as the standard library writes them
-pub to_le_bytes-word : (w : ℕ) → to_le_bytes w64 w ≡ bytes_of 8 w
-unfolding bytes_of
-to_le_bytes-word w = sym (simp div-div-eq-div-mul)
+-- one more word is written: its lowest j bytes
+pub Covers-more : (ws out new old : List ℕ) (i j k n : ℕ) → Covers (8 * i) out (all_bytes ws) old
+    → new ≡ take j (to_le_bytes w64 (get_or ws i 0)) → i < length ws → j ≤ 8 → 8 * i + j ≡ n
+    → 8 * i + k ≡ n → n ≤ length out
+    → Covers n (put_mid (8 * i) k out new) (all_bytes ws) old
+Covers-more ws out new old i j k n so is lt le sum room fits =
+    let bytes = is ∙ sym (take-all_bytes ws i j lt le) in
+    let size : length new ≡ j = ap length is ∙ length-take-le j _ le in
+    record {
+      front = take-put_mid (8 * i) k out new n (omega arith) (omega arith)
+          ∙ rw (so.front, bytes, ← take-add (8 * i) j (all_bytes ws), sum) refl;
+      others = drop-put_mid (8 * i) k out new n (omega arith) (omega arith) (omega arith)
+          ∙ rw (← room, ← drop-drop k (8 * i) out, so.others) (drop-drop k (8 * i) old);
+    }
 
-pub all_bytes-flat : (ws : List ℕ) → flat_map (λ w. to_le_bytes w64 w) ws ≡ all_bytes ws
-all_bytes-flat [] = refl
-all_bytes-flat (w ∷ ws) =
-    ap (λ bs. bs ++ flat_map (λ v. to_le_bytes w64 v) ws) (to_le_bytes-word w)
-    ∙ ap (λ bs. bytes_of 8 w ++ bs) (all_bytes-flat ws)
+-- a word's first digits are the bytes that it was made of
+digits-word_of : (n : ℕ) (xs : List ℕ) → AreBytes xs
+    → take (length xs) (digits_l 256 n (word_of (take n xs))) ≡ take n xs
+digits-word_of zero [] are = refl
+digits-word_of zero (x ∷ xs) are = refl
+digits-word_of (suc n) [] are = refl
+digits-word_of (suc n) (x ∷ xs) are =
+    let low : (x + 256 * word_of (take n xs)) % 256 ≡ x = omega (arith, are 0) in
+    let high : (x + 256 * word_of (take n xs)) / 256 ≡ word_of (take n xs) = omega (arith, are 0) in
+    rw (low, high) (ap (λ bs. x ∷ bs) (digits-word_of n xs (λ k. are (suc k))))
 
-pub one_byte : (out : List ℕ) (w : ℕ) → length out ≡ 1
-    → set out 0 (w % 256) ≡ take (length out) (bytes_of 8 w)
-unfolding bytes_of
-one_byte [] w one = absurd (omega arith)
-one_byte (x ∷ []) w one = refl
-one_byte (x ∷ y ∷ out) w one = absurd (omega arith)
+take-word_of : (xs : List ℕ) → AreBytes xs
+    → take (length xs) (to_le_bytes w64 (word_of (take 8 xs))) ≡ take 8 xs
+take-word_of xs are =
+    ap (take (length xs)) (sym (simp div-div-eq-div-mul)) ∙ digits-word_of 8 xs are
+
+-- the words that store bytes have these bytes
+pub bytes-pending_words : (n : ℕ) (xs : List ℕ) → AreBytes xs → length xs ≤ 8 * n
+    → take (length xs) (all_bytes (pending_words n xs)) ≡ xs
+unfolding pending_words
+bytes-pending_words zero [] are le = refl
+bytes-pending_words zero (x ∷ xs) are le = absurd (omega arith)
+bytes-pending_words (suc n) xs are le =
+    let rest : length xs - 8 ≡ length (drop 8 xs) = omega (arith, length-drop 8 xs) in
+    take-append (length xs) (to_le_bytes w64 (word_of (take 8 xs))) _
+    ∙ rw (
+      take-word_of xs are,
+      rest,
+      bytes-pending_words n (drop 8 xs) (AreBytes-drop 8 xs are) (omega (arith, length-drop 8 xs)),
+    )
+    (take-append-drop 8 xs)
+
+pub all_bytes-whole_words : (xs : List ℕ) → AreBytes xs → length xs % 8 ≡ 0
+    → all_bytes (whole_words xs) ≡ xs
+all_bytes-whole_words xs are whole =
+    let size = length-all_bytes (whole_words xs) ∙ ap (λ n. 8 * n) (length-whole_words xs) in
+    sym (take_all (length xs) (all_bytes (whole_words xs)) (omega arith))
+    ∙ bytes-pending_words (length xs / 8) xs are (omega arith)
+
+pub AreWords-pending_words : (n : ℕ) (xs : List ℕ) → AreBytes xs → AreWords (pending_words n xs)
+unfolding pending_words
+AreWords-pending_words zero xs are = tt
+AreWords-pending_words (suc n) xs are =
+    let size : 8 * length (take 8 xs) ≤ 64 = omega (arith, length-take 8 xs) in (
+      omega (arith, word_of-lt (take 8 xs) (AreBytes-take 8 xs are), pow_mono {j = 64} size),
+      AreWords-pending_words n (drop 8 xs) (AreBytes-drop 8 xs are),
+    )
+
+pub pending_words-all_bytes : (ws : List ℕ) → AreWords ws
+    → pending_words (length ws) (all_bytes ws) ≡ ws
+unfolding pending_words
+pending_words-all_bytes [] fit = refl
+pending_words-all_bytes (w ∷ ws) fit =
+    rw (pending_words-all_bytes ws fit.1) (ap (λ u. u ∷ ws) (omega (arith, fit.0)))

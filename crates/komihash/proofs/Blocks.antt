@@ -1,9 +1,10 @@
 -- Whole blocks of a message: the lanes after them, and the bytes after them.
-use Rattle.std.proofs.Common.{◌≡◌, ℕ, ◌+◌, ◌-◌, ◌%◌, ◌<◌, ◌≤◌}
-use Rattle.std.proofs.Common.{List, [], ◌∷◌, ◌++◌, length, take, drop, refl, ap, arith, ◌∙◌, sym}
+use Rattle.std.proofs.Common.{◌≡◌, ℕ, ◌+◌, ◌-◌, ◌*◌, ◌/◌, ◌%◌, ◌<◌, ◌≤◌, List, [], ◌∷◌, ◌++◌}
+use Rattle.std.proofs.Common.{length, take, drop, refl, ap, arith, ◌∙◌, sym}
 use Rattle.std.proofs.lemmas.List.{length-drop, length-take-le, take-append-drop, drop-drop}
+use Rattle.std.proofs.lemmas.List.{drop_at}
 use Rattle.komihash.specs.Rounds.{Lanes, block_round}
-use Rattle.komihash.specs.Storage.{whole_words, block_lanes, after_blocks}
+use Rattle.komihash.specs.Storage.{whole_words, after_words, block_lanes, after_blocks}
 use Rattle.komihash.proofs.WholeWords.{whole_words-append, length-whole_words}
 
 -- ---- the lanes
@@ -52,3 +53,29 @@ after_blocks_more xs le =
 
 pub length-after_blocks : (m : List ℕ) → length (after_blocks m) ≡ length m % 64
 length-after_blocks m = omega (arith, length-drop (length m - length m % 64) m)
+
+-- ---- the words after them, and the bytes after their last word
+
+pub after_words-after_blocks : (m : List ℕ) → after_words (after_blocks m) ≡ after_words m
+after_words-after_blocks m =
+    let n = length m - length m % 64 in
+    drop-drop (8 * (length (after_blocks m) / 8)) n m
+    ∙ ap (λ k. drop k m) (omega (arith, length-after_blocks m))
+
+pub after_words-whole_words : (m : List ℕ) → after_words (whole_words m) ≡ whole_words (after_blocks m)
+after_words-whole_words m =
+    let n = length m - length m % 64 in
+    let front = take n m in
+    let size : length front ≡ 8 * (8 * (length m / 64)) =
+    length-take-le n m (omega arith) ∙ omega arith in
+    let count : 8 * (length (whole_words m) / 8) ≡ length (whole_words front) =
+    omega (arith, length-whole_words m, length-whole_words front) in
+    rw count
+    (ap (λ ws. drop (length (whole_words front)) ws)
+    (ap whole_words (sym (take-append-drop n m)) ∙ whole_words-append front (after_blocks m) _ size)
+    ∙ drop_at (whole_words front) (whole_words (after_blocks m)) _ refl)
+
+-- what absorbing one block needs, and what it needs that no block is left
+pub ruleset one_block = (block_lanes_more, after_blocks_more)
+
+pub ruleset no_block = (after_blocks_few, length-after_blocks)

@@ -1,16 +1,17 @@
 -- What the generator's outputs fill a buffer with: their bytes, one output after the other.
-use Rattle.std.proofs.Common.{◌≡◌, ℕ, zero, suc, ◌+◌, ◌*◌, ◌%◌, ◌<◌, ◌≤◌, List, [], ◌∷◌, ◌++◌}
-use Rattle.std.proofs.Common.{length, take, refl, ap, arith, ◌∙◌, sym, zero-add, suc-add}
-use Rattle.std.proofs.lemmas.List.{append_assoc, append-nil, length-take-le, take_all}
+use Rattle.std.proofs.Common.{◌≡◌, ℕ, zero, suc, ◌+◌, ◌*◌, ◌%◌, ◌<◌, ◌≤◌, List, ◌∷◌, ◌++◌, length}
+use Rattle.std.proofs.Common.{take, refl, ap, arith, ◌∙◌, zero-add, suc-add}
+use Rattle.std.proofs.lemmas.List.{length-take-le, take_all}
+use Rattle.std.proofs.lemmas.List.Concat.{flat_map-append}
 use Rattle.std.proofs.lemmas.Slice.{take-put_mid}
-use Rattle.std.proofs.Math.Seq.{take-append-add, take-length}
+use Rattle.std.proofs.Math.Seq.{take-append-add}
 use Rattle.std.specs.Int.{to_le_bytes, w64}
 use Rattle.std.specs.List.{flat_map}
 use Rattle.std.specs.Prelude.{slice_index}
 use borrow.Rule.Slice.PartMut.{put_mid}
 use Rattle.komihash.specs.Generator.{next, after_steps, outputs, fill_steps, fill, after_fill}
-use Rattle.komihash.specs.Words.{bytes_of, all_bytes}
-use Rattle.komihash.proofs.AllBytes.{all_bytes-flat}
+use Rattle.komihash.specs.Words.{all_bytes}
+use Rattle.komihash.proofs.AllBytes.{length-all_bytes}
 
 -- ---- steps in two parts
 
@@ -26,25 +27,6 @@ unfolding after_steps outputs
 outputs-add v zero n s = rw zero-add refl
 outputs-add v (suc m) n s = rw suc-add (ap (λ ws. (next v s).0 ∷ ws) (outputs-add v m n (next v s)))
 
--- ---- steps one by one
-
-pub after_steps-none : (v : ℕ) (s : ℕ × ℕ) → after_steps v 0 s ≡ s
-unfolding after_steps
-after_steps-none v s = refl
-
-pub outputs-none : (v : ℕ) (s : ℕ × ℕ) → outputs v 0 s ≡ []
-unfolding outputs
-outputs-none v s = refl
-
-pub after_steps-one : (v n : ℕ) (s : ℕ × ℕ) → after_steps v (n + 1) s ≡ next v (after_steps v n s)
-unfolding after_steps
-after_steps-one v n s = after_steps-add v n 1 s
-
-pub outputs-one : (v n : ℕ) (s : ℕ × ℕ)
-    → outputs v (n + 1) s ≡ outputs v n s ++ (next v (after_steps v n s)).0 ∷ []
-unfolding outputs
-outputs-one v n s = outputs-add v n 1 s
-
 -- ---- each output
 
 pub length-outputs : (v n : ℕ) (s : ℕ × ℕ) → length (outputs v n s) ≡ n
@@ -59,27 +41,13 @@ output-at v zero k s lt = absurd (omega arith)
 output-at v (suc n) zero s lt = refl
 output-at v (suc n) (suc k) s lt = output-at v n k (next v s) (omega arith)
 
--- the bytes of n outputs
-abbrev output_bytes : ℕ → ℕ → ℕ × ℕ → List ℕ
-output_bytes v n s = all_bytes (outputs v n s)
-
-output_bytes-add : (v m n : ℕ) (s : ℕ × ℕ)
-    → output_bytes v (m + n) s ≡ output_bytes v m s ++ output_bytes v n (after_steps v m s)
-unfolding after_steps outputs
-output_bytes-add v zero n s = rw zero-add refl
-output_bytes-add v (suc m) n s =
-    rw (suc-add, output_bytes-add v m n (next v s))
-    (sym (append_assoc (bytes_of 8 (next v s).0) _ _))
-
-length-output_bytes : (v n : ℕ) (s : ℕ × ℕ) → length (output_bytes v n s) ≡ 8 * n
-unfolding outputs bytes_of
-length-output_bytes v zero s = refl
-length-output_bytes v (suc n) s = omega (arith, length-output_bytes v n (next v s))
+length-bytes : (v n : ℕ) (s : ℕ × ℕ) → length (all_bytes (outputs v n s)) ≡ 8 * n
+length-bytes v n s = length-all_bytes (outputs v n s) ∙ ap (λ k. 8 * k) (length-outputs v n s)
 
 -- ---- fills in two parts, the first of whole words
 
 pub length-fill : (v n : ℕ) (s : ℕ × ℕ) → length (fill v s n) ≡ n
-length-fill v n s = length-take-le n _ (omega (arith, length-output_bytes v (fill_steps n) s))
+length-fill v n s = length-take-le n _ (omega (arith, length-bytes v (fill_steps n) s))
 
 fill_steps-add : (x y : ℕ) → x % 8 ≡ 0 → fill_steps (x + y) ≡ fill_steps x + fill_steps y
 fill_steps-add x y whole = omega arith
@@ -87,40 +55,31 @@ fill_steps-add x y whole = omega arith
 pub after_fill-add : (v x y : ℕ) (s : ℕ × ℕ) → x % 8 ≡ 0
     → after_fill v s (x + y) ≡ after_fill v (after_fill v s x) y
 after_fill-add v x y s whole =
-    ap (λ k. after_steps v k s) (fill_steps-add x y whole)
-    ∙ after_steps-add v (fill_steps x) (fill_steps y) s
-
-pub fill-add : (v x y : ℕ) (s : ℕ × ℕ) → x % 8 ≡ 0
-    → fill v s (x + y) ≡ fill v s x ++ fill v (after_fill v s x) y
-fill-add v x y s whole =
-    let front = output_bytes v (fill_steps x) s in
-    let back = output_bytes v (fill_steps y) (after_fill v s x) in
-    let size : length front ≡ x = omega (arith, length-output_bytes v (fill_steps x) s) in
-    let cut : take (length front + y) (front ++ back) ≡ take (length front) front ++ take y back =
-    take-append-add front back y ∙ ap (λ bs. bs ++ take y back) (sym (take-length front)) in
-    let bytes = output_bytes-add v (fill_steps x) (fill_steps y) s in
-    rw (fill_steps-add x y whole, bytes) (rw size at cut)
+    rw (fill_steps-add x y whole) (after_steps-add v (fill_steps x) (fill_steps y) s)
 
 -- a fill of whole words is the bytes of as many outputs
 pub fill-whole : (v n : ℕ) (s : ℕ × ℕ)
     → fill v s (8 * n) ≡ flat_map (λ output. to_le_bytes w64 output) (outputs v n s)
 fill-whole v n s =
     let steps : fill_steps (8 * n) ≡ n = omega arith in
-    ap (λ k. take (8 * n) (output_bytes v k s)) steps
-    ∙ take_all (8 * n) (output_bytes v n s) (omega (arith, length-output_bytes v n s))
-    ∙ sym (all_bytes-flat (outputs v n s))
+    rw steps (take_all (8 * n) _ (omega (arith, length-bytes v n s)))
 
 pub after_fill-whole : (v n : ℕ) (s : ℕ × ℕ) → after_fill v s (8 * n) ≡ after_steps v n s
 after_fill-whole v n s = ap (λ k. after_steps v k s) (omega arith)
 
--- a fill of one to eight bytes takes one step
-fill-one : (v n : ℕ) (s : ℕ × ℕ) → fill_steps n ≡ 1 → fill v s n ≡ take n (bytes_of 8 (next v s).0)
-unfolding outputs
-fill-one v n s one = ap (λ k. take n (output_bytes v k s)) one ∙ ap (take n) (append-nil _)
-
-after_fill-one : (v n : ℕ) (s : ℕ × ℕ) → fill_steps n ≡ 1 → after_fill v s n ≡ next v s
-unfolding after_steps
-after_fill-one v n s one = ap (λ k. after_steps v k s) one
+pub fill-add : (v x y : ℕ) (s : ℕ × ℕ) → x % 8 ≡ 0
+    → fill v s (x + y) ≡ fill v s x ++ fill v (after_fill v s x) y
+fill-add v x y s whole =
+    let now = after_fill v s x in
+    let front = all_bytes (outputs v (fill_steps x) s) in
+    let size : length front ≡ x = omega (arith, length-bytes v (fill_steps x) s) in
+    rw (
+      fill_steps-add x y whole,
+      outputs-add v (fill_steps x) (fill_steps y) s,
+      flat_map-append (to_le_bytes w64) (outputs v (fill_steps x) s) (outputs v (fill_steps y) now),
+      take_all x front (omega arith),
+    )
+    (rw size at (take-append-add front (all_bytes (outputs v (fill_steps y) now)) y))
 
 -- ---- a buffer that is filled word by word
 
@@ -131,17 +90,16 @@ pub record Filled (v : ℕ) (s : ℕ × ℕ) (n : ℕ) (xs : List ℕ) (now : �
 
 -- one more output is written: all its bytes, or the lowest of them
 pub Filled-more : {v n w : ℕ} {s now after : ℕ × ℕ} {xs ys : List ℕ} (j k m : ℕ)
-    → Filled v s n xs now → w ≡ (next v now).0 → after ≡ next v now → ys ≡ take k (bytes_of 8 w)
+    → Filled v s n xs now → w ≡ (next v now).0 → after ≡ next v now
+    → ys ≡ take k (to_le_bytes w64 w)
     → n % 8 ≡ 0 → fill_steps k ≡ 1 → n ≤ length xs → n + k ≡ m
     → Filled v s m (put_mid n j xs ys) after
-unfolding bytes_of
+unfolding outputs after_steps
 Filled-more {v} {n} {w} {s} {now} j k m filled output is wrote whole one fits sum =
-    let size = ap length wrote ∙ length-take-le k (bytes_of 8 w) (omega arith) in
-    let pair = sym filled.pair in
+    let size = ap length wrote ∙ length-take-le k (to_le_bytes w64 w) (omega arith) in
     rw (← sum) record {
       bytes =
           take-put_mid n j _ _ (n + k) (omega arith) fits
-          ∙ rw (filled.bytes, fill-add v n k s whole, pair, fill-one v k now one, wrote, output)
-          refl;
-      pair = rw (after_fill-add v n k s whole, pair, after_fill-one v k now one) is;
+          ∙ rw (filled.bytes, wrote, output, fill-add v n k s whole, ← filled.pair, one) refl;
+      pair = rw (after_fill-add v n k s whole, ← filled.pair, one) is;
     }

@@ -4,8 +4,6 @@ use Rattle.std.proofs.lemmas.List.Sums.{fold-append}
 use Rattle.komihash.proofs.CallLists.{answers_after-append, bytes_of_calls-append}
 use Rattle.komihash.proofs.CallLists.{run_products-pieces, HasAbsorbed-pending}
 use Rattle.komihash.proofs.GeneratorFills.{after_steps-add, outputs-add, fill-add, after_fill-add}
-use Rattle.komihash.proofs.GeneratorFills.{after_steps-none, outputs-none, after_steps-one}
-use Rattle.komihash.proofs.GeneratorFills.{outputs-one}
 use Rattle.komihash.proofs.GeneratorFills.{length-outputs, output-at, fill-whole, after_fill-whole}
 use Rattle.komihash.proofs.Unpadding.{same_message}
 use Rattle.komihash.proofs.SavedTexts.{same_version, same_state, IsTextAfter-most}
@@ -27,8 +25,7 @@ pub ruleset of_calls = (answers_after-append, bytes_of_calls-append, run_product
 
 pub ruleset of_texts_and_words = (same_version, same_state, IsTextAfter-most, same_message)
 
-pub ruleset of_steps =
-    (after_steps-none, outputs-none, after_steps-one, outputs-one, after_steps-add, outputs-add)
+pub ruleset of_steps = (after_steps-add, outputs-add)
 
 pub ruleset of_outputs =
     (length-outputs, output-at, fill-add, after_fill-add, fill-whole, after_fill-whole)

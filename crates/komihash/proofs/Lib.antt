@@ -8,9 +8,9 @@ mod Lists
 mod PaddedWords
 mod PendingBytes
 pub mod Propositions
-mod Raised
 mod SavedTexts
 mod Streams
+mod TallyProofs
 mod Unpadding
 mod WholeWords
 mod WordOf

@@ -1,31 +1,16 @@
 -- Pending bytes, and the eight words that store them.
-use Rattle.std.proofs.Common.{◌≡◌, ℕ, zero, suc, ◌+◌, ◌-◌, ◌*◌, ◌<◌, ◌≤◌, List, [], ◌∷◌, ◌++◌, Fits}
+use Rattle.std.proofs.Common.{◌≡◌, ℕ, ◌+◌, ◌*◌, ◌<◌, ◌≤◌, List, [], ◌∷◌, ◌++◌, Fits}
 use Rattle.std.proofs.Common.{length, take, drop, get_or, set, refl, ap, arith, ◌∙◌, w8}
-use Rattle.std.proofs.Common.{length-append, length-drop, take-append-drop}
+use Rattle.std.proofs.Common.{length-append}
 use Rattle.std.proofs.lemmas.Bool.{cases_eq}
 use Rattle.std.proofs.lemmas.Grind.{elements}
-use Rattle.std.proofs.lemmas.List.{nil_from_length}
 use Rattle.std.proofs.Math.Seq.{drop-append-add}
 use Rattle.komihash.specs.Storage.{pending_words, pending_bytes, ArePending, Stores, StoresBut}
 use Rattle.komihash.specs.Storage.{whole_words, word_at}
-use Rattle.komihash.specs.Words.{AreBytes, word_of, all_bytes}
-use Rattle.komihash.proofs.AllBytes.{AreBytes-all_bytes, take-bytes_of-word_of, length-bytes_of}
-use Rattle.komihash.proofs.Lists.{take-append}
-use Rattle.komihash.proofs.WholeWords.{length-pending_words, get_or-pending_words}
-use Rattle.komihash.proofs.WholeWords.{pending_words-whole, read_words}
+use Rattle.komihash.specs.Words.{AreBytes, word_of}
+use Rattle.komihash.proofs.AllBytes.{AreBytes-all_bytes, bytes-pending_words}
+use Rattle.komihash.proofs.WholeWords.{length-pending_words, get_or-pending_words, read_words}
 use Rattle.komihash.proofs.WordOf.{AreBytes-append, AreBytes-take, AreBytes-drop, AreBytes-typed}
-
--- the words hold the bytes that they were made of
-bytes-pending_words : (n : ℕ) (xs : List ℕ) → AreBytes xs → length xs ≤ 8 * n
-    → take (length xs) (all_bytes (pending_words n xs)) ≡ xs
-unfolding pending_words
-bytes-pending_words zero xs are le = rw (nil_from_length xs (omega arith)) refl
-bytes-pending_words (suc n) xs are le =
-    let size = length-drop 8 xs in
-    let left : length xs - 8 ≡ length (drop 8 xs) = omega arith in
-    let rest = bytes-pending_words n (drop 8 xs) (AreBytes-drop 8 xs are) (omega arith) in
-    let first = take-bytes_of-word_of 8 xs are in
-    rw (take-append, length-bytes_of, first, left, rest) (take-append-drop 8 xs)
 
 -- ---- words that are stored one by one, some of them out of order or twice
 
@@ -75,7 +60,7 @@ module _ {ws : List ℕ} {fill : ℕ} (are : ArePending ws fill) where
 
     -- as many as fill a block
     pub words_put : fill + length bytes ≡ 64 → new ≡ whole_words (stored ++ bytes)
-    words_put full = is ∙ pending_words-whole 8 (stored ++ bytes) (length_put ∙ full)
+    words_put full = is ∙ ap (λ n. pending_words n (stored ++ bytes)) (omega (arith, length_put))
 
   -- the word at a place
   pub get_or_pending : (i : ℕ) → i < 8 → get_or ws i 0 ≡ word_at stored i

@@ -1,24 +1,24 @@
 -- The saved text: its state can be read back from it, and which bytes are a text.
-use Rattle.std.proofs.Common.{◌≡◌, ℕ, zero, suc, ◌+◌, ◌-◌, ◌*◌, ◌^◌, ◌<◌, ◌≤◌, ◌↔◌, Bool, List, []}
+use Rattle.std.proofs.Common.{◌≡◌, ℕ, ◌+◌, ◌-◌, ◌/◌, ◌<◌, ◌≤◌, ◌↔◌, Bool, List, []}
 use Rattle.std.proofs.Common.{◌∷◌, ◌++◌, length, take, drop, get_or, refl, ap, arith, ◌∙◌, sym}
 use Rattle.std.proofs.Common.{subst, Fits, w8, Some, None, rules}
 use Rattle.std.proofs.lemmas.Bool.{false≢true}
 use Rattle.std.proofs.lemmas.Bool.Decides.{nat_tests}
-use Rattle.std.proofs.lemmas.List.{append-nil, length-drop, length-take-le}
+use Rattle.std.proofs.lemmas.List.{length-take, length-drop, length-take-le}
 use Rattle.std.proofs.lemmas.List.{take-append-drop, take_at, drop_at, take_all}
 use Rattle.std.proofs.lemmas.Slice.{take-put_mid, drop-put_mid}
 use borrow.Rule.Slice.PartMut.{put_mid}
 use Rattle.std.specs.Prelude.{slice_index, ◌==◌}
-use Rattle.komihash.specs.Rounds.{Lanes}
-use Rattle.komihash.specs.Saved.{flag_byte, in_order, text, IsText, IsTextAfter, Restored}
-use Rattle.komihash.specs.Stream.{AreWords, State, IsState, HasAbsorbed}
-use Rattle.komihash.specs.Storage.{whole_words}
-use Rattle.komihash.specs.Words.{AreBytes, all_bytes, bytes_of}
+use Rattle.komihash.specs.Rounds.{Lanes, in_order}
+use Rattle.komihash.specs.Saved.{flag_byte, text, IsText, IsTextAfter, Restored}
+use Rattle.komihash.specs.Stream.{State, IsState, HasAbsorbed}
+use Rattle.komihash.specs.Storage.{pending_words, whole_words}
+use Rattle.komihash.specs.Words.{AreBytes, AreWords, all_bytes}
 use Rattle.komihash.specs.Storage.{xor_again}
 use Rattle.komihash.proofs.WholeWords.{length-whole_words}
-use Rattle.komihash.proofs.AllBytes.{length-all_bytes}
-use Rattle.komihash.proofs.Unpadding.{bytes_of-word_of_append, whole_words-all_bytes}
-use Rattle.komihash.proofs.WordOf.{AreBytes-typed, AreBytes-take, AreBytes-drop, word_of-lt}
+use Rattle.komihash.proofs.AllBytes.{length-all_bytes, pending_words-all_bytes, all_bytes-whole_words}
+use Rattle.komihash.proofs.AllBytes.{AreWords-pending_words}
+use Rattle.komihash.proofs.WordOf.{AreBytes-typed, AreBytes-take, AreBytes-drop}
 
 -- ---- the parts of a text
 
@@ -57,27 +57,17 @@ state_of bytes = record {
   top_bit = slice_index bytes 2 == 1;
 }
 
-in_order-words : (s : Lanes) → AreWords s → (k : ℕ) → get_or (in_order s) k 0 < 2 ^ 64
-in_order-words s are zero = are.s1
-in_order-words s are (suc zero) = are.s2
-in_order-words s are (suc (suc zero)) = are.s3
-in_order-words s are (suc (suc (suc zero))) = are.s4
-in_order-words s are (suc (suc (suc (suc zero)))) = are.s5
-in_order-words s are (suc (suc (suc (suc (suc zero))))) = are.s6
-in_order-words s are (suc (suc (suc (suc (suc (suc zero)))))) = are.s7
-in_order-words s are (suc (suc (suc (suc (suc (suc (suc zero))))))) = are.s8
-in_order-words s are (suc (suc (suc (suc (suc (suc (suc (suc k)))))))) = omega arith
-
 flag_byte-back : (flag : Bool) → (flag_byte flag == 1) ≡ flag
 flag_byte-back flag = grind (arith, nat_tests)
 
-state_of-text : (v : ℕ) (s : State) → AreWords s.lanes → state_of (text v s) ≡ s
+state_of-text : (v : ℕ) (s : State) → AreWords (in_order s.lanes) → state_of (text v s) ≡ s
 unfolding text
 state_of-text v s are =
     let lanes = all_bytes (in_order s.lanes) in
     let size : length lanes ≡ 64 = length-all_bytes (in_order s.lanes) in
-    let words = rw (append-nil lanes) at
-    (whole_words-all_bytes (in_order s.lanes) [] (in_order-words s.lanes are) (omega arith)) in
+    let words : whole_words lanes ≡ in_order s.lanes =
+    ap (λ n. pending_words (n / 8) lanes) size
+    ∙ pending_words-all_bytes (in_order s.lanes) are in
     rw (
       take_at lanes s.pending 64 size,
       drop_at lanes s.pending 64 size,
@@ -87,7 +77,7 @@ state_of-text v s are =
     )
 
 pub length-text : (v : ℕ) (s : State) → length (text v s) ≡ 68 + length s.pending
-unfolding text bytes_of
+unfolding text
 length-text v s = omega arith
 
 pub IsTextAfter-most : (v seed : ℕ) (m bytes : List ℕ) → IsTextAfter v seed m bytes
@@ -102,7 +92,7 @@ module _ (v w : ℕ) (s t : State) (same : text v s ≡ text w t) where
   unfolding text
   same_version = cc
 
-  pub same_state : AreWords s.lanes → AreWords t.lanes → s ≡ t
+  pub same_state : AreWords (in_order s.lanes) → AreWords (in_order t.lanes) → s ≡ t
   same_state first second = sym (state_of-text v s first) ∙ ap state_of same
       ∙ state_of-text w t second
 
@@ -114,26 +104,6 @@ in_order-back ws eight = absurd (omega arith)
 
 -- what the proof of `from_order` needs
 pub ruleset lanes_back = (in_order-back, xor_again)
-
--- the bytes of whole words
-all_bytes-whole_words : (k : ℕ) (xs : List ℕ) → AreBytes xs → length xs ≡ 8 * k
-    → all_bytes (whole_words xs) ≡ xs
-all_bytes-whole_words k [] are size = refl
-all_bytes-whole_words k (a ∷ b ∷ c ∷ d ∷ e ∷ f ∷ g ∷ h ∷ xs) are size =
-    let eight = a ∷ b ∷ c ∷ d ∷ e ∷ f ∷ g ∷ h ∷ [] in
-    ap (λ bs. bs ++ all_bytes (whole_words xs))
-    (bytes_of-word_of_append eight [] (AreBytes-take 8 (eight ++ xs) are))
-    ∙ ap (λ bs. eight ++ bs)
-    (all_bytes-whole_words (k - 1) xs (AreBytes-drop 8 (eight ++ xs) are) (omega arith))
-all_bytes-whole_words k xs are size = absurd (omega arith)
-
-whole_words-lt : (xs : List ℕ) → AreBytes xs → (i : ℕ) → slice_index (whole_words xs) i < 2 ^ 64
-whole_words-lt (a ∷ b ∷ c ∷ d ∷ e ∷ f ∷ g ∷ h ∷ xs) are zero =
-    word_of-lt (a ∷ b ∷ c ∷ d ∷ e ∷ f ∷ g ∷ h ∷ [])
-    (AreBytes-take 8 (a ∷ b ∷ c ∷ d ∷ e ∷ f ∷ g ∷ h ∷ xs) are)
-whole_words-lt (a ∷ b ∷ c ∷ d ∷ e ∷ f ∷ g ∷ h ∷ xs) are (suc i) =
-    whole_words-lt xs (AreBytes-drop 8 (a ∷ b ∷ c ∷ d ∷ e ∷ f ∷ g ∷ h ∷ xs) are) i
-whole_words-lt xs are i = omega arith
 
 -- the same as IsText by the first four bytes and the length, as the code tests it
 pub record IsLaidOut (v : ℕ) (bytes : List ℕ) : Type 0 where
@@ -152,8 +122,8 @@ laid_out-text v (b0 ∷ b1 ∷ b2 ∷ b3 ∷ rest) are laid =
     let words = in_order-back (whole_words (take 64 rest))
     (length-whole_words (take 64 rest) ∙ omega arith) in
     let lanes =
-    all_bytes-whole_words 8 (take 64 rest)
-    (AreBytes-take 64 rest (AreBytes-drop 4 (b0 ∷ b1 ∷ b2 ∷ b3 ∷ rest) are)) size in
+    all_bytes-whole_words (take 64 rest)
+    (AreBytes-take 64 rest (AreBytes-drop 4 (b0 ∷ b1 ∷ b2 ∷ b3 ∷ rest) are)) (omega arith) in
     let version : v ≡ b0 = sym laid.version in
     let absorbed : flag_byte (b1 == 1) ≡ b1 = grind (arith, nat_tests, laid.absorbed) in
     let top_bit : flag_byte (b2 == 1) ≡ b2 =
@@ -166,9 +136,13 @@ laid_out-state : (v : ℕ) (bytes : List ℕ) → AreBytes bytes → IsLaidOut v
     → IsState v (state_of bytes)
 laid_out-state v bytes are laid =
     let lanes = take 64 (drop 4 bytes) in
-    let fit = whole_words-lt lanes (AreBytes-take 64 (drop 4 bytes) (AreBytes-drop 4 bytes are)) in
+    let are_lanes = AreBytes-take 64 (drop 4 bytes) (AreBytes-drop 4 bytes are) in
+    let size = length-take 64 (drop 4 bytes) in
+    let eight : length (whole_words lanes) ≡ 8 =
+    length-whole_words lanes ∙ omega (arith, laid.size, length-drop 4 bytes) in
     record {
-      words = search (rules, fit);
+      words = subst AreWords (sym (in_order-back (whole_words lanes) eight))
+          (AreWords-pending_words (length lanes / 8) lanes are_lanes);
       bytes = AreBytes-drop 68 bytes are;
       few = omega (arith, laid.size, laid.few, length-drop 68 bytes);
       top_bit_absorbed = grind (arith, nat_tests);

@@ -1,6 +1,6 @@
 -- A stream absorbs whole blocks and keeps what is left, its state stays one of its version, and it
 -- answers the hash of its message.
-use Rattle.std.proofs.Common.{◌≡◌, ℕ, suc, ◌+◌, ◌-◌, ◌/◌, ◌%◌, ◌^◌, ◌<◌, ◌≤◌, Bool, true, false}
+use Rattle.std.proofs.Common.{◌≡◌, ℕ, suc, ◌+◌, ◌-◌, ◌%◌, ◌^◌, ◌<◌, ◌≤◌, Bool, true, false}
 use Rattle.std.proofs.Common.{List, [], ◌∷◌, ◌++◌, length, take, drop, refl, ap, arith, ◌∙◌, sym}
 use Rattle.std.proofs.Common.{inl, inr}
 use Rattle.std.proofs.lemmas.Bool.{false≢true, cases_lt}
@@ -12,18 +12,19 @@ use Rattle.std.specs.Prelude.{slice_index, bit_xor}
 use Rattle.komihash.specs.Hash.{komi, hash_from_pair, hash_from_lanes}
 use Rattle.komihash.specs.Padding.{pads_with_two, padding_byte, padded_words}
 use Rattle.komihash.specs.Rounds.{Lanes, low, plus, mix, seed_pair, lanes, block_round}
-use Rattle.komihash.specs.Rounds.{block_round_by, join, pair_round, closing}
+use Rattle.komihash.specs.Rounds.{block_round_by, in_order, join, pair_round, closing}
 use Rattle.komihash.specs.Saved.{text, IsTextAfter}
-use Rattle.komihash.specs.Storage.{whole_words, block_lanes, after_blocks, tail_end, final_word}
-use Rattle.komihash.specs.Storage.{end_byte}
-use Rattle.komihash.specs.Stream.{State, IsState, AreWords, HasAbsorbed, start, absorb, absorb_byte}
+use Rattle.komihash.specs.Storage.{pending_words, whole_words, block_lanes, after_blocks}
+use Rattle.komihash.specs.Storage.{tail_end, final_word, end_byte}
+use Rattle.komihash.specs.Stream.{State, IsState, HasAbsorbed, start, absorb, absorb_byte}
 use Rattle.komihash.specs.Stream.{answer, tail_of, Started, Absorbed, Answered}
-use Rattle.komihash.specs.Words.{AreBytes}
+use Rattle.komihash.specs.Words.{AreBytes, AreWords}
 use Rattle.komihash.proofs.Blocks.{block_lanes-bytes, block_lanes-few_bytes, after_blocks_few}
 use Rattle.komihash.proofs.Blocks.{after_blocks_more, length-after_blocks}
+use Rattle.komihash.proofs.Blocks.{after_words-after_blocks}
 use Rattle.komihash.proofs.HashSteps.{komi_short, komi_long}
 use Rattle.komihash.proofs.PaddedWords.{padded_words-by_tail}
-use Rattle.komihash.proofs.WholeWords.{words_of-whole, after_words-append}
+use Rattle.komihash.proofs.WholeWords.{words_of-whole}
 use Rattle.komihash.proofs.WordOf.{AreBytes-append, AreBytes-drop}
 
 -- ---- what is absorbed
@@ -63,7 +64,7 @@ unfolding absorb
 absorb-block v s b bytes full =
     let all = s.pending ++ b ∷ [] in
     let size : length all ≡ 64 = omega (arith, length-append s.pending (b ∷ [])) in
-    rw (size, words_of-whole all 8 size)
+    rw (size, words_of-whole 8 all size)
 
 -- bytes that fill no block
 pub absorb-few : (v : ℕ) (s : State) (bytes : List ℕ) → length s.pending + length bytes < 64
@@ -156,16 +157,16 @@ after_write v s bytes l rest few many on =
 mixed-lt : (a b p : ℕ) → bit_xor (plus a b) (low p) < 2 ^ 64
 mixed-lt a b p = xor_lt 64 (plus a b) (low p) (omega arith) (omega arith)
 
-AreWords-seed_pair : (seed : ℕ) → AreWords (lanes (seed_pair seed))
+AreWords-seed_pair : (seed : ℕ) → AreWords (in_order (lanes (seed_pair seed)))
 unfolding mix
 AreWords-seed_pair seed = search (arith, xor_lt 64, mixed-lt)
 
-AreWords-block : (v : ℕ) (s : Lanes) (ws : List ℕ) → AreWords (block_round v s ws)
+AreWords-block : (v : ℕ) (s : Lanes) (ws : List ℕ) → AreWords (in_order (block_round v s ws))
 unfolding block_round_by
 AreWords-block v s ws = search (arith, mixed-lt)
 
-AreWords-block_lanes : (v : ℕ) (s : Lanes) (ws : List ℕ) → AreWords s
-    → AreWords (block_lanes v s ws)
+AreWords-block_lanes : (v : ℕ) (s : Lanes) (ws : List ℕ) → AreWords (in_order s)
+    → AreWords (in_order (block_lanes v s ws))
 AreWords-block_lanes v s (w0 ∷ w1 ∷ w2 ∷ w3 ∷ w4 ∷ w5 ∷ w6 ∷ w7 ∷ ws) words =
     AreWords-block_lanes v (block_round v s (w0 ∷ w1 ∷ w2 ∷ w3 ∷ w4 ∷ w5 ∷ w6 ∷ w7 ∷ [])) ws
     (AreWords-block v s _)
@@ -199,6 +200,7 @@ IsState-absorb v s new bytes is are same =
 tail_of-words : (v : ℕ) (m : List ℕ) (absorbed top_bit : Bool)
     → tail_of v m absorbed top_bit
     ≡ whole_words m ++ final_word m (tail_end v m absorbed top_bit) ∷ []
+unfolding pending_words
 tail_of-words v [] absorbed top_bit = grind arith
 tail_of-words v (b ∷ m) absorbed top_bit = padded_words-by_tail v (b ∷ m)
 
@@ -251,9 +253,7 @@ answer-joined v seed m =
           (answer-by_pair v (record (start seed) { pending = m }) ∙ cc)
       | inr le ↦
           let n = length m - length m % 64 in
-          let size = length-take-le n m (omega arith) in
-          let words = after_words-append (take n m) (drop n m) (n / 8) (omega arith) in
-          let cut = take-append-drop n m in
+          let words = after_words-after_blocks m in
           let last : last_at 0 (length m) ≡ n - 1 = omega arith in
           let end = tail_end-drop v n m (omega arith) (omega arith) in
           let hash = komi_long v seed m le in

@@ -1,105 +1,94 @@
 -- Padded words read back: the one message that they can come from.
-use Rattle.std.proofs.Common.{◌≡◌, ℕ, suc, ◌+◌, ◌-◌, ◌*◌, ◌/◌, ◌%◌, ◌^◌, ◌<◌, ◌≤◌, List, [], ◌∷◌}
-use Rattle.std.proofs.Common.{◌++◌, length, take, get_or, refl, ap, arith, ◌∙◌, sym, subst, inl}
+use Rattle.std.proofs.Common.{◌≡◌, ℕ, ◌+◌, ◌-◌, ◌*◌, ◌/◌, ◌%◌, ◌^◌, ◌<◌, ◌≤◌, List, [], ◌∷◌, ◌++◌}
+use Rattle.std.proofs.Common.{length, take, drop, get_or, refl, ap, arith, ◌∙◌, sym, subst, inl}
 use Rattle.std.proofs.Common.{inr, w64}
-use Rattle.std.proofs.Math.Nat.{pos_of_div-pos}
 use Rattle.std.proofs.Math.Pow.{pow_mono}
 use Rattle.std.proofs.lemmas.Bool.{cases_lt}
-use Rattle.std.proofs.lemmas.List.{length-take-le, get_or-take}
+use Rattle.std.proofs.lemmas.List.{drop-drop, drop_at, get_or-drop, get_or-take, length-append}
+use Rattle.std.proofs.lemmas.List.{length-drop, length-take-le, take-append-drop, take-take}
+use Rattle.std.proofs.lemmas.List.{take_all, nil_from_length, take_at}
 use Rattle.std.proofs.lemmas.Nat.{pow-add, pow_pos, shr-shr, shr_below, shr_le, le-div}
+use Rattle.std.proofs.lemmas.Simd.{Each1-from_get_or}
 use Rattle.std.specs.Int.{to_le_bytes}
 use Rattle.std.specs.Prelude.{slice_index}
-use Rattle.komihash.specs.Storage.{whole_words, final_word}
+use Rattle.komihash.specs.Storage.{pending_words, whole_words, after_words, end_byte}
 use Rattle.komihash.specs.Padding.{ArePadded, pads_with_two, padding_after, padded_words}
 use Rattle.komihash.specs.Padding.{padding_byte}
-use Rattle.komihash.specs.Words.{AreBytes, word_of, bytes_of, all_bytes}
-use Rattle.komihash.proofs.AllBytes.{length-all_bytes, to_le_bytes-word}
-use Rattle.komihash.proofs.WholeWords.{whole_words-few}
+use Rattle.komihash.specs.Words.{AreBytes, word_of, all_bytes}
+use Rattle.komihash.proofs.AllBytes.{length-all_bytes, AreBytes-all_bytes, take-all_bytes}
+use Rattle.komihash.proofs.AllBytes.{bytes-pending_words, pending_words-all_bytes}
+use Rattle.komihash.proofs.WholeWords.{get_or-pending_words, length-pending_words}
+use Rattle.komihash.proofs.WholeWords.{pending_words-last}
 use Rattle.komihash.proofs.PaddedWords.{padded_words-by_tail}
-use Rattle.komihash.proofs.WordOf.{AreBytes-take, AreBytes-drop}
-
--- ---- words and their bytes
-
-word_of-bytes_of : (w : ℕ) → w < 2 ^ 64 → word_of (bytes_of 8 w) ≡ w
-unfolding bytes_of
-word_of-bytes_of w lt = omega arith
-
--- the first bytes of a word, where others stand above them
-pub bytes_of-word_of_append : (xs ys : List ℕ) → AreBytes xs
-    → bytes_of (length xs) (word_of (xs ++ ys)) ≡ xs
-unfolding bytes_of
-bytes_of-word_of_append [] ys h = refl
-bytes_of-word_of_append (x ∷ xs) ys h =
-    let low : (x + 256 * word_of (xs ++ ys)) % 256 ≡ x = omega (arith, h 0) in
-    let high : (x + 256 * word_of (xs ++ ys)) / 256 ≡ word_of (xs ++ ys) = omega (arith, h 0) in
-    rw (low, high) (ap (λ bs. x ∷ bs) (bytes_of-word_of_append xs ys (λ k. h (suc k))))
-
-pub whole_words-all_bytes : (ws xs : List ℕ) → ((k : ℕ) → get_or ws k 0 < 2 ^ 64) → length xs < 8
-    → whole_words (all_bytes ws ++ xs) ≡ ws
-unfolding bytes_of
-whole_words-all_bytes [] xs h few = whole_words-few xs few
-whole_words-all_bytes (w ∷ ws) xs h few =
-    rw (word_of-bytes_of w (h 0), whole_words-all_bytes ws xs (λ k. h (suc k)) few) refl
-
--- eight bytes more are a word more
-more : (n : ℕ)
-    → (suc (suc (suc (suc (suc (suc (suc (suc n))))))) / 8 ≡ suc (n / 8))
-    × (suc (suc (suc (suc (suc (suc (suc (suc n))))))) % 8 ≡ n % 8)
-more n = (omega arith, omega arith)
+use Rattle.komihash.proofs.WordOf.{AreBytes-append, AreBytes-drop, AreBytes-one, word_of-append}
+use Rattle.komihash.proofs.WordOf.{word_of-drop}
 
 abbrev last : List ℕ → ℕ
 last ws = get_or ws (length ws - 1) 0
 
--- ---- a message, the byte that ends it, and zeros
+-- the last word of bytes, from one of its bytes on
+last-from : (i r : ℕ) (xs : List ℕ) → AreBytes xs → length xs ≤ 8 * i + 8
+    → last (pending_words (i + 1) xs) / 2 ^ (8 * r) ≡ word_of (drop (8 * i + r) xs)
+last-from i r xs are le =
+    let size = length-pending_words (i + 1) xs in
+    let at : length (pending_words (i + 1) xs) - 1 ≡ i = omega arith in
+    rw (
+      at,
+      get_or-pending_words (i + 1) i xs (omega arith),
+      take_all 8 (drop (8 * i) xs) (omega (arith, length-drop (8 * i) xs)),
+      ← word_of-drop r (drop (8 * i) xs) (AreBytes-drop (8 * i) xs are),
+      drop-drop r (8 * i) xs,
+    ) refl
 
--- the words of these bytes
-abbrev ended : List ℕ → ℕ → List ℕ
-ended m end = whole_words m ++ final_word m end ∷ []
+-- ---- what padded words say of their message
 
--- words whose bytes are n bytes, the byte `end` and zeros
-ended-words : (ws : List ℕ) (n end : ℕ) → ((k : ℕ) → get_or ws k 0 < 2 ^ 64)
-    → length ws ≡ n / 8 + 1 → get_or ws (n / 8) 0 / 2 ^ (8 * (n % 8)) ≡ end
-    → ended (take n (all_bytes ws)) end ≡ ws
-unfolding bytes_of
-ended-words [] n end fit size high = absurd (omega arith)
-ended-words (w ∷ ws) (suc (suc (suc (suc (suc (suc (suc (suc n)))))))) end fit size high =
-    rw (word_of-bytes_of w (fit 0))
-    (ap (λ us. w ∷ us)
-    (ended-words ws n end (λ k. fit (suc k)) (omega arith) (rw ((more n).0, (more n).1) at high)))
-ended-words (w ∷ []) n end fit size high = ap (λ x. x ∷ []) (omega arith)
-ended-words (w ∷ x ∷ ws) n end fit size high = absurd (omega arith)
+end_byte-some : (v : ℕ) (m : List ℕ) → 0 < length m
+    → (end_byte v m ≡ padding_byte v m) × (0 < end_byte v m)
+end_byte-some v [] some = absurd (omega arith)
+end_byte-some v (b ∷ m) some = (refl, grind arith)
 
--- what such words say of the message and the byte that ends it
-record Back (ws m : List ℕ) (end : ℕ) : Type 0 where
+end_byte-lt : (v : ℕ) (m : List ℕ) → end_byte v m < 256
+end_byte-lt v [] = omega arith
+end_byte-lt v (b ∷ m) = grind arith
+
+-- words that store a message and the byte that ends it
+record Stored (v : ℕ) (ws m : List ℕ) : Type 0 where
   size : length ws ≡ length m / 8 + 1
-  high : get_or ws (length m / 8) 0 / 2 ^ (8 * (length m % 8)) ≡ end
   bytes : take (length m) (all_bytes ws) ≡ m
+  end : last ws / 2 ^ (8 * (length m % 8)) ≡ end_byte v m
 
-ended-back : (m : List ℕ) (end : ℕ) → AreBytes m → Back (ended m end) m end
-unfolding bytes_of
-ended-back (a ∷ b ∷ c ∷ d ∷ e ∷ f ∷ g ∷ h ∷ m) end are =
-    let eight = a ∷ b ∷ c ∷ d ∷ e ∷ f ∷ g ∷ h ∷ [] in
-    let back = ended-back m end (AreBytes-drop 8 (eight ++ m) are) in
-    let first = bytes_of-word_of_append eight [] (AreBytes-take 8 (eight ++ m) are) in
-    record {
-      size = omega (arith, back.size);
-      high = rw ((more (length m)).0, (more (length m)).1) back.high;
-      bytes =
-          ap (λ bs. take (length (eight ++ m)) (bs ++ all_bytes (ended m end))) first
-          ∙ ap (λ bs. eight ++ bs) back.bytes;
+stored : (v : ℕ) (m : List ℕ) → AreBytes m → Stored v (padded_words v m) m
+stored v m are =
+    let n = length m in
+    let end = end_byte v m in
+    let xs = m ++ end ∷ [] in
+    let are_xs = AreBytes-append m (end ∷ []) are (AreBytes-one end (end_byte-lt v m)) in
+    let size = length-append m (end ∷ []) in
+    let words : padded_words v m ≡ pending_words (n / 8 + 1) xs =
+    padded_words-by_tail v m ∙ sym (pending_words-last (n / 8) m (end ∷ []) refl (omega arith)) in
+    let place : 8 * (n / 8) + n % 8 ≡ n = omega arith in
+    rw words record {
+      size = length-pending_words (n / 8 + 1) xs;
+      bytes = sym (take-take n (length xs) (all_bytes (pending_words (n / 8 + 1) xs)) (omega arith))
+          ∙ ap (take n) (bytes-pending_words (n / 8 + 1) xs are_xs (omega arith))
+          ∙ take_at m (end ∷ []) n refl;
+      end = last-from (n / 8) (n % 8) xs are_xs (omega arith)
+          ∙ rw (place, drop_at m (end ∷ []) n refl) (omega arith);
     }
-ended-back m end are =
-    record {
-      size = refl;
-      high = omega (arith, are 0, are 1, are 2, are 3, are 4, are 5, are 6);
-      bytes = bytes_of-word_of_append m (end ∷ []) are;
-    }
 
--- ---- the highest nonzero byte of a word
+stored-padded : (v : ℕ) {ws : List ℕ} → (p : ArePadded v ws) → Stored v ws p.0
+stored-padded v p = subst (λ ws. Stored v ws p.0) p.2 (stored v p.0 p.1)
 
--- r is its index
-abbrev IsHighest : ℕ → ℕ → Type 0
-IsHighest w r = (0 < w / 2 ^ (8 * r)) × (w / 2 ^ (8 * r) < 256)
+pub padded_zero : (v : ℕ) (ws : List ℕ) → ArePadded v ws → last ws ≡ 0 → length ws ≡ 1
+padded_zero v ws p zero =
+    let of_m = stored-padded v p in
+    let le = shr_le (last ws) (8 * (length p.0 % 8)) in
+    elim (cases_lt 0 (length p.0)) [
+      | inl some ↦ absurd (omega (arith, le, of_m.end, (end_byte-some v p.0 some).1))
+      | inr none ↦ omega (arith, of_m.size)
+    ]
+
+-- ---- the highest nonzero byte of the last word, which is the padding byte
 
 -- only zeros stand above index r, and a nonzero byte at index s or above
 place-le : (w r s : ℕ) → w / 2 ^ (8 * r) < 256 → 0 < w / 2 ^ (8 * s) → s ≤ r
@@ -114,63 +103,73 @@ place-le w r s below above =
       | inr le ↦ le
     ]
 
-one_highest : (w r s : ℕ) → IsHighest w r → IsHighest w s → r ≡ s
-one_highest w r s h g = omega (arith, place-le w r s h.1 g.0, place-le w s r g.1 h.0)
+module _ {v : ℕ} {ws m : List ℕ} (of_m : Stored v ws m) (r : ℕ) where
+  end-le : last ws / 2 ^ (8 * r) < 256 → length m % 8 ≤ r
+  end-le below =
+      elim (cases_lt 0 (length m)) [
+        | inl some ↦ place-le (last ws) r _ below (rw of_m.end (end_byte-some v m some).1)
+        | inr none ↦ omega arith
+      ]
 
-padding_byte-within : (v : ℕ) (m : List ℕ) → (0 < padding_byte v m) × (padding_byte v m < 256)
-padding_byte-within v m = (grind arith, grind arith)
-
--- ---- what padded words say of their message
-
--- the last word is 0 where the message is empty, else its highest nonzero byte is the padding byte
-record Reads (v : ℕ) (ws m : List ℕ) : Type 0 where
-  size : length ws ≡ length m / 8 + 1
-  bytes : take (length m) (all_bytes ws) ≡ m
-  none : last ws ≡ 0 → length m ≡ 0
-  some : 0 < last ws → (0 < length m) × (last ws / 2 ^ (8 * (length m % 8)) ≡ padding_byte v m)
-
-reads-padded : (v : ℕ) (m : List ℕ) → AreBytes m → Reads v (padded_words v m) m
-reads-padded v [] are =
-    record { size = refl; bytes = refl; none = λ _. refl; some = λ lt. absurd (omega (arith, lt)) }
-reads-padded v (b ∷ m) are =
-    let r = 8 * (length (b ∷ m) % 8) in
-    let end = padding_byte v (b ∷ m) in
-    let back = ended-back (b ∷ m) end are in
-    let i : length (b ∷ m) / 8 ≡ length (ended (b ∷ m) end) - 1 = omega (arith, back.size) in
-    let high : last (ended (b ∷ m) end) / 2 ^ r ≡ end = rw i at back.high in
-    let le = shr_le (last (ended (b ∷ m) end)) r in
-    subst (λ ws. Reads v ws (b ∷ m)) (sym (padded_words-by_tail v (b ∷ m))) record {
-      size = back.size;
-      bytes = back.bytes;
-      none = λ zero. absurd (omega (arith, le, high, (padding_byte-within v (b ∷ m)).0));
-      some = λ _. (omega arith, high);
-    }
-
-reads : (v : ℕ) {ws : List ℕ} → (p : ArePadded v ws) → Reads v ws p.0
-reads v p = subst (λ ws. Reads v ws p.0) p.2 (reads-padded v p.0 p.1)
-
--- the index of the padding byte
-reads-highest : {v : ℕ} {ws m : List ℕ} → Reads v ws m → 0 < last ws
-    → IsHighest (last ws) (length m % 8)
-reads-highest {v} {ws} {m} r lt = rw (r.some lt).1 (padding_byte-within v m)
+  le-end : 0 < last ws / 2 ^ (8 * r) → r ≤ length m % 8
+  le-end above = place-le (last ws) _ r (rw of_m.end (end_byte-lt v m)) above
 
 -- no two messages share their padded words
 pub same_message : (v : ℕ) (x y : List ℕ) → AreBytes x → AreBytes y
     → padded_words v x ≡ padded_words v y → x ≡ y
 same_message v x y are_x are_y same =
-    let ws = padded_words v y in
-    let of_x = reads v (x, are_x, same) in
-    let of_y = reads-padded v y are_y in
-    let sizes : length x ≡ length y =
-    elim (cases_lt 0 (last ws)) as (λ _. length x ≡ length y) [
-      | inl lt ↦
-          let place = one_highest (last ws) _ _ (reads-highest of_x lt) (reads-highest of_y lt) in
-          omega (arith, of_x.size, of_y.size, place)
-      | inr le ↦ omega (arith, of_x.none (omega arith), of_y.none (omega arith))
-    ] in
-    sym of_x.bytes ∙ ap (λ n. take n (all_bytes ws)) sizes ∙ of_y.bytes
+    let of_x = stored-padded v (x, are_x, same) in
+    let of_y = stored v y are_y in
+    let le = end-le of_x (length y % 8) (rw of_y.end (end_byte-lt v y)) in
+    let ge = end-le of_y (length x % 8) (rw of_x.end (end_byte-lt v x)) in
+    let sizes : length x ≡ length y = omega (arith, of_x.size, of_y.size, le, ge) in
+    sym of_x.bytes ∙ ap (λ n. take n (all_bytes (padded_words v y))) sizes ∙ of_y.bytes
 
--- ---- what the code finds: the highest nonzero byte of the last word
+-- a message that ends below index r of the last word
+module _ (v : ℕ) (ws : List ℕ) (r : ℕ) where
+  abbrev size : ℕ
+  size = 8 * (length ws - 1) + r
+
+  abbrev message : List ℕ
+  message = take size (all_bytes ws)
+
+  pub unpadded : ((k : ℕ) → get_or ws k 0 < 2 ^ 64) → 0 < length ws → r < 8 → 0 < size
+      → last ws / 2 ^ (8 * r) ≡ padding_byte v message → padded_words v message ≡ ws
+  unpadded fit some few long is =
+      let bytes = all_bytes ws in
+      let left = drop size bytes in
+      let end = end_byte v message in
+      let words = pending_words-all_bytes ws (Each1-from_get_or _ ws 0 (λ i _. fit i)) in
+      let count = length-all_bytes ws in
+      let n : length message ≡ size = length-take-le size bytes (omega arith) in
+      let all : length message / 8 + 1 ≡ length ws = omega arith in
+      let same : length ws - 1 + 1 ≡ length ws = omega arith in
+      let read = rw (same, words) at
+      (last-from (length ws - 1) r bytes (AreBytes-all_bytes ws) (omega arith)) in
+      let high : word_of left ≡ word_of (end ∷ []) =
+      omega (arith, read, is, (end_byte-some v message (omega arith)).0) in
+      padded_words-by_tail v message
+      ∙ ap (λ w. whole_words message ++ w ∷ [])
+      (word_of-append (after_words message) (end ∷ [])
+      ∙ rw (← high) (sym (word_of-append (after_words message) left)))
+      ∙ sym (pending_words-last (length message / 8) message left refl
+      (omega (arith, length-drop size bytes)))
+      ∙ rw (take-append-drop size bytes, all) words
+
+  pub one_place : ArePadded v ws → 0 < last ws / 2 ^ (8 * r) → last ws / 2 ^ (8 * r) < 256
+      → (0 < size) × (last ws / 2 ^ (8 * r) ≡ padding_byte v message)
+  one_place p above below =
+      let of_m = stored-padded v p in
+      let place : length p.0 % 8 ≡ r = omega (arith, end-le of_m r below, le-end of_m r above) in
+      let end = rw place at of_m.end in
+      let n : size ≡ length p.0 = omega (arith, of_m.size) in
+      let same : message ≡ p.0 = ap (λ n. take n (all_bytes ws)) n ∙ of_m.bytes in
+      elim (cases_lt 0 (length p.0)) [
+        | inl some ↦ (omega arith, rw same (end ∙ (end_byte-some v p.0 some).0))
+        | inr none ↦ absurd (omega (arith, rw (nil_from_length p.0 (omega arith)) at end))
+      ]
+
+-- ---- what the code finds
 
 pub highest : (w bit : ℕ) → 2 ^ bit ≤ w → w < 2 * 2 ^ bit
     → (0 < w / 2 ^ (8 * (bit / 8))) × (w / 2 ^ (8 * (bit / 8)) < 256)
@@ -184,11 +183,14 @@ highest w bit low high =
 
 pub byte_of_words : (ws : List ℕ) (at : ℕ) → at < 8 * length ws
     → get_or (to_le_bytes w64 (get_or ws (at / 8) 0)) (at % 8) 0 ≡ get_or (all_bytes ws) at 0
-unfolding bytes_of
-byte_of_words [] at lt = absurd (omega arith)
-byte_of_words (w ∷ ws) (suc (suc (suc (suc (suc (suc (suc (suc at)))))))) lt =
-    rw ((more at).0, (more at).1) (byte_of_words ws at (omega arith))
-byte_of_words (w ∷ ws) at lt = ap (λ bs. get_or bs (at % 8) 0) (to_le_bytes-word w)
+byte_of_words ws at lt =
+    let place : 8 * (at / 8) + at % 8 ≡ at = omega arith in
+    sym (ap (λ bs. get_or bs (at % 8) 0) (take-all_bytes ws (at / 8) 8 (omega arith) (omega arith)))
+    ∙ rw (
+      get_or-take 8 (drop (8 * (at / 8)) (all_bytes ws)) (at % 8) 0 (omega arith),
+      get_or-drop (8 * (at / 8)) (all_bytes ws) (at % 8) 0,
+      place,
+    ) refl
 
 pub padding_byte_at : (v : ℕ) (ws : List ℕ) (n last : ℕ) → 0 < n → n ≤ 8 * length ws
     → last ≡ slice_index (all_bytes ws) (n - 1)
@@ -196,40 +198,3 @@ pub padding_byte_at : (v : ℕ) (ws : List ℕ) (n last : ℕ) → 0 < n → n �
 padding_byte_at v ws n last some le is =
     let size = length-take-le n (all_bytes ws) (omega (arith, length-all_bytes ws)) in
     rw (size, get_or-take n (all_bytes ws) (n - 1) 0 (omega arith), is) refl
-
-padded_words-some : (v : ℕ) (m : List ℕ) → 0 < length m
-    → padded_words v m ≡ ended m (padding_byte v m)
-padded_words-some v [] some = absurd (omega arith)
-padded_words-some v (b ∷ m) some = padded_words-by_tail v (b ∷ m)
-
-pub padded_zero : (v : ℕ) (ws : List ℕ) → ArePadded v ws → last ws ≡ 0 → length ws ≡ 1
-padded_zero v ws p zero =
-    let of_m = reads v p in
-    omega (arith, of_m.size, of_m.none zero)
-
--- a message that ends below index r of the last word
-module _ (v : ℕ) (ws : List ℕ) (r : ℕ) where
-  abbrev size : ℕ
-  size = 8 * (length ws - 1) + r
-
-  abbrev message : List ℕ
-  message = take size (all_bytes ws)
-
-  pub unpadded : ((k : ℕ) → get_or ws k 0 < 2 ^ 64) → 0 < length ws → r < 8 → 0 < size
-      → last ws / 2 ^ (8 * r) ≡ padding_byte v message → padded_words v message ≡ ws
-  unpadded fit some few long is =
-      let i : size / 8 ≡ length ws - 1 = omega arith in
-      let place : size % 8 ≡ r = omega arith in
-      let n = length-take-le size (all_bytes ws) (omega (arith, length-all_bytes ws)) in
-      padded_words-some v message (omega arith)
-      ∙ ended-words ws size (padding_byte v message) fit (omega arith) (rw (i, place) is)
-
-  pub one_place : ArePadded v ws → 0 < last ws / 2 ^ (8 * r) → last ws / 2 ^ (8 * r) < 256
-      → (0 < size) × (last ws / 2 ^ (8 * r) ≡ padding_byte v message)
-  one_place p above below =
-      let lt = pos_of_div-pos (2 ^ (8 * r)) above in
-      let of_m = reads v p in
-      let place = one_highest _ r _ (above, below) (reads-highest of_m lt) in
-      let n : size ≡ length p.0 = omega (arith, of_m.size, place) in
-      let same : message ≡ p.0 = ap (λ n. take n (all_bytes ws)) n ∙ of_m.bytes in
-      (omega (arith, n, (of_m.some lt).0), rw (same, place) (of_m.some lt).1)

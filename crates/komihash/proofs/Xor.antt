@@ -4,8 +4,8 @@ use Rattle.std.proofs.Math.Nat.{mul_comm}
 use Rattle.std.proofs.lemmas.Nat.{and_comm, and_assoc, and-not}
 use Rattle.std.specs.Prelude.{bit_xor, bit_and}
 use Rattle.komihash.specs.Rounds.{mix}
-use Rattle.std.specs.Int.Bits.{xor_assoc, xor_comm, xor_disjoint, xor_zero_l}
 use Rattle.komihash.specs.Storage.{xor_again}
+use Rattle.std.specs.Int.Bits.{xor_assoc, xor_comm, xor_disjoint, xor_zero_r}
 
 -- a word is xored with a low half first, and then with the word that the half belongs to
 pub xor_late : (w low e : ℕ) → bit_xor (bit_xor w low) e ≡ bit_xor w (bit_xor e low)
@@ -14,27 +14,15 @@ xor_late w low e = xor_assoc w low e ∙ ap (bit_xor w) (xor_comm low e)
 pub xor_late_left : (w low e : ℕ) → bit_xor (bit_xor low w) e ≡ bit_xor (bit_xor e low) w
 xor_late_left w low e = xor_comm (bit_xor low w) e ∙ sym (xor_assoc e low w)
 
--- the same in a product, whose factors change places too
-pub product : (v f w low e : ℕ)
-    → bit_xor v f * bit_xor (bit_xor w low) e ≡ bit_xor w (bit_xor e low) * bit_xor v f
-product v f w low e =
-    rw (xor_late w low e) (mul_comm (bit_xor v f) (bit_xor w (bit_xor e low)))
-
--- the same in a mix, whose factors change places too
-pub factors_swap : (w last low e : ℕ)
-    → mix (bit_xor (bit_xor low w) e) (bit_xor e last) e
-    ≡ mix (bit_xor e last) (bit_xor (bit_xor e low) w) e
+-- the factors of a product change places
+pub mix_swap : (x y e : ℕ) → mix x y e ≡ mix y x e
 unfolding mix
-factors_swap w last low e =
-    rw (xor_late_left w low e, mul_comm (bit_xor (bit_xor e low) w) (bit_xor e last)) refl
+mix_swap x y e = rw (mul_comm x y) refl
 
--- the same with a last word of 0, and without the change
-pub factors_alone : (w last low e : ℕ) → last ≡ 0
-    → mix (bit_xor (bit_xor low w) e) (bit_xor e last) e ≡ mix (bit_xor (bit_xor e low) w) e e
-factors_alone w last low e none = rw (none, xor_comm e 0, xor_zero_l e, xor_late_left w low e) refl
+-- what block rounds and the closing need
+pub ruleset products = (xor_late, mul_comm)
 
--- the two for the closing
-pub ruleset factors = (factors_swap, factors_alone)
+pub ruleset factors = (xor_late_left, xor_zero_r, mix_swap)
 
 -- the first two change places
 pub xor_swap : (a b c : ℕ) → bit_xor a (bit_xor b c) ≡ bit_xor b (bit_xor a c)

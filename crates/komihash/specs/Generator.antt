@@ -4,20 +4,16 @@ use Rattle.std.specs.Prelude.{List, [], ◌∷◌, take}
 use Rattle.komihash.specs.Words.{all_bytes}
 use Rattle.komihash.specs.Rounds.{low, high, plus}
 
--- the second word after a step, in both versions
-abbrev pub next_second : ℕ × ℕ → ℕ
-next_second s = plus (plus s.1 (high (s.0 * s.1))) 0xaaaaaaaaaaaaaaaa
-
--- the first word after a step of version v, which is the step's output
-abbrev pub next_first : ℕ → ℕ × ℕ → ℕ
-next_first v s =
-    if v == 4
-    then bit_xor (low (s.0 * s.1)) (next_second s)
-    else plus (bit_xor (low (s.0 * s.1)) (high (s.0 * s.1))) 0x5555555555555555
-
--- the pair after a step of version v
+-- the pair after a step of version v, whose first word is the step's output
 unfoldable pub next : ℕ → ℕ × ℕ → ℕ × ℕ
-next v s = (next_first v s, next_second s)
+next v s =
+    let p = s.0 * s.1 in
+    let second = plus (plus s.1 (high p)) 0xaaaaaaaaaaaaaaaa in
+    let first =
+    if v == 4
+    then bit_xor (low p) second
+    else plus (bit_xor (low p) (high p)) 0x5555555555555555 in
+    (first, second)
 
 -- the pair after n steps
 unfoldable pub after_steps : ℕ → ℕ → ℕ × ℕ → ℕ × ℕ

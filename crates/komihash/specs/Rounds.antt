@@ -50,6 +50,10 @@ pub record Lanes : Type 0 where
   pub s7 : ℕ
   pub s8 : ℕ
 
+-- the eight lanes, s1 first
+abbrev pub in_order : Lanes → List ℕ
+in_order s = s.s1 ∷ s.s2 ∷ s.s3 ∷ s.s4 ∷ s.s5 ∷ s.s6 ∷ s.s7 ∷ s.s8 ∷ []
+
 -- the lanes of a pair
 abbrev pub lanes : ℕ × ℕ → Lanes
 lanes s = record {
@@ -70,17 +74,14 @@ places v =
     then 0 ∷ 1 ∷ 2 ∷ 3 ∷ 4 ∷ 5 ∷ 6 ∷ 7 ∷ []
     else 0 ∷ 4 ∷ 1 ∷ 5 ∷ 2 ∷ 6 ∷ 3 ∷ 7 ∷ []
 
--- the word whose index is entry i of a table
-abbrev pub word_at_place : List ℕ → List ℕ → ℕ → ℕ
-word_at_place table ws i = slice_index ws (slice_index table i)
-
 -- the lanes after a round on a block of eight words, with a table of indices
 unfoldable pub block_round_by : List ℕ → Lanes → List ℕ → Lanes
 block_round_by table s ws =
-    let r1 = bit_xor (word_at_place table ws 0) s.s1 * bit_xor (word_at_place table ws 1) s.s5 in
-    let r2 = bit_xor (word_at_place table ws 2) s.s2 * bit_xor (word_at_place table ws 3) s.s6 in
-    let r3 = bit_xor (word_at_place table ws 4) s.s3 * bit_xor (word_at_place table ws 5) s.s7 in
-    let r4 = bit_xor (word_at_place table ws 6) s.s4 * bit_xor (word_at_place table ws 7) s.s8 in
+    let word = λ (i : ℕ). slice_index ws (slice_index table i) in
+    let r1 = bit_xor (word 0) s.s1 * bit_xor (word 1) s.s5 in
+    let r2 = bit_xor (word 2) s.s2 * bit_xor (word 3) s.s6 in
+    let r3 = bit_xor (word 4) s.s3 * bit_xor (word 5) s.s7 in
+    let r4 = bit_xor (word 6) s.s4 * bit_xor (word 7) s.s8 in
     let t5 = plus s.s5 (high r1) in
     let t6 = plus s.s6 (high r2) in
     let t7 = plus s.s7 (high r3) in

@@ -1,7 +1,7 @@
 -- The saved text of a stream, which is a list of bytes.
 use Rattle.std.specs.Prelude.{ℕ, ◌≡◌, ◌≤◌, ◌↔◌, Bool, List, [], ◌∷◌, ◌++◌, length, take, drop}
 use Rattle.std.specs.Prelude.{Option, IfSome, IsSomeAnd, IsNone, if◌then◌else◌}
-use Rattle.komihash.specs.Rounds.{Lanes}
+use Rattle.komihash.specs.Rounds.{in_order}
 use Rattle.komihash.specs.Stream.{State, IsState, HasAbsorbed}
 use Rattle.komihash.specs.Words.{all_bytes}
 use Rattle.komihash.specs.declared.stream.saved.TheConstants.{LONGEST_TEXT}
@@ -9,10 +9,6 @@ use Rattle.komihash.specs.declared.stream.saved.TheConstants.{LONGEST_TEXT}
 -- a flag as a byte
 abbrev pub flag_byte : Bool → ℕ
 flag_byte flag = if flag then 1 else 0
-
--- the eight lanes, s1 first
-abbrev pub in_order : Lanes → List ℕ
-in_order s = s.s1 ∷ s.s2 ∷ s.s3 ∷ s.s4 ∷ s.s5 ∷ s.s6 ∷ s.s7 ∷ s.s8 ∷ []
 
 -- the first four bytes: the version, whether a block was absorbed, the top bit that only version 4
 -- keeps, and how many bytes are pending

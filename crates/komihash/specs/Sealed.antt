@@ -5,8 +5,8 @@ use Rattle.std.specs.Coded.{Unit-prop}
 use base.Fml.{Fml, ftrue}
 
 -- what a tally of these numbers owns: nothing, but no other crate can know that
-pub counted : ℕ → ℕ → Fml
-counted products kept = ftrue
+pub owned_by_tally : ℕ → ℕ → Fml
+owned_by_tally products kept = ftrue
 
 pub Key : Type 0
 Key = Unit {0}
@@ -20,6 +20,6 @@ unfolding Key
 Key-prop = Unit-prop
 
 -- with the key, a proof can make what a tally of any numbers owns
-pub opened : Key → (products kept : ℕ) → counted products kept ≡ ftrue
-unfolding counted
+pub opened : Key → (products kept : ℕ) → owned_by_tally products kept ≡ ftrue
+unfolding owned_by_tally
 opened _ products kept = refl

@@ -1,9 +1,9 @@
 -- How the code reads and stores what the other definitions speak of. An auditor may skip this file:
 -- no public contract cites it. Private contracts do, and lemmas prove that both say the same.
-use Rattle.std.proofs.Common.{ap, ◌∙◌, sym}
-use Rattle.std.specs.Prelude.{ℕ, zero, suc, Bool, ◌≡◌, ◌-◌, ◌*◌, ◌%◌, ◌<◌, ◌≤◌, bit_xor}
-use Rattle.std.specs.Prelude.{List, [], ◌∷◌, ◌++◌, length, take, drop, get_or}
+use Rattle.std.specs.Prelude.{ℕ, zero, suc, Bool, ◌≡◌, ◌-◌, ◌*◌, ◌/◌, ◌%◌, ◌<◌, ◌≤◌, bit_xor}
 use Rattle.std.specs.Int.Bits.{xor_assoc, xor_self, xor_zero_l}
+use Rattle.std.proofs.Common.{ap, ◌∙◌, sym}
+use Rattle.std.specs.Prelude.{List, [], ◌∷◌, ◌++◌, length, take, drop, get_or}
 use Rattle.komihash.specs.Padding.{padding_byte}
 use Rattle.komihash.specs.Rounds.{Lanes, block_round}
 use Rattle.komihash.specs.Stream.{end_after_blocks}
@@ -12,16 +12,18 @@ use Rattle.komihash.specs.declared.rounds.Pair.{Pair}
 
 -- ---- a message: its whole words, the bytes after them, and its whole blocks
 
+-- the n words that store these bytes, with zeros after them
+unfoldable pub pending_words : ℕ → List ℕ → List ℕ
+pending_words zero bytes = []
+pending_words (suc n) bytes = word_of (take 8 bytes) ∷ pending_words n (drop 8 bytes)
+
 -- the words of each eight bytes, without the fewer than eight at the end
 abbrev pub whole_words : List ℕ → List ℕ
-whole_words (a ∷ b ∷ c ∷ d ∷ e ∷ f ∷ g ∷ h ∷ bs) =
-    word_of (a ∷ b ∷ c ∷ d ∷ e ∷ f ∷ g ∷ h ∷ []) ∷ whole_words bs
-whole_words bs = []
+whole_words bytes = pending_words (length bytes / 8) bytes
 
 -- the bytes after the last whole word
 abbrev pub after_words : List ℕ → List ℕ
-after_words (a ∷ b ∷ c ∷ d ∷ e ∷ f ∷ g ∷ h ∷ bs) = after_words bs
-after_words bs = bs
+after_words bytes = drop (8 * (length bytes / 8)) bytes
 
 -- the byte that ends a message in version v: the padding byte, or 0 where the message is empty
 abbrev pub end_byte : ℕ → List ℕ → ℕ
@@ -57,11 +59,6 @@ pair_of p = (bit_xor p.1 p.0, p.1)
 
 -- ---- pending bytes: in eight words, with zeros after the last byte
 
--- the n words that store these bytes, with zeros after them
-unfoldable pub pending_words : ℕ → List ℕ → List ℕ
-pending_words zero bytes = []
-pending_words (suc n) bytes = word_of (take 8 bytes) ∷ pending_words n (drop 8 bytes)
-
 -- the eight words store these bytes
 abbrev pub Stores : List ℕ → List ℕ → Type 0
 Stores ws bytes = ws ≡ pending_words 8 bytes
@@ -85,7 +82,7 @@ pub record StoresBut (ws bytes : List ℕ) (low high : ℕ) : Type 0 where
   pub size : length ws ≡ 8
   pub words : (k : ℕ) → k < 8 → (low ≤ k → high ≤ k) → get_or ws k 0 ≡ word_at bytes k
 
--- ---- lemmas by which a struct's value gives back its fields
+-- ---- lemmas by which a struct's value gives back its fields, which have to stand in `specs`
 
 -- xor with the same word twice cancels
 pub xor_again : (c x : ℕ) → bit_xor c (bit_xor c x) ≡ x

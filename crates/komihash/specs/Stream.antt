@@ -1,10 +1,10 @@
 -- A stream: its state, how it absorbs bytes one after the other, and what it answers.
-use Rattle.std.specs.Prelude.{ℕ, ◌<◌, ◌^◌, ◌≡◌, ◌==◌, Bool, true, false, if◌then◌else◌}
+use Rattle.std.specs.Prelude.{ℕ, ◌<◌, ◌≡◌, ◌==◌, Bool, true, false, if◌then◌else◌}
 use Rattle.std.specs.Prelude.{List, [], ◌∷◌, ◌++◌, length}
 use Rattle.komihash.specs.Hash.{komi, hash_from_pair}
-use Rattle.komihash.specs.Rounds.{Lanes, seed_pair, lanes, block_round, join}
+use Rattle.komihash.specs.Rounds.{Lanes, in_order, seed_pair, lanes, block_round, join}
 use Rattle.komihash.specs.Padding.{pads_with_two, padding_after, padded_words}
-use Rattle.komihash.specs.Words.{AreBytes, words_of}
+use Rattle.komihash.specs.Words.{AreBytes, AreWords, words_of}
 
 -- eight lanes; the pending bytes, which no block has taken yet; whether a block was absorbed; and
 -- in version 4 whether the last byte of the last block is at least 128
@@ -60,21 +60,10 @@ tail_of v [] absorbed top_bit = end_after_blocks absorbed top_bit ∷ []
 unfoldable pub answer : ℕ → State → ℕ
 answer v s = hash_from_pair (join s.absorbed s.lanes) (tail_of v s.pending s.absorbed s.top_bit)
 
--- all eight lanes are words
-pub record AreWords (s : Lanes) : Type 0 where
-  pub s1 : s.s1 < 2 ^ 64
-  pub s2 : s.s2 < 2 ^ 64
-  pub s3 : s.s3 < 2 ^ 64
-  pub s4 : s.s4 < 2 ^ 64
-  pub s5 : s.s5 < 2 ^ 64
-  pub s6 : s.s6 < 2 ^ 64
-  pub s7 : s.s7 < 2 ^ 64
-  pub s8 : s.s8 < 2 ^ 64
-
 -- a state of version v: the lanes are words, at most 63 bytes are pending, and the bit is set only
 -- if a block was absorbed, and only in version 4
 pub record IsState (v : ℕ) (s : State) : Type 0 where
-  pub words : AreWords s.lanes
+  pub words : AreWords (in_order s.lanes)
   pub bytes : AreBytes s.pending
   pub few : length s.pending < 64
   pub top_bit_absorbed : s.top_bit ≡ true → s.absorbed ≡ true

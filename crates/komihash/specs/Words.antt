@@ -1,11 +1,17 @@
 -- Bytes and words. A byte is a number below 2 ^ 8, a word a number below 2 ^ 64, and a message is a
 -- list of bytes.
-use Rattle.std.specs.Prelude.{ℕ, zero, suc, ◌+◌, ◌*◌, ◌/◌, ◌%◌, ◌<◌}
-use Rattle.std.specs.Prelude.{List, [], ◌∷◌, ◌++◌, slice_index}
+use Rattle.std.specs.Int.{to_le_bytes, w64}
+use Rattle.std.specs.List.{flat_map}
+use Rattle.std.specs.Simd.Lanes.{Each1}
+use Rattle.std.specs.Prelude.{ℕ, ◌+◌, ◌*◌, ◌^◌, ◌<◌, List, [], ◌∷◌, slice_index}
 
 -- each number of a list is a byte
 abbrev pub AreBytes : List ℕ → Type 0
 AreBytes xs = (k : ℕ) → slice_index xs k < 256
+
+-- each number of a list is a word
+abbrev pub AreWords : List ℕ → Type 0
+AreWords ws = Each1 (λ w. w < 2 ^ 64) ws
 
 -- the word of up to eight bytes: the sum of byte i times 256 ^ i
 abbrev pub word_of : List ℕ → ℕ
@@ -19,12 +25,6 @@ words_of (a ∷ b ∷ c ∷ d ∷ e ∷ f ∷ g ∷ h ∷ bs) =
 words_of [] = []
 words_of bs = word_of bs ∷ []
 
--- the first n bytes of a word: its lowest digits to base 256
-unfoldable pub bytes_of : ℕ → ℕ → List ℕ
-bytes_of zero w = []
-bytes_of (suc n) w = w % 256 ∷ bytes_of n (w / 256)
-
--- the bytes of words
+-- the bytes of words: of each its eight digits to base 256, lowest first
 abbrev pub all_bytes : List ℕ → List ℕ
-all_bytes [] = []
-all_bytes (w ∷ ws) = bytes_of 8 w ++ all_bytes ws
+all_bytes ws = flat_map (to_le_bytes w64) ws

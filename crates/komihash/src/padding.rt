@@ -8,7 +8,7 @@ ghost use Rattle.komihash.specs.Padding.{pads_with_two, padding_after, padding_b
 ghost use Rattle.komihash.specs.Storage.{end_byte, final_word};
 ghost use Rattle.komihash.specs.Words.{all_bytes};
 
-use crate::utils::{read_partial_word, word_at, write_bytes, write_words};
+use crate::utils::{read_partial_word, word_at, words_from_bytes, write_bytes};
 
 /// Returns whether the padding byte after `byte` is 2: in version 4, if its top bit is set.
 #[inline(always)]
@@ -82,7 +82,7 @@ pub(crate) fn pad<const V: u8>(bytes: &[u8], out: &mut [u64]) -> usize
     } else {
         read_partial_word(bytes, padding_byte::<V>(bytes))
     };
-    write_words(bytes, out);
+    words_from_bytes(bytes, out);
     out[whole] = last;
     whole + 1
 }

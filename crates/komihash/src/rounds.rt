@@ -7,8 +7,7 @@ ghost use Rattle.std.specs.Prelude.{◌≡◌, ◌+◌, ◌*◌, ◌/◌, ◌%�
 ghost use Rattle.std.proofs.Common.{refl};
 ghost use Rattle.komihash.specs.Counts.{Costs};
 ghost use Rattle.komihash.specs.Rounds.{low, high, plus, seed_words, mix, seed_pair, lanes, places};
-ghost use Rattle.komihash.specs.Rounds.{Lanes, block_round_by, block_round, join};
-ghost use Rattle.komihash.specs.Saved.{in_order};
+ghost use Rattle.komihash.specs.Rounds.{Lanes, in_order, block_round_by, block_round, join};
 ghost use Rattle.komihash.specs.Storage.{xor_again, pair_of};
 ghost use Rattle.komihash.specs.Storage.{whole_words, block_lanes, after_blocks};
 
@@ -171,7 +170,7 @@ pub(crate) fn places<const V: u8>() -> [usize; 8]
 
 /// Absorbs a block of eight words, multiplied as the table `places` says.
 #[inline(always)]
-#[tactic(auto, unfolding(crate::specs::Rounds::block_round_by), using(crate::proofs::Xor::product))]
+#[tactic(auto, unfolding(crate::specs::Rounds::block_round_by), using(crate::proofs::Xor::products))]
 pub(crate) fn block_round(
     lanes: &mut Lanes,
     words: &[u64; 8],
@@ -217,6 +216,7 @@ fn block_words(block: &[u8; 64]) -> [u64; 8]
 // Absorbs the first block, and returns the bytes after it. Absorbing these then gives the same
 // lanes and the same remainder as absorbing all of `bytes` at once.
 #[inline(always)]
+#[tactic(auto, using(crate::proofs::Blocks::one_block))]
 fn absorb_block<'a, const V: u8>(lanes: &mut Lanes, bytes: &'a [u8], tally: &mut Tally) -> &'a [u8]
     requires { 64 ≤ length bytes.now }
     ensures length { length result.now + 64 ≡ length bytes.now }
@@ -235,6 +235,7 @@ fn absorb_block<'a, const V: u8>(lanes: &mut Lanes, bytes: &'a [u8], tally: &mut
 
 /// Absorbs each whole block of the bytes, and returns the bytes after them, fewer than 64.
 #[inline(always)]
+#[tactic(auto, using(crate::proofs::Blocks::no_block))]
 pub(crate) fn absorb_blocks<'a, const V: u8>(
     lanes: &mut Lanes,
     bytes: &'a [u8],

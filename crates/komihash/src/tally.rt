@@ -19,9 +19,9 @@ pub struct Tally {
 }
 
 impl Model for Tally {
-    ghost use Rattle.komihash.specs.Sealed.{counted};
+    ghost use Rattle.komihash.specs.Sealed.{owned_by_tally};
 
-    ghost also_owns = { λ t. counted t.products t.kept };
+    ghost also_owns = { λ t. owned_by_tally t.products t.kept };
 }
 
 // Gives proofs in this crate the key of `specs/Sealed.antt`. No proof can make or raise a tally

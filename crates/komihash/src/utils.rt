@@ -1,11 +1,12 @@
 //! Words of eight bytes, the lowest byte first: read from bytes, written to bytes, multiplied.
 
+ghost use Rattle.std.specs.Int.{to_le_bytes, w64};
 ghost use Rattle.std.specs.Prelude.{◌≡◌, ◌+◌, ◌-◌, ◌*◌, ◌/◌, ◌^◌, ◌<◌, ◌≤◌};
 ghost use Rattle.std.specs.Prelude.{[], ◌∷◌, ◌++◌, length, take, drop, slice_index};
 ghost use Rattle.komihash.specs.Counts.{Costs};
 ghost use Rattle.komihash.specs.Rounds.{low, high};
 ghost use Rattle.komihash.specs.Storage.{whole_words};
-ghost use Rattle.komihash.specs.Words.{word_of, bytes_of, all_bytes};
+ghost use Rattle.komihash.specs.Words.{word_of, all_bytes};
 
 use crate::tally::Tally;
 
@@ -53,7 +54,7 @@ fn u32_at(bytes: &[u8], at: usize) -> u64
 /// are read in any case, since a choice between two values costs less than a jump.
 #[inline(always)]
 pub(crate) fn read_partial_word(bytes: &[u8], end: u64) -> u64
-    requires few { length bytes.now ≤ 7 }
+    requires at_most_7 { length bytes.now ≤ 7 }
     requires byte { end < 2 ^ 8 }
     ensures { result ≡ word_of (bytes.now ++ end ∷ []) }
 {
@@ -77,7 +78,7 @@ pub(crate) fn read_partial_word(bytes: &[u8], end: u64) -> u64
 #[inline(always)]
 pub(crate) fn write_word(word: u64, out: &mut [u8])
     requires { length out.old ≡ 8 }
-    ensures { out.new ≡ bytes_of 8 word }
+    ensures { out.new ≡ to_le_bytes w64 word }
 {
     let Some(chunk) = out.first_chunk_mut::<8>() else {
         unreachable!()
@@ -88,8 +89,8 @@ pub(crate) fn write_word(word: u64, out: &mut [u8])
 /// Fills `out`, of at most seven bytes, with the lowest bytes of a word.
 #[inline(always)]
 pub(crate) fn write_partial_word(word: u64, out: &mut [u8])
-    requires few { length out.old ≤ 7 }
-    ensures { out.new ≡ take (length out.old) (bytes_of 8 word) }
+    requires at_most_7 { length out.old ≤ 7 }
+    ensures { out.new ≡ take (length out.old) (to_le_bytes w64 word) }
 {
     let bytes = word.to_le_bytes();
     let n = out.len();
@@ -106,7 +107,8 @@ pub(crate) fn write_partial_word(word: u64, out: &mut [u8])
 
 /// Writes the whole words of `bytes` to the front of `out`.
 #[inline(always)]
-pub(crate) fn write_words(bytes: &[u8], out: &mut [u64])
+#[tactic(auto, using(crate::proofs::WholeWords::read_words))]
+pub(crate) fn words_from_bytes(bytes: &[u8], out: &mut [u64])
     requires { length bytes.now / 8 ≤ length out.old }
     ensures words { take (length bytes.now / 8) out.new ≡ whole_words bytes.now }
     ensures rest { drop (length bytes.now / 8) out.new ≡ drop (length bytes.now / 8) out.old }

@@ -17,7 +17,7 @@ pub(crate) trait Words {
 
     /// Returns whether there are at least `count` words.
     fn holds(&self, count: usize) -> bool
-        requires few { count ≤ 8 }
+        requires at_most_8 { count ≤ 8 }
         ensures { IsTrue result ↔ (count ≤ length (words self.now)) };
 
     /// Returns whether the number of words is odd.
@@ -27,7 +27,7 @@ pub(crate) trait Words {
     /// Returns the word at index `at`.
     fn word(&self, at: usize) -> u64
         requires within { at < length (words self.now) }
-        requires few { at < 8 }
+        requires below_8 { at < 8 }
         ensures { result ≡ slice_index (words self.now) at };
 }
 
@@ -137,7 +137,7 @@ pub(crate) fn hash_from_pair<W: Words>(
     last: u64,
     tally: &mut Tally,
 ) -> u64
-    requires few { length (W.words left.now) < 8 }
+    requires below_8 { length (W.words left.now) < 8 }
     requires word { 0 < length (W.words left.now)
         → word ≡ slice_index (W.words left.now) (length (W.words left.now) - 1) }
     ensures hash { result ≡ hash_from_pair (pair_of pair) (W.words left.now ++ last ∷ []) }

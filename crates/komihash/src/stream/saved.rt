@@ -3,14 +3,15 @@
 
 ghost use Rattle.std.specs.Prelude.{◌≡◌, ◌+◌, ◌<◌, ◌≤◌, ◌↔◌, ℕ, IsTrue};
 ghost use Rattle.std.specs.Prelude.{[], ◌∷◌, ◌++◌, ◌==◌, length, take, drop, slice_index};
-ghost use Rattle.komihash.specs.Saved.{flag_byte, in_order, IsText};
+ghost use Rattle.komihash.specs.Saved.{flag_byte, IsText};
+ghost use Rattle.komihash.specs.Rounds.{in_order};
 ghost use Rattle.komihash.specs.Storage.{whole_words};
 ghost use Rattle.komihash.specs.Words.{all_bytes};
 
 use crate::rounds::pending::Pending;
 use crate::rounds::{Lanes, from_order, in_order};
 use crate::tally::Tally;
-use crate::utils::{write_bytes, write_words};
+use crate::utils::{words_from_bytes, write_bytes};
 
 const LANES_AT: usize = 4;
 
@@ -90,7 +91,7 @@ pub(crate) fn read_lanes(bytes: &[u8]) -> Lanes
     ensures { in_order result ≡ whole_words (take 64 (drop LANES_AT bytes.now)) }
 {
     let mut lanes = [0; 8];
-    write_words(&bytes[LANES_AT..PENDING_AT], &mut lanes);
+    words_from_bytes(&bytes[LANES_AT..PENDING_AT], &mut lanes);
     from_order(&lanes)
 }
 

@@ -1,12 +1,11 @@
 -- The final word is read in one of three ways. `padded_words-by_tail` puts it after whole words.
-use Rattle.std.proofs.Common.{◌≡◌, ◌++◌, [], ◌∷◌, ◌/◌, ◌∙◌, ap, length, arith, refl, sym}
+use Rattle.std.proofs.Common.{◌≡◌, ◌++◌, [], ◌∷◌, ◌*◌, ◌/◌, ◌∙◌, ap, length, arith, refl, sym}
 use Rattle.std.proofs.lemmas.Bool.{eqb-true}
 use Rattle.std.proofs.lemmas.Grind.{common_steps}
 use Rattle.std.proofs.lemmas.List.{nil_from_length, take_more_set}
 use Rattle.komihash.specs.Storage.{final_word, end_byte}
 use Rattle.komihash.specs.Words.{word_of}
 use Rattle.komihash.proofs.PaddedWords.{padded_words-by_tail}
-use Rattle.komihash.proofs.WholeWords.{after_words-few}
 use Rattle.komihash.proofs.padding.pad.Goals as goal
 use Rattle.komihash.proofs.padding.pad.Goals.{then-whole-gt0, else-whole-gt0+else-is_empty}
 use Rattle.komihash.proofs.padding.pad.Goals.{else-whole-gt0+then-is_empty}
@@ -23,13 +22,13 @@ returns g c =
           let none = nil_from_length bytes (eqb-true _ _ (sym w.if-is_empty.ensures)) in
           w.last-is ∙ rw none refl
       | else-whole-gt0+else-is_empty w ↦
-          w.last-is ∙ w.read_partial_word.ensures
-          ∙ ap (λ b. word_of (bytes ++ b ∷ [])) w.padding_byte-else-is_empty.ensures.byte
-          ∙ sym (ap (λ b. word_of (b ++ end ∷ [])) (after_words-few bytes (omega arith)))
+          let none : 8 * (length bytes / 8) ≡ 0 = omega arith in
+          rw none (w.last-is ∙ w.read_partial_word.ensures
+          ∙ ap (λ b. word_of (bytes ++ b ∷ [])) w.padding_byte-else-is_empty.ensures.byte)
     ] in
     record {
       count = refl;
-      padded = take_more_set c.write_words.new.out (length bytes / 8) _ (omega arith)
-          ∙ rw (c.write_words.ensures.words, last) (sym (padded_words-by_tail g.row.V bytes));
+      padded = take_more_set c.words_from_bytes.new.out (length bytes / 8) _ (omega arith)
+          ∙ rw (c.words_from_bytes.ensures.words, last) (sym (padded_words-by_tail g.row.V bytes));
       rest = grind (arith, common_steps);
     }

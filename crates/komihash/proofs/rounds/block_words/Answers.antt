@@ -1,6 +1,9 @@
-use Rattle.std.proofs.Common.{arith}
-use Rattle.komihash.proofs.WholeWords.{whole_words-from}
+use Rattle.std.proofs.Common.{◌≡◌, ◌/◌, length, arith}
+use Rattle.std.proofs.lemmas.List.{drop-drop}
+use Rattle.komihash.specs.Storage.{pending_words}
 use Rattle.komihash.proofs.rounds.block_words.Goals as goal
 
 pub returns : goal.returns
-returns c = cc (whole_words-from 8 0 c.args.block.now (omega arith) (omega arith))
+unfolding pending_words
+returns c =
+    let count : length c.args.block.now / 8 ≡ 8 = omega arith in rw count (simp drop-drop (cc))

@@ -2,12 +2,10 @@
 use Rattle.std.proofs.Common.{◌≡◌, ◌-◌, ◌*◌, ◌/◌, ◌∙◌, length, take, drop, arith, refl, rules, sym}
 use Rattle.std.proofs.lemmas.List.{take_all}
 use Rattle.std.proofs.lemmas.Slice.{overwrites}
-use Rattle.komihash.specs.Words.{bytes_of}
 use Rattle.komihash.proofs.GeneratorFills.{Filled-more}
 use Rattle.komihash.proofs.generator.Komirand.fill_bytes.Goals as goal
 
 pub words-preserved : goal.words-preserved
-unfolding bytes_of
 words-preserved g c =
     Filled-more _ 8 _ c.words.invariant c.next-word.ensures.output c.next-word.ensures.pair
     c.write_word.ensures

@@ -9,7 +9,7 @@ use Rattle.std.specs.Int.{rotate_left}
 use Rattle.std.specs.Int.Bits.{or_zero_l, or_zero_r, or_self}
 use Rattle.komihash.specs.Storage.{pending_bytes}
 use Rattle.komihash.specs.Words.{word_of}
-use Rattle.komihash.proofs.WordOf.{AreBytes-typed, word_of-drop, word_of-zero}
+use Rattle.komihash.proofs.WordOf.{AreBytes-typed, word_of-drop, word_of-zeros}
 use Rattle.komihash.proofs.PendingBytes.{store, all_stored, word_after}
 use Rattle.komihash.proofs.rounds.pending.append_below_eight.Goals as goal
 
@@ -36,7 +36,7 @@ returns c =
     let fit = 8 - over in
     let at = (c.args.fill / 8 + 1) % 8 in
     let are = AreBytes-typed bytes c.type_inv.bytes in
-    let word = c.read_partial_word-word.ensures ∙ word_of-zero bytes in
+    let word = c.read_partial_word-word.ensures ∙ word_of-zeros bytes 1 in
     let but = c.append_within_word.ensures.words bytes (c.args.fill / 8 + 1)
     ((c.args.fill + length bytes + 7) / 8) are
     (word ∙ ap word_of (sym (take_all 8 bytes (omega arith)))) (omega arith) in

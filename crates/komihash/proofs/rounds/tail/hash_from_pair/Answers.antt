@@ -1,6 +1,6 @@
 -- After the rounds one word is left before the final word if the words are odd in number, or none.
-use Rattle.std.proofs.Common.{rules, ◌≡◌, ℕ, List, refl, ◌+◌, ◌-◌, ◌*◌, ◌/◌, ◌%◌, ◌++◌, [], ◌∷◌, ◌∙◌, sym, ap, arith}
-use Rattle.std.proofs.Common.{length, drop, get_or}
+use Rattle.std.proofs.Common.{rules, ◌≡◌, ℕ, List, refl, ◌+◌, ◌-◌, ◌*◌, ◌/◌, ◌%◌, ◌++◌, [], ◌∷◌}
+use Rattle.std.proofs.Common.{◌∙◌, sym, ap, arith, length, drop, get_or}
 use Rattle.std.proofs.lemmas.Bool.{iff_false}
 use Rattle.std.proofs.lemmas.List.{drop_more, drop_all}
 use Rattle.komihash.specs.Hash.{hash_from_pair}

@@ -1,6 +1,6 @@
 use Rattle.std.proofs.Common.{◌∙◌, ap, arith, take}
 use Rattle.std.proofs.lemmas.List.{take_all}
-use Rattle.komihash.specs.Saved.{in_order}
+use Rattle.komihash.specs.Rounds.{in_order}
 use Rattle.komihash.specs.Words.{all_bytes}
 use Rattle.komihash.proofs.AllBytes.{length-all_bytes}
 use Rattle.komihash.proofs.SavedTexts.{part-put}

@@ -1,14 +1,14 @@
 -- An empty body. The borrow is opened, and closed at the higher ghost values.
 use Rattle.std.proofs.Common.{◌+◌, List, [], ◌∷◌, refl}
 use Rattle.std.proofs.raw_atomic.Walks.{proved}
-use Rattle.komihash.proofs.Raised.{changed}
+use Rattle.komihash.proofs.TallyProofs.{tally_changed}
 use denote.Struct.Struct.{Struct}
 use denote.Struct.Owning as Owning
 use base.Fml.{ftrue, flft}
 use mir.Syntax.{named, w64}
 use mir.Val.{Val, vunit}
-use types.Kit.{‵, ◌⊛◌, ◌$◌, ◌∵◌, !, qed, by, move, keep, use1, split, join, suffices, frame}
-use types.Kit.{fsplit, fsplit3, fjoin, fjoin3, feq_i}
+use types.Kit.{‵, ◌⊛◌, ◌$◌, ◌∵◌, !, qed, by, move, keep, use1, split, join, suffices, frame, fsplit}
+use types.Kit.{fsplit3, fjoin, fjoin3, feq_i}
 use types.Run.{unit_lit, of_opd, returns, enter}
 use types.ByLocal.{alloc_all, pass_all, free_all, look_at, sets}
 use denote.RattleType.{owns}
@@ -57,7 +57,7 @@ raise_spec 𝓤 𝓛 𝓜 𝓡 wired =
     ((tt, tt), ((tt, record { fits = are.1.0.1 }), ((tt, record { fits = are.1.1.0.1 }), tt))) $
     opens ! tt R at.0 at.1 (λ us. sets ! (of_opd ! (unit_lit !)) refl (tt, tt) $
     move ! (1 ∷ []) $ use1 𝓛 (‵ (R.own_val h' us))
-    (changed 𝓛 ((Struct (Owning.shape T)).own_val (Owning.to T h) us)
+    (tally_changed 𝓛 ((Struct (Owning.shape T)).own_val (Owning.to T h) us)
     h.products h.kept h'.products h'.kept) $
     move ! (1 ∷ 0 ∷ []) $ closes ! tt R h' us at.0 at.1 $
     returns ! (look_at ! 0 refl) $ free_all ! refl $

@@ -6,7 +6,6 @@ use Rattle.std.proofs.lemmas.Nat.{and_mask}
 use Rattle.komihash.specs.Padding.{padding_byte}
 use Rattle.komihash.specs.Storage.{pending_bytes, ArePending, after_words}
 use Rattle.komihash.specs.Words.{AreBytes, word_of}
-use Rattle.komihash.proofs.WholeWords.{after_words-drop}
 use Rattle.komihash.proofs.WordOf.{AreBytes-drop, word_of-drop, word_of-push}
 use Rattle.komihash.proofs.PendingBytes.{get_or_pending, AreBytes_word}
 use Rattle.komihash.proofs.rounds.pending.Pending.final_word.Goals as goal
@@ -40,7 +39,7 @@ returns g c =
     let rest = drop (8 * (fill / 8)) xs in
     let size : length rest ≡ fill % 8 = omega (arith, length-drop (8 * (fill / 8)) xs) in
     let whole = take_all 8 rest (omega arith) in
-    let after : take 8 rest ≡ after_words xs = grind (arith, whole, after_words-drop xs) in
+    let after : take 8 rest ≡ after_words xs = rw are.count whole in
     rw (← c.self.view_is, padding, get_or_pending are (fill / 8) (omega arith), ← after)
     (word_of-push (take 8 rest) (fill % 8) _ (AreBytes_word are (fill / 8))
     (omega (arith, length-take {A = ℕ})) (omega arith) (grind arith))

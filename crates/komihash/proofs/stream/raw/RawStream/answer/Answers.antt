@@ -26,7 +26,7 @@ pub hash_from_pair-requires : goal.hash_from_pair-requires
 hash_from_pair-requires g c =
     let count = length-whole_words c.self.inside.pending in
     record {
-      few = omega (arith, count);
+      below_8 = omega (arith, count);
       word = λ some. rw count (c.last_whole_word-word.ensures (omega (arith, count)));
     }
 

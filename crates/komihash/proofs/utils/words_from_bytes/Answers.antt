@@ -1,0 +1,19 @@
+use Rattle.std.proofs.Common.{◌≡◌, ◌/◌, ◌∙◌, length, arith}
+use Rattle.std.proofs.lemmas.Grind.{common_steps}
+use Rattle.std.proofs.lemmas.List.{take_all}
+use Rattle.komihash.proofs.WholeWords.{length-pending_words, get_or-pending_words}
+use Rattle.komihash.proofs.WholeWords.{length-whole_words}
+use Rattle.komihash.proofs.utils.words_from_bytes.Goals as goal
+
+pub whole-preserved : goal.whole-preserved
+whole-preserved c =
+    let bytes = c.args.bytes.now in
+    let size = length-pending_words (length bytes / 8) bytes in
+    let word = get_or-pending_words (length bytes / 8) c.whole.i bytes (omega arith) in
+    record { front = grind (arith, common_steps); others = grind (arith, common_steps) }
+
+pub returns-clause-words : goal.returns-clause-words
+returns-clause-words c =
+    let all : c.whole.i ≡ length c.args.bytes.now / 8 = omega arith in
+    (rw all at c.whole.invariant.front)
+    ∙ take_all _ _ (search (arith, length-whole_words))
