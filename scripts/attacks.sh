@@ -1,7 +1,7 @@
 #!/usr/bin/env bash
 # Checks that no other crate can raise a tally, or hash in a version 3. Each attack is a module of a
-# crate above `komihash`, or a file of its proofs, in place of a control. It must be refused with the
-# error in its first line, and the controls must be accepted.
+# crate above `komihash`, or a file of its proofs, in place of a control. It must be refused with
+# the error in its first line, and the controls must be accepted.
 set -u
 cd "$(dirname "$0")/attacks" || exit 1
 . ../cases.sh

@@ -1,6 +1,6 @@
 #!/usr/bin/env python3
-"""Checks that each block of Rattle in README and CALLING is a part of a file of crates/examples, and
-that README and compare/speed.md have the same table of speed."""
+"""Checks that each block of Rattle in README and CALLING is a part of a file of crates/examples,
+and that README and compare/speed.md have the same table of speed."""
 
 import re
 from pathlib import Path

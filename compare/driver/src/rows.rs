@@ -5,7 +5,7 @@ use crate::random::Random;
 use std::hint::black_box;
 use std::time::{Duration, Instant};
 
-/// A batch takes half of this time or more. Three must, lest an interrupt make one seem long.
+/// A batch takes half of this time or more. Three must, since an interrupt may make one seem long.
 const BATCH: Duration = Duration::from_micros(60);
 
 struct Rows<'a> {

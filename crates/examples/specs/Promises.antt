@@ -1,4 +1,6 @@
--- What a stream promises, whether a method of its type is called or one of the trait.
+-- What a stream promises, whether a method of its type is called or one of the trait. Records of
+-- `komihash` say the same. This file doesn't use them, because the proof of a promise must fail if
+-- a record loses it.
 use Rattle.std.specs.Prelude.{ℕ, ◌≡◌, ◌≤◌, ◌↔◌, List, [], ◌++◌, length, take, drop}
 use Rattle.std.specs.Prelude.{Option, IfSome, IsSomeAnd, IsNone}
 use Rattle.komihash.specs.Hash.{komi}

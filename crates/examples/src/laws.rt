@@ -1,14 +1,14 @@
 //! The laws of the definitions, stated again, as `promises.rt` states the other promises.
 
 ghost use Rattle.std.specs.Prelude.{◌≡◌, ◌+◌, ◌%◌, ◌^◌, ◌<◌, ◌++◌, ◌∷◌, [], ℕ, List, length};
-ghost use Rattle.std.specs.Prelude.{bit_xor};
-ghost use Rattle.komihash.specs.Generator.{after_steps, fill, after_fill};
+ghost use Rattle.std.specs.Prelude.{bit_xor, slice_index, ◌≤◌};
+ghost use Rattle.komihash.specs.Generator.{next, after_steps, outputs, fill, after_fill};
 ghost use Rattle.komihash.specs.Hash.{komi};
 ghost use Rattle.komihash.specs.Hasher.{number_after};
 ghost use Rattle.komihash.specs.Padding.{padded_words};
 ghost use Rattle.komihash.specs.Rounds.{constant, seed_words};
-ghost use Rattle.komihash.specs.Saved.{text};
-ghost use Rattle.komihash.specs.Stream.{State, IsState, start, absorb, answer};
+ghost use Rattle.komihash.specs.Saved.{text, IsTextAfter};
+ghost use Rattle.komihash.specs.Stream.{State, IsState, HasAbsorbed, start, absorb, answer};
 ghost use Rattle.komihash.specs.Words.{AreBytes};
 
 use komihash::laws;
@@ -52,3 +52,18 @@ pub fn of_generators()
     laws::fill_cut();
     laws::one_seed();
 }
+
+/// States what no law states, but what the search finds by the lemmas of the laws.
+#[tactic(auto, using(komihash::proofs::LawLemmas::laws))]
+pub fn of_the_lemmas()
+    ensures word { (v seed : ℕ) (m : List ℕ) → komi v seed m < 2 ^ 64 }
+    ensures same_state { (v seed : ℕ) (s t : State) (m : List ℕ) → HasAbsorbed v seed s m
+        → HasAbsorbed v seed t m → s ≡ t }
+    ensures same_text { (v seed : ℕ) (m x y : List ℕ) → IsTextAfter v seed m x
+        → IsTextAfter v seed m y → x ≡ y }
+    ensures most { (v seed : ℕ) (m x : List ℕ) → IsTextAfter v seed m x → length x ≤ 131 }
+    ensures chain { (v number : ℕ) (x y : List (List ℕ))
+        → number_after v number (x ++ y) ≡ number_after v (number_after v number x) y }
+    ensures output { (v n k : ℕ) (s : ℕ × ℕ) → k < n
+        → slice_index (outputs v n s) k ≡ (next v (after_steps v k s)).0 }
+{}

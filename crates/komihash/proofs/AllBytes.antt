@@ -9,7 +9,7 @@ use Rattle.std.proofs.Math.Pow.{pow_mono}
 use Rattle.std.proofs.Math.Nat.{div-div-eq-div-mul}
 use Rattle.std.specs.Int.{to_le_bytes}
 use Rattle.std.specs.Simd.Lanes.{digits_l}
-use Rattle.komihash.specs.Storage.{pending_words, whole_words}
+use Rattle.komihash.specs.Storage.{stored_words, whole_words}
 use Rattle.komihash.specs.Words.{AreBytes, AreWords, word_of, all_bytes}
 use Rattle.komihash.proofs.Lists.{Covers, take-append}
 use Rattle.komihash.proofs.WholeWords.{length-whole_words}
@@ -67,18 +67,18 @@ take-word_of xs are =
     ap (take (length xs)) (sym (simp div-div-eq-div-mul)) ∙ digits-word_of 8 xs are
 
 -- the words that store bytes have these bytes
-pub bytes-pending_words : (n : ℕ) (xs : List ℕ) → AreBytes xs → length xs ≤ 8 * n
-    → take (length xs) (all_bytes (pending_words n xs)) ≡ xs
-unfolding pending_words
-bytes-pending_words zero [] are le = refl
-bytes-pending_words zero (x ∷ xs) are le = absurd (omega arith)
-bytes-pending_words (suc n) xs are le =
+pub bytes-stored_words : (n : ℕ) (xs : List ℕ) → AreBytes xs → length xs ≤ 8 * n
+    → take (length xs) (all_bytes (stored_words n xs)) ≡ xs
+unfolding stored_words
+bytes-stored_words zero [] are le = refl
+bytes-stored_words zero (x ∷ xs) are le = absurd (omega arith)
+bytes-stored_words (suc n) xs are le =
     let rest : length xs - 8 ≡ length (drop 8 xs) = omega (arith, length-drop 8 xs) in
     take-append (length xs) (to_le_bytes w64 (word_of (take 8 xs))) _
     ∙ rw (
       take-word_of xs are,
       rest,
-      bytes-pending_words n (drop 8 xs) (AreBytes-drop 8 xs are) (omega (arith, length-drop 8 xs)),
+      bytes-stored_words n (drop 8 xs) (AreBytes-drop 8 xs are) (omega (arith, length-drop 8 xs)),
     )
     (take-append-drop 8 xs)
 
@@ -87,20 +87,20 @@ pub all_bytes-whole_words : (xs : List ℕ) → AreBytes xs → length xs % 8 �
 all_bytes-whole_words xs are whole =
     let size = length-all_bytes (whole_words xs) ∙ ap (λ n. 8 * n) (length-whole_words xs) in
     sym (take_all (length xs) (all_bytes (whole_words xs)) (omega arith))
-    ∙ bytes-pending_words (length xs / 8) xs are (omega arith)
+    ∙ bytes-stored_words (length xs / 8) xs are (omega arith)
 
-pub AreWords-pending_words : (n : ℕ) (xs : List ℕ) → AreBytes xs → AreWords (pending_words n xs)
-unfolding pending_words
-AreWords-pending_words zero xs are = tt
-AreWords-pending_words (suc n) xs are =
+pub AreWords-stored_words : (n : ℕ) (xs : List ℕ) → AreBytes xs → AreWords (stored_words n xs)
+unfolding stored_words
+AreWords-stored_words zero xs are = tt
+AreWords-stored_words (suc n) xs are =
     let size : 8 * length (take 8 xs) ≤ 64 = omega (arith, length-take 8 xs) in (
       omega (arith, word_of-lt (take 8 xs) (AreBytes-take 8 xs are), pow_mono {j = 64} size),
-      AreWords-pending_words n (drop 8 xs) (AreBytes-drop 8 xs are),
+      AreWords-stored_words n (drop 8 xs) (AreBytes-drop 8 xs are),
     )
 
-pub pending_words-all_bytes : (ws : List ℕ) → AreWords ws
-    → pending_words (length ws) (all_bytes ws) ≡ ws
-unfolding pending_words
-pending_words-all_bytes [] fit = refl
-pending_words-all_bytes (w ∷ ws) fit =
-    rw (pending_words-all_bytes ws fit.1) (ap (λ u. u ∷ ws) (omega (arith, fit.0)))
+pub stored_words-all_bytes : (ws : List ℕ) → AreWords ws
+    → stored_words (length ws) (all_bytes ws) ≡ ws
+unfolding stored_words
+stored_words-all_bytes [] fit = refl
+stored_words-all_bytes (w ∷ ws) fit =
+    rw (stored_words-all_bytes ws fit.1) (ap (λ u. u ∷ ws) (omega (arith, fit.0)))

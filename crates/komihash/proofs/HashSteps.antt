@@ -7,7 +7,7 @@ use Rattle.std.proofs.lemmas.Bool.{eqb-true}
 use Rattle.std.specs.Prelude.{slice_index, ◌==◌}
 use Rattle.komihash.specs.Rounds.{Lanes, lanes, seed_pair, block_round, pair_round, join, closing}
 use Rattle.komihash.specs.Hash.{hash_from_pair, hash_from_lanes, komi}
-use Rattle.komihash.specs.Storage.{pending_words, whole_words, after_words, final_word, end_byte}
+use Rattle.komihash.specs.Storage.{stored_words, whole_words, after_words, final_word, end_byte}
 use Rattle.komihash.specs.Storage.{block_lanes, after_blocks}
 use Rattle.komihash.specs.Words.{word_of}
 use Rattle.komihash.proofs.Blocks.{after_words-whole_words, length-after_blocks}
@@ -28,10 +28,10 @@ hash_from_pair_two s ws at last le = absurd (omega arith)
 -- ---- lanes and blocks
 
 -- fewer than eight words and the final word make no block
-no_block : (v : ℕ) (s : Lanes) (ws : List ℕ) (last : ℕ) → length ws < 8
+lanes_without_block : (v : ℕ) (s : Lanes) (ws : List ℕ) (last : ℕ) → length ws < 8
     → hash_from_lanes v s false (ws ++ last ∷ []) ≡ hash_from_pair (join false s) (ws ++ last ∷ [])
-no_block v s (w0 ∷ w1 ∷ w2 ∷ w3 ∷ w4 ∷ w5 ∷ w6 ∷ w7 ∷ ws) last lt = absurd (omega arith)
-no_block v s ws last lt = refl
+lanes_without_block v s (w0 ∷ w1 ∷ w2 ∷ w3 ∷ w4 ∷ w5 ∷ w6 ∷ w7 ∷ ws) last lt = absurd (omega arith)
+lanes_without_block v s ws last lt = refl
 
 -- once a block was absorbed: the blocks that follow it, and then what is left
 after_block : (v : ℕ) (s : Lanes) (ws : List ℕ) (last : ℕ)
@@ -65,7 +65,7 @@ module _ (v seed : ℕ) (m : List ℕ) where
   unfolding komi
   komi_short lt =
       rw (padded_words-by_tail v m)
-      (no_block v (lanes pair) (whole_words m) last (omega (arith, length-whole_words m)))
+      (lanes_without_block v (lanes pair) (whole_words m) last (omega (arith, length-whole_words m)))
 
   pub komi_long : 64 ≤ length m
       → komi v seed m ≡ hash_from_pair (join true (block_lanes v (lanes pair) (whole_words m)))
@@ -80,20 +80,20 @@ module _ (v seed : ℕ) (m : List ℕ) where
 
   pub komi_partial_word : 1 ≤ length m → length m < 8
       → komi v seed m ≡ closing pair (word_of (m ++ end_byte v m ∷ []) ∷ [])
-  unfolding pending_words
+  unfolding stored_words
   komi_partial_word some lt =
       let count : length m / 8 ≡ 0 = omega arith in rw (komi_short (omega arith), count) refl
 
   pub komi_one_word : 8 ≤ length m → length m < 16
       → komi v seed m ≡ closing pair (word_of (take 8 m) ∷ last ∷ [])
-  unfolding pending_words
+  unfolding stored_words
   komi_one_word le lt =
       let count : length m / 8 ≡ 1 = omega arith in rw (komi_short (omega arith), count) refl
 
   pub komi_two_words : 16 ≤ length m → length m < 24
       → komi v seed m
       ≡ closing (pair_round pair (word_of (take 8 m)) (word_of (take 8 (drop 8 m)))) (last ∷ [])
-  unfolding pending_words
+  unfolding stored_words
   komi_two_words le lt =
       let count : length m / 8 ≡ 2 = omega arith in rw (komi_short (omega arith), count) refl
 

@@ -8,15 +8,15 @@ use Rattle.std.proofs.lemmas.Nat.{shr-shr}
 use Rattle.std.specs.Prelude.{bit_or}
 use Rattle.komihash.specs.Padding.{padded_words, padding_byte}
 use Rattle.komihash.specs.Words.{word_of}
-use Rattle.komihash.specs.Storage.{pending_words, whole_words, after_words, end_byte, final_word}
+use Rattle.komihash.specs.Storage.{stored_words, whole_words, after_words, end_byte, final_word}
 use Rattle.komihash.proofs.WordOf.{AreBytes-typed, AreBytes-drop, word_of-last, word_of-push}
 use Rattle.komihash.proofs.WordOf.{word_of-zeros}
-use Rattle.komihash.proofs.WholeWords.{pending_words-last, words_of-whole}
+use Rattle.komihash.proofs.WholeWords.{stored_words-last, words_of-whole}
 
 -- the padded words as the code reads them
 pub padded_words-by_tail : (v : ℕ) (m : List ℕ)
     → padded_words v m ≡ whole_words m ++ final_word m (end_byte v m) ∷ []
-unfolding pending_words
+unfolding stored_words
 padded_words-by_tail v [] = refl
 padded_words-by_tail v (b ∷ m) =
     let xs = b ∷ m in
@@ -25,7 +25,7 @@ padded_words-by_tail v (b ∷ m) =
     let zeros = replicate (7 - n % 8) 0 in
     let size : length (end ∷ zeros) ≡ 8 - n % 8 = omega (arith, length-replicate {A = ℕ}) in
     words_of-whole (n / 8 + 1) (xs ++ end ∷ zeros) (omega (arith, length-append xs (end ∷ zeros)))
-    ∙ pending_words-last (n / 8) xs (end ∷ zeros) refl (omega arith)
+    ∙ stored_words-last (n / 8) xs (end ∷ zeros) refl (omega arith)
     ∙ ap (λ w. whole_words xs ++ w ∷ [])
     (ap word_of (sym (append_assoc (after_words xs) (end ∷ []) zeros))
     ∙ word_of-zeros (after_words xs ++ end ∷ []) (7 - n % 8))

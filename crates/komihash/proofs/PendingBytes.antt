@@ -5,18 +5,18 @@ use Rattle.std.proofs.Common.{length-append}
 use Rattle.std.proofs.lemmas.Bool.{cases_eq}
 use Rattle.std.proofs.lemmas.Grind.{elements}
 use Rattle.std.proofs.Math.Seq.{drop-append-add}
-use Rattle.komihash.specs.Storage.{pending_words, pending_bytes, ArePending, Stores, StoresBut}
-use Rattle.komihash.specs.Storage.{whole_words, word_at}
+use Rattle.komihash.specs.Storage.{stored_words, pending_bytes, ArePending, Stores, StoresBut}
+use Rattle.komihash.specs.Storage.{whole_words, stored_word}
 use Rattle.komihash.specs.Words.{AreBytes, word_of}
-use Rattle.komihash.proofs.AllBytes.{AreBytes-all_bytes, bytes-pending_words}
-use Rattle.komihash.proofs.WholeWords.{length-pending_words, get_or-pending_words, read_words}
+use Rattle.komihash.proofs.AllBytes.{AreBytes-all_bytes, bytes-stored_words}
+use Rattle.komihash.proofs.WholeWords.{length-stored_words, get_or-stored_words, read_words}
 use Rattle.komihash.proofs.WordOf.{AreBytes-append, AreBytes-take, AreBytes-drop, AreBytes-typed}
 
 -- ---- words that are stored one by one, some of them out of order or twice
 
 -- a word that is stored at its index, or in place of one that is missing still
 pub store : {ws zs : List ℕ} {low high : ℕ} → StoresBut ws zs low high → (i n x : ℕ)
-    → (i ≤ low) × (n ≤ i + 1) → ((n ≤ i → high ≤ i) → x ≡ word_at zs i)
+    → (i ≤ low) × (n ≤ i + 1) → ((n ≤ i → high ≤ i) → x ≡ stored_word zs i)
     → StoresBut (set ws i x) zs n high
 store but i n x within is = grind (arith, elements, cases_eq, but.words, but.size, is)
 
@@ -24,17 +24,17 @@ store but i n x within is = grind (arith, elements, cases_eq, but.words, but.siz
 pub all_stored : {ws zs : List ℕ} {low high : ℕ} → StoresBut ws zs low high
     → (low < 8 → high ≤ low) → Stores ws zs
 all_stored but none =
-    grind (arith, elements, but.words, but.size, length-pending_words, get_or-pending_words)
+    grind (arith, elements, but.words, but.size, length-stored_words, get_or-stored_words)
 
 -- a word of bytes that are put after others
 pub word_after : (xs bytes : List ℕ) (at from : ℕ) → length xs + from ≡ 8 * at
-    → word_of (take 8 (drop from bytes)) ≡ word_at (xs ++ bytes) at
+    → word_of (take 8 (drop from bytes)) ≡ stored_word (xs ++ bytes) at
 word_after xs bytes at from place = rw (← place, drop-append-add xs bytes from) refl
 
 -- ---- the bytes that words store up to a fill
 
 pub ArePending_none : ArePending (0 ∷ 0 ∷ 0 ∷ 0 ∷ 0 ∷ 0 ∷ 0 ∷ 0 ∷ []) 0
-unfolding pending_words
+unfolding stored_words
 ArePending_none = record { few = omega arith; count = refl; words = refl }
 
 ruleset bytes_typed =
@@ -53,18 +53,18 @@ module _ {ws : List ℕ} {fill : ℕ} (are : ArePending ws fill) where
     pub bytes_put : pending_bytes new (fill + length bytes) ≡ stored ++ bytes
     bytes_put =
         let typed_bytes : AreBytes (stored ++ bytes) = search bytes_typed in
-        rw (is, ← length_put) (bytes-pending_words 8 _ typed_bytes (omega (arith, length_put)))
+        rw (is, ← length_put) (bytes-stored_words 8 _ typed_bytes (omega (arith, length_put)))
 
     pub ArePending_put : fill + length bytes < 64 → ArePending new (fill + length bytes)
     ArePending_put few = grind (arith, bytes_put, length_put, is)
 
     -- as many as fill a block
     pub words_put : fill + length bytes ≡ 64 → new ≡ whole_words (stored ++ bytes)
-    words_put full = is ∙ ap (λ n. pending_words n (stored ++ bytes)) (omega (arith, length_put))
+    words_put full = is ∙ ap (λ n. stored_words n (stored ++ bytes)) (omega (arith, length_put))
 
   -- the word at a place
-  pub get_or_pending : (i : ℕ) → i < 8 → get_or ws i 0 ≡ word_at stored i
-  get_or_pending i lt = ap (λ us. get_or us i 0) are.words ∙ get_or-pending_words 8 i stored lt
+  pub get_or_pending : (i : ℕ) → i < 8 → get_or ws i 0 ≡ stored_word stored i
+  get_or_pending i lt = ap (λ us. get_or us i 0) are.words ∙ get_or-stored_words 8 i stored lt
 
   pub AreBytes_word : (i : ℕ) → AreBytes (take 8 (drop (8 * i) stored))
   AreBytes_word i = search bytes_typed

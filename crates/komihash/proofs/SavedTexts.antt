@@ -12,12 +12,12 @@ use Rattle.std.specs.Prelude.{slice_index, ◌==◌}
 use Rattle.komihash.specs.Rounds.{Lanes, in_order}
 use Rattle.komihash.specs.Saved.{flag_byte, text, IsText, IsTextAfter, Restored}
 use Rattle.komihash.specs.Stream.{State, IsState, HasAbsorbed}
-use Rattle.komihash.specs.Storage.{pending_words, whole_words}
+use Rattle.komihash.specs.Storage.{stored_words, whole_words}
 use Rattle.komihash.specs.Words.{AreBytes, AreWords, all_bytes}
 use Rattle.komihash.specs.Storage.{xor_again}
 use Rattle.komihash.proofs.WholeWords.{length-whole_words}
-use Rattle.komihash.proofs.AllBytes.{length-all_bytes, pending_words-all_bytes, all_bytes-whole_words}
-use Rattle.komihash.proofs.AllBytes.{AreWords-pending_words}
+use Rattle.komihash.proofs.AllBytes.{length-all_bytes, stored_words-all_bytes, all_bytes-whole_words}
+use Rattle.komihash.proofs.AllBytes.{AreWords-stored_words}
 use Rattle.komihash.proofs.WordOf.{AreBytes-typed, AreBytes-take, AreBytes-drop}
 
 -- ---- the parts of a text
@@ -37,8 +37,8 @@ part-put a n out part bytes le within room is =
 -- ---- a text, and the state that is read from it
 
 -- the lanes from their words
-abbrev pub lanes_of : List ℕ → Lanes
-lanes_of ws = record {
+abbrev pub lanes_from : List ℕ → Lanes
+lanes_from ws = record {
   s1 = slice_index ws 0;
   s2 = slice_index ws 1;
   s3 = slice_index ws 2;
@@ -51,7 +51,7 @@ lanes_of ws = record {
 
 abbrev pub state_of : List ℕ → State
 state_of bytes = record {
-  lanes = lanes_of (whole_words (take 64 (drop 4 bytes)));
+  lanes = lanes_from (whole_words (take 64 (drop 4 bytes)));
   pending = drop 68 bytes;
   absorbed = slice_index bytes 1 == 1;
   top_bit = slice_index bytes 2 == 1;
@@ -66,8 +66,8 @@ state_of-text v s are =
     let lanes = all_bytes (in_order s.lanes) in
     let size : length lanes ≡ 64 = length-all_bytes (in_order s.lanes) in
     let words : whole_words lanes ≡ in_order s.lanes =
-    ap (λ n. pending_words (n / 8) lanes) size
-    ∙ pending_words-all_bytes (in_order s.lanes) are in
+    ap (λ n. stored_words (n / 8) lanes) size
+    ∙ stored_words-all_bytes (in_order s.lanes) are in
     rw (
       take_at lanes s.pending 64 size,
       drop_at lanes s.pending 64 size,
@@ -98,7 +98,7 @@ module _ (v w : ℕ) (s t : State) (same : text v s ≡ text w t) where
 
 -- ---- which bytes are a text
 
-pub in_order-back : (ws : List ℕ) → length ws ≡ 8 → in_order (lanes_of ws) ≡ ws
+pub in_order-back : (ws : List ℕ) → length ws ≡ 8 → in_order (lanes_from ws) ≡ ws
 in_order-back (a ∷ b ∷ c ∷ d ∷ e ∷ f ∷ g ∷ h ∷ []) eight = refl
 in_order-back ws eight = absurd (omega arith)
 
@@ -142,7 +142,7 @@ laid_out-state v bytes are laid =
     length-whole_words lanes ∙ omega (arith, laid.size, length-drop 4 bytes) in
     record {
       words = subst AreWords (sym (in_order-back (whole_words lanes) eight))
-          (AreWords-pending_words (length lanes / 8) lanes are_lanes);
+          (AreWords-stored_words (length lanes / 8) lanes are_lanes);
       bytes = AreBytes-drop 68 bytes are;
       few = omega (arith, laid.size, laid.few, length-drop 68 bytes);
       top_bit_absorbed = grind (arith, nat_tests);
@@ -168,7 +168,7 @@ IsLaidOut-text v bytes typed =
 pub read_state : (bytes : List ℕ) (lanes : Lanes)
     → in_order lanes ≡ whole_words (take 64 (drop 4 bytes))
     → record (state_of bytes) { lanes = lanes } ≡ state_of bytes
-read_state bytes lanes read = ap (λ ws. record (state_of bytes) { lanes = lanes_of ws }) read
+read_state bytes lanes read = ap (λ ws. record (state_of bytes) { lanes = lanes_from ws }) read
 
 pub restored : (v : ℕ) (bytes : List ℕ) (now : State) → IsText v bytes → now ≡ state_of bytes
     → IsState v now × Restored v (λ (s : State). s) bytes (Some now)

@@ -14,7 +14,7 @@ use Rattle.komihash.specs.Padding.{pads_with_two, padding_byte, padded_words}
 use Rattle.komihash.specs.Rounds.{Lanes, low, plus, mix, seed_pair, lanes, block_round}
 use Rattle.komihash.specs.Rounds.{block_round_by, in_order, join, pair_round, closing}
 use Rattle.komihash.specs.Saved.{text, IsTextAfter}
-use Rattle.komihash.specs.Storage.{pending_words, whole_words, block_lanes, after_blocks}
+use Rattle.komihash.specs.Storage.{stored_words, whole_words, block_lanes, after_blocks}
 use Rattle.komihash.specs.Storage.{tail_end, final_word, end_byte}
 use Rattle.komihash.specs.Stream.{State, IsState, HasAbsorbed, start, absorb, absorb_byte}
 use Rattle.komihash.specs.Stream.{answer, tail_of, Started, Absorbed, Answered}
@@ -200,7 +200,7 @@ IsState-absorb v s new bytes is are same =
 tail_of-words : (v : ℕ) (m : List ℕ) (absorbed top_bit : Bool)
     → tail_of v m absorbed top_bit
     ≡ whole_words m ++ final_word m (tail_end v m absorbed top_bit) ∷ []
-unfolding pending_words
+unfolding stored_words
 tail_of-words v [] absorbed top_bit = grind arith
 tail_of-words v (b ∷ m) absorbed top_bit = padded_words-by_tail v (b ∷ m)
 

@@ -11,14 +11,14 @@ use Rattle.std.proofs.lemmas.Nat.{pow-add, pow_pos, shr-shr, shr_below, shr_le, 
 use Rattle.std.proofs.lemmas.Simd.{Each1-from_get_or}
 use Rattle.std.specs.Int.{to_le_bytes}
 use Rattle.std.specs.Prelude.{slice_index}
-use Rattle.komihash.specs.Storage.{pending_words, whole_words, after_words, end_byte}
+use Rattle.komihash.specs.Storage.{stored_words, whole_words, after_words, end_byte}
 use Rattle.komihash.specs.Padding.{ArePadded, pads_with_two, padding_after, padded_words}
 use Rattle.komihash.specs.Padding.{padding_byte}
 use Rattle.komihash.specs.Words.{AreBytes, word_of, all_bytes}
 use Rattle.komihash.proofs.AllBytes.{length-all_bytes, AreBytes-all_bytes, take-all_bytes}
-use Rattle.komihash.proofs.AllBytes.{bytes-pending_words, pending_words-all_bytes}
-use Rattle.komihash.proofs.WholeWords.{get_or-pending_words, length-pending_words}
-use Rattle.komihash.proofs.WholeWords.{pending_words-last}
+use Rattle.komihash.proofs.AllBytes.{bytes-stored_words, stored_words-all_bytes}
+use Rattle.komihash.proofs.WholeWords.{get_or-stored_words, length-stored_words}
+use Rattle.komihash.proofs.WholeWords.{stored_words-last}
 use Rattle.komihash.proofs.PaddedWords.{padded_words-by_tail}
 use Rattle.komihash.proofs.WordOf.{AreBytes-append, AreBytes-drop, AreBytes-one, word_of-append}
 use Rattle.komihash.proofs.WordOf.{word_of-drop}
@@ -28,13 +28,13 @@ last ws = get_or ws (length ws - 1) 0
 
 -- the last word of bytes, from one of its bytes on
 last-from : (i r : ℕ) (xs : List ℕ) → AreBytes xs → length xs ≤ 8 * i + 8
-    → last (pending_words (i + 1) xs) / 2 ^ (8 * r) ≡ word_of (drop (8 * i + r) xs)
+    → last (stored_words (i + 1) xs) / 2 ^ (8 * r) ≡ word_of (drop (8 * i + r) xs)
 last-from i r xs are le =
-    let size = length-pending_words (i + 1) xs in
-    let at : length (pending_words (i + 1) xs) - 1 ≡ i = omega arith in
+    let size = length-stored_words (i + 1) xs in
+    let at : length (stored_words (i + 1) xs) - 1 ≡ i = omega arith in
     rw (
       at,
-      get_or-pending_words (i + 1) i xs (omega arith),
+      get_or-stored_words (i + 1) i xs (omega arith),
       take_all 8 (drop (8 * i) xs) (omega (arith, length-drop (8 * i) xs)),
       ← word_of-drop r (drop (8 * i) xs) (AreBytes-drop (8 * i) xs are),
       drop-drop r (8 * i) xs,
@@ -64,13 +64,13 @@ stored v m are =
     let xs = m ++ end ∷ [] in
     let are_xs = AreBytes-append m (end ∷ []) are (AreBytes-one end (end_byte-lt v m)) in
     let size = length-append m (end ∷ []) in
-    let words : padded_words v m ≡ pending_words (n / 8 + 1) xs =
-    padded_words-by_tail v m ∙ sym (pending_words-last (n / 8) m (end ∷ []) refl (omega arith)) in
+    let words : padded_words v m ≡ stored_words (n / 8 + 1) xs =
+    padded_words-by_tail v m ∙ sym (stored_words-last (n / 8) m (end ∷ []) refl (omega arith)) in
     let place : 8 * (n / 8) + n % 8 ≡ n = omega arith in
     rw words record {
-      size = length-pending_words (n / 8 + 1) xs;
-      bytes = sym (take-take n (length xs) (all_bytes (pending_words (n / 8 + 1) xs)) (omega arith))
-          ∙ ap (take n) (bytes-pending_words (n / 8 + 1) xs are_xs (omega arith))
+      size = length-stored_words (n / 8 + 1) xs;
+      bytes = sym (take-take n (length xs) (all_bytes (stored_words (n / 8 + 1) xs)) (omega arith))
+          ∙ ap (take n) (bytes-stored_words (n / 8 + 1) xs are_xs (omega arith))
           ∙ take_at m (end ∷ []) n refl;
       end = last-from (n / 8) (n % 8) xs are_xs (omega arith)
           ∙ rw (place, drop_at m (end ∷ []) n refl) (omega arith);
@@ -139,7 +139,7 @@ module _ (v : ℕ) (ws : List ℕ) (r : ℕ) where
       let bytes = all_bytes ws in
       let left = drop size bytes in
       let end = end_byte v message in
-      let words = pending_words-all_bytes ws (Each1-from_get_or _ ws 0 (λ i _. fit i)) in
+      let words = stored_words-all_bytes ws (Each1-from_get_or _ ws 0 (λ i _. fit i)) in
       let count = length-all_bytes ws in
       let n : length message ≡ size = length-take-le size bytes (omega arith) in
       let all : length message / 8 + 1 ≡ length ws = omega arith in
@@ -152,7 +152,7 @@ module _ (v : ℕ) (ws : List ℕ) (r : ℕ) where
       ∙ ap (λ w. whole_words message ++ w ∷ [])
       (word_of-append (after_words message) (end ∷ [])
       ∙ rw (← high) (sym (word_of-append (after_words message) left)))
-      ∙ sym (pending_words-last (length message / 8) message left refl
+      ∙ sym (stored_words-last (length message / 8) message left refl
       (omega (arith, length-drop size bytes)))
       ∙ rw (take-append-drop size bytes, all) words
 

@@ -3,60 +3,60 @@ use Rattle.std.proofs.Common.{◌≡◌, ℕ, zero, suc, ◌+◌, ◌*◌, ◌/�
 use Rattle.std.proofs.Common.{length, take, drop, get_or, refl, ap, arith, zero-add, suc-add}
 use Rattle.std.proofs.lemmas.List.{length-append, length-drop, drop-drop, take-append-le}
 use Rattle.std.proofs.lemmas.List.{drop-append-le, take_all}
-use Rattle.komihash.specs.Storage.{pending_words, whole_words}
+use Rattle.komihash.specs.Storage.{stored_words, whole_words}
 use Rattle.komihash.specs.Words.{word_of, words_of}
 
 -- the word at an index
-pub get_or-pending_words : (n i : ℕ) (xs : List ℕ) → i < n
-    → get_or (pending_words n xs) i 0 ≡ word_of (take 8 (drop (8 * i) xs))
-unfolding pending_words
-get_or-pending_words zero i xs lt = absurd (omega arith)
-get_or-pending_words (suc n) zero xs lt = refl
-get_or-pending_words (suc n) (suc i) xs lt =
+pub get_or-stored_words : (n i : ℕ) (xs : List ℕ) → i < n
+    → get_or (stored_words n xs) i 0 ≡ word_of (take 8 (drop (8 * i) xs))
+unfolding stored_words
+get_or-stored_words zero i xs lt = absurd (omega arith)
+get_or-stored_words (suc n) zero xs lt = refl
+get_or-stored_words (suc n) (suc i) xs lt =
     let next : 8 + 8 * i ≡ 8 * suc i = omega arith in
-    rw (get_or-pending_words n i (drop 8 xs) (omega arith), drop-drop (8 * i) 8 xs, next) refl
+    rw (get_or-stored_words n i (drop 8 xs) (omega arith), drop-drop (8 * i) 8 xs, next) refl
 
-pub length-pending_words : (n : ℕ) (xs : List ℕ) → length (pending_words n xs) ≡ n
-unfolding pending_words
-length-pending_words zero xs = refl
-length-pending_words (suc n) xs = ap suc (length-pending_words n (drop 8 xs))
+pub length-stored_words : (n : ℕ) (xs : List ℕ) → length (stored_words n xs) ≡ n
+unfolding stored_words
+length-stored_words zero xs = refl
+length-stored_words (suc n) xs = ap suc (length-stored_words n (drop 8 xs))
 
 pub length-whole_words : (xs : List ℕ) → length (whole_words xs) ≡ length xs / 8
-length-whole_words xs = length-pending_words (length xs / 8) xs
+length-whole_words xs = length-stored_words (length xs / 8) xs
 
 pub whole_words-few : (xs : List ℕ) → length xs < 8 → whole_words xs ≡ []
-unfolding pending_words
+unfolding stored_words
 whole_words-few xs lt = let none : length xs / 8 ≡ 0 = omega arith in rw none refl
 
 -- what proofs that read whole words one by one need
-pub ruleset read_words = (length-pending_words, get_or-pending_words)
+pub ruleset read_words = (length-stored_words, get_or-stored_words)
 
 -- a cut after whole words, and more words after it
-pub pending_words-append : (n k : ℕ) (xs ys : List ℕ) → length xs ≡ 8 * n
-    → pending_words (n + k) (xs ++ ys) ≡ pending_words n xs ++ pending_words k ys
-unfolding pending_words
-pending_words-append zero k [] ys e = rw zero-add refl
-pending_words-append zero k (x ∷ xs) ys e = absurd (omega arith)
-pending_words-append (suc n) k xs ys e =
+pub stored_words-append : (n k : ℕ) (xs ys : List ℕ) → length xs ≡ 8 * n
+    → stored_words (n + k) (xs ++ ys) ≡ stored_words n xs ++ stored_words k ys
+unfolding stored_words
+stored_words-append zero k [] ys e = rw zero-add refl
+stored_words-append zero k (x ∷ xs) ys e = absurd (omega arith)
+stored_words-append (suc n) k xs ys e =
     rw (suc-add, take-append-le 8 xs ys (omega arith), drop-append-le 8 xs ys (omega arith))
     (ap (λ ws. word_of (take 8 xs) ∷ ws)
-    (pending_words-append n k (drop 8 xs) ys (omega (arith, length-drop 8 xs))))
+    (stored_words-append n k (drop 8 xs) ys (omega (arith, length-drop 8 xs))))
 
 pub whole_words-append : (xs ys : List ℕ) (k : ℕ) → length xs ≡ 8 * k
     → whole_words (xs ++ ys) ≡ whole_words xs ++ whole_words ys
 whole_words-append xs ys k e =
     let all : length (xs ++ ys) / 8 ≡ k + length ys / 8 = omega (arith, length-append xs ys) in
     let first : length xs / 8 ≡ k = omega arith in
-    rw (all, first) (pending_words-append k (length ys / 8) xs ys e)
+    rw (all, first) (stored_words-append k (length ys / 8) xs ys e)
 
 -- fewer than eight bytes after whole words, and those that complete their word
-pub pending_words-last : (n : ℕ) (xs ys : List ℕ) → length xs / 8 ≡ n
+pub stored_words-last : (n : ℕ) (xs ys : List ℕ) → length xs / 8 ≡ n
     → length xs + length ys ≤ 8 * n + 8
-    → pending_words (n + 1) (xs ++ ys) ≡ pending_words n xs ++ word_of (drop (8 * n) xs ++ ys) ∷ []
-unfolding pending_words
-pending_words-last zero xs ys e le =
+    → stored_words (n + 1) (xs ++ ys) ≡ stored_words n xs ++ word_of (drop (8 * n) xs ++ ys) ∷ []
+unfolding stored_words
+stored_words-last zero xs ys e le =
     rw (take_all 8 (xs ++ ys) (omega (arith, length-append xs ys))) refl
-pending_words-last (suc n) xs ys e le =
+stored_words-last (suc n) xs ys e le =
     let size = length-drop 8 xs in
     let next : 8 * suc n ≡ 8 + 8 * n = omega arith in
     rw (
@@ -67,11 +67,11 @@ pending_words-last (suc n) xs ys e le =
       drop-append-le 8 xs ys (omega arith),
     )
     (ap (λ ws. word_of (take 8 xs) ∷ ws)
-    (pending_words-last n (drop 8 xs) ys (omega arith) (omega arith)))
+    (stored_words-last n (drop 8 xs) ys (omega arith) (omega arith)))
 
 -- bytes that are all in whole words
-pub words_of-whole : (n : ℕ) (xs : List ℕ) → length xs ≡ 8 * n → words_of xs ≡ pending_words n xs
-unfolding pending_words
+pub words_of-whole : (n : ℕ) (xs : List ℕ) → length xs ≡ 8 * n → words_of xs ≡ stored_words n xs
+unfolding stored_words
 words_of-whole zero [] e = refl
 words_of-whole (suc n) (a ∷ b ∷ c ∷ d ∷ e ∷ f ∷ g ∷ h ∷ xs) is =
     ap (λ ws. word_of (a ∷ b ∷ c ∷ d ∷ e ∷ f ∷ g ∷ h ∷ []) ∷ ws) (words_of-whole n xs (omega arith))

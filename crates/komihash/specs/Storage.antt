@@ -13,13 +13,13 @@ use Rattle.komihash.specs.declared.rounds.Pair.{Pair}
 -- ---- a message: its whole words, the bytes after them, and its whole blocks
 
 -- the n words that store these bytes, with zeros after them
-unfoldable pub pending_words : ℕ → List ℕ → List ℕ
-pending_words zero bytes = []
-pending_words (suc n) bytes = word_of (take 8 bytes) ∷ pending_words n (drop 8 bytes)
+unfoldable pub stored_words : ℕ → List ℕ → List ℕ
+stored_words zero bytes = []
+stored_words (suc n) bytes = word_of (take 8 bytes) ∷ stored_words n (drop 8 bytes)
 
 -- the words of each eight bytes, without the fewer than eight at the end
 abbrev pub whole_words : List ℕ → List ℕ
-whole_words bytes = pending_words (length bytes / 8) bytes
+whole_words bytes = stored_words (length bytes / 8) bytes
 
 -- the bytes after the last whole word
 abbrev pub after_words : List ℕ → List ℕ
@@ -61,7 +61,7 @@ pair_of p = (bit_xor p.1 p.0, p.1)
 
 -- the eight words store these bytes
 abbrev pub Stores : List ℕ → List ℕ → Type 0
-Stores ws bytes = ws ≡ pending_words 8 bytes
+Stores ws bytes = ws ≡ stored_words 8 bytes
 
 -- the bytes that words store up to a fill
 abbrev pub pending_bytes : List ℕ → ℕ → List ℕ
@@ -74,13 +74,13 @@ pub record ArePending (ws : List ℕ) (fill : ℕ) : Type 0 where
   pub words : Stores ws (pending_bytes ws fill)
 
 -- the word at index k of those that store these bytes
-abbrev pub word_at : List ℕ → ℕ → ℕ
-word_at bytes k = word_of (take 8 (drop (8 * k) bytes))
+abbrev pub stored_word : List ℕ → ℕ → ℕ
+stored_word bytes k = word_of (take 8 (drop (8 * k) bytes))
 
 -- of eight words, all but those from index `low` on and below `high` store these bytes
 pub record StoresBut (ws bytes : List ℕ) (low high : ℕ) : Type 0 where
   pub size : length ws ≡ 8
-  pub words : (k : ℕ) → k < 8 → (low ≤ k → high ≤ k) → get_or ws k 0 ≡ word_at bytes k
+  pub words : (k : ℕ) → k < 8 → (low ≤ k → high ≤ k) → get_or ws k 0 ≡ stored_word bytes k
 
 -- ---- lemmas by which a struct's value gives back its fields, which have to stand in `specs`
 

@@ -1,7 +1,7 @@
 //! The padding of a message: its padding byte, its final word, its padded words, and the message
 //! whose padded words are given.
 
-ghost use Rattle.std.specs.Prelude.{◌≡◌, ℕ, ◌+◌, ◌*◌, ◌/◌, ◌^◌, ◌<◌, ◌≤◌, ◌↔◌, IsTrue};
+ghost use Rattle.std.specs.Prelude.{◌≡◌, ◌+◌, ◌*◌, ◌/◌, ◌^◌, ◌<◌, ◌≤◌, ◌↔◌, IsTrue};
 ghost use Rattle.std.specs.Prelude.{IfSome, IfNone, length, take, slice_index};
 ghost use Rattle.komihash.specs.Padding.{ArePadded, Padded, Unpadded, padded_words};
 ghost use Rattle.komihash.specs.Padding.{pads_with_two, padding_after, padding_byte};
@@ -43,7 +43,7 @@ pub(crate) fn padding_byte<const V: u8>(message: &[u8]) -> u64
 #[inline(always)]
 #[tactic(auto, using(crate::proofs::PaddedWords::final_word_many))]
 pub(crate) fn final_word_by_shift(bytes: &[u8], end: u64) -> u64
-    requires many { 8 ≤ length bytes.now }
+    requires at_least_8 { 8 ≤ length bytes.now }
     requires end { end < 4 }
     ensures { result ≡ final_word bytes.now end }
 {
@@ -57,7 +57,7 @@ pub(crate) fn final_word_by_shift(bytes: &[u8], end: u64) -> u64
 #[inline(always)]
 #[tactic(auto, using(crate::proofs::PaddedWords::final_word_whole))]
 pub(crate) fn final_word_by_branch(bytes: &[u8], end: u64) -> u64
-    requires many { 8 ≤ length bytes.now }
+    requires at_least_8 { 8 ≤ length bytes.now }
     requires end { end < 4 }
     ensures { result ≡ final_word bytes.now end }
 {

@@ -37,7 +37,7 @@ impl Fault {
 /// Why the program did not begin to read.
 #[derive(Drop)]
 pub enum Refusal {
-    /// The arguments, a list of them or the input's buffer could not be allocated.
+    /// The arguments or the input's buffer could not be allocated.
     NoMemory,
     /// There are arguments, but not exactly a version and a seed. All errors in place of the
     /// arguments count as this, but for `OutOfMemory`.

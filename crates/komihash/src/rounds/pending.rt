@@ -8,7 +8,7 @@ ghost use Rattle.std.proofs.Common.{sym};
 ghost use Rattle.komihash.specs.Counts.{Costs};
 ghost use Rattle.komihash.specs.Padding.{padding_byte};
 ghost use Rattle.komihash.specs.Storage.{pending_bytes, ArePending, Stores, StoresBut};
-ghost use Rattle.komihash.specs.Storage.{pending_words, whole_words, final_word};
+ghost use Rattle.komihash.specs.Storage.{stored_words, whole_words, final_word};
 ghost use Rattle.komihash.specs.Words.{AreBytes, word_of};
 
 use super::tail::Words;
@@ -34,7 +34,7 @@ impl Model for Pending {
     ghost invariant = { λ p. ArePending p.words p.fill };
 
     ghost inverse = { λ bytes. record {
-      words = pending_words 8 bytes;
+      words = stored_words 8 bytes;
       fill = length bytes;
     } };
 
@@ -58,7 +58,7 @@ impl Pending {
     #[inline(always)]
     pub(crate) fn len(&self) -> usize
         ensures length { result ≡ length self.now }
-        ensures few { result < 64 }
+        ensures below_64 { result < 64 }
     {
         self.fill
     }
@@ -74,11 +74,12 @@ impl Pending {
         self.fill += bytes.len();
     }
 
-    /// Appends bytes where none are stored, and counts them as kept.
+    /// Appends bytes where none are stored, and counts them as kept. Does what `append` does, by a
+    /// fill that the compiler knows to be 0.
     #[inline(always)]
     pub(crate) fn append_first(&mut self, bytes: &[u8], tally: &mut Tally)
         requires none { self.old ≡ [] }
-        requires few { length bytes.now < 64 }
+        requires below_64 { length bytes.now < 64 }
         ensures bytes { self.new ≡ bytes.now }
         ensures costs { Costs tally 0 (length bytes.now) }
     {
@@ -177,7 +178,7 @@ fn append_within_word(words: &mut [u64; 8], fill: usize, word: u64)
 #[inline(always)]
 fn append_below_eight(words: &mut [u64; 8], fill: usize, bytes: &[u8])
     requires pending { ArePending words.old fill }
-    requires few { length bytes.now < 8 }
+    requires below_8 { length bytes.now < 8 }
     requires room { fill + length bytes.now ≤ 64 }
     ensures { Stores words.new (pending_bytes words.old fill ++ bytes.now) }
 {
@@ -207,7 +208,7 @@ fn store_two_words(words: &mut [u64; 8], at: usize, bytes: &[u8], from: usize)
 #[inline(always)]
 fn append_whole_words(words: &mut [u64; 8], fill: usize, bytes: &[u8])
     requires pending { ArePending words.old fill }
-    requires many { 8 ≤ length bytes.now }
+    requires at_least_8 { 8 ≤ length bytes.now }
     requires room { fill + length bytes.now ≤ 64 }
     ensures { StoresBut words.new (pending_bytes words.old fill ++ bytes.now)
         ((fill + length bytes.now) / 8) ((fill + length bytes.now) / 8 + 1) }
@@ -234,7 +235,7 @@ fn append_whole_words(words: &mut [u64; 8], fill: usize, bytes: &[u8])
 #[inline(always)]
 fn append_eight_or_more(words: &mut [u64; 8], fill: usize, bytes: &[u8])
     requires pending { ArePending words.old fill }
-    requires many { 8 ≤ length bytes.now }
+    requires at_least_8 { 8 ≤ length bytes.now }
     requires room { fill + length bytes.now ≤ 64 }
     ensures { Stores words.new (pending_bytes words.old fill ++ bytes.now) }
 {

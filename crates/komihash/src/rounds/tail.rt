@@ -88,8 +88,8 @@ pub(crate) fn close(pair: Pair, word: u64, last: u64, tally: &mut Tally) -> u64
     mix_again(mix((low ^ word) ^ e, e ^ last, e, tally), tally)
 }
 
-// Returns the pair after a round on the two words from index `at`. From it, the words after these
-// give the hash that all give from `pair`. This is stated and proved here once, for three calls.
+// Returns the pair after a round on the two words from index `at`. The remaining words hash the
+// same from it. This is stated and proved here once, for three calls.
 #[inline(always)]
 #[tactic(auto, using(crate::proofs::HashSteps::hash_from_pair_two))]
 fn round_at<W: Words>(pair: Pair, left: &W, at: usize, tally: &mut Tally) -> Pair
@@ -103,8 +103,8 @@ fn round_at<W: Words>(pair: Pair, left: &W, at: usize, tally: &mut Tally) -> Pai
     pair_round(pair, left.word(at), left.word(at + 1), tally)
 }
 
-// Returns the pair after a round on each two words. From it, the word that may be left gives the
-// hash that all give from `pair`.
+// Returns the pair after a round on each two words. The word that may remain hashes the same from
+// it.
 #[inline(always)]
 fn round_each<W: Words>(pair: Pair, left: &W, tally: &mut Tally) -> Pair
     requires { length (W.words left.now) < 8 }

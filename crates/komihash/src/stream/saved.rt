@@ -23,7 +23,7 @@ pub const LONGEST_TEXT: usize = PENDING_AT + 63;
 /// Writes the first four bytes: the version, the two flags, and the number of pending bytes.
 #[inline(always)]
 pub(crate) fn write_head<const V: u8>(absorbed: bool, top_bit: bool, fill: usize, out: &mut [u8])
-    requires few { fill < 64 }
+    requires below_64 { fill < 64 }
     requires room { LANES_AT ≤ length out.old }
     ensures head { out.new
         ≡ (V ∷ flag_byte absorbed ∷ flag_byte top_bit ∷ fill ∷ []) ++ drop LANES_AT out.old }
@@ -49,7 +49,7 @@ pub(crate) fn write_lanes(lanes: &Lanes, out: &mut [u8])
 /// Writes the pending bytes after the lanes, and returns where they end.
 #[inline(always)]
 pub(crate) fn write_pending(pending: &Pending, out: &mut [u8]) -> usize
-    requires few { length pending.now < 64 }
+    requires below_64 { length pending.now < 64 }
     requires room { LONGEST_TEXT ≤ length out.old }
     ensures end { result ≡ PENDING_AT + length pending.now }
     ensures bytes { take result out.new ≡ take PENDING_AT out.old ++ pending.now }
@@ -98,7 +98,7 @@ pub(crate) fn read_lanes(bytes: &[u8]) -> Lanes
 #[inline(always)]
 pub(crate) fn read_pending(bytes: &[u8]) -> Pending
     requires room { PENDING_AT ≤ length bytes.now }
-    requires few { length bytes.now ≤ LONGEST_TEXT }
+    requires most { length bytes.now ≤ LONGEST_TEXT }
     ensures { result ≡ drop PENDING_AT bytes.now }
 {
     let mut pending = Pending::new();

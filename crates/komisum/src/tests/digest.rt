@@ -10,7 +10,6 @@ use crate::watched::Watched;
 use komihash::stream::{Call, KomiStream, LONGEST_TEXT, run_on};
 use komihash::tally::Tally;
 use komihash::v5::StreamedKomihash;
-use std::process::Abort;
 
 // Calls `digest` in version 5 with seed 0 and a chunk of `size` bytes. Also returns the number of
 // reads.

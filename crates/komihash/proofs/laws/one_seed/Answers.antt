@@ -1,3 +1,4 @@
+-- A fill of 32 bytes has 32 bytes.
 use Rattle.komihash.proofs.GeneratorFills.{length-fill}
 use Rattle.komihash.proofs.laws.one_seed.Goals as goal
 

@@ -1,3 +1,4 @@
+-- One more step is a sum of steps.
 use Rattle.komihash.specs.Generator.{after_steps, outputs}
 use Rattle.komihash.proofs.GeneratorFills.{after_steps-add, outputs-add}
 use Rattle.komihash.proofs.laws.step_by_step.Goals as goal

@@ -1,3 +1,4 @@
+-- The bytes that are written are those of the words, up to the length that was found.
 use Rattle.std.proofs.Common.{◌∙◌, sym, rules}
 use Rattle.std.proofs.lemmas.Bool.{false≢true}
 use Rattle.komihash.proofs.WordOf.{AreBytes-take}

@@ -1,3 +1,4 @@
+-- When the loop ends, no block is left.
 use Rattle.std.proofs.Common.{◌∙◌, arith, sym}
 use Rattle.komihash.proofs.Blocks.{block_lanes-few_bytes}
 use Rattle.komihash.proofs.rounds.absorb_blocks.Goals as goal

@@ -1,9 +1,10 @@
+-- A block of 64 bytes has eight whole words.
 use Rattle.std.proofs.Common.{◌≡◌, ◌/◌, length, arith}
 use Rattle.std.proofs.lemmas.List.{drop-drop}
-use Rattle.komihash.specs.Storage.{pending_words}
+use Rattle.komihash.specs.Storage.{stored_words}
 use Rattle.komihash.proofs.rounds.block_words.Goals as goal
 
 pub returns : goal.returns
-unfolding pending_words
+unfolding stored_words
 returns c =
     let count : length c.args.block.now / 8 ≡ 8 = omega arith in rw count (simp drop-drop (cc))

@@ -1,3 +1,4 @@
+-- Words that are xored twice cancel, whichever is stored with which.
 use Rattle.std.specs.Prelude.{bit_xor}
 use Rattle.komihash.specs.Rounds.{constant}
 use Rattle.komihash.proofs.Xor.{xor_middle, xor_swap}

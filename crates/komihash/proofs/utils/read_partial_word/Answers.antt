@@ -1,3 +1,4 @@
+-- Four bytes or more are read in two pieces, and fewer one by one.
 use Rattle.std.proofs.Common.{◌≡◌, ◌*◌, ◌/◌, ◌-◌, ◌^◌, length, get_or, arith, refl}
 use Rattle.std.proofs.lemmas.List.{get_or_past}
 use Rattle.komihash.proofs.WordOf.{AreBytes-typed, word_of-two_ends, word_of-few, word_of-push}

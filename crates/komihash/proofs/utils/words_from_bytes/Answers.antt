@@ -1,15 +1,16 @@
+-- Each turn of the loop stores the next whole word.
 use Rattle.std.proofs.Common.{◌≡◌, ◌/◌, ◌∙◌, length, arith}
 use Rattle.std.proofs.lemmas.Grind.{common_steps}
 use Rattle.std.proofs.lemmas.List.{take_all}
-use Rattle.komihash.proofs.WholeWords.{length-pending_words, get_or-pending_words}
+use Rattle.komihash.proofs.WholeWords.{length-stored_words, get_or-stored_words}
 use Rattle.komihash.proofs.WholeWords.{length-whole_words}
 use Rattle.komihash.proofs.utils.words_from_bytes.Goals as goal
 
 pub whole-preserved : goal.whole-preserved
 whole-preserved c =
     let bytes = c.args.bytes.now in
-    let size = length-pending_words (length bytes / 8) bytes in
-    let word = get_or-pending_words (length bytes / 8) c.whole.i bytes (omega arith) in
+    let size = length-stored_words (length bytes / 8) bytes in
+    let word = get_or-stored_words (length bytes / 8) c.whole.i bytes (omega arith) in
     record { front = grind (arith, common_steps); others = grind (arith, common_steps) }
 
 pub returns-clause-words : goal.returns-clause-words

@@ -1,3 +1,4 @@
+-- The words so far are filled, and the generator has taken as many steps.
 use Rattle.std.proofs.Common.{◌*◌}
 use Rattle.komihash.proofs.GeneratorFills.{Filled}
 use Rattle.komihash.proofs.generator.Komirand.fill_bytes.Given as goal

@@ -1,3 +1,4 @@
+-- Three rounds in a row take six words; the search finds the proofs for fewer.
 use Rattle.std.proofs.Common.{◌≡◌, ◌*◌, ◌/◌, ◌∙◌, arith, length}
 use Rattle.komihash.proofs.rounds.tail.round_each.Goals as goal
 

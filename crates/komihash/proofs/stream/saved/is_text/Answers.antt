@@ -1,3 +1,4 @@
+-- The tests of single bytes are those of a text that is laid out well.
 use Rattle.std.proofs.Common.{rules, arith}
 use Rattle.std.proofs.lemmas.Bool.Decides.{nat_tests}
 use Rattle.komihash.proofs.SavedTexts.{IsLaidOut-text}

@@ -1,3 +1,4 @@
+-- The pending bytes are all bytes after the first 68.
 use Rattle.std.proofs.Common.{length, drop, ◌-◌, arith}
 use Rattle.std.proofs.lemmas.List.{length-drop, take_all}
 use Rattle.komihash.proofs.stream.saved.read_pending.Goals as goal

@@ -1,3 +1,4 @@
+-- The lanes follow the first four bytes.
 use Rattle.std.proofs.Common.{◌∙◌, ap, arith, take}
 use Rattle.std.proofs.lemmas.List.{take_all}
 use Rattle.komihash.specs.Rounds.{in_order}

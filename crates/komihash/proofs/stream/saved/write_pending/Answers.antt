@@ -1,3 +1,4 @@
+-- The pending bytes follow the lanes.
 use Rattle.std.proofs.Common.{arith, ◌≡◌, ◌+◌, ◌-◌, length}
 use Rattle.komihash.proofs.SavedTexts.{part-put}
 use Rattle.komihash.proofs.stream.saved.write_pending.Goals as goal

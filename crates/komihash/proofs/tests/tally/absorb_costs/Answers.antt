@@ -1,3 +1,4 @@
+-- How many bytes are pending depends on how many came, not on which.
 use Rattle.std.proofs.Common.{arith}
 use Rattle.komihash.proofs.CallLists.{pending-absorb}
 use Rattle.komihash.proofs.tests.tally.absorb_costs.Goals as goal

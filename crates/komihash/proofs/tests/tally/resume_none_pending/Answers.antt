@@ -1,3 +1,4 @@
+-- A text of 68 bytes has no pending bytes.
 use Rattle.std.proofs.Common.{arith}
 use Rattle.komihash.proofs.SavedTexts.{length-text}
 use Rattle.komihash.proofs.tests.tally.resume_none_pending.Goals as goal

@@ -9,7 +9,6 @@ use Rattle.komihash.specs.Words.{AreBytes, word_of}
 use Rattle.komihash.proofs.WordOf.{AreBytes-drop, word_of-drop, word_of-push}
 use Rattle.komihash.proofs.PendingBytes.{get_or_pending, AreBytes_word}
 use Rattle.komihash.proofs.rounds.pending.Pending.final_word.Goals as goal
-use Rattle.komihash.proofs.rounds.pending.Pending.final_word.Goals.{then-over-eq0, else-over-eq0}
 
 low_byte : (xs : List ℕ) → AreBytes xs → word_of xs % 256 ≡ get_or xs 0 0
 low_byte [] are = refl

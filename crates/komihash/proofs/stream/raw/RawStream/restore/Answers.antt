@@ -1,3 +1,4 @@
+-- The bytes are refused or read as `IsText` says.
 use Rattle.std.proofs.Common.{rules}
 use Rattle.std.proofs.lemmas.Bool.{iff_false}
 use Rattle.komihash.proofs.SavedTexts.{restored, refused, read_state}

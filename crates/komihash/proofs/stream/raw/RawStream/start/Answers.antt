@@ -1,3 +1,4 @@
+-- A new state is what `Started` says, and a state of its version.
 use Rattle.std.proofs.Common.{rules}
 use Rattle.komihash.proofs.Streams.{started, IsState-start}
 use Rattle.komihash.proofs.stream.raw.RawStream.start.Goals as goal

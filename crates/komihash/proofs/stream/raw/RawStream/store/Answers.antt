@@ -1,3 +1,4 @@
+-- The three parts that are written make the text.
 use Rattle.std.proofs.Common.{arith, append_assoc, sym}
 use Rattle.komihash.specs.Saved.{text, IsTextAfter}
 use Rattle.komihash.proofs.SavedTexts.{length-text}
