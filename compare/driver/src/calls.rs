@@ -190,21 +190,34 @@ macro_rules! rust_crate {
     }};
 }
 
-/// Returns the calls of each side by the name of its column, those for x86-64-v3 at the end. No
-/// compiler can see which functions their pointers are of.
-pub fn sides() -> [(&'static str, Calls); 6] {
+/// A build of the library in a version, with the name of its column, beside the Rust crate.
+#[derive(Clone, Copy)]
+pub struct Build {
+    pub name: &'static str,
+    pub version: u8,
+    pub library: Calls,
+    pub rust_crate: Calls,
+}
+
+/// Returns the builds for x86-64-v2. No compiler can see which functions their pointers are of.
+pub fn builds() -> [Build; 2] {
+    let (five, four) = (with_calls!(library, "komihash_v5";), with_calls!(library, "komihash_v4";));
     black_box([
-        ("komihash 5", with_calls!(library, "komihash_v5";)),
-        ("Rust crate, version 5", rust_crate!(v5)),
-        ("komihash 4", with_calls!(library, "komihash_v4";)),
-        ("Rust crate, version 4", rust_crate!(v4)),
-        ("komihash 5, x86-64-v3", with_calls!(library, "v3_komihash_v5";)),
-        ("komihash 4, x86-64-v3", with_calls!(library, "v3_komihash_v4";)),
+        Build { name: "komihash 5", version: 5, library: five, rust_crate: rust_crate!(v5) },
+        Build { name: "komihash 4", version: 4, library: four, rust_crate: rust_crate!(v4) },
     ])
 }
 
+/// Returns the builds for x86-64-v3, if the processor can execute them.
+pub fn builds_for_v3() -> impl Iterator<Item = Build> {
+    let five = ("komihash 5, x86-64-v3", with_calls!(library, "v3_komihash_v5";));
+    let four = ("komihash 4, x86-64-v3", with_calls!(library, "v3_komihash_v4";));
+    let both = builds().into_iter().zip(black_box([five, four])).filter(|_| is_v3());
+    both.map(|(build, (name, library))| Build { name, library, ..build })
+}
+
 /// Returns whether the processor can execute what is built for x86-64-v3.
-pub fn is_v3() -> bool {
+fn is_v3() -> bool {
     is_x86_feature_detected!("avx2") && is_x86_feature_detected!("bmi2")
 }
 

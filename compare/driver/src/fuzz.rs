@@ -1,6 +1,6 @@
 //! Compares the calls of the library with those of the Rust crate. Saved texts and padded words,
 //! which the Rust crate lacks, are compared with rules that are written here once more.
-use crate::calls::{Calls, Generator, Stream, is_v3, sides};
+use crate::calls::{Build, Calls, Generator, Stream, builds, builds_for_v3};
 use crate::random::Random;
 use std::fmt::Debug;
 
@@ -11,24 +11,14 @@ const SEEDS: [u64; 5] = [0, 1, u64::MAX, 0x5555_5555_5555_5555, 0x0123_4567_89ab
 /// Bytes at the edges of what the padding depends on.
 const ENDS: [u8; 5] = [0x00, 0x01, 0x7f, 0x80, 0xff];
 
-/// A build of the library beside the Rust crate.
-struct Pair {
-    version: u8,
-    library: Calls,
-    rust_crate: Calls,
-}
-
 /// Compares every message of a small set, and random inputs. Returns the first difference.
 pub fn run(seed: u64, count: u64) -> Found {
-    let sides = sides();
-    let pairs = [(5, 0, 1), (4, 2, 3), (5, 4, 1), (4, 5, 3)];
-    for (version, ours, theirs) in pairs.into_iter().take(if is_v3() { 4 } else { 2 }) {
-        let (name, library) = sides[ours];
-        let pair = Pair { version, library, rust_crate: sides[theirs].1 };
+    for build in builds().into_iter().chain(builds_for_v3()) {
         let mut random = Random(seed);
-        pair.edges()
-            .and_then(|_| (0..count).try_for_each(|_| pair.random(&mut random)))
-            .map_err(|difference| format!("{name}: {difference}"))?;
+        build
+            .edges()
+            .and_then(|_| (0..count).try_for_each(|_| build.random(&mut random)))
+            .map_err(|difference| format!("{}: {difference}", build.name))?;
     }
     Ok(())
 }
@@ -103,7 +93,7 @@ impl Random {
     }
 }
 
-impl Pair {
+impl Build {
     /// Compares messages that are cut twice, that have one bit, and that have each last byte.
     fn edges(&self) -> Found {
         for length in 0..=260 {

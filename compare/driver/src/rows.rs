@@ -1,6 +1,6 @@
 //! Times the rows of the tables. Prints a line for each row and column: the names of both, and the
 //! nanoseconds of a call, with tabs between.
-use crate::calls::{Calls, is_v3, other_hashes, sides};
+use crate::calls::{Calls, builds, builds_for_v3, other_hashes};
 use crate::random::Random;
 use std::hint::black_box;
 use std::time::{Duration, Instant};
@@ -13,7 +13,8 @@ struct Rows<'a> {
     word: &'a str,
     /// 1 MiB that begins where a block of 64 bytes does.
     bytes: &'a [u8],
-    sides: [(&'static str, Calls); 6],
+    /// The library and the Rust crate in both versions, with the names of their columns.
+    sides: Vec<(String, Calls)>,
 }
 
 /// Times the rows whose name contains a word.
@@ -21,7 +22,11 @@ pub fn run(repeats: u64, word: &str) {
     let mut random = Random(0);
     let room: Vec<u8> = (0..(1 << 20) + 64).map(|_| random.word() as u8).collect();
     let bytes = &room[room.as_ptr().align_offset(64)..][..1 << 20];
-    let rows = Rows { repeats, word, bytes, sides: sides() };
+    let sides = builds().into_iter().flat_map(|it| {
+        let theirs = format!("Rust crate, version {}", it.version);
+        [(it.name.to_string(), it.library), (theirs, it.rust_crate)]
+    });
+    let rows = Rows { repeats, word, bytes, sides: sides.collect() };
     rows.hashes();
     rows.streams();
     rows.short_streams();
@@ -63,7 +68,7 @@ impl Rows<'_> {
     fn row<T: Copy, R, F: FnMut() -> R>(
         &self,
         name: &str,
-        columns: &[(&str, T)],
+        columns: &[(String, T)],
         call_of: impl Fn(T) -> F,
     ) {
         if !name.contains(self.word) {
@@ -86,9 +91,10 @@ impl Rows<'_> {
     }
 
     fn hashes(&self) {
-        let sides = self.sides.iter().take(if is_v3() { 6 } else { 4 });
-        let hashes = sides.map(|(name, calls)| (*name, calls.hash));
-        let columns: Vec<_> = hashes.chain(other_hashes()).collect();
+        let sides = self.sides.iter().map(|(name, calls)| (name.clone(), calls.hash));
+        let for_v3 = builds_for_v3().map(|it| (it.name.to_string(), it.library.hash));
+        let others = other_hashes().map(|(name, hash)| (name.to_string(), hash));
+        let columns: Vec<_> = sides.chain(for_v3).chain(others).collect();
         const KIB: usize = 1024;
         for length in [1, 4, 8, 16, 24, 32, 40, 64, 96, 128, 256, KIB, 4 * KIB, 64 * KIB, KIB * KIB]
         {
@@ -137,7 +143,7 @@ impl Rows<'_> {
             self.stream(&format!("stream of {length} bytes in one write"), &[vec![length]]);
         }
         for pending in [0, 16, 63] {
-            self.row(&format!("finish with {pending} bytes pending"), &self.sides[..4], |calls| {
+            self.row(&format!("finish with {pending} bytes pending"), &self.sides, |calls| {
                 let mut stream = (calls.start)(0);
                 (calls.write)(&mut stream, self.bytes[..64 + pending].into());
                 move || (calls.finish)(&stream)
@@ -147,7 +153,7 @@ impl Rows<'_> {
 
     /// Times streams that take the lists of pieces in turn.
     fn stream(&self, name: &str, lists: &[Vec<u16>]) {
-        self.row(name, &self.sides[..4], |calls| {
+        self.row(name, &self.sides, |calls| {
             let mut lists = lists.iter().cycle();
             move || {
                 let mut stream = (calls.start)(0);
@@ -163,13 +169,13 @@ impl Rows<'_> {
     }
 
     fn generators(&self) {
-        self.row("output of the generator", &self.sides[..4], |calls| {
+        self.row("output of the generator", &self.sides, |calls| {
             let mut rand = (calls.rand_init)(1);
             move || (calls.rand_next)(&mut rand)
         });
         for length in [7, 64, 4096] {
             let name = format!("fill of {} by the generator", size(length));
-            self.row(&name, &self.sides[..4], |calls| {
+            self.row(&name, &self.sides, |calls| {
                 let (mut rand, mut out) = ((calls.rand_init)(1), vec![0; length]);
                 move || (calls.rand_fill)(&mut rand, (&mut out).into())
             });
@@ -178,7 +184,7 @@ impl Rows<'_> {
 
     /// Times the calls that the Rust crate lacks: its side copies as many bytes.
     fn without_rust_crate(&self) {
-        self.row("save and resume with 63 bytes pending", &self.sides[..4], |calls| {
+        self.row("save and resume with 63 bytes pending", &self.sides, |calls| {
             let (mut stream, mut text) = ((calls.start)(0), [0; 131]);
             (calls.write)(&mut stream, self.bytes[..127].into());
             move || {
@@ -188,11 +194,11 @@ impl Rows<'_> {
         });
         for length in [64, 1 << 10, 1 << 20] {
             let bytes = &self.bytes[..length];
-            self.row(&format!("pad of {}", size(length)), &self.sides[..4], |calls| {
+            self.row(&format!("pad of {}", size(length)), &self.sides, |calls| {
                 let mut words = vec![0; length / 8 + 1];
                 move || (calls.pad)(bytes.into(), (&mut words).into())
             });
-            self.row(&format!("unpad to {}", size(length)), &self.sides[..4], |calls| {
+            self.row(&format!("unpad to {}", size(length)), &self.sides, |calls| {
                 let (mut words, mut out) = (vec![0; length / 8 + 1], vec![0; length + 8]);
                 (calls.pad)(bytes.into(), (&mut words).into());
                 move || (calls.unpad)((&words).into(), (&mut out).into())
