@@ -43,8 +43,8 @@ check_arm64() {
 part bash scripts/rules.sh
 part python3 scripts/documents.py
 part rt ci
-# An edit that can't be applied counts for nothing in `rt ci`, which prints a line for each edit that
-# is refused, or in some versions their number.
+# An edit that can't be applied counts for nothing in `rt ci`, which prints a line for each edit
+# that is refused, or in some versions their number.
 edits=(crates/*/must-fail/*.edit)
 refused=$(grep -c '\.edit: refused' "$room/told")
 note 'each must-fail edit is refused' grep "must-fail edits: ${#edits[@]} refused" - "$room/told" \

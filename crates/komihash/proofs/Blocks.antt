@@ -62,7 +62,8 @@ after_words-after_blocks m =
     drop-drop (8 * (length (after_blocks m) / 8)) n m
     ∙ ap (λ k. drop k m) (omega (arith, length-after_blocks m))
 
-pub after_words-whole_words : (m : List ℕ) → after_words (whole_words m) ≡ whole_words (after_blocks m)
+pub after_words-whole_words : (m : List ℕ)
+    → after_words (whole_words m) ≡ whole_words (after_blocks m)
 after_words-whole_words m =
     let n = length m - length m % 64 in
     let front = take n m in

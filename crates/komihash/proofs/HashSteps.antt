@@ -28,10 +28,10 @@ hash_from_pair_two s ws at last le = absurd (omega arith)
 -- ---- lanes and blocks
 
 -- fewer than eight words and the final word make no block
-lanes_without_block : (v : ℕ) (s : Lanes) (ws : List ℕ) (last : ℕ) → length ws < 8
+without_block : (v : ℕ) (s : Lanes) (ws : List ℕ) (last : ℕ) → length ws < 8
     → hash_from_lanes v s false (ws ++ last ∷ []) ≡ hash_from_pair (join false s) (ws ++ last ∷ [])
-lanes_without_block v s (w0 ∷ w1 ∷ w2 ∷ w3 ∷ w4 ∷ w5 ∷ w6 ∷ w7 ∷ ws) last lt = absurd (omega arith)
-lanes_without_block v s ws last lt = refl
+without_block v s (w0 ∷ w1 ∷ w2 ∷ w3 ∷ w4 ∷ w5 ∷ w6 ∷ w7 ∷ ws) last lt = absurd (omega arith)
+without_block v s ws last lt = refl
 
 -- once a block was absorbed: the blocks that follow it, and then what is left
 after_block : (v : ℕ) (s : Lanes) (ws : List ℕ) (last : ℕ)
@@ -65,7 +65,7 @@ module _ (v seed : ℕ) (m : List ℕ) where
   unfolding komi
   komi_short lt =
       rw (padded_words-by_tail v m)
-      (lanes_without_block v (lanes pair) (whole_words m) last (omega (arith, length-whole_words m)))
+      (without_block v (lanes pair) (whole_words m) last (omega (arith, length-whole_words m)))
 
   pub komi_long : 64 ≤ length m
       → komi v seed m ≡ hash_from_pair (join true (block_lanes v (lanes pair) (whole_words m)))

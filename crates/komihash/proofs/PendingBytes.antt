@@ -15,10 +15,10 @@ use Rattle.komihash.proofs.WordOf.{AreBytes-append, AreBytes-take, AreBytes-drop
 -- ---- words that are stored one by one, some of them out of order or twice
 
 -- a word that is stored at its index, or in place of one that is missing still
-pub store : {ws zs : List ℕ} {low high : ℕ} → StoresBut ws zs low high → (i n x : ℕ)
+pub put_word : {ws zs : List ℕ} {low high : ℕ} → StoresBut ws zs low high → (i n x : ℕ)
     → (i ≤ low) × (n ≤ i + 1) → ((n ≤ i → high ≤ i) → x ≡ stored_word zs i)
     → StoresBut (set ws i x) zs n high
-store but i n x within is = grind (arith, elements, cases_eq, but.words, but.size, is)
+put_word but i n x within is = grind (arith, elements, cases_eq, but.words, but.size, is)
 
 -- none is missing
 pub all_stored : {ws zs : List ℕ} {low high : ℕ} → StoresBut ws zs low high
@@ -41,32 +41,32 @@ ruleset bytes_typed =
     (AreBytes-append, AreBytes-take, AreBytes-drop, AreBytes-typed, AreBytes-all_bytes)
 
 module _ {ws : List ℕ} {fill : ℕ} (are : ArePending ws fill) where
-  abbrev stored : List ℕ
-  stored = pending_bytes ws fill
+  abbrev pending : List ℕ
+  pending = pending_bytes ws fill
 
   -- bytes put after them
   module _ (new bytes : List ℕ) (typed : (k : ℕ) → Fits w8 (get_or bytes k 0))
-      (is : Stores new (stored ++ bytes)) (room : fill + length bytes ≤ 64) where
-    length_put : length (stored ++ bytes) ≡ fill + length bytes
-    length_put = omega (arith, length-append stored bytes)
+      (is : Stores new (pending ++ bytes)) (room : fill + length bytes ≤ 64) where
+    length_put : length (pending ++ bytes) ≡ fill + length bytes
+    length_put = omega (arith, length-append pending bytes)
 
-    pub bytes_put : pending_bytes new (fill + length bytes) ≡ stored ++ bytes
+    pub bytes_put : pending_bytes new (fill + length bytes) ≡ pending ++ bytes
     bytes_put =
-        let typed_bytes : AreBytes (stored ++ bytes) = search bytes_typed in
+        let typed_bytes : AreBytes (pending ++ bytes) = search bytes_typed in
         rw (is, ← length_put) (bytes-stored_words 8 _ typed_bytes (omega (arith, length_put)))
 
     pub ArePending_put : fill + length bytes < 64 → ArePending new (fill + length bytes)
     ArePending_put few = grind (arith, bytes_put, length_put, is)
 
     -- as many as fill a block
-    pub words_put : fill + length bytes ≡ 64 → new ≡ whole_words (stored ++ bytes)
-    words_put full = is ∙ ap (λ n. stored_words n (stored ++ bytes)) (omega (arith, length_put))
+    pub words_put : fill + length bytes ≡ 64 → new ≡ whole_words (pending ++ bytes)
+    words_put full = is ∙ ap (λ n. stored_words n (pending ++ bytes)) (omega (arith, length_put))
 
   -- the word at a place
-  pub get_or_pending : (i : ℕ) → i < 8 → get_or ws i 0 ≡ stored_word stored i
-  get_or_pending i lt = ap (λ us. get_or us i 0) are.words ∙ get_or-stored_words 8 i stored lt
+  pub get_or_pending : (i : ℕ) → i < 8 → get_or ws i 0 ≡ stored_word pending i
+  get_or_pending i lt = ap (λ us. get_or us i 0) are.words ∙ get_or-stored_words 8 i pending lt
 
-  pub AreBytes_word : (i : ℕ) → AreBytes (take 8 (drop (8 * i) stored))
+  pub AreBytes_word : (i : ℕ) → AreBytes (take 8 (drop (8 * i) pending))
   AreBytes_word i = search bytes_typed
 
 pub ruleset pending_laws =

@@ -16,8 +16,8 @@ use Rattle.komihash.specs.Storage.{stored_words, whole_words}
 use Rattle.komihash.specs.Words.{AreBytes, AreWords, all_bytes}
 use Rattle.komihash.specs.Storage.{xor_again}
 use Rattle.komihash.proofs.WholeWords.{length-whole_words}
-use Rattle.komihash.proofs.AllBytes.{length-all_bytes, stored_words-all_bytes, all_bytes-whole_words}
-use Rattle.komihash.proofs.AllBytes.{AreWords-stored_words}
+use Rattle.komihash.proofs.AllBytes.{length-all_bytes, stored_words-all_bytes}
+use Rattle.komihash.proofs.AllBytes.{all_bytes-whole_words, AreWords-stored_words}
 use Rattle.komihash.proofs.WordOf.{AreBytes-typed, AreBytes-take, AreBytes-drop}
 
 -- ---- the parts of a text

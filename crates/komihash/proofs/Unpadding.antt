@@ -52,13 +52,13 @@ end_byte-lt v [] = omega arith
 end_byte-lt v (b ∷ m) = grind arith
 
 -- words that store a message and the byte that ends it
-record Stored (v : ℕ) (ws m : List ℕ) : Type 0 where
+record HoldsMessage (v : ℕ) (ws m : List ℕ) : Type 0 where
   size : length ws ≡ length m / 8 + 1
   bytes : take (length m) (all_bytes ws) ≡ m
   end : last ws / 2 ^ (8 * (length m % 8)) ≡ end_byte v m
 
-stored : (v : ℕ) (m : List ℕ) → AreBytes m → Stored v (padded_words v m) m
-stored v m are =
+holds_message : (v : ℕ) (m : List ℕ) → AreBytes m → HoldsMessage v (padded_words v m) m
+holds_message v m are =
     let n = length m in
     let end = end_byte v m in
     let xs = m ++ end ∷ [] in
@@ -76,12 +76,12 @@ stored v m are =
           ∙ rw (place, drop_at m (end ∷ []) n refl) (omega arith);
     }
 
-stored-padded : (v : ℕ) {ws : List ℕ} → (p : ArePadded v ws) → Stored v ws p.0
-stored-padded v p = subst (λ ws. Stored v ws p.0) p.2 (stored v p.0 p.1)
+of_padded : (v : ℕ) {ws : List ℕ} → (p : ArePadded v ws) → HoldsMessage v ws p.0
+of_padded v p = subst (λ ws. HoldsMessage v ws p.0) p.2 (holds_message v p.0 p.1)
 
 pub padded_zero : (v : ℕ) (ws : List ℕ) → ArePadded v ws → last ws ≡ 0 → length ws ≡ 1
 padded_zero v ws p zero =
-    let of_m = stored-padded v p in
+    let of_m = of_padded v p in
     let le = shr_le (last ws) (8 * (length p.0 % 8)) in
     elim (cases_lt 0 (length p.0)) [
       | inl some ↦ absurd (omega (arith, le, of_m.end, (end_byte-some v p.0 some).1))
@@ -103,7 +103,7 @@ place-le w r s below above =
       | inr le ↦ le
     ]
 
-module _ {v : ℕ} {ws m : List ℕ} (of_m : Stored v ws m) (r : ℕ) where
+module _ {v : ℕ} {ws m : List ℕ} (of_m : HoldsMessage v ws m) (r : ℕ) where
   end-le : last ws / 2 ^ (8 * r) < 256 → length m % 8 ≤ r
   end-le below =
       elim (cases_lt 0 (length m)) [
@@ -118,8 +118,8 @@ module _ {v : ℕ} {ws m : List ℕ} (of_m : Stored v ws m) (r : ℕ) where
 pub same_message : (v : ℕ) (x y : List ℕ) → AreBytes x → AreBytes y
     → padded_words v x ≡ padded_words v y → x ≡ y
 same_message v x y are_x are_y same =
-    let of_x = stored-padded v (x, are_x, same) in
-    let of_y = stored v y are_y in
+    let of_x = of_padded v (x, are_x, same) in
+    let of_y = holds_message v y are_y in
     let le = end-le of_x (length y % 8) (rw of_y.end (end_byte-lt v y)) in
     let ge = end-le of_y (length x % 8) (rw of_x.end (end_byte-lt v x)) in
     let sizes : length x ≡ length y = omega (arith, of_x.size, of_y.size, le, ge) in
@@ -159,7 +159,7 @@ module _ (v : ℕ) (ws : List ℕ) (r : ℕ) where
   pub one_place : ArePadded v ws → 0 < last ws / 2 ^ (8 * r) → last ws / 2 ^ (8 * r) < 256
       → (0 < size) × (last ws / 2 ^ (8 * r) ≡ padding_byte v message)
   one_place p above below =
-      let of_m = stored-padded v p in
+      let of_m = of_padded v p in
       let place : length p.0 % 8 ≡ r = omega (arith, end-le of_m r below, le-end of_m r above) in
       let end = rw place at of_m.end in
       let n : size ≡ length p.0 = omega (arith, of_m.size) in

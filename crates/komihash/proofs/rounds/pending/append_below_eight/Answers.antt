@@ -10,7 +10,7 @@ use Rattle.std.specs.Int.Bits.{or_zero_l, or_zero_r, or_self}
 use Rattle.komihash.specs.Storage.{pending_bytes}
 use Rattle.komihash.specs.Words.{word_of}
 use Rattle.komihash.proofs.WordOf.{AreBytes-typed, word_of-drop, word_of-zeros}
-use Rattle.komihash.proofs.PendingBytes.{store, all_stored, word_after}
+use Rattle.komihash.proofs.PendingBytes.{put_word, all_stored, word_after}
 use Rattle.komihash.proofs.rounds.pending.append_below_eight.Goals as goal
 
 -- what a shift to the left keeps
@@ -49,7 +49,7 @@ returns c =
           let zero = c.append_within_word.ensures.zeros at (omega arith) (omega arith) in
           let whole = take_all 8 (drop fit bytes) (omega (arith, length-drop fit bytes)) in
           let next = word_after xs bytes at fit (omega arith) in
-          all_stored (store but at (at + 1) _ (omega arith)
+          all_stored (put_word but at (at + 1) _ (omega arith)
           (λ _. rw (zero, or_zero_l (word_of (drop fit bytes)), ← next, whole) refl)) (omega arith)
       | inr all ↦ rw (drop_all fit bytes all, or_zero_r, set-get_or) (all_stored but (omega arith))
     ])

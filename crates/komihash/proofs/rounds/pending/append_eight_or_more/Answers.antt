@@ -4,7 +4,7 @@ use Rattle.std.proofs.Common.{take_all, length-drop, shr-shr}
 use Rattle.komihash.specs.Storage.{pending_bytes}
 use Rattle.komihash.specs.Words.{word_of}
 use Rattle.komihash.proofs.WordOf.{AreBytes-typed, word_of-last}
-use Rattle.komihash.proofs.PendingBytes.{store, all_stored, word_after}
+use Rattle.komihash.proofs.PendingBytes.{put_word, all_stored, word_after}
 use Rattle.komihash.proofs.rounds.pending.append_eight_or_more.Goals as goal
 
 pub returns-then-end-lt64 : goal.returns-then-end-lt64
@@ -14,11 +14,11 @@ returns-then-end-lt64 c =
     let end = c.args.fill + length bytes in
     let from = length bytes - end % 8 in
     let are = AreBytes-typed bytes c.type_inv.bytes in
-    let last = word_of-last from (1 + (63 - 8 * (end % 8))) bytes are c.requires.at_least_8 (omega arith)
-    (omega arith) (omega arith) in
+    let last = word_of-last from (1 + (63 - 8 * (end % 8))) bytes are c.requires.at_least_8
+    (omega arith) (omega arith) (omega arith) in
     let whole = take_all 8 (drop from bytes) (omega (arith, length-drop from bytes)) in
     let word = last ∙ ap word_of (sym whole) ∙ word_after xs bytes (end / 8) from (omega arith) in
-    all_stored (store c.append_whole_words.ensures (end / 8) (end / 8 + 1) _ (omega arith)
+    all_stored (put_word c.append_whole_words.ensures (end / 8) (end / 8 + 1) _ (omega arith)
     (λ _. rw (c.word_at.ensures, shr-shr) word)) (omega arith)
 
 pub returns-else-end-lt64 : goal.returns-else-end-lt64

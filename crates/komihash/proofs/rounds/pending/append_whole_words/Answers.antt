@@ -2,7 +2,7 @@
 use Rattle.std.proofs.Common.{◌+◌, ◌-◌, ◌/◌, ◌%◌, length, arith, ◌∙◌}
 use Rattle.komihash.specs.Storage.{pending_bytes}
 use Rattle.komihash.proofs.WordOf.{AreBytes-typed}
-use Rattle.komihash.proofs.PendingBytes.{store, word_after}
+use Rattle.komihash.proofs.PendingBytes.{put_word, word_after}
 use Rattle.komihash.proofs.rounds.pending.append_whole_words.Goals as goal
 use Rattle.komihash.proofs.rounds.pending.append_whole_words.Goals.{then-whole-ge5, else-whole-ge5}
 
@@ -33,7 +33,7 @@ returns-then-whole-eq2 c =
     let end = (c.args.fill + length bytes) / 8 in
     let but = c.append_within_word.ensures.words bytes at (end + 1)
     (AreBytes-typed bytes c.type_inv.bytes) c.read_word.ensures (omega arith) in
-    store but at end _ (omega arith)
+    put_word but at end _ (omega arith)
     (λ last. c.word_at.ensures ∙ word_after xs bytes at c.min.result (grind arith))
 
 pub returns-else-fill-bytes-lt64 : goal.returns-else-fill-bytes-lt64

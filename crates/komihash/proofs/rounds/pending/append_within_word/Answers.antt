@@ -8,7 +8,7 @@ use Rattle.komihash.specs.Storage.{StoresBut, pending_bytes}
 use Rattle.komihash.specs.Words.{word_of}
 use Rattle.komihash.proofs.Lists.{take-append}
 use Rattle.komihash.proofs.WordOf.{AreBytes-take, word_of-join}
-use Rattle.komihash.proofs.PendingBytes.{store, get_or_pending, AreBytes_word}
+use Rattle.komihash.proofs.PendingBytes.{put_word, get_or_pending, AreBytes_word}
 use Rattle.komihash.proofs.rounds.pending.append_within_word.Goals as goal
 
 pub returns : goal.returns
@@ -30,7 +30,7 @@ returns c =
           let join = word_of-join (take 8 partial) (take 8 bytes) (c.args.fill % 8)
           (AreBytes_word pending i) (AreBytes-take 8 bytes are) (omega (arith, length-take {A = ℕ}))
           (omega arith) in
-          store before i low _ (omega arith)
+          put_word before i low _ (omega arith)
           (λ _. rw (get_or_pending pending i (omega arith), is, join)
           (ap word_of (grind (arith, take-take {A = ℕ}, drop-append-le, take-append))));
       zeros = λ k lt few. grind (arith, elements, get_or_pending pending k, drop_all (8 * k) xs);
