@@ -3,19 +3,14 @@ use Rattle.std.proofs.Common.{◌≡◌, ℕ, zero, suc, ◌+◌, ◌-◌, ◌*�
 use Rattle.std.proofs.Common.{refl, ap, arith, ◌∙◌, sym, inl, inr, w64, take_all, length-drop}
 use Rattle.std.proofs.lemmas.Bool.{cases_lt}
 use Rattle.std.proofs.lemmas.List.{drop_all, set-get_or}
-use Rattle.std.proofs.lemmas.Nat.{shl-shr, mod-pow-add, or_shifted, shr_below, le_or_l}
-use Rattle.std.proofs.Math.Nat.{mul-mod_left}
+use Rattle.std.proofs.lemmas.Nat.{or_shifted, shr_below, le_or_l}
 use Rattle.std.specs.Int.{rotate_left}
 use Rattle.std.specs.Int.Bits.{or_zero_l, or_zero_r, or_self}
 use Rattle.komihash.specs.Storage.{pending_bytes}
 use Rattle.komihash.specs.Words.{word_of}
-use Rattle.komihash.proofs.WordOf.{AreBytes-typed, word_of-drop, word_of-zeros}
+use Rattle.komihash.proofs.WordOf.{AreBytes-typed, kept, word_of-drop, word_of-zeros}
 use Rattle.komihash.proofs.PendingBytes.{put_word, all_stored, word_after}
 use Rattle.komihash.proofs.rounds.pending.append_below_eight.Goals as goal
-
--- what a shift to the left keeps
-kept : (w b c : ℕ) → w * 2 ^ b % 2 ^ (c + b) ≡ w % 2 ^ c * 2 ^ b
-kept w b c = simp (mod-pow-add, shl-shr, mul-mod_left) (omega arith)
 
 -- a rotation has the bits that a shift to the left keeps, and those that it drops
 rotated : (w b c : ℕ) → w < 2 ^ 64 → (b + c ≡ 64) × (0 < c)
