@@ -1,15 +1,17 @@
 -- Pending bytes, and the eight words that store them.
 use Rattle.std.proofs.Common.{◌≡◌, ℕ, ◌+◌, ◌*◌, ◌<◌, ◌≤◌, List, [], ◌∷◌, ◌++◌, Fits}
 use Rattle.std.proofs.Common.{length, take, drop, get_or, set, refl, ap, arith, ◌∙◌, w8}
-use Rattle.std.proofs.Common.{length-append}
+use Rattle.std.proofs.Common.{◌-◌, ◌/◌, sym, length-append, length-take}
 use Rattle.std.proofs.lemmas.Bool.{cases_eq}
 use Rattle.std.proofs.lemmas.Grind.{elements}
+use Rattle.std.proofs.lemmas.List.{append_assoc, append-nil, take-append-drop}
 use Rattle.std.proofs.Math.Seq.{drop-append-add}
 use Rattle.komihash.specs.Storage.{stored_words, pending_bytes, ArePending, Stores, StoresBut}
 use Rattle.komihash.specs.Storage.{whole_words, stored_word}
 use Rattle.komihash.specs.Words.{AreBytes, word_of}
 use Rattle.komihash.proofs.AllBytes.{AreBytes-all_bytes, bytes-stored_words}
 use Rattle.komihash.proofs.WholeWords.{length-stored_words, get_or-stored_words, read_words}
+use Rattle.komihash.proofs.WholeWords.{stored_words-append}
 use Rattle.komihash.proofs.WordOf.{AreBytes-append, AreBytes-take, AreBytes-drop, AreBytes-typed}
 
 -- ---- words that are stored one by one, some of them out of order or twice
@@ -46,21 +48,32 @@ module _ {ws : List ℕ} {fill : ℕ} (are : ArePending ws fill) where
 
   -- bytes put after them
   module _ (new bytes : List ℕ) (typed : (k : ℕ) → Fits w8 (get_or bytes k 0))
-      (is : Stores new (pending ++ bytes)) (room : fill + length bytes ≤ 64) where
+      (is : Stores new (pending ++ bytes)) where
     length_put : length (pending ++ bytes) ≡ fill + length bytes
     length_put = omega (arith, length-append pending bytes)
 
-    pub bytes_put : pending_bytes new (fill + length bytes) ≡ pending ++ bytes
-    bytes_put =
+    pub bytes_put : fill + length bytes < 64
+        → pending_bytes new (fill + length bytes) ≡ pending ++ bytes
+    bytes_put few =
         let typed_bytes : AreBytes (pending ++ bytes) = search bytes_typed in
         rw (is, ← length_put) (bytes-stored_words 8 _ typed_bytes (omega (arith, length_put)))
 
     pub ArePending_put : fill + length bytes < 64 → ArePending new (fill + length bytes)
-    ArePending_put few = grind (arith, bytes_put, length_put, is)
+    ArePending_put few = grind (arith, bytes_put few, length_put, is)
 
-    -- as many as fill a block
-    pub words_put : fill + length bytes ≡ 64 → new ≡ whole_words (pending ++ bytes)
-    words_put full = is ∙ ap (λ n. stored_words n (pending ++ bytes)) (omega (arith, length_put))
+    -- the first of them fill a block
+    pub words_put : 64 ≤ fill + length bytes
+        → new ≡ whole_words (pending ++ take (64 - fill) bytes)
+    unfolding stored_words
+    words_put full =
+        let front = take (64 - fill) bytes in
+        let rest = drop (64 - fill) bytes in
+        let size : length (pending ++ front) ≡ 8 * 8 =
+        omega (arith, length-append pending front, length-take {A = ℕ}) in
+        let parts = ap (λ xs. pending ++ xs) (sym (take-append-drop (64 - fill) bytes))
+        ∙ sym (append_assoc pending front rest) in
+        is ∙ ap (stored_words 8) parts ∙ stored_words-append 8 0 (pending ++ front) rest size
+        ∙ append-nil _ ∙ ap (λ n. stored_words (n / 8) (pending ++ front)) (sym size)
 
   -- the word at a place
   pub get_or_pending : (i : ℕ) → i < 8 → get_or ws i 0 ≡ stored_word pending i

@@ -4,6 +4,7 @@
 
 ghost use Rattle.std.specs.Prelude.{◌≡◌, ℕ, ◌+◌, ◌-◌, ◌*◌, ◌/◌, ◌%◌, ◌<◌, ◌≤◌};
 ghost use Rattle.std.specs.Prelude.{List, [], ◌++◌, length, take, drop, slice_index};
+ghost use Rattle.std.specs.Prelude.{IsTrue, false, if◌then◌else◌};
 ghost use Rattle.std.proofs.Common.{sym};
 ghost use Rattle.komihash.specs.Counts.{Costs};
 ghost use Rattle.komihash.specs.Padding.{padding_byte};
@@ -70,7 +71,7 @@ impl Pending {
         ensures bytes { self.new ≡ self.old ++ bytes.now }
         ensures costs { Costs tally 0 (length bytes.now) }
     {
-        append_bytes(&mut self.words, self.fill, bytes, tally);
+        append_bytes::<false>(&mut self.words, self.fill, bytes, tally);
         self.fill += bytes.len();
     }
 
@@ -84,21 +85,27 @@ impl Pending {
         ensures costs { Costs tally 0 (length bytes.now) }
     {
         if !bytes.is_empty() {
-            append_bytes(&mut self.words, 0, bytes, tally);
+            append_bytes::<false>(&mut self.words, 0, bytes, tally);
             self.fill = bytes.len();
         }
     }
 
-    /// Returns the words of the block that bytes complete, and stores no bytes then. Counts the
-    /// bytes as kept.
+    /// Returns the words of the block that the first of the bytes complete, counts these bytes as
+    /// kept, and stores none then. LONG tells that there are at least 64 bytes.
     #[inline(always)]
-    pub(crate) fn complete(&mut self, bytes: &[u8], tally: &mut Tally) -> [u64; 8]
-        requires { length self.old + length bytes.now ≡ 64 }
-        ensures block { result ≡ whole_words (self.old ++ bytes.now) }
+    pub(crate) fn complete<const LONG: bool>(&mut self, bytes: &[u8], tally: &mut Tally) -> [u64; 8]
+        requires completed { 64 ≤ length self.old + length bytes.now }
+        requires long { IsTrue LONG → 64 ≤ length bytes.now }
+        ensures block { result ≡ whole_words (self.old ++ take (64 - length self.old) bytes.now) }
         ensures none { self.new ≡ [] }
-        ensures costs { Costs tally 0 (length bytes.now) }
+        ensures costs { Costs tally 0 (64 - length self.old) }
     {
-        append_bytes(&mut self.words, self.fill, bytes, tally);
+        let some = if LONG {
+            bytes
+        } else {
+            &bytes[..64 - self.fill]
+        };
+        append_bytes::<LONG>(&mut self.words, self.fill, some, tally);
         let block = self.words;
         *self = Pending::new();
         block
@@ -246,22 +253,56 @@ fn append_eight_or_more(words: &mut [u64; 8], fill: usize, bytes: &[u8])
     }
 }
 
-// Appends bytes to those that the words store up to the fill, and counts them as kept. Bytes come
-// into the words only through this function.
+// Completes the block with the first of at least 64 bytes. The words after the partial word are
+// stored two at a time, and some of them twice where they are fewer than seven.
 #[inline(always)]
-fn append_bytes(words: &mut [u64; 8], fill: usize, bytes: &[u8], tally: &mut Tally)
+fn append_long(words: &mut [u64; 8], fill: usize, bytes: &[u8])
     requires pending { ArePending words.old fill }
-    requires room { fill + length bytes.now ≤ 64 }
-    ensures block { fill + length bytes.now ≡ 64
-        → words.new ≡ whole_words (pending_bytes words.old fill ++ bytes.now) }
-    ensures bytes { pending_bytes words.new (fill + length bytes.now)
+    requires at_least_64 { 64 ≤ length bytes.now }
+    ensures { Stores words.new (pending_bytes words.old fill ++ bytes.now) }
+{
+    append_within_word(words, fill, read_word(bytes));
+    let at = fill / 8;
+    if at < 6 {
+        let second = (at + 3).min(6);
+        let third = (at + 5).min(6);
+        store_two_words(words, at + 1, bytes, 8 * (at + 1) - fill);
+        store_two_words(words, second, bytes, 8 * second - fill);
+        store_two_words(words, third, bytes, 8 * third - fill);
+        store_two_words(words, 6, bytes, 48 - fill);
+    } else {
+        let next = word_at(bytes, 8 - fill % 8);
+        words[7] = if at == 6 { next } else { words[7] };
+    }
+}
+
+// Appends bytes to those that the words store up to the fill, as many as complete the block if LONG
+// tells that there are at least 64, and counts these as kept. Bytes come into the words only
+// through this function.
+#[inline(always)]
+fn append_bytes<const LONG: bool>(
+    words: &mut [u64; 8],
+    fill: usize,
+    bytes: &[u8],
+    tally: &mut Tally,
+)
+    requires pending { ArePending words.old fill }
+    requires long { IsTrue LONG → 64 ≤ length bytes.now }
+    requires room { LONG ≡ false → fill + length bytes.now ≤ 64 }
+    ensures block { 64 ≤ fill + length bytes.now
+        → words.new ≡ whole_words (pending_bytes words.old fill ++ take (64 - fill) bytes.now) }
+    ensures bytes { fill + length bytes.now < 64
+        → pending_bytes words.new (fill + length bytes.now)
         ≡ pending_bytes words.old fill ++ bytes.now }
     ensures pending { fill + length bytes.now < 64
         → ArePending words.new (fill + length bytes.now) }
-    ensures costs { Costs tally 0 (length bytes.now) }
+    ensures costs { Costs tally 0 (if LONG then 64 - fill else length bytes.now) }
 {
-    tally.raise(0, bytes.len());
-    if bytes.len() < 8 {
+    let kept = if LONG { 64 - fill } else { bytes.len() };
+    tally.raise(0, kept);
+    if LONG {
+        append_long(words, fill, bytes);
+    } else if bytes.len() < 8 {
         append_below_eight(words, fill, bytes);
     } else {
         append_eight_or_more(words, fill, bytes);
