@@ -103,6 +103,8 @@ impl RawStream {
         self.absorbed = true;
         let mut lanes;
         let mut rest = bytes;
+        // Never true without LONG, where the test only keeps LLVM from reading vectors of words that
+        // were just stored one by one.
         if fill == 0 {
             lanes = self.lanes;
         } else {
