@@ -91,21 +91,20 @@ impl Pending {
     }
 
     /// Returns the words of the block that the first of the bytes complete, counts these bytes as
-    /// kept, and stores none then. LONG tells that there are at least 64 bytes.
+    /// kept, and stores none then.
     #[inline(always)]
-    pub(crate) fn complete<const LONG: bool>(&mut self, bytes: &[u8], tally: &mut Tally) -> [u64; 8]
-        requires completed { 64 ≤ length self.old + length bytes.now }
-        requires long { IsTrue LONG → 64 ≤ length bytes.now }
+    pub(crate) fn complete(&mut self, bytes: &[u8], tally: &mut Tally) -> [u64; 8]
+        requires { 64 ≤ length self.old + length bytes.now }
         ensures block { result ≡ whole_words (self.old ++ take (64 - length self.old) bytes.now) }
         ensures none { self.new ≡ [] }
         ensures costs { Costs tally 0 (64 - length self.old) }
     {
-        let some = if LONG {
-            bytes
+        let fill = self.fill;
+        if bytes.len() < 64 {
+            append_bytes::<false>(&mut self.words, fill, &bytes[..64 - fill], tally);
         } else {
-            &bytes[..64 - self.fill]
-        };
-        append_bytes::<LONG>(&mut self.words, self.fill, some, tally);
+            append_bytes::<true>(&mut self.words, fill, bytes, tally);
+        }
         let block = self.words;
         *self = Pending::new();
         block

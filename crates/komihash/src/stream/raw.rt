@@ -1,7 +1,6 @@
 //! A stream whose type does not name its version, which is how C keeps one.
 
-ghost use Rattle.std.specs.Prelude.{◌≡◌, ◌↔◌, ◌+◌, ◌<◌, ◌≤◌, ℕ, List, length, take, drop};
-ghost use Rattle.std.specs.Prelude.{IsTrue, IfSome};
+ghost use Rattle.std.specs.Prelude.{◌≡◌, ◌+◌, ◌<◌, ◌≤◌, ℕ, List, IfSome, length, take, drop};
 ghost use Rattle.komihash.specs.Counts.{Costs, write_products, answer_products, kept_bytes};
 ghost use Rattle.komihash.specs.Saved.{text, IsTextAfter, Restored};
 ghost use Rattle.komihash.specs.Stream.{State, IsState, HasAbsorbed, absorb};
@@ -66,7 +65,6 @@ impl RawStream {
     }
 
     #[inline(always)]
-    #[tactic(auto, using(crate::proofs::Streams::absorbed))]
     pub fn absorb<const V: u8>(&mut self, bytes: &[u8], tally: &mut Tally)
     where
         Versions: IsVersion<V>,
@@ -78,20 +76,16 @@ impl RawStream {
     {
         if self.pending.len() + bytes.len() < 64 {
             self.pending.append(bytes, tally);
-        } else if bytes.len() < 64 {
-            self.complete_blocks::<V, false>(bytes, tally);
         } else {
-            self.complete_blocks::<V, true>(bytes, tally);
+            self.complete_blocks::<V>(bytes, tally);
         }
     }
 
     // Absorbs bytes that complete a block or more. Copies those that complete the partial block, if
-    // there is one, and those after the last block. LONG tells whether there are at least 64 bytes.
-    // Fewer complete one block, and need no loop over more of them.
+    // there is one, and those after the last block.
     #[inline(never)]
-    fn complete_blocks<const V: u8, const LONG: bool>(&mut self, bytes: &[u8], tally: &mut Tally)
-        requires completed { 64 ≤ length self.old.pending + length bytes.now }
-        requires length { IsTrue LONG ↔ (64 ≤ length bytes.now) }
+    fn complete_blocks<const V: u8>(&mut self, bytes: &[u8], tally: &mut Tally)
+        requires { 64 ≤ length self.old.pending + length bytes.now }
         ensures state { self.new ≡ absorb V self.old bytes.now }
         ensures costs { Costs tally
             (write_products (length self.old.pending) (length bytes.now))
@@ -103,22 +97,16 @@ impl RawStream {
         self.absorbed = true;
         let mut lanes;
         let mut rest = bytes;
-        // Never true without LONG, where the test only keeps LLVM from reading vectors of words that
-        // were just stored one by one.
         if fill == 0 {
             lanes = self.lanes;
         } else {
-            let block = self.pending.complete::<LONG>(bytes, tally);
+            let block = self.pending.complete(bytes, tally);
             // Not before `complete`, which needs the registers itself.
             lanes = self.lanes;
             block_round(&mut lanes, &block, places::<V>(), tally);
             (_, rest) = bytes.split_at(64 - fill);
         }
-        let left = if LONG {
-            absorb_blocks::<V>(&mut lanes, rest, tally)
-        } else {
-            rest
-        };
+        let left = absorb_blocks::<V>(&mut lanes, rest, tally);
         self.lanes = lanes;
         self.pending.append_first(left, tally);
     }

@@ -17,12 +17,11 @@ returns-then-len-bytes-lt64-clause-is_state g c is =
     IsState-absorb g.row.V _ _ _ is (AreBytes-typed _ c.type_inv.bytes)
     (returns-then-len-bytes-lt64-clause-absorbed g c).state
 
-pub returns-then-bytes-lt64-clause-is_state : goal.returns-then-bytes-lt64-clause-is_state
-returns-then-bytes-lt64-clause-is_state g c is =
+pub returns-else-len-bytes-lt64-clause-absorbed : goal.returns-else-len-bytes-lt64-clause-absorbed
+returns-else-len-bytes-lt64-clause-absorbed g c =
+    absorbed g.row.V _ _ _ c.complete_blocks.ensures.state
+
+pub returns-else-len-bytes-lt64-clause-is_state : goal.returns-else-len-bytes-lt64-clause-is_state
+returns-else-len-bytes-lt64-clause-is_state g c is =
     IsState-absorb g.row.V _ _ _ is (AreBytes-typed _ c.type_inv.bytes)
     c.complete_blocks.ensures.state
-
-pub returns-else-bytes-lt64-clause-is_state : goal.returns-else-bytes-lt64-clause-is_state
-returns-else-bytes-lt64-clause-is_state g c is =
-    IsState-absorb g.row.V _ _ _ is (AreBytes-typed _ c.type_inv.bytes)
-    c.complete_blocks-else-bytes-lt64.ensures.state

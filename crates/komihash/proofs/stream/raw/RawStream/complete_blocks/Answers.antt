@@ -1,13 +1,10 @@
 -- The pending bytes and the first of the write are the first block, if any are pending.
-use Rattle.std.proofs.Common.{◌≡◌, ◌+◌, ◌-◌, ◌<◌, ◌≤◌, ◌∙◌, refl, ap, arith, length, sym}
-use Rattle.std.proofs.lemmas.List.{nil_from_length, length-drop}
-use Rattle.komihash.specs.Storage.{whole_words, block_lanes, after_blocks}
+use Rattle.std.proofs.Common.{◌+◌, ◌-◌, ◌<◌, ◌≤◌, ◌∙◌, refl, ap, arith, length}
+use Rattle.std.proofs.lemmas.List.{nil_from_length}
 use Rattle.komihash.specs.Stream.{State, absorb}
-use Rattle.komihash.proofs.Blocks.{block_lanes-few_bytes, after_blocks_few}
 use Rattle.komihash.proofs.Streams.{after_write, completed}
 use Rattle.komihash.proofs.stream.raw.RawStream.complete_blocks.Goals as goal
 use Rattle.komihash.proofs.stream.raw.RawStream.complete_blocks.Goals.{then-fill-eq0, else-fill-eq0}
-use Rattle.komihash.proofs.stream.raw.RawStream.complete_blocks.Goals.{then-this-ne0, else-this-ne0}
 
 pub returns-clause-state : goal.returns-clause-state
 returns-clause-state g c =
@@ -20,24 +17,8 @@ returns-clause-state g c =
     let many : 64 ≤ length xs + length bytes = omega arith in
     let size = c.len-fill.ensures.length in
     let top_bit = c.pads_with_two-self-inside.ensures in
-    let after = c.if-fill-eq0 in
-    let rest = after.rest.now in
-    let shorter : length rest ≤ length bytes = elim after.branch [
-      | then-fill-eq0 w ↦ rw w.rest-is (omega arith)
-      | else-fill-eq0 w ↦ rw w.rest-is (omega (arith, length-drop (64 - c.len-fill.result) bytes))
-    ] in
-    let blocks : (c.if-this-ne0.lanes ≡ block_lanes v after.lanes (whole_words rest))
-    × (c.if-this-ne0.left.now ≡ after_blocks rest) = elim c.if-this-ne0.branch [
-      | then-this-ne0 w ↦
-          let absorbed = w.absorb_blocks-left.ensures in
-          rw (w.lanes-is, w.left-is) (absorbed.lanes, absorbed.left)
-      | else-this-ne0 w ↦
-          let lt : length rest < 64 =
-          grind (arith, c.requires.length, w.if-this-ne0.false, shorter) in
-          rw (w.lanes-is, w.left-is, block_lanes-few_bytes v after.lanes rest lt)
-          (refl, sym (after_blocks_few rest lt))
-    ] in
-    rw (c.append_first.ensures.bytes, blocks.0, blocks.1) (elim after.branch [
+    let after = c.absorb_blocks-left.ensures in
+    rw (c.append_first.ensures.bytes, after.left, after.lanes) (elim c.if-fill-eq0.branch [
       | then-fill-eq0 w ↦
           let none = nil_from_length xs (omega arith) in
           rw (w.self-inside-is, w.lanes-is, w.rest-is, top_bit, size)
