@@ -70,9 +70,9 @@ module _ {ws : List ℕ} {fill : ℕ} (are : ArePending ws fill) where
         let rest = drop (64 - fill) bytes in
         let size : length (pending ++ front) ≡ 8 * 8 =
         omega (arith, length-append pending front, length-take {A = ℕ}) in
-        let parts = ap (λ xs. pending ++ xs) (sym (take-append-drop (64 - fill) bytes))
-        ∙ sym (append_assoc pending front rest) in
-        is ∙ ap (stored_words 8) parts ∙ stored_words-append 8 0 (pending ++ front) rest size
+        let cut : pending ++ bytes ≡ (pending ++ front) ++ rest =
+        rw (append_assoc, take-append-drop) refl in
+        is ∙ ap (stored_words 8) cut ∙ stored_words-append 8 0 (pending ++ front) rest size
         ∙ append-nil _ ∙ ap (λ n. stored_words (n / 8) (pending ++ front)) (sym size)
 
   -- the word at a place

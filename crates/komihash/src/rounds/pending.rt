@@ -196,6 +196,17 @@ fn append_below_eight(words: &mut [u64; 8], fill: usize, bytes: &[u8])
     words[(fill / 8 + 1) % 8] |= word.rotate_left(bits as u32) - (word << bits);
 }
 
+// Appends those of the first eight bytes that fit in the partial word.
+#[inline(always)]
+fn append_first_eight(words: &mut [u64; 8], fill: usize, bytes: &[u8])
+    requires pending { ArePending words.old fill }
+    requires at_least_8 { 8 ≤ length bytes.now }
+    ensures { (low high : ℕ) → (low ≤ fill / 8 + 1) × (fill + length bytes.now ≤ 8 * high)
+        → StoresBut words.new (pending_bytes words.old fill ++ bytes.now) low high }
+{
+    append_within_word(words, fill, read_word(bytes));
+}
+
 // Stores two whole words, of the sixteen bytes from `from` on, at index `at`.
 #[inline(always)]
 fn store_two_words(words: &mut [u64; 8], at: usize, bytes: &[u8], from: usize)
@@ -219,7 +230,7 @@ fn append_whole_words(words: &mut [u64; 8], fill: usize, bytes: &[u8])
     ensures { StoresBut words.new (pending_bytes words.old fill ++ bytes.now)
         ((fill + length bytes.now) / 8) ((fill + length bytes.now) / 8 + 1) }
 {
-    append_within_word(words, fill, read_word(bytes));
+    append_first_eight(words, fill, bytes);
     let at = fill / 8;
     let over = fill % 8;
     // How many words are whole with the bytes, from the partial word on.
@@ -260,7 +271,7 @@ fn append_long(words: &mut [u64; 8], fill: usize, bytes: &[u8])
     requires at_least_64 { 64 ≤ length bytes.now }
     ensures { Stores words.new (pending_bytes words.old fill ++ bytes.now) }
 {
-    append_within_word(words, fill, read_word(bytes));
+    append_first_eight(words, fill, bytes);
     let at = fill / 8;
     if at < 6 {
         let second = (at + 3).min(6);
@@ -297,8 +308,7 @@ fn append_bytes<const LONG: bool>(
         → ArePending words.new (fill + length bytes.now) }
     ensures costs { Costs tally 0 (if LONG then 64 - fill else length bytes.now) }
 {
-    let kept = if LONG { 64 - fill } else { bytes.len() };
-    tally.raise(0, kept);
+    tally.raise(0, bytes.len().min(64 - fill));
     if LONG {
         append_long(words, fill, bytes);
     } else if bytes.len() < 8 {

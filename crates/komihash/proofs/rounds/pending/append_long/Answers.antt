@@ -1,7 +1,6 @@
 -- Each two words continue those that are stored, or overlap them.
 use Rattle.std.proofs.Common.{◌+◌, ◌/◌, length, arith, ◌∙◌}
 use Rattle.komihash.specs.Storage.{pending_bytes}
-use Rattle.komihash.proofs.WordOf.{AreBytes-typed}
 use Rattle.komihash.proofs.PendingBytes.{put_word, all_stored, word_after}
 use Rattle.komihash.proofs.rounds.pending.append_long.Goals as goal
 use Rattle.komihash.proofs.rounds.pending.append_long.Goals.{then-at-eq6, else-at-eq6}
@@ -11,8 +10,7 @@ returns-then-at-lt6 c =
     let bytes = c.args.bytes.now in
     let xs = pending_bytes c.args.words.now c.args.fill in
     let at = c.args.fill / 8 in
-    let but = c.append_within_word.ensures.words bytes (at + 1) (8 + length bytes)
-    (AreBytes-typed bytes c.type_inv.bytes) c.read_word.ensures (omega arith) in
+    let but = c.append_first_eight.ensures (at + 1) (8 + length bytes) (omega arith) in
     let second = c.min-second.result in
     let third = c.min-third.result in
     let first_two = c.store_two_words.ensures xs _ _ (at + 3) but (omega arith) in
@@ -26,8 +24,7 @@ returns-after-at-eq6 c =
     let bytes = c.args.bytes.now in
     let xs = pending_bytes c.args.words.now c.args.fill in
     let at = c.args.fill / 8 in
-    let but = c.append_within_word.ensures.words bytes (at + 1) (8 + length bytes)
-    (AreBytes-typed bytes c.type_inv.bytes) c.read_word.ensures (omega arith) in
+    let but = c.append_first_eight.ensures (at + 1) (8 + length bytes) (omega arith) in
     all_stored (put_word but 7 8 _ (omega arith) (λ _. elim c.if-at-eq6.branch [
       | then-at-eq6 w ↦ w.words-is ∙ c.word_at-next.ensures ∙ word_after xs bytes 7 _ (omega arith)
       | else-at-eq6 w ↦ w.words-is ∙ but.words 7 (omega arith) (omega arith)
