@@ -1,6 +1,5 @@
 //! The calls of each version of komihash as `komihash_rattle.h` has them: by the library for C, and
 //! by the Rust crate. Other hashes have the first call alone.
-use std::arch::asm;
 use std::hint::black_box;
 use std::marker::PhantomData;
 use std::mem::MaybeUninit;
@@ -29,24 +28,16 @@ impl<'a, T, S: AsMut<[T]> + ?Sized> From<&'a mut S> for Out<'a, T> {
     }
 }
 
-/// Returns a pointer that isn't null, by the test that the library makes for its callers in C.
-fn not_null<T>(mut items: *mut T) -> *mut T {
-    // SAFETY: there is no instruction in it. It hides the pointer from a compiler that would drop
-    // the test if it saw that no caller passes null.
-    unsafe { asm!("/* {0} */", inout(reg) items, options(pure, readonly, nostack)) };
-    items.wrapping_byte_add((items.is_null() as usize) << 12)
-}
-
 // SAFETY, of both: the pointer and the length are those of a slice that is borrowed as long.
 impl<'a, T> In<'a, T> {
-    fn tested(self) -> &'a [T] {
-        unsafe { from_raw_parts(not_null(self.0.cast_mut()), self.1) }
+    fn slice(self) -> &'a [T] {
+        unsafe { from_raw_parts(self.0, self.1) }
     }
 }
 
 impl<'a, T> Out<'a, T> {
-    fn tested(self) -> &'a mut [T] {
-        unsafe { from_raw_parts_mut(not_null(self.0), self.1) }
+    fn slice(self) -> &'a mut [T] {
+        unsafe { from_raw_parts_mut(self.0, self.1) }
     }
 }
 
@@ -137,7 +128,7 @@ macro_rules! library {
 
 /// Copies as many bytes as fit. It stands for the calls that the Rust crate lacks.
 extern "C" fn copy<T: Copy, U: Copy>(from: In<T>, to: Out<U>) -> usize {
-    let (from, to) = (from.tested(), to.tested());
+    let (from, to) = (from.slice(), to.slice());
     let length = size_of_val(from).min(size_of_val(to));
     // SAFETY: both have as many bytes, and one of them is borrowed as mutable.
     unsafe { copy_nonoverlapping(from.as_ptr().cast::<u8>(), to.as_mut_ptr().cast(), length) };
@@ -159,14 +150,14 @@ macro_rules! rust_crate {
         use {copy as pad, copy as unpad, copy_from as save, copy_to as resume};
 
         extern "C" fn hash(bytes: In<u8>, seed: u64) -> u64 {
-            komihash(bytes.tested(), seed)
+            komihash(bytes.slice(), seed)
         }
         extern "C" fn start(seed: u64) -> Stream {
             State::new(StreamedKomihash::new_with_seed(seed))
         }
         // SAFETY, of these calls: the states are those that the calls beside them made.
         extern "C" fn write(stream: &mut Stream, bytes: In<u8>) {
-            unsafe { stream.value_mut::<StreamedKomihash>() }.write(bytes.tested());
+            unsafe { stream.value_mut::<StreamedKomihash>() }.write(bytes.slice());
         }
         extern "C" fn finish(stream: &Stream) -> u64 {
             unsafe { stream.value::<StreamedKomihash>() }.finish()
@@ -175,7 +166,7 @@ macro_rules! rust_crate {
             unsafe { rand.value_mut::<Komirand>() }.next()
         }
         extern "C" fn rand_fill(rand: &mut Generator, out: Out<u8>) {
-            unsafe { rand.value_mut::<Komirand>() }.fill_bytes(out.tested());
+            unsafe { rand.value_mut::<Komirand>() }.fill_bytes(out.slice());
         }
         extern "C" fn rand_init(seed: u64) -> Generator {
             State::new(Komirand::init(seed))
