@@ -20,16 +20,22 @@ case "$*" in
 esac
 out=$PWD/out
 mkdir -p "$out"
-export CARGO_TARGET_DIR=$out RUSTFLAGS=${RUSTFLAGS--C target-cpu=x86-64-v2}
+boundaries=branches-within-32B-boundaries # compilers' option that keeps jumps off them
+export CARGO_TARGET_DIR=$out
+export RUSTFLAGS=${RUSTFLAGS--C target-cpu=x86-64-v2 -C llvm-args=-x86-$boundaries}
 export CARGO_PROFILE_RELEASE_LTO=${CARGO_PROFILE_RELEASE_LTO-fat}
 
-# The library, its build for x86-64-v3 under names of its own, and the other hashes.
+# The library, its build for x86-64-v3 under names of its own, and the other hashes. Only clang has
+# the option without -Wa.
 make --silent -C ../c >&2
+option=-m$boundaries
+"${CC:-cc}" "$option" -E - < /dev/null > /dev/null 2>&1 || option=-Wa,$option
 cp ../c/out/x86_64.o "$out/library.o"
 objcopy --prefix-symbols=v3_ ../c/out/x86_64_v3.o "$out/library_v3.o"
 for level in v2 v3; do
-    "${CC:-cc}" -O3 "-march=x86-64-$level" -ffunction-sections "-DLIST=other_hashes_$level" \
-        "-D_wyp=_wyp_$level" -c driver/src/other_hashes.c -o "$out/other_hashes_$level.o"
+    "${CC:-cc}" -O3 "-march=x86-64-$level" "$option" -ffunction-sections \
+        "-DLIST=other_hashes_$level" "-D_wyp=_wyp_$level" \
+        -c driver/src/other_hashes.c -o "$out/other_hashes_$level.o"
 done
 
 # Builds the driver with its functions in the random order of a number.
