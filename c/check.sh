@@ -1,19 +1,26 @@
 #!/bin/sh
 # Tests the library for C; `make check` runs it, and passes what it builds with. Installs the
-# library below a folder with a space in its name, and compiles and runs programs with it.
+# library below a folder whose name a shell must quote, and compiles and runs programs with it.
 set -u
 cd "$(dirname "$0")" || exit 1
-. ../scripts/cases.sh
+. ./cases.sh
 
-prefix="$room/a prefix"
+prefix="$room/a & 'b'"
 lib="$prefix/lib"
+include="$prefix/include"
 archive="$lib/libkomihash_rattle.a"
 program=$room/program
 export LD_LIBRARY_PATH="$lib" PKG_CONFIG_PATH="$lib/pkgconfig"
-export QEMU_LD_PREFIX="${QEMU_LD_PREFIX:-/usr/$("$CC" -dumpmachine)}"
+export QEMU_LD_PREFIX="${QEMU_LD_PREFIX:-/usr/$($CC -dumpmachine)}"
+unset MAKEFLAGS PREFIX LIBDIR INCLUDEDIR DESTDIR
 sed -n '/^```c$/,/^```$/{/^```/!p;}' README.md > "$room/example.c"
 grep -o 'komihash_v[a-z0-9_]*(' komihash_rattle.h | tr -d '(' | sort > "$room/declared"
-for number in 4 5; do grep "^$number" ../docs/vectors.tsv; done > "$room/vectors"
+for number in 4 5; do grep "^$number" vectors.tsv; done > "$room/vectors"
+
+# Runs make with what this script was given, but not with the paths that its caller may have set.
+build() {
+    $MAKE --no-print-directory "OUT=$OUT" "ASSEMBLY=$ASSEMBLY" "CROSS=$CROSS" "CC=$CC" "$@"
+}
 
 # Whether a tool is there. Without it, a case is skipped: has TOOL NAME; needs TOOL NAME COMMAND..
 has() { command -v "$1" > "$room/case" || { skip "$2" "$1" && false; }; }
@@ -44,38 +51,28 @@ needs_nothing() { ! "$NM" -u ${2-} "$1" | grep -v -e ':$' -e '^$'; }
 
 numbers_of_version() {
     printf 'KOMIHASH_RATTLE_VERSION_%s\n' MAJOR MINOR PATCH | cat komihash_rattle.h - |
-        "$CC" -E -P - | tail -n 3 | paste -s -d . -
+        $CC -E -P - | tail -n 3 | paste -s -d . -
 }
 
-# Prints the size of a type of the crate, as a file proves it.
-size_of() {
-    sed -n "s/^const _: () = prove!(size_of::<$1>() == \(.*\));/\1/p" \
-        "../crates/komihash_rattle/src/$2.rt"
-}
-
-# Compile a program with the installed header, and calls.c for a version.
-compile() { "$@" -Wall -Wextra -Wpedantic -Werror -I "$prefix/include" -o "$program"; }
-compile_calls() {
-    compile "$2" -std=c11 calls.c "$3" -D "VERSION=$1" \
-        -D "STREAM_SIZE=$(size_of Stream "v$1")" -D "RAND_SIZE=$(size_of Rand rand)"
-}
+# Compile a program by $compiler, and calls.c for a version.
+compile() { $compiler "$@" -Wall -Wextra -Wpedantic -Werror -o "$program"; }
+compile_calls() { compile -std=c11 -I "$include" calls.c "$2" -D "VERSION=$1"; }
 
 called() {
     for number in 4 5; do
-        compile_calls $number "$CC" -c && symbols U "$program" | grep "komihash_v$number"
+        compile_calls $number -c && symbols U "$program" | grep "komihash_v$number"
     done
 }
 
-# Runs calls.c for both versions: calls COMPILER LIBRARY [ARGUMENT]
+# Runs calls.c for both versions: calls LIBRARY [ARGUMENT]
 calls() {
     for number in 4 5; do
-        compile_calls $number "$1" "$2" && $RUN "$program" ${3-} < ../docs/vectors.tsv || return
+        compile_calls $number "$1" && $RUN "$program" ${2-} < vectors.tsv || return
     done
 }
 cases_of_calls() {
-    note "calls.c prints what calls.txt has (${1##*/}, ${2##*/})" prints calls.txt calls "$@"
-    note "the hashes of docs/vectors.tsv (${1##*/}, ${2##*/})" \
-        prints "$room/vectors" calls "$@" rows
+    note "calls.c prints what calls.txt has ($compiler, ${1##*/})" prints calls.txt calls "$1"
+    note "the hashes of vectors.tsv ($compiler, ${1##*/})" prints "$room/vectors" calls "$1" rows
 }
 
 # Compiles an example with these arguments, and runs it.
@@ -83,12 +80,12 @@ runs() { compile "$@" && prints examples/printed.txt $RUN "$program"; }
 runs_shared() { runs "$@" && "$READELF" -d "$program" | grep "NEEDED.*\[$soname\]"; }
 runs_by_package() { eval "runs_shared \"\$@\" $(pkg-config --cflags --libs komihash_rattle)"; }
 
-# The example in a language, linked in each way: example LANGUAGE COMPILER..
+# The example in a language, linked in each way: example LANGUAGE ARGUMENT..
 example() {
-    title="the example in $1 (${2##*/}"
+    title="the example in $1 ($compiler"
     shift
-    note "$title, static library)" runs "$@" "$archive"
-    note "$title, shared object)" runs_shared "$@" -L "$lib" -lkomihash_rattle
+    note "$title, static library)" runs "$@" -I "$include" "$archive"
+    note "$title, shared object)" runs_shared "$@" -I "$include" -L "$lib" -lkomihash_rattle
     needs pkg-config "$title, pkg-config)" runs_by_package "$@"
 }
 
@@ -104,9 +101,19 @@ by_cmake() {
 hash_file() { $RUN "$OUT/hash_file"; }
 full_disk() { hash_file > /dev/full; }
 
-uninstall() { "$MAKE" uninstall "PREFIX=$prefix" && test -z "$(find "$prefix" ! -type d)"; }
+# Installs by the variables of the environment, builds an example with that, and uninstalls it.
+staged() {
+    export PREFIX='/a|b' LIBDIR='/a|b/lib/processor' INCLUDEDIR=/usr/include/d DESTDIR="$room/staged"
+    export PKG_CONFIG_SYSROOT_DIR="$DESTDIR" PKG_CONFIG_PATH="$DESTDIR$LIBDIR/pkgconfig"
+    (umask 077 && build install) &&
+        test -z "$(find "$DESTDIR" ! -type l ! -perm 755 ! '(' -type f -perm 644 ')')" &&
+        { ! command -v pkg-config || runs_by_package -std=c11 "$room/example.c"; } &&
+        build uninstall && test ! -e "$DESTDIR"
+}
+uninstalled() { build uninstall "PREFIX=$prefix" && test ! -e "$prefix"; }
+refused() { ! build install "PREFIX=$1" > "$room/printed" 2>&1 && grep "not '$1'$" "$room/printed"; }
 
-note 'the library is installed' "$MAKE" install "PREFIX=$prefix" DESTDIR=
+note 'the library is installed' build install "PREFIX=$prefix"
 [ "$failed" = 0 ] || { counted; exit 1; }
 note 'the numbers in the header are those of its version' \
     test "$(numbers_of_version)" = "$version"
@@ -118,17 +125,18 @@ while read -r file; do
     note "$name calls nothing else" needs_nothing "$file" $flag
 done < "$room/libraries"
 
+compiler=$CC
 note 'calls.c calls every function' prints "$room/declared" called
 for compiler in "$CC" $([ "$CROSS" ] || echo clang); do
-    has "$compiler" 'calls.c and the example in C' || continue
-    cases_of_calls "$compiler" "$archive"
-    cases_of_calls "$compiler" "$lib/$soname"
-    example C "$compiler" -std=c11 "$room/example.c"
+    has "${compiler%% *}" 'calls.c and the example in C' || continue
+    cases_of_calls "$archive"
+    cases_of_calls "$lib/$soname"
+    example C -std=c11 "$room/example.c"
 done
 if [ ! "$CROSS" ]; then
     for compiler in "$CXX" clang++; do
-        has "$compiler" 'the example in C++' || continue
-        example C++ "$compiler" -std=c++17 examples/example.cpp
+        has "${compiler%% *}" 'the example in C++' || continue
+        example C++ -std=c++17 examples/example.cpp
     done
     needs rustc 'the example in Rust' by_rustc
     needs python3 'the example in Python' \
@@ -140,7 +148,11 @@ note 'hash_file' test "$(printf a | hash_file)" = 5117f5064cfd0faa
 note 'hash_file, a folder' fails 'cannot read .*: Is a directory$' hash_file < /
 note 'hash_file, a closed input' fails 'cannot read .*: Bad file descriptor$' hash_file <&-
 note 'hash_file, a full output' fails 'cannot write .*: No space left' full_disk < /dev/null
-note 'another processor' fails 'none for riscv64' "$MAKE" machine=riscv64-linux-gnu
-note 'a missing compiler' fails 'there is no: no-compiler' "$MAKE" CC=no-compiler
-note 'the library is uninstalled' uninstall
+compiler=$CC
+note 'the paths of the environment' staged
+note 'an empty PREFIX' refused ''
+note 'a relative PREFIX' refused here
+note 'another processor' fails 'none for riscv64' build machine=riscv64-linux-gnu
+note 'a missing compiler' fails 'there is no: no-compiler' build CC=no-compiler
+note 'the library is uninstalled' uninstalled
 counted

@@ -4,10 +4,22 @@
 # the library run with what it makes. Also builds the library for WebAssembly, and runs it in Node.
 set -uo pipefail
 cd "$(dirname "$0")/../c" || exit 1
-. ../scripts/cases.sh
+. ./cases.sh
 
 # Prints the compiler that a file names.
 compiler_of() { sed -nE '1,/\*\// s/^ \* (commit|compiler) .*/&/p' "$1"; }
+
+# Whether the types of the header have the sizes that the crate proves: size TYPE FILE prints one.
+size() {
+    sed -n "s/^const _: () = prove!(size_of::<$1>() == \(.*\));/\1/p" \
+        "../crates/komihash_rattle/src/$2.rt"
+}
+sizes() {
+    for number in 4 5; do
+        printf '_Static_assert(sizeof(komihash_v%s) == %s, "");\n' \
+            ${number}_stream "$(size Stream v$number)" ${number}_rand "$(size Rand rand)"
+    done | cat komihash_rattle.h - | "${CC:-cc}" -x c -fsyntax-only -
+}
 
 same() { diff "$@" > "$room/differ" || { head -n 40 "$room/differ"; false; }; }
 
@@ -15,10 +27,11 @@ wasm() {
     local option=--experimental-wasm-memory64 # which old versions of Node need
     node $option -e 0 || option=
     make wasm OUT="$room" &&
-        node $option examples/vectors.mjs "$room/komihash_rattle.wasm" < ../docs/vectors.tsv \
-            > "$room/hashed" && grep -v '^#' ../docs/vectors.tsv | diff - "$room/hashed"
+        node $option examples/vectors.mjs "$room/komihash_rattle.wasm" < vectors.tsv \
+            > "$room/hashed" && grep -v '^#' vectors.tsv | diff - "$room/hashed"
 }
 
+note 'the types of the header have the sizes that the crate proves' sizes
 note 'the assembly is made anew' make assembly ASSEMBLY="$room/assembly"
 [ "$failed" = 0 ] || { counted; exit; }
 differs=
@@ -34,7 +47,7 @@ done
 [ ! "$differs" ] || note 'the library from the assembly made anew passes its tests' \
     make check ASSEMBLY="$room/assembly" OUT="$room/out"
 if command -v node > "$room/case"; then
-    note 'the library for WebAssembly gives the hashes of docs/vectors.tsv' wasm
+    note 'the library for WebAssembly gives the hashes of c/vectors.tsv' wasm
 else
     skip 'the library for WebAssembly' node
 fi

@@ -4,7 +4,7 @@
 # the error in its first line, and the controls must be accepted.
 set -u
 cd "$(dirname "$0")/attacks" || exit 1
-. ../cases.sh
+. ../../c/cases.sh
 
 above=$room/crates/above
 mkdir -p "$above/src" "$above/proofs"

@@ -4,7 +4,7 @@
 # mostly to build tests.
 set -uo pipefail
 cd "$(dirname "$0")/../crates/komisum" || exit 1
-. ../../scripts/cases.sh
+. ../../c/cases.sh
 
 program=out/komisum
 long=$(printf '%0300d' 0)
@@ -33,8 +33,8 @@ hashed() {
             "$(printf "$(sed 's/../\\x&/g' <<< "$message")" | "$program" "$version" "$seed")"
     done
 }
-grep -v '^#' ../../docs/vectors.tsv | tr '\t' '|' > "$room/vectors" || exit
-note 'docs/vectors.tsv' diff "$room/vectors" <(hashed < "$room/vectors")
+grep -v '^#' ../../c/vectors.tsv | tr '\t' '|' > "$room/vectors" || exit
+note 'c/vectors.tsv' diff "$room/vectors" <(hashed < "$room/vectors")
 
 # The program's name need not be UTF-8, may be long, and may be empty.
 named() { (exec -a "$1" "$program" 4 1f); }

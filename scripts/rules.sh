@@ -4,7 +4,7 @@
 # reader must see what stands in such a line, and a product that is made of sums or shifts.
 set -u
 cd "$(dirname "$0")/../crates/komihash/src" || exit 1
-. ../../../scripts/cases.sh
+. ../../../c/cases.sh
 code=$(find . -name '*.rt' ! -path '*/tests*' ! -name laws.rt | LC_ALL=C sort | xargs grep '' |
     sed 's|//.*||; s/\b8 \* //g' |
     grep -vE '≡|\.(now|old)\b|: *(pub(\(crate\))? )?(ghost|fn|requires|ensures|#!?\[tactic|use) ')

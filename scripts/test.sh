@@ -7,7 +7,7 @@
 # missing; lines above it say which. With REQUIRE_ALL=1 in the environment, skipped is failed.
 set -uo pipefail
 cd "$(dirname "$0")/.." || exit 1
-. scripts/cases.sh
+. c/cases.sh
 
 sum_up() {
     grep '^skipped: ' "$room/told"

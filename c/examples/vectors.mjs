@@ -1,4 +1,4 @@
-// Prints the rows of docs/vectors.tsv, each with the hash that the library for WebAssembly gives:
+// Prints the rows of vectors.tsv, each with the hash that the library for WebAssembly gives:
 // node --experimental-wasm-memory64 vectors.mjs MODULE < vectors.tsv
 import { readFileSync } from "node:fs";
 

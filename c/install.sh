@@ -1,0 +1,58 @@
+#!/bin/sh
+# Installs the library, or removes what was installed: install.sh install|uninstall. `make` runs it,
+# with what it has built and the variables of its user in the environment.
+set -eu
+umask 022
+prefix=${PREFIX-/usr/local}
+libdir=${LIBDIR-$prefix/lib}
+includedir=${INCLUDEDIR-$prefix/include}
+cmake=$libdir/cmake/komihash_rattle
+for folder in "$prefix" "$libdir" "$includedir"; do
+    case $folder in
+    /*) ;;
+    *) echo "PREFIX, LIBDIR and INCLUDEDIR must be absolute paths, and not '$folder'" >&2 && exit 2 ;;
+    esac
+done
+
+# Calls a function with the mode, the source and the path of each file.
+each_file() {
+    "$1" 644 komihash_rattle.h "$includedir/komihash_rattle.h"
+    "$1" 644 LICENSE "$prefix/share/doc/komihash_rattle/LICENSE"
+    "$1" 644 "$OUT/komihash_rattle.pc" "$libdir/pkgconfig/komihash_rattle.pc"
+    "$1" 644 "$OUT/komihash_rattle-config.cmake" "$cmake/komihash_rattle-config.cmake"
+    "$1" 644 "$OUT/komihash_rattle-config-version.cmake" "$cmake/komihash_rattle-config-version.cmake"
+    for file in $archives; do "$1" 644 "$OUT/$file" "$libdir/$file"; done
+    for file in $shared; do "$1" 755 "$OUT/$file" "$libdir/$file"; done
+    "$1" link "$soname" "$libdir/${soname%.*}"
+}
+
+# Makes a folder and those above it, and notes the ones that were not there.
+made=$OUT/made
+make_folder() {
+    [ -d "$1" ] || { make_folder "$(dirname "$1")" && mkdir "$1" && echo "$1" >> "$made"; }
+}
+install_file() {
+    target=${DESTDIR-}$3
+    make_folder "${target%/*}"
+    if [ "$1" = link ]; then ln -sf "$2" "$target"; else install -m "$1" "$2" "$target"; fi
+}
+remove_file() { rm -f "${DESTDIR-}$3"; }
+
+# Writes a file for pkg-config or CMake into the folder of what is built, with the paths in it.
+quoted() { printf '%s\n' "$1" | sed 's/[\\&|]/\\&/g'; }
+fill() {
+    sed "s|@VERSION@|$version|; s|@PREFIX@|$(quoted "$prefix")|; s|@LIBDIR@|$(quoted "$libdir")|
+        s|@INCLUDEDIR@|$(quoted "$includedir")|" "$1" > "$OUT/${1##*/}"
+}
+
+if [ "$1" = install ]; then
+    for file in package/*; do fill "$file"; done
+    each_file install_file
+else
+    each_file remove_file
+    [ -f "$made" ] || exit 0
+    sort -r "$made" > "$made.all"
+    while read -r folder; do
+        rmdir "$folder" 2> /dev/null || [ ! -d "$folder" ] || echo "$folder"
+    done < "$made.all" > "$made"
+fi
