@@ -98,8 +98,18 @@ by_cmake() {
         cmake --build "$room/cmake" && printf a | $RUN "$room/cmake/hash_file" | grep '^5117f5064'
 }
 
-hash_file() { $RUN "$OUT/hash_file"; }
+hash_file() { $RUN "$OUT/hash_file" "$@"; }
 full_disk() { hash_file > /dev/full; }
+
+# Whether hash_file ends with a status, and prints what standard input has: ends STATUS ARGUMENT..
+ends() {
+    wanted=$1
+    shift
+    printf a | (hash_file "$@") > "$room/printed" 2> "$room/errors"
+    status=$?
+    cat "$room/errors"
+    diff - "$room/printed" && test "$status" = "$wanted"
+}
 
 # Installs by the variables of the environment, builds an example with that, and uninstalls it.
 staged() {
@@ -144,7 +154,15 @@ if [ ! "$CROSS" ]; then
 fi
 needs cmake 'hash_file, by CMake' by_cmake
 
-note 'hash_file' test "$(printf a | hash_file)" = 5117f5064cfd0faa
+note 'hash_file' ends 0 << 'END'
+5117f5064cfd0faa
+END
+note 'hash_file, files, two of which cannot be read' ends 1 LICENSE none / - << END
+$(hash_file < LICENSE)  LICENSE
+5117f5064cfd0faa  -
+END
+note 'hash_file, a name that begins with -' ends 1 -- -none < /dev/null
+note 'hash_file, an unknown option' ends 2 -c LICENSE < /dev/null
 note 'hash_file, a folder' fails 'cannot read .*: Is a directory$' hash_file < /
 note 'hash_file, a closed input' fails 'cannot read .*: Bad file descriptor$' hash_file <&-
 note 'hash_file, a full output' fails 'cannot write .*: No space left' full_disk < /dev/null
