@@ -9,9 +9,11 @@ prefix="$room/a & 'b'"
 lib="$prefix/lib"
 include="$prefix/include"
 archive="$lib/libkomihash_rattle.a"
+package=$room/komihash_rattle-$version.tar.gz
 program=$room/program
+machine=$($CC -dumpmachine)
 export LD_LIBRARY_PATH="$lib" PKG_CONFIG_PATH="$lib/pkgconfig"
-export QEMU_LD_PREFIX="${QEMU_LD_PREFIX:-/usr/$($CC -dumpmachine)}"
+export QEMU_LD_PREFIX="${QEMU_LD_PREFIX:-/usr/$machine}"
 unset MAKEFLAGS PREFIX LIBDIR INCLUDEDIR DESTDIR
 sed -n '/^```c$/,/^```$/{/^```/!p;}' README.md > "$room/example.c"
 grep -o 'komihash_v[a-z0-9_]*(' komihash_rattle.h | tr -d '(' | sort > "$room/declared"
@@ -93,13 +95,61 @@ by_rustc() {
     rustc --edition 2021 -D warnings -L "native=$lib" -l static=komihash_rattle \
         examples/example.rs -o "$program" && prints examples/printed.txt "$program"
 }
+# Builds and runs hash_file by CMake, with these definitions.
 by_cmake() {
-    cmake -S examples -B "$room/cmake" -D "CMAKE_C_COMPILER=$CC" -D "CMAKE_PREFIX_PATH=$prefix" &&
+    rm -rf "$room/cmake" && cmake -S examples -B "$room/cmake" -D "CMAKE_C_COMPILER=$CC" \
+        -D CMAKE_SYSTEM_NAME=Linux -D "CMAKE_SYSTEM_PROCESSOR=${machine%%-*}" "$@" &&
         cmake --build "$room/cmake" && printf a | $RUN "$room/cmake/hash_file" | grep '^5117f5064'
 }
 
-hash_file() { $RUN "$OUT/hash_file"; }
+# Whether CMake takes the library for each version or range in $1, and for none in $2.
+requested() {
+    mkdir "$room/requested" && cat > "$room/requested/CMakeLists.txt" << END &&
+cmake_minimum_required(VERSION 3.19)
+project(requested C)
+foreach(request $1 $2)
+  string(REPLACE "," ";" arguments \${request})
+  unset(komihash_rattle_DIR CACHE)
+  find_package(komihash_rattle \${arguments} QUIET)
+  message("\${request}: \${komihash_rattle_FOUND}")
+endforeach()
+END
+    { printf '%s: 1\n' $1 && printf '%s: 0\n' $2; } > "$room/wanted" &&
+        cmake -S "$room/requested" -B "$room/requested" -D "CMAKE_C_COMPILER=$CC" \
+            -D "CMAKE_PREFIX_PATH=$prefix" 2>&1 > "$room/printed" | diff "$room/wanted" -
+}
+
+# Whether the package that `make dist` writes gives the same package again.
+package_again() {
+    mkdir "$room/again" && tar -xzf "$package" -C "$room/again" &&
+        (cd "$room/again/komihash_rattle-$version" && build dist "OUT=out") &&
+        cmp "$package" "$room/again/komihash_rattle-$version/out/${package##*/}"
+}
+
+# Whether make bench prints thirteen lines with a number for the library in each but the first.
+measured() { build bench | grep -c '^\(hash\|write\) .* bytes *[0-9]' | grep -x 12; }
+
+# Whether a program that uses the header is refused with a text: refuses TEXT PROGRAM COMMAND..
+refuses() {
+    text=$1
+    printf '#include "komihash_rattle.h"\n%s\n' "$2" > "$room/refused.c"
+    shift 2
+    ! "$@" -I. -ffreestanding -S -o "$program" "$room/refused.c" 2> "$room/printed" &&
+        grep "$text" "$room/printed"
+}
+
+hash_file() { $RUN "$OUT/hash_file" "$@"; }
 full_disk() { hash_file > /dev/full; }
+
+# Whether hash_file ends with a status, and prints what standard input has: ends STATUS ARGUMENT..
+ends() {
+    wanted=$1
+    shift
+    printf a | (hash_file "$@") > "$room/printed" 2> "$room/errors"
+    status=$?
+    cat "$room/errors"
+    diff - "$room/printed" && test "$status" = "$wanted"
+}
 
 # Installs by the variables of the environment, builds an example with that, and uninstalls it.
 staged() {
@@ -113,6 +163,9 @@ staged() {
 uninstalled() { build uninstall "PREFIX=$prefix" && test ! -e "$prefix"; }
 refused() { ! build install "PREFIX=$1" > "$room/printed" 2>&1 && grep "not '$1'$" "$room/printed"; }
 
+runs_here() { $RUN "$OUT/hash_file" < /dev/null > "$program" 2>&1; }
+note "programs for $machine run here, or in the emulator that RUN names" runs_here
+[ "$failed" = 0 ] || { counted; exit 1; }
 note 'the library is installed' build install "PREFIX=$prefix"
 [ "$failed" = 0 ] || { counted; exit 1; }
 note 'the numbers in the header are those of its version' \
@@ -138,13 +191,39 @@ if [ ! "$CROSS" ]; then
         has "${compiler%% *}" 'the example in C++' || continue
         example C++ -std=c++17 examples/example.cpp
     done
+    compiler='musl-gcc -static'
+    ! has musl-gcc 'calls.c with musl' || cases_of_calls "$archive"
     needs rustc 'the example in Rust' by_rustc
     needs python3 'the example in Python' \
         prints examples/printed.txt python3 examples/example.py "$lib/$soname"
+    note 'make bench' measured
 fi
-needs cmake 'hash_file, by CMake' by_cmake
+for target in s390x:big-endian i686:64-bit x86_64-linux-gnux32:64-bit; do
+    needs clang "the header refuses ${target%:*}" \
+        refuses "${target#*:}" '' clang "--target=${target%:*}"
+done
+note 'a result that must not be ignored' refuses unused-result \
+    'void f(komihash_v5_stream *s) { komihash_v5_resume(s, "", 0); }' $CC -Werror
+note 'a stream that is null' refuses nonnull \
+    'uint64_t f(void) { return komihash_v5_finish(NULL); }' $CC -Werror -Wall
 
-note 'hash_file' test "$(printf a | hash_file)" = 5117f5064cfd0faa
+note 'the package' build dist "OUT=$room"
+note 'the package, made of itself' package_again
+needs cmake 'hash_file, by CMake, with the installed library' by_cmake -D "CMAKE_PREFIX_PATH=$prefix"
+needs cmake 'hash_file, by CMake, with the package' by_cmake -D "PACKAGE=$package"
+needs cmake 'the versions that CMake may ask for' requested \
+    "1 1.0 $version $version,EXACT 1.0...2 1...<2 0.9...$version" \
+    "0.9 2 99.0 1.0,EXACT 1.0...<$version 2...3"
+
+note 'hash_file' ends 0 << 'END'
+5117f5064cfd0faa
+END
+note 'hash_file, files, two of which cannot be read' ends 1 README.md none / - << END
+$(hash_file < README.md)  README.md
+5117f5064cfd0faa  -
+END
+note 'hash_file, a name that begins with -' ends 1 -- -none < /dev/null
+note 'hash_file, an unknown option' ends 2 -c README.md < /dev/null
 note 'hash_file, a folder' fails 'cannot read .*: Is a directory$' hash_file < /
 note 'hash_file, a closed input' fails 'cannot read .*: Bad file descriptor$' hash_file <&-
 note 'hash_file, a full output' fails 'cannot write .*: No space left' full_disk < /dev/null

@@ -16,9 +16,9 @@
  * - A pointer to words, a stream or a generator is aligned to eight bytes. One to bytes needs no
  *   alignment.
  * - What a call writes must not overlap anything else that the call is passed.
- * - No call allocates memory or sets errno. The library has no global state, so threads may make
- *   calls at the same time. Threads that share a stream or a generator need a lock if one of them
- *   changes it.
+ * - No call allocates memory or sets errno. The library has no global state, so threads and signal
+ *   handlers may make calls at the same time. If they share a stream or a generator and one of them
+ *   changes it, threads need a lock, and the signal must be blocked.
  */
 #ifndef KOMIHASH_RATTLE_H
 #define KOMIHASH_RATTLE_H
@@ -27,15 +27,30 @@
 #include <stddef.h>
 #include <stdint.h>
 
+#if defined(__BYTE_ORDER__) && __BYTE_ORDER__ != __ORDER_LITTLE_ENDIAN__
+#error "komihash_rattle has no big-endian build: use komihash.h, the C original, there"
+#endif
+#if UINTPTR_MAX != UINT64_MAX
+#error "komihash_rattle needs 64-bit pointers: use -m64 on x86-64, and -mabi=lp64 on ARM64"
+#endif
+
+/* Marks of functions: the first argument is never null; the result says whether the call failed. */
+#ifdef __GNUC__
+#define KOMIHASH_NONNULL __attribute__((nonnull(1)))
+#define KOMIHASH_CHECK_RESULT __attribute__((warn_unused_result))
+#else
+#define KOMIHASH_NONNULL
+#define KOMIHASH_CHECK_RESULT
+#endif
+
 #ifdef __cplusplus
 extern "C" {
 #endif
 
-/* The version of this library. Its first number is that of the soname, and is raised when a program
- * that was linked to an older library can't run with the new one. */
-#define KOMIHASH_RATTLE_VERSION "1.0.0"
+/* The version of this library, whose first number is that of the soname. */
+#define KOMIHASH_RATTLE_VERSION "1.1.0"
 #define KOMIHASH_RATTLE_VERSION_MAJOR 1
-#define KOMIHASH_RATTLE_VERSION_MINOR 0
+#define KOMIHASH_RATTLE_VERSION_MINOR 1
 #define KOMIHASH_RATTLE_VERSION_PATCH 0
 
 /* What `unpad` returns instead of a length. */
@@ -73,25 +88,30 @@ komihash_v4_stream komihash_v4_start(uint64_t seed);
 komihash_v5_stream komihash_v5_start(uint64_t seed);
 
 /* Absorbs bytes. However a message is cut, its hash is the same. */
+KOMIHASH_NONNULL
 void komihash_v4_write(komihash_v4_stream *stream, const void *bytes, size_t length);
+KOMIHASH_NONNULL
 void komihash_v5_write(komihash_v5_stream *stream, const void *bytes, size_t length);
 
 /* Returns the hash of all bytes so far. The stream is unchanged, and may absorb more. */
-uint64_t komihash_v4_finish(const komihash_v4_stream *stream);
-uint64_t komihash_v5_finish(const komihash_v5_stream *stream);
+KOMIHASH_NONNULL uint64_t komihash_v4_finish(const komihash_v4_stream *stream);
+KOMIHASH_NONNULL uint64_t komihash_v5_finish(const komihash_v5_stream *stream);
 
 /* Writes the saved text of the stream to the front of `out`, and returns its length, 68 to 131
  * bytes. This text is binary, and can be stored and sent. It has up to 63 bytes of the message as
  * they are, and neither the number of bytes so far nor the seed, which `resume` doesn't need.
  * Returns 0, and writes nothing, if `room` is less than KOMIHASH_LONGEST_TEXT. */
+KOMIHASH_NONNULL KOMIHASH_CHECK_RESULT
 size_t komihash_v4_save(const komihash_v4_stream *stream, void *out, size_t room);
+KOMIHASH_NONNULL KOMIHASH_CHECK_RESULT
 size_t komihash_v5_save(const komihash_v5_stream *stream, void *out, size_t room);
 
-/* Replaces the stream by the one that has this saved text, and returns true. `stream` must already
- * hold a stream that a call returned, such as a new one. Returns false, and changes nothing, if no
- * stream of this version has it. The text has no checksum: damage that makes it the text of another
- * stream is not noticed. */
+/* Replaces the stream by the one that has this saved text, and returns true. What `stream` held is
+ * not read. Returns false, and changes nothing, if no stream of this version has the text. The text
+ * has no checksum: damage that makes it the text of another stream is not noticed. */
+KOMIHASH_NONNULL KOMIHASH_CHECK_RESULT
 bool komihash_v4_resume(komihash_v4_stream *stream, const void *text, size_t length);
+KOMIHASH_NONNULL KOMIHASH_CHECK_RESULT
 bool komihash_v5_resume(komihash_v5_stream *stream, const void *text, size_t length);
 
 /* Returns the pseudorandom generator Komirand of a seed, which is not cryptographic. */
@@ -108,14 +128,14 @@ komihash_v4_rand komihash_v4_rand_init_words(uint64_t s1, uint64_t s2);
 komihash_v5_rand komihash_v5_rand_init_words(uint64_t s1, uint64_t s2);
 
 /* Returns the next output. */
-uint64_t komihash_v4_rand_next(komihash_v4_rand *rand);
-uint64_t komihash_v5_rand_next(komihash_v5_rand *rand);
+KOMIHASH_NONNULL uint64_t komihash_v4_rand_next(komihash_v4_rand *rand);
+KOMIHASH_NONNULL uint64_t komihash_v5_rand_next(komihash_v5_rand *rand);
 
 /* Fills `out` with the bytes of the next outputs, the lowest byte of each first. Takes an output
  * for each eight bytes, and one more for a remainder, which gets its lowest bytes; its other bytes
  * are dropped. */
-void komihash_v4_rand_fill(komihash_v4_rand *rand, void *out, size_t length);
-void komihash_v5_rand_fill(komihash_v5_rand *rand, void *out, size_t length);
+KOMIHASH_NONNULL void komihash_v4_rand_fill(komihash_v4_rand *rand, void *out, size_t length);
+KOMIHASH_NONNULL void komihash_v5_rand_fill(komihash_v5_rand *rand, void *out, size_t length);
 
 /* Writes the padded words of a message to the front of `out`, and returns their number, which is
  * length / 8 + 1. They are the words that the hash reads: different messages have different ones.
@@ -127,7 +147,9 @@ size_t komihash_v5_pad(const void *bytes, size_t length, uint64_t *out, size_t r
 /* Writes the message that has these padded words to the front of `out`, and returns its length.
  * Returns KOMIHASH_NONE, and writes nothing, if no message has them, or if `out` has fewer than
  * eight bytes for each word. `length` counts words, and `room` counts bytes. */
+KOMIHASH_CHECK_RESULT
 size_t komihash_v4_unpad(const uint64_t *words, size_t length, void *out, size_t room);
+KOMIHASH_CHECK_RESULT
 size_t komihash_v5_unpad(const uint64_t *words, size_t length, void *out, size_t room);
 
 #ifdef __cplusplus

@@ -1,28 +1,54 @@
-/* Prints the hash of standard input, by version 5 with seed 0, as 16 hexadecimal digits. */
+/* Prints the hash of each file, by version 5 with seed 0: hash_file [FILE].. prints a line with 16
+ * hexadecimal digits, two spaces and the name for each, and - is standard input. Without files, it
+ * prints the digits for standard input alone. */
+#define _POSIX_C_SOURCE 200809L
 #include <errno.h>
 #include <inttypes.h>
 #include <komihash_rattle.h>
 #include <stdio.h>
 #include <string.h>
+#include <unistd.h>
 
 static unsigned char bytes[65536];
 
 /* Reports what failed and why, and returns the status to end with. */
-static int fail(const char *action) {
-    fprintf(stderr, "hash_file: %s: %s\n", action, strerror(errno));
+static int fail(const char *action, const char *name) {
+    fprintf(stderr, "hash_file: cannot %s %s: %s\n", action, name, strerror(errno));
     return 1;
 }
 
-int main(void) {
+/* Prints the line of an open file, which has no name if it was not asked for. */
+static int print_hash(FILE *file, const char *name) {
     komihash_v5_stream stream = komihash_v5_start(0);
     size_t length;
     do {
-        length = fread(bytes, 1, sizeof bytes, stdin);
+        length = fread(bytes, 1, sizeof bytes, file);
         komihash_v5_write(&stream, bytes, length);
     } while (length == sizeof bytes);
-    if (ferror(stdin))
-        return fail("cannot read standard input");
-    if (printf("%016" PRIx64 "\n", komihash_v5_finish(&stream)) < 0 || fflush(stdout) != 0)
-        return fail("cannot write the hash");
+    if (ferror(file))
+        return fail("read", name ? name : "standard input");
+    printf("%016" PRIx64 "%s%s\n", komihash_v5_finish(&stream), name ? "  " : "", name ? name : "");
     return 0;
+}
+
+static int print_hash_of(const char *name) {
+    if (strcmp(name, "-") == 0)
+        return print_hash(stdin, name);
+    FILE *file = fopen(name, "rb");
+    if (!file)
+        return fail("read", name);
+    int status = print_hash(file, name);
+    fclose(file);
+    return status;
+}
+
+int main(int count, char **arguments) {
+    if (getopt(count, arguments, "") != -1) {
+        fputs("usage: hash_file [FILE]..\n", stderr);
+        return 2;
+    }
+    int status = optind == count ? print_hash(stdin, NULL) : 0;
+    for (; optind < count; optind++)
+        status |= print_hash_of(arguments[optind]);
+    return fflush(stdout) || ferror(stdout) ? fail("write", "the hashes") : status;
 }
