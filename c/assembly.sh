@@ -9,15 +9,28 @@ room=$(mktemp -d)
 trap 'rm -rf "$room"' EXIT
 cd "$(dirname "${BASH_SOURCE[0]}")/../crates/komihash_rattle"
 
-# The kit's toolchain, whose clang here also writes the assembly of what it compiles.
+# The kit's toolchain, whose clang here edits the module that it gets, and also writes the assembly.
+# - The module adds 4096 to a null pointer, which takes instructions. The edit adds 0: where a
+#   pointer is null, the length after it is 0, so nothing is read or written by it.
+# - The attribute uwtable asks for unwind tables. It changes no instruction.
 mkdir "$room/bin" "$room/made"
 ln -s "$kit"/toolchain/bin/{ld.lld,llvm-ar} "$room/bin/"
 ln -s "$kit/toolchain/lib" "$room/"
-cat > "$room/bin/clang" << END
-#!/bin/bash
-words=("\${@/#-c/-S}")
-"$kit/toolchain/bin/clang" "\${words[@]/module.o/$room/module.s}" -fno-addrsig -fno-verbose-asm
-exec "$kit/toolchain/bin/clang" "\$@"
+{ echo '#!/bin/bash'; declare -p kit room; cat << 'END'; } > "$room/bin/clang"
+set -euo pipefail
+clang=$kit/toolchain/bin/clang
+given=$room/given.ll null='= mul i64 (%r[0-9]+), 4096$'
+if [[ " $* " == *' module.bc '* ]]; then
+    "$clang" "${@/#-c/-S}" -emit-llvm -Xclang -emit-llvm-uselists -Xclang -disable-llvm-passes \
+        -o "$given"
+    grep -qE "$null" "$given" || { echo 'no null pointer is replaced' >&2; exit 1; }
+    sed -E "s/$null/= mul i64 \1, 0/; s/^(define .*)\{$/\1uwtable {/" \
+        "$given" > "$room/module.ll"
+fi
+set -- "${@/#module.bc/$room/module.ll}"
+words=("${@/#-c/-S}")
+"$clang" "${words[@]/module.o/$room/module.s}" -fno-addrsig -fno-verbose-asm
+exec "$clang" "$@"
 END
 chmod +x "$room/bin/clang"
 
@@ -29,12 +42,17 @@ assembly_for() {
         --antt-project "$kit/rattle/logic/antt-project.json" --logic-built "$kit/logic_built" \
         --incremental out/incremental --toolchain "$room" "$@" -o "$room/library.a" \
         > "$room/log" 2>&1 || { tail -n 40 "$room/log" >&2; return 1; }
-    echo '/* `make assembly` made this file from the proved crate komihash_rattle. Do not edit it.'
-    echo ' * The flags are those of rt. A kit has its commit and its compiler in the file WHAT.'
-    echo " * flags $*"
-    sed -n 's/.*\.ident.*"rattle logic=\([0-9a-f]*\)".*/ * logic \1/p' "$room/module.s"
-    sed -nE 's/^(commit|compiler) / * &/p' "$kit/WHAT"
-    echo ' */'
+    cat << END
+/* SPDX-License-Identifier: MIT
+ * Copyright (c) 2026 the authors of komihash_rattle
+ *
+ * \`make assembly\` made this file from the proved crate komihash_rattle. Do not edit it.
+ * The flags are those of rt. A kit has its commit and its compiler in the file WHAT.
+ * flags $*
+$(sed -n 's/.*\.ident.*"rattle logic=\([0-9a-f]*\)".*/ * logic \1/p' "$room/module.s")
+$(sed -nE 's/^(commit|compiler) / * &/p' "$kit/WHAT")
+ */
+END
     sed '/^\t\.\(file\|ident\)\t/d' "$room/module.s"
 }
 
