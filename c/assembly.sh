@@ -52,14 +52,22 @@ assembly_for() {
 $(sed -n 's/.*\.ident.*"rattle logic=\([0-9a-f]*\)".*/ * logic \1/p' "$room/module.s")
 $(sed -nE 's/^(commit|compiler) / * &/p' "$kit/WHAT")
  */
+#ifdef _WIN32
+#define ELF_ONLY(...)
+#define WINDOWS_ONLY(...) __VA_ARGS__
+#else
+#define ELF_ONLY(...) __VA_ARGS__
+#define WINDOWS_ONLY(...)
+#endif
 END
-    sed '/^\t\.\(file\|ident\)\t/d' "$room/module.s"
+    sed -E '/^\t\.(file|ident)\t/d; s/^\t(\.(section|type|size)\t.*)/\tELF_ONLY(\1)/
+        s/^\t\.globl\t(.*)/&\n\tWINDOWS_ONLY(.def \1; .scl 2; .type 32; .endef)/' "$room/module.s"
 }
 
 echo 'Proving and compiling the crate. If nothing is proved yet, this takes minutes.' >&2
 rt lib > "$room/log" 2>&1 || { tail -n 40 "$room/log" >&2; exit 1; }
-assembly_for --cpu x86-64-v2 > "$room/made/x86_64.s"
-assembly_for --cpu x86-64-v3 > "$room/made/x86_64_v3.s"
-assembly_for --target aarch64-unknown-linux-gnu > "$room/made/aarch64.s"
+assembly_for --cpu x86-64-v2 > "$room/made/x86_64.S"
+assembly_for --cpu x86-64-v3 > "$room/made/x86_64_v3.S"
+assembly_for --target aarch64-unknown-linux-gnu > "$room/made/aarch64.S"
 mkdir -p "$folder"
-cp "$room"/made/*.s "$folder/"
+cp "$room"/made/*.S "$folder/"

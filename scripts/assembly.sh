@@ -35,7 +35,7 @@ note 'the types of the header have the sizes that the crate proves' sizes
 note 'the assembly is made anew' make assembly ASSEMBLY="$room/assembly"
 [ "$failed" = 0 ] || { counted; exit; }
 differs=
-for made in "$room"/assembly/*.s; do
+for made in "$room"/assembly/*.S; do
     file=assembly/${made##*/}
     if [ "$(compiler_of "$file")" = "$(compiler_of "$made")" ]; then
         note "c/$file is what the compiler makes of the proved source code" same "$file" "$made"
