@@ -13,6 +13,8 @@ cd "$(dirname "${BASH_SOURCE[0]}")/../crates/komihash_rattle"
 # - The module adds 4096 to a null pointer, which takes instructions. The edit adds 0: where a
 #   pointer is null, the length after it is 0, so nothing is read or written by it.
 # - The attribute uwtable asks for unwind tables. It changes no instruction.
+# - The attribute noredzone keeps values out of the memory below the stack pointer, because Windows
+#   may overwrite it.
 mkdir "$room/bin" "$room/made"
 ln -s "$kit"/toolchain/bin/{ld.lld,llvm-ar} "$room/bin/"
 ln -s "$kit/toolchain/lib" "$room/"
@@ -24,7 +26,7 @@ if [[ " $* " == *' module.bc '* ]]; then
     "$clang" "${@/#-c/-S}" -emit-llvm -Xclang -emit-llvm-uselists -Xclang -disable-llvm-passes \
         -o "$given"
     grep -qE "$null" "$given" || { echo 'no null pointer is replaced' >&2; exit 1; }
-    sed -E "s/$null/= mul i64 \1, 0/; s/^(define .*)\{$/\1uwtable {/" \
+    sed -E "s/$null/= mul i64 \1, 0/; s/^(define .*)\{$/\1uwtable noredzone {/" \
         "$given" > "$room/module.ll"
 fi
 set -- "${@/#module.bc/$room/module.ll}"

@@ -2300,6 +2300,8 @@ komihash_v4_resume:
 	add	x11, x11, #68
 	cmp	x2, x11
 	b.ne	.LBB20_21
+	sub	sp, sp, #80
+	.cfi_def_cfa_offset 80
 	movi	v0.2d, #0000000000000000
 	ldur	x15, [x1, #4]
 	ldur	x16, [x1, #12]
@@ -2310,17 +2312,16 @@ komihash_v4_resume:
 	ldur	x8, [x1, #52]
 	cset	w10, eq
 	ldur	x13, [x1, #60]
-	cmp	w12, #1
-	stp	q0, q0, [sp, #-80]!
-	.cfi_def_cfa_offset 80
 	ldur	x14, [x1, #44]
+	cmp	w12, #1
 	cset	w12, eq
 	eor	x17, x8, x17
-	eor	x15, x13, x15
 	eor	x16, x11, x16
+	eor	x15, x13, x15
 	cmp	x2, #75
 	eor	x18, x14, x18
 	add	x3, x1, #68
+	stp	q0, q0, [sp]
 	stp	q0, q0, [sp, #32]
 	str	xzr, [sp, #64]
 	b.hi	.LBB20_10
@@ -3344,6 +3345,8 @@ komihash_v5_resume:
 	add	x10, x10, #68
 	cmp	x2, x10
 	b.ne	.LBB33_21
+	sub	sp, sp, #80
+	.cfi_def_cfa_offset 80
 	movi	v0.2d, #0000000000000000
 	ldur	x14, [x1, #4]
 	ldur	x15, [x1, #12]
@@ -3352,17 +3355,16 @@ komihash_v5_resume:
 	cmp	w11, #1
 	ldur	x10, [x1, #36]
 	ldur	x8, [x1, #52]
-	ldur	x13, [x1, #60]
-	stp	q0, q0, [sp, #-80]!
-	.cfi_def_cfa_offset 80
-	ldur	x12, [x1, #44]
 	cset	w11, eq
-	eor	x16, x8, x16
-	eor	x14, x13, x14
-	eor	x15, x10, x15
+	ldur	x13, [x1, #60]
+	ldur	x12, [x1, #44]
 	cmp	x2, #75
-	eor	x17, x12, x17
+	eor	x16, x8, x16
+	eor	x15, x10, x15
 	add	x18, x1, #68
+	eor	x14, x13, x14
+	eor	x17, x12, x17
+	stp	q0, q0, [sp]
 	stp	q0, q0, [sp, #32]
 	str	xzr, [sp, #64]
 	b.hi	.LBB33_10

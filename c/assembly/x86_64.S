@@ -249,6 +249,8 @@
 	.cfi_def_cfa_offset 48
 	pushq	%rbx
 	.cfi_def_cfa_offset 56
+	pushq	%rax
+	.cfi_def_cfa_offset 64
 	.cfi_offset %rbx, -56
 	.cfi_offset %r12, -48
 	.cfi_offset %r13, -40
@@ -333,7 +335,7 @@
 	cmpq	$128, %rsi
 	jb	.LBB4_9
 .LBB4_6:
-	movq	%r13, -8(%rsp)
+	movq	%r13, (%rsp)
 	.p2align	4
 .LBB4_7:
 	xorq	16(%rdi), %r14
@@ -408,7 +410,7 @@
 	movq	%rax, %r10
 	cmpq	$127, %rsi
 	ja	.LBB4_7
-	movq	-8(%rsp), %r13
+	movq	(%rsp), %r13
 .LBB4_9:
 	xorq	%rbx, %r11
 	xorq	%rbp, %rcx
@@ -478,6 +480,8 @@
 	movq	%rdx, %rax
 	addq	%rsi, %rax
 	xorq	%rcx, %rax
+	addq	$8, %rsp
+	.cfi_def_cfa_offset 56
 	popq	%rbx
 	.cfi_def_cfa_offset 48
 	popq	%r12
@@ -512,6 +516,8 @@
 	.cfi_def_cfa_offset 48
 	pushq	%rbx
 	.cfi_def_cfa_offset 56
+	subq	$16, %rsp
+	.cfi_def_cfa_offset 72
 	.cfi_offset %rbx, -56
 	.cfi_offset %r12, -48
 	.cfi_offset %r13, -40
@@ -529,7 +535,7 @@
 	movb	$1, 136(%rdi)
 	testq	%r13, %r13
 	je	.LBB5_1
-	movq	%rdx, -8(%rsp)
+	movq	%rdx, 8(%rsp)
 	cmpq	$63, %rdx
 	ja	.LBB5_18
 	movl	$64, %eax
@@ -555,7 +561,7 @@
 	movq	96(%rdi), %r10
 	movq	104(%rdi), %r11
 	movq	112(%rdi), %rax
-	movq	%rax, -16(%rsp)
+	movq	%rax, (%rsp)
 	movq	120(%rdi), %r15
 	movq	128(%rdi), %r9
 	movq	%rdx, %r13
@@ -566,7 +572,7 @@
 	xorq	%r10, %rdx
 	xorq	%r11, %rdx
 	movq	32(%rsi), %r8
-	movq	-16(%rsp), %rbp
+	movq	(%rsp), %rbp
 	xorq	%rbp, %r8
 	xorq	%r15, %r8
 	movq	(%rsi), %rcx
@@ -762,7 +768,7 @@
 	movq	%rax, %r11
 	xorq	%r14, %r15
 	addq	%r14, %rdx
-	movq	%rdx, -16(%rsp)
+	movq	%rdx, (%rsp)
 	movq	72(%rdi), %r14
 	xorq	48(%rdi), %r14
 	xorq	%rbx, %r14
@@ -787,19 +793,19 @@
 	movl	$64, %eax
 	subq	%r13, %rax
 	addq	%rax, %rsi
-	movq	-8(%rsp), %r13
+	movq	8(%rsp), %r13
 	subq	%rax, %r13
 	movups	%xmm0, 48(%rdi)
 	movq	$0, 64(%rdi)
 	testb	$64, %r13b
 	jne	.LBB5_24
 .LBB5_23:
-	movq	-16(%rsp), %rbp
+	movq	(%rsp), %rbp
 	cmpq	$128, %r13
 	jb	.LBB5_27
 	.p2align	4
 .LBB5_26:
-	movq	%r13, -8(%rsp)
+	movq	%r13, 8(%rsp)
 	xorq	16(%rsi), %r11
 	xorq	%r10, %r11
 	xorq	32(%rsi), %r15
@@ -858,7 +864,7 @@
 	xorq	%r12, %rcx
 	movq	%rax, %r15
 	movq	%r13, %rax
-	movq	-8(%rsp), %r13
+	movq	8(%rsp), %r13
 	mulq	%rcx
 	addq	$-128, %r13
 	movq	%rdx, %r10
@@ -958,6 +964,8 @@
 .LBB5_38:
 	movq	%r13, 64(%rdi)
 .LBB5_39:
+	addq	$16, %rsp
+	.cfi_def_cfa_offset 56
 	popq	%rbx
 	.cfi_def_cfa_offset 48
 	popq	%r12
@@ -1204,6 +1212,8 @@
 	.cfi_def_cfa_offset 48
 	pushq	%rbx
 	.cfi_def_cfa_offset 56
+	pushq	%rax
+	.cfi_def_cfa_offset 64
 	.cfi_offset %rbx, -56
 	.cfi_offset %r12, -48
 	.cfi_offset %r13, -40
@@ -1289,7 +1299,7 @@
 	cmpq	$128, %rsi
 	jb	.LBB10_10
 .LBB10_7:
-	movq	%r13, -8(%rsp)
+	movq	%r13, (%rsp)
 	.p2align	4
 .LBB10_8:
 	xorq	8(%rdi), %r14
@@ -1364,7 +1374,7 @@
 	movq	%rax, %r8
 	cmpq	$127, %rsi
 	ja	.LBB10_8
-	movq	-8(%rsp), %r13
+	movq	(%rsp), %r13
 .LBB10_10:
 	xorq	%rbx, %r11
 	xorq	%r9, %rcx
@@ -1434,6 +1444,8 @@
 	movq	%rdx, %rax
 	addq	%rsi, %rax
 	xorq	%rcx, %rax
+	addq	$8, %rsp
+	.cfi_def_cfa_offset 56
 	popq	%rbx
 	.cfi_def_cfa_offset 48
 	popq	%r12
@@ -1468,6 +1480,8 @@
 	.cfi_def_cfa_offset 48
 	pushq	%rbx
 	.cfi_def_cfa_offset 56
+	subq	$16, %rsp
+	.cfi_def_cfa_offset 72
 	.cfi_offset %rbx, -56
 	.cfi_offset %r12, -48
 	.cfi_offset %r13, -40
@@ -1477,9 +1491,9 @@
 	movq	64(%rdi), %r13
 	movw	$1, 136(%rdi)
 	testq	%r13, %r13
-	movq	%rdi, -8(%rsp)
+	movq	%rdi, 8(%rsp)
 	je	.LBB11_1
-	movq	%rdx, -16(%rsp)
+	movq	%rdx, (%rsp)
 	cmpq	$63, %rdx
 	ja	.LBB11_18
 	movl	$64, %eax
@@ -1697,7 +1711,7 @@
 	movl	$64, %eax
 	subq	%r13, %rax
 	addq	%rax, %rsi
-	movq	-16(%rsp), %r13
+	movq	(%rsp), %r13
 	subq	%rax, %r13
 	movups	%xmm0, 48(%rbp)
 	movq	$0, 64(%rbp)
@@ -1745,7 +1759,7 @@
 	jb	.LBB11_26
 	.p2align	4
 .LBB11_25:
-	movq	%r13, -16(%rsp)
+	movq	%r13, (%rsp)
 	xorq	8(%rsi), %r11
 	xorq	%r10, %r11
 	xorq	16(%rsi), %r15
@@ -1804,7 +1818,7 @@
 	xorq	%r12, %rcx
 	movq	%rax, %r15
 	movq	%r13, %rax
-	movq	-16(%rsp), %r13
+	movq	(%rsp), %r13
 	mulq	%rcx
 	addq	$-128, %r13
 	movq	%rdx, %r10
@@ -1819,7 +1833,7 @@
 	cmpq	$127, %r13
 	ja	.LBB11_25
 .LBB11_26:
-	movq	-8(%rsp), %r8
+	movq	8(%rsp), %r8
 	movq	%r14, 72(%r8)
 	movq	%rbx, 80(%r8)
 	movq	%r12, 88(%r8)
@@ -1904,6 +1918,8 @@
 .LBB11_37:
 	movq	%r13, 64(%r8)
 .LBB11_38:
+	addq	$16, %rsp
+	.cfi_def_cfa_offset 56
 	popq	%rbx
 	.cfi_def_cfa_offset 48
 	popq	%r12
@@ -2241,6 +2257,8 @@ komihash_v4_rand_fill:
 	.cfi_def_cfa_offset 16
 	pushq	%rbx
 	.cfi_def_cfa_offset 24
+	pushq	%rax
+	.cfi_def_cfa_offset 32
 	.cfi_offset %rbx, -24
 	.cfi_offset %r14, -16
 	movq	%rdx, %r8
@@ -2299,11 +2317,11 @@ komihash_v4_rand_fill:
 	xorq	%rcx, %rdx
 	andq	$-8, %r8
 	addq	%r8, %rsi
-	movq	%rdx, -8(%rsp)
+	movq	%rdx, (%rsp)
 	cmpl	$4, %r9d
 	jb	.LBB15_10
 	movl	%edx, (%rsi)
-	movl	-12(%rsp,%r9), %eax
+	movl	-4(%rsp,%r9), %eax
 	movl	%eax, -4(%rsi,%r9)
 	jmp	.LBB15_13
 .LBB15_10:
@@ -2313,11 +2331,13 @@ komihash_v4_rand_fill:
 	jmp	.LBB15_13
 .LBB15_11:
 	movw	%dx, (%rsi)
-	movzwl	-10(%rsp,%r9), %eax
+	movzwl	-2(%rsp,%r9), %eax
 	movw	%ax, -2(%rsi,%r9)
 .LBB15_13:
 	movq	%rdx, (%rdi)
 	movq	%rcx, 8(%rdi)
+	addq	$8, %rsp
+	.cfi_def_cfa_offset 24
 	popq	%rbx
 	.cfi_def_cfa_offset 16
 	popq	%r14
@@ -2463,6 +2483,8 @@ komihash_v4_resume:
 	.cfi_def_cfa_offset 48
 	pushq	%rbx
 	.cfi_def_cfa_offset 56
+	subq	$88, %rsp
+	.cfi_def_cfa_offset 144
 	.cfi_offset %rbx, -56
 	.cfi_offset %r12, -48
 	.cfi_offset %r13, -40
@@ -2474,7 +2496,7 @@ komihash_v4_resume:
 	movq	52(%rsi), %rax
 	movq	60(%rsi), %rbx
 	cmpb	$1, %cl
-	sete	-73(%rsp)
+	sete	15(%rsp)
 	cmpb	$1, %r10b
 	sete	%r11b
 	movq	28(%rsi), %r14
@@ -2487,11 +2509,11 @@ komihash_v4_resume:
 	xorq	%r8, %r13
 	leaq	-68(%rdx), %rbp
 	xorps	%xmm0, %xmm0
-	movaps	%xmm0, -24(%rsp)
-	movaps	%xmm0, -40(%rsp)
-	movaps	%xmm0, -56(%rsp)
-	movaps	%xmm0, -72(%rsp)
-	movq	$0, -8(%rsp)
+	movaps	%xmm0, 64(%rsp)
+	movaps	%xmm0, 48(%rsp)
+	movaps	%xmm0, 32(%rsp)
+	movaps	%xmm0, 16(%rsp)
+	movq	$0, 80(%rsp)
 	cmpq	$75, %rdx
 	ja	.LBB20_15
 	cmpq	$72, %rdx
@@ -2515,7 +2537,7 @@ komihash_v4_resume:
 	xorl	%eax, %eax
 	retq
 .LBB20_15:
-	.cfi_def_cfa_offset 56
+	.cfi_def_cfa_offset 144
 	.cfi_offset %rbx, -56
 	.cfi_offset %rbp, -16
 	.cfi_offset %r12, -48
@@ -2523,23 +2545,23 @@ komihash_v4_resume:
 	.cfi_offset %r14, -32
 	.cfi_offset %r15, -24
 	movq	68(%rsi), %rcx
-	movq	%rcx, -72(%rsp)
+	movq	%rcx, 16(%rsp)
 	cmpq	$92, %rdx
 	jb	.LBB20_21
 	movq	%rbp, %rcx
 	andq	$-8, %rcx
 	movups	76(%rsi), %xmm0
-	movups	%xmm0, -64(%rsp)
+	movups	%xmm0, 24(%rsp)
 	cmpq	$108, %rdx
 	jb	.LBB20_18
 	movups	92(%rsi), %xmm0
-	movups	%xmm0, -48(%rsp)
+	movups	%xmm0, 40(%rsp)
 	movups	36(%rsi,%rcx), %xmm0
-	movups	%xmm0, -104(%rsp,%rcx)
+	movups	%xmm0, -16(%rsp,%rcx)
 .LBB20_18:
 	movups	52(%rsi,%rcx), %xmm0
-	movups	%xmm0, -88(%rsp,%rcx)
-	movq	-8(%rsp), %r10
+	movups	%xmm0, (%rsp,%rcx)
+	movq	80(%rsp), %r10
 	jmp	.LBB20_22
 .LBB20_19:
 	testq	%rbp, %rbp
@@ -2565,7 +2587,7 @@ komihash_v4_resume:
 	movl	$8, %r10d
 	cmovbq	%rcx, %r10
 	movq	68(%rsi,%r10), %rcx
-	movq	%rcx, -64(%rsp)
+	movq	%rcx, 24(%rsp)
 	xorl	%r10d, %r10d
 .LBB20_22:
 	movq	-8(%rsi,%rdx), %rdx
@@ -2576,22 +2598,22 @@ komihash_v4_resume:
 	shrq	%cl, %rdx
 	movl	%ebp, %ecx
 	andl	$56, %ecx
-	movq	%rdx, -72(%rsp,%rcx)
+	movq	%rdx, 16(%rsp,%rcx)
 	jmp	.LBB20_25
 .LBB20_23:
 	xorl	%edx, %edx
 .LBB20_24:
-	movq	%rdx, -72(%rsp)
+	movq	%rdx, 16(%rsp)
 	xorl	%r10d, %r10d
 .LBB20_25:
 	addq	%rbp, %r10
-	movq	%r10, -8(%rsp)
+	movq	%r10, 80(%rsp)
 	movq	%r10, 64(%rdi)
-	movq	-72(%rsp), %rcx
-	movq	-64(%rsp), %rdx
-	movaps	-56(%rsp), %xmm0
-	movaps	-40(%rsp), %xmm1
-	movaps	-24(%rsp), %xmm2
+	movq	16(%rsp), %rcx
+	movq	24(%rsp), %rdx
+	movaps	32(%rsp), %xmm0
+	movaps	48(%rsp), %xmm1
+	movaps	64(%rsp), %xmm2
 	movups	%xmm2, 48(%rdi)
 	movups	%xmm1, 32(%rdi)
 	movups	%xmm0, 16(%rdi)
@@ -2605,12 +2627,14 @@ komihash_v4_resume:
 	movq	%r8, 112(%rdi)
 	movq	%r13, 120(%rdi)
 	movq	%rax, 128(%rdi)
-	movzbl	-73(%rsp), %eax
+	movzbl	15(%rsp), %eax
 	movb	%al, 136(%rdi)
 	movb	%r11b, 137(%rdi)
 	movl	$0, 138(%rdi)
 	movw	$0, 142(%rdi)
 	movb	$1, %al
+	addq	$88, %rsp
+	.cfi_def_cfa_offset 56
 	popq	%rbx
 	.cfi_def_cfa_offset 48
 	popq	%r12
@@ -2735,27 +2759,32 @@ komihash_v4_save:
 	leaq	68(%rdx), %rax
 	movq	%rdx, %rsi
 	andq	$7, %rsi
-	je	.LBB21_20
+	je	.LBB21_22
+	pushq	%rax
+	.cfi_def_cfa_offset 16
 	andq	$-8, %rdx
 	movq	(%rdi,%rdx), %rdi
 	addq	%rdx, %rcx
-	movq	%rdi, -8(%rsp)
+	movq	%rdi, (%rsp)
 	cmpl	$4, %esi
 	jb	.LBB21_18
 	movl	%edi, (%rcx)
-	movl	-12(%rsp,%rsi), %edx
+	movl	-4(%rsp,%rsi), %edx
 	movl	%edx, -4(%rcx,%rsi)
-	retq
+	jmp	.LBB21_21
 .LBB21_18:
 	cmpl	$1, %esi
-	jne	.LBB21_21
+	jne	.LBB21_20
 	movb	%dil, (%rcx)
+	jmp	.LBB21_21
 .LBB21_20:
-	retq
-.LBB21_21:
 	movw	%di, (%rcx)
-	movzwl	-10(%rsp,%rsi), %edx
+	movzwl	-2(%rsp,%rsi), %edx
 	movw	%dx, -2(%rcx,%rsi)
+.LBB21_21:
+	addq	$8, %rsp
+	.cfi_def_cfa_offset 8
+.LBB21_22:
 	retq
 .Lfunc_end21:
 	ELF_ONLY(.size	komihash_v4_save, .Lfunc_end21-komihash_v4_save)
@@ -2827,6 +2856,8 @@ komihash_v4_unpad:
 	.cfi_def_cfa_offset 16
 	pushq	%rbx
 	.cfi_def_cfa_offset 24
+	pushq	%rax
+	.cfi_def_cfa_offset 32
 	.cfi_offset %rbx, -24
 	.cfi_offset %r14, -16
 	shrq	$3, %rcx
@@ -2853,9 +2884,9 @@ komihash_v4_unpad:
 	movq	%rcx, %rbx
 	andq	$-8, %rbx
 	movq	(%rdi,%rbx), %rbx
-	movq	%rbx, -8(%rsp)
+	movq	%rbx, (%rsp)
 	andl	$7, %ecx
-	movzbl	-8(%rsp,%rcx), %ecx
+	movzbl	(%rsp,%rcx), %ecx
 	shrl	$7, %ecx
 	incq	%rcx
 	cmpq	%rcx, %r11
@@ -2879,13 +2910,15 @@ komihash_v4_unpad:
 	jne	.LBB23_25
 	xorl	%eax, %eax
 .LBB23_25:
+	addq	$8, %rsp
+	.cfi_def_cfa_offset 24
 	popq	%rbx
 	.cfi_def_cfa_offset 16
 	popq	%r14
 	.cfi_def_cfa_offset 8
 	retq
 .LBB23_10:
-	.cfi_def_cfa_offset 24
+	.cfi_def_cfa_offset 32
 	movq	%rax, %rcx
 	andq	$-4, %rcx
 	xorl	%r11d, %r11d
@@ -2935,42 +2968,32 @@ komihash_v4_unpad:
 	je	.LBB23_24
 	movq	(%rdi,%r9), %rax
 	addq	%r9, %rdx
-	movq	%rax, -8(%rsp)
+	movq	%rax, (%rsp)
 	cmpl	$4, %r10d
 	jb	.LBB23_21
 	movl	%eax, (%rdx)
 	movl	$3, %eax
 	subq	%rsi, %rax
 	negq	%rsi
-	movl	-8(%rsp,%rax), %eax
+	movl	(%rsp,%rax), %eax
 	movl	%eax, 3(%rdx,%rsi)
-	movq	%r8, %rax
-	popq	%rbx
-	.cfi_def_cfa_offset 16
-	popq	%r14
-	.cfi_def_cfa_offset 8
-	retq
+	jmp	.LBB23_24
 .LBB23_21:
-	.cfi_def_cfa_offset 24
 	cmpl	$6, %esi
 	jne	.LBB23_22
 	movb	%al, (%rdx)
-	movq	%r8, %rax
-	popq	%rbx
-	.cfi_def_cfa_offset 16
-	popq	%r14
-	.cfi_def_cfa_offset 8
-	retq
+	jmp	.LBB23_24
 .LBB23_22:
-	.cfi_def_cfa_offset 24
 	movw	%ax, (%rdx)
 	movl	$5, %eax
 	subq	%rsi, %rax
 	negq	%rsi
-	movzwl	-8(%rsp,%rax), %eax
+	movzwl	(%rsp,%rax), %eax
 	movw	%ax, 5(%rdx,%rsi)
 .LBB23_24:
 	movq	%r8, %rax
+	addq	$8, %rsp
+	.cfi_def_cfa_offset 24
 	popq	%rbx
 	.cfi_def_cfa_offset 16
 	popq	%r14
@@ -3388,6 +3411,8 @@ komihash_v5_rand_fill:
 	.cfi_def_cfa_offset 16
 	pushq	%rbx
 	.cfi_def_cfa_offset 24
+	pushq	%rax
+	.cfi_def_cfa_offset 32
 	.cfi_offset %rbx, -24
 	.cfi_offset %r14, -16
 	movq	%rdx, %r8
@@ -3424,11 +3449,11 @@ komihash_v5_rand_fill:
 	addq	%r9, %r10
 	andq	$-8, %r8
 	addq	%r8, %rsi
-	movq	%rcx, -8(%rsp)
+	movq	%rcx, (%rsp)
 	cmpl	$4, %ebx
 	jb	.LBB28_6
 	movl	%ecx, (%rsi)
-	movl	-12(%rsp,%rbx), %eax
+	movl	-4(%rsp,%rbx), %eax
 	movl	%eax, -4(%rsi,%rbx)
 	jmp	.LBB28_9
 .LBB28_6:
@@ -3438,7 +3463,7 @@ komihash_v5_rand_fill:
 	jmp	.LBB28_9
 .LBB28_7:
 	movw	%cx, (%rsi)
-	movzwl	-10(%rsp,%rbx), %eax
+	movzwl	-2(%rsp,%rbx), %eax
 	movw	%ax, -2(%rsi,%rbx)
 .LBB28_9:
 	addq	%rdx, %r10
@@ -3446,6 +3471,8 @@ komihash_v5_rand_fill:
 .LBB28_10:
 	movq	%rcx, (%rdi)
 	movq	%r9, 8(%rdi)
+	addq	$8, %rsp
+	.cfi_def_cfa_offset 24
 	popq	%rbx
 	.cfi_def_cfa_offset 16
 	popq	%r14
@@ -3602,6 +3629,8 @@ komihash_v5_resume:
 	.cfi_def_cfa_offset 48
 	pushq	%rbx
 	.cfi_def_cfa_offset 56
+	subq	$72, %rsp
+	.cfi_def_cfa_offset 128
 	.cfi_offset %rbx, -56
 	.cfi_offset %r12, -48
 	.cfi_offset %r13, -40
@@ -3624,11 +3653,11 @@ komihash_v5_resume:
 	xorq	%r8, %r12
 	leaq	-68(%rdx), %r13
 	xorps	%xmm0, %xmm0
-	movaps	%xmm0, -24(%rsp)
-	movaps	%xmm0, -40(%rsp)
-	movaps	%xmm0, -56(%rsp)
-	movaps	%xmm0, -72(%rsp)
-	movq	$0, -8(%rsp)
+	movaps	%xmm0, 48(%rsp)
+	movaps	%xmm0, 32(%rsp)
+	movaps	%xmm0, 16(%rsp)
+	movaps	%xmm0, (%rsp)
+	movq	$0, 64(%rsp)
 	cmpq	$75, %rdx
 	ja	.LBB33_15
 	cmpq	$72, %rdx
@@ -3652,7 +3681,7 @@ komihash_v5_resume:
 	xorl	%eax, %eax
 	retq
 .LBB33_15:
-	.cfi_def_cfa_offset 56
+	.cfi_def_cfa_offset 128
 	.cfi_offset %rbx, -56
 	.cfi_offset %rbp, -16
 	.cfi_offset %r12, -48
@@ -3660,23 +3689,23 @@ komihash_v5_resume:
 	.cfi_offset %r14, -32
 	.cfi_offset %r15, -24
 	movq	68(%rsi), %rcx
-	movq	%rcx, -72(%rsp)
+	movq	%rcx, (%rsp)
 	cmpq	$92, %rdx
 	jb	.LBB33_21
 	movq	%r13, %rcx
 	andq	$-8, %rcx
 	movups	76(%rsi), %xmm0
-	movups	%xmm0, -64(%rsp)
+	movups	%xmm0, 8(%rsp)
 	cmpq	$108, %rdx
 	jb	.LBB33_18
 	movups	92(%rsi), %xmm0
-	movups	%xmm0, -48(%rsp)
+	movups	%xmm0, 24(%rsp)
 	movups	36(%rsi,%rcx), %xmm0
-	movups	%xmm0, -104(%rsp,%rcx)
+	movups	%xmm0, -32(%rsp,%rcx)
 .LBB33_18:
 	movups	52(%rsi,%rcx), %xmm0
-	movups	%xmm0, -88(%rsp,%rcx)
-	movq	-8(%rsp), %rbp
+	movups	%xmm0, -16(%rsp,%rcx)
+	movq	64(%rsp), %rbp
 	jmp	.LBB33_22
 .LBB33_19:
 	testq	%r13, %r13
@@ -3702,7 +3731,7 @@ komihash_v5_resume:
 	movl	$8, %ebp
 	cmovbq	%rcx, %rbp
 	movq	68(%rsi,%rbp), %rcx
-	movq	%rcx, -64(%rsp)
+	movq	%rcx, 8(%rsp)
 	xorl	%ebp, %ebp
 .LBB33_22:
 	movq	-8(%rsi,%rdx), %rdx
@@ -3713,22 +3742,22 @@ komihash_v5_resume:
 	shrq	%cl, %rdx
 	movl	%r13d, %ecx
 	andl	$56, %ecx
-	movq	%rdx, -72(%rsp,%rcx)
+	movq	%rdx, (%rsp,%rcx)
 	jmp	.LBB33_25
 .LBB33_23:
 	xorl	%edx, %edx
 .LBB33_24:
-	movq	%rdx, -72(%rsp)
+	movq	%rdx, (%rsp)
 	xorl	%ebp, %ebp
 .LBB33_25:
 	addq	%r13, %rbp
-	movq	%rbp, -8(%rsp)
+	movq	%rbp, 64(%rsp)
 	movq	%rbp, 64(%rdi)
-	movq	-72(%rsp), %rcx
-	movq	-64(%rsp), %rdx
-	movaps	-56(%rsp), %xmm0
-	movaps	-40(%rsp), %xmm1
-	movaps	-24(%rsp), %xmm2
+	movq	(%rsp), %rcx
+	movq	8(%rsp), %rdx
+	movaps	16(%rsp), %xmm0
+	movaps	32(%rsp), %xmm1
+	movaps	48(%rsp), %xmm2
 	movups	%xmm2, 48(%rdi)
 	movups	%xmm1, 32(%rdi)
 	movups	%xmm0, 16(%rdi)
@@ -3746,6 +3775,8 @@ komihash_v5_resume:
 	movl	$0, 137(%rdi)
 	movl	$0, 140(%rdi)
 	movb	$1, %al
+	addq	$72, %rsp
+	.cfi_def_cfa_offset 56
 	popq	%rbx
 	.cfi_def_cfa_offset 48
 	popq	%r12
@@ -3870,27 +3901,32 @@ komihash_v5_save:
 	leaq	68(%rdx), %rax
 	movq	%rdx, %rsi
 	andq	$7, %rsi
-	je	.LBB34_20
+	je	.LBB34_22
+	pushq	%rax
+	.cfi_def_cfa_offset 16
 	andq	$-8, %rdx
 	movq	(%rdi,%rdx), %rdi
 	addq	%rdx, %rcx
-	movq	%rdi, -8(%rsp)
+	movq	%rdi, (%rsp)
 	cmpl	$4, %esi
 	jb	.LBB34_18
 	movl	%edi, (%rcx)
-	movl	-12(%rsp,%rsi), %edx
+	movl	-4(%rsp,%rsi), %edx
 	movl	%edx, -4(%rcx,%rsi)
-	retq
+	jmp	.LBB34_21
 .LBB34_18:
 	cmpl	$1, %esi
-	jne	.LBB34_21
+	jne	.LBB34_20
 	movb	%dil, (%rcx)
+	jmp	.LBB34_21
 .LBB34_20:
-	retq
-.LBB34_21:
 	movw	%di, (%rcx)
-	movzwl	-10(%rsp,%rsi), %edx
+	movzwl	-2(%rsp,%rsi), %edx
 	movw	%dx, -2(%rcx,%rsi)
+.LBB34_21:
+	addq	$8, %rsp
+	.cfi_def_cfa_offset 8
+.LBB34_22:
 	retq
 .Lfunc_end34:
 	ELF_ONLY(.size	komihash_v5_save, .Lfunc_end34-komihash_v5_save)
@@ -3984,6 +4020,8 @@ komihash_v5_unpad:
 	.cfi_def_cfa_offset 16
 	pushq	%rbx
 	.cfi_def_cfa_offset 24
+	pushq	%rax
+	.cfi_def_cfa_offset 32
 	.cfi_offset %rbx, -24
 	.cfi_offset %r14, -16
 	testq	%r9, %r9
@@ -4010,7 +4048,7 @@ komihash_v5_unpad:
 .LBB36_10:
 	retq
 .LBB36_11:
-	.cfi_def_cfa_offset 24
+	.cfi_def_cfa_offset 32
 	.cfi_offset %rbx, -24
 	.cfi_offset %r14, -16
 	movq	%rax, %rcx
@@ -4062,50 +4100,32 @@ komihash_v5_unpad:
 	je	.LBB36_25
 	movq	(%rdi,%r9), %rax
 	addq	%r9, %rdx
-	movq	%rax, -8(%rsp)
+	movq	%rax, (%rsp)
 	cmpl	$4, %r10d
 	jb	.LBB36_22
 	movl	%eax, (%rdx)
 	movl	$3, %eax
 	subq	%rsi, %rax
 	negq	%rsi
-	movl	-8(%rsp,%rax), %eax
+	movl	(%rsp,%rax), %eax
 	movl	%eax, 3(%rdx,%rsi)
-	movq	%r8, %rax
-	popq	%rbx
-	.cfi_def_cfa_offset 16
-	popq	%r14
-	.cfi_def_cfa_offset 8
-	.cfi_restore %rbx
-	.cfi_restore %r14
-	retq
+	jmp	.LBB36_25
 .LBB36_22:
-	.cfi_def_cfa_offset 24
-	.cfi_offset %rbx, -24
-	.cfi_offset %r14, -16
 	cmpl	$6, %esi
 	jne	.LBB36_23
 	movb	%al, (%rdx)
-	movq	%r8, %rax
-	popq	%rbx
-	.cfi_def_cfa_offset 16
-	popq	%r14
-	.cfi_def_cfa_offset 8
-	.cfi_restore %rbx
-	.cfi_restore %r14
-	retq
+	jmp	.LBB36_25
 .LBB36_23:
-	.cfi_def_cfa_offset 24
-	.cfi_offset %rbx, -24
-	.cfi_offset %r14, -16
 	movw	%ax, (%rdx)
 	movl	$5, %eax
 	subq	%rsi, %rax
 	negq	%rsi
-	movzwl	-8(%rsp,%rax), %eax
+	movzwl	(%rsp,%rax), %eax
 	movw	%ax, 5(%rdx,%rsi)
 .LBB36_25:
 	movq	%r8, %rax
+	addq	$8, %rsp
+	.cfi_def_cfa_offset 24
 	popq	%rbx
 	.cfi_def_cfa_offset 16
 	popq	%r14

@@ -267,6 +267,8 @@
 	.cfi_def_cfa_offset 48
 	pushq	%rbx
 	.cfi_def_cfa_offset 56
+	pushq	%rax
+	.cfi_def_cfa_offset 64
 	.cfi_offset %rbx, -56
 	.cfi_offset %r12, -48
 	.cfi_offset %r13, -40
@@ -322,7 +324,7 @@
 	cmpq	$128, %rsi
 	jb	.LBB4_9
 .LBB4_6:
-	movq	%r9, -8(%rsp)
+	movq	%r9, (%rsp)
 	.p2align	4
 .LBB4_7:
 	xorq	16(%rdi), %rbx
@@ -381,7 +383,7 @@
 	addq	%rbp, %r11
 	cmpq	$127, %rsi
 	ja	.LBB4_7
-	movq	-8(%rsp), %r9
+	movq	(%rsp), %r9
 .LBB4_9:
 	xorq	%r15, %r14
 	xorq	%r8, %r11
@@ -445,6 +447,8 @@
 	mulxq	%rcx, %rdx, %rax
 	addq	%rcx, %rax
 	xorq	%rdx, %rax
+	addq	$8, %rsp
+	.cfi_def_cfa_offset 56
 	popq	%rbx
 	.cfi_def_cfa_offset 48
 	popq	%r12
@@ -479,6 +483,8 @@
 	.cfi_def_cfa_offset 48
 	pushq	%rbx
 	.cfi_def_cfa_offset 56
+	pushq	%rax
+	.cfi_def_cfa_offset 64
 	.cfi_offset %rbx, -56
 	.cfi_offset %r12, -48
 	.cfi_offset %r13, -40
@@ -525,7 +531,7 @@
 	movq	120(%rdi), %r12
 	movq	128(%rdi), %r10
 	testb	$64, %dl
-	movq	%rdi, -8(%rsp)
+	movq	%rdi, (%rsp)
 	jne	.LBB5_22
 	jmp	.LBB5_23
 .LBB5_17:
@@ -703,7 +709,7 @@
 	vmovups	%ymm0, 32(%rdi)
 	movq	$0, 64(%rdi)
 	testb	$64, %dl
-	movq	%rdi, -8(%rsp)
+	movq	%rdi, (%rsp)
 	je	.LBB5_23
 .LBB5_22:
 	movq	16(%rsi), %rax
@@ -736,7 +742,7 @@
 	xorq	%r14, %rdx
 	mulxq	%r15, %r15, %rax
 	movq	%rdi, %rdx
-	movq	-8(%rsp), %rdi
+	movq	(%rsp), %rdi
 	addq	%rax, %r14
 .LBB5_23:
 	cmpq	$128, %rdx
@@ -799,7 +805,7 @@
 	addq	%rbp, %r14
 	cmpq	$127, %rdx
 	ja	.LBB5_24
-	movq	-8(%rsp), %rdi
+	movq	(%rsp), %rdi
 .LBB5_26:
 	movq	%r15, 72(%rdi)
 	movq	%r14, 80(%rdi)
@@ -862,10 +868,10 @@
 	movzbl	(%rsi), %edx
 	orq	%rax, %rdx
 	orq	%rcx, %rdx
-	movq	-8(%rsp), %rax
+	movq	(%rsp), %rax
 	orq	%rdx, (%rax)
 	movq	%rdi, %rdx
-	movq	-8(%rsp), %rdi
+	movq	(%rsp), %rdi
 	jmp	.LBB5_37
 .LBB5_34:
 	leaq	-8(%rdx), %rax
@@ -891,6 +897,8 @@
 .LBB5_37:
 	movq	%rdx, 64(%rdi)
 .LBB5_38:
+	addq	$8, %rsp
+	.cfi_def_cfa_offset 56
 	popq	%rbx
 	.cfi_def_cfa_offset 48
 	popq	%r12
@@ -1157,6 +1165,8 @@
 	.cfi_def_cfa_offset 48
 	pushq	%rbx
 	.cfi_def_cfa_offset 56
+	subq	$16, %rsp
+	.cfi_def_cfa_offset 72
 	.cfi_offset %rbx, -56
 	.cfi_offset %r12, -48
 	.cfi_offset %r13, -40
@@ -1214,10 +1224,10 @@
 	cmpq	$128, %rsi
 	jb	.LBB10_10
 .LBB10_7:
-	movq	%r9, -16(%rsp)
+	movq	%r9, (%rsp)
 	.p2align	4
 .LBB10_8:
-	movq	%rsi, -8(%rsp)
+	movq	%rsi, 8(%rsp)
 	xorq	8(%rdi), %rbx
 	xorq	%r11, %rbx
 	xorq	16(%rdi), %r12
@@ -1268,13 +1278,13 @@
 	xorq	%rbp, %rax
 	movq	%rax, %rdx
 	mulxq	%r9, %rax, %rcx
-	movq	-8(%rsp), %rsi
+	movq	8(%rsp), %rsi
 	addq	$-128, %rsi
 	addq	%r13, %r11
 	addq	%rbp, %rcx
 	cmpq	$127, %rsi
 	ja	.LBB10_8
-	movq	-16(%rsp), %r9
+	movq	(%rsp), %r9
 .LBB10_10:
 	xorq	%r15, %r14
 	xorq	%r11, %rcx
@@ -1344,6 +1354,8 @@
 	mulxq	%rcx, %rdx, %rax
 	addq	%rcx, %rax
 	xorq	%rdx, %rax
+	addq	$16, %rsp
+	.cfi_def_cfa_offset 56
 	popq	%rbx
 	.cfi_def_cfa_offset 48
 	popq	%r12
@@ -1378,6 +1390,8 @@
 	.cfi_def_cfa_offset 48
 	pushq	%rbx
 	.cfi_def_cfa_offset 56
+	subq	$16, %rsp
+	.cfi_def_cfa_offset 72
 	.cfi_offset %rbx, -56
 	.cfi_offset %r12, -48
 	.cfi_offset %r13, -40
@@ -1390,7 +1404,7 @@
 	testq	%r11, %r11
 	je	.LBB11_1
 	cmpq	$63, %rbp
-	movq	%rbp, -16(%rsp)
+	movq	%rbp, (%rsp)
 	ja	.LBB11_17
 	movl	$64, %ecx
 	subq	%r11, %rcx
@@ -1556,7 +1570,7 @@
 	movq	80(%rdi), %r13
 	movq	88(%rdi), %rax
 	movq	104(%rdi), %r8
-	movq	%r11, -8(%rsp)
+	movq	%r11, 8(%rsp)
 	movq	120(%rdi), %r11
 	xorq	8(%rdi), %r8
 	xorq	16(%rdi), %r11
@@ -1589,9 +1603,9 @@
 	mulxq	%r15, %r15, %r8
 	addq	%r13, %r8
 	movl	$64, %eax
-	subq	-8(%rsp), %rax
+	subq	8(%rsp), %rax
 	addq	%rax, %rsi
-	movq	-16(%rsp), %rbp
+	movq	(%rsp), %rbp
 	subq	%rax, %rbp
 	vmovups	%ymm0, 32(%rdi)
 	movq	$0, 64(%rdi)
@@ -1630,7 +1644,7 @@
 .LBB11_23:
 	cmpq	$128, %rbp
 	jb	.LBB11_27
-	movq	%rdi, -16(%rsp)
+	movq	%rdi, (%rsp)
 	.p2align	4
 .LBB11_25:
 	xorq	8(%rsi), %r14
@@ -1689,7 +1703,7 @@
 	addq	%r13, %r8
 	cmpq	$127, %rbp
 	ja	.LBB11_25
-	movq	-16(%rsp), %rdi
+	movq	(%rsp), %rdi
 .LBB11_27:
 	movq	%r15, 72(%rdi)
 	movq	%r8, 80(%rdi)
@@ -1775,6 +1789,8 @@
 .LBB11_38:
 	movq	%rbp, 64(%rdi)
 .LBB11_39:
+	addq	$16, %rsp
+	.cfi_def_cfa_offset 56
 	popq	%rbx
 	.cfi_def_cfa_offset 48
 	popq	%r12
@@ -2137,6 +2153,8 @@ komihash_v4_rand_fill:
 	.cfi_def_cfa_offset 24
 	pushq	%rbx
 	.cfi_def_cfa_offset 32
+	pushq	%rax
+	.cfi_def_cfa_offset 40
 	.cfi_offset %rbx, -32
 	.cfi_offset %r14, -24
 	.cfi_offset %r15, -16
@@ -2206,11 +2224,11 @@ komihash_v4_rand_fill:
 	xorq	%rdx, %rcx
 	andq	$-8, %rax
 	addq	%rax, %rsi
-	movq	%rcx, -8(%rsp)
+	movq	%rcx, (%rsp)
 	cmpl	$4, %r9d
 	jb	.LBB15_11
 	movl	%ecx, (%rsi)
-	movl	-12(%rsp,%r9), %eax
+	movl	-4(%rsp,%r9), %eax
 	movl	%eax, -4(%rsi,%r9)
 	jmp	.LBB15_14
 .LBB15_11:
@@ -2220,11 +2238,13 @@ komihash_v4_rand_fill:
 	jmp	.LBB15_14
 .LBB15_12:
 	movw	%cx, (%rsi)
-	movzwl	-10(%rsp,%r9), %eax
+	movzwl	-2(%rsp,%r9), %eax
 	movw	%ax, -2(%rsi,%r9)
 .LBB15_14:
 	movq	%rcx, (%rdi)
 	movq	%rdx, 8(%rdi)
+	addq	$8, %rsp
+	.cfi_def_cfa_offset 32
 	popq	%rbx
 	.cfi_def_cfa_offset 24
 	popq	%r14
@@ -2362,6 +2382,8 @@ komihash_v4_resume:
 	.cfi_def_cfa_offset 24
 	pushq	%rbx
 	.cfi_def_cfa_offset 32
+	subq	$80, %rsp
+	.cfi_def_cfa_offset 112
 	.cfi_offset %rbx, -32
 	.cfi_offset %r14, -24
 	.cfi_offset %r15, -16
@@ -2379,9 +2401,9 @@ komihash_v4_resume:
 	vxorps	12(%rsi), %xmm0, %xmm1
 	leaq	-68(%rdx), %rbx
 	vxorps	%xmm2, %xmm2, %xmm2
-	vmovups	%ymm2, -48(%rsp)
-	vmovups	%ymm2, -80(%rsp)
-	movq	$0, -16(%rsp)
+	vmovups	%ymm2, 32(%rsp)
+	vmovups	%ymm2, (%rsp)
+	movq	$0, 64(%rsp)
 	cmpq	$75, %rdx
 	ja	.LBB20_15
 	cmpq	$72, %rdx
@@ -2402,28 +2424,28 @@ komihash_v4_resume:
 	xorl	%eax, %eax
 	retq
 .LBB20_15:
-	.cfi_def_cfa_offset 32
+	.cfi_def_cfa_offset 112
 	.cfi_offset %rbx, -32
 	.cfi_offset %r14, -24
 	.cfi_offset %r15, -16
 	movq	68(%rsi), %r14
-	movq	%r14, -80(%rsp)
+	movq	%r14, (%rsp)
 	cmpq	$92, %rdx
 	jb	.LBB20_21
 	movq	%rbx, %r14
 	andq	$-8, %r14
 	vmovups	76(%rsi), %xmm2
-	vmovups	%xmm2, -72(%rsp)
+	vmovups	%xmm2, 8(%rsp)
 	cmpq	$108, %rdx
 	jb	.LBB20_18
 	vmovups	92(%rsi), %xmm2
-	vmovups	%xmm2, -56(%rsp)
+	vmovups	%xmm2, 24(%rsp)
 	vmovups	36(%rsi,%r14), %xmm2
-	vmovups	%xmm2, -112(%rsp,%r14)
+	vmovups	%xmm2, -32(%rsp,%r14)
 .LBB20_18:
 	vmovups	52(%rsi,%r14), %xmm2
-	vmovups	%xmm2, -96(%rsp,%r14)
-	movq	-16(%rsp), %r14
+	vmovups	%xmm2, -16(%rsp,%r14)
+	movq	64(%rsp), %r14
 	jmp	.LBB20_22
 .LBB20_19:
 	testq	%rbx, %rbx
@@ -2449,7 +2471,7 @@ komihash_v4_resume:
 	movl	$8, %r15d
 	cmovbq	%r14, %r15
 	movq	68(%rsi,%r15), %r14
-	movq	%r14, -72(%rsp)
+	movq	%r14, 8(%rsp)
 	xorl	%r14d, %r14d
 .LBB20_22:
 	movq	-8(%rsi,%rdx), %rdx
@@ -2460,21 +2482,21 @@ komihash_v4_resume:
 	shrxq	%rsi, %rdx, %rdx
 	movl	%ebx, %esi
 	andl	$56, %esi
-	movq	%rdx, -80(%rsp,%rsi)
+	movq	%rdx, (%rsp,%rsi)
 	jmp	.LBB20_25
 .LBB20_23:
 	xorl	%edx, %edx
 .LBB20_24:
-	movq	%rdx, -80(%rsp)
+	movq	%rdx, (%rsp)
 	xorl	%r14d, %r14d
 .LBB20_25:
 	addq	%rbx, %r14
-	movq	%r14, -16(%rsp)
+	movq	%r14, 64(%rsp)
 	movq	%r14, 64(%rdi)
-	movq	-80(%rsp), %rdx
-	vmovups	-72(%rsp), %xmm2
-	movq	-56(%rsp), %rsi
-	vmovups	-48(%rsp), %ymm3
+	movq	(%rsp), %rdx
+	vmovups	8(%rsp), %xmm2
+	movq	24(%rsp), %rsi
+	vmovups	32(%rsp), %ymm3
 	vmovups	%ymm3, 32(%rdi)
 	movq	%rdx, (%rdi)
 	vmovups	%xmm2, 8(%rdi)
@@ -2492,6 +2514,8 @@ komihash_v4_resume:
 	movl	$0, 138(%rdi)
 	movw	$0, 142(%rdi)
 	movb	$1, %al
+	addq	$80, %rsp
+	.cfi_def_cfa_offset 32
 	popq	%rbx
 	.cfi_def_cfa_offset 24
 	popq	%r14
@@ -2597,35 +2621,40 @@ komihash_v4_save:
 	leaq	68(%rdx), %rax
 	movq	%rdx, %rsi
 	andq	$7, %rsi
-	je	.LBB21_26
+	je	.LBB21_28
+	pushq	%rax
+	.cfi_def_cfa_offset 16
 	andq	$-8, %rdx
 	movq	(%rdi,%rdx), %rdi
 	addq	%rdx, %rcx
-	movq	%rdi, -8(%rsp)
+	movq	%rdi, (%rsp)
 	cmpl	$4, %esi
 	jb	.LBB21_24
 	movl	%edi, (%rcx)
-	movl	-12(%rsp,%rsi), %edx
+	movl	-4(%rsp,%rsi), %edx
 	movl	%edx, -4(%rcx,%rsi)
-	vzeroupper
-	retq
+	jmp	.LBB21_27
 .LBB21_24:
 	cmpl	$1, %esi
-	jne	.LBB21_27
+	jne	.LBB21_26
 	movb	%dil, (%rcx)
-.LBB21_26:
-	vzeroupper
-	retq
+	jmp	.LBB21_27
 .LBB21_7:
+	.cfi_def_cfa_offset 8
 	movabsq	$2305843009213693936, %r9
 	cmpq	$128, %rdx
 	jae	.LBB21_9
 	xorl	%r8d, %r8d
 	jmp	.LBB21_13
-.LBB21_27:
+.LBB21_26:
+	.cfi_def_cfa_offset 16
 	movw	%di, (%rcx)
-	movzwl	-10(%rsp,%rsi), %edx
+	movzwl	-2(%rsp,%rsi), %edx
 	movw	%dx, -2(%rcx,%rsi)
+.LBB21_27:
+	addq	$8, %rsp
+	.cfi_def_cfa_offset 8
+.LBB21_28:
 	vzeroupper
 	retq
 .LBB21_9:
@@ -2730,6 +2759,8 @@ komihash_v4_unpad:
 	.cfi_def_cfa_offset 16
 	pushq	%rbx
 	.cfi_def_cfa_offset 24
+	pushq	%rax
+	.cfi_def_cfa_offset 32
 	.cfi_offset %rbx, -24
 	.cfi_offset %r14, -16
 	shrq	$3, %rcx
@@ -2756,9 +2787,9 @@ komihash_v4_unpad:
 	movq	%r11, %rbx
 	andq	$-8, %rbx
 	movq	(%rdi,%rbx), %rbx
-	movq	%rbx, -8(%rsp)
+	movq	%rbx, (%rsp)
 	andl	$7, %r11d
-	movzbl	-8(%rsp,%r11), %r11d
+	movzbl	(%rsp,%r11), %r11d
 	shrl	$7, %r11d
 	incq	%r11
 	cmpq	%r11, %r10
@@ -2782,13 +2813,15 @@ komihash_v4_unpad:
 	jne	.LBB23_31
 	xorl	%eax, %eax
 .LBB23_31:
+	addq	$8, %rsp
+	.cfi_def_cfa_offset 24
 	popq	%rbx
 	.cfi_def_cfa_offset 16
 	popq	%r14
 	.cfi_def_cfa_offset 8
 	retq
 .LBB23_10:
-	.cfi_def_cfa_offset 24
+	.cfi_def_cfa_offset 32
 	movabsq	$2305843009213693936, %r11
 	cmpq	$128, %r8
 	jae	.LBB23_12
@@ -2874,44 +2907,32 @@ komihash_v4_unpad:
 	je	.LBB23_30
 	movq	(%rdi,%r8), %rax
 	addq	%r8, %rdx
-	movq	%rax, -8(%rsp)
+	movq	%rax, (%rsp)
 	cmpl	$4, %r9d
 	jb	.LBB23_27
 	movl	%eax, (%rdx)
 	movl	$3, %eax
 	subq	%rcx, %rax
 	negq	%rcx
-	movl	-8(%rsp,%rax), %eax
+	movl	(%rsp,%rax), %eax
 	movl	%eax, 3(%rdx,%rcx)
-	movq	%rsi, %rax
-	popq	%rbx
-	.cfi_def_cfa_offset 16
-	popq	%r14
-	.cfi_def_cfa_offset 8
-	vzeroupper
-	retq
+	jmp	.LBB23_30
 .LBB23_27:
-	.cfi_def_cfa_offset 24
 	cmpl	$6, %ecx
 	jne	.LBB23_28
 	movb	%al, (%rdx)
-	movq	%rsi, %rax
-	popq	%rbx
-	.cfi_def_cfa_offset 16
-	popq	%r14
-	.cfi_def_cfa_offset 8
-	vzeroupper
-	retq
+	jmp	.LBB23_30
 .LBB23_28:
-	.cfi_def_cfa_offset 24
 	movw	%ax, (%rdx)
 	movl	$5, %eax
 	subq	%rcx, %rax
 	negq	%rcx
-	movzwl	-8(%rsp,%rax), %eax
+	movzwl	(%rsp,%rax), %eax
 	movw	%ax, 5(%rdx,%rcx)
 .LBB23_30:
 	movq	%rsi, %rax
+	addq	$8, %rsp
+	.cfi_def_cfa_offset 24
 	popq	%rbx
 	.cfi_def_cfa_offset 16
 	popq	%r14
@@ -3363,6 +3384,8 @@ komihash_v5_rand_fill:
 	.cfi_def_cfa_offset 24
 	pushq	%rbx
 	.cfi_def_cfa_offset 32
+	pushq	%rax
+	.cfi_def_cfa_offset 40
 	.cfi_offset %rbx, -32
 	.cfi_offset %r14, -24
 	.cfi_offset %r15, -16
@@ -3418,11 +3441,11 @@ komihash_v5_rand_fill:
 	addq	%rdx, %rcx
 	andq	$-8, %rax
 	addq	%rax, %rsi
-	movq	%r8, -8(%rsp)
+	movq	%r8, (%rsp)
 	cmpl	$4, %r11d
 	jb	.LBB28_10
 	movl	%r8d, (%rsi)
-	movl	-12(%rsp,%r11), %eax
+	movl	-4(%rsp,%r11), %eax
 	movl	%eax, -4(%rsi,%r11)
 	jmp	.LBB28_13
 .LBB28_10:
@@ -3432,7 +3455,7 @@ komihash_v5_rand_fill:
 	jmp	.LBB28_13
 .LBB28_11:
 	movw	%r8w, (%rsi)
-	movzwl	-10(%rsp,%r11), %eax
+	movzwl	-2(%rsp,%r11), %eax
 	movw	%ax, -2(%rsi,%r11)
 .LBB28_13:
 	addq	%r10, %rcx
@@ -3440,6 +3463,8 @@ komihash_v5_rand_fill:
 .LBB28_14:
 	movq	%r8, (%rdi)
 	movq	%rdx, 8(%rdi)
+	addq	$8, %rsp
+	.cfi_def_cfa_offset 32
 	popq	%rbx
 	.cfi_def_cfa_offset 24
 	popq	%r14
@@ -3586,6 +3611,8 @@ komihash_v5_resume:
 	.cfi_def_cfa_offset 16
 	pushq	%rbx
 	.cfi_def_cfa_offset 24
+	subq	$72, %rsp
+	.cfi_def_cfa_offset 96
 	.cfi_offset %rbx, -24
 	.cfi_offset %r14, -16
 	vmovups	36(%rsi), %xmm0
@@ -3600,9 +3627,9 @@ komihash_v5_resume:
 	vxorps	12(%rsi), %xmm0, %xmm1
 	leaq	-68(%rdx), %r11
 	vxorps	%xmm2, %xmm2, %xmm2
-	vmovups	%ymm2, -40(%rsp)
-	vmovups	%ymm2, -72(%rsp)
-	movq	$0, -8(%rsp)
+	vmovups	%ymm2, 32(%rsp)
+	vmovups	%ymm2, (%rsp)
+	movq	$0, 64(%rsp)
 	cmpq	$75, %rdx
 	ja	.LBB33_15
 	cmpq	$72, %rdx
@@ -3622,27 +3649,27 @@ komihash_v5_resume:
 	xorl	%eax, %eax
 	retq
 .LBB33_15:
-	.cfi_def_cfa_offset 24
+	.cfi_def_cfa_offset 96
 	.cfi_offset %rbx, -24
 	.cfi_offset %r14, -16
 	movq	68(%rsi), %rbx
-	movq	%rbx, -72(%rsp)
+	movq	%rbx, (%rsp)
 	cmpq	$92, %rdx
 	jb	.LBB33_21
 	movq	%r11, %rbx
 	andq	$-8, %rbx
 	vmovups	76(%rsi), %xmm2
-	vmovups	%xmm2, -64(%rsp)
+	vmovups	%xmm2, 8(%rsp)
 	cmpq	$108, %rdx
 	jb	.LBB33_18
 	vmovups	92(%rsi), %xmm2
-	vmovups	%xmm2, -48(%rsp)
+	vmovups	%xmm2, 24(%rsp)
 	vmovups	36(%rsi,%rbx), %xmm2
-	vmovups	%xmm2, -104(%rsp,%rbx)
+	vmovups	%xmm2, -32(%rsp,%rbx)
 .LBB33_18:
 	vmovups	52(%rsi,%rbx), %xmm2
-	vmovups	%xmm2, -88(%rsp,%rbx)
-	movq	-8(%rsp), %rbx
+	vmovups	%xmm2, -16(%rsp,%rbx)
+	movq	64(%rsp), %rbx
 	jmp	.LBB33_22
 .LBB33_19:
 	testq	%r11, %r11
@@ -3668,7 +3695,7 @@ komihash_v5_resume:
 	movl	$8, %r14d
 	cmovbq	%rbx, %r14
 	movq	68(%rsi,%r14), %rbx
-	movq	%rbx, -64(%rsp)
+	movq	%rbx, 8(%rsp)
 	xorl	%ebx, %ebx
 .LBB33_22:
 	movq	-8(%rsi,%rdx), %rdx
@@ -3679,21 +3706,21 @@ komihash_v5_resume:
 	shrxq	%rsi, %rdx, %rdx
 	movl	%r11d, %esi
 	andl	$56, %esi
-	movq	%rdx, -72(%rsp,%rsi)
+	movq	%rdx, (%rsp,%rsi)
 	jmp	.LBB33_25
 .LBB33_23:
 	xorl	%edx, %edx
 .LBB33_24:
-	movq	%rdx, -72(%rsp)
+	movq	%rdx, (%rsp)
 	xorl	%ebx, %ebx
 .LBB33_25:
 	addq	%r11, %rbx
-	movq	%rbx, -8(%rsp)
+	movq	%rbx, 64(%rsp)
 	movq	%rbx, 64(%rdi)
-	movq	-72(%rsp), %rdx
-	vmovups	-64(%rsp), %xmm2
-	movq	-48(%rsp), %rsi
-	vmovups	-40(%rsp), %ymm3
+	movq	(%rsp), %rdx
+	vmovups	8(%rsp), %xmm2
+	movq	24(%rsp), %rsi
+	vmovups	32(%rsp), %ymm3
 	vmovups	%ymm3, 32(%rdi)
 	vmovups	%xmm2, 8(%rdi)
 	movq	%rdx, (%rdi)
@@ -3710,6 +3737,8 @@ komihash_v5_resume:
 	movl	$0, 137(%rdi)
 	movl	$0, 140(%rdi)
 	movb	$1, %al
+	addq	$72, %rsp
+	.cfi_def_cfa_offset 24
 	popq	%rbx
 	.cfi_def_cfa_offset 16
 	popq	%r14
@@ -3812,35 +3841,40 @@ komihash_v5_save:
 	leaq	68(%rdx), %rax
 	movq	%rdx, %rsi
 	andq	$7, %rsi
-	je	.LBB34_26
+	je	.LBB34_28
+	pushq	%rax
+	.cfi_def_cfa_offset 16
 	andq	$-8, %rdx
 	movq	(%rdi,%rdx), %rdi
 	addq	%rdx, %rcx
-	movq	%rdi, -8(%rsp)
+	movq	%rdi, (%rsp)
 	cmpl	$4, %esi
 	jb	.LBB34_24
 	movl	%edi, (%rcx)
-	movl	-12(%rsp,%rsi), %edx
+	movl	-4(%rsp,%rsi), %edx
 	movl	%edx, -4(%rcx,%rsi)
-	vzeroupper
-	retq
+	jmp	.LBB34_27
 .LBB34_24:
 	cmpl	$1, %esi
-	jne	.LBB34_27
+	jne	.LBB34_26
 	movb	%dil, (%rcx)
-.LBB34_26:
-	vzeroupper
-	retq
+	jmp	.LBB34_27
 .LBB34_7:
+	.cfi_def_cfa_offset 8
 	movabsq	$2305843009213693936, %r9
 	cmpq	$128, %rdx
 	jae	.LBB34_9
 	xorl	%r8d, %r8d
 	jmp	.LBB34_13
-.LBB34_27:
+.LBB34_26:
+	.cfi_def_cfa_offset 16
 	movw	%di, (%rcx)
-	movzwl	-10(%rsp,%rsi), %edx
+	movzwl	-2(%rsp,%rsi), %edx
 	movw	%dx, -2(%rcx,%rsi)
+.LBB34_27:
+	addq	$8, %rsp
+	.cfi_def_cfa_offset 8
+.LBB34_28:
 	vzeroupper
 	retq
 .LBB34_9:
@@ -3967,6 +4001,8 @@ komihash_v5_unpad:
 	.cfi_def_cfa_offset 16
 	pushq	%rbx
 	.cfi_def_cfa_offset 24
+	pushq	%rax
+	.cfi_def_cfa_offset 32
 	.cfi_offset %rbx, -24
 	.cfi_offset %r14, -16
 	testq	%r8, %r8
@@ -3993,7 +4029,7 @@ komihash_v5_unpad:
 .LBB36_10:
 	retq
 .LBB36_11:
-	.cfi_def_cfa_offset 24
+	.cfi_def_cfa_offset 32
 	.cfi_offset %rbx, -24
 	.cfi_offset %r14, -16
 	movabsq	$2305843009213693936, %r11
@@ -4081,52 +4117,32 @@ komihash_v5_unpad:
 	je	.LBB36_31
 	movq	(%rdi,%r8), %rax
 	addq	%r8, %rdx
-	movq	%rax, -8(%rsp)
+	movq	%rax, (%rsp)
 	cmpl	$4, %r9d
 	jb	.LBB36_28
 	movl	%eax, (%rdx)
 	movl	$3, %eax
 	subq	%rcx, %rax
 	negq	%rcx
-	movl	-8(%rsp,%rax), %eax
+	movl	(%rsp,%rax), %eax
 	movl	%eax, 3(%rdx,%rcx)
-	movq	%rsi, %rax
-	popq	%rbx
-	.cfi_def_cfa_offset 16
-	popq	%r14
-	.cfi_def_cfa_offset 8
-	.cfi_restore %rbx
-	.cfi_restore %r14
-	vzeroupper
-	retq
+	jmp	.LBB36_31
 .LBB36_28:
-	.cfi_def_cfa_offset 24
-	.cfi_offset %rbx, -24
-	.cfi_offset %r14, -16
 	cmpl	$6, %ecx
 	jne	.LBB36_29
 	movb	%al, (%rdx)
-	movq	%rsi, %rax
-	popq	%rbx
-	.cfi_def_cfa_offset 16
-	popq	%r14
-	.cfi_def_cfa_offset 8
-	.cfi_restore %rbx
-	.cfi_restore %r14
-	vzeroupper
-	retq
+	jmp	.LBB36_31
 .LBB36_29:
-	.cfi_def_cfa_offset 24
-	.cfi_offset %rbx, -24
-	.cfi_offset %r14, -16
 	movw	%ax, (%rdx)
 	movl	$5, %eax
 	subq	%rcx, %rax
 	negq	%rcx
-	movzwl	-8(%rsp,%rax), %eax
+	movzwl	(%rsp,%rax), %eax
 	movw	%ax, 5(%rdx,%rcx)
 .LBB36_31:
 	movq	%rsi, %rax
+	addq	$8, %rsp
+	.cfi_def_cfa_offset 24
 	popq	%rbx
 	.cfi_def_cfa_offset 16
 	popq	%r14
