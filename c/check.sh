@@ -119,14 +119,7 @@ END
             -D "CMAKE_PREFIX_PATH=$prefix" 2>&1 > "$room/printed" | diff "$room/wanted" -
 }
 
-# Whether the package that `make dist` writes gives the same package again.
-package_again() {
-    mkdir "$room/again" && tar -xzf "$package" -C "$room/again" &&
-        (cd "$room/again/komihash_rattle-$version" && build dist "OUT=out") &&
-        cmp "$package" "$room/again/komihash_rattle-$version/out/${package##*/}"
-}
-
-# Whether make bench prints thirteen lines with a number for the library in each but the first.
+# Whether make bench prints a number for each of twelve kinds of calls.
 measured() { build bench | grep -c '^\(hash\|write\) .* bytes *[0-9]' | grep -x 12; }
 
 # Whether a program that uses the header is refused with a text: refuses TEXT PROGRAM COMMAND..
@@ -208,7 +201,6 @@ note 'a stream that is null' refuses nonnull \
     'uint64_t f(void) { return komihash_v5_finish(NULL); }' $CC -Werror -Wall
 
 note 'the package' build dist "OUT=$room"
-note 'the package, made of itself' package_again
 needs cmake 'hash_file, by CMake, with the installed library' by_cmake -D "CMAKE_PREFIX_PATH=$prefix"
 needs cmake 'hash_file, by CMake, with the package' by_cmake -D "PACKAGE=$package"
 needs cmake 'the versions that CMake may ask for' requested \

@@ -1,7 +1,7 @@
 #!/usr/bin/env bash
 # Runs every proof and test, up to the first part that fails: the rules for sources and documents,
 # which take seconds, `rt ci`, and the tests of the built program and of the library for C, whose
-# assembly is made anew.
+# assembly is made anew. That library is tested as its package is unpacked, with nothing beside it.
 #
 # The last line is 'N passed, M failed', the sum of all parts, with ', K skipped' if a tool is
 # missing; lines above it say which. With REQUIRE_ALL=1 in the environment, skipped is failed.
@@ -30,10 +30,15 @@ part() {
     [ "$failed" = 0 ] || { echo "FAILED: $*; later parts, if any, were not run"; sum_up; }
 }
 
-# Tests the library for C for ARM64, in an emulator.
+# Unpacks the package of the library for C, and makes it again from what was unpacked.
+unpack() {
+    make -C c dist "OUT=$room" && package=$(echo "$room"/*.tar.gz) && tar -xzf "$package" -C "$room" &&
+        make -C "${package%.tar.gz}" dist && cmp "$package" "${package%.tar.gz}"/out/*.tar.gz
+}
+check_package() { make -C "$room"/komihash_rattle-*/ --no-print-directory check "$@"; }
 check_arm64() {
     if type aarch64-linux-gnu-gcc qemu-aarch64 > "$room/case" 2>&1; then
-        make -C c --no-print-directory CROSS=aarch64-linux-gnu- RUN=qemu-aarch64 check
+        check_package CROSS=aarch64-linux-gnu- RUN=qemu-aarch64
     else
         skip 'the library for C, for ARM64' 'cross compiler and emulator'
         counted
@@ -53,6 +58,8 @@ note 'each must-fail edit is refused' grep "must-fail edits: ${#edits[@]} refuse
 part bash scripts/attacks.sh
 part bash scripts/program.sh
 part bash scripts/assembly.sh
-part make -C c --no-print-directory check
+note 'the package of the library for C is made again from itself' unpack
+[ "$failed" = 0 ] || sum_up
+part check_package
 part check_arm64
 sum_up
