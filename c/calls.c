@@ -23,20 +23,21 @@ typedef KOMIHASH(_stream) Stream;
 typedef KOMIHASH(_rand) Rand;
 
 /* The functions, with the types of the library's own. */
-static uint64_t (*const hash)(const void *, size_t, uint64_t) = KOMIHASH();
-static Stream (*const start)(uint64_t) = KOMIHASH(_start);
-static void (*const write_bytes)(Stream *, const void *, size_t) = KOMIHASH(_write);
-static uint64_t (*const finish)(const Stream *) = KOMIHASH(_finish);
-static size_t (*const save)(const Stream *, void *, size_t) = KOMIHASH(_save);
-static bool (*const resume)(Stream *, const void *, size_t) = KOMIHASH(_resume);
-static Rand (*const rand_init)(uint64_t) = KOMIHASH(_rand_init);
-static Rand (*const rand_init_with_extra_seed)(uint64_t, uint64_t) =
+static uint64_t (KOMIHASH_CALL *const hash)(const void *, size_t, uint64_t) = KOMIHASH();
+static Stream (KOMIHASH_CALL *const start)(uint64_t) = KOMIHASH(_start);
+static void (KOMIHASH_CALL *const write_bytes)(Stream *, const void *, size_t) = KOMIHASH(_write);
+static uint64_t (KOMIHASH_CALL *const finish)(const Stream *) = KOMIHASH(_finish);
+static size_t (KOMIHASH_CALL *const save)(const Stream *, void *, size_t) = KOMIHASH(_save);
+static bool (KOMIHASH_CALL *const resume)(Stream *, const void *, size_t) = KOMIHASH(_resume);
+static Rand (KOMIHASH_CALL *const rand_init)(uint64_t) = KOMIHASH(_rand_init);
+static Rand (KOMIHASH_CALL *const rand_init_with_extra_seed)(uint64_t, uint64_t) =
     KOMIHASH(_rand_init_with_extra_seed);
-static Rand (*const rand_init_words)(uint64_t, uint64_t) = KOMIHASH(_rand_init_words);
-static uint64_t (*const rand_next)(Rand *) = KOMIHASH(_rand_next);
-static void (*const rand_fill)(Rand *, void *, size_t) = KOMIHASH(_rand_fill);
-static size_t (*const pad)(const void *, size_t, uint64_t *, size_t) = KOMIHASH(_pad);
-static size_t (*const unpad)(const uint64_t *, size_t, void *, size_t) = KOMIHASH(_unpad);
+static Rand (KOMIHASH_CALL *const rand_init_words)(uint64_t, uint64_t) = KOMIHASH(_rand_init_words);
+static uint64_t (KOMIHASH_CALL *const rand_next)(Rand *) = KOMIHASH(_rand_next);
+static void (KOMIHASH_CALL *const rand_fill)(Rand *, void *, size_t) = KOMIHASH(_rand_fill);
+static size_t (KOMIHASH_CALL *const pad)(const void *, size_t, uint64_t *, size_t) = KOMIHASH(_pad);
+static size_t (KOMIHASH_CALL *const unpad)(const uint64_t *, size_t, void *, size_t) =
+    KOMIHASH(_unpad);
 
 static const uint64_t seed = 0x0123456789abcdef, other_seed = 0xfedcba9876543210;
 

@@ -10,9 +10,16 @@ lib="$prefix/lib"
 include="$prefix/include"
 archive="$lib/libkomihash_rattle.a"
 package=$room/komihash_rattle-$version.tar.gz
-program=$room/program
+linked="$lib/$soname"
+program=$room/program$exe
 machine=$($CC -dumpmachine)
-export LD_LIBRARY_PATH="$lib" PKG_CONFIG_PATH="$lib/pkgconfig"
+clang=clang
+[ ! "$CROSS" ] || clang="clang --target=$machine -Qunused-arguments"
+if [ "$system" = Windows ]; then
+    linked="$lib/libkomihash_rattle.dll.a" soname=$dll
+    clang="$clang -L$(dirname "$($CC -print-libgcc-file-name)")" # which old versions don't find
+fi
+export LD_LIBRARY_PATH="$lib" WINEPATH="Z:$prefix/bin" PKG_CONFIG_PATH="$lib/pkgconfig"
 export QEMU_LD_PREFIX="${QEMU_LD_PREFIX:-/usr/$machine}"
 unset MAKEFLAGS PREFIX LIBDIR INCLUDEDIR DESTDIR
 sed -n '/^```c$/,/^```$/{/^```/!p;}' README.md > "$room/example.c"
@@ -32,11 +39,11 @@ needs() {
     ! has "$tool" "$1" || note "$@"
 }
 
-# Whether a command prints what a file has.
+# Whether a command prints what a file has, but for the ends of lines, which differ on Windows.
 prints() {
     wanted=$1
     shift
-    "$@" > "$room/printed" && diff "$wanted" "$room/printed"
+    "$@" > "$room/printed" && tr -d '\r' < "$room/printed" | diff "$wanted" -
 }
 
 # Whether a command fails, and prints one line, which has a text.
@@ -73,18 +80,18 @@ calls() {
     done
 }
 cases_of_calls() {
-    note "calls.c prints what calls.txt has ($compiler, ${1##*/})" prints calls.txt calls "$1"
-    note "the hashes of vectors.tsv ($compiler, ${1##*/})" prints "$room/vectors" calls "$1" rows
+    note "calls.c prints what calls.txt has (${compiler%% -Q*}, ${1##*/})" prints calls.txt calls "$1"
+    note "the hashes of vectors.tsv (${compiler%% -Q*}, ${1##*/})" prints "$room/vectors" calls "$1" rows
 }
 
 # Compiles an example with these arguments, and runs it.
 runs() { compile "$@" && prints examples/printed.txt $RUN "$program"; }
-runs_shared() { runs "$@" && "$READELF" -d "$program" | grep "NEEDED.*\[$soname\]"; }
+runs_shared() { runs "$@" && grep -F "$soname" "$program"; }
 runs_by_package() { eval "runs_shared \"\$@\" $(pkg-config --cflags --libs komihash_rattle)"; }
 
 # The example in a language, linked in each way: example LANGUAGE ARGUMENT..
 example() {
-    title="the example in $1 ($compiler"
+    title="the example in $1 (${compiler%% -Q*}"
     shift
     note "$title, static library)" runs "$@" -I "$include" "$archive"
     note "$title, shared object)" runs_shared "$@" -I "$include" -L "$lib" -lkomihash_rattle
@@ -98,8 +105,9 @@ by_rustc() {
 # Builds and runs hash_file by CMake, with these definitions.
 by_cmake() {
     rm -rf "$room/cmake" && cmake -S examples -B "$room/cmake" -D "CMAKE_C_COMPILER=$CC" \
-        -D CMAKE_SYSTEM_NAME=Linux -D "CMAKE_SYSTEM_PROCESSOR=${machine%%-*}" "$@" &&
-        cmake --build "$room/cmake" && printf a | $RUN "$room/cmake/hash_file" | grep '^5117f5064'
+        -D "CMAKE_SYSTEM_NAME=$system" -D "CMAKE_SYSTEM_PROCESSOR=${machine%%-*}" \
+        -D "CMAKE_RUNTIME_OUTPUT_DIRECTORY=$room/cmake" "$@" && cmake --build "$room/cmake" &&
+        printf a | $RUN "$room/cmake/hash_file$exe" | grep '^5117f5064'
 }
 
 # Whether CMake takes the library for each version or range in $1, and for none in $2.
@@ -131,17 +139,19 @@ refuses() {
         grep "$text" "$room/printed"
 }
 
-hash_file() { $RUN "$OUT/hash_file" "$@"; }
+hash_file() { $RUN "$OUT/hash_file$exe" "$@"; }
+hash_bytes() { printf 'a\r\n\032b' | hash_file; }
 full_disk() { hash_file > /dev/full; }
 
 # Whether hash_file ends with a status, and prints what standard input has: ends STATUS ARGUMENT..
 ends() {
     wanted=$1
     shift
+    cat > "$room/lines"
     printf a | (hash_file "$@") > "$room/printed" 2> "$room/errors"
     status=$?
     cat "$room/errors"
-    diff - "$room/printed" && test "$status" = "$wanted"
+    tr -d '\r' < "$room/printed" | diff "$room/lines" - && test "$status" = "$wanted"
 }
 
 # Installs by the variables of the environment, builds an example with that, and uninstalls it.
@@ -156,27 +166,27 @@ staged() {
 uninstalled() { build uninstall "PREFIX=$prefix" && test ! -e "$prefix"; }
 refused() { ! build install "PREFIX=$1" > "$room/printed" 2>&1 && grep "not '$1'$" "$room/printed"; }
 
-runs_here() { $RUN "$OUT/hash_file" < /dev/null > "$program" 2>&1; }
+runs_here() { hash_file < /dev/null > "$program" 2>&1; }
 note "programs for $machine run here, or in the emulator that RUN names" runs_here
 [ "$failed" = 0 ] || { counted; exit 1; }
 note 'the library is installed' build install "PREFIX=$prefix"
 [ "$failed" = 0 ] || { counted; exit 1; }
 note 'the numbers in the header are those of its version' \
     test "$(numbers_of_version)" = "$version"
-find "$prefix" -type f -name 'lib*' > "$room/libraries"
+find "$prefix" -type f -name 'lib*' ! -name '*.dll' > "$room/libraries"
 while read -r file; do
     case $file in *.a) flag= ;; *) flag=-D ;; esac
     name=${file#"$prefix/"}
     note "$name has the functions of the header" prints "$room/declared" symbols T "$file" $flag
-    note "$name calls nothing else" needs_nothing "$file" $flag
+    case $file in *.dll.a) ;; *) note "$name calls nothing else" needs_nothing "$file" $flag ;; esac
 done < "$room/libraries"
 
 compiler=$CC
 note 'calls.c calls every function' prints "$room/declared" called
-for compiler in "$CC" $([ "$CROSS" ] || echo clang); do
+for compiler in "$CC" "$clang"; do
     has "${compiler%% *}" 'calls.c and the example in C' || continue
     cases_of_calls "$archive"
-    cases_of_calls "$lib/$soname"
+    cases_of_calls "$linked"
     example C -std=c11 "$room/example.c"
 done
 if [ ! "$CROSS" ]; then
@@ -191,7 +201,8 @@ if [ ! "$CROSS" ]; then
         prints examples/printed.txt python3 examples/example.py "$lib/$soname"
     note 'make bench' measured
 fi
-for target in s390x:big-endian i686:64-bit x86_64-linux-gnux32:64-bit; do
+for target in s390x:big-endian i686:64-bit x86_64-linux-gnux32:64-bit \
+    x86_64-pc-windows-msvc:MinGW-w64; do
     needs clang "the header refuses ${target%:*}" \
         refuses "${target#*:}" '' clang "--target=${target%:*}"
 done
@@ -211,13 +222,17 @@ note 'hash_file' ends 0 << 'END'
 5117f5064cfd0faa
 END
 note 'hash_file, files, two of which cannot be read' ends 1 README.md none / - << END
-$(hash_file < README.md)  README.md
+$(hash_file < README.md | tr -d '\r')  README.md
 5117f5064cfd0faa  -
 END
+echo 41788abed31c8f17 > "$room/hash"
+note 'hash_file, bytes that end lines and files elsewhere' prints "$room/hash" hash_bytes
 note 'hash_file, a name that begins with -' ends 1 -- -none < /dev/null
 note 'hash_file, an unknown option' ends 2 -c README.md < /dev/null
-note 'hash_file, a folder' fails 'cannot read .*: Is a directory$' hash_file < /
-note 'hash_file, a closed input' fails 'cannot read .*: Bad file descriptor$' hash_file <&-
+if [ "$system" = Linux ]; then
+    note 'hash_file, a folder' fails 'cannot read .*: Is a directory$' hash_file < /
+    note 'hash_file, a closed input' fails 'cannot read .*: Bad file descriptor$' hash_file <&-
+fi
 note 'hash_file, a full output' fails 'cannot write .*: No space left' full_disk < /dev/null
 compiler=$CC
 note 'the paths of the environment' staged

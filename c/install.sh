@@ -4,13 +4,17 @@
 set -eu
 umask 022
 prefix=${PREFIX-/usr/local}
+bindir=${BINDIR-$prefix/bin}
 libdir=${LIBDIR-$prefix/lib}
 includedir=${INCLUDEDIR-$prefix/include}
 cmake=$libdir/cmake/komihash_rattle
-for folder in "$prefix" "$libdir" "$includedir"; do
+for folder in "$prefix" "$bindir" "$libdir" "$includedir"; do
     case $folder in
     /*) ;;
-    *) echo "PREFIX, LIBDIR and INCLUDEDIR must be absolute paths, and not '$folder'" >&2 && exit 2 ;;
+    *)
+        echo "PREFIX, BINDIR, LIBDIR and INCLUDEDIR must be absolute paths, and not '$folder'" >&2
+        exit 2
+        ;;
     esac
 done
 
@@ -22,8 +26,13 @@ each_file() {
     "$1" 644 "$OUT/komihash_rattle-config.cmake" "$cmake/komihash_rattle-config.cmake"
     "$1" 644 "$OUT/komihash_rattle-config-version.cmake" "$cmake/komihash_rattle-config-version.cmake"
     for file in $archives; do "$1" 644 "$OUT/$file" "$libdir/$file"; done
-    for file in $shared; do "$1" 755 "$OUT/$file" "$libdir/$file"; done
-    "$1" link "$soname" "$libdir/${soname%.*}"
+    for file in $shared; do
+        case $file in
+        *.dll) "$1" 755 "$OUT/$file" "$bindir/$file" ;;
+        *) "$1" 755 "$OUT/$file" "$libdir/$file" ;;
+        esac
+    done
+    [ "$system" = Windows ] || "$1" link "$soname" "$libdir/${soname%.*}"
 }
 
 # Makes a folder and those above it, and notes the ones that were not there.

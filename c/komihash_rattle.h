@@ -34,6 +34,15 @@
 #error "komihash_rattle needs 64-bit pointers: use -m64 on x86-64, and -mabi=lp64 on ARM64"
 #endif
 
+/* The calling convention of all functions. Windows has another one of its own. */
+#ifndef _WIN32
+#define KOMIHASH_CALL
+#elif defined(__x86_64__) && defined(__GNUC__)
+#define KOMIHASH_CALL __attribute__((sysv_abi))
+#else
+#error "komihash_rattle cannot be called by this compiler: use gcc or clang of MinGW-w64 for x86-64"
+#endif
+
 /* Marks of functions: the first argument is never null; the result says whether the call failed. */
 #ifdef __GNUC__
 #define KOMIHASH_NONNULL __attribute__((nonnull(1)))
@@ -80,77 +89,83 @@ typedef struct {
 
 /* Returns the hash of a message. Any seed will do: use 0 unless you need several hashes of one
  * message. */
-uint64_t komihash_v4(const void *bytes, size_t length, uint64_t seed);
-uint64_t komihash_v5(const void *bytes, size_t length, uint64_t seed);
+uint64_t KOMIHASH_CALL komihash_v4(const void *bytes, size_t length, uint64_t seed);
+uint64_t KOMIHASH_CALL komihash_v5(const void *bytes, size_t length, uint64_t seed);
 
 /* Returns the new stream of a seed. */
-komihash_v4_stream komihash_v4_start(uint64_t seed);
-komihash_v5_stream komihash_v5_start(uint64_t seed);
+komihash_v4_stream KOMIHASH_CALL komihash_v4_start(uint64_t seed);
+komihash_v5_stream KOMIHASH_CALL komihash_v5_start(uint64_t seed);
 
 /* Absorbs bytes. However a message is cut, its hash is the same. */
 KOMIHASH_NONNULL
-void komihash_v4_write(komihash_v4_stream *stream, const void *bytes, size_t length);
+void KOMIHASH_CALL komihash_v4_write(komihash_v4_stream *stream, const void *bytes, size_t length);
 KOMIHASH_NONNULL
-void komihash_v5_write(komihash_v5_stream *stream, const void *bytes, size_t length);
+void KOMIHASH_CALL komihash_v5_write(komihash_v5_stream *stream, const void *bytes, size_t length);
 
 /* Returns the hash of all bytes so far. The stream is unchanged, and may absorb more. */
-KOMIHASH_NONNULL uint64_t komihash_v4_finish(const komihash_v4_stream *stream);
-KOMIHASH_NONNULL uint64_t komihash_v5_finish(const komihash_v5_stream *stream);
+KOMIHASH_NONNULL uint64_t KOMIHASH_CALL komihash_v4_finish(const komihash_v4_stream *stream);
+KOMIHASH_NONNULL uint64_t KOMIHASH_CALL komihash_v5_finish(const komihash_v5_stream *stream);
 
 /* Writes the saved text of the stream to the front of `out`, and returns its length, 68 to 131
  * bytes. This text is binary, and can be stored and sent. It has up to 63 bytes of the message as
  * they are, and neither the number of bytes so far nor the seed, which `resume` doesn't need.
  * Returns 0, and writes nothing, if `room` is less than KOMIHASH_LONGEST_TEXT. */
 KOMIHASH_NONNULL KOMIHASH_CHECK_RESULT
-size_t komihash_v4_save(const komihash_v4_stream *stream, void *out, size_t room);
+size_t KOMIHASH_CALL komihash_v4_save(const komihash_v4_stream *stream, void *out, size_t room);
 KOMIHASH_NONNULL KOMIHASH_CHECK_RESULT
-size_t komihash_v5_save(const komihash_v5_stream *stream, void *out, size_t room);
+size_t KOMIHASH_CALL komihash_v5_save(const komihash_v5_stream *stream, void *out, size_t room);
 
 /* Replaces the stream by the one that has this saved text, and returns true. What `stream` held is
  * not read. Returns false, and changes nothing, if no stream of this version has the text. The text
  * has no checksum: damage that makes it the text of another stream is not noticed. */
 KOMIHASH_NONNULL KOMIHASH_CHECK_RESULT
-bool komihash_v4_resume(komihash_v4_stream *stream, const void *text, size_t length);
+bool KOMIHASH_CALL komihash_v4_resume(komihash_v4_stream *stream, const void *text, size_t length);
 KOMIHASH_NONNULL KOMIHASH_CHECK_RESULT
-bool komihash_v5_resume(komihash_v5_stream *stream, const void *text, size_t length);
+bool KOMIHASH_CALL komihash_v5_resume(komihash_v5_stream *stream, const void *text, size_t length);
 
 /* Returns the pseudorandom generator Komirand of a seed, which is not cryptographic. */
-komihash_v4_rand komihash_v4_rand_init(uint64_t seed);
-komihash_v5_rand komihash_v5_rand_init(uint64_t seed);
+komihash_v4_rand KOMIHASH_CALL komihash_v4_rand_init(uint64_t seed);
+komihash_v5_rand KOMIHASH_CALL komihash_v5_rand_init(uint64_t seed);
 
 /* Returns the generator of two seeds. If they are equal, it is the generator of that one seed. */
-komihash_v4_rand komihash_v4_rand_init_with_extra_seed(uint64_t seed, uint64_t extra_seed);
-komihash_v5_rand komihash_v5_rand_init_with_extra_seed(uint64_t seed, uint64_t extra_seed);
+komihash_v4_rand KOMIHASH_CALL
+komihash_v4_rand_init_with_extra_seed(uint64_t seed, uint64_t extra_seed);
+komihash_v5_rand KOMIHASH_CALL
+komihash_v5_rand_init_with_extra_seed(uint64_t seed, uint64_t extra_seed);
 
 /* Returns the generator that has the two words as its state. The first outputs of small words are
  * simple patterns; the calls above take four steps to get past them. */
-komihash_v4_rand komihash_v4_rand_init_words(uint64_t s1, uint64_t s2);
-komihash_v5_rand komihash_v5_rand_init_words(uint64_t s1, uint64_t s2);
+komihash_v4_rand KOMIHASH_CALL komihash_v4_rand_init_words(uint64_t s1, uint64_t s2);
+komihash_v5_rand KOMIHASH_CALL komihash_v5_rand_init_words(uint64_t s1, uint64_t s2);
 
 /* Returns the next output. */
-KOMIHASH_NONNULL uint64_t komihash_v4_rand_next(komihash_v4_rand *rand);
-KOMIHASH_NONNULL uint64_t komihash_v5_rand_next(komihash_v5_rand *rand);
+KOMIHASH_NONNULL uint64_t KOMIHASH_CALL komihash_v4_rand_next(komihash_v4_rand *rand);
+KOMIHASH_NONNULL uint64_t KOMIHASH_CALL komihash_v5_rand_next(komihash_v5_rand *rand);
 
 /* Fills `out` with the bytes of the next outputs, the lowest byte of each first. Takes an output
  * for each eight bytes, and one more for a remainder, which gets its lowest bytes; its other bytes
  * are dropped. */
-KOMIHASH_NONNULL void komihash_v4_rand_fill(komihash_v4_rand *rand, void *out, size_t length);
-KOMIHASH_NONNULL void komihash_v5_rand_fill(komihash_v5_rand *rand, void *out, size_t length);
+KOMIHASH_NONNULL void KOMIHASH_CALL
+komihash_v4_rand_fill(komihash_v4_rand *rand, void *out, size_t length);
+KOMIHASH_NONNULL void KOMIHASH_CALL
+komihash_v5_rand_fill(komihash_v5_rand *rand, void *out, size_t length);
 
 /* Writes the padded words of a message to the front of `out`, and returns their number, which is
  * length / 8 + 1. They are the words that the hash reads: different messages have different ones.
  * Returns 0, and writes nothing, if `out` has no room for them. `length` counts bytes, and `room`
  * counts words. */
-size_t komihash_v4_pad(const void *bytes, size_t length, uint64_t *out, size_t room);
-size_t komihash_v5_pad(const void *bytes, size_t length, uint64_t *out, size_t room);
+size_t KOMIHASH_CALL komihash_v4_pad(const void *bytes, size_t length, uint64_t *out, size_t room);
+size_t KOMIHASH_CALL komihash_v5_pad(const void *bytes, size_t length, uint64_t *out, size_t room);
 
 /* Writes the message that has these padded words to the front of `out`, and returns its length.
  * Returns KOMIHASH_NONE, and writes nothing, if no message has them, or if `out` has fewer than
  * eight bytes for each word. `length` counts words, and `room` counts bytes. */
 KOMIHASH_CHECK_RESULT
-size_t komihash_v4_unpad(const uint64_t *words, size_t length, void *out, size_t room);
+size_t KOMIHASH_CALL
+komihash_v4_unpad(const uint64_t *words, size_t length, void *out, size_t room);
 KOMIHASH_CHECK_RESULT
-size_t komihash_v5_unpad(const uint64_t *words, size_t length, void *out, size_t room);
+size_t KOMIHASH_CALL
+komihash_v5_unpad(const uint64_t *words, size_t length, void *out, size_t room);
 
 #ifdef __cplusplus
 }

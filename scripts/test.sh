@@ -36,14 +36,18 @@ unpack() {
         make -C "${package%.tar.gz}" dist && cmp "$package" "${package%.tar.gz}"/out/*.tar.gz
 }
 check_package() { make -C "$room"/komihash_rattle-*/ --no-print-directory check "$@"; }
-check_arm64() {
-    if type aarch64-linux-gnu-gcc qemu-aarch64 > "$room/case" 2>&1; then
-        check_package CROSS=aarch64-linux-gnu- RUN=qemu-aarch64
+check_cross() { # PREFIX EMULATOR: with a cross compiler
+    if type "$1gcc" "$2" > "$room/case" 2>&1; then
+        check_package "CROSS=$1" "RUN=$2"
     else
-        skip 'the library for C, for ARM64' 'cross compiler and emulator'
+        skip "the library for C, for ${1%-}" "${1}gcc or no $2"
         counted
     fi
 }
+
+# Debian keeps wine64 outside of PATH.
+export PATH="$PATH:/usr/lib/wine" WINEPREFIX="$room/wine" WINEDEBUG=-all
+export WINEDLLOVERRIDES='mscoree,mshtml='
 
 part bash scripts/rules.sh
 part python3 scripts/documents.py
@@ -61,5 +65,6 @@ part bash scripts/assembly.sh
 note 'the package of the library for C is made again from itself' unpack
 [ "$failed" = 0 ] || sum_up
 part check_package
-part check_arm64
+part check_cross x86_64-w64-mingw32- wine64
+part check_cross aarch64-linux-gnu- qemu-aarch64
 sum_up

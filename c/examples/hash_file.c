@@ -8,6 +8,10 @@
 #include <stdio.h>
 #include <string.h>
 #include <unistd.h>
+#ifdef _WIN32
+#include <fcntl.h>
+#include <io.h>
+#endif
 
 static unsigned char bytes[65536];
 
@@ -47,6 +51,9 @@ int main(int count, char **arguments) {
         fputs("usage: hash_file [FILE]..\n", stderr);
         return 2;
     }
+#ifdef _WIN32
+    _setmode(0, _O_BINARY);
+#endif
     int status = optind == count ? print_hash(stdin, NULL) : 0;
     for (; optind < count; optind++)
         status |= print_hash_of(arguments[optind]);
