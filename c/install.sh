@@ -6,11 +6,10 @@ umask 022
 prefix=${PREFIX-/usr/local}
 libdir=${LIBDIR-$prefix/lib}
 includedir=${INCLUDEDIR-$prefix/include}
-cmake=$libdir/cmake/komihash_rattle
 for folder in "$prefix" "$libdir" "$includedir"; do
     case $folder in
     /*) ;;
-    *) echo "PREFIX, LIBDIR and INCLUDEDIR must be absolute paths, and not '$folder'" >&2 && exit 2 ;;
+    *) echo "PREFIX, LIBDIR and INCLUDEDIR are absolute paths, and not '$folder'" >&2 && exit 2 ;;
     esac
 done
 
@@ -19,8 +18,9 @@ each_file() {
     "$1" 644 komihash_rattle.h "$includedir/komihash_rattle.h"
     [ ! -e LICENSE ] || "$1" 644 LICENSE "$prefix/share/doc/komihash_rattle/LICENSE"
     "$1" 644 "$OUT/komihash_rattle.pc" "$libdir/pkgconfig/komihash_rattle.pc"
-    "$1" 644 "$OUT/komihash_rattle-config.cmake" "$cmake/komihash_rattle-config.cmake"
-    "$1" 644 "$OUT/komihash_rattle-config-version.cmake" "$cmake/komihash_rattle-config-version.cmake"
+    for file in komihash_rattle-config.cmake komihash_rattle-config-version.cmake; do
+        "$1" 644 "$OUT/$file" "$libdir/cmake/komihash_rattle/$file"
+    done
     for file in $archives; do "$1" 644 "$OUT/$file" "$libdir/$file"; done
     for file in $shared; do "$1" 755 "$OUT/$file" "$libdir/$file"; done
     "$1" link "$soname" "$libdir/${soname%.*}"
