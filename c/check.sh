@@ -102,10 +102,11 @@ by_rustc() {
     rustc --edition 2021 -D warnings -L "native=$lib" -l static=komihash_rattle \
         examples/example.rs -o "$program" && prints examples/printed.txt "$program"
 }
+
 # Builds and runs hash_file by CMake, with these definitions.
 by_cmake() {
     rm -rf "$room/cmake" && cmake -S examples -B "$room/cmake" -D "CMAKE_C_COMPILER=$CC" \
-        -D "CMAKE_SYSTEM_NAME=$system" -D "CMAKE_SYSTEM_PROCESSOR=${machine%%-*}" \
+        ${CROSS:+-D "CMAKE_SYSTEM_NAME=$system" -D "CMAKE_SYSTEM_PROCESSOR=${machine%%-*}"} \
         -D "CMAKE_RUNTIME_OUTPUT_DIRECTORY=$room/cmake" "$@" && cmake --build "$room/cmake" &&
         printf a | $RUN "$room/cmake/hash_file$exe" | grep '^5117f5064'
 }
@@ -156,7 +157,7 @@ ends() {
 
 # Installs by the variables of the environment, builds an example with that, and uninstalls it.
 staged() {
-    export PREFIX='/a|b' LIBDIR='/a|b/lib/processor' INCLUDEDIR=/usr/include/d DESTDIR="$room/staged"
+    export PREFIX='/a|b' LIBDIR='/a|b/lib/processor' INCLUDEDIR=/c/include DESTDIR="$room/staged"
     export PKG_CONFIG_SYSROOT_DIR="$DESTDIR" PKG_CONFIG_PATH="$DESTDIR$LIBDIR/pkgconfig"
     (umask 077 && build install) &&
         test -z "$(find "$DESTDIR" ! -type l ! -perm 755 ! '(' -type f -perm 644 ')')" &&
@@ -164,7 +165,9 @@ staged() {
         build uninstall && test ! -e "$DESTDIR"
 }
 uninstalled() { build uninstall "PREFIX=$prefix" && test ! -e "$prefix"; }
-refused() { ! build install "PREFIX=$1" > "$room/printed" 2>&1 && grep "not '$1'$" "$room/printed"; }
+refused() {
+    ! build install "PREFIX=$1" 2> "$room/errors" && grep "not '$1'$" "$room/errors"
+}
 
 runs_here() { hash_file < /dev/null > "$program" 2>&1; }
 note "programs for $machine run here, or in the emulator that RUN names" runs_here
@@ -212,7 +215,8 @@ note 'a stream that is null' refuses nonnull \
     'uint64_t f(void) { return komihash_v5_finish(NULL); }' $CC -Werror -Wall
 
 note 'the package' build dist "OUT=$room"
-needs cmake 'hash_file, by CMake, with the installed library' by_cmake -D "CMAKE_PREFIX_PATH=$prefix"
+needs cmake 'hash_file, by CMake, with the installed library' \
+    by_cmake -D "CMAKE_PREFIX_PATH=$prefix"
 needs cmake 'hash_file, by CMake, with the package' by_cmake -D "PACKAGE=$package"
 needs cmake 'the versions that CMake may ask for' requested \
     "1 1.0 $version $version,EXACT 1.0...2 1...<2 0.9...$version" \

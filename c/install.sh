@@ -7,14 +7,10 @@ prefix=${PREFIX-/usr/local}
 bindir=${BINDIR-$prefix/bin}
 libdir=${LIBDIR-$prefix/lib}
 includedir=${INCLUDEDIR-$prefix/include}
-cmake=$libdir/cmake/komihash_rattle
 for folder in "$prefix" "$bindir" "$libdir" "$includedir"; do
     case $folder in
     /*) ;;
-    *)
-        echo "PREFIX, BINDIR, LIBDIR and INCLUDEDIR must be absolute paths, and not '$folder'" >&2
-        exit 2
-        ;;
+    *) echo "PREFIX, LIBDIR and the like are absolute paths, and not '$folder'" >&2 && exit 2 ;;
     esac
 done
 
@@ -23,8 +19,9 @@ each_file() {
     "$1" 644 komihash_rattle.h "$includedir/komihash_rattle.h"
     [ ! -e LICENSE ] || "$1" 644 LICENSE "$prefix/share/doc/komihash_rattle/LICENSE"
     "$1" 644 "$OUT/komihash_rattle.pc" "$libdir/pkgconfig/komihash_rattle.pc"
-    "$1" 644 "$OUT/komihash_rattle-config.cmake" "$cmake/komihash_rattle-config.cmake"
-    "$1" 644 "$OUT/komihash_rattle-config-version.cmake" "$cmake/komihash_rattle-config-version.cmake"
+    for file in komihash_rattle-config.cmake komihash_rattle-config-version.cmake; do
+        "$1" 644 "$OUT/$file" "$libdir/cmake/komihash_rattle/$file"
+    done
     for file in $archives; do "$1" 644 "$OUT/$file" "$libdir/$file"; done
     for file in $shared; do
         case $file in

@@ -32,8 +32,9 @@ part() {
 
 # Unpacks the package of the library for C, and makes it again from what was unpacked.
 unpack() {
-    make -C c dist "OUT=$room" && package=$(echo "$room"/*.tar.gz) && tar -xzf "$package" -C "$room" &&
-        make -C "${package%.tar.gz}" dist && cmp "$package" "${package%.tar.gz}"/out/*.tar.gz
+    make -C c dist "OUT=$room" && tar -xzf "$room"/komihash_rattle-*.tar.gz -C "$room" &&
+        make -C "$room"/komihash_rattle-*/ dist &&
+        cmp "$room"/komihash_rattle-*.tar.gz "$room"/komihash_rattle-*/out/*.tar.gz
 }
 check_package() { make -C "$room"/komihash_rattle-*/ --no-print-directory check "$@"; }
 check_cross() { # PREFIX EMULATOR: with a cross compiler
