@@ -1,7 +1,8 @@
 #!/usr/bin/env bash
 # Makes the assembly of the library for C anew, and compares it with c/assembly/. Another compiler
 # may make other instructions, so where the kit has another one than the files name, the tests of
-# the library run with what it makes. Also builds the library for WebAssembly, and runs it in Node.
+# the library run with what it makes. Also unwinds the calls of what was made in gdb, and builds the
+# library for WebAssembly, which it runs in Node.
 set -uo pipefail
 cd "$(dirname "$0")/../c" || exit 1
 . ./cases.sh
@@ -23,6 +24,16 @@ sizes() {
 
 same() { diff "$@" > "$room/differ" || { head -n 40 "$room/differ"; false; }; }
 
+# Whether gdb finds its way from each instruction of the library to main.
+unwinds() {
+    make ASSEMBLY="$room/assembly" OUT="$room/out" &&
+        for number in 4 5; do
+            "${CC:-cc}" -g -D "VERSION=$number" -o "$room/calls" calls.c \
+                "$room/out/libkomihash_rattle.a" &&
+                gdb -q -nx -batch -x ../scripts/unwind.py "$room/calls" || return
+        done
+}
+
 wasm() {
     local option=--experimental-wasm-memory64 # which old versions of Node need
     node $option -e 0 || option=
@@ -38,7 +49,7 @@ differs=
 for made in "$room"/assembly/*.S; do
     file=assembly/${made##*/}
     if [ "$(compiler_of "$file")" = "$(compiler_of "$made")" ]; then
-        note "c/$file is what the compiler makes of the proved source code" same "$file" "$made"
+        note "c/$file is what assembly.sh makes of the proved source code" same "$file" "$made"
     else
         echo "c/$file is not compared: it is from another compiler than that of this kit"
         differs=1
@@ -46,6 +57,11 @@ for made in "$room"/assembly/*.S; do
 done
 [ ! "$differs" ] || note 'the library from the assembly made anew passes its tests' \
     make check ASSEMBLY="$room/assembly" OUT="$room/out"
+if command -v gdb > "$room/case"; then
+    note 'gdb finds main from each instruction of the library' unwinds
+else
+    skip 'the unwind tables of the library' gdb
+fi
 if command -v node > "$room/case"; then
     note 'the library for WebAssembly gives the hashes of c/vectors.tsv' wasm
 else
