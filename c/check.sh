@@ -147,7 +147,7 @@ ends() {
 
 # Installs by the variables of the environment, builds an example with that, and uninstalls it.
 staged() {
-    export PREFIX='/a|b' LIBDIR='/a|b/lib/processor' INCLUDEDIR=/c/include DESTDIR="$room/staged"
+    export DESTDIR="$room/staged" PREFIX='/a|"#\b' LIBDIR='/a|"#\b/lib/c' INCLUDEDIR=/d/include
     export PKG_CONFIG_SYSROOT_DIR="$DESTDIR" PKG_CONFIG_PATH="$DESTDIR$LIBDIR/pkgconfig"
     (umask 077 && build install) &&
         test -z "$(find "$DESTDIR" ! -type l ! -perm 755 ! '(' -type f -perm 644 ')')" &&
