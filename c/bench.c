@@ -7,7 +7,6 @@
 #include <stdio.h>
 #include <time.h>
 
-#if defined(__has_include)
 #if __has_include(<xxhash.h>)
 #define XXH_INLINE_ALL
 #include <xxhash.h>
@@ -15,7 +14,6 @@
 #if __has_include(<wyhash/wyhash.h>)
 #include <wyhash/wyhash.h>
 #define HAS_WYHASH
-#endif
 #endif
 
 enum { ROUNDS = 100, CALLS = 4096, MEBIBYTE = 1 << 20 };

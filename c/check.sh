@@ -46,12 +46,11 @@ prints() {
     "$@" > "$room/printed" && tr -d '\r' < "$room/printed" | diff "$wanted" -
 }
 
-# Whether a command fails, and prints one line, which has a text.
+# Whether a command fails, and prints a text.
 fails() {
     text=$1
     shift
-    ! "$@" > "$room/printed" 2>&1 && test "$(wc -l < "$room/printed")" = 1 &&
-        grep "$text" "$room/printed"
+    ! "$@" > "$room/printed" 2>&1 && grep "$text" "$room/printed"
 }
 
 # Prints the functions that a file has by a letter of nm: symbols LETTER FILE [FLAG]
@@ -131,13 +130,11 @@ END
 # Whether make bench prints a number for each of twelve kinds of calls.
 measured() { build bench | grep -c '^\(hash\|write\) .* bytes *[0-9]' | grep -x 12; }
 
-# Whether a program that uses the header is refused with a text: refuses TEXT PROGRAM COMMAND..
-refuses() {
-    text=$1
-    printf '#include "komihash_rattle.h"\n%s\n' "$2" > "$room/refused.c"
-    shift 2
-    ! "$@" -I. -ffreestanding -S -o "$program" "$room/refused.c" 2> "$room/printed" &&
-        grep "$text" "$room/printed"
+# Compiles a line after the header: with_header LINE COMMAND..
+with_header() {
+    printf '#include "komihash_rattle.h"\n%s\n' "$1" > "$room/line.c"
+    shift
+    "$@" -I. -ffreestanding -S -o "$program" "$room/line.c"
 }
 
 hash_file() { $RUN "$OUT/hash_file$exe" "$@"; }
@@ -157,7 +154,7 @@ ends() {
 
 # Installs by the variables of the environment, builds an example with that, and uninstalls it.
 staged() {
-    export PREFIX='/a|b' LIBDIR='/a|b/lib/processor' INCLUDEDIR=/c/include DESTDIR="$room/staged"
+    export DESTDIR="$room/staged" PREFIX='/a|"#\b' LIBDIR='/a|"#\b/lib/c' INCLUDEDIR=/d/include
     export PKG_CONFIG_SYSROOT_DIR="$DESTDIR" PKG_CONFIG_PATH="$DESTDIR$LIBDIR/pkgconfig"
     (umask 077 && build install) &&
         test -z "$(find "$DESTDIR" ! -type l ! -perm 755 ! '(' -type f -perm 644 ')')" &&
@@ -165,9 +162,6 @@ staged() {
         build uninstall && test ! -e "$DESTDIR"
 }
 uninstalled() { build uninstall "PREFIX=$prefix" && test ! -e "$prefix"; }
-refused() {
-    ! build install "PREFIX=$1" 2> "$room/errors" && grep "not '$1'$" "$room/errors"
-}
 
 runs_here() { hash_file < /dev/null > "$program" 2>&1; }
 note "programs for $machine run here, or in the emulator that RUN names" runs_here
@@ -207,11 +201,11 @@ fi
 for target in s390x:big-endian i686:64-bit x86_64-linux-gnux32:64-bit \
     x86_64-pc-windows-msvc:MinGW-w64; do
     needs clang "the header refuses ${target%:*}" \
-        refuses "${target#*:}" '' clang "--target=${target%:*}"
+        fails "${target#*:}" with_header '' clang "--target=${target%:*}"
 done
-note 'a result that must not be ignored' refuses unused-result \
+note 'a result that must not be ignored' fails unused-result with_header \
     'void f(komihash_v5_stream *s) { komihash_v5_resume(s, "", 0); }' $CC -Werror
-note 'a stream that is null' refuses nonnull \
+note 'a stream that is null' fails nonnull with_header \
     'uint64_t f(void) { return komihash_v5_finish(NULL); }' $CC -Werror -Wall
 
 note 'the package' build dist "OUT=$room"
@@ -240,8 +234,8 @@ fi
 note 'hash_file, a full output' fails 'cannot write .*: No space left' full_disk < /dev/null
 compiler=$CC
 note 'the paths of the environment' staged
-note 'an empty PREFIX' refused ''
-note 'a relative PREFIX' refused here
+note 'an empty PREFIX' fails "not ''" build install PREFIX=
+note 'a relative PREFIX' fails "not 'here'" build install PREFIX=here
 note 'another processor' fails 'none for riscv64' build machine=riscv64-linux-gnu
 note 'a missing compiler' fails 'there is no: no-compiler' build CC=no-compiler
 note 'the library is uninstalled' uninstalled

@@ -35,7 +35,7 @@ each_file() {
 # Makes a folder and those above it, and notes the ones that were not there.
 made=$OUT/made
 make_folder() {
-    [ -d "$1" ] || { make_folder "$(dirname "$1")" && mkdir "$1" && echo "$1" >> "$made"; }
+    [ -d "$1" ] || { make_folder "$(dirname "$1")" && mkdir "$1" && printf '%s\n' "$1" >> "$made"; }
 }
 install_file() {
     target=${DESTDIR-}$3
@@ -44,9 +44,11 @@ install_file() {
 }
 remove_file() { rm -f "${DESTDIR-}$3"; }
 
-# Writes a file for pkg-config or CMake into the folder of what is built, with the paths in it.
-quoted() { printf '%s\n' "$1" | sed 's/[\\&|]/\\&/g'; }
+# Writes a file for pkg-config or CMake into the folder of what is built, with the paths in it. For
+# pkg-config, a backslash precedes some characters of theirs.
+quoted() { printf '%s\n' "$1" | sed "s/$special/\\\\&/g; s/[\\\\&|]/\\\\&/g"; }
 fill() {
+    case $1 in *.pc) special='["\\#]' ;; *) special='^$' ;; esac
     sed "s|@VERSION@|$version|; s|@PREFIX@|$(quoted "$prefix")|; s|@LIBDIR@|$(quoted "$libdir")|
         s|@INCLUDEDIR@|$(quoted "$includedir")|" "$1" > "$OUT/${1##*/}"
 }
@@ -59,6 +61,6 @@ else
     [ -f "$made" ] || exit 0
     sort -r "$made" > "$made.all"
     while read -r folder; do
-        rmdir "$folder" 2> /dev/null || [ ! -d "$folder" ] || echo "$folder"
+        rmdir "$folder" 2> /dev/null || [ ! -d "$folder" ] || printf '%s\n' "$folder"
     done < "$made.all" > "$made"
 fi

@@ -21,8 +21,10 @@ static int fail(const char *action, const char *name) {
     return 1;
 }
 
-/* Prints the line of an open file, which has no name if it was not asked for. */
+/* Prints the line of a file, which has no name if it was not asked for. */
 static int print_hash(FILE *file, const char *name) {
+    if (!file)
+        return fail("read", name);
     komihash_v5_stream stream = komihash_v5_start(0);
     size_t length;
     do {
@@ -35,17 +37,6 @@ static int print_hash(FILE *file, const char *name) {
     return 0;
 }
 
-static int print_hash_of(const char *name) {
-    if (strcmp(name, "-") == 0)
-        return print_hash(stdin, name);
-    FILE *file = fopen(name, "rb");
-    if (!file)
-        return fail("read", name);
-    int status = print_hash(file, name);
-    fclose(file);
-    return status;
-}
-
 int main(int count, char **arguments) {
     if (getopt(count, arguments, "") != -1) {
         fputs("usage: hash_file [FILE]..\n", stderr);
@@ -55,7 +46,12 @@ int main(int count, char **arguments) {
     _setmode(0, _O_BINARY);
 #endif
     int status = optind == count ? print_hash(stdin, NULL) : 0;
-    for (; optind < count; optind++)
-        status |= print_hash_of(arguments[optind]);
+    for (; optind < count; optind++) {
+        const char *name = arguments[optind];
+        FILE *file = strcmp(name, "-") == 0 ? stdin : fopen(name, "rb");
+        status |= print_hash(file, name);
+        if (file && file != stdin)
+            fclose(file);
+    }
     return fflush(stdout) || ferror(stdout) ? fail("write", "the hashes") : status;
 }
