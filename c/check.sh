@@ -110,7 +110,8 @@ by_cmake() {
         printf a | $RUN "$room/cmake/hash_file$exe" | grep '^5117f5064'
 }
 
-# Whether CMake takes the library for each version or range in $1, and for none in $2.
+# Whether CMake takes the library for each version or range in $1, and for none in $2, and links the
+# static one.
 requested() {
     mkdir "$room/requested" && cat > "$room/requested/CMakeLists.txt" << END &&
 cmake_minimum_required(VERSION 3.19)
@@ -121,10 +122,13 @@ foreach(request $1 $2)
   find_package(komihash_rattle \${arguments} QUIET)
   message("\${request}: \${komihash_rattle_FOUND}")
 endforeach()
+add_executable(hash_file "$PWD/examples/hash_file.c")
+target_link_libraries(hash_file komihash_rattle::static)
 END
     { printf '%s: 1\n' $1 && printf '%s: 0\n' $2; } > "$room/wanted" &&
         cmake -S "$room/requested" -B "$room/requested" -D "CMAKE_C_COMPILER=$CC" \
-            -D "CMAKE_PREFIX_PATH=$prefix" 2>&1 > "$room/printed" | diff "$room/wanted" -
+            -D "CMAKE_PREFIX_PATH=$prefix" 2>&1 > "$room/printed" | diff "$room/wanted" - &&
+        cmake --build "$room/requested" && ! "$NM" -u "$room/requested/hash_file" | grep komihash
 }
 
 # Whether make bench prints a number for each of twelve kinds of calls.
@@ -212,7 +216,7 @@ note 'the package' build dist "OUT=$room"
 needs cmake 'hash_file, by CMake, with the installed library' \
     by_cmake -D "CMAKE_PREFIX_PATH=$prefix"
 needs cmake 'hash_file, by CMake, with the package' by_cmake -D "PACKAGE=$package"
-needs cmake 'the versions that CMake may ask for' requested \
+needs cmake 'the versions that CMake may ask for, and the static library' requested \
     "1 1.0 $version $version,EXACT 1.0...2 1...<2 0.9...$version" \
     "0.9 2 99.0 1.0,EXACT 1.0...<$version 2...3"
 
