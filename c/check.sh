@@ -19,6 +19,7 @@ if [ "$system" = Windows ]; then
     linked="$lib/libkomihash_rattle.dll.a" soname=$dll
     clang="$clang -L$(dirname "$($CC -print-libgcc-file-name)")" # which old versions don't find
 fi
+case $CC in *clang*) clang= ;; esac
 export LD_LIBRARY_PATH="$lib" WINEPATH="Z:$prefix/bin" PKG_CONFIG_PATH="$lib/pkgconfig"
 export QEMU_LD_PREFIX="${QEMU_LD_PREFIX:-/usr/$machine}"
 unset MAKEFLAGS PREFIX LIBDIR INCLUDEDIR DESTDIR
@@ -184,7 +185,7 @@ done < "$room/libraries"
 
 compiler=$CC
 note 'calls.c calls every function' prints "$room/declared" called
-for compiler in "$CC" "$clang"; do
+for compiler in "$CC" ${clang:+"$clang"}; do
     has "${compiler%% *}" 'calls.c and the example in C' || continue
     cases_of_calls "$archive"
     cases_of_calls "$linked"
