@@ -34,7 +34,8 @@
 #error "komihash_rattle needs 64-bit pointers: use -m64 on x86-64, and -mabi=lp64 on ARM64"
 #endif
 
-/* The calling convention of all functions. Windows has another one of its own. */
+/* The calling convention of all functions, which pointers to them must name too, since Windows has
+ * one of its own. */
 #ifndef _WIN32
 #define KOMIHASH_CALL
 #elif defined(__x86_64__) && defined(__GNUC__)
