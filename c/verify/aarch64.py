@@ -1,0 +1,305 @@
+"""The meaning of the ARM64 instructions that the library uses, by Arm's manual. Flags are z (zero),
+c (carry: no borrow), n (negative), and l (less: negative unlike overflow)."""
+from functools import partial
+import z3
+from capstone import CS_ARCH_ARM64, CS_MODE_ARM
+from capstone import arm64_const as A
+from machine import RETURN, Cpu, means as enter
+from terms import (Refused, Unknown, bv, choose, join, part, secret, simple, sym, top, widen)
+
+TABLE = {}
+means = partial(enter, TABLE)
+SIZES = {'x': 64, 'w': 32, 'q': 128, 'd': 64, 'v': 128}
+SHIFTS = {A.ARM64_SFT_LSL: lambda a, n: a << n, A.ARM64_SFT_LSR: z3.LShR,
+          A.ARM64_SFT_ASR: lambda a, n: a >> n}
+NOT = {'ne': 'eq', 'lo': 'hs', 'hi': 'ls', 'ge': 'lt', 'gt': 'le', 'pl': 'mi'}
+
+
+def register(name):
+    """Number (None for the zero register) and width of a register."""
+    name = {'lr': 'x30', 'fp': 'x29'}.get(name, name)
+    if name in ('sp', 'wsp'):
+        return 31, 64 if name == 'sp' else 32
+    if name in ('xzr', 'wzr'):
+        return None, SIZES[name[0]]
+    return (name[1:] if name[0] in 'xw' else f'v{name[1:]}'), SIZES[name[0]]
+
+
+def unknown(i):
+    return Unknown(f'{i.address:#x}: unknown operands of {i.mnemonic} {i.text}')
+
+
+class Arm(Cpu):
+    NAME = 'ARM64'
+    DECODER = CS_ARCH_ARM64, CS_MODE_ARM
+    ARGS, RESULTS = tuple(str(n) for n in range(8)), ('0', '1')
+    SAVED = tuple(str(n) for n in range(19, 30)) + (31,)
+    STACK, RED_ZONE, ABOVE, TABLE = 31, 0, 0, TABLE
+
+    def registers(self):
+        words = {str(n): secret(f'x{n} before the call') for n in range(31)}
+        return {**words, **{f'v{n}': secret(f'v{n} before the call', 128) for n in range(32)}}
+
+    def enter(self):
+        self.r['30'] = sym('return')
+
+    def check_return(self):
+        super().check_return()
+        for n in range(8, 16):
+            if not z3.eq(part(self.r[f'v{n}'], 0, 64), part(self.before[f'v{n}'], 0, 64)):
+                raise Refused(f'register d{n} of the caller is lost')
+
+    def struct_at(self, place):
+        """The arguments by which a function is told where its struct goes, and its result."""
+        self.r['8'] = place
+        return [], None
+
+    def get(self, i, k, width=None):
+        """Operand k, shifted as it says."""
+        op = i.ops[k]
+        if op.type == A.ARM64_OP_IMM:
+            value = bv(op.imm % 2**width, width)
+        elif op.type == A.ARM64_OP_REG:
+            n, size = register(i.reg_name(op.reg))
+            value = bv(0, size) if n is None else part(self.r[n], 0, size)
+        else:
+            raise unknown(i)
+        if op.ext:
+            raise unknown(i)
+        if not op.shift.type:
+            return value
+        return simple(SHIFTS[op.shift.type](value, op.shift.value))
+
+    def width(self, i, k=0):
+        return register(i.reg_name(i.ops[k].reg))[1]
+
+    def both(self, i, k=1):
+        """Operands k and k + 1; a number is as wide as the other."""
+        a = self.get(i, k)
+        return a, self.get(i, k + 1, a.size())
+
+    def put(self, i, k, value):
+        n, size = register(i.reg_name(i.ops[k].reg))
+        value = simple(value)
+        if value.size() != size:
+            raise unknown(i)
+        if n is not None:
+            self.r[n] = self.in_length(widen(value, self.r[n].size()))
+
+    def address(self, i, k):
+        """The address in operand k; a base that changes is changed."""
+        m, base = i.ops[k].mem, register(i.reg_name(i.ops[k].mem.base))[0]
+        if i.ops[k].ext or i.ops[k].shift.type:
+            raise unknown(i)
+        if base == 31:
+            self.check_aligned(self.r[31], 16)
+        if m.index and register(i.reg_name(m.index))[1] != 64:
+            raise unknown(i)
+        index = self.r[register(i.reg_name(m.index))[0]] if m.index else 0
+        address = simple(self.r[base] + index + m.disp)
+        if len(i.ops) > k + 1:
+            if not i.writeback or m.disp or m.index:
+                raise unknown(i)
+            self.r[base] = simple(address + i.ops[k + 1].imm)
+        elif i.writeback:
+            self.r[base] = address
+        return address
+
+    def cond(self, code):
+        z, c, n, l = (lambda name=name: self.flag(name) for name in 'zcnl')
+        found = {'eq': z, 'hs': c, 'mi': n, 'ls': lambda: z3.Or(z3.Not(c()), z()), 'lt': l,
+                 'le': lambda: z3.Or(l(), z())}[NOT.get(code, code)]()
+        return z3.Not(found) if code in NOT else found
+
+    def compared(self, a, b):
+        """Flags of a - b."""
+        return {'z': lambda: a == b, 'c': lambda: z3.UGE(a, b), 'n': lambda: top(a - b),
+                'l': lambda: a < b}
+
+
+def code(i):
+    """The condition that the text ends with."""
+    return i.text.split()[-1]
+
+
+@means('add', 'sub', 'eor', 'orr', 'and', 'bic')
+def compute(c, i):
+    a, b = c.both(i)
+    c.put(i, 0, {'add': a + b, 'sub': a - b, 'eor': a ^ b, 'orr': a | b, 'and': a & b,
+                 'bic': a & ~b}[i.mnemonic])
+
+
+@means('subs', 'cmp')
+def subtract(c, i):
+    a, b = c.both(i, 0 if i.mnemonic == 'cmp' else 1)
+    if i.mnemonic == 'subs':
+        c.put(i, 0, a - b)
+    c.flags = c.compared(a, b)
+
+
+@means('ands', 'tst')
+def test(c, i):
+    a, b = c.both(i, 0 if i.mnemonic == 'tst' else 1)
+    result = simple(a & b)
+    if i.mnemonic == 'ands':
+        c.put(i, 0, result)
+    c.flags = {'z': lambda: result == 0, 'n': lambda: top(result), 'c': lambda: z3.BoolVal(False),
+               'l': lambda: top(result)}
+
+
+@means('ccmp')
+def compare_if(c, i):
+    a, b = c.both(i, 0)
+    cond, bits, yes = c.known(c.cond(code(i))), i.ops[2].imm, c.compared(a, b)
+    no = {'n': bits >> 3 & 1, 'z': bits >> 2 & 1, 'c': bits >> 1 & 1, 'l': (bits >> 3 ^ bits) & 1}
+    c.flags = {k: lambda k=k: z3.If(cond, yes[k](), z3.BoolVal(bool(no[k]))) for k in yes}
+
+
+@means('mov', 'movz', 'movn')
+def move(c, i):
+    value = c.get(i, 1, c.width(i))
+    c.put(i, 0, ~value if i.mnemonic == 'movn' else value)
+
+
+@means('movk')
+def move_and_keep(c, i):
+    shift, w = i.ops[1].shift, c.width(i)
+    mask = (2**w - 1) ^ 0xffff << (shift.value if shift.type else 0)
+    c.put(i, 0, c.get(i, 0) & mask | c.get(i, 1, w))
+
+
+@means('neg')
+def negate(c, i):
+    c.put(i, 0, -c.get(i, 1))
+
+
+@means('mvn')
+def invert(c, i):
+    c.put(i, 0, ~c.get(i, 1))
+
+
+@means('lsl', 'lsr')
+def shift(c, i):
+    a, n = c.both(i)
+    n = simple(n & (a.size() - 1))
+    c.put(i, 0, a << n if i.mnemonic == 'lsl' else z3.LShR(a, n))
+
+
+@means('ubfiz')
+def insert_in_zeros(c, i):
+    a, low, width = c.get(i, 1), i.ops[2].imm, i.ops[3].imm
+    c.put(i, 0, widen(part(a, 0, width), a.size()) << low)
+
+
+@means('ubfx')
+def extract(c, i):
+    a = c.get(i, 1)
+    c.put(i, 0, widen(part(a, i.ops[2].imm, i.ops[3].imm), a.size()))
+
+
+@means('bfxil')
+def insert_low(c, i):
+    a, width = c.get(i, 0), i.ops[3].imm
+    c.put(i, 0, join([part(c.get(i, 1), i.ops[2].imm, width), part(a, width, a.size() - width)]))
+
+
+@means('clz')
+def leading_zeros(c, i):
+    a = c.get(i, 1)
+    result = bv(a.size(), a.size())
+    for k in range(a.size()):
+        result = z3.If(z3.Extract(k, k, a) == 1, bv(a.size() - 1 - k, a.size()), result)
+    c.put(i, 0, result)
+
+
+@means('mul', 'umulh')
+def multiply(c, i):
+    a, b = c.both(i)
+    if a.size() != 64:
+        raise unknown(i)
+    c.put(i, 0, c.multiply(a, b, (0 if i.mnemonic == 'mul' else 1,))[0])
+
+
+@means('csel')
+def select(c, i):
+    c.put(i, 0, choose(c.known(c.cond(code(i))), c.get(i, 1), c.get(i, 2)))
+
+
+@means('cset')
+def set_if(c, i):
+    c.put(i, 0, choose(c.known(c.cond(code(i))), bv(1, c.width(i)), bv(0, c.width(i))))
+
+
+def access(c, i):
+    """How many registers a load or store has, and the bytes of each."""
+    number = 2 if i.mnemonic in ('ldp', 'stp') else 1
+    return number, {'b': 1, 'h': 2}.get(i.mnemonic[-1], c.width(i) // 8)
+
+
+@means('ldr', 'ldur', 'ldrb', 'ldurb', 'ldrh', 'ldurh', 'ldp')
+def load(c, i):
+    number, size = access(c, i)
+    address = c.address(i, number)
+    values = [c.load(simple(address + size * k), size) for k in range(number)]
+    for k, value in enumerate(values):
+        c.put(i, k, widen(value, c.width(i)))
+
+
+@means('str', 'stur', 'strb', 'sturb', 'strh', 'sturh', 'stp')
+def store(c, i):
+    number, size = access(c, i)
+    values = [c.get(i, k) for k in range(number)]
+    address = c.address(i, number)
+    for k, value in enumerate(values):
+        c.store(simple(address + size * k), part(value, 0, 8 * size))
+
+
+@means('ret')
+def give_back(c, i):
+    if i.ops or not z3.eq(c.r['30'], sym('return')):
+        raise Refused('a return to another place than the caller')
+    return RETURN
+
+
+@means('b')
+def jump(c, i):
+    return i.ops[0].imm
+
+
+@means(*(f'b.{name}' for name in ('eq', 'hs', 'mi', 'ls', 'lt', 'le', *NOT)))
+def branch(c, i):
+    return c.cond(i.mnemonic[2:]), i.ops[0].imm, i.address + i.size
+
+
+@means('cbz', 'cbnz', 'tbz', 'tbnz')
+def branch_on_bits(c, i):
+    a = c.get(i, 0)
+    zero = a == 0 if i.mnemonic[0] == 'c' else part(a, i.ops[1].imm, 1) == 0
+    return z3.Not(zero) if 'n' in i.mnemonic else zero, i.ops[-1].imm, i.address + i.size
+
+
+@means('movi')
+def move_vector(c, i):
+    if i.ops[1].imm != 0:
+        raise unknown(i)
+    c.put(i, 0, bv(0, c.width(i)))
+
+
+@means('zip1', 'zip2')
+def zip_words(c, i):
+    if i.text.count('.2d') != 3:
+        raise unknown(i)
+    low = 0 if i.mnemonic == 'zip1' else 64
+    c.put(i, 0, join([part(c.get(i, k), low, 64) for k in (1, 2)]))
+
+
+@means('ext')
+def extract_vector(c, i):
+    if '.16b' not in i.text:
+        raise unknown(i)
+    c.put(i, 0, part(join([c.get(i, 1), c.get(i, 2)]), 8 * i.ops[3].imm, 128))
+
+
+@means('nop')
+def nothing(c, i):
+    pass

@@ -1,0 +1,158 @@
+"""The definition of komihash, on terms; docs/DEFINITIONS.md has it in formulas. A product is a pair
+of new symbols, low and high, with its factors noted, and code that multiplies must have these."""
+import functools
+import z3
+from terms import Refused, bv, choose, const, join, secret, simple
+
+PI = [0x243f6a8885a308d3, 0x13198a2e03707344, 0xa4093822299f31d0, 0x082efa98ec4e6c89,
+      0x452821e638d01377, 0xbe5466cf34e90c6c, 0xc0ac29b7c97c50dd, 0x3f84d5b5b5470917]
+PLACES = {4: [0, 1, 2, 3, 4, 5, 6, 7], 5: [0, 4, 1, 5, 2, 6, 3, 7]}
+FALSE, TRUE = bv(0, 8), bv(1, 8)
+FIVES, TENS = 0x5555555555555555, 0xaaaaaaaaaaaaaaaa
+
+
+class Products:
+    """The products of a definition: their factors, and the symbols of their halves."""
+
+    def __init__(self):
+        self.list = []
+
+    def new(self, x, y):
+        k = len(self.list)
+        halves = secret(f'low half of product {k}'), secret(f'high half of product {k}')
+        self.list.append((simple(x), simple(y), *halves))
+        return halves
+
+    def find(self, facts, a, b, busy):
+        """The number of the product with these factors, which is none of the busy ones."""
+        busy, points = {k for k, _ in busy}, {facts.point(a), facts.point(b)}
+        for k, (x, y, _, _) in enumerate(self.list):
+            if k not in busy and {facts.point(x), facts.point(y)} == points:
+                for u, v in ((x, y), (y, x)):
+                    if facts.same(a, u) and facts.same(b, v):
+                        return k
+        raise Refused('a product that the definition does not have, or has made already')
+
+
+class Numbers(Products):
+    """Products of numbers, which are multiplied."""
+
+    def new(self, x, y):
+        product = simple(x).as_long() * simple(y).as_long()
+        return bv(product & 2**64 - 1), bv(product >> 64)
+
+
+def mix(products, x, y, e):
+    low, high = products.new(x, y)
+    e = simple(e + high)
+    return simple(e ^ low), e
+
+
+def seed_pair(products, seed):
+    x, y = PI[0] ^ (seed & FIVES), PI[4] ^ (seed & TENS)
+    return mix(products, x, y, y)
+
+
+def lanes(pair):
+    return [simple(pair[k // 4] ^ (PI[k] if k % 4 else 0)) for k in range(8)]
+
+
+def block_round(products, version, s, block):
+    w = [block[k] for k in PLACES[version]]
+    r = [products.new(w[2 * k] ^ s[k], w[2 * k + 1] ^ s[4 + k]) for k in range(4)]
+    t = [simple(s[4 + k] + r[k][1]) for k in range(4)]
+    return [simple(t[k - 1] ^ r[k][0]) for k in range(4)] + t
+
+
+def joined(absorbed, s):
+    if const(absorbed) == 0:
+        return s[0], s[4]
+    return [simple(functools.reduce(lambda x, y: x ^ y, half)) for half in (s[:4], s[4:])]
+
+
+def words_of(content):
+    content = [*content] + [bv(0, 8)] * (-len(content) % 8)
+    return [join(content[k:k + 8]) for k in range(0, len(content), 8)]
+
+
+def pads_with_two(version, last):
+    return z3.And(version == 4, last < 0)
+
+
+def top_bit(version, last):
+    return choose(pads_with_two(version, last), TRUE, FALSE)
+
+
+def padding_byte(version, last):
+    return simple(top_bit(version, last) + 1)
+
+
+def padded_words(version, message):
+    if not message:
+        return [bv(0)]
+    return words_of([*message, padding_byte(version, message[-1])])
+
+
+def hash_from_pair(products, pair, w):
+    while len(w) >= 3:
+        pair, w = mix(products, w[0] ^ pair[0], w[1] ^ pair[1], pair[1]), w[2:]
+    a, e = pair
+    a, e = mix(products, a ^ w[0], e ^ w[1] if len(w) == 2 else e, e)
+    return mix(products, a, e, e)[0]
+
+
+def hash_from_lanes(products, version, s, w, absorbed):
+    while len(w) >= 9:
+        s, w, absorbed = block_round(products, version, s, w[:8]), w[8:], TRUE
+    return hash_from_pair(products, joined(absorbed, s), w)
+
+
+def komi(products, version, seed, message):
+    s = lanes(seed_pair(products, seed))
+    return hash_from_lanes(products, version, s, padded_words(version, message), FALSE)
+
+
+class State:
+    """A stream's state: lanes, pending bytes, and both flags, which are bytes."""
+
+    def __init__(self, lanes, pending=(), absorbed=FALSE, top_bit=FALSE):
+        self.lanes, self.pending = lanes, list(pending)
+        self.absorbed, self.top_bit = absorbed, top_bit
+
+    def absorb(self, products, version, message):
+        state = State(self.lanes, [*self.pending, *message], self.absorbed, self.top_bit)
+        while len(state.pending) >= 64:
+            block, rest = state.pending[:64], state.pending[64:]
+            s = block_round(products, version, state.lanes, words_of(block))
+            state = State(s, rest, TRUE, top_bit(version, block[63]))
+        return state
+
+    def answer(self, products, version):
+        words = padded_words(version, self.pending)
+        if const(self.absorbed) and not self.pending:
+            words = words_of([simple(self.top_bit + 1)])
+        return hash_from_pair(products, joined(self.absorbed, self.lanes), words)
+
+    def text(self, version):
+        head = [bv(version, 8), self.absorbed, self.top_bit, bv(len(self.pending), 8)]
+        return join([*head, *self.lanes, *self.pending])
+
+
+def start(products, seed):
+    return State(lanes(seed_pair(products, seed)))
+
+
+def is_text(version, text):
+    """Whether bytes are the text of a state."""
+    if not 68 <= len(text) <= 131:
+        return z3.BoolVal(False)
+    top_bit_fits = z3.Or(text[2] == 0, text[1] == 1) if version == 4 else text[2] == 0
+    return z3.And(text[0] == version, z3.ULE(text[1], 1), z3.ULE(text[2], 1),
+                  text[3] == len(text) - 68, top_bit_fits)
+
+
+def next_pair(products, version, x, y):
+    """A step of the generator. The new x is its output."""
+    low, high = products.new(x, y)
+    y = simple(y + high + TENS)
+    return simple(low ^ y if version == 4 else (low ^ high) + FIVES), y

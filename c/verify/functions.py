@@ -1,0 +1,216 @@
+"""What each function must do: its cases, which together are all calls that the header allows, and
+how a case is checked. Calls of any length, by induction, are in loops.py."""
+import z3
+import loops
+from calls import (NONE, Call, accepted, check, check_bytes, check_generator, check_state,
+                   generator, low_byte, named, padded_content, some_state)
+from definition import State, is_text, komi, next_pair, padded_words, start, words_of
+from machine import Seen
+from terms import bv, bytes_of, join, secret, sym
+
+GRAIN = loops.GRAIN
+
+
+def hash_of(library, version, length):
+    call = Call(library, version, '')
+    place, message = call.message(length)
+    seed = secret('seed')
+    wanted = komi(call.products, version, seed, message)
+    end = call.one(place, bv(length), seed)
+    check(end, 'hash', end.result(), wanted)
+    call.check_all_products(end)
+    return end
+
+
+def start_of(library, version):
+    call = Call(library, version, '_start')
+    seed = secret('seed')
+    wanted = start(call.products, seed)
+    args, result = call.cpu.struct_at(call.stream(None, writable=True))
+    end = call.one(*args, seed)
+    check_state(end, wanted)
+    if result is not None:
+        check(end, 'address of the struct', end.result(), result)
+    call.check_all_products(end)
+    return end
+
+
+def write_within(library, version, fill, length):
+    """A write that may complete blocks, of a fixed length."""
+    call = Call(library, version, '_write')
+    state = some_state(version, fill)
+    stream = call.stream(state, writable=True)
+    place, message = call.message(length)
+    wanted = state.absorb(call.products, version, message)
+    end = call.one(stream, place, bv(length))
+    check_state(end, wanted)
+    call.check_all_products(end)
+    return end
+
+
+def finish(library, version, fill, absorbed):
+    call = Call(library, version, '_finish')
+    state = some_state(version, fill, bv(absorbed, 8))
+    wanted = state.answer(call.products, version)
+    end = call.one(call.stream(state))
+    check(end, 'hash', end.result(), wanted)
+    call.check_all_products(end)
+    return end
+
+
+def save(library, version, fill):
+    """With any room: the text, or nothing if there is no room for the longest."""
+    call = Call(library, version, '_save')
+    state, room = some_state(version, fill), sym('room')
+    stream = call.stream(state)
+    out = call.array('out', room, high=68 + fill, writable=True)
+    for end in call.run(stream, out, room):
+        enough = accepted(end, z3.UGE(room, 131))
+        check(end, 'length', end.result(), bv(68 + fill if enough else 0))
+        check_bytes(end, 'text', 'out', bytes_of(state.text(version)) if enough else [])
+        call.check_all_products(end)
+    return end
+
+
+def resume(library, version, length):
+    """Any text of this length, or if it is None, of any length above 131."""
+    call = Call(library, version, '_resume')
+    size = sym('length') if length is None else bv(length)
+    text = named('text', range(132 if length is None else length))
+    call.facts.add(z3.BoolVal(True) if length is not None else z3.UGT(size, 131))
+    fits, ends = is_text(version, text if length is not None else []), []
+    stream = call.stream(None, writable=True)
+    for end in call.run(stream, call.array('text', size, text), size):
+        is_one = accepted(end, fits)
+        check(end, 'result', low_byte(end.result()), bv(int(is_one), 8))
+        if is_one:
+            check_state(end, State(words_of(text[4:68]), text[68:], text[1], text[2]))
+        else:
+            check_bytes(end, 'refused', 'stream', [])
+        call.check_all_products(end)
+    return end
+
+
+def rand_init(library, version, name, seeds, steps):
+    call = Call(library, version, name)
+    args = [secret('seed'), secret('extra seed')][:seeds]
+    pair = args[0], args[-1]
+    for _ in range(steps):
+        pair = next_pair(call.products, version, *pair)
+    end = call.one(*args)
+    for k in (0, 1):
+        check(end, f's{k + 1}', end.result(k), pair[k])
+    call.check_all_products(end)
+    return end
+
+
+def rand_next(library, version):
+    call = Call(library, version, '_rand_next')
+    place, pair = generator(call)
+    pair = next_pair(call.products, version, *pair)
+    end = call.one(place)
+    check(end, 'output', end.result(), pair[0])
+    check_generator(end, pair)
+    call.check_all_products(end)
+    return end
+
+
+def rand_fill(library, version, length):
+    call = Call(library, version, '_rand_fill')
+    place, pair = generator(call)
+    out, wanted = call.array('out', length, high=length, writable=True), []
+    for _ in range((length + 7) // 8):
+        pair = next_pair(call.products, version, *pair)
+        wanted += bytes_of(pair[0])
+    end = call.one(place, out, bv(length))
+    check_generator(end, pair)
+    check_bytes(end, 'bytes', 'out', wanted[:length])
+    call.check_all_products(end)
+    return end
+
+
+def pad(library, version, length):
+    """With any room: the words, or nothing if there is no room for them."""
+    call = Call(library, version, '_pad')
+    place, message = call.message(length)
+    room, words = sym('room'), padded_words(version, message)
+    call.facts.add(z3.ULT(room, 2**60))
+    out = call.aligned(call.array('out', 8 * room, high=8 * len(words), writable=True))
+    for end in call.run(place, bv(length), out, room):
+        enough = accepted(end, z3.UGE(room, len(words)))
+        check(end, 'number', end.result(), bv(len(words) if enough else 0))
+        check_bytes(end, 'words', 'out', bytes_of(join(words)) if enough else [])
+        call.check_all_products(end)
+    return end
+
+
+LAST_BYTES = [None, *((place, byte) for place in range(8) for byte in (1, 2, 3))]
+
+
+def unpad(library, version, count, last):
+    """With any room: the message, or nothing if there is none, or no room for the words."""
+    call = Call(library, version, '_unpad')
+    content, length, fits = [], 0, z3.BoolVal(False)
+    if count:
+        content, length, fits = padded_content(call, named('words', range(8 * count)), last)
+    room, words = sym('room'), call.aligned(call.array('words', 8 * count, content))
+    out = call.array('out', room, high=length, writable=True)
+    for end in call.run(words, bv(count), out, room):
+        found = accepted(end, z3.And(fits, z3.UGE(room, 8 * count)))
+        check(end, 'length', end.result(), bv(length) if found else NONE)
+        check_bytes(end, 'message', 'out', content[:length] if found else [])
+        call.check_all_products(end)
+    return end
+
+
+def hash_many(library, version, r):
+    return loops.Hash(library, version, r).prove()
+
+
+def write_many(library, version, fill):
+    return loops.Write(library, version, fill).prove()
+
+
+def rand_fill_many(library, version, r):
+    return loops.Fill(library, version, r).prove()
+
+
+def pad_many(library, version, r):
+    return loops.Pad(library, version, r).prove()
+
+
+def unpad_many(library, version, r):
+    seen = Seen()
+    for last in LAST_BYTES:
+        call = loops.Unpad(library, version, r, last)
+        call.seen = seen
+        call.prove()
+    return call
+
+
+def each(numbers):
+    return [(k,) for k in numbers]
+
+
+BYTES, WORDS = each(range(GRAIN)), each(range(GRAIN // 8))
+FILLS = each(range(64))
+# By function: the multiplications of the definition, whether jumps may depend on contents, and its
+# cases by how they are checked. Most cases are one length, remainder or number of pending bytes.
+FUNCTIONS = {
+    '': ('3+4(n/64)+(n%64)/16', False, {hash_of: BYTES, hash_many: BYTES}),
+    '_start': ('1', False, {start_of: [()]}),
+    '_write': ('4((f+n)/64)', False, {
+        write_many: FILLS, write_within: [(f, n) for f in range(64) for n in range(64 - f)]}),
+    '_finish': ('2+f/16', False, {finish: [(f, b) for f in range(64) for b in (0, 1)]}),
+    '_save': ('0', False, {save: FILLS}),
+    '_resume': ('0', True, {resume: each([None, *range(132)])}),
+    '_rand_init': ('4', False, {rand_init: [('_rand_init', 1, 4)]}),
+    '_rand_init_with_extra_seed': ('4', False, {
+        rand_init: [('_rand_init_with_extra_seed', 2, 4)]}),
+    '_rand_init_words': ('0', False, {rand_init: [('_rand_init_words', 2, 0)]}),
+    '_rand_next': ('1', False, {rand_next: [()]}),
+    '_rand_fill': ('(n+7)/8', False, {rand_fill: BYTES, rand_fill_many: BYTES}),
+    '_pad': ('0', False, {pad: BYTES, pad_many: BYTES}),
+    '_unpad': ('0', True, {unpad_many: WORDS, unpad: [(0, None), *(
+        (n, last) for n in range(1, GRAIN // 8) for last in LAST_BYTES)]}),
+}

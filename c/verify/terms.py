@@ -1,0 +1,274 @@
+"""Terms: bit vectors of Z3 over symbols; and Facts, which asks Z3 what holds of them."""
+import functools
+import os
+import random
+import subprocess
+import z3
+
+SECOND = os.environ.get('SECOND')
+SIMPLIFY = z3.args2params([], {'bv_sort_ac': True})
+SECONDS = 100
+ANSWERS, COUNTS = {}, {'asked': 0, 'second': 0}
+
+
+class Refused(Exception):
+    """Something that a function must not do."""
+
+
+class Unknown(Exception):
+    """Something that this program can't judge, so that nothing may be claimed."""
+
+
+class Symbols:
+    """The symbols by name. Secret are those that stand for contents, and not for lengths or
+    addresses."""
+
+    def __init__(self):
+        self.term, self.secret, self.found, self.kept = {}, set(), {}, []
+        self.addresses = {'sp'}
+
+    def of(self, term):
+        """The names of the symbols in a term, which are remembered for each part of it."""
+        context, todo = term.ctx_ref(), [term.as_ast()]
+        if z3.Z3_get_ast_id(context, todo[0]) not in self.found:
+            self.kept.append(term)
+        while todo:
+            key = z3.Z3_get_ast_id(context, todo[-1])
+            if key not in self.found:
+                app = z3.Z3_to_app(context, todo[-1])
+                parts = [z3.Z3_get_app_arg(context, app, k)
+                         for k in range(z3.Z3_get_app_num_args(context, app))]
+                keys = [z3.Z3_get_ast_id(context, p) for p in parts]
+                left = [p for p, k in zip(parts, keys) if k not in self.found]
+                if left:
+                    todo += left
+                    continue
+                self.found[key] = frozenset().union(*(self.found[k] for k in keys)) \
+                    if parts else self.of_leaf(context, app)
+            todo.pop()
+        return self.found[z3.Z3_get_ast_id(context, term.as_ast())]
+
+    def of_leaf(self, context, app):
+        declaration = z3.Z3_get_app_decl(context, app)
+        if z3.Z3_get_decl_kind(context, declaration) != z3.Z3_OP_UNINTERPRETED:
+            return frozenset()
+        return frozenset([z3.Z3_get_symbol_string(
+            context, z3.Z3_get_decl_name(context, declaration))])
+
+
+SYMBOLS = Symbols()
+symbols = SYMBOLS.of
+
+
+@functools.lru_cache(maxsize=None)
+def bv(value, width=64):
+    return z3.BitVecVal(value, width)
+
+
+@functools.lru_cache(maxsize=None)
+def sym(name, width=64):
+    SYMBOLS.term[name] = z3.BitVec(name, width)
+    return SYMBOLS.term[name]
+
+
+def address(name):
+    SYMBOLS.addresses.add(name)
+    return sym(name)
+
+
+def secret(name, width=64):
+    SYMBOLS.secret.add(name)
+    return sym(name, width)
+
+
+def is_public(term):
+    return not symbols(term) & SYMBOLS.secret
+
+
+def simple(term):
+    context = term.ctx
+    ast = z3.Z3_simplify_ex(context.ref(), term.as_ast(), SIMPLIFY.params)
+    return z3.z3._to_expr_ref(ast, context)
+
+
+def linear(term):
+    """Writes bits 0, a symbol and k fixed bits side by side as the symbol * 2^k and a number."""
+    if z3.is_app_of(term, z3.Z3_OP_CONCAT):
+        parts = term.children()
+        low = parts.pop() if const(parts[-1]) is not None else bv(0, 1)
+        k = low.size() if len(parts) < len(term.children()) else 0
+        if len(parts) == 2 and const(parts[0]) == 0:
+            parts.pop(0)
+        if len(parts) == 1 and z3.is_const(parts[0]):
+            return z3.ZeroExt(term.size() - parts[0].size(), parts[0]) * 2**k + const(low)
+    if z3.is_app_of(term, z3.Z3_OP_BADD):
+        return sum(map(linear, term.children()))
+    if z3.is_app_of(term, z3.Z3_OP_BMUL):
+        return functools.reduce(lambda x, y: x * y, map(linear, term.children()))
+    return term
+
+
+def const(term):
+    """The number that a term is, or None."""
+    return term.as_long() if z3.is_bv_value(term) else None
+
+
+def signed(term):
+    """The signed number that a term is, or None."""
+    return term.as_signed_long() if z3.is_bv_value(term) else None
+
+
+def part(term, low, width):
+    """Bits of a term, from `low` on."""
+    if low == 0 and term.size() == width:
+        return term
+    return simple(z3.Extract(low + width - 1, low, term))
+
+
+def join(parts):
+    """One term of the parts, the lowest first."""
+    return parts[0] if len(parts) == 1 else simple(z3.Concat(*reversed(parts)))
+
+
+def bytes_of(term):
+    return [part(term, low, 8) for low in range(0, term.size(), 8)]
+
+
+def widen(term, width):
+    """A term of this width, by zeros or by taking its low bits."""
+    if term.size() < width:
+        return simple(z3.ZeroExt(width - term.size(), term))
+    return part(term, 0, width)
+
+
+def choose(cond, yes, no):
+    return simple(z3.If(cond, yes, no))
+
+
+def top(term):
+    """Whether the highest bit is set."""
+    return z3.Extract(term.size() - 1, term.size() - 1, term) == 1
+
+
+@functools.lru_cache(maxsize=None)
+def at_point(point, name):
+    """The value of a symbol at a random point."""
+    term = SYMBOLS.term[name]
+    return term, bv(random.Random(f'{point} {name}').getrandbits(term.size()), term.size())
+
+
+class Facts:
+    """What holds for the symbols. Conditions are asked on a path, a list of conditions that can
+    hold together with the facts."""
+
+    def __init__(self):
+        self.list, self.points = [], {}
+
+    def add(self, *facts):
+        self.list.extend(facts)
+
+    def relevant(self, path, terms):
+        """The facts that share symbols with the terms, directly or through others. The others
+        can't matter, since they can hold, and have no symbol in common with these."""
+        left, chosen = self.list + list(path), []
+        names = set().union(*map(symbols, terms))
+        while True:
+            near = [t for t in left if symbols(t) & names]
+            if not near:
+                return chosen
+            chosen += near
+            left = [t for t in left if not symbols(t) & names]
+            names = names.union(*map(symbols, near))
+
+    def model(self, path, *terms):
+        """A model in which the terms hold on this path, or None. Answers are remembered."""
+        wanted = self.relevant(path, terms) + list(terms)
+        key = frozenset(term.get_id() for term in wanted)
+        if key not in ANSWERS:
+            ANSWERS[key] = self.ask(wanted), wanted
+        return ANSWERS[key][0]
+
+    def ask(self, terms):
+        COUNTS['asked'] += 1
+        solver = z3.Tactic('qfbv').solver()
+        solver.set('timeout', 1000 * SECONDS)
+        solver.add(*terms)
+        answer = solver.check()
+        if answer == z3.unknown:
+            raise Unknown(f'Z3 does not answer within {SECONDS} seconds')
+        if SECOND:
+            self.ask_second(solver, str(answer))
+        return solver.model() if answer == z3.sat else None
+
+    def ask_second(self, solver, answer):
+        text = '(set-logic QF_BV)\n' + solver.to_smt2()
+        command = [SECOND, '--lang=smt2', f'--tlimit={1000 * SECONDS}']
+        done = subprocess.run(command, input=text, capture_output=True, text=True)
+        if done.stdout.strip() != answer:
+            raise Refused(f'Z3 answers {answer}, {SECOND} {done.stdout.strip() or done.stderr}')
+        COUNTS['second'] += 1
+
+    def decide(self, path, cond):
+        """True, False, or None if both can be on this path."""
+        cond = simple(cond)
+        if z3.is_true(cond) or z3.is_false(cond):
+            return z3.is_true(cond)
+        if self.model(path, z3.Not(cond)) is None:
+            return True
+        return False if self.model(path, cond) is None else None
+
+    def holds(self, path, cond):
+        cond = simple(cond)
+        return z3.is_true(cond) or self.model(path, z3.Not(cond)) is None
+
+    def holding(self, path, conds):
+        """The numbers of those conditions that hold on this path."""
+        conds = {k: simple(cond) for k, cond in enumerate(conds)}
+        sure = {k for k, cond in conds.items() if z3.is_true(cond)}
+        left = {k: c for k, c in conds.items() if k not in sure and not z3.is_false(c)}
+        while left:
+            model = self.model(path, z3.Not(z3.And(*left.values())))
+            if model is None:
+                break
+            left = {k: c for k, c in left.items()
+                    if z3.is_true(model.eval(c, model_completion=True))}
+        return sure | set(left)
+
+    def point(self, term):
+        """The values of a term at three random points."""
+        known = self.points.get(term.get_id())
+        if known is None:
+            names = symbols(term)
+            values = [const(simple(z3.substitute(term, *[at_point(k, n) for n in names])))
+                      for k in range(3)]
+            known = self.points[term.get_id()] = term, tuple(values)
+        return known[1]
+
+    def same(self, a, b, path=()):
+        """Whether two terms are equal. On a path, random points can't tell them apart."""
+        if z3.eq(a, b):
+            return True
+        equal = simple(a == b)
+        if z3.is_true(equal) or z3.is_false(equal):
+            return z3.is_true(equal)
+        if not path and self.point(a) != self.point(b):
+            return False
+        return self.model(path, a != b) is None
+
+    def values(self, term, path, most):
+        """The values that a term can have on this path; None if there are more."""
+        found = []
+        while True:
+            model = self.model(path, *[term != v for v in found] or [term == term])
+            if model is None:
+                return found
+            found.append(model.eval(term, model_completion=True))
+            if len(found) > most:
+                return None
+
+    def unique(self, term, path):
+        """The one signed number that a term can be on this path, or None."""
+        if z3.is_bv_value(term):
+            return signed(term)
+        found = self.values(term, path, 1)
+        return signed(found[0]) if found else None

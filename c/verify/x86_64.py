@@ -1,0 +1,360 @@
+"""The meaning of the x86-64 instructions that the library uses, by Intel's manual, volume 2. Flags
+are z (zero), c (carry), s (sign), and l (less: sign unlike overflow)."""
+from functools import partial
+import z3
+from capstone import CS_ARCH_X86, CS_MODE_64
+from capstone import x86_const as X
+from machine import RETURN, Cpu, means as enter
+from terms import (Refused, Unknown, bv, choose, const, join, part, secret, simple, sym, top,
+                   widen)
+
+TABLE = {}
+means = partial(enter, TABLE)
+ALIGNED = ('movaps', 'movdqa', 'vmovaps', 'pxor', 'xorps', 'punpcklqdq', 'punpckhqdq', 'palignr')
+NOT = {'ne': 'e', 'ae': 'b', 'ns': 's', 'a': 'be', 'ge': 'l', 'g': 'le'}
+CODES = ('e', 'b', 's', 'be', 'l', 'le', *NOT)
+SHIFTS = {'shl': lambda a, n: a << n, 'shr': z3.LShR, 'sar': lambda a, n: a >> n,
+          'shlx': lambda a, n: a << n, 'shrx': z3.LShR, 'sarx': lambda a, n: a >> n}
+
+
+def registers():
+    """Register, lowest bit and width by name."""
+    names = {}
+    for n, b in enumerate('acdb'):
+        names.update({f'r{b}x': (n, 0, 64), f'e{b}x': (n, 0, 32), f'{b}x': (n, 0, 16),
+                      f'{b}l': (n, 0, 8), f'{b}h': (n, 8, 8)})
+    for n, b in enumerate(['sp', 'bp', 'si', 'di'], 4):
+        names.update({f'r{b}': (n, 0, 64), f'e{b}': (n, 0, 32), b: (n, 0, 16), f'{b}l': (n, 0, 8)})
+    for n in range(8, 16):
+        names.update({f'r{n}': (n, 0, 64), f'r{n}d': (n, 0, 32), f'r{n}w': (n, 0, 16),
+                      f'r{n}b': (n, 0, 8)})
+    for n in range(16):
+        names.update({f'xmm{n}': (f'v{n}', 0, 128), f'ymm{n}': (f'v{n}', 0, 256)})
+    return names
+
+
+NAMES = registers()
+FULL = {where[0]: name for name, where in NAMES.items() if where[2] in (64, 256)}
+
+
+class X86(Cpu):
+    NAME = 'x86-64'
+    DECODER = CS_ARCH_X86, CS_MODE_64
+    ARGS, RESULTS, SAVED = (7, 6, 2, 1, 8, 9), (0, 2), (3, 5, 12, 13, 14, 15)
+    STACK, RED_ZONE, ABOVE, TABLE = 4, 128, 8, TABLE
+
+    def registers(self):
+        return {n: secret(f'{name} before the call', 256 if name[0] == 'y' else 64)
+                for n, name in FULL.items()}
+
+    def enter(self):
+        self.memory.put('stack', 0, sym('return'))
+
+    def check_return(self):
+        super().check_return()
+        if not z3.is_true(simple(self.r[4] == self.sp + 8)):
+            raise Refused('the stack pointer is not where the caller left it')
+
+    def struct_at(self, place):
+        """The arguments by which a function is told where its struct goes, and its result."""
+        return [place], place
+
+    def address(self, i, op):
+        m, wide = op.mem, {NAMES[i.reg_name(n)][2] for n in (op.mem.base, op.mem.index)
+                           if n and i.reg_name(n) != 'rip'}
+        if wide - {64} or m.segment:
+            raise Unknown(f'{i.address:#x}: unknown address in {i.mnemonic} {i.text}')
+        a = bv(m.disp % 2**64)
+        if m.base:
+            name = i.reg_name(m.base)
+            a = a + (bv(i.address + i.size) if name == 'rip' else self.r[NAMES[name][0]])
+        if m.index:
+            a = a + self.r[NAMES[i.reg_name(m.index)][0]] * m.scale
+        return simple(a)
+
+    def aligned_address(self, i, op):
+        address = self.address(i, op)
+        if i.mnemonic in ALIGNED:
+            self.check_aligned(address, op.size)
+        return address
+
+    def get(self, i, k, width=None):
+        """Operand k, of this width or its own."""
+        op = i.ops[k]
+        if op.type == X.X86_OP_IMM:
+            return bv(op.imm % 2**(width or 64), width or 64)
+        if op.type == X.X86_OP_MEM:
+            return self.load(self.aligned_address(i, op), (width or 8 * op.size) // 8)
+        n, low, size = NAMES[i.reg_name(op.reg)]
+        return part(self.r[n], low, min(size, width or size))
+
+    def put(self, i, k, value):
+        op, value = i.ops[k], simple(value)
+        if op.type == X.X86_OP_MEM:
+            return self.store(self.aligned_address(i, op), value)
+        n, low, size = NAMES[i.reg_name(op.reg)]
+        whole = self.r[n].size()
+        if value.size() != size:
+            raise Unknown(f'{i.address:#x}: unknown operands of {i.mnemonic} {i.text}')
+        if size == 32 or size == 128 and i.mnemonic[0] == 'v':
+            value = widen(value, whole)
+        elif size < whole:
+            value = join([*([part(self.r[n], 0, low)] if low else []), value,
+                          part(self.r[n], low + size, whole - low - size)])
+        self.r[n] = self.in_length(value)
+
+    def both(self, i, first=0):
+        return [self.get(i, k, 8 * i.ops[0].size) for k in (first, first + 1)]
+
+    def cond(self, code):
+        z, c = (lambda name=name: self.flag(name) for name in 'zc')
+        found = {'e': z, 'b': c, 's': lambda: self.flag('s'), 'be': lambda: z3.Or(c(), z()),
+                 'l': lambda: self.flag('l'), 'le': lambda: z3.Or(self.flag('l'), z()),
+                 }[NOT.get(code, code)]()
+        return z3.Not(found) if code in NOT else found
+
+    def set_flags(self, result, **flags):
+        """Zero and sign by the result, the others as given; without these they are not defined."""
+        self.flags = {'z': lambda: result == 0, 's': lambda: top(result), **flags}
+
+
+@means('mov', 'movabs', 'movups', 'movdqu', 'movaps', 'movdqa', 'vmovups', 'vmovdqu', 'vmovaps')
+def move(c, i):
+    c.put(i, 0, c.get(i, 1, 8 * i.ops[0].size))
+
+
+@means('movzx')
+def move_wider(c, i):
+    c.put(i, 0, widen(c.get(i, 1), 8 * i.ops[0].size))
+
+
+@means('lea')
+def address_of(c, i):
+    c.put(i, 0, part(c.address(i, i.ops[1]), 0, 8 * i.ops[0].size))
+
+
+@means('xor', 'and', 'or', 'test', 'andn')
+def logic(c, i):
+    a, b = c.both(i, 1 if i.mnemonic == 'andn' else 0)
+    result = simple({'xor': a ^ b, 'or': a | b, 'andn': ~a & b}.get(i.mnemonic, a & b))
+    if i.mnemonic != 'test':
+        c.put(i, 0, result)
+    c.set_flags(result, c=lambda: z3.BoolVal(False), l=lambda: top(result))
+
+
+@means('add', 'adc')
+def add(c, i):
+    a, b = c.both(i)
+    carry = z3.BoolVal(False) if i.mnemonic == 'add' else c.flag('c')
+    result = simple(a + b + z3.If(carry, bv(1, a.size()), bv(0, a.size())))
+    c.put(i, 0, result)
+    c.set_flags(result, c=lambda: z3.If(carry, z3.ULE(result, a), z3.ULT(result, a)))
+
+
+@means('sub', 'cmp')
+def subtract(c, i):
+    a, b = c.both(i)
+    result = simple(a - b)
+    if i.mnemonic == 'sub':
+        c.put(i, 0, result)
+    c.set_flags(result, c=lambda: z3.ULT(a, b), l=lambda: a < b, z=lambda: a == b)
+
+
+@means('inc', 'dec')
+def step_by_one(c, i):
+    result = simple(c.get(i, 0) + (1 if i.mnemonic == 'inc' else -1))
+    c.put(i, 0, result)
+    c.set_flags(result, **{k: f for k, f in c.flags.items() if k == 'c'})
+
+
+@means('neg')
+def negate(c, i):
+    a = c.get(i, 0)
+    c.put(i, 0, -a)
+    c.set_flags(simple(-a), c=lambda: a != 0)
+
+
+@means('not')
+def invert(c, i):
+    c.put(i, 0, ~c.get(i, 0))
+
+
+def count(c, i, k, width):
+    """The count of a shift, modulo the width, or modulo 32 if the word is narrower."""
+    n = c.get(i, k, 8) if len(i.ops) > k else bv(1, 8)
+    n = simple(widen(n, width) & (63 if width == 64 else 31))
+    if const(n) is None and width < 32 or const(n) is not None and const(n) >= width:
+        raise Unknown(f'{i.address:#x}: unknown shift: {i.mnemonic} {i.text}')
+    return n
+
+
+@means('shl', 'shr', 'sar')
+def shift(c, i):
+    a = c.get(i, 0)
+    n, do = count(c, i, 1, a.size()), SHIFTS[i.mnemonic]
+    result = simple(do(a, n))
+    c.put(i, 0, result)
+    if const(n) is None:
+        c.flags = {}
+    elif const(n):
+        last = a.size() - const(n) if i.mnemonic == 'shl' else const(n) - 1
+        c.set_flags(result, c=lambda: part(a, last, 1) == 1)
+
+
+@means('shlx', 'shrx', 'sarx')
+def shift_by_register(c, i):
+    a = c.get(i, 1)
+    c.put(i, 0, SHIFTS[i.mnemonic](a, count(c, i, 2, a.size())))
+
+
+@means('shld')
+def shift_double(c, i):
+    a, b = c.get(i, 0), c.get(i, 1)
+    n = count(c, i, 2, a.size())
+    c.put(i, 0, (a << n) | z3.If(n == 0, bv(0, a.size()), z3.LShR(b, a.size() - n)))
+    c.flags = {}
+
+
+@means('bt', 'bts')
+def bit_test(c, i):
+    if i.ops[0].type != X.X86_OP_REG:
+        raise Unknown(f'{i.address:#x}: unknown operands of {i.mnemonic} {i.text}')
+    a = c.get(i, 0)
+    n = simple(c.get(i, 1, a.size()) & (a.size() - 1))
+    if i.mnemonic == 'bts':
+        c.put(i, 0, a | (bv(1, a.size()) << n))
+    c.flags = {'c': lambda: z3.Extract(0, 0, z3.LShR(a, n)) == 1,
+               **{k: f for k, f in c.flags.items() if k == 'z'}}
+
+
+@means('bsr', 'lzcnt')
+def highest_bit(c, i):
+    a, scan = c.get(i, 1), i.mnemonic == 'bsr'
+    w = a.size()
+    result = c.any(w) if scan else bv(w, w)
+    for k in range(w):
+        result = z3.If(z3.Extract(k, k, a) == 1, bv(k if scan else w - 1 - k, w), result)
+    c.put(i, 0, result)
+    c.flags = {'z': lambda: a == 0} if scan else {'z': lambda: top(a), 'c': lambda: a == 0}
+
+
+@means('mul')
+def multiply(c, i):
+    if i.ops[0].size != 8:
+        raise Unknown(f'{i.address:#x}: unknown operands of {i.mnemonic} {i.text}')
+    c.r[0], c.r[2] = c.multiply(c.r[0], c.get(i, 0), (0, 1))
+    c.flags = {}
+
+
+@means('mulx')
+def multiply_without_flags(c, i):
+    low, high = c.multiply(c.r[2], c.get(i, 2), (0, 1))
+    c.put(i, 1, low)
+    c.put(i, 0, high)
+
+
+@means('push')
+def push(c, i):
+    value = c.get(i, 0, 64)
+    c.r[4] = simple(c.r[4] - 8)
+    c.store(c.r[4], value)
+
+
+@means('pop')
+def pop(c, i):
+    value = c.load(c.r[4], 8)
+    c.r[4] = simple(c.r[4] + 8)
+    c.put(i, 0, value)
+
+
+@means('ret')
+def give_back(c, i):
+    to = c.load(c.r[4], 8)
+    c.r[4] = simple(c.r[4] + 8)
+    if i.ops or not z3.eq(to, sym('return')):
+        raise Refused(f'a return to {to}, which is not the caller')
+    return RETURN
+
+
+@means('jmp')
+def jump(c, i):
+    if i.ops[0].type != X.X86_OP_IMM:
+        raise Refused('a jump to no fixed place')
+    return i.ops[0].imm
+
+
+@means(*(f'j{code}' for code in CODES))
+def branch(c, i):
+    return c.cond(i.mnemonic[1:]), i.ops[0].imm, i.address + i.size
+
+
+@means(*(f'set{code}' for code in CODES))
+def set_if(c, i):
+    c.put(i, 0, choose(c.known(c.cond(i.mnemonic[3:])), bv(1, 8), bv(0, 8)))
+
+
+@means(*(f'cmov{code}' for code in CODES))
+def move_if(c, i):
+    c.put(i, 0, choose(c.known(c.cond(i.mnemonic[4:])), c.get(i, 1), c.get(i, 0)))
+
+
+@means('nop', 'endbr64')
+def nothing(c, i):
+    pass
+
+
+@means('movq', 'vmovq')
+def move_quad(c, i):
+    value = c.get(i, 1, 64)
+    to_vector = i.ops[0].type == X.X86_OP_REG and i.ops[0].size == 16
+    c.put(i, 0, widen(value, 128) if to_vector else value)
+
+
+def sources(i):
+    """Both operands that a vector instruction reads: with three operands, not the first."""
+    return (1, 2) if i.mnemonic[0] == 'v' else (0, 1)
+
+
+@means('pxor', 'xorps', 'vpxor', 'vxorps')
+def xor_vectors(c, i):
+    a, b = (c.get(i, k, 8 * i.ops[0].size) for k in sources(i))
+    c.put(i, 0, a ^ b)
+
+
+@means('punpcklqdq', 'punpckhqdq', 'vpunpcklqdq', 'vpunpckhqdq', 'vunpckhpd', 'vmovlhps')
+def unpack(c, i):
+    if i.ops[0].size != 16:
+        raise Unknown(f'{i.address:#x}: unknown operands of {i.mnemonic} {i.text}')
+    low = 64 if 'ckh' in i.mnemonic else 0
+    c.put(i, 0, join([part(c.get(i, k, 128), low, 64) for k in sources(i)]))
+
+
+@means('palignr')
+def align(c, i):
+    if i.ops[2].imm > 16:
+        raise Unknown(f'{i.address:#x}: unknown operands of {i.mnemonic} {i.text}')
+    c.put(i, 0, part(join([c.get(i, 1), c.get(i, 0)]), 8 * i.ops[2].imm, 128))
+
+
+@means('vzeroupper')
+def zero_upper(c, i):
+    for n in range(16):
+        c.r[f'v{n}'] = widen(part(c.r[f'v{n}'], 0, 128), 256)
+
+
+@means('vpermq', 'vpermpd')
+def permute(c, i):
+    a = c.get(i, 1)
+    c.put(i, 0, join([part(a, 64 * (i.ops[2].imm >> 2 * k & 3), 64) for k in range(4)]))
+
+
+@means('vblendps')
+def blend(c, i):
+    a, b = c.get(i, 1), c.get(i, 2)
+    c.put(i, 0, join([part(b if i.ops[3].imm >> k & 1 else a, 32 * k, 32)
+                      for k in range(a.size() // 32)]))
+
+
+@means('vbroadcastsd')
+def broadcast(c, i):
+    c.put(i, 0, join([c.get(i, 1, 64)] * 4))
