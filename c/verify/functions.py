@@ -5,10 +5,9 @@ import loops
 from calls import (NONE, Call, accepted, check, check_bytes, check_generator, check_state,
                    generator, low_byte, named, padded_content, some_state)
 from definition import State, is_text, komi, next_pair, padded_words, start, words_of
-from machine import Seen
 from terms import bv, bytes_of, join, secret, sym
 
-GRAIN = loops.GRAIN
+GRAIN = 128
 
 
 def hash_of(library, version, length):
@@ -163,41 +162,32 @@ def unpad(library, version, count, last):
     return end
 
 
-def hash_many(library, version, r):
-    return loops.Hash(library, version, r).prove()
+def hash_many(library, version):
+    return loops.Hash(library, version).prove()
 
 
 def write_many(library, version, fill):
     return loops.Write(library, version, fill).prove()
 
 
-def rand_fill_many(library, version, r):
-    return loops.Fill(library, version, r).prove()
+def rand_fill_many(library, version):
+    return loops.Fill(library, version).prove()
 
 
-def pad_many(library, version, r):
-    return loops.Pad(library, version, r).prove()
+def pad_many(library, version):
+    return loops.Pad(library, version).prove()
 
 
-def unpad_many(library, version, r):
-    seen = Seen()
-    for last in LAST_BYTES:
-        call = loops.Unpad(library, version, r, last)
-        call.seen = seen
-        call.prove()
-    return call
+def unpad_many(library, version, last):
+    return loops.Unpad(library, version, last).prove()
 
 
-def each(numbers):
-    return [(k,) for k in numbers]
-
-
-BYTES, WORDS = each(range(GRAIN)), each(range(GRAIN // 8))
+BYTES = each(range(GRAIN))
 FILLS = each(range(64))
 # By function: the multiplications of the definition, whether jumps may depend on contents, and its
 # cases by how they are checked. Most cases are one length, remainder or number of pending bytes.
 FUNCTIONS = {
-    '': ('3+4(n/64)+(n%64)/16', False, {hash_of: BYTES, hash_many: BYTES}),
+    '': ('3+4(n/64)+(n%64)/16', False, {hash_of: FILLS, hash_many: [()]}),
     '_start': ('1', False, {start_of: [()]}),
     '_write': ('4((f+n)/64)', False, {
         write_many: FILLS, write_within: [(f, n) for f in range(64) for n in range(64 - f)]}),
@@ -209,8 +199,8 @@ FUNCTIONS = {
         rand_init: [('_rand_init_with_extra_seed', 2, 4)]}),
     '_rand_init_words': ('0', False, {rand_init: [('_rand_init_words', 2, 0)]}),
     '_rand_next': ('1', False, {rand_next: [()]}),
-    '_rand_fill': ('(n+7)/8', False, {rand_fill: BYTES, rand_fill_many: BYTES}),
-    '_pad': ('0', False, {pad: BYTES, pad_many: BYTES}),
-    '_unpad': ('0', True, {unpad_many: WORDS, unpad: [(0, None), *(
-        (n, last) for n in range(1, GRAIN // 8) for last in LAST_BYTES)]}),
+    '_rand_fill': ('(n+7)/8', False, {rand_fill: BYTES, rand_fill_many: [()]}),
+    '_pad': ('0', False, {pad: BYTES, pad_many: [()]}),
+    '_unpad': ('0', True, {unpad_many: each(LAST_BYTES), unpad: [(0, None), *(
+        (n, last) for n in range(1, GRAIN // 8 + 1) for last in LAST_BYTES)]}),
 }
