@@ -6,7 +6,7 @@ use Rattle.std.proofs.Common.{get_or, take, drop, refl, ap, arith, rules, ◌∙
 use Rattle.std.proofs.lemmas.List.{append_assoc, append-nil, take_more, drop_more, length-append}
 use Rattle.std.proofs.lemmas.List.{take_all}
 use Rattle.std.proofs.Math.Seq.{set-append_seam}
-use Rattle.komihash.specs.Calls.{onward, onward_products}
+use Rattle.komihash.specs.Calls.{onward_products}
 use Rattle.komihash.specs.Stream.{absorb}
 use Rattle.komihash.proofs.CallLists.{goes_on, onward-message}
 use Rattle.komihash.proofs.Streams.{absorb-nothing, absorbed}
