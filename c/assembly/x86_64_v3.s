@@ -828,12 +828,11 @@
 	vmovups	-16(%rsi,%rax), %xmm0
 	vmovups	%xmm0, -16(%rdi,%rax)
 .LBB5_36:
-	movq	-8(%rsi,%rdx), %rax
-	shrq	%rax
-	leal	(,%rdx,8), %ecx
-	andb	$56, %cl
-	notb	%cl
-	shrxq	%rcx, %rax, %rax
+	movl	%edx, %eax
+	notl	%eax
+	shll	$3, %eax
+	shrxq	%rax, -8(%rsi,%rdx), %rax
+	shrq	$8, %rax
 	movl	%edx, %ecx
 	andl	$56, %ecx
 	movq	%rax, (%rdi,%rcx)
@@ -1664,12 +1663,11 @@
 	vmovups	-16(%rsi,%rax), %xmm0
 	vmovups	%xmm0, -16(%rdi,%rax)
 .LBB11_37:
-	movq	-8(%rsi,%rbp), %rax
-	shrq	%rax
-	leal	(,%rbp,8), %ecx
-	andb	$56, %cl
-	notb	%cl
-	shrxq	%rcx, %rax, %rax
+	movl	%ebp, %eax
+	notl	%eax
+	shll	$3, %eax
+	shrxq	%rax, -8(%rsi,%rbp), %rax
+	shrq	$8, %rax
 	movl	%ebp, %ecx
 	andl	$56, %ecx
 	movq	%rax, (%rdi,%rcx)
@@ -2340,12 +2338,11 @@ komihash_v4_resume:
 	movq	%rsi, -72(%rsp)
 	xorl	%esi, %esi
 .LBB20_22:
-	movq	-76(%r14,%rdx), %rdx
-	shrq	%rdx
-	leal	(,%rbx,8), %r14d
-	andb	$56, %r14b
-	notb	%r14b
-	shrxq	%r14, %rdx, %rdx
+	movl	%ebx, %r15d
+	notl	%r15d
+	shll	$3, %r15d
+	shrxq	%r15, -76(%r14,%rdx), %rdx
+	shrq	$8, %rdx
 	movl	%ebx, %r14d
 	andl	$56, %r14d
 	movq	%rdx, -80(%rsp,%r14)
@@ -2901,12 +2898,11 @@ komihash_v4_write:
 	vmovups	-16(%rsi,%r8), %xmm0
 	vmovups	%xmm0, -16(%rdi,%r9)
 .LBB24_14:
-	movq	-8(%rsi,%rdx), %rax
-	shrq	%rax
-	leal	(,%rcx,8), %esi
-	andb	$56, %sil
-	notb	%sil
-	shrxq	%rsi, %rax, %rax
+	movl	%ecx, %eax
+	notl	%eax
+	shll	$3, %eax
+	shrxq	%rax, -8(%rsi,%rdx), %rax
+	shrq	$8, %rax
 	andl	$56, %ecx
 	movq	%rax, (%rdi,%rcx)
 	popq	%rbx
@@ -3562,12 +3558,11 @@ komihash_v5_resume:
 	movq	%rsi, -64(%rsp)
 	xorl	%esi, %esi
 .LBB33_22:
-	movq	-76(%rbx,%rdx), %rdx
-	shrq	%rdx
-	leal	(,%r11,8), %ebx
-	andb	$56, %bl
-	notb	%bl
-	shrxq	%rbx, %rdx, %rdx
+	movl	%r11d, %r14d
+	notl	%r14d
+	shll	$3, %r14d
+	shrxq	%r14, -76(%rbx,%rdx), %rdx
+	shrq	$8, %rdx
 	movl	%r11d, %ebx
 	andl	$56, %ebx
 	movq	%rdx, -72(%rsp,%rbx)
@@ -4112,12 +4107,11 @@ komihash_v5_write:
 	vmovups	-16(%rsi,%r8), %xmm0
 	vmovups	%xmm0, -16(%rdi,%r9)
 .LBB37_14:
-	movq	-8(%rsi,%rdx), %rax
-	shrq	%rax
-	leal	(,%rcx,8), %esi
-	andb	$56, %sil
-	notb	%sil
-	shrxq	%rsi, %rax, %rax
+	movl	%ecx, %eax
+	notl	%eax
+	shll	$3, %eax
+	shrxq	%rax, -8(%rsi,%rdx), %rax
+	shrq	$8, %rax
 	andl	$56, %ecx
 	movq	%rax, (%rdi,%rcx)
 	popq	%rbx

@@ -259,7 +259,8 @@ fn append_eight_or_more(words: &mut [u64; 8], fill: usize, bytes: &[u8])
     append_whole_words(words, fill, bytes);
     let end = fill + bytes.len();
     if end < 64 {
-        words[end / 8] = word_at(bytes, bytes.len() - 8) >> 8 >> (56 - 8 * (end % 8));
+        // By 8 last: LLVM would read seven bytes in three pieces if this shift came first.
+        words[end / 8] = word_at(bytes, bytes.len() - 8) >> (56 - 8 * (end % 8)) >> 8;
     }
 }
 
