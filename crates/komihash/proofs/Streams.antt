@@ -273,6 +273,8 @@ unfolding HasAbsorbed
 absorbed v old new bytes is = record {
   state = is;
   message = λ seed m before. rw (is, before) (sym (absorb-append v (start seed) m bytes));
+  joined = λ seed m all before same.
+      rw (is, before, ← same) (sym (absorb-append v (start seed) m bytes));
 }
 
 pub answered : (v : ℕ) (now : State) (result : ℕ) → result ≡ answer v now → Answered v now result

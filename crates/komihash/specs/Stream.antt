@@ -87,6 +87,9 @@ pub record Absorbed (v : ℕ) (old new : State) (bytes : List ℕ) : Type 0 wher
   -- the message is then longer by these bytes
   pub message : (seed : ℕ) (m : List ℕ) → HasAbsorbed v seed old m
       → HasAbsorbed v seed new (m ++ bytes)
+  -- the same, for a message in another form: the search knows numbers' bytes as one written list
+  pub joined : (seed : ℕ) (m all : List ℕ) → HasAbsorbed v seed old m → m ++ bytes ≡ all
+      → HasAbsorbed v seed new all
 
 -- a stream answers: with the hash of the message that it has absorbed, if there is one
 pub record Answered (v : ℕ) (now : State) (result : ℕ) : Type 0 where
