@@ -37,7 +37,7 @@ pub fn write_text(stream: &mut StreamedKomihash, text: &str)
     stream.write(text.as_bytes());
 }
 
-/// Shows that no two texts, each followed by other bytes, have the same bytes.
+/// Shows that the bytes of a text determine it and what follows.
 #[tactic(auto, using(crate::proofs::Prefixes::text_ends))]
 pub fn texts_have_ends()
     ensures { (x y s t : List ℕ) → length x < 2 ^ 64 → length y < 2 ^ 64
