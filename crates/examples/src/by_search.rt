@@ -36,6 +36,24 @@ pub fn of_four(a: u64, b: u64, c: u64, d: u64) -> u64
     stream.finish()
 }
 
+/// Hashes eight short numbers.
+pub fn of_eight(a: u16, b: u16, c: u16, d: u16, e: u16, f: u16, g: u16, h: u16) -> u64
+    ensures { result ≡ komi 5 0 (to_le_bytes w16 a ++ to_le_bytes w16 b ++ to_le_bytes w16 c
+        ++ to_le_bytes w16 d ++ to_le_bytes w16 e ++ to_le_bytes w16 f ++ to_le_bytes w16 g
+        ++ to_le_bytes w16 h) }
+{
+    let mut stream = StreamedKomihash::new();
+    stream.write(&a.to_le_bytes());
+    stream.write(&b.to_le_bytes());
+    stream.write(&c.to_le_bytes());
+    stream.write(&d.to_le_bytes());
+    stream.write(&e.to_le_bytes());
+    stream.write(&f.to_le_bytes());
+    stream.write(&g.to_le_bytes());
+    stream.write(&h.to_le_bytes());
+    stream.finish()
+}
+
 /// Hashes three numbers of 32 bits.
 pub fn of_three_short(a: u32, b: u32, c: u32) -> u64
     ensures { result ≡ komi 5 0 (to_le_bytes w32 a ++ to_le_bytes w32 b ++ to_le_bytes w32 c) }
