@@ -134,7 +134,8 @@ def pad(library, version, length):
     place, message = call.message(length)
     room, words = sym('room'), padded_words(version, message)
     call.facts.add(z3.ULT(room, 2**60))
-    out = call.aligned(call.array('out', 8 * room, high=8 * len(words), writable=True))
+    out = call.aligned(call.array('out', 8 * room, high=8 * len(words), writable=True,
+                                  apart_from=[(place, bv(length))]))
     for end in call.run(place, bv(length), out, room):
         enough = accepted(end, z3.UGE(room, len(words)))
         check(end, 'number', end.result(), bv(len(words) if enough else 0))
@@ -153,7 +154,7 @@ def unpad(library, version, count, last):
     if count:
         content, length, fits = padded_content(call, named('words', range(8 * count)), last)
     room, words = sym('room'), call.aligned(call.array('words', 8 * count, content))
-    out = call.array('out', room, high=length, writable=True)
+    out = call.array('out', room, high=length, writable=True, apart_from=[(words, bv(8 * count))])
     for end in call.run(words, bv(count), out, room):
         found = accepted(end, z3.And(fits, z3.UGE(room, 8 * count)))
         check(end, 'length', end.result(), bv(length) if found else NONE)
@@ -162,8 +163,8 @@ def unpad(library, version, count, last):
     return end
 
 
-def hash_many(library, version):
-    return loops.Hash(library, version).prove()
+def hash_many(library, version, low):
+    return loops.Hash(library, version, low).prove()
 
 
 def write_many(library, version, fill):
@@ -187,7 +188,7 @@ FILLS = each(range(64))
 # By function: the multiplications of the definition, whether jumps may depend on contents, and its
 # cases by how they are checked. Most cases are one length, remainder or number of pending bytes.
 FUNCTIONS = {
-    '': ('3+4(n/64)+(n%64)/16', False, {hash_of: FILLS, hash_many: [()]}),
+    '': ('3+4(n/64)+(n%64)/16', False, {hash_of: FILLS, hash_many: each(range(8))}),
     '_start': ('1', False, {start_of: [()]}),
     '_write': ('4((f+n)/64)', False, {
         write_many: FILLS, write_within: [(f, n) for f in range(64) for n in range(64 - f)]}),

@@ -91,7 +91,7 @@ class Induction:
     """One kind of call. Bytes are taken in units of UNIT, of which the definition takes SIZE bytes
     at once. `stable` are the symbols that mean the same throughout."""
     NAME, UNIT, SIZE, GRAIN = '', 8, 8, 128
-    LOW = 0
+    LOW = low = 0
     FIXED = {'bytes', 'words', 'out', 'rand', 'room', 'padding byte',
              *(f'end[{k}]' for k in range(-136, 0))}
 
@@ -108,13 +108,15 @@ class Induction:
         self.seen.order.clear()
         self.stable = {'sp', 'return', str(self.r), *self.FIXED} | {
             str(term) for term in self.call.cpu.before.values()}
+        if 'bytes' in self.FIXED:
+            self.stable.add(str(self.q))
         return self.call
 
     def many(self, least=1, r=None):
-        """GRAIN * q + r, for any r unless it is given, whose LOW bits are 0."""
+        """GRAIN * q + r, for any r with these LOW bits unless it is given."""
         self.call.facts.add(z3.UGE(self.q, least))
-        low = z3.Concat(self.r, bv(0, self.LOW)) if self.LOW else self.r
-        return simple(z3.Concat(self.q, low if r is None else bv(r, 64 - self.q.size())))
+        some = z3.Concat(self.r, bv(self.low, self.LOW)) if self.LOW else self.r
+        return simple(z3.Concat(self.q, some if r is None else bv(r, 64 - self.q.size())))
 
     def start(self, least=1, sure=False, **more):
         """A call before its first instruction, which is accepted if that is to be sure."""
@@ -156,7 +158,7 @@ class Induction:
         """The places to which an accepted call of GRAIN * q + 40 bytes comes. What it does after
         the loop is not checked here."""
         cpu = self.start(1, True, front=8 * 128)
-        cpu.facts.add(self.length + self.pending == self.GRAIN * q + 40)
+        cpu.facts.add(self.length + self.pending == self.GRAIN * q + 40 + self.low)
         try:
             list(self.run(cpu))
         except Refused:
@@ -195,11 +197,12 @@ class Induction:
     def conditions(self, world):
         """Conditions, some of which hold at an arrival; the first after the last turn."""
         left, rest = self.left(world), self.rest()
-        return [left == rest, left & (min(self.step, self.GRAIN) - 1) == rest,
-                z3.ULE(world.units, z3.LShR(world.length, self.UNIT.bit_length() - 1)),
-                *(z3.UGE(left, 2**k) for k in range(3, 8)),
-                *(z3.Extract(k, k, left) == bit for k in range(6, 8) for bit in (0, 1)),
-                *(z3.Extract(k, k, world.units) == 0 for k in range(5))]
+        log = int.bit_length
+        return [left == rest, left != 0, left & (min(self.step, self.GRAIN) - 1) == rest,
+                z3.ULE(world.units, z3.LShR(world.length, log(self.UNIT) - 1)),
+                z3.UGE(left, self.step),
+                *(z3.Extract(k, k, left) == 0 for k in range(log(self.GRAIN) - 1, log(self.step) - 1)),
+                *(z3.Extract(k, k, world.units) == 0 for k in range(log(self.step // self.UNIT) - 1))]
 
     def rest(self):
         """How many bytes are left after the last turn."""
@@ -230,6 +233,8 @@ class Induction:
             return False
         if pc not in self.forms:
             before, old = self.early[pc]
+            if z3.eq(old.units, world.units):
+                return False
             self.forms[pc] = {w: form_of(end.facts, self.stable, (before[w], old), (term, world))
                               for w, term in words.items() if w in before}
         return self.confirm(end, self.forms[pc], words, world) and fits
@@ -271,15 +276,17 @@ class Induction:
     def leave_all(self):
         if 0 not in self.holding.get(self.cuts[1], ()):
             raise Refused('after the last turn, more bytes or fewer are left than the rest')
-        for r in range(0, self.GRAIN, 2**self.LOW):
+        for r in range(self.low, self.GRAIN, 2**self.LOW):
             self.leave(r)
 
     def leave(self, r):
-        """From the end of the loop to the return, with r fixed."""
+        """From the end of the loop to the return, with r fixed, if it is reached with this r."""
         call, rest = self.new_call(), r % min(self.step, self.GRAIN)
         self.length, self.units = self.after_turns(r, rest)
-        words = self.finish(rest)
-        self.make(self.cuts[1], World(words, self.units, self.base, self.length), r)
+        world = World(self.finish(rest), self.units, self.base, self.length)
+        if any(z3.is_false(simple(self.conditions(world)[k])) for k in self.holding[self.cuts[1]]):
+            return
+        self.make(self.cuts[1], world, r)
         for end, _ in call.cpu.run(self.cuts[1]):
             end.check_return()
             self.check_end(end)
@@ -298,9 +305,12 @@ class Induction:
 
 
 class Hash(Induction):
-    UNIT, SIZE, GRAIN = 1, 64, 64
+    """Messages whose length has these low bits, since some code comes before the blocks that needs
+    to know where the last word begins."""
+    UNIT, SIZE, GRAIN, LOW = 1, 64, 64, 3
 
-    def enter(self, least, front=256):
+    def enter(self, least, low, front=256):
+        self.low = low
         call, seed = self.new_call(), secret('seed')
         self.length, content = self.many(least), named('front', range(front))
         self.base = call.place('bytes', self.length)
@@ -349,7 +359,7 @@ class Fill(Induction):
         call = self.new_call()
         self.length = self.many(least)
         place, pair = generator(call)
-        self.base = call.place('out', self.length, writable=True)
+        self.base = call.place('out', self.length)
         self.follow(pair, front // 8)
         call.memory.add(Array('out', self.base, 0, front, True, self.length))
         return place, self.base, self.length
@@ -378,7 +388,7 @@ class Fill(Induction):
     def go_on(self, size):
         """The pair, when so many bytes come."""
         _, pair = generator(self.call)
-        self.base = self.call.place('out', self.length, writable=True)
+        self.base = self.call.place('out', self.length)
         self.follow(pair, (size + 7) // 8)
         place, limit = simple(self.base + 8 * self.units), simple(self.length - 8 * self.units)
         self.call.memory.add(Array('out', place, 0, size, True, limit))
@@ -454,7 +464,8 @@ class Pad(Copy):
         self.result = simple(z3.LShR(self.length, 3) + 1)
         self.call.facts.add(z3.ULT(sym('room'), 2**60))
         self.base = self.call.place('bytes', self.length)
-        self.call.aligned(self.call.place('out', 8 * sym('room'), writable=True))
+        apart = [(self.base, self.length)]
+        self.call.aligned(self.call.place('out', 8 * sym('room'), apart))
         return named('end', range(-self.GRAIN, 0))
 
     def args(self):
@@ -480,7 +491,7 @@ class Unpad(Copy):
         self.result = simple(self.length + self.more)
         self.call.facts.add(z3.ULT(self.length, 2**63 - 8))
         self.base = self.call.aligned(self.call.place('words', self.size))
-        self.call.place('out', sym('room'), writable=True)
+        self.call.place('out', sym('room'), [(self.base, self.size)])
         return content
 
     def args(self):
