@@ -34,7 +34,7 @@ class Arm(Cpu):
     DECODER = CS_ARCH_ARM64, CS_MODE_ARM
     ARGS, RESULTS = tuple(str(n) for n in range(8)), ('0', '1')
     SAVED = tuple(str(n) for n in range(19, 30)) + (31,)
-    STACK, RED_ZONE, ABOVE, TABLE = 31, 0, 0, TABLE
+    STACK, ABOVE, TABLE = 31, 0, TABLE
 
     def registers(self):
         words = {str(n): secret(f'x{n} before the call') for n in range(31)}

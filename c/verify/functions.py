@@ -183,6 +183,10 @@ def unpad_many(library, version, last):
     return loops.Unpad(library, version, last).prove()
 
 
+def each(numbers):
+    return [(k,) for k in numbers]
+
+
 BYTES = each(range(GRAIN))
 FILLS = each(range(64))
 # By function: the multiplications of the definition, whether jumps may depend on contents, and its

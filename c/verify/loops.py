@@ -195,7 +195,7 @@ class Induction:
         return simple(world.length - self.UNIT * world.units)
 
     def conditions(self, world):
-        """Conditions, some of which hold at an arrival; the first after the last turn."""
+        """Conditions, some of which hold at an arrival; after the last turn, 0 and 3 must."""
         left, rest = self.left(world), self.rest()
         log = int.bit_length
         return [left == rest, left != 0, left & (min(self.step, self.GRAIN) - 1) == rest,
@@ -228,18 +228,20 @@ class Induction:
         holding = end.facts.holding(end.path, self.conditions(world))
         fits = self.holding.setdefault(pc, holding) <= holding
         self.holding[pc] = self.holding[pc] & holding
-        if pc not in self.early:
-            self.early[pc] = words, world
-            return False
-        if pc not in self.forms:
-            before, old = self.early[pc]
-            if z3.eq(old.units, world.units):
-                return False
+        if pc in self.forms:
+            return self.confirm(end, pc, words, world) and fits
+        seen = self.early.setdefault(pc, [])
+        seen.append((end, words, world))
+        if not z3.eq(seen[0][2].units, world.units):
+            before, old = seen[0][1:]
             self.forms[pc] = {w: form_of(end.facts, self.stable, (before[w], old), (term, world))
                               for w, term in words.items() if w in before}
-        return self.confirm(end, self.forms[pc], words, world) and fits
+            for one, its_words, its_world in seen:
+                self.confirm(one, pc, its_words, its_world)
+        return False
 
-    def confirm(self, end, forms, words, world):
+    def confirm(self, end, pc, words, world):
+        forms = self.forms[pc]
         known = [w for w, form in forms.items() if form and w in words]
         holding = end.facts.holding(
             end.path, [words[w] == world.value(forms[w]) for w in known])
@@ -274,7 +276,7 @@ class Induction:
         return self.arrive_all(self.run(call.cpu, self.cuts[0]))
 
     def leave_all(self):
-        if 0 not in self.holding.get(self.cuts[1], ()):
+        if not {0, 3} <= self.holding.get(self.cuts[1], set()):
             raise Refused('after the last turn, more bytes or fewer are left than the rest')
         for r in range(self.low, self.GRAIN, 2**self.LOW):
             self.leave(r)
@@ -386,8 +388,9 @@ class Fill(Induction):
         return self.go_on(rest)
 
     def go_on(self, size):
-        """The pair, when so many bytes come."""
-        _, pair = generator(self.call)
+        """Any pair, when so many bytes come. What memory holds of the first is not read again."""
+        self.call.array('rand', 16, high=16, writable=True)
+        pair = secret('s1'), secret('s2')
         self.base = self.call.place('out', self.length)
         self.follow(pair, (size + 7) // 8)
         place, limit = simple(self.base + 8 * self.units), simple(self.length - 8 * self.units)

@@ -173,7 +173,7 @@ class Seen:
 
 class Cpu:
     """Registers, memory, and the products that were made. Each path has a copy."""
-    NAME = DECODER = ARGS = RESULTS = SAVED = STACK = RED_ZONE = ABOVE = TABLE = None
+    NAME = DECODER = ARGS = RESULTS = SAVED = STACK = ABOVE = TABLE = None
 
     def __init__(self, image, products):
         self.image, self.products, self.facts, self.seen = image, products, Facts(), Seen()
@@ -196,9 +196,9 @@ class Cpu:
 
     def check_stack(self, name, offset):
         if name == 'stack':
-            lowest = signed(simple(self.r[self.STACK] - self.sp)) - self.RED_ZONE
-            if offset < lowest:
-                raise Refused(f'access {lowest - offset} bytes below the stack')
+            lowest = signed(simple(self.r[self.STACK] - self.sp))
+            if lowest is None or offset < lowest:
+                raise Refused('access below the stack pointer')
             self.seen.depth = max(self.seen.depth, self.ABOVE - offset)
 
     def call(self, name, *args):

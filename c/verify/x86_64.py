@@ -41,7 +41,7 @@ class X86(Cpu):
     NAME = 'x86-64'
     DECODER = CS_ARCH_X86, CS_MODE_64
     ARGS, RESULTS, SAVED = (7, 6, 2, 1, 8, 9), (0, 2), (3, 5, 12, 13, 14, 15)
-    STACK, RED_ZONE, ABOVE, TABLE = 4, 128, 8, TABLE
+    STACK, ABOVE, TABLE = 4, 8, TABLE
 
     def registers(self):
         return {n: secret(f'{name} before the call', 256 if name[0] == 'y' else 64)
