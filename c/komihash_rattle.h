@@ -16,6 +16,8 @@
  * - A pointer to words, a stream or a generator is aligned to eight bytes. One to bytes needs no
  *   alignment.
  * - What a call writes must not overlap anything else that the call is passed.
+ * - No jump and no address depends on a seed, on the bytes of a message, or on words made of them,
+ *   but in `resume` and `unpad`. That does not promise equal times.
  * - No call allocates memory or sets errno. The library has no global state, so threads and signal
  *   handlers may make calls at the same time. If they share a stream or a generator and one of them
  *   changes it, threads need a lock, and the signal must be blocked.

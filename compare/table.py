@@ -55,8 +55,8 @@ BESIDE_CRATE = (
     " that keeps jumps off boundaries of 32 bytes; without it, the others are mostly slower."
 )
 BESIDE_OTHERS = (
-    "In the next table, a ratio is the time of another hash, which is built for the processors"
-    " after its name, divided by the time of this library's version 5, built for x86-64-v2."
+    "In the next table, each column names a hash, and the processors that it was compiled for. A"
+    " ratio is its time divided by that of this library's version 5, compiled for x86-64-v2."
 )
 
 
