@@ -24,7 +24,8 @@ pub fn hashes_of_two<'a>(first: &'a [u8], second: &'a [u8]) -> (u64, u64)
     (out[0], out[1])
 }
 
-/// Makes two lists of calls on one stream. Returns how many answers each has.
+/// Makes two lists of calls on one stream, and writes their answers to `out` and `more`, each of
+/// which needs room for one number per call. Returns how many answers each has.
 pub fn run_in_two(
     first: &[Call<'_>],
     second: &[Call<'_>],

@@ -9,7 +9,8 @@ ghost use Rattle.komihash.specs.Saved.{IsText, IsTextAfter};
 use komihash::StreamedKomihash;
 use komihash::stream::LONGEST_TEXT;
 
-/// Continues from a checkpoint, and replaces it.
+/// Continues from a checkpoint, whose first `count` bytes are a saved text, and replaces the text.
+/// Returns the length of the new one in bytes, or `None` if there was no saved text.
 pub fn go_on(checkpoint: &mut [u8; LONGEST_TEXT], count: usize, next: &[u8]) -> Option<usize>
     requires { count ≤ LONGEST_TEXT }
     ensures most { IfSome result (λ n. n ≤ LONGEST_TEXT) }
@@ -22,7 +23,8 @@ pub fn go_on(checkpoint: &mut [u8; LONGEST_TEXT], count: usize, next: &[u8]) -> 
     Some(stream.save(checkpoint))
 }
 
-/// Returns the digest at a checkpoint.
+/// Returns the digest at a checkpoint, whose first `count` bytes are a saved text, or `None` if
+/// they are none.
 pub fn digest_at(checkpoint: &[u8; LONGEST_TEXT], count: usize) -> Option<u64>
     requires { count ≤ LONGEST_TEXT }
     ensures hash { (seed : ℕ) (m : List ℕ) → IsTextAfter 5 seed m (take count checkpoint.now)

@@ -9,7 +9,8 @@ use std::alloc::{AllocFailed, Global};
 use std::collections::HashMap;
 use std::hash::{BuildHasher, Hash, Hasher};
 
-/// Hashes a value. Each of its writes is hashed with the hash so far as the seed.
+/// Hashes a value in version 5, from seed 0. Each of its writes is hashed with the hash so far as
+/// the seed.
 pub fn hash_of<T: Hash>(value: &T) -> u64
     ensures { result ≡ fold (komi 5) 0 (T.hash_input value.now) }
 {
@@ -49,7 +50,8 @@ impl BuildHasher for Seeded {
     }
 }
 
-/// Puts a value under a point into a new map, and returns what the map then has under it.
+/// Puts a value under a point into a new map, and returns what the map then has under it, or an
+/// error if memory runs out.
 pub fn put_and_get(
     alloc: Global,
     seed: u64,

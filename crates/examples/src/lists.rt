@@ -9,7 +9,7 @@ ghost use Rattle.examples.specs.Profiles.{bytes_of_numbers, bytes_of_profile, by
 
 use komihash::StreamedKomihash;
 
-/// Hashes a list of numbers.
+/// Hashes a list of numbers, eight bytes each, the lowest first.
 pub fn hash_of_numbers(numbers: &[u64]) -> u64
     ensures { result ≡ komi 5 0 (flat_map (λ number. to_le_bytes w64 number) numbers.now) }
 {

@@ -6,7 +6,8 @@ ghost use Rattle.komihash.specs.Hash.{komi};
 use komihash::StreamedKomihash;
 use std::io::{self, Read};
 
-/// Returns the digest of all bytes that a reader has left. Reads them into `chunk`.
+/// Returns the digest of all bytes that a reader has left, or an error if a read fails or is
+/// interrupted. Reads the bytes into `chunk`.
 pub fn digest_of_reader<R: Read>(reader: &mut R, chunk: &mut [u8]) -> io::Result<u64>
     requires { 0 < length chunk.old }
     ensures { IfOk result (λ hash. IfSome (R.remaining reader.old) (λ bytes.

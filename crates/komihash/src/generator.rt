@@ -38,7 +38,8 @@ impl<const V: u8> Komirand<V> {
         Komirand { s1, s2 }
     }
 
-    /// Returns the generator that has the seed as both words, after four steps.
+    /// Returns the generator that has the seed as both words, after four steps, as the Rust
+    /// crate does.
     #[inline]
     pub fn init(seed: u64) -> Self
         ensures { result ≡ after_steps V 4 (seed, seed) }

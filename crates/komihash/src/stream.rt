@@ -62,7 +62,7 @@ pub trait KomiStream: Sized + Drop {
         ensures { Stored VERSION (state self.now) out.old out.new result };
 
     /// Returns the stream that has these bytes as its saved text, or `None` if no stream of this
-    /// version has.
+    /// version has. Damage that leaves them the text of a stream goes unnoticed.
     fn restore(bytes: &[u8]) -> Option<Self>
         ensures { Restored VERSION state bytes.now result };
 

@@ -20,7 +20,7 @@ pub type KomiHasher = hasher::KomiHasher<4>;
 /// The pseudorandom generator of version 4.
 pub type Komirand = generator::Komirand<4>;
 
-/// Returns the hash of a message with a seed.
+/// Returns the hash of a message of any length with any seed, as `specs/Hash.antt` defines it.
 #[inline]
 pub fn komihash(bytes: &[u8], seed: u64) -> u64
     ensures { result ≡ komi 4 seed bytes.now }

@@ -17,7 +17,7 @@ pub type KomiHasher = hasher::KomiHasher<5>;
 /// The pseudorandom generator of version 5.
 pub type Komirand = generator::Komirand<5>;
 
-/// Returns the hash of a message with a seed.
+/// Returns the hash of a message of any length with any seed, as `specs/Hash.antt` defines it.
 #[inline]
 pub fn komihash(bytes: &[u8], seed: u64) -> u64
     ensures { result ≡ komi 5 seed bytes.now }

@@ -48,6 +48,7 @@ impl Model for RawStream {
 }
 
 impl RawStream {
+    /// Returns the new stream of a seed, at the cost of one product.
     #[inline(always)]
     pub fn start<const V: u8>(seed: u64, tally: &mut Tally) -> RawStream
     where
@@ -64,6 +65,7 @@ impl RawStream {
         }
     }
 
+    /// Absorbs any number of bytes, and counts what this costs.
     #[inline(always)]
     pub fn absorb<const V: u8>(&mut self, bytes: &[u8], tally: &mut Tally)
     where
@@ -111,6 +113,7 @@ impl RawStream {
         self.pending.append_first(left, tally);
     }
 
+    /// Returns the hash of all bytes so far, and counts what this costs. The stream is unchanged.
     #[inline(always)]
     pub fn answer<const V: u8>(&self, tally: &mut Tally) -> u64
     where
@@ -133,6 +136,8 @@ impl RawStream {
         hash_from_pair(pair, &self.pending, word, last, tally)
     }
 
+    /// Writes the saved text to the front of `out`, which needs room for `LONGEST_TEXT` bytes, and
+    /// returns its length. The rest of `out` is unchanged.
     #[inline(always)]
     pub fn store<const V: u8>(&self, out: &mut [u8]) -> usize
     where
@@ -150,7 +155,8 @@ impl RawStream {
         saved::write_pending(&self.pending, out)
     }
 
-    /// Returns the stream that has these bytes as its saved text, or `None` if no stream has.
+    /// Returns the stream that has these bytes as its saved text, or `None` if no stream of this
+    /// version has.
     #[inline(always)]
     pub fn restore<const V: u8>(bytes: &[u8]) -> Option<RawStream>
     where

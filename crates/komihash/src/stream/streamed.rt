@@ -58,7 +58,7 @@ where
         StreamedKomihash::start(seed, &mut Tally::new())
     }
 
-    /// Absorbs bytes.
+    /// Absorbs any number of bytes.
     #[inline(always)]
     pub fn write(&mut self, bytes: &[u8])
         ensures { Absorbed V self.old.state self.new.state bytes.now }
@@ -88,7 +88,8 @@ where
     }
 
     /// Returns the stream that has these bytes as its saved text, or `None` if no stream of this
-    /// version has.
+    /// version has. Damage that leaves them the text of a stream goes unnoticed. The format is
+    /// `text` in `specs/Saved.antt`.
     #[inline(always)]
     pub fn resume(bytes: &[u8]) -> Option<Self>
         ensures { Restored V (λ stream. stream.state) bytes.now result }
