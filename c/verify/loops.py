@@ -106,10 +106,10 @@ class Induction:
         self.call = Call(self.library, self.version, self.NAME)
         self.call.cpu.seen = self.seen
         self.seen.order.clear()
-        self.stable = {'sp', 'return', str(self.r), *self.FIXED} | {
-            str(term) for term in self.call.cpu.before.values()}
+        self.stable = self.FIXED | symbols(self.r).union(
+            {'sp', 'return'}, *map(symbols, self.call.cpu.before.values()))
         if 'bytes' in self.FIXED:
-            self.stable.add(str(self.q))
+            self.stable |= symbols(self.q)
         return self.call
 
     def many(self, least=1, r=None):
@@ -202,7 +202,8 @@ class Induction:
                 z3.ULE(world.units, z3.LShR(world.length, log(self.UNIT) - 1)),
                 z3.UGE(left, self.step),
                 *(z3.Extract(k, k, left) == 0 for k in range(log(self.GRAIN) - 1, log(self.step) - 1)),
-                *(z3.Extract(k, k, world.units) == 0 for k in range(log(self.step // self.UNIT) - 1))]
+                *(z3.Extract(k, k, world.units) == 0
+                  for k in range(log(self.step // self.UNIT) - 1) if self.UNIT > 1)]
 
     def rest(self):
         """How many bytes are left after the last turn."""
@@ -260,7 +261,7 @@ class Induction:
         for (name, k), form in self.forms[pc].items():
             width = cpu.r[k].size() if name == 'r' else 8 if name == 'stream' and k >= FLAGS else 64
             value = world.value(form) if form else cpu.any(width)
-            if r is not None and str(self.r) in symbols(value):
+            if r is not None and symbols(self.r) <= symbols(value):
                 value = simple(z3.substitute(value, (self.r, bv(r >> self.LOW, self.r.size()))))
             if name == 'r':
                 cpu.r[k] = value
