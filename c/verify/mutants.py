@@ -11,12 +11,12 @@ import loops
 import terms
 from reached import JOBS, NAMES, open_library, reached, run_case
 
-LIMIT, SECONDS = 600, 10
+LIMIT, SECONDS = 600, 30
 KINDS = {'value': r'found 0x', 'products': 'product', 'contents': 'depends on',
          'memory': 'no array|only read|not written|below the stack|not aligned|were written|too many',
          'registers': r'of the caller is lost|stack pointer|a return to|is not defined',
          'instruction': 'unknown|no instruction|no fixed place', 'no answer': 'does not answer|Timeout',
-         'turns': r'turn|loop|before the end|blocks|ways|more than', 'error': 'Error|Exception'}
+         'turns': r'turn|[Ll]oop|StopIteration|before the end|blocks|ways|more than', 'error': 'Error|Exception'}
 IMAGE = None
 AT = collections.defaultdict(list)
 Mutant = collections.namedtuple('Mutant', 'address bit before after cases seconds failure')
@@ -24,9 +24,14 @@ Mutant = collections.namedtuple('Mutant', 'address bit before after cases second
 
 def start(path):
     """Begins a worker. Questions that take long would keep a mutant from being refused soon."""
-    global IMAGE
-    IMAGE, terms.SECONDS = open_library(path), SECONDS
+    terms.SECONDS = SECONDS
     signal.signal(signal.SIGALRM, stop)
+    load(path)
+
+
+def load(path):
+    global IMAGE
+    IMAGE = open_library(path)
 
 
 def stop(*_):
@@ -67,7 +72,7 @@ def kind(failure):
 
 def places(owners, count, seed):
     """Bits to flip: one for each function, and then of any instruction that is reached."""
-    r, addresses = random.Random(seed), sorted(owners)
+    r, addresses = random.Random(seed), sorted(IMAGE.code().intersection(owners))
     own = [[a for a in addresses if name in owners[a]] for name in NAMES]
     for which in [*own, *[addresses] * count][:count]:
         address = r.choice(which)
@@ -81,7 +86,7 @@ def row(name, mutants):
 
 
 def main(path, count, seed=1):
-    start(path)
+    load(path)
     owners, cases = collections.defaultdict(set), reached(path)
     for case in sorted(cases, key=lambda c: (c.task[2].__name__.endswith('_many'), c.seconds)):
         for address in case.ran:
