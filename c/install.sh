@@ -17,7 +17,7 @@ done
 # Calls a function with the mode, the source and the path of each file.
 each_file() {
     "$1" 644 komihash_rattle.h "$includedir/komihash_rattle.h"
-    [ ! -e LICENSE ] || "$1" 644 LICENSE "$prefix/share/doc/komihash_rattle/LICENSE"
+    "$1" 644 LICENSE "$prefix/share/doc/komihash_rattle/LICENSE"
     "$1" 644 "$OUT/komihash_rattle.pc" "$libdir/pkgconfig/komihash_rattle.pc"
     for file in komihash_rattle-config.cmake komihash_rattle-config-version.cmake; do
         "$1" 644 "$OUT/$file" "$libdir/cmake/komihash_rattle/$file"

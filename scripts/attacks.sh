@@ -1,7 +1,8 @@
 #!/usr/bin/env bash
 # Checks that no other crate can raise a tally, or hash in a version 3. Each attack is a module of a
-# crate above `komihash`, or a file of its proofs, in place of a control. It must be refused with
-# the error in its first line, and the controls must be accepted.
+# crate above `komihash` (.rt.txt), in place of a control, a file of its proofs (.antt.txt), in place
+# of another, or a module with the handwritten proof of its function `raised` (.proof.txt). It must
+# be refused with the error in the first line of its first file, and the controls must be accepted.
 set -u
 cd "$(dirname "$0")/attacks" || exit 1
 . ../../c/cases.sh
@@ -14,16 +15,21 @@ printf '#![tactic(auto)]\nmod attack;\n' > "$above/src/lib.rt"
 echo 'mod Lemmas' > "$above/proofs/Lib.antt"
 
 check() {
+    rm -rf "$above/proofs/attack"
     for file in control.*.txt "$@"; do
-        case $file in *.rt.txt) to=src/attack.rt ;; *) to=proofs/Lemmas.antt ;; esac
-        cp "$file" "$above/$to"
+        case $file in
+            *.rt.txt) to=src/attack.rt ;;
+            *.antt.txt) to=proofs/Lemmas.antt ;;
+            *) to=proofs/attack/raised/Proof.antt ;;
+        esac
+        install -D "$file" "$above/$to"
     done
     (cd "$above" && rt check 2>&1)
 }
-refused() { check "$1" | tee /dev/stderr | grep -F "$(sed '1!d; s/^[-/]* //' "$1")"; }
+refused() { check "$1".* | tee /dev/stderr | grep -F "$(sed '1!d; s/^[-/]* //' "$1".*)"; }
 
 note 'the controls are accepted' check
-for attack in *_*; do
+for attack in $(printf '%s\n' *_* | sed 's/\..*//' | uniq); do
     note "$attack is refused" refused "$attack"
 done
 counted

@@ -1,6 +1,7 @@
 #!/usr/bin/env python3
 """Checks that each block of Rattle in README and CALLING is a part of a file of crates/examples,
-and that README and compare/speed.md have the same table of speed."""
+that README and compare/speed.md have the same table of speed, and that the package of the library
+for C has the same licence."""
 
 import re
 from pathlib import Path
@@ -15,7 +16,11 @@ kinds = ("src/*.rt", "specs/*.antt", "proofs/**/*.antt")
 files = [file for kind in kinds for file in (ROOT / "crates/examples").glob(kind)]
 examples = [file.read_text("utf-8") for file in files]
 
-checks = [("the table of speed", SPEED.search(readme)[1] == SPEED.search(speed)[1])]
+licence, copy = ((ROOT / file).read_text("utf-8") for file in ("LICENSE", "c/LICENSE"))
+checks = [
+    ("the table of speed", SPEED.search(readme)[1] == SPEED.search(speed)[1]),
+    ("the licence in c/", licence == copy),
+]
 for code in CODE.findall(readme + calling):
     checks.append((f"the block `{code.splitlines()[0]}`", any(code in text for text in examples)))
 for name, holds in checks:

@@ -907,12 +907,12 @@
 	stur	q0, [x8, #-16]
 .LBB5_37:
 	add	x8, x1, x2
-	ubfiz	x9, x2, #3, #3
+	mvn	w9, w2, lsl #3
 	ldur	x8, [x8, #-8]
-	eor	x9, x9, #0x3f
-	lsr	x8, x8, #1
+	and	x9, x9, #0x38
 	lsr	x8, x8, x9
 	and	x9, x2, #0x38
+	lsr	x8, x8, #8
 	str	x8, [x0, x9]
 	str	x2, [x0, #64]
 	ret
@@ -1808,12 +1808,12 @@
 	stur	q0, [x8, #-16]
 .LBB11_37:
 	add	x8, x1, x2
-	ubfiz	x9, x2, #3, #3
+	mvn	w9, w2, lsl #3
 	ldur	x8, [x8, #-8]
-	eor	x9, x9, #0x3f
-	lsr	x8, x8, #1
+	and	x9, x9, #0x38
 	lsr	x8, x8, x9
 	and	x9, x2, #0x38
+	lsr	x8, x8, #8
 	str	x8, [x0, x9]
 	str	x2, [x0, #64]
 	ret
@@ -2386,13 +2386,13 @@ komihash_v4_resume:
 	str	x4, [sp, #8]
 .LBB20_17:
 	add	x2, x3, x2
-	ubfiz	x3, x9, #3, #3
+	mvn	w3, w9, lsl #3
 	mov	x4, sp
 	ldur	x2, [x2, #-76]
-	eor	x3, x3, #0x3f
-	lsr	x2, x2, #1
+	and	x3, x3, #0x38
 	lsr	x2, x2, x3
 	and	x3, x9, #0x38
+	lsr	x2, x2, #8
 	str	x2, [x4, x3]
 	b	.LBB20_20
 .LBB20_18:
@@ -2833,12 +2833,12 @@ komihash_v4_write:
 	stur	q0, [x8, #-16]
 .LBB24_13:
 	add	x8, x1, x2
-	ubfiz	x10, x9, #3, #3
+	mvn	w10, w9, lsl #3
 	and	x9, x9, #0x38
 	ldur	x8, [x8, #-8]
-	eor	x10, x10, #0x3f
-	lsr	x8, x8, #1
+	and	x10, x10, #0x38
 	lsr	x8, x8, x10
+	lsr	x8, x8, #8
 	str	x8, [x0, x9]
 	ldr	x8, [x0, #64]
 	add	x8, x8, x2
@@ -3429,13 +3429,13 @@ komihash_v5_resume:
 	str	x3, [sp, #8]
 .LBB33_17:
 	add	x18, x18, x2
-	ubfiz	x2, x9, #3, #3
+	mvn	w2, w9, lsl #3
 	mov	x3, sp
 	ldur	x18, [x18, #-76]
-	eor	x2, x2, #0x3f
-	lsr	x18, x18, #1
+	and	x2, x2, #0x38
 	lsr	x18, x18, x2
 	and	x2, x9, #0x38
+	lsr	x18, x18, #8
 	str	x18, [x3, x2]
 	b	.LBB33_20
 .LBB33_18:
@@ -3863,12 +3863,12 @@ komihash_v5_write:
 	stur	q0, [x8, #-16]
 .LBB37_13:
 	add	x8, x1, x2
-	ubfiz	x10, x9, #3, #3
+	mvn	w10, w9, lsl #3
 	and	x9, x9, #0x38
 	ldur	x8, [x8, #-8]
-	eor	x10, x10, #0x3f
-	lsr	x8, x8, #1
+	and	x10, x10, #0x38
 	lsr	x8, x8, x10
+	lsr	x8, x8, #8
 	str	x8, [x0, x9]
 	ldr	x8, [x0, #64]
 	add	x8, x8, x2

@@ -953,11 +953,11 @@
 	movups	%xmm0, -16(%rdi,%rax)
 .LBB5_37:
 	movq	-8(%rsi,%r13), %rax
-	shrq	%rax
-	leal	(,%r13,8), %ecx
-	andb	$56, %cl
-	notb	%cl
+	movl	%r13d, %ecx
+	notl	%ecx
+	shll	$3, %ecx
 	shrq	%cl, %rax
+	shrq	$8, %rax
 	movl	%r13d, %ecx
 	andl	$56, %ecx
 	movq	%rax, (%rdi,%rcx)
@@ -1907,11 +1907,11 @@
 	movups	%xmm0, -16(%r8,%rax)
 .LBB11_36:
 	movq	-8(%rsi,%r13), %rax
-	shrq	%rax
-	leal	(,%r13,8), %ecx
-	andb	$56, %cl
-	notb	%cl
+	movl	%r13d, %ecx
+	notl	%ecx
+	shll	$3, %ecx
 	shrq	%cl, %rax
+	shrq	$8, %rax
 	movl	%r13d, %ecx
 	andl	$56, %ecx
 	movq	%rax, (%r8,%rcx)
@@ -2591,11 +2591,11 @@ komihash_v4_resume:
 	xorl	%r10d, %r10d
 .LBB20_22:
 	movq	-8(%rsi,%rdx), %rdx
-	shrq	%rdx
-	leal	(,%rbp,8), %ecx
-	andb	$56, %cl
-	notb	%cl
+	movl	%ebp, %ecx
+	notl	%ecx
+	shll	$3, %ecx
 	shrq	%cl, %rdx
+	shrq	$8, %rdx
 	movl	%ebp, %ecx
 	andl	$56, %ecx
 	movq	%rdx, 16(%rsp,%rcx)
@@ -3099,11 +3099,11 @@ komihash_v4_write:
 	movups	%xmm0, -16(%rdi,%r9)
 .LBB24_14:
 	movq	-8(%rsi,%rdx), %rax
-	shrq	%rax
-	leal	(,%r8,8), %ecx
-	andb	$56, %cl
-	notb	%cl
+	movl	%r8d, %ecx
+	notl	%ecx
+	shll	$3, %ecx
 	shrq	%cl, %rax
+	shrq	$8, %rax
 	andl	$56, %r8d
 	movq	%rax, (%rdi,%r8)
 	popq	%rbx
@@ -3735,11 +3735,11 @@ komihash_v5_resume:
 	xorl	%ebp, %ebp
 .LBB33_22:
 	movq	-8(%rsi,%rdx), %rdx
-	shrq	%rdx
-	leal	(,%r13,8), %ecx
-	andb	$56, %cl
-	notb	%cl
+	movl	%r13d, %ecx
+	notl	%ecx
+	shll	$3, %ecx
 	shrq	%cl, %rdx
+	shrq	$8, %rdx
 	movl	%r13d, %ecx
 	andl	$56, %ecx
 	movq	%rdx, (%rsp,%rcx)
@@ -4233,11 +4233,11 @@ komihash_v5_write:
 	movups	%xmm0, -16(%rdi,%r9)
 .LBB37_14:
 	movq	-8(%rsi,%rdx), %rax
-	shrq	%rax
-	leal	(,%r8,8), %ecx
-	andb	$56, %cl
-	notb	%cl
+	movl	%r8d, %ecx
+	notl	%ecx
+	shll	$3, %ecx
 	shrq	%cl, %rax
+	shrq	$8, %rax
 	andl	$56, %r8d
 	movq	%rax, (%rdi,%r8)
 	popq	%rbx

@@ -885,12 +885,11 @@
 	vmovups	-16(%rsi,%rax), %xmm0
 	vmovups	%xmm0, -16(%rdi,%rax)
 .LBB5_36:
-	movq	-8(%rsi,%rdx), %rax
-	shrq	%rax
-	leal	(,%rdx,8), %ecx
-	andb	$56, %cl
-	notb	%cl
-	shrxq	%rcx, %rax, %rax
+	movl	%edx, %eax
+	notl	%eax
+	shll	$3, %eax
+	shrxq	%rax, -8(%rsi,%rdx), %rax
+	shrq	$8, %rax
 	movl	%edx, %ecx
 	andl	$56, %ecx
 	movq	%rax, (%rdi,%rcx)
@@ -1777,12 +1776,11 @@
 	vmovups	-16(%rsi,%rax), %xmm0
 	vmovups	%xmm0, -16(%rdi,%rax)
 .LBB11_37:
-	movq	-8(%rsi,%rbp), %rax
-	shrq	%rax
-	leal	(,%rbp,8), %ecx
-	andb	$56, %cl
-	notb	%cl
-	shrxq	%rcx, %rax, %rax
+	movl	%ebp, %eax
+	notl	%eax
+	shll	$3, %eax
+	shrxq	%rax, -8(%rsi,%rbp), %rax
+	shrq	$8, %rax
 	movl	%ebp, %ecx
 	andl	$56, %ecx
 	movq	%rax, (%rdi,%rcx)
@@ -2474,12 +2472,11 @@ komihash_v4_resume:
 	movq	%r14, 8(%rsp)
 	xorl	%r14d, %r14d
 .LBB20_22:
-	movq	-8(%rsi,%rdx), %rdx
-	shrq	%rdx
-	leal	(,%rbx,8), %esi
-	andb	$56, %sil
-	notb	%sil
-	shrxq	%rsi, %rdx, %rdx
+	movl	%ebx, %r15d
+	notl	%r15d
+	shll	$3, %r15d
+	shrxq	%r15, -8(%rsi,%rdx), %rdx
+	shrq	$8, %rdx
 	movl	%ebx, %esi
 	andl	$56, %esi
 	movq	%rdx, (%rsp,%rsi)
@@ -3037,12 +3034,11 @@ komihash_v4_write:
 	vmovups	-16(%rsi,%r8), %xmm0
 	vmovups	%xmm0, -16(%rdi,%r9)
 .LBB24_14:
-	movq	-8(%rsi,%rdx), %rax
-	shrq	%rax
-	leal	(,%rcx,8), %esi
-	andb	$56, %sil
-	notb	%sil
-	shrxq	%rsi, %rax, %rax
+	movl	%ecx, %eax
+	notl	%eax
+	shll	$3, %eax
+	shrxq	%rax, -8(%rsi,%rdx), %rax
+	shrq	$8, %rax
 	andl	$56, %ecx
 	movq	%rax, (%rdi,%rcx)
 	popq	%rbx
@@ -3698,12 +3694,11 @@ komihash_v5_resume:
 	movq	%rbx, 8(%rsp)
 	xorl	%ebx, %ebx
 .LBB33_22:
-	movq	-8(%rsi,%rdx), %rdx
-	shrq	%rdx
-	leal	(,%r11,8), %esi
-	andb	$56, %sil
-	notb	%sil
-	shrxq	%rsi, %rdx, %rdx
+	movl	%r11d, %r14d
+	notl	%r14d
+	shll	$3, %r14d
+	shrxq	%r14, -8(%rsi,%rdx), %rdx
+	shrq	$8, %rdx
 	movl	%r11d, %esi
 	andl	$56, %esi
 	movq	%rdx, (%rsp,%rsi)
@@ -4249,12 +4244,11 @@ komihash_v5_write:
 	vmovups	-16(%rsi,%r8), %xmm0
 	vmovups	%xmm0, -16(%rdi,%r9)
 .LBB37_14:
-	movq	-8(%rsi,%rdx), %rax
-	shrq	%rax
-	leal	(,%rcx,8), %esi
-	andb	$56, %sil
-	notb	%sil
-	shrxq	%rsi, %rax, %rax
+	movl	%ecx, %eax
+	notl	%eax
+	shll	$3, %eax
+	shrxq	%rax, -8(%rsi,%rdx), %rax
+	shrq	$8, %rax
 	andl	$56, %ecx
 	movq	%rax, (%rdi,%rcx)
 	popq	%rbx

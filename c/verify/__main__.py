@@ -130,8 +130,7 @@ def main():
             some_passed, some_failed = verify(path, chosen, args.jobs)
             passed, failed = passed + some_passed, failed + some_failed
     except (OSError, Unknown) as error:
-        sys.exit(f'verify: nothing is claimed: {error}') if False else print(
-            f'verify: nothing is claimed: {error}', file=sys.stderr)
+        print(f'verify: nothing is claimed: {error}', file=sys.stderr)
         return 2
     print(f'{passed} passed, {failed} failed')
     return 1 if failed else 0

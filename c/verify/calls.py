@@ -13,24 +13,23 @@ FLAGS = 136
 class Call:
     def __init__(self, library, version, name):
         self.library, self.version, self.name = library, version, f'komihash_v{version}{name}'
-        self.products, self.arrays = Products(), []
+        self.products = Products()
         self.cpu = library.processor(library, self.products)
         self.facts, self.memory = self.cpu.facts, self.cpu.memory
 
-    def place(self, name, size, writable=False):
+    def place(self, name, size, apart_from=()):
         """Passes an array of `size` bytes, which is null only if it is empty, and after which
-        there is an address. What is written overlaps no other. Returns its address."""
+        there is an address. Returns its address. That it overlaps no other array is how memory
+        works here; where code compares addresses, it also has to be a fact."""
         base, size = address(name), bv(size) if isinstance(size, int) else size
         self.facts.add(simple(z3.Or(size == 0, z3.ULT(size, -base))), z3.ULT(size, 2**63))
-        for other, length, other_writable in self.arrays:
-            if writable or other_writable:
-                self.facts.add(z3.Or(z3.ULE(base + size, other), z3.ULE(other + length, base)))
-        self.arrays.append((base, size, writable))
+        for other, length in apart_from:
+            self.facts.add(z3.Or(z3.ULE(base + size, other), z3.ULE(other + length, base)))
         return base
 
-    def array(self, name, size, content=(), high=None, writable=False):
+    def array(self, name, size, content=(), high=None, writable=False, apart_from=()):
         """Passes an array, with the content of its first bytes."""
-        base = self.place(name, size, writable)
+        base = self.place(name, size, apart_from)
         limit = None if isinstance(size, int) else size
         high = len(content) if high is None else high
         self.memory.add(Array(name, base, 0, high, writable, limit), content)

@@ -5,10 +5,9 @@ import loops
 from calls import (NONE, Call, accepted, check, check_bytes, check_generator, check_state,
                    generator, low_byte, named, padded_content, some_state)
 from definition import State, is_text, komi, next_pair, padded_words, start, words_of
-from machine import Seen
 from terms import bv, bytes_of, join, secret, sym
 
-GRAIN = loops.GRAIN
+GRAIN = 128
 
 
 def hash_of(library, version, length):
@@ -135,7 +134,8 @@ def pad(library, version, length):
     place, message = call.message(length)
     room, words = sym('room'), padded_words(version, message)
     call.facts.add(z3.ULT(room, 2**60))
-    out = call.aligned(call.array('out', 8 * room, high=8 * len(words), writable=True))
+    out = call.aligned(call.array('out', 8 * room, high=8 * len(words), writable=True,
+                                  apart_from=[(place, bv(length))]))
     for end in call.run(place, bv(length), out, room):
         enough = accepted(end, z3.UGE(room, len(words)))
         check(end, 'number', end.result(), bv(len(words) if enough else 0))
@@ -154,7 +154,7 @@ def unpad(library, version, count, last):
     if count:
         content, length, fits = padded_content(call, named('words', range(8 * count)), last)
     room, words = sym('room'), call.aligned(call.array('words', 8 * count, content))
-    out = call.array('out', room, high=length, writable=True)
+    out = call.array('out', room, high=length, writable=True, apart_from=[(words, bv(8 * count))])
     for end in call.run(words, bv(count), out, room):
         found = accepted(end, z3.And(fits, z3.UGE(room, 8 * count)))
         check(end, 'length', end.result(), bv(length) if found else NONE)
@@ -163,41 +163,32 @@ def unpad(library, version, count, last):
     return end
 
 
-def hash_many(library, version, r):
-    return loops.Hash(library, version, r).prove()
+def hash_many(library, version, low):
+    return loops.Hash(library, version, low).prove()
 
 
 def write_many(library, version, fill):
     return loops.Write(library, version, fill).prove()
 
 
-def rand_fill_many(library, version, r):
-    return loops.Fill(library, version, r).prove()
+def rand_fill_many(library, version):
+    return loops.Fill(library, version).prove()
 
 
-def pad_many(library, version, r):
-    return loops.Pad(library, version, r).prove()
+def pad_many(library, version):
+    return loops.Pad(library, version).prove()
 
 
-def unpad_many(library, version, r):
-    seen = Seen()
-    for last in LAST_BYTES:
-        call = loops.Unpad(library, version, r, last)
-        call.seen = seen
-        call.prove()
-    return call
+def unpad_many(library, version, last):
+    return loops.Unpad(library, version, last).prove()
 
 
-def each(numbers):
-    return [(k,) for k in numbers]
-
-
-BYTES, WORDS = each(range(GRAIN)), each(range(GRAIN // 8))
+BYTES = each(range(GRAIN))
 FILLS = each(range(64))
 # By function: the multiplications of the definition, whether jumps may depend on contents, and its
 # cases by how they are checked. Most cases are one length, remainder or number of pending bytes.
 FUNCTIONS = {
-    '': ('3+4(n/64)+(n%64)/16', False, {hash_of: BYTES, hash_many: BYTES}),
+    '': ('3+4(n/64)+(n%64)/16', False, {hash_of: FILLS, hash_many: each(range(8))}),
     '_start': ('1', False, {start_of: [()]}),
     '_write': ('4((f+n)/64)', False, {
         write_many: FILLS, write_within: [(f, n) for f in range(64) for n in range(64 - f)]}),
@@ -209,8 +200,8 @@ FUNCTIONS = {
         rand_init: [('_rand_init_with_extra_seed', 2, 4)]}),
     '_rand_init_words': ('0', False, {rand_init: [('_rand_init_words', 2, 0)]}),
     '_rand_next': ('1', False, {rand_next: [()]}),
-    '_rand_fill': ('(n+7)/8', False, {rand_fill: BYTES, rand_fill_many: BYTES}),
-    '_pad': ('0', False, {pad: BYTES, pad_many: BYTES}),
-    '_unpad': ('0', True, {unpad_many: WORDS, unpad: [(0, None), *(
-        (n, last) for n in range(1, GRAIN // 8) for last in LAST_BYTES)]}),
+    '_rand_fill': ('(n+7)/8', False, {rand_fill: BYTES, rand_fill_many: [()]}),
+    '_pad': ('0', False, {pad: BYTES, pad_many: [()]}),
+    '_unpad': ('0', True, {unpad_many: each(LAST_BYTES), unpad: [(0, None), *(
+        (n, last) for n in range(1, GRAIN // 8 + 1) for last in LAST_BYTES)]}),
 }

@@ -92,15 +92,13 @@ def simple(term):
 
 
 def linear(term):
-    """Writes bits 0, a symbol and k fixed bits side by side as the symbol * 2^k and a number."""
+    """Writes bits side by side as a sum, so that sums of the same parts become equal."""
     if z3.is_app_of(term, z3.Z3_OP_CONCAT):
-        parts = term.children()
-        low = parts.pop() if const(parts[-1]) is not None else bv(0, 1)
-        k = low.size() if len(parts) < len(term.children()) else 0
-        if len(parts) == 2 and const(parts[0]) == 0:
-            parts.pop(0)
-        if len(parts) == 1 and z3.is_const(parts[0]):
-            return z3.ZeroExt(term.size() - parts[0].size(), parts[0]) * 2**k + const(low)
+        total, k = bv(0, term.size()), 0
+        for child in reversed(term.children()):
+            total += z3.ZeroExt(term.size() - child.size(), child) * 2**k
+            k += child.size()
+        return total
     if z3.is_app_of(term, z3.Z3_OP_BADD):
         return sum(map(linear, term.children()))
     if z3.is_app_of(term, z3.Z3_OP_BMUL):

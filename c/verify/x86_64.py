@@ -62,7 +62,7 @@ class X86(Cpu):
     def address(self, i, op):
         m, wide = op.mem, {NAMES[i.reg_name(n)][2] for n in (op.mem.base, op.mem.index)
                            if n and i.reg_name(n) != 'rip'}
-        if wide - {64} or m.segment in (X.X86_REG_FS, X.X86_REG_GS):
+        if wide - {64} or m.segment and i.reg_name(m.segment) in ('fs', 'gs'):
             raise Unknown(f'{i.address:#x}: unknown address in {i.mnemonic} {i.text}')
         a = bv(m.disp % 2**64)
         if m.base:

@@ -1,6 +1,7 @@
 //! Callers of `komihash`, one file for each subject, and its promises as a caller proves them.
 #![tactic(auto)]
 
+pub mod by_search;
 pub mod calls;
 pub mod checkpoints;
 pub mod costs;

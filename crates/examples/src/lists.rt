@@ -1,6 +1,6 @@
 //! Lists, strings and records. A helper that writes a value has the contract of `write`.
 
-ghost use Rattle.std.specs.Prelude.{◌≡◌, ◌++◌, ℕ, List};
+ghost use Rattle.std.specs.Prelude.{◌≡◌, ◌<◌, ◌^◌, ◌++◌, ℕ, List, length};
 ghost use Rattle.std.specs.Int.{to_le_bytes, w64};
 ghost use Rattle.std.specs.List.{flat_map};
 ghost use Rattle.komihash.specs.Hash.{komi};
@@ -36,6 +36,13 @@ pub fn write_text(stream: &mut StreamedKomihash, text: &str)
     stream.write(&(text.len() as u64).to_le_bytes());
     stream.write(text.as_bytes());
 }
+
+/// Shows that the bytes of a text determine it and what follows.
+#[tactic(auto, using(crate::proofs::Prefixes::text_ends))]
+pub fn texts_have_ends()
+    ensures { (x y s t : List ℕ) → length x < 2 ^ 64 → length y < 2 ^ 64
+        → bytes_of_text x ++ s ≡ bytes_of_text y ++ t → (x ≡ y) × (s ≡ t) }
+{}
 
 /// Writes numbers after their count.
 #[tactic(auto, unfolding(crate::specs::Profiles::bytes_of_numbers))]

@@ -14,7 +14,7 @@ use Rattle.komihash.proofs.WholeWords.{length-stored_words, get_or-stored_words,
 use Rattle.komihash.proofs.WholeWords.{stored_words-append}
 use Rattle.komihash.proofs.WordOf.{AreBytes-append, AreBytes-take, AreBytes-drop, AreBytes-typed}
 
--- ---- words that are stored one by one, some of them out of order or twice
+-- ---- words that are stored one by one, some of them out of order or more than once
 
 -- a word that is stored at its index, or in place of one that is missing still
 pub put_word : {ws zs : List ℕ} {low high : ℕ} → StoresBut ws zs low high → (i n x : ℕ)

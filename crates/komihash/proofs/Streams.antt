@@ -273,6 +273,10 @@ unfolding HasAbsorbed
 absorbed v old new bytes is = record {
   state = is;
   message = λ seed m before. rw (is, before) (sym (absorb-append v (start seed) m bytes));
+  joined = λ seed m all before same.
+      rw (is, before, ← same) (sym (absorb-append v (start seed) m bytes));
+  in_parts = λ seed m x before.
+      rw (is, before, ← append_assoc m x bytes) (sym (absorb-append v (start seed) (m ++ x) bytes));
 }
 
 pub answered : (v : ℕ) (now : State) (result : ℕ) → result ≡ answer v now → Answered v now result

@@ -87,6 +87,11 @@ pub record Absorbed (v : ℕ) (old new : State) (bytes : List ℕ) : Type 0 wher
   -- the message is then longer by these bytes
   pub message : (seed : ℕ) (m : List ℕ) → HasAbsorbed v seed old m
       → HasAbsorbed v seed new (m ++ bytes)
+  -- the same in two more forms, by which the search finds proofs for callers that write numbers
+  pub joined : (seed : ℕ) (m all : List ℕ) → HasAbsorbed v seed old m → m ++ bytes ≡ all
+      → HasAbsorbed v seed new all
+  pub in_parts : (seed : ℕ) (m x : List ℕ) → HasAbsorbed v seed old (m ++ x)
+      → HasAbsorbed v seed new (m ++ (x ++ bytes))
 
 -- a stream answers: with the hash of the message that it has absorbed, if there is one
 pub record Answered (v : ℕ) (now : State) (result : ℕ) : Type 0 where

@@ -259,12 +259,13 @@ fn append_eight_or_more(words: &mut [u64; 8], fill: usize, bytes: &[u8])
     append_whole_words(words, fill, bytes);
     let end = fill + bytes.len();
     if end < 64 {
-        words[end / 8] = word_at(bytes, bytes.len() - 8) >> 1 >> (63 - 8 * (end % 8));
+        // By 8 last: LLVM would read seven bytes in three pieces if this shift came first.
+        words[end / 8] = word_at(bytes, bytes.len() - 8) >> (56 - 8 * (end % 8)) >> 8;
     }
 }
 
 // Completes the block with the first of at least 64 bytes. The words after the partial word are
-// stored two at a time, and some of them twice where they are fewer than seven.
+// stored two at a time, and some of them up to four times, so that one test serves any number.
 #[inline(always)]
 fn append_long(words: &mut [u64; 8], fill: usize, bytes: &[u8])
     requires pending { ArePending words.old fill }

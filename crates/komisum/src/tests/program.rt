@@ -1,5 +1,11 @@
 //! What arguments ask for, lines of inputs, what a fault leaves, and the lines on standard error.
 
+ghost use Rattle.std.specs.Prelude.{◌≡◌, ◌↔◌, ◌+◌, ◌^◌, ◌<◌, ◌≤◌};
+ghost use Rattle.std.specs.Prelude.{true, false, OnOk, IfSome};
+ghost use Rattle.std.specs.Io.KnownBytes.{Appends, IsAtEnd};
+ghost use Rattle.komisum.specs.Program.{hash_line};
+ghost use Rattle.komisum.specs.Watched.{AppendsPrefix, Takes};
+
 use super::fakes::{Calls, ERRORS, FakeReader, FakeWriter};
 use super::{BLOCK_MESSAGE, HIGH_END, ZERO};
 use crate::digest::hex_line;
@@ -9,6 +15,7 @@ use crate::program::show;
 use crate::settings::{Version, settings};
 use crate::watched::Watched;
 use komihash::v5;
+use std::io::{Read, Write};
 use std::process::{Abort, ExitCode};
 
 #[test]
@@ -33,6 +40,37 @@ fn refused_arguments(rt: HostRuntime) {
     }
 }
 
+// Does what `show` does, and states its promises again: a clause of `Shows` that gets weaker leaves
+// one of these unproved.
+fn shown_as_promised<R: Read, W: Write>(
+    reader: &mut Watched<R>,
+    writer: &mut Watched<W>,
+    version: Version,
+    seed: u64,
+) -> Result<(), Fault>
+    requires reader { reader.old.failed ≡ false }
+    requires writer { writer.old.failed ≡ false }
+    ensures read { (result ≡ Err Fault.Read) ↔ (reader.new.failed ≡ true) }
+    ensures too_long { Takes R.remaining reader.old reader.new (λ taken.
+        (result ≡ Err Fault.TooLong) ↔ ((reader.new.failed ≡ false) × (2 ^ 40 < taken))) }
+    ensures write { (result ≡ Err Fault.Write) ↔ (writer.new.failed ≡ true) }
+    ensures all { OnOk result (IsAtEnd (R.remaining reader.new.inner)) }
+    ensures all_before { result ≡ Err Fault.Write → IsAtEnd (R.remaining reader.new.inner) }
+    ensures bound { Takes R.remaining reader.old reader.new (λ taken. taken ≤ 2 ^ 40 + 4096) }
+    ensures read_bound { result ≡ Err Fault.Read
+        → Takes R.remaining reader.old reader.new (λ taken. taken ≤ 2 ^ 40) }
+    ensures line { OnOk result (IfSome (R.remaining reader.old.inner) (λ bytes.
+        Appends (W.contents writer.old.inner) (W.contents writer.new.inner)
+        (hash_line version seed bytes))) }
+    ensures partial { result ≡ Err Fault.Write → IfSome (R.remaining reader.old.inner) (λ bytes.
+        AppendsPrefix (W.contents writer.old.inner) (W.contents writer.new.inner)
+        (hash_line version seed bytes)) }
+    ensures read_unwritten { result ≡ Err Fault.Read → writer.new ≡ writer.old }
+    ensures too_long_unwritten { result ≡ Err Fault.TooLong → writer.new ≡ writer.old }
+{
+    show(reader, writer, version, seed)
+}
+
 // Calls `show` on fakes. Returns its result, the number of reads and the writer.
 fn shown(
     bytes: &[u8],
@@ -43,7 +81,7 @@ fn shown(
 ) -> (Result<(), Fault>, usize, FakeWriter) {
     let mut reader = Watched::new(FakeReader::new(bytes, reads));
     let mut writer = Watched::new(FakeWriter::new(writes));
-    let result = show(&mut reader, &mut writer, version, seed);
+    let result = shown_as_promised(&mut reader, &mut writer, version, seed);
     (result, reader.into_inner().calls.made, writer.into_inner())
 }
 

@@ -7,14 +7,14 @@ use Rattle.komihash.proofs.stream.run_on.Given as goal
 abbrev pub invariant-loop-call : goal.invariant-loop-call
 invariant-loop-call g l =
     let v = g.S.KomiStream.VERSION in
-    let first = g.S.KomiStream.state l.fn.stream in
+    let first = g.S.KomiStream.state l.initial.stream in
     let made = take l.call-index l.calls in
     record {
       few : l.count ≤ l.call-index;
       count : l.count ≡ length (onward v first made);
-      answers : l.out ≡ onward v first made ++ drop l.count l.fn.out;
+      answers : l.out ≡ onward v first made ++ drop l.count l.initial.out;
       state : g.S.KomiStream.state l.stream ≡ absorb v first (bytes_of_calls made);
       products : l.tally.products
-          ≡ l.fn.tally.products + onward_products (length first.pending) made;
-      kept : l.tally.kept ≡ l.fn.tally.kept + onward_kept (length first.pending) made;
+          ≡ l.initial.tally.products + onward_products (length first.pending) made;
+      kept : l.tally.kept ≡ l.initial.tally.kept + onward_kept (length first.pending) made;
     }

@@ -1,0 +1,123 @@
+//! Callers that write numbers, and need no proof of their own. If a change to a contract stops one
+//! of them from being proved, the contract says less to callers than before.
+
+ghost use Rattle.std.specs.Borrow.{Bor};
+ghost use Rattle.std.specs.Int.{to_le_bytes, w16, w32, w64};
+ghost use Rattle.std.specs.Prelude.{◌≡◌, ◌+◌, ◌++◌, ◌∷◌, [], ℕ, List, length};
+ghost use Rattle.komihash.specs.Calls.{AreAbsorbs, bytes_of_calls, run_products};
+ghost use Rattle.komihash.specs.Counts.{hash_products};
+ghost use Rattle.komihash.specs.Hash.{komi};
+ghost use Rattle.komihash.specs.declared.stream.Call.TheVariants.{Absorb, Answer};
+
+use komihash::stream::KomiStream;
+use komihash::tally::Tally;
+use komihash::{StreamedKomihash, komihash, laws};
+
+/// Hashes two numbers.
+pub fn hash_of_two(left: u64, right: u64) -> u64
+    ensures { result ≡ komi 5 0 (to_le_bytes w64 left ++ to_le_bytes w64 right) }
+{
+    let mut stream = StreamedKomihash::new();
+    stream.write(&left.to_le_bytes());
+    stream.write(&right.to_le_bytes());
+    stream.finish()
+}
+
+/// Hashes four numbers.
+pub fn of_four(a: u64, b: u64, c: u64, d: u64) -> u64
+    ensures { result ≡ komi 5 0 (to_le_bytes w64 a ++ to_le_bytes w64 b ++ to_le_bytes w64 c
+        ++ to_le_bytes w64 d) }
+{
+    let mut stream = StreamedKomihash::new();
+    stream.write(&a.to_le_bytes());
+    stream.write(&b.to_le_bytes());
+    stream.write(&c.to_le_bytes());
+    stream.write(&d.to_le_bytes());
+    stream.finish()
+}
+
+/// Hashes eight short numbers.
+pub fn of_eight(a: u16, b: u16, c: u16, d: u16, e: u16, f: u16, g: u16, h: u16) -> u64
+    ensures { result ≡ komi 5 0 (to_le_bytes w16 a ++ to_le_bytes w16 b ++ to_le_bytes w16 c
+        ++ to_le_bytes w16 d ++ to_le_bytes w16 e ++ to_le_bytes w16 f ++ to_le_bytes w16 g
+        ++ to_le_bytes w16 h) }
+{
+    let mut stream = StreamedKomihash::new();
+    stream.write(&a.to_le_bytes());
+    stream.write(&b.to_le_bytes());
+    stream.write(&c.to_le_bytes());
+    stream.write(&d.to_le_bytes());
+    stream.write(&e.to_le_bytes());
+    stream.write(&f.to_le_bytes());
+    stream.write(&g.to_le_bytes());
+    stream.write(&h.to_le_bytes());
+    stream.finish()
+}
+
+/// Hashes three numbers of 32 bits.
+pub fn of_three_short(a: u32, b: u32, c: u32) -> u64
+    ensures { result ≡ komi 5 0 (to_le_bytes w32 a ++ to_le_bytes w32 b ++ to_le_bytes w32 c) }
+{
+    let mut stream = StreamedKomihash::new();
+    stream.write(&a.to_le_bytes());
+    stream.write(&b.to_le_bytes());
+    stream.write(&c.to_le_bytes());
+    stream.finish()
+}
+
+/// Hashes numbers of three widths.
+pub fn of_three_widths(a: u64, b: u16, c: u8) -> u64
+    ensures { result ≡ komi 5 0 (to_le_bytes w64 a ++ to_le_bytes w16 b ++ c ∷ []) }
+{
+    let mut stream = StreamedKomihash::new();
+    stream.write(&a.to_le_bytes());
+    stream.write(&b.to_le_bytes());
+    stream.write(&[c]);
+    stream.finish()
+}
+
+/// Hashes a short number and a long one, in either version.
+pub fn of_two_widths<S: KomiStream>(a: u32, b: u64, seed: u64, tally: &mut Tally) -> u64
+    ensures hash { result ≡ komi S.VERSION seed (to_le_bytes w32 a ++ to_le_bytes w64 b) }
+    ensures cost { tally.new.products ≡ tally.old.products + 3 }
+{
+    laws::pending_remainder();
+    let mut stream = S::start(seed, tally);
+    stream.absorb(&a.to_le_bytes(), tally);
+    stream.absorb(&b.to_le_bytes(), tally);
+    stream.answer(tally)
+}
+
+/// Hashes two numbers, bytes of any length, and two more numbers.
+pub fn around_bytes(a: u64, b: u32, bytes: &[u8], c: u64, d: u32) -> u64
+    ensures { result ≡ komi 5 0 (to_le_bytes w64 a ++ to_le_bytes w32 b ++ bytes.now
+        ++ to_le_bytes w64 c ++ to_le_bytes w32 d) }
+{
+    let mut stream = StreamedKomihash::new();
+    stream.write(&a.to_le_bytes());
+    stream.write(&b.to_le_bytes());
+    stream.write(bytes);
+    stream.write(&c.to_le_bytes());
+    stream.write(&d.to_le_bytes());
+    stream.finish()
+}
+
+/// Hashes the hashes of two messages.
+pub fn of_hashes(left: &[u8], right: &[u8]) -> u64
+    ensures { result ≡ komi 5 0
+        (to_le_bytes w64 (komi 5 0 left.now) ++ to_le_bytes w64 (komi 5 0 right.now)) }
+{
+    let mut stream = StreamedKomihash::new();
+    stream.write(&komihash(left, 0).to_le_bytes());
+    stream.write(&komihash(right, 0).to_le_bytes());
+    stream.finish()
+}
+
+/// Shows that the law of `cost_of_pieces` speaks of lists that are written out.
+pub fn cost_of_two_pieces()
+    ensures pieces { (x y : Bor (List ℕ)) → AreAbsorbs (Absorb x ∷ Absorb y ∷ []) }
+    ensures cost { (x y : Bor (List ℕ)) → run_products (Absorb x ∷ Absorb y ∷ Answer ∷ [])
+        ≡ hash_products (length (x.now ++ y.now)) }
+{
+    laws::cost_of_pieces();
+}
