@@ -12,6 +12,8 @@ means = partial(enter, TABLE)
 SIZES = {'x': 64, 'w': 32, 'q': 128, 'd': 64, 'v': 128}
 SHIFTS = {A.ARM64_SFT_LSL: lambda a, n: a << n, A.ARM64_SFT_LSR: z3.LShR,
           A.ARM64_SFT_ASR: lambda a, n: a >> n}
+VECTORS = {**dict.fromkeys(('eor', 'orr', 'and', 'bic', 'mov', 'mvn', 'ext'), '.16b'),
+           **dict.fromkeys(('movi', 'zip1', 'zip2'), '.2d')}
 NOT = {'ne': 'eq', 'lo': 'hs', 'hi': 'ls', 'ge': 'lt', 'gt': 'le', 'pl': 'mi'}
 
 
@@ -79,9 +81,9 @@ class Arm(Cpu):
         return a, self.get(i, k + 1, a.size())
 
     def put(self, i, k, value):
-        n, size = register(i.reg_name(i.ops[k].reg))
-        value = simple(value)
-        if value.size() != size:
+        name, value = i.reg_name(i.ops[k].reg), simple(value)
+        n, size = register(name)
+        if value.size() != size or name[0] == 'v' and VECTORS.get(i.mnemonic, '?') not in i.text:
             raise unknown(i)
         if n is not None:
             self.r[n] = self.in_length(widen(value, self.r[n].size()))
@@ -287,16 +289,12 @@ def move_vector(c, i):
 
 @means('zip1', 'zip2')
 def zip_words(c, i):
-    if i.text.count('.2d') != 3:
-        raise unknown(i)
     low = 0 if i.mnemonic == 'zip1' else 64
     c.put(i, 0, join([part(c.get(i, k), low, 64) for k in (1, 2)]))
 
 
 @means('ext')
 def extract_vector(c, i):
-    if '.16b' not in i.text:
-        raise unknown(i)
     c.put(i, 0, part(join([c.get(i, 1), c.get(i, 2)]), 8 * i.ops[3].imm, 128))
 
 

@@ -37,7 +37,8 @@ class Image:
             tags = {t.entry.d_tag for t in dynamic.iter_tags()} if dynamic else {'no table'}
             if not tags <= LOADER:
                 raise Unknown(f'the loader would do more than load it: {tags - LOADER}')
-            names = elf.get_section_by_name('.dynsym')
+            names, text = (elf.get_section_by_name(name) for name in ('.dynsym', '.text'))
+            self.text = text['sh_addr'], text['sh_size']
             self.functions = {s.name: s['st_value'] for s in names.iter_symbols()
                               if s['st_info']['type'] == 'STT_FUNC' and s['st_value']}
         self.decoder, self.decoded = Cs(*self.processor.DECODER), {}
@@ -62,11 +63,9 @@ class Image:
 
     def code(self):
         """The addresses of all instructions but those that fill gaps."""
-        found = set()
-        for base, data, flags in self.parts:
-            found |= {i.address for i in self.decoder.disasm(data, base)
-                      if i.mnemonic not in ('nop', 'int3', 'udf')} if flags & 1 else set()
-        return found
+        start, size = self.text
+        return {i.address for i in self.decoder.disasm(self.read(start, size, 1), start)
+                if i.mnemonic not in ('nop', 'int3', 'udf')}
 
     def instruction(self, address):
         i = self.decoded.get(address)

@@ -253,8 +253,15 @@ def multiply_without_flags(c, i):
     c.put(i, 0, high)
 
 
+def check_size(i):
+    """Jumps and pushes must have no prefix by which they would take 16 bits."""
+    if i.prefix[2]:
+        raise Unknown(f'{i.address:#x}: unknown prefix of {i.mnemonic} {i.text}')
+
+
 @means('push')
 def push(c, i):
+    check_size(i)
     value = c.get(i, 0, 64)
     c.r[4] = simple(c.r[4] - 8)
     c.store(c.r[4], value)
@@ -269,6 +276,7 @@ def pop(c, i):
 
 @means('ret')
 def give_back(c, i):
+    check_size(i)
     to = c.load(c.r[4], 8)
     c.r[4] = simple(c.r[4] + 8)
     if i.ops or not z3.eq(to, sym('return')):
@@ -278,6 +286,7 @@ def give_back(c, i):
 
 @means('jmp')
 def jump(c, i):
+    check_size(i)
     if i.ops[0].type != X.X86_OP_IMM:
         raise Refused('a jump to no fixed place')
     return i.ops[0].imm
@@ -285,6 +294,7 @@ def jump(c, i):
 
 @means(*(f'j{code}' for code in CODES))
 def branch(c, i):
+    check_size(i)
     return c.cond(i.mnemonic[1:]), i.ops[0].imm, i.address + i.size
 
 

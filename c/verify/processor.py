@@ -1,0 +1,168 @@
+"""Compares the meaning of instructions with a processor: random calls of a library are made in the
+model and really, and must return and change the same: processor.py LIBRARY ROUNDS PROGRAM..
+PROGRAM is processor.c, compiled for the library's processor; an emulator may come before it."""
+import random
+import struct
+import subprocess
+import sys
+from definition import Numbers, padded_words
+from machine import Image
+from reached import NAMES, PROCESSORS, reached
+from terms import bv, const
+
+PLACE, SIZE, REPLY = 2**32, 2048, struct.Struct('<18Q2048s')
+NO_RESULT, PAIRS = ('_write', '_rand_fill'), ('_init', '_seed', '_words')
+
+
+def on_numbers(kind):
+    """A processor that multiplies, and has memory at fixed addresses."""
+    class OnNumbers(kind):
+        def multiply(self, a, b, halves):
+            product = Numbers().new(a, b)
+            return [product[half] for half in halves]
+
+        def load(self, address, length):
+            if const(address) is None or self.image.read(const(address), length):
+                return super().load(address, length)
+            return self.memory.content('arrays', const(address), length)
+
+        def store(self, address, value):
+            if const(address) is None:
+                return super().store(address, value)
+            self.memory.put('arrays', const(address), value)
+    return OnNumbers
+
+
+class Call:
+    """A call with numbers and arrays as arguments. The arrays lie in memory with gaps between them."""
+
+    def __init__(self, r, name):
+        self.r, self.name, self.args = r, name, []
+        self.memory, self.known, self.end = bytearray(r.randbytes(SIZE)), set(), 256
+        self.words = 18 if name.endswith('_start') else 2 if name.endswith(PAIRS) else 1
+
+    def number(self, value):
+        self.args.append(value)
+        return self
+
+    def words_at(self, content, known=True, gap=8):
+        """Passes an array of words, which the call may read if its content is known."""
+        start = self.end + gap
+        if known:
+            self.memory[start:start + len(content)] = content
+            self.known.update(range(start, start + len(content)))
+        self.end = (start + len(content) + 7) // 8 * 8
+        return self.number(PLACE + start)
+
+    def bytes_at(self, content, known=True):
+        if not content and self.r.randrange(2):
+            return self.number(0)
+        return self.words_at(content, known, self.r.randrange(8, 16))
+
+    def request(self):
+        args = [*self.args, 0, 0, 0][:4]
+        return struct.pack('<64s6Q', self.name.encode(), self.words, *args, PLACE) + self.memory
+
+    def outcome(self, words, memory):
+        """What counts of an outcome: `resume` returns a byte, and two calls return nothing."""
+        words = [w & 255 if self.name.endswith('_resume') else w for w in words[:self.words]]
+        return [] if self.name.endswith(NO_RESULT) else words, bytes(memory)
+
+    def in_model(self, image):
+        cpu, args = image.processor(image, None), [bv(arg) for arg in self.args]
+        for k in self.known:
+            cpu.memory.put('arrays', PLACE + k, bv(self.memory[k], 8))
+        if self.words == 18:
+            args = [*cpu.struct_at(bv(PLACE))[0], *args]
+        end, = cpu.call(self.name, *args)
+        memory = bytearray(self.memory)
+        for k in end.memory.written('arrays'):
+            memory[k - PLACE] = const(end.memory.content('arrays', k, 1))
+        if self.words == 18:
+            words, memory[:144] = struct.unpack('<18Q', memory[:144]), self.memory[:144]
+        else:
+            words = [const(end.result(k)) for k in range(self.words)]
+        return self.outcome(words, memory)
+
+
+def stream(r, version, fill):
+    absorbed = r.randrange(2)
+    flags = bytes([absorbed, r.randrange(2) if absorbed and version == 4 else 0])
+    return r.randbytes(fill).ljust(64, b'\0') + struct.pack('<Q', fill) + r.randbytes(64) + flags \
+        + r.randbytes(6)
+
+
+def saved_text(r, version, fill):
+    text = bytearray([version, r.randrange(2), 0, fill, *r.randbytes(64 + fill)])
+    text[2] = text[1] & r.randrange(2) if version == 4 else 0
+    if not r.randrange(3):
+        text[r.randrange(4)] ^= 1 << r.randrange(8)
+    return bytes(text[:r.choice([len(text), len(text), r.randrange(len(text))])])
+
+
+def words_with_end(r, version, message):
+    """Padded words, or words that may be none."""
+    padded = [const(word) for word in padded_words(version, [bv(byte, 8) for byte in message])]
+    other = [r.getrandbits(64) for _ in range(r.randrange(9))] + [r.getrandbits(8) * r.randrange(2)]
+    words = r.choice([padded, padded, other, other[:-1], [0] * r.randrange(4)])
+    return struct.pack(f'<{len(words)}Q', *words)
+
+
+def round_of_calls(r, version, fill):
+    """A call of each function, of some two."""
+    def call(name):
+        return Call(r, f'komihash_v{version}{name}')
+    n = r.choice([r.randrange(20), r.randrange(70), r.randrange(301)])
+    message, seed, other = r.randbytes(n), r.getrandbits(64), r.getrandbits(64)
+    text, rand = saved_text(r, version, fill), r.randbytes(16)
+    yield call('').bytes_at(message).number(n).number(seed)
+    yield call('_start').number(seed)
+    yield call('_write').words_at(stream(r, version, fill)).bytes_at(message).number(n)
+    yield call('_finish').words_at(stream(r, version, fill))
+    room = r.choice([0, 130, 131, 140])
+    yield call('_save').words_at(stream(r, version, fill)).bytes_at(bytes(room), False).number(room)
+    yield call('_resume').words_at(bytes(144), False).bytes_at(text).number(len(text))
+    yield call('_rand_init').number(seed)
+    yield call('_rand_init_with_extra_seed').number(seed).number(other)
+    yield call('_rand_init_words').number(seed).number(other)
+    yield call('_rand_next').words_at(rand)
+    yield call('_rand_fill').words_at(rand).bytes_at(bytes(n), False).number(n)
+    room = n // 8 + r.choice([0, 1, 1, 2])
+    yield call('_pad').bytes_at(message).number(n).words_at(bytes(8 * room), False).number(room)
+    words = words_with_end(r, version, message)
+    room = len(words) - r.choice([-3, 0, 0, 1]) if words else 0
+    yield call('_unpad').words_at(words).number(len(words) // 8).bytes_at(bytes(room), False) \
+        .number(room)
+
+
+def compare(image, rounds, program):
+    """Makes calls in both ways, and returns how many."""
+    r = random.Random(1)
+    calls = [call for k in range(rounds) for version in (4, 5)
+             for call in round_of_calls(r, version, k % 64)]
+    asked = b''.join(call.request() for call in calls)
+    done = subprocess.run(program, input=asked, stdout=subprocess.PIPE, check=True)
+    for call, reply in zip(calls, REPLY.iter_unpack(done.stdout), strict=True):
+        model, real = call.in_model(image), call.outcome(reply[:18], reply[18])
+        if model != real:
+            sys.exit(f'FAILED: {call.name}{call.args} on {call.memory.hex()}:\n'
+                     f'{model} in the model, {real} really')
+    return len(calls)
+
+
+def main(path, rounds, *program):
+    image = Image(path, {name: on_numbers(kind) for name, kind in PROCESSORS.items()})
+    count, code = compare(image, int(rounds), [*program, path]), image.code()
+    print(f'{count} calls do the same in the model and on the processor')
+    ran, by_cases = set(image.decoded), set().union(*(case.ran for case in reached(path)))
+    dead = [image.instruction(address) for address in sorted(code - ran - by_cases)]
+    print(f'{len(code)} instructions: {len(code & ran)} are reached by these calls, '
+          f'{len(code & by_cases - ran)} only by cases of the check, {len(dead)} by none:')
+    for i in dead:
+        print(f'{i.address:#x} {i.mnemonic} {i.text}')
+    kinds = [{image.instruction(address).mnemonic for address in some} for some in (by_cases, ran)]
+    print('reached by no call that was compared:', *sorted(kinds[0] - kinds[1]) or ['none'])
+
+
+if __name__ == '__main__':
+    main(*sys.argv[1:])
