@@ -233,7 +233,7 @@ class Induction:
             return self.confirm(end, pc, words, world) and fits
         seen = self.early.setdefault(pc, [])
         seen.append((end, words, world))
-        if not z3.eq(seen[0][2].units, world.units):
+        if const(world.units) is None or not z3.eq(seen[0][2].units, world.units):
             before, old = seen[0][1:]
             self.forms[pc] = {w: form_of(end.facts, self.stable, (before[w], old), (term, world))
                               for w, term in words.items() if w in before}
