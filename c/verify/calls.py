@@ -24,7 +24,7 @@ class Call:
         base, size = address(name), bv(size) if isinstance(size, int) else size
         self.facts.add(simple(z3.Or(size == 0, z3.ULT(size, -base))), z3.ULT(size, 2**63))
         for other, length in apart_from:
-            self.facts.add(z3.Or(z3.ULE(base + size, other), z3.ULE(other + length, base)))
+            self.facts.add(z3.UGE(base - other, length), z3.UGE(other - base, size))
         return base
 
     def array(self, name, size, content=(), high=None, writable=False, apart_from=()):

@@ -122,6 +122,7 @@ class Induction:
         """A call before its first instruction, which is accepted if that is to be sure."""
         self.units = bv(0)
         args, cpu = self.enter(least, *self.case, **more), self.call.cpu
+        cpu.lengths = [self.length, simple(self.length + 8)]
         cpu.r.update(zip(cpu.ARGS, args))
         if sure:
             cpu.facts.add(self.accepted())
@@ -257,7 +258,7 @@ class Induction:
         """Puts the processor into any state that has the form of this place."""
         cpu, conditions = self.call.cpu, self.conditions(world)
         cpu.facts.add(*(conditions[k] for k in self.holding[pc]))
-        cpu.lengths = [self.length]
+        cpu.lengths = [self.length, simple(self.length + 8)]
         for (name, k), form in self.forms[pc].items():
             width = cpu.r[k].size() if name == 'r' else 8 if name == 'stream' and k >= FLAGS else 64
             value = world.value(form) if form else cpu.any(width)

@@ -69,7 +69,9 @@ class X86(Cpu):
             name = i.reg_name(m.base)
             a = a + (bv(i.address + i.size) if name == 'rip' else self.r[NAMES[name][0]])
         if m.index:
-            a = a + self.r[NAMES[i.reg_name(m.index)][0]] * m.scale
+            index = self.r[NAMES[i.reg_name(m.index)][0]]
+            aside = z3.is_app_of(index, z3.Z3_OP_CONCAT)
+            a = a + (simple(index << m.scale.bit_length() - 1) if aside else index * m.scale)
         return simple(a)
 
     def aligned_address(self, i, op):
