@@ -84,8 +84,7 @@ class Progress:
             if name in self.failed:
                 print(f'FAILED: {self.failed[name]}')
                 continue
-            products, _, _ = FUNCTIONS[name[len('komihash_v4'):]]
-            by_contents = any(seen.by_contents for seen in self.seen[name])
+            products, by_contents, _ = FUNCTIONS[name[len('komihash_v4'):]]
             print(row(name, self.all[name], products, 'contents' if by_contents else 'lengths',
                       max(seen.depth for seen in self.seen[name]), f'{self.seconds[name]:.0f}'))
 

@@ -7,7 +7,6 @@ from terms import Unknown, bv, const
 def check_definition():
     """Computes the hashes of vectors.tsv. Returns how many checks passed and failed."""
     path = os.path.join(os.path.dirname(os.path.abspath(__file__)), '..', 'vectors.tsv')
-    if not os.path.exists(path): path=os.path.join(os.path.dirname(os.path.abspath(__file__)), '../../docs/vectors.tsv')
     with open(path) as file:
         rows = [line.rstrip('\n').split('\t') for line in file if line[0] != '#']
     for version, seed, message, wanted in rows:
