@@ -21,7 +21,6 @@ if [ "$system" = Windows ]; then
 fi
 case $CC in *clang*) clang= ;; esac
 export LD_LIBRARY_PATH="$lib" WINEPATH="Z:$prefix/bin" PKG_CONFIG_PATH="$lib/pkgconfig"
-export QEMU_LD_PREFIX="${QEMU_LD_PREFIX:-/usr/$machine}"
 unset MAKEFLAGS PREFIX BINDIR LIBDIR INCLUDEDIR DESTDIR
 sed -n '/^```c$/,/^```$/{/^```/!p;}' README.md > "$room/example.c"
 grep -o 'komihash_v[a-z0-9_]*(' komihash_rattle.h | tr -d '(' | sort > "$room/declared"

@@ -18,9 +18,9 @@ done
 each_file() {
     "$1" 644 komihash_rattle.h "$includedir/komihash_rattle.h"
     "$1" 644 LICENSE "$prefix/share/doc/komihash_rattle/LICENSE"
-    "$1" 644 "$OUT/komihash_rattle.pc" "$libdir/pkgconfig/komihash_rattle.pc"
+    "$1" 644 "$filled/komihash_rattle.pc" "$libdir/pkgconfig/komihash_rattle.pc"
     for file in komihash_rattle-config.cmake komihash_rattle-config-version.cmake; do
-        "$1" 644 "$OUT/$file" "$libdir/cmake/komihash_rattle/$file"
+        "$1" 644 "$filled/$file" "$libdir/cmake/komihash_rattle/$file"
     done
     for file in $archives; do "$1" 644 "$OUT/$file" "$libdir/$file"; done
     for file in $shared; do
@@ -32,8 +32,9 @@ each_file() {
     [ "$system" = Windows ] || "$1" link "$soname" "$libdir/${soname%.*}"
 }
 
-# Makes a folder and those above it, and notes the ones that were not there.
-made=$OUT/made
+# Makes a folder and those above it, and notes the ones that were not there, for each user apart,
+# since root may install what another has built.
+made=$OUT/made.$(id -u)
 make_folder() {
     [ -d "$1" ] || { make_folder "$(dirname "$1")" && mkdir "$1" && printf '%s\n' "$1" >> "$made"; }
 }
@@ -44,13 +45,15 @@ install_file() {
 }
 remove_file() { rm -f "${DESTDIR-}$3"; }
 
-# Writes a file for pkg-config or CMake into the folder of what is built, with the paths in it. For
+# Writes a file for pkg-config or CMake into a folder of its own, with the paths in it. For
 # pkg-config, a backslash precedes some characters of theirs.
+filled=$(mktemp -d)
+trap 'rm -rf "$filled"' EXIT
 quoted() { printf '%s\n' "$1" | sed "s/$special/\\\\&/g; s/[\\\\&|]/\\\\&/g"; }
 fill() {
     case $1 in *.pc) special='["\\#]' ;; *) special='^$' ;; esac
     sed "s|@VERSION@|$version|; s|@PREFIX@|$(quoted "$prefix")|; s|@LIBDIR@|$(quoted "$libdir")|
-        s|@INCLUDEDIR@|$(quoted "$includedir")|" "$1" > "$OUT/${1##*/}"
+        s|@INCLUDEDIR@|$(quoted "$includedir")|" "$1" > "$filled/${1##*/}"
 }
 
 if [ "$1" = install ]; then

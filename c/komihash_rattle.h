@@ -38,9 +38,9 @@
 
 /* The calling convention of all functions, which pointers to them must name too, since Windows has
  * one of its own. */
-#ifndef _WIN32
+#if !defined(_WIN32) && !defined(__CYGWIN__)
 #define KOMIHASH_CALL
-#elif defined(__x86_64__) && defined(__GNUC__)
+#elif !defined(__CYGWIN__) && defined(__x86_64__) && defined(__GNUC__)
 #define KOMIHASH_CALL __attribute__((sysv_abi))
 #else
 #error "komihash_rattle cannot be called by this compiler: use gcc or clang of MinGW-w64 for x86-64"

@@ -1,4 +1,4 @@
-"""Shows that shared libraries compute komihash: verify [--function NAME] LIBRARY.."""
+"""Shows that shared libraries compute komihash: verify [--function NAME.. --] LIBRARY.."""
 import argparse
 import collections
 import multiprocessing
@@ -119,15 +119,14 @@ def verify(path, functions, jobs):
 def main():
     names = [f'komihash_v{version}{suffix}' for version in (4, 5) for suffix in FUNCTIONS]
     parser = argparse.ArgumentParser(prog='verify', description=__doc__)
-    parser.add_argument('--function', choices=names, metavar='NAME')
+    parser.add_argument('--function', nargs='+', choices=names, metavar='NAME', default=names)
     parser.add_argument('--jobs', type=int, default=os.cpu_count())
     parser.add_argument('library', nargs='+')
     args = parser.parse_args()
-    chosen = [args.function] if args.function else names
     try:
         passed, failed = check_definition()
         for path in args.library:
-            some_passed, some_failed = verify(path, chosen, args.jobs)
+            some_passed, some_failed = verify(path, args.function, args.jobs)
             passed, failed = passed + some_passed, failed + some_failed
     except (OSError, ELFError, Unknown) as error:
         print(f'verify: nothing is claimed: {error}', file=sys.stderr)
