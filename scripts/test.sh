@@ -37,7 +37,10 @@ unpack() {
         cmp "$room"/komihash_rattle-*.tar.gz "$room"/komihash_rattle-*/out/*.tar.gz
 }
 check_package() { make -C "$room"/komihash_rattle-*/ --no-print-directory check "$@"; }
-verify_package() { make -C "$room"/komihash_rattle-*/ --no-print-directory verify; }
+# Verifies the build that every processor can run. The one for x86-64-v3 takes as long again.
+verify_package() {
+    make -C "$room"/komihash_rattle-*/ --no-print-directory verify shared=libkomihash_rattle.so.1
+}
 check_cross() { # PREFIX EMULATOR: with a cross compiler
     if type "$1gcc" "$2" > "$room/case" 2>&1; then
         check_package "CROSS=$1" "RUN=$2"
