@@ -37,6 +37,7 @@ unpack() {
         cmp "$room"/komihash_rattle-*.tar.gz "$room"/komihash_rattle-*/out/*.tar.gz
 }
 check_package() { make -C "$room"/komihash_rattle-*/ --no-print-directory check "$@"; }
+verify_package() { make -C "$room"/komihash_rattle-*/ --no-print-directory verify; }
 check_cross() { # PREFIX EMULATOR: with a cross compiler
     if type "$1gcc" "$2" > "$room/case" 2>&1; then
         check_package "CROSS=$1" "RUN=$2"
@@ -66,6 +67,7 @@ part bash scripts/assembly.sh
 note 'the package of the library for C is made again from itself' unpack
 [ "$failed" = 0 ] || sum_up
 part check_package
+part verify_package
 part check_cross x86_64-w64-mingw32- wine64
 part check_cross aarch64-linux-gnu- qemu-aarch64
 sum_up

@@ -5,6 +5,7 @@ import multiprocessing
 import os
 import sys
 import time
+from elftools.common.exceptions import ELFError
 import terms
 from aarch64 import Arm
 from functions import FUNCTIONS
@@ -129,7 +130,7 @@ def main():
         for path in args.library:
             some_passed, some_failed = verify(path, chosen, args.jobs)
             passed, failed = passed + some_passed, failed + some_failed
-    except (OSError, Unknown) as error:
+    except (OSError, ELFError, Unknown) as error:
         print(f'verify: nothing is claimed: {error}', file=sys.stderr)
         return 2
     print(f'{passed} passed, {failed} failed')

@@ -124,6 +124,11 @@ def code(i):
     return i.text.split()[-1]
 
 
+TABLE.update({'nop': lambda c, i: None, 'b': lambda c, i: i.ops[0].imm,
+              'neg': lambda c, i: c.put(i, 0, -c.get(i, 1)),
+              'mvn': lambda c, i: c.put(i, 0, ~c.get(i, 1))})
+
+
 @means('add', 'sub', 'eor', 'orr', 'and', 'bic')
 def compute(c, i):
     a, b = c.both(i)
@@ -168,16 +173,6 @@ def move_and_keep(c, i):
     shift, w = i.ops[1].shift, c.width(i)
     mask = (2**w - 1) ^ 0xffff << (shift.value if shift.type else 0)
     c.put(i, 0, c.get(i, 0) & mask | c.get(i, 1, w))
-
-
-@means('neg')
-def negate(c, i):
-    c.put(i, 0, -c.get(i, 1))
-
-
-@means('mvn')
-def invert(c, i):
-    c.put(i, 0, ~c.get(i, 1))
 
 
 @means('lsl', 'lsr')
@@ -263,11 +258,6 @@ def give_back(c, i):
     return RETURN
 
 
-@means('b')
-def jump(c, i):
-    return i.ops[0].imm
-
-
 @means(*(f'b.{name}' for name in ('eq', 'hs', 'mi', 'ls', 'lt', 'le', *NOT)))
 def branch(c, i):
     return c.cond(i.mnemonic[2:]), i.ops[0].imm, i.address + i.size
@@ -296,8 +286,3 @@ def zip_words(c, i):
 @means('ext')
 def extract_vector(c, i):
     c.put(i, 0, part(join([c.get(i, 1), c.get(i, 2)]), 8 * i.ops[3].imm, 128))
-
-
-@means('nop')
-def nothing(c, i):
-    pass

@@ -118,19 +118,14 @@ class X86(Cpu):
         self.flags = {'z': lambda: result == 0, 's': lambda: top(result), **flags}
 
 
-@means('mov', 'movabs', 'movups', 'movdqu', 'movaps', 'movdqa', 'vmovups', 'vmovdqu', 'vmovaps')
-def move(c, i):
-    c.put(i, 0, c.get(i, 1, 8 * i.ops[0].size))
-
-
-@means('movzx')
-def move_wider(c, i):
-    c.put(i, 0, widen(c.get(i, 1), 8 * i.ops[0].size))
-
-
-@means('lea')
-def address_of(c, i):
-    c.put(i, 0, part(c.address(i, i.ops[1]), 0, 8 * i.ops[0].size))
+TABLE.update({
+    **dict.fromkeys(('nop', 'endbr64'), lambda c, i: None),
+    **dict.fromkeys(('mov', 'movabs', 'movups', 'movdqu', 'movaps', 'movdqa', 'vmovups', 'vmovdqu',
+                     'vmovaps'), lambda c, i: c.put(i, 0, c.get(i, 1, 8 * i.ops[0].size))),
+    'movzx': lambda c, i: c.put(i, 0, widen(c.get(i, 1), 8 * i.ops[0].size)),
+    'lea': lambda c, i: c.put(i, 0, part(c.address(i, i.ops[1]), 0, 8 * i.ops[0].size)),
+    'not': lambda c, i: c.put(i, 0, ~c.get(i, 0)),
+    'vbroadcastsd': lambda c, i: c.put(i, 0, join([c.get(i, 1, 64)] * 4))})
 
 
 @means('xor', 'and', 'or', 'test', 'andn')
@@ -172,11 +167,6 @@ def negate(c, i):
     a = c.get(i, 0)
     c.put(i, 0, -a)
     c.set_flags(simple(-a), c=lambda: a != 0)
-
-
-@means('not')
-def invert(c, i):
-    c.put(i, 0, ~c.get(i, 0))
 
 
 def count(c, i, k, width):
@@ -308,11 +298,6 @@ def move_if(c, i):
     c.put(i, 0, choose(c.known(c.cond(i.mnemonic[4:])), c.get(i, 1), c.get(i, 0)))
 
 
-@means('nop', 'endbr64')
-def nothing(c, i):
-    pass
-
-
 @means('movq', 'vmovq')
 def move_quad(c, i):
     value = c.get(i, 1, 64)
@@ -363,8 +348,3 @@ def blend(c, i):
     a, b = c.get(i, 1), c.get(i, 2)
     c.put(i, 0, join([part(b if i.ops[3].imm >> k & 1 else a, 32 * k, 32)
                       for k in range(a.size() // 32)]))
-
-
-@means('vbroadcastsd')
-def broadcast(c, i):
-    c.put(i, 0, join([c.get(i, 1, 64)] * 4))
