@@ -1,18 +1,23 @@
 """Flips bits of the code of a library, one at a time, and tells which of these mutants the check
-refuses: mutants.py LIBRARY COUNT [SEED]"""
+refuses: mutants.py LIBRARY COUNT SEED PROGRAM.. Each call of a mutant that passes has been shown to
+do what the definition says; random calls tell whether it really does, by PROGRAM as in processor.py."""
 import collections
 import multiprocessing
 import random
 import re
 import signal
+import subprocess
 import sys
+import tempfile
 import time
 import loops
 import terms
+from elftools.elf.elffile import ELFFile
+from processor import compare, on_processor
 from reached import JOBS, NAMES, open_library, reached, run_case
 
 LIMIT, SECONDS = 600, 30
-KINDS = {'value': r'found 0x', 'products': 'product', 'contents': 'depends on',
+KINDS = {'value': r'found 0x|one path has calls', 'products': 'product', 'contents': 'depends on',
          'memory': 'no array|only read|not written|below the stack|not aligned|were written|too many',
          'registers': r'of the caller is lost|stack pointer|a return to|is not defined',
          'instruction': 'unknown|no instruction|no fixed place', 'no answer': 'does not answer|Timeout',
@@ -47,7 +52,7 @@ def text(address):
 
 
 def try_mutant(place):
-    """Runs the cases that reach the instruction until one fails."""
+    """Runs the cases that reach the instruction until one fails, or none if it is the same."""
     address, bit = place
     before, begin, tried, failure = text(address), time.time(), 0, None
     IMAGE.flip(address + bit // 8, bit % 8)
@@ -55,7 +60,7 @@ def try_mutant(place):
     loops.HEADS.clear()
     signal.alarm(LIMIT)
     try:
-        for tried, task in enumerate(AT[address], 1):
+        for tried, task in enumerate(AT[address] if after != before else (), 1):
             failure = run_case(task).failure
             if failure is not None:
                 break
@@ -79,13 +84,29 @@ def places(owners, count, seed):
         yield address, r.randrange(8 * IMAGE.instruction(address).size)
 
 
+def really(path, mutant, program):
+    """Makes calls of a mutant that passes, and tells whether they do what the model says."""
+    with open(path, 'rb') as file, tempfile.NamedTemporaryFile(suffix='.so') as changed:
+        offset, = ELFFile(file).address_offsets(mutant.address + mutant.bit // 8)
+        file.seek(0)
+        content = bytearray(file.read())
+        content[offset] ^= 1 << mutant.bit % 8
+        changed.write(content)
+        changed.flush()
+        try:
+            return f'{compare(on_processor(changed.name), 16, [*program, changed.name])} calls agree'
+        except (subprocess.CalledProcessError, terms.Refused) as error:
+            return f'WRONGLY: {error}'
+
+
 def row(name, mutants):
     kinds = collections.Counter(kind(m.failure) for m in mutants if m.failure)
+    same = sum(m.before == m.after for m in mutants)
     told = ', '.join(f'{k} {n}' for k, n in kinds.most_common())
-    print(f'{name:36} {len(mutants):5} {kinds.total():5}  {told}')
+    print(f'{name:38} {len(mutants):7} {kinds.total():7} {same:7}  {told}')
 
 
-def main(path, count, seed=1):
+def main(path, count, seed, *program):
     load(path)
     owners, cases = collections.defaultdict(set), reached(path)
     for case in sorted(cases, key=lambda c: (c.task[2].__name__.endswith('_many'), c.seconds)):
@@ -97,10 +118,10 @@ def main(path, count, seed=1):
         for m in pool.imap_unordered(try_mutant, list(places(owners, int(count), int(seed)))):
             names = owners[m.address]
             found[min(names) if len(names) == 1 else 'code of several functions'].append(m)
-            if m.failure is None or kind(m.failure) in ('no answer', 'error', 'other'):
-                print(f'{m.address:#x} bit {m.bit}: {m.before} -> {m.after}: {m.failure or "passes"}'
-                      f' ({m.cases} cases, {m.seconds:.0f} s)', flush=True)
-    print(f'{"function":36} mutants, refused, by what')
+            if kind(m.failure or '') in ('no answer', 'error', 'other') and m.before != m.after:
+                told = m.failure or f'passes {m.cases} cases, {really(path, m, program)}'
+                print(f'{m.address:#x} bit {m.bit}: {m.before} -> {m.after}: {told}', flush=True)
+    print(f'{"function":38} mutants refused    same  by what')
     for name in sorted(found):
         row(name, found[name])
     row('all', sum(found.values(), []))

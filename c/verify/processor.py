@@ -8,7 +8,7 @@ import sys
 from definition import Numbers, padded_words
 from machine import Image
 from reached import NAMES, PROCESSORS, reached
-from terms import bv, const
+from terms import Refused, bv, const
 
 PLACE, SIZE, REPLY = 2**32, 2048, struct.Struct('<18Q2048s')
 NO_RESULT, PAIRS = ('_write', '_rand_fill'), ('_init', '_seed', '_words')
@@ -136,7 +136,7 @@ def round_of_calls(r, version, fill):
 
 
 def compare(image, rounds, program):
-    """Makes calls in both ways, and returns how many."""
+    """Makes calls in both ways, and returns how many. Refuses what differs."""
     r = random.Random(1)
     calls = [call for k in range(rounds) for version in (4, 5)
              for call in round_of_calls(r, version, k % 64)]
@@ -145,13 +145,17 @@ def compare(image, rounds, program):
     for call, reply in zip(calls, REPLY.iter_unpack(done.stdout), strict=True):
         model, real = call.in_model(image), call.outcome(reply[:18], reply[18])
         if model != real:
-            sys.exit(f'FAILED: {call.name}{call.args} on {call.memory.hex()}:\n'
-                     f'{model} in the model, {real} really')
+            raise Refused(f'{call.name}{call.args} on {call.memory.hex()}: {model} in the model, '
+                          f'{real} really')
     return len(calls)
 
 
+def on_processor(path):
+    return Image(path, {name: on_numbers(kind) for name, kind in PROCESSORS.items()})
+
+
 def main(path, rounds, *program):
-    image = Image(path, {name: on_numbers(kind) for name, kind in PROCESSORS.items()})
+    image = on_processor(path)
     count, code = compare(image, int(rounds), [*program, path]), image.code()
     print(f'{count} calls do the same in the model and on the processor')
     ran, by_cases = set(image.decoded), set().union(*(case.ran for case in reached(path)))
@@ -165,4 +169,7 @@ def main(path, rounds, *program):
 
 
 if __name__ == '__main__':
-    main(*sys.argv[1:])
+    try:
+        main(*sys.argv[1:])
+    except Refused as refused:
+        sys.exit(f'FAILED: {refused}')
