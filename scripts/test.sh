@@ -39,7 +39,14 @@ unpack() {
 check_package() { make -C "$room"/komihash_rattle-*/ --no-print-directory check "$@"; }
 # Verifies the build that every processor can run. The one for x86-64-v3 takes as long again.
 verify_package() {
-    make -C "$room"/komihash_rattle-*/ --no-print-directory verify shared=libkomihash_rattle.so.1
+    local needed='import capstone, elftools, z3'
+    if { python3 -c "$needed" || /usr/bin/python3 -c "$needed"; } 2> "$room/case"; then
+        make -C "$room"/komihash_rattle-*/ --no-print-directory verify \
+            shared=libkomihash_rattle.so.1
+    else
+        skip 'the machine code of the library for C' 'Python with z3, capstone and pyelftools'
+        counted
+    fi
 }
 check_cross() { # PREFIX EMULATOR: with a cross compiler
     if type "$1gcc" "$2" > "$room/case" 2>&1; then
