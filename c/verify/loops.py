@@ -569,8 +569,9 @@ class Write(Induction):
         """For each number of pending bytes: what one shows is confirmed by the others."""
         key = self.library, self.version, 'shown'
         if key not in HEADS:
-            HEADS[key] = Write(self.library, self.version, 13)
-            super(Write, HEADS[key]).prove()
+            shown = Write(self.library, self.version, 13)
+            super(Write, shown).prove()
+            HEADS[key] = shown
         shown = HEADS[key]
         self.forms = {pc: dict(forms) for pc, forms in shown.forms.items()}
         self.holding, self.early = dict(shown.holding), shown.early

@@ -113,19 +113,22 @@ def main(path, count, seed, *program):
         for address in case.ran:
             owners[address].add(case.task[0])
             AT[address].append(case.task)
-    found = collections.defaultdict(list)
+    found, wrong = collections.defaultdict(list), 0
     with multiprocessing.Pool(JOBS, start, [path], maxtasksperchild=20) as pool:
         for m in pool.imap_unordered(try_mutant, list(places(owners, int(count), int(seed)))):
             names = owners[m.address]
             found[min(names) if len(names) == 1 else 'code of several functions'].append(m)
             if kind(m.failure or '') in ('no answer', 'error', 'other') and m.before != m.after:
                 told = m.failure or f'passes {m.cases} cases, {really(path, m, program)}'
+                wrong += 'WRONGLY' in told
                 print(f'{m.address:#x} bit {m.bit}: {m.before} -> {m.after}: {told}', flush=True)
     print(f'{"function":38} mutants refused    same  by what')
     for name in sorted(found):
         row(name, found[name])
     row('all', sum(found.values(), []))
+    print(f'{int(count) - wrong} passed, {wrong} failed')
+    return 1 if wrong else 0
 
 
 if __name__ == '__main__':
-    main(*sys.argv[1:])
+    sys.exit(main(*sys.argv[1:]))
