@@ -37,16 +37,18 @@ unpack() {
         cmp "$room"/komihash_rattle-*.tar.gz "$room"/komihash_rattle-*/out/*.tar.gz
 }
 check_package() { make -C "$room"/komihash_rattle-*/ --no-print-directory check "$@"; }
-# Verifies the build that every processor can run. The one for x86-64-v3 takes as long again.
+# Verifies the build that every processor can run, and tests how. The one for x86-64-v3 takes longer.
 verify_package() {
-    local needed='import capstone, elftools, z3'
-    if { python3 -c "$needed" || /usr/bin/python3 -c "$needed"; } 2> "$room/case"; then
-        make -C "$room"/komihash_rattle-*/ --no-print-directory verify \
-            shared=libkomihash_rattle.so.1
-    else
-        skip 'the machine code of the library for C' 'Python with z3, capstone and pyelftools'
-        counted
-    fi
+    local python
+    for python in python3 /usr/bin/python3; do
+        "$python" -c 'import capstone, elftools, z3' 2> "$room/case" || continue
+        "$python" scripts/values.py && bash c/verify/edits.sh "$python" x86_64 &&
+            make -C "$room"/komihash_rattle-*/ --no-print-directory verify PYTHON="$python" \
+                MUTANTS=30 shared=libkomihash_rattle.so.1
+        return
+    done
+    skip 'the machine code of the library for C' 'Python with z3, capstone and pyelftools'
+    counted
 }
 check_cross() { # PREFIX EMULATOR: with a cross compiler
     if type "$1gcc" "$2" > "$room/case" 2>&1; then

@@ -39,8 +39,8 @@ class Arm(Cpu):
     STACK, ABOVE, TABLE = 31, 0, TABLE
 
     def registers(self):
-        words = {str(n): secret(f'x{n} before the call') for n in range(31)}
-        return {**words, **{f'v{n}': secret(f'v{n} before the call', 128) for n in range(32)}}
+        words = {str(n): secret(f'x{n} of the caller') for n in range(31)}
+        return {**words, **{f'v{n}': secret(f'v{n} of the caller', 128) for n in range(32)}}
 
     def enter(self):
         self.r['30'] = sym('return')
@@ -49,7 +49,7 @@ class Arm(Cpu):
         super().check_return()
         for n in range(8, 16):
             if not z3.eq(part(self.r[f'v{n}'], 0, 64), part(self.before[f'v{n}'], 0, 64)):
-                raise Refused(f'register d{n} of the caller is lost')
+                self.refuse(f'd{n} of the caller is lost')
 
     def struct_at(self, place):
         """The arguments by which a function is told where its struct goes, and its result."""

@@ -68,8 +68,8 @@ class Call:
     def check_products(self, end, wanted):
         """Whether just these products were made, each once."""
         if end.asked != {(k, half) for k in wanted for half in (0, 1)}:
-            raise Refused(f'{len(end.asked) / 2:g} products, and not the {len(wanted)} of the '
-                          'definition')
+            end.refuse(f'{len(end.asked) / 2:g} products, and not the {len(wanted)} of the '
+                       'definition')
 
     def check_all_products(self, end):
         self.check_products(end, range(len(self.products.list)))
@@ -127,11 +127,12 @@ def check_state(end, state, name='stream'):
 def check(end, what, found, wanted):
     """Whether a term is the one that the definition gives."""
     if not end.facts.same(found, wanted, end.path):
-        raise Refused(f'{what}: {example(end, found, wanted)}')
+        one, other, inputs = example(end, found, wanted)
+        end.refuse(f'{what}: found {one:#x}, expected {other:#x}, for {inputs}')
 
 
 def example(end, found, wanted):
-    """Arguments for which two terms differ, with their values."""
+    """The values of two terms that differ, and the inputs for which they do."""
     model = end.facts.model(end.path, found != wanted)
     for point in (None, 0, 1):
         values = {}
@@ -150,16 +151,15 @@ def example(end, found, wanted):
         one, other = value(found), value(wanted)
         if one != other:
             break
-    inputs = {n: v for n, v in sorted(values.items()) if 'product' not in n}
-    return f'found {one:#x}, expected {other:#x}, for ' + \
-        ', '.join(f'{n} = {v.as_long():#x}' for n, v in inputs.items())
+    return one, other, ', '.join(f'{name} = {value.as_long():#x}' for name, value in
+                                 sorted(values.items()) if 'product' not in name)
 
 
 def check_bytes(end, what, name, wanted, start=0):
     """Whether just these bytes of an array were written."""
     if end.memory.written(name) != list(range(start, start + len(wanted))):
-        raise Refused(f'{what}: the bytes {end.memory.written(name)} of {name} were written, '
-                      f'and not {len(wanted)}')
+        end.refuse(f'{what}: the bytes {end.memory.written(name)} of {name} were written, '
+                   f'and not {len(wanted)}')
     if wanted:
         check(end, what, end.memory.content(name, start, len(wanted)), join(wanted))
 
@@ -172,7 +172,8 @@ def accepted(end, cond):
     """Whether a call is accepted on its path, which must decide it."""
     decided = end.facts.decide(end.path, cond)
     if decided is None:
-        raise Refused('one path has calls that are refused and calls that are not')
+        *_, inputs = example(end, choose(cond, bv(1), bv(0)), bv(1))
+        end.refuse(f'calls that must be refused end here, as for {inputs}, and others too')
     return decided
 
 

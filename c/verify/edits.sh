@@ -1,10 +1,8 @@
 #!/usr/bin/env bash
 # Edits the first fitting instruction of a function in the assembly, one at a time, and checks that
-# what is then built is refused: [CROSS=aarch64-linux-gnu-] edits.sh [PYTHON]
+# what is then built is refused: [CROSS=aarch64-linux-gnu-] edits.sh PYTHON SOURCE..
 cd "$(dirname "$0")/.." && . ./cases.sh
-python=${1:-python3}
-sources=(aarch64)
-[ -n "$CROSS" ] || sources=(x86_64 x86_64_v3)
+python=$1 sources=("${@:2}")
 
 # refused FUNCTION SOURCE EDIT, which is some Perl
 refused() {
@@ -13,7 +11,7 @@ refused() {
             "$room/assembly/$2.S" &&
         ! cmp -s "assembly/$2.S" "$room/assembly/$2.S" &&
         "${CROSS}gcc" -shared -nostdlib -o "$room/out/$2.so" "$room/assembly/$2.S" || return
-    "$python" verify --function "$1" "$room/out/$2.so" > "$room/told" 2>&1
+    "$python" verify --function "$1" -- "$room/out/$2.so" > "$room/told" 2>&1
     [ $? = 1 ] && grep FAILED "$room/told" || { cat "$room/told"; false; }
 }
 

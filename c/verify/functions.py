@@ -1,5 +1,5 @@
-"""What each function must do: its cases, which together are all calls that the header allows, and
-how a case is checked. Calls of any length, by induction, are in loops.py."""
+"""What each function must do, and how a case of it is checked. Calls of any length, by induction,
+are in loops.py."""
 import z3
 import loops
 from calls import (NONE, Call, accepted, check, check_bytes, check_generator, check_state,
@@ -181,31 +181,3 @@ def pad_many(library, version):
 
 def unpad_many(library, version, last):
     return loops.Unpad(library, version, last).prove()
-
-
-def each(numbers):
-    return [(k,) for k in numbers]
-
-
-BYTES = each(range(GRAIN))
-FILLS = each(range(64))
-# By function: the multiplications of the definition, whether jumps may depend on contents, and its
-# cases by how they are checked. Most cases are one length, remainder or number of pending bytes.
-FUNCTIONS = {
-    '': ('3+4(n/64)+(n%64)/16', False, {hash_of: FILLS, hash_many: each(range(8))}),
-    '_start': ('1', False, {start_of: [()]}),
-    '_write': ('4((f+n)/64)', False, {
-        write_many: FILLS, write_within: [(f, n) for f in range(64) for n in range(64 - f)]}),
-    '_finish': ('2+f/16', False, {finish: [(f, b) for f in range(64) for b in (0, 1)]}),
-    '_save': ('0', False, {save: FILLS}),
-    '_resume': ('0', True, {resume: each([None, *range(132)])}),
-    '_rand_init': ('4', False, {rand_init: [('_rand_init', 1, 4)]}),
-    '_rand_init_with_extra_seed': ('4', False, {
-        rand_init: [('_rand_init_with_extra_seed', 2, 4)]}),
-    '_rand_init_words': ('0', False, {rand_init: [('_rand_init_words', 2, 0)]}),
-    '_rand_next': ('1', False, {rand_next: [()]}),
-    '_rand_fill': ('(n+7)/8', False, {rand_fill: BYTES, rand_fill_many: [()]}),
-    '_pad': ('0', False, {pad: BYTES, pad_many: [()]}),
-    '_unpad': ('0', True, {unpad_many: each(LAST_BYTES), unpad: [(0, None), *(
-        (n, last) for n in range(1, GRAIN // 8 + 1) for last in LAST_BYTES)]}),
-}

@@ -222,7 +222,7 @@ class Induction:
         return fits
 
     def leave_early(self, end):
-        raise Refused('a return before the end')
+        end.refuse('a return before the end')
 
     def arrive(self, end, pc):
         """Whether a state has the form of this place. What doesn't fit is dropped."""
@@ -301,11 +301,12 @@ class Induction:
         return self.many(1, r), simple(taken)
 
     def windows(self, base, front, end, more=0):
-        """The bytes from `base` on, and the last of them; there may be more than the length."""
+        """The last of the bytes, and those from `base` on; there may be more than the length. What
+        lies in both is read from the last."""
         after = self.base + self.length + more
         memory, limit = self.call.memory, simple(after - base)
-        memory.add(Array('front', base, 0, len(front), limit=limit), front)
         memory.add(Array('end', after, -len(end), 0), end, -len(end))
+        memory.add(Array('front', base, 0, len(front), limit=limit), front)
 
 
 class Hash(Induction):
@@ -418,7 +419,7 @@ class Copy(Induction):
 
     def made(self, end):
         if not end.facts.holds(end.path, self.accepted()):
-            raise Refused('a turn of a call that is refused')
+            end.refuse('a turn of a call that is refused')
         written = end.memory.written('out')
         check_bytes(end, 'bytes', 'out', self.content[:len(written) // 8 * 8])
         return len(written) // 8
@@ -451,7 +452,7 @@ class Copy(Induction):
 
     def leave_early(self, end):
         if accepted(end, self.accepted()):
-            raise Refused('a return before the end')
+            end.refuse('a return before the end')
         check(end, 'length', end.result(), self.REFUSED)
         check_bytes(end, 'refused', 'out', [])
         self.call.check_all_products(end)
@@ -551,7 +552,7 @@ class Write(Induction):
     def leave_early(self, end):
         world = self.world(end)
         if not end.facts.holds(end.path, self.left(world) == 0):
-            raise Refused('a return before the end')
+            end.refuse('a return before the end')
         self.check_stream(end, world.words, [])
 
     def check_stream(self, end, s, rest):

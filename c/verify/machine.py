@@ -178,6 +178,7 @@ class Cpu:
         self.image, self.products, self.facts, self.seen = image, products, Facts(), Seen()
         self.memory, self.r, self.flags, self.path = Memory(), self.registers(), {}, []
         self.asked, self.undefined, self.enough = frozenset(), 0, {}
+        self.place = None
         self.visits = self.on_fork = None
         self.lengths = []
         self.sp = sym('sp')
@@ -208,13 +209,15 @@ class Cpu:
             cpu.check_return()
             yield cpu
 
+    def refuse(self, why):
+        """Refuses what the last instruction did, or what is found at its return."""
+        i = self.image.instruction(self.place)
+        raise Refused(f'{i.address:#x}: {f"{i.mnemonic} {i.text}".strip()}: {why}') from None
+
     def check_return(self):
         for register in self.SAVED:
             if not z3.eq(self.r[register], self.before[register]):
-                raise Refused(f'register {self.name_of(register)} of the caller is lost')
-
-    def name_of(self, register):
-        return str(self.before[register])
+                self.refuse(f'{self.before[register]} is lost')
 
     def result(self, k=0):
         return self.r[self.RESULTS[k]]
@@ -297,12 +300,13 @@ class Cpu:
         if do is None:
             raise Unknown(f'{pc:#x}: unknown instruction: {i.mnemonic} {i.text}')
         self.note(pc)
+        self.place = pc
         try:
             went = do(self, i)
             if isinstance(went, tuple):
                 return self.branch(*went, todo)
         except Refused as refused:
-            raise Refused(f'{pc:#x}: {i.mnemonic} {i.text}: {refused}') from None
+            self.refuse(refused)
         return pc + i.size if went is None else None if went is RETURN else went
 
     def note(self, pc):

@@ -1,13 +1,12 @@
 """Compares the meaning of instructions with a processor: random calls of a library are made in the
-model and really, and must return and change the same: processor.py LIBRARY ROUNDS PROGRAM..
-PROGRAM is processor.c, compiled for the library's processor; an emulator may come before it."""
+model and really, and must return and change the same. They are really made by a program, which is
+processor.c, compiled for the library's processor; an emulator may come before it."""
 import random
 import struct
 import subprocess
-import sys
+from cases import PROCESSORS
 from definition import Numbers, padded_words
 from machine import Image
-from reached import NAMES, PROCESSORS, reached
 from terms import Refused, bv, const
 
 PLACE, SIZE, REPLY = 2**32, 2048, struct.Struct('<18Q2048s')
@@ -135,41 +134,22 @@ def round_of_calls(r, version, fill):
         .number(room)
 
 
-def compare(image, rounds, program):
-    """Makes calls in both ways, and returns how many. Refuses what differs."""
-    r = random.Random(1)
+def on_processor(path):
+    """A library in the model, with numbers for terms."""
+    return Image(path, {name: on_numbers(kind) for name, kind in PROCESSORS.items()})
+
+
+def compare(path, rounds, program):
+    """Makes calls in both ways, and returns how many, and the instructions that they reach. Refuses
+    what differs."""
+    r, image = random.Random(1), on_processor(path)
     calls = [call for k in range(rounds) for version in (4, 5)
              for call in round_of_calls(r, version, k % 64)]
     asked = b''.join(call.request() for call in calls)
-    done = subprocess.run(program, input=asked, stdout=subprocess.PIPE, check=True)
+    done = subprocess.run([*program, path], input=asked, stdout=subprocess.PIPE, check=True)
     for call, reply in zip(calls, REPLY.iter_unpack(done.stdout), strict=True):
         model, real = call.in_model(image), call.outcome(reply[:18], reply[18])
         if model != real:
             raise Refused(f'{call.name}{call.args} on {call.memory.hex()}: {model} in the model, '
                           f'{real} really')
-    return len(calls)
-
-
-def on_processor(path):
-    return Image(path, {name: on_numbers(kind) for name, kind in PROCESSORS.items()})
-
-
-def main(path, rounds, *program):
-    image = on_processor(path)
-    count, code = compare(image, int(rounds), [*program, path]), image.code()
-    print(f'{count} calls do the same in the model and on the processor')
-    ran, by_cases = set(image.decoded), set().union(*(case.ran for case in reached(path)))
-    dead = [image.instruction(address) for address in sorted(code - ran - by_cases)]
-    print(f'{len(code)} instructions: {len(code & ran)} are reached by these calls, '
-          f'{len(code & by_cases - ran)} only by cases of the check, {len(dead)} by none:')
-    for i in dead:
-        print(f'{i.address:#x} {i.mnemonic} {i.text}')
-    kinds = [{image.instruction(address).mnemonic for address in some} for some in (by_cases, ran)]
-    print('reached by no call that was compared:', *sorted(kinds[0] - kinds[1]) or ['none'])
-
-
-if __name__ == '__main__':
-    try:
-        main(*sys.argv[1:])
-    except Refused as refused:
-        sys.exit(f'FAILED: {refused}')
+    return len(calls), set(image.decoded)

@@ -7,7 +7,7 @@ import z3
 
 SECOND = os.environ.get('SECOND')
 SIMPLIFY = z3.args2params([], {'bv_sort_ac': True})
-SECONDS = 100
+EFFORT = 10**9
 ANSWERS, COUNTS = {}, {'asked': 0, 'second': 0}
 
 
@@ -189,18 +189,18 @@ class Facts:
     def ask(self, terms):
         COUNTS['asked'] += 1
         solver = z3.Tactic('qfbv').solver()
-        solver.set('timeout', 1000 * SECONDS)
+        solver.set('rlimit', EFFORT)
         solver.add(*terms)
         answer = solver.check()
         if answer == z3.unknown:
-            raise Unknown(f'Z3 does not answer within {SECONDS} seconds')
+            raise Unknown('Z3 does not answer with the effort that is allowed')
         if SECOND:
             self.ask_second(solver, str(answer))
         return solver.model() if answer == z3.sat else None
 
     def ask_second(self, solver, answer):
         text = '(set-logic QF_BV)\n' + solver.to_smt2()
-        command = [SECOND, '--lang=smt2', f'--tlimit={1000 * SECONDS}']
+        command = [SECOND, '--lang=smt2', '--tlimit=600000']
         done = subprocess.run(command, input=text, capture_output=True, text=True)
         if done.stdout.strip() != answer:
             raise Refused(f'Z3 answers {answer}, {SECOND} {done.stdout.strip() or done.stderr}')

@@ -5,7 +5,7 @@ from terms import Unknown, bv, const
 
 
 def check_definition():
-    """Computes the hashes of vectors.tsv. Returns how many checks passed and failed."""
+    """Computes the hashes of vectors.tsv."""
     path = os.path.join(os.path.dirname(os.path.abspath(__file__)), '..', 'vectors.tsv')
     with open(path) as file:
         rows = [line.rstrip('\n').split('\t') for line in file if line[0] != '#']
@@ -15,4 +15,3 @@ def check_definition():
         if found != int(wanted, 16):
             raise Unknown(f'the definition gives {found:x} and not {wanted} for {message}')
     print(f'the definition gives the {len(rows)} hashes of vectors.tsv')
-    return 1, 0

@@ -44,7 +44,7 @@ class X86(Cpu):
     STACK, ABOVE, TABLE = 4, 8, TABLE
 
     def registers(self):
-        return {n: secret(f'{name} before the call', 256 if name[0] == 'y' else 64)
+        return {n: secret(f'{name} of the caller', 256 if name[0] == 'y' else 64)
                 for n, name in FULL.items()}
 
     def enter(self):
@@ -53,7 +53,7 @@ class X86(Cpu):
     def check_return(self):
         super().check_return()
         if not z3.is_true(simple(self.r[4] == self.sp + 8)):
-            raise Refused('the stack pointer is not where the caller left it')
+            self.refuse('the stack pointer is not where the caller left it')
 
     def struct_at(self, place):
         """The arguments by which a function is told where its struct goes, and its result."""

@@ -1,12 +1,18 @@
-"""The definition against the tables of values in docs/DEFINITIONS.md."""
-import os
+#!/usr/bin/env python3
+"""Compares the definition that c/verify has with the tables of values in docs/DEFINITIONS.md."""
+
 import re
 import sys
+from pathlib import Path
+
 import z3
+
+ROOT = Path(__file__).resolve().parent.parent
+sys.path.append(str(ROOT / "c/verify"))
 from definition import Numbers, State, is_text, komi, next_pair, padded_words, start, words_of
 from terms import Unknown, bv, bytes_of, const, simple
 
-PAGE = os.path.join(os.path.dirname(os.path.abspath(__file__)), '../../docs/DEFINITIONS.md')
+PAGE = ROOT / 'docs/DEFINITIONS.md'
 PRODUCTS, SEED = Numbers(), '1234567890abcdef'
 
 
@@ -107,8 +113,7 @@ def check_value(version, row, wanted):
 
 def check_values():
     """Computes each value of the page. Returns how many there are."""
-    with open(PAGE) as page:
-        section = page.read().split('\n## Values\n')[1].split('\n## ')[0]
+    section = PAGE.read_text('utf-8').split('\n## Values\n')[1].split('\n## ')[0]
     rows = [row.split(' | ') for row in re.findall(r'^\| (.*) \|$', section, re.M)]
     values = [(v, row, cell) for row, *cells in rows for v, cell in zip((5, 4), cells[::-1])
               if cell not in ('Hash', 'Version 4', 'Version 5')]
