@@ -3,7 +3,7 @@
 #
 #   run.sh bench [REPEATS]      times all rows, and writes speed.md, speed.svg and ../README.md
 #   run.sh bench REPEATS WORD   times the rows whose name contains WORD, and prints them
-#   run.sh fuzz SEED N          compares every call on some small sets and on N random inputs
+#   run.sh fuzz SEED N          compares calls on some small sets and on N random inputs
 #   run.sh answers              prints sums of hashes of the Rust crate, which a test has
 #
 # REPEATS is 61 if not given. LAYOUTS says in how many layouts of the machine code `bench` runs, 8

@@ -1,6 +1,6 @@
-//! Compares the calls of the library with those of the Rust crate. Saved texts and padded words,
-//! which the Rust crate lacks, are compared with rules that are written here once more.
-use crate::calls::{Build, Calls, Generator, Stream, builds, builds_for_v3};
+//! Compares the calls of the library with those of the Rust crate. It lacks saved texts and padded
+//! words, and the builds for other processors: c/verify shows that all do what one definition says.
+use crate::calls::{Build, Calls, Generator, builds};
 use crate::random::Random;
 use std::fmt::Debug;
 
@@ -13,7 +13,7 @@ const ENDS: [u8; 5] = [0x00, 0x01, 0x7f, 0x80, 0xff];
 
 /// Compares every message of a small set, and random inputs. Returns the first difference.
 pub fn run(seed: u64, count: u64) -> Found {
-    for build in builds().into_iter().chain(builds_for_v3()) {
+    for build in builds() {
         let mut random = Random(seed);
         build
             .edges()
@@ -30,30 +30,6 @@ fn same<T: PartialEq + Debug>(call: &str, wanted: T, got: T) -> Found {
 /// Returns a message whose blocks end in bytes below 128 and above.
 pub fn pattern(length: usize) -> Vec<u8> {
     (0..length).map(|i| (7 * i + 3) as u8).collect()
-}
-
-/// Returns the padded words of a message: its bytes, its padding byte, and zeros; 0 for no bytes.
-fn padded(version: u8, bytes: &[u8]) -> Vec<u64> {
-    let Some(last) = bytes.last() else { return vec![0] };
-    let mut all = bytes.to_vec();
-    all.push(if version == 4 && *last >= 128 { 2 } else { 1 });
-    all.resize(8 * all.len().div_ceil(8), 0);
-    all.chunks(8).map(|eight| u64::from_le_bytes(eight.try_into().unwrap())).collect()
-}
-
-/// Returns the message that has these padded words, if there is one. It tries every length.
-fn unpadded(version: u8, words: &[u64]) -> Option<Vec<u8>> {
-    let all: Vec<u8> = words.iter().flat_map(|word| word.to_le_bytes()).collect();
-    let length = (0..=all.len()).find(|it| padded(version, &all[..*it]) == words)?;
-    Some(all[..length].to_vec())
-}
-
-/// Returns the text of the stream of a message but its lanes: four bytes, and the pending ones.
-fn text_without_lanes(version: u8, bytes: &[u8]) -> Vec<u8> {
-    let (blocks, pending) = bytes.split_at(bytes.len() - bytes.len() % 64);
-    let has_high_end = version == 4 && blocks.last().is_some_and(|last| *last >= 128);
-    let head = [version, u8::from(!blocks.is_empty()), u8::from(has_high_end), pending.len() as u8];
-    [&head, pending].concat()
 }
 
 impl Random {
@@ -120,9 +96,7 @@ impl Build {
         let room = random.bytes(offset + length);
         let (bytes, seed) = (&room[offset..], random.number());
         self.message(bytes, &random.pieces(length), seed)?;
-        self.generators(random)?;
-        self.pads(bytes, random)?;
-        self.unpads(&bytes[..length.min(200)], random)
+        self.generators(random)
     }
 
     /// Compares the hash, and the answers of streams.
@@ -133,38 +107,18 @@ impl Build {
             .map_err(|it| format!("{it}\nseed {seed:#x}, pieces {pieces:?}, message {bytes:x?}"))
     }
 
-    /// Compares the answers after each piece, of a stream and of one that is saved and resumed
-    /// after each piece.
+    /// Compares the answers after each piece.
     fn streams(&self, bytes: &[u8], pieces: &[usize], seed: u64) -> Found {
-        let mut wanted = (self.rust_crate.start)(seed);
-        let mut streams = [(self.library.start)(seed); 2];
+        let (mut wanted, mut got) = ((self.rust_crate.start)(seed), (self.library.start)(seed));
         let mut length = 0;
         for piece in pieces {
             let part = &bytes[length..length + piece];
             length += piece;
             (self.rust_crate.write)(&mut wanted, part.into());
-            for stream in &mut streams {
-                (self.library.write)(stream, part.into());
-                same("finish", (self.rust_crate.finish)(&wanted), (self.library.finish)(stream))?;
-            }
-            let [mut text, resumed] = streams.each_ref().map(|it| self.saved(it));
-            same("save of a resumed stream", &text, &resumed)?;
-            let got = text.get(68..).map(|pending| [&text[..4], pending].concat());
-            same("save", Some(text_without_lanes(self.version, &bytes[..length])), got)?;
-            streams[1] = (self.library.start)(!seed);
-            same("resume", true, (self.library.resume)(&mut streams[1], (&text).into()))?;
-            text[0] = 9 - self.version;
-            let is_resumed = (self.library.resume)(&mut streams[1], (&text).into());
-            same("resume of the other version's text", false, is_resumed)?;
+            (self.library.write)(&mut got, part.into());
+            same("finish", (self.rust_crate.finish)(&wanted), (self.library.finish)(&got))?;
         }
         Ok(())
-    }
-
-    fn saved(&self, stream: &Stream) -> Vec<u8> {
-        let mut text = vec![0; 131];
-        let length = (self.library.save)(stream, (&mut text).into());
-        text.truncate(length);
-        text
     }
 
     fn generators(&self, random: &mut Random) -> Found {
@@ -186,38 +140,5 @@ impl Build {
             same(&name, fill(&self.rust_crate, &mut wanted), fill(&self.library, &mut got))?;
         }
         Ok(())
-    }
-
-    fn pads(&self, bytes: &[u8], random: &mut Random) -> Found {
-        let words = padded(self.version, bytes);
-        let mut out = vec![random.word(); words.len() + random.below(4) - 1];
-        let mut wanted = (0, out.clone());
-        if out.len() >= words.len() {
-            wanted.0 = words.len();
-            wanted.1[..words.len()].copy_from_slice(&words);
-        }
-        let count = (self.library.pad)(bytes.into(), (&mut out).into());
-        same(&format!("pad {bytes:x?}"), wanted, (count, out))
-    }
-
-    fn unpads(&self, bytes: &[u8], random: &mut Random) -> Found {
-        let mut words = padded(self.version, bytes);
-        let at = random.below(words.len());
-        match random.below(6) {
-            0 => words.push(0),
-            1 => words[at] ^= 1 << random.below(64),
-            2 => words[at] = random.one_of(&[0, 1, 2, 3, 0x100, 0x180, 0x200, 0x201, 0x280]),
-            3 => drop(words.pop()),
-            _ => {}
-        }
-        let mut out = vec![0x5a; (8 * words.len() + random.below(4)).saturating_sub(1)];
-        let mut wanted = (usize::MAX, out.clone());
-        let message = unpadded(self.version, &words);
-        if let Some(message) = message.filter(|_| out.len() >= 8 * words.len()) {
-            wanted.0 = message.len();
-            wanted.1[..message.len()].copy_from_slice(&message);
-        }
-        let length = (self.library.unpad)((&words).into(), (&mut out).into());
-        same(&format!("unpad {words:x?}"), wanted, (length, out))
     }
 }
