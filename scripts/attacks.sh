@@ -2,7 +2,8 @@
 # Checks that no other crate can raise a tally, or hash in a version 3. Each attack is a module of a
 # crate above `komihash` (.rt.txt), in place of a control, a file of its proofs (.antt.txt), in place
 # of another, or a module with the handwritten proof of its function `raised` (.proof.txt). It must
-# be refused with the error in the first line of its first file, and the controls must be accepted.
+# be refused with the kind of error in the first line of its first file, which must be about the name
+# beside it. The controls must be accepted.
 set -u
 cd "$(dirname "$0")/attacks" || exit 1
 . ../../c/cases.sh
@@ -26,7 +27,13 @@ check() {
     done
     (cd "$above" && rt check 2>&1)
 }
-refused() { check "$1".* | tee /dev/stderr | grep -F "$(sed '1!d; s/^[-/]* //' "$1".*)"; }
+refused() {
+    local kind name told
+    read -r _ kind name < <(cat "$1".*)
+    told=$(check "$1".*)
+    echo "$told"
+    grep -F "$kind:" <<< "$told" && grep "\`[^\`]*\b$name\b" <<< "$told"
+}
 
 note 'the controls are accepted' check
 for attack in $(printf '%s\n' *_* | sed 's/\..*//' | uniq); do

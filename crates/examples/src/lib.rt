@@ -2,7 +2,7 @@
 #![tactic(auto)]
 
 pub mod by_search;
-pub mod calls;
+pub mod call_lists;
 pub mod checkpoints;
 pub mod costs;
 pub mod hashed;

@@ -4,8 +4,8 @@
 ghost use Rattle.std.specs.Prelude.{◌≡◌, ◌+◌, ◌*◌, ◌/◌, ◌%◌, ◌≤◌, ◌↔◌, ◌⊎◌, ◌++◌, ◌∷◌, []};
 ghost use Rattle.std.specs.Prelude.{ℕ, List, length, take, drop, IfSome, IfNone, IsNone, IsSomeAnd};
 ghost use Rattle.komihash.specs.Calls.{AreAbsorbs, answers, answers_after, onward, bytes_of_calls};
-ghost use Rattle.komihash.specs.Calls.{onward_products, onward_kept, run_products, run_kept};
-ghost use Rattle.komihash.specs.Counts.{write_products, answer_products, kept_bytes};
+ghost use Rattle.komihash.specs.Calls.{onward_products, onward_kept_bytes, run_products, run_kept_bytes};
+ghost use Rattle.komihash.specs.Counts.{absorb_products, answer_products, absorb_kept_bytes};
 ghost use Rattle.komihash.specs.Generator.{next, after_steps, fill, after_fill};
 ghost use Rattle.komihash.specs.Hash.{komi};
 ghost use Rattle.komihash.specs.Padding.{ArePadded, padded_words};
@@ -13,7 +13,7 @@ ghost use Rattle.komihash.specs.Stream.{IsState, HasAbsorbed};
 ghost use Rattle.komihash.specs.Words.{AreBytes};
 ghost use Rattle.komihash.specs.declared.stream.Call.{Call};
 ghost use Rattle.komihash.specs.declared.stream.Call.TheVariants.{Answer};
-ghost use Rattle.examples.specs.Promises.{IsNew, Writes, Answers, Saves, Resumes};
+ghost use Rattle.examples.specs.Promises.{StartPromise, AbsorbPromise, AnswerPromise, StorePromise, RestorePromise};
 
 use komihash::stream::{Call, KomiStream, LONGEST_TEXT, run, run_on};
 use komihash::tally::Tally;
@@ -24,23 +24,23 @@ use std::hash::Hasher;
 pub trait Promises: KomiStream {
     /// Returns the new stream of a seed, and the two of seed 0.
     fn new_streams(seed: u64) -> (Self, Self, Self)
-        ensures seed { IsNew Self.VERSION seed (Self.state result.0) }
-        ensures new { IsNew Self.VERSION 0 (Self.state result.1) }
-        ensures default { IsNew Self.VERSION 0 (Self.state result.2) };
+        ensures seed { StartPromise Self.VERSION seed (Self.state result.0) }
+        ensures new { StartPromise Self.VERSION 0 (Self.state result.1) }
+        ensures default { StartPromise Self.VERSION 0 (Self.state result.2) };
 
     /// Writes bytes to the stream, and returns the hash of all bytes so far.
     fn written(&mut self, bytes: &[u8]) -> u64
-        ensures write { Writes Self.VERSION (Self.state self.old) (Self.state self.new) bytes.now }
-        ensures finish { Answers Self.VERSION (Self.state self.new) result };
+        ensures write { AbsorbPromise Self.VERSION Self.state self bytes.now }
+        ensures finish { AnswerPromise Self.VERSION (Self.state self.new) result };
 
     /// Writes the saved text of the stream to the front of `out`.
     fn saved(&self, out: &mut [u8]) -> usize
         requires { LONGEST_TEXT ≤ length out.old }
-        ensures { Saves Self.VERSION (Self.state self.now) result out.old out.new };
+        ensures { StorePromise Self.VERSION (Self.state self.now) result out };
 
     /// Returns the stream of a saved text, and accepts nothing else.
     fn resumed(bytes: &[u8]) -> Option<Self>
-        ensures { Resumes _ Self.state Self.VERSION bytes.now result };
+        ensures { RestorePromise _ Self.state Self.VERSION bytes.now result };
 
     /// Returns the hash of a message twice. The second is counted, and copies no byte.
     fn hashed(bytes: &[u8], seed: u64, tally: &mut Tally) -> (u64, u64)
@@ -48,7 +48,7 @@ pub trait Promises: KomiStream {
         ensures counted { result.1 ≡ komi Self.VERSION seed bytes.now }
         ensures products { tally.new.products ≡ tally.old.products
             + (3 + 4 * (length bytes.now / 64) + length bytes.now % 64 / 16) }
-        ensures kept { tally.new.kept ≡ tally.old.kept };
+        ensures kept_bytes { tally.new.kept_bytes ≡ tally.old.kept_bytes };
 
     /// Writes the padded words of a message to the front of `out`.
     fn padded(bytes: &[u8], out: &mut [u64]) -> usize
@@ -200,9 +200,9 @@ pub fn by_the_names_of_the_root(
 pub fn started<S: KomiStream>(seed: u64) -> (S, Tally)
     ensures version { (S.VERSION ≡ 4) ⊎ (S.VERSION ≡ 5) }
     ensures state { IsState S.VERSION (S.state result.0) }
-    ensures start { IsNew S.VERSION seed (S.state result.0) }
+    ensures start { StartPromise S.VERSION seed (S.state result.0) }
     ensures products { result.1.products ≡ 1 }
-    ensures kept { result.1.kept ≡ 0 }
+    ensures kept_bytes { result.1.kept_bytes ≡ 0 }
 {
     let mut tally = Tally::new();
     (S::start(seed, &mut tally), tally)
@@ -210,13 +210,13 @@ pub fn started<S: KomiStream>(seed: u64) -> (S, Tally)
 
 /// Absorbs bytes, and answers. Counts the products and the copied bytes of both.
 pub fn absorbed<S: KomiStream>(stream: &mut S, bytes: &[u8], tally: &mut Tally) -> u64
-    ensures absorb { Writes S.VERSION (S.state stream.old) (S.state stream.new) bytes.now }
-    ensures answer { Answers S.VERSION (S.state stream.new) result }
+    ensures absorb { AbsorbPromise S.VERSION S.state stream bytes.now }
+    ensures answer { AnswerPromise S.VERSION (S.state stream.new) result }
     ensures products { tally.new.products ≡ tally.old.products
-        + write_products (length (S.state stream.old).pending) (length bytes.now)
+        + absorb_products (length (S.state stream.old).pending) (length bytes.now)
         + answer_products (length (S.state stream.new).pending) }
-    ensures kept { tally.new.kept
-        ≡ tally.old.kept + kept_bytes (length (S.state stream.old).pending) (length bytes.now) }
+    ensures kept_bytes { tally.new.kept_bytes
+        ≡ tally.old.kept_bytes + absorb_kept_bytes (length (S.state stream.old).pending) (length bytes.now) }
 {
     stream.absorb(bytes, tally);
     stream.answer(tally)
@@ -225,14 +225,14 @@ pub fn absorbed<S: KomiStream>(stream: &mut S, bytes: &[u8], tally: &mut Tally) 
 /// Writes the saved text of a stream to the front of `out`.
 pub fn stored<S: KomiStream>(stream: &S, out: &mut [u8]) -> usize
     requires { LONGEST_TEXT ≤ length out.old }
-    ensures { Saves S.VERSION (S.state stream.now) result out.old out.new }
+    ensures { StorePromise S.VERSION (S.state stream.now) result out }
 {
     stream.store(out)
 }
 
 /// Returns the stream of a saved text, and accepts nothing else.
 pub fn restored<S: KomiStream>(bytes: &[u8]) -> Option<S>
-    ensures { Resumes _ S.state S.VERSION bytes.now result }
+    ensures { RestorePromise _ S.state S.VERSION bytes.now result }
 {
     S::restore(bytes)
 }
@@ -250,7 +250,7 @@ pub fn run_of_calls<S: KomiStream>(
     ensures count { result ≡ length (answers S.VERSION seed calls.now) }
     ensures rest { drop result out.new ≡ drop result out.old }
     ensures products { tally.new.products ≡ tally.old.products + run_products calls.now }
-    ensures kept { tally.new.kept ≡ tally.old.kept + run_kept calls.now }
+    ensures kept_bytes { tally.new.kept_bytes ≡ tally.old.kept_bytes + run_kept_bytes calls.now }
     ensures digest { (pieces : List Call) → AreAbsorbs pieces → calls.now ≡ pieces ++ Answer ∷ []
         → tally.new.products ≡ tally.old.products + (3 + 4 * (length (bytes_of_calls pieces) / 64)
         + length (bytes_of_calls pieces) % 64 / 16) }
@@ -272,12 +272,11 @@ pub fn run_of_further_calls<S: KomiStream>(
     ensures hashes { (seed : ℕ) (m : List ℕ) → HasAbsorbed S.VERSION seed (S.state stream.old) m
         → take result out.new ≡ answers_after (komi S.VERSION seed) m calls.now }
     ensures rest { drop result out.new ≡ drop result out.old }
-    ensures absorbed { Writes S.VERSION (S.state stream.old) (S.state stream.new)
-        (bytes_of_calls calls.now) }
+    ensures absorbed { AbsorbPromise S.VERSION S.state stream (bytes_of_calls calls.now) }
     ensures products { tally.new.products
         ≡ tally.old.products + onward_products (length (S.state stream.old).pending) calls.now }
-    ensures kept { tally.new.kept
-        ≡ tally.old.kept + onward_kept (length (S.state stream.old).pending) calls.now }
+    ensures kept_bytes { tally.new.kept_bytes
+        ≡ tally.old.kept_bytes + onward_kept_bytes (length (S.state stream.old).pending) calls.now }
 {
     run_on(stream, calls, out, tally)
 }

@@ -9,7 +9,7 @@ use Rattle.std.proofs.Math.Pow.{pow_mono}
 use Rattle.std.proofs.Math.Nat.{div-div-eq-div-mul}
 use Rattle.std.specs.Int.{to_le_bytes}
 use Rattle.std.specs.Simd.Lanes.{digits_l}
-use Rattle.komihash.specs.Storage.{stored_words, whole_words}
+use Rattle.komihash.specs.Internals.{stored_words, whole_words}
 use Rattle.komihash.specs.Words.{AreBytes, AreWords, word_of, all_bytes}
 use Rattle.komihash.proofs.Lists.{Covers, take-append}
 use Rattle.komihash.proofs.WholeWords.{length-whole_words}

@@ -4,7 +4,7 @@ use Rattle.std.proofs.Common.{length, take, drop, refl, ap, arith, ◌∙◌, sy
 use Rattle.std.proofs.lemmas.List.{length-drop, length-take-le, take-append-drop, drop-drop}
 use Rattle.std.proofs.lemmas.List.{drop_at}
 use Rattle.komihash.specs.Rounds.{Lanes, block_round}
-use Rattle.komihash.specs.Storage.{whole_words, after_words, block_lanes, after_blocks}
+use Rattle.komihash.specs.Internals.{whole_words, after_words, block_lanes, after_blocks}
 use Rattle.komihash.proofs.WholeWords.{whole_words-append, length-whole_words}
 
 -- ---- the lanes

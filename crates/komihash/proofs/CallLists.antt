@@ -4,7 +4,7 @@ use Rattle.std.proofs.Common.{sym, inl, inr}
 use Rattle.std.proofs.lemmas.List.{append_assoc, append-nil, length-append}
 use Rattle.std.proofs.lemmas.Bool.{cases_lt}
 use Rattle.komihash.specs.Calls.{answers_after, onward, bytes_of_calls, AreAbsorbs, run_products}
-use Rattle.komihash.specs.Calls.{products_of_answers, onward_products, onward_kept}
+use Rattle.komihash.specs.Calls.{products_of_answers, onward_products, onward_kept_bytes}
 use Rattle.komihash.specs.Counts.{hash_products}
 use Rattle.komihash.specs.Hash.{komi}
 use Rattle.komihash.specs.Stream.{State, HasAbsorbed, start, absorb, answer}
@@ -78,7 +78,7 @@ bytes_of_calls-append (Answer ∷ xs) ys = bytes_of_calls-append xs ys
 -- costs depend only on how many bytes came before, modulo 64
 costs-then : (p q : ℕ) (xs ys : List Call) → q % 64 ≡ (p + length (bytes_of_calls xs)) % 64
     → (products_of_answers p (xs ++ ys) ≡ products_of_answers p xs + products_of_answers q ys)
-    × (onward_kept p (xs ++ ys) ≡ onward_kept p xs + onward_kept q ys)
+    × (onward_kept_bytes p (xs ++ ys) ≡ onward_kept_bytes p xs + onward_kept_bytes q ys)
 costs-then p q [] [] e = (refl, refl)
 costs-then p q [] (Absorb bytes ∷ ys) e =
     let same : q % 64 ≡ p % 64 = omega arith in
@@ -122,8 +122,8 @@ pub record GoesOn (v : ℕ) (first now : State) (xs ys : List Call) : Type 0 whe
   pub state : absorb v first (bytes_of_calls (xs ++ ys)) ≡ absorb v now (bytes_of_calls ys)
   pub products : onward_products (length first.pending) (xs ++ ys)
       ≡ onward_products (length first.pending) xs + onward_products (length now.pending) ys
-  pub kept : onward_kept (length first.pending) (xs ++ ys)
-      ≡ onward_kept (length first.pending) xs + onward_kept (length now.pending) ys
+  pub kept_bytes : onward_kept_bytes (length first.pending) (xs ++ ys)
+      ≡ onward_kept_bytes (length first.pending) xs + onward_kept_bytes (length now.pending) ys
 
 pub goes_on : (v : ℕ) (first now : State) (xs ys : List Call) → length first.pending < 64
     → now ≡ absorb v first (bytes_of_calls xs) → GoesOn v first now xs ys
@@ -137,5 +137,5 @@ goes_on v first now xs ys few is =
           [] [] xs ys (λ m. rw is (ap (answer v) (absorb-append v first bytes m)));
       state = rw (is, bytes_of_calls-append) (absorb-append v first bytes (bytes_of_calls ys));
       products = onward_products-then (length first.pending) (length now.pending) xs ys pending;
-      kept = (costs-then (length first.pending) (length now.pending) xs ys (omega arith)).1;
+      kept_bytes = (costs-then (length first.pending) (length now.pending) xs ys (omega arith)).1;
     }

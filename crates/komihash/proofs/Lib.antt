@@ -2,7 +2,7 @@ mod AllBytes
 mod Blocks
 mod CallLists
 mod GeneratorFills
-mod HashSteps
+mod HashPaths
 pub mod LawLemmas
 mod Lists
 mod PaddedWords

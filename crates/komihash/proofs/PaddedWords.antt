@@ -8,14 +8,19 @@ use Rattle.std.proofs.lemmas.Nat.{shr-shr}
 use Rattle.std.specs.Prelude.{bit_or}
 use Rattle.komihash.specs.Padding.{padded_words, padding_byte}
 use Rattle.komihash.specs.Words.{word_of}
-use Rattle.komihash.specs.Storage.{stored_words, whole_words, after_words, end_byte, final_word}
+use Rattle.komihash.specs.Internals.{stored_words, whole_words, after_words, padding_or_zero, final_word}
 use Rattle.komihash.proofs.WordOf.{AreBytes-typed, AreBytes-drop, word_of-last, word_of-push}
 use Rattle.komihash.proofs.WordOf.{word_of-zeros}
 use Rattle.komihash.proofs.WholeWords.{stored_words-last, words_of-whole}
 
+pub padding_or_zero-some : (v : ℕ) (m : List ℕ) → 0 < length m
+    → (padding_or_zero v m ≡ padding_byte v m) × (0 < padding_or_zero v m)
+padding_or_zero-some v [] some = absurd (omega arith)
+padding_or_zero-some v (b ∷ m) some = (refl, grind arith)
+
 -- the padded words as the code reads them
 pub padded_words-by_tail : (v : ℕ) (m : List ℕ)
-    → padded_words v m ≡ whole_words m ++ final_word m (end_byte v m) ∷ []
+    → padded_words v m ≡ whole_words m ++ final_word m (padding_or_zero v m) ∷ []
 unfolding stored_words
 padded_words-by_tail v [] = refl
 padded_words-by_tail v (b ∷ m) =

@@ -6,8 +6,8 @@ use Rattle.std.proofs.lemmas.Bool.{cases_eq}
 use Rattle.std.proofs.lemmas.Grind.{elements}
 use Rattle.std.proofs.lemmas.List.{append_assoc, append-nil, take-append-drop}
 use Rattle.std.proofs.Math.Seq.{drop-append-add}
-use Rattle.komihash.specs.Storage.{stored_words, pending_bytes, ArePending, Stores, StoresBut}
-use Rattle.komihash.specs.Storage.{whole_words, stored_word}
+use Rattle.komihash.specs.Internals.{stored_words, pending_bytes, ArePending, Stores, StoresBut}
+use Rattle.komihash.specs.Internals.{whole_words, stored_word}
 use Rattle.komihash.specs.Words.{AreBytes, word_of}
 use Rattle.komihash.proofs.AllBytes.{AreBytes-all_bytes, bytes-stored_words}
 use Rattle.komihash.proofs.WholeWords.{length-stored_words, get_or-stored_words, read_words}
@@ -17,14 +17,14 @@ use Rattle.komihash.proofs.WordOf.{AreBytes-append, AreBytes-take, AreBytes-drop
 -- ---- words that are stored one by one, some of them out of order or more than once
 
 -- a word that is stored at its index, or in place of one that is missing still
-pub put_word : {ws zs : List ℕ} {low high : ℕ} → StoresBut ws zs low high → (i n x : ℕ)
-    → (i ≤ low) × (n ≤ i + 1) → ((n ≤ i → high ≤ i) → x ≡ stored_word zs i)
-    → StoresBut (set ws i x) zs n high
+pub put_word : {ws zs : List ℕ} {gap gap_end : ℕ} → StoresBut ws zs gap gap_end → (i n x : ℕ)
+    → (i ≤ gap) × (n ≤ i + 1) → ((n ≤ i → gap_end ≤ i) → x ≡ stored_word zs i)
+    → StoresBut (set ws i x) zs n gap_end
 put_word but i n x within is = grind (arith, elements, cases_eq, but.words, but.size, is)
 
 -- none is missing
-pub all_stored : {ws zs : List ℕ} {low high : ℕ} → StoresBut ws zs low high
-    → (low < 8 → high ≤ low) → Stores ws zs
+pub all_stored : {ws zs : List ℕ} {gap gap_end : ℕ} → StoresBut ws zs gap gap_end
+    → (gap < 8 → gap_end ≤ gap) → Stores ws zs
 all_stored but none =
     grind (arith, elements, but.words, but.size, length-stored_words, get_or-stored_words)
 
@@ -33,7 +33,7 @@ pub word_after : (xs bytes : List ℕ) (at from : ℕ) → length xs + from ≡ 
     → word_of (take 8 (drop from bytes)) ≡ stored_word (xs ++ bytes) at
 word_after xs bytes at from place = rw (← place, drop-append-add xs bytes from) refl
 
--- ---- the bytes that words store up to a fill
+-- ---- the pending bytes, which are the first of those that words store
 
 pub ArePending_none : ArePending (0 ∷ 0 ∷ 0 ∷ 0 ∷ 0 ∷ 0 ∷ 0 ∷ 0 ∷ []) 0
 unfolding stored_words
@@ -42,32 +42,32 @@ ArePending_none = record { few = omega arith; count = refl; words = refl }
 ruleset bytes_typed =
     (AreBytes-append, AreBytes-take, AreBytes-drop, AreBytes-typed, AreBytes-all_bytes)
 
-module _ {ws : List ℕ} {fill : ℕ} (are : ArePending ws fill) where
+module _ {ws : List ℕ} {len : ℕ} (are : ArePending ws len) where
   abbrev pending : List ℕ
-  pending = pending_bytes ws fill
+  pending = pending_bytes ws len
 
   -- bytes put after them
   module _ (new bytes : List ℕ) (typed : (k : ℕ) → Fits w8 (get_or bytes k 0))
       (is : Stores new (pending ++ bytes)) where
-    length_put : length (pending ++ bytes) ≡ fill + length bytes
+    length_put : length (pending ++ bytes) ≡ len + length bytes
     length_put = omega (arith, length-append pending bytes)
 
-    pub bytes_put : fill + length bytes < 64
-        → pending_bytes new (fill + length bytes) ≡ pending ++ bytes
+    pub bytes_put : len + length bytes < 64
+        → pending_bytes new (len + length bytes) ≡ pending ++ bytes
     bytes_put few =
         let typed_bytes : AreBytes (pending ++ bytes) = search bytes_typed in
         rw (is, ← length_put) (bytes-stored_words 8 _ typed_bytes (omega (arith, length_put)))
 
-    pub ArePending_put : fill + length bytes < 64 → ArePending new (fill + length bytes)
+    pub ArePending_put : len + length bytes < 64 → ArePending new (len + length bytes)
     ArePending_put few = grind (arith, bytes_put few, length_put, is)
 
     -- the first of them fill a block
-    pub words_put : 64 ≤ fill + length bytes
-        → new ≡ whole_words (pending ++ take (64 - fill) bytes)
+    pub words_put : 64 ≤ len + length bytes
+        → new ≡ whole_words (pending ++ take (64 - len) bytes)
     unfolding stored_words
     words_put full =
-        let front = take (64 - fill) bytes in
-        let rest = drop (64 - fill) bytes in
+        let front = take (64 - len) bytes in
+        let rest = drop (64 - len) bytes in
         let size : length (pending ++ front) ≡ 8 * 8 =
         omega (arith, length-append pending front, length-take {A = ℕ}) in
         let cut : pending ++ bytes ≡ (pending ++ front) ++ rest =

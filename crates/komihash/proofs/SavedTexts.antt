@@ -12,9 +12,9 @@ use Rattle.std.specs.Prelude.{slice_index, ◌==◌}
 use Rattle.komihash.specs.Rounds.{Lanes, in_order}
 use Rattle.komihash.specs.Saved.{flag_byte, text, IsText, IsTextAfter, Restored}
 use Rattle.komihash.specs.Stream.{State, IsState, HasAbsorbed}
-use Rattle.komihash.specs.Storage.{stored_words, whole_words}
+use Rattle.komihash.specs.Internals.{stored_words, whole_words}
 use Rattle.komihash.specs.Words.{AreBytes, AreWords, all_bytes}
-use Rattle.komihash.specs.Storage.{xor_again}
+use Rattle.komihash.specs.Internals.{xor_again}
 use Rattle.komihash.proofs.WholeWords.{length-whole_words}
 use Rattle.komihash.proofs.AllBytes.{length-all_bytes, stored_words-all_bytes}
 use Rattle.komihash.proofs.AllBytes.{all_bytes-whole_words, AreWords-stored_words}
@@ -53,7 +53,7 @@ abbrev pub state_of : List ℕ → State
 state_of bytes = record {
   lanes = lanes_from (whole_words (take 64 (drop 4 bytes)));
   pending = drop 68 bytes;
-  absorbed = slice_index bytes 1 == 1;
+  had_block = slice_index bytes 1 == 1;
   top_bit = slice_index bytes 2 == 1;
 }
 
@@ -72,7 +72,7 @@ state_of-text v s are =
       take_at lanes s.pending 64 size,
       drop_at lanes s.pending 64 size,
       words,
-      flag_byte-back s.absorbed,
+      flag_byte-back s.had_block,
       flag_byte-back s.top_bit,
     )
 
@@ -108,7 +108,7 @@ pub ruleset lanes_back = (in_order-back, xor_again)
 -- the same as IsText by the first four bytes and the length, as the code tests it
 pub record IsLaidOut (v : ℕ) (bytes : List ℕ) : Type 0 where
   pub version : slice_index bytes 0 ≡ v
-  pub absorbed : slice_index bytes 1 < 2
+  pub had_block : slice_index bytes 1 < 2
   pub top_bit : slice_index bytes 2 ≤ slice_index bytes 1
   pub top_bit_version : 0 < slice_index bytes 2 → v ≡ 4
   pub few : slice_index bytes 3 < 64
@@ -125,10 +125,10 @@ laid_out-text v (b0 ∷ b1 ∷ b2 ∷ b3 ∷ rest) are laid =
     all_bytes-whole_words (take 64 rest)
     (AreBytes-take 64 rest (AreBytes-drop 4 (b0 ∷ b1 ∷ b2 ∷ b3 ∷ rest) are)) (omega arith) in
     let version : v ≡ b0 = sym laid.version in
-    let absorbed : flag_byte (b1 == 1) ≡ b1 = grind (arith, nat_tests, laid.absorbed) in
+    let had_block : flag_byte (b1 == 1) ≡ b1 = grind (arith, nat_tests, laid.had_block) in
     let top_bit : flag_byte (b2 == 1) ≡ b2 =
-    grind (arith, nat_tests, laid.top_bit, laid.absorbed) in
-    let fill : length (drop 64 rest) ≡ b3 = omega (arith, laid.size, length-drop 64 rest) in
+    grind (arith, nat_tests, laid.top_bit, laid.had_block) in
+    let pending : length (drop 64 rest) ≡ b3 = omega (arith, laid.size, length-drop 64 rest) in
     cc (take-append-drop 64 rest)
 laid_out-text v bytes are laid = absurd (omega (arith, laid.size))
 
@@ -145,7 +145,7 @@ laid_out-state v bytes are laid =
           (AreWords-stored_words (length lanes / 8) lanes are_lanes);
       bytes = AreBytes-drop 68 bytes are;
       few = omega (arith, laid.size, laid.few, length-drop 68 bytes);
-      top_bit_absorbed = grind (arith, nat_tests);
+      top_bit_block = grind (arith, nat_tests);
       top_bit_version = grind (arith, nat_tests);
     }
 

@@ -9,20 +9,21 @@ use Rattle.std.proofs.lemmas.List.{append_assoc, append-nil, length-append, leng
 use Rattle.std.proofs.lemmas.List.{length-take-le, take-append-drop, get_or-drop}
 use Rattle.std.proofs.lemmas.Nat.{xor_lt}
 use Rattle.std.specs.Prelude.{slice_index, bit_xor}
+use Rattle.komihash.specs.Borrows.{Mut}
 use Rattle.komihash.specs.Hash.{komi, hash_from_pair, hash_from_lanes}
 use Rattle.komihash.specs.Padding.{pads_with_two, padding_byte, padded_words}
 use Rattle.komihash.specs.Rounds.{Lanes, low, plus, mix, seed_pair, lanes, block_round}
 use Rattle.komihash.specs.Rounds.{block_round_by, in_order, join, pair_round, closing}
 use Rattle.komihash.specs.Saved.{text, IsTextAfter}
-use Rattle.komihash.specs.Storage.{stored_words, whole_words, block_lanes, after_blocks}
-use Rattle.komihash.specs.Storage.{tail_end, final_word, end_byte}
+use Rattle.komihash.specs.Internals.{stored_words, whole_words, block_lanes, after_blocks}
+use Rattle.komihash.specs.Internals.{tail_end, final_word, padding_or_zero}
 use Rattle.komihash.specs.Stream.{State, IsState, HasAbsorbed, start, absorb, absorb_byte}
 use Rattle.komihash.specs.Stream.{answer, tail_of, Started, Absorbed, Answered}
 use Rattle.komihash.specs.Words.{AreBytes, AreWords}
 use Rattle.komihash.proofs.Blocks.{block_lanes-bytes, block_lanes-few_bytes, after_blocks_few}
 use Rattle.komihash.proofs.Blocks.{after_blocks_more, length-after_blocks}
 use Rattle.komihash.proofs.Blocks.{after_words-after_blocks}
-use Rattle.komihash.proofs.HashSteps.{komi_short, komi_long}
+use Rattle.komihash.proofs.HashPaths.{komi_few, komi_long}
 use Rattle.komihash.proofs.PaddedWords.{padded_words-by_tail}
 use Rattle.komihash.proofs.WholeWords.{words_of-whole}
 use Rattle.komihash.proofs.WordOf.{AreBytes-append, AreBytes-drop}
@@ -54,7 +55,7 @@ abbrev block_state : ℕ → State → ℕ → State
 block_state v s b = record {
   lanes = block_round v s.lanes (whole_words (s.pending ++ b ∷ []));
   pending = [];
-  absorbed = true;
+  had_block = true;
   top_bit = pads_with_two v b;
 }
 
@@ -106,7 +107,7 @@ abbrev pub blocks_state : ℕ → State → List ℕ → State
 blocks_state v s bytes = record {
   lanes = block_lanes v s.lanes (whole_words (s.pending ++ bytes));
   pending = after_blocks (s.pending ++ bytes);
-  absorbed = true;
+  had_block = true;
   top_bit = pads_with_two v (slice_index bytes (last_at (length s.pending) (length bytes)));
 }
 
@@ -141,14 +142,14 @@ absorb-blocks v s (b ∷ bytes) few le =
     ]
 
 -- the state after a write that completes a block, from what is left after that block
-pub after_write : (v : ℕ) (s : State) (bytes : List ℕ) (l : Lanes) (rest : List ℕ)
+pub after_absorb : (v : ℕ) (s : State) (bytes : List ℕ) (l : Lanes) (rest : List ℕ)
     → length s.pending < 64 → 64 ≤ length s.pending + length bytes
     → SameBlocks v s.lanes s.pending bytes l rest
     → record (blocks_state v s bytes) {
       lanes = block_lanes v l (whole_words rest);
       pending = after_blocks rest;
     } ≡ absorb v s bytes
-after_write v s bytes l rest few many on =
+after_absorb v s bytes l rest few many on =
     rw (absorb-blocks v s bytes few many, on.lanes, on.left) refl
 
 -- ---- it stays a state
@@ -197,35 +198,35 @@ IsState-absorb v s new bytes is are same =
 
 -- ---- what it answers
 
-tail_of-words : (v : ℕ) (m : List ℕ) (absorbed top_bit : Bool)
-    → tail_of v m absorbed top_bit
-    ≡ whole_words m ++ final_word m (tail_end v m absorbed top_bit) ∷ []
+tail_of-words : (v : ℕ) (m : List ℕ) (had_block top_bit : Bool)
+    → tail_of v m had_block top_bit
+    ≡ whole_words m ++ final_word m (tail_end v m had_block top_bit) ∷ []
 unfolding stored_words
-tail_of-words v [] absorbed top_bit = grind arith
-tail_of-words v (b ∷ m) absorbed top_bit = padded_words-by_tail v (b ∷ m)
+tail_of-words v [] had_block top_bit = grind arith
+tail_of-words v (b ∷ m) had_block top_bit = padded_words-by_tail v (b ∷ m)
 
 -- an answer, from the pair of its lanes, its whole words and its final word
 pub answer-by_pair : (v : ℕ) (s : State)
-    → answer v s ≡ hash_from_pair (join s.absorbed s.lanes)
-    (whole_words s.pending ++ final_word s.pending (tail_end v s.pending s.absorbed s.top_bit) ∷ [])
+    → answer v s ≡ hash_from_pair (join s.had_block s.lanes)
+    (whole_words s.pending ++ final_word s.pending (tail_end v s.pending s.had_block s.top_bit) ∷ [])
 unfolding answer
 answer-by_pair v s =
-    ap (hash_from_pair (join s.absorbed s.lanes)) (tail_of-words v s.pending s.absorbed s.top_bit)
+    ap (hash_from_pair (join s.had_block s.lanes)) (tail_of-words v s.pending s.had_block s.top_bit)
 
-pub tail_end-pending : (v : ℕ) (m : List ℕ) (absorbed top_bit : Bool) → 0 < length m
-    → tail_end v m absorbed top_bit ≡ padding_byte v m
-tail_end-pending v [] absorbed top_bit some = absurd (omega arith)
-tail_end-pending v (b ∷ m) absorbed top_bit some = refl
+pub tail_end-pending : (v : ℕ) (m : List ℕ) (had_block top_bit : Bool) → 0 < length m
+    → tail_end v m had_block top_bit ≡ padding_byte v m
+tail_end-pending v [] had_block top_bit some = absurd (omega arith)
+tail_end-pending v (b ∷ m) had_block top_bit some = refl
 
 -- an answer with nothing pending
 pub answer-none : (v : ℕ) (s : State) → s.pending ≡ []
-    → answer v s ≡ closing (join s.absorbed s.lanes) (tail_end v [] s.absorbed s.top_bit ∷ [])
+    → answer v s ≡ closing (join s.had_block s.lanes) (tail_end v [] s.had_block s.top_bit ∷ [])
 unfolding answer
 answer-none v s none = rw none
 
 -- what ends the tail after n bytes, the last of them the last of a block
 tail_end-drop : (v n : ℕ) (m : List ℕ) → 0 < n → n ≤ length m
-    → tail_end v (drop n m) true (pads_with_two v (slice_index m (n - 1))) ≡ end_byte v m
+    → tail_end v (drop n m) true (pads_with_two v (slice_index m (n - 1))) ≡ padding_byte v m
 tail_end-drop v n [] some le = absurd (omega arith)
 tail_end-drop v n (b ∷ m) some le = go (drop n (b ∷ m)) refl where
   go : (p : List ℕ) → drop n (b ∷ m) ≡ p
@@ -238,7 +239,7 @@ tail_end-drop v n (b ∷ m) some le = go (drop n (b ∷ m)) refl where
       let last = get_or-drop n (b ∷ m) (length (c ∷ p) - 1) 0 in
       cc
 
-tail_end-start : (v : ℕ) (m : List ℕ) → tail_end v m false false ≡ end_byte v m
+tail_end-start : (v : ℕ) (m : List ℕ) → tail_end v m false false ≡ padding_or_zero v m
 tail_end-start v [] = refl
 tail_end-start v (b ∷ m) = refl
 
@@ -248,7 +249,7 @@ answer-joined v seed m =
     elim (cases_lt (length m) 64) [
       | inl lt ↦
           let end = tail_end-start v m in
-          let hash = komi_short v seed m lt in
+          let hash = komi_few v seed m lt in
           rw (absorb-few v (start seed) m (omega arith))
           (answer-by_pair v (record (start seed) { pending = m }) ∙ cc)
       | inr le ↦
@@ -267,10 +268,11 @@ pub started : (v seed : ℕ) (new : State) → new ≡ start seed → Started v 
 unfolding HasAbsorbed absorb
 started v seed new is = record { state = is; message = is }
 
-pub absorbed : (v : ℕ) (old new : State) (bytes : List ℕ) → new ≡ absorb v old bytes
-    → Absorbed v old new bytes
+pub absorbed : {A : Type 0} (v : ℕ) (view : A → State) (stream : Mut A) (bytes : List ℕ)
+    → view stream.exit.now ≡ absorb v (view stream.entry.now) bytes
+    → Absorbed v view stream bytes
 unfolding HasAbsorbed
-absorbed v old new bytes is = record {
+absorbed v view stream bytes is = record {
   state = is;
   message = λ seed m before. rw (is, before) (sym (absorb-append v (start seed) m bytes));
   joined = λ seed m all before same.
@@ -310,12 +312,12 @@ hash_from_pair-lt : (s : ℕ × ℕ) (ws : List ℕ) → hash_from_pair s ws < 2
 hash_from_pair-lt s (w0 ∷ w1 ∷ w ∷ ws) = hash_from_pair-lt (pair_round s w0 w1) (w ∷ ws)
 hash_from_pair-lt s ws = closing-lt s ws
 
-hash_from_lanes-lt : (v : ℕ) (s : Lanes) (absorbed : Bool) (ws : List ℕ)
-    → hash_from_lanes v s absorbed ws < 2 ^ 64
-hash_from_lanes-lt v s absorbed (w0 ∷ w1 ∷ w2 ∷ w3 ∷ w4 ∷ w5 ∷ w6 ∷ w7 ∷ w ∷ ws) =
+hash_from_lanes-lt : (v : ℕ) (s : Lanes) (had_block : Bool) (ws : List ℕ)
+    → hash_from_lanes v s had_block ws < 2 ^ 64
+hash_from_lanes-lt v s had_block (w0 ∷ w1 ∷ w2 ∷ w3 ∷ w4 ∷ w5 ∷ w6 ∷ w7 ∷ w ∷ ws) =
     let block = w0 ∷ w1 ∷ w2 ∷ w3 ∷ w4 ∷ w5 ∷ w6 ∷ w7 ∷ [] in
     hash_from_lanes-lt v (block_round v s block) true (w ∷ ws)
-hash_from_lanes-lt v s absorbed ws = hash_from_pair-lt (join absorbed s) ws
+hash_from_lanes-lt v s had_block ws = hash_from_pair-lt (join had_block s) ws
 
 pub komi-lt : (v seed : ℕ) (m : List ℕ) → komi v seed m < 2 ^ 64
 unfolding komi

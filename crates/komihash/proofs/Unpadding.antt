@@ -11,7 +11,7 @@ use Rattle.std.proofs.lemmas.Nat.{pow-add, pow_pos, shr-shr, shr_below, shr_le, 
 use Rattle.std.proofs.lemmas.Simd.{Each1-from_get_or}
 use Rattle.std.specs.Int.{to_le_bytes}
 use Rattle.std.specs.Prelude.{slice_index}
-use Rattle.komihash.specs.Storage.{stored_words, whole_words, after_words, end_byte}
+use Rattle.komihash.specs.Internals.{stored_words, whole_words, after_words, padding_or_zero}
 use Rattle.komihash.specs.Padding.{ArePadded, pads_with_two, padding_after, padded_words}
 use Rattle.komihash.specs.Padding.{padding_byte}
 use Rattle.komihash.specs.Words.{AreBytes, word_of, all_bytes}
@@ -19,7 +19,7 @@ use Rattle.komihash.proofs.AllBytes.{length-all_bytes, AreBytes-all_bytes, take-
 use Rattle.komihash.proofs.AllBytes.{bytes-stored_words, stored_words-all_bytes}
 use Rattle.komihash.proofs.WholeWords.{get_or-stored_words, length-stored_words}
 use Rattle.komihash.proofs.WholeWords.{stored_words-last}
-use Rattle.komihash.proofs.PaddedWords.{padded_words-by_tail}
+use Rattle.komihash.proofs.PaddedWords.{padding_or_zero-some, padded_words-by_tail}
 use Rattle.komihash.proofs.WordOf.{AreBytes-append, AreBytes-drop, AreBytes-one, word_of-append}
 use Rattle.komihash.proofs.WordOf.{word_of-drop}
 
@@ -42,27 +42,22 @@ last-from i r xs are le =
 
 -- ---- what padded words say of their message
 
-end_byte-some : (v : ℕ) (m : List ℕ) → 0 < length m
-    → (end_byte v m ≡ padding_byte v m) × (0 < end_byte v m)
-end_byte-some v [] some = absurd (omega arith)
-end_byte-some v (b ∷ m) some = (refl, grind arith)
-
-end_byte-lt : (v : ℕ) (m : List ℕ) → end_byte v m < 256
-end_byte-lt v [] = omega arith
-end_byte-lt v (b ∷ m) = grind arith
+padding_or_zero-lt : (v : ℕ) (m : List ℕ) → padding_or_zero v m < 256
+padding_or_zero-lt v [] = omega arith
+padding_or_zero-lt v (b ∷ m) = grind arith
 
 -- words that store a message and the byte that ends it
 record HoldsMessage (v : ℕ) (ws m : List ℕ) : Type 0 where
   size : length ws ≡ length m / 8 + 1
   bytes : take (length m) (all_bytes ws) ≡ m
-  end : last ws / 2 ^ (8 * (length m % 8)) ≡ end_byte v m
+  end : last ws / 2 ^ (8 * (length m % 8)) ≡ padding_or_zero v m
 
 holds_message : (v : ℕ) (m : List ℕ) → AreBytes m → HoldsMessage v (padded_words v m) m
 holds_message v m are =
     let n = length m in
-    let end = end_byte v m in
+    let end = padding_or_zero v m in
     let xs = m ++ end ∷ [] in
-    let are_xs = AreBytes-append m (end ∷ []) are (AreBytes-one end (end_byte-lt v m)) in
+    let are_xs = AreBytes-append m (end ∷ []) are (AreBytes-one end (padding_or_zero-lt v m)) in
     let size = length-append m (end ∷ []) in
     let words : padded_words v m ≡ stored_words (n / 8 + 1) xs =
     padded_words-by_tail v m ∙ sym (stored_words-last (n / 8) m (end ∷ []) refl (omega arith)) in
@@ -84,7 +79,7 @@ padded_zero v ws p zero =
     let of_m = of_padded v p in
     let le = shr_le (last ws) (8 * (length p.0 % 8)) in
     elim (cases_lt 0 (length p.0)) [
-      | inl some ↦ absurd (omega (arith, le, of_m.end, (end_byte-some v p.0 some).1))
+      | inl some ↦ absurd (omega (arith, le, of_m.end, (padding_or_zero-some v p.0 some).1))
       | inr none ↦ omega (arith, of_m.size)
     ]
 
@@ -107,12 +102,12 @@ module _ {v : ℕ} {ws m : List ℕ} (of_m : HoldsMessage v ws m) (r : ℕ) wher
   end-le : last ws / 2 ^ (8 * r) < 256 → length m % 8 ≤ r
   end-le below =
       elim (cases_lt 0 (length m)) [
-        | inl some ↦ place-le (last ws) r _ below (rw of_m.end (end_byte-some v m some).1)
+        | inl some ↦ place-le (last ws) r _ below (rw of_m.end (padding_or_zero-some v m some).1)
         | inr none ↦ omega arith
       ]
 
   le-end : 0 < last ws / 2 ^ (8 * r) → r ≤ length m % 8
-  le-end above = place-le (last ws) _ r (rw of_m.end (end_byte-lt v m)) above
+  le-end above = place-le (last ws) _ r (rw of_m.end (padding_or_zero-lt v m)) above
 
 -- no two messages share their padded words
 pub same_message : (v : ℕ) (x y : List ℕ) → AreBytes x → AreBytes y
@@ -120,8 +115,8 @@ pub same_message : (v : ℕ) (x y : List ℕ) → AreBytes x → AreBytes y
 same_message v x y are_x are_y same =
     let of_x = of_padded v (x, are_x, same) in
     let of_y = holds_message v y are_y in
-    let le = end-le of_x (length y % 8) (rw of_y.end (end_byte-lt v y)) in
-    let ge = end-le of_y (length x % 8) (rw of_x.end (end_byte-lt v x)) in
+    let le = end-le of_x (length y % 8) (rw of_y.end (padding_or_zero-lt v y)) in
+    let ge = end-le of_y (length x % 8) (rw of_x.end (padding_or_zero-lt v x)) in
     let sizes : length x ≡ length y = omega (arith, of_x.size, of_y.size, le, ge) in
     sym of_x.bytes ∙ ap (λ n. take n (all_bytes (padded_words v y))) sizes ∙ of_y.bytes
 
@@ -138,7 +133,7 @@ module _ (v : ℕ) (ws : List ℕ) (r : ℕ) where
   unpadded fit some few long is =
       let bytes = all_bytes ws in
       let left = drop size bytes in
-      let end = end_byte v message in
+      let end = padding_or_zero v message in
       let words = stored_words-all_bytes ws (Each1-from_get_or _ ws 0 (λ i _. fit i)) in
       let count = length-all_bytes ws in
       let n : length message ≡ size = length-take-le size bytes (omega arith) in
@@ -147,7 +142,7 @@ module _ (v : ℕ) (ws : List ℕ) (r : ℕ) where
       let read = rw (same, words) at
       (last-from (length ws - 1) r bytes (AreBytes-all_bytes ws) (omega arith)) in
       let high : word_of left ≡ word_of (end ∷ []) =
-      omega (arith, read, is, (end_byte-some v message (omega arith)).0) in
+      omega (arith, read, is, (padding_or_zero-some v message (omega arith)).0) in
       padded_words-by_tail v message
       ∙ ap (λ w. whole_words message ++ w ∷ [])
       (word_of-append (after_words message) (end ∷ [])
@@ -165,7 +160,7 @@ module _ (v : ℕ) (ws : List ℕ) (r : ℕ) where
       let n : size ≡ length p.0 = omega (arith, of_m.size) in
       let same : message ≡ p.0 = ap (λ n. take n (all_bytes ws)) n ∙ of_m.bytes in
       elim (cases_lt 0 (length p.0)) [
-        | inl some ↦ (omega arith, rw same (end ∙ (end_byte-some v p.0 some).0))
+        | inl some ↦ (omega arith, rw same (end ∙ (padding_or_zero-some v p.0 some).0))
         | inr none ↦ absurd (omega (arith, rw (nil_from_length p.0 (omega arith)) at end))
       ]
 

@@ -3,7 +3,7 @@ use Rattle.std.proofs.Common.{◌≡◌, ℕ, zero, suc, ◌+◌, ◌*◌, ◌/�
 use Rattle.std.proofs.Common.{length, take, drop, get_or, refl, ap, arith, zero-add, suc-add}
 use Rattle.std.proofs.lemmas.List.{length-append, length-drop, drop-drop, take-append-le}
 use Rattle.std.proofs.lemmas.List.{drop-append-le, take_all}
-use Rattle.komihash.specs.Storage.{stored_words, whole_words}
+use Rattle.komihash.specs.Internals.{stored_words, whole_words}
 use Rattle.komihash.specs.Words.{word_of, words_of}
 
 -- the word at an index

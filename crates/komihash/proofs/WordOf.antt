@@ -63,8 +63,8 @@ word_of-drop (suc k) (x ∷ xs) h =
     rw (bits, ← shr-shr (x + 256 * word_of xs) 8 (8 * k), high) (word_of-drop k xs (λ j. h (suc j)))
 
 -- what a shift to the left keeps
-pub kept : (w b c : ℕ) → w * 2 ^ b % 2 ^ (c + b) ≡ w % 2 ^ c * 2 ^ b
-kept w b c = simp (mod-pow-add, shl-shr, mul-mod_left) (omega arith)
+pub shl_mod : (w b c : ℕ) → w * 2 ^ b % 2 ^ (c + b) ≡ w % 2 ^ c * 2 ^ b
+shl_mod w b c = simp (mod-pow-add, shl-shr, mul-mod_left) (omega arith)
 
 -- a shift to the left and `|` set bytes after others, as far as they fit the word
 pub word_of-join : (xs ys : List ℕ) (n : ℕ) → AreBytes xs → AreBytes ys → length xs ≡ n → n ≤ 8
@@ -73,7 +73,7 @@ word_of-join xs ys n h g size le =
     let k = 8 * n in
     let bits : 64 ≡ 8 * (8 - n) + k = omega arith in
     let fit : word_of ys * 2 ^ k % 2 ^ 64 ≡ word_of (take (8 - n) ys) * 2 ^ k =
-    ap (λ w. word_of ys * 2 ^ k % 2 ^ w) bits ∙ kept (word_of ys) k (8 * (8 - n))
+    ap (λ w. word_of ys * 2 ^ k % 2 ^ w) bits ∙ shl_mod (word_of ys) k (8 * (8 - n))
     ∙ ap (λ w. w * 2 ^ k) (sym (word_of-take (8 - n) ys g)) in
     let below : word_of xs < 2 ^ k = rw (← size) (word_of-lt xs h) in
     rw (fit, word_of-append xs (take (8 - n) ys), size)

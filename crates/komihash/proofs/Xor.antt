@@ -4,7 +4,7 @@ use Rattle.std.proofs.Math.Nat.{mul_comm}
 use Rattle.std.proofs.lemmas.Nat.{and_comm, and_assoc, and-not}
 use Rattle.std.specs.Prelude.{bit_xor, bit_and}
 use Rattle.komihash.specs.Rounds.{mix}
-use Rattle.komihash.specs.Storage.{xor_again}
+use Rattle.komihash.specs.Internals.{xor_again}
 use Rattle.std.specs.Int.Bits.{xor_assoc, xor_comm, xor_disjoint, xor_zero_r}
 
 -- a word is xored with a low half first, and then with the word that the half belongs to

@@ -1,6 +1,6 @@
 -- A list of calls on a stream: its answers, the bytes that it absorbs, and what it costs.
 use Rattle.std.specs.Prelude.{ℕ, ◌+◌, ◌*◌, ◌/◌, ◌%◌, List, [], ◌∷◌, ◌++◌, length}
-use Rattle.komihash.specs.Counts.{answer_products, kept_bytes}
+use Rattle.komihash.specs.Counts.{answer_products, absorb_kept_bytes}
 use Rattle.komihash.specs.Hash.{komi}
 use Rattle.komihash.specs.Stream.{State, absorb, answer}
 use Rattle.komihash.specs.declared.stream.Call.{Call}
@@ -45,15 +45,15 @@ onward_products p calls =
     4 * ((p + length (bytes_of_calls calls)) / 64) + products_of_answers p calls
 
 -- how many bytes calls copy into a stream, where n modulo 64 are pending before the first call
-abbrev pub onward_kept : ℕ → List Call → ℕ
-onward_kept n [] = 0
-onward_kept n (Absorb bytes ∷ calls) =
-    kept_bytes (n % 64) (length bytes.now) + onward_kept (n + length bytes.now) calls
-onward_kept n (Answer ∷ calls) = onward_kept n calls
+abbrev pub onward_kept_bytes : ℕ → List Call → ℕ
+onward_kept_bytes n [] = 0
+onward_kept_bytes n (Absorb bytes ∷ calls) =
+    absorb_kept_bytes (n % 64) (length bytes.now) + onward_kept_bytes (n + length bytes.now) calls
+onward_kept_bytes n (Answer ∷ calls) = onward_kept_bytes n calls
 
 -- the products and the kept bytes of calls on a new stream, with the one product of its start
 abbrev pub run_products : List Call → ℕ
 run_products calls = 1 + onward_products 0 calls
 
-abbrev pub run_kept : List Call → ℕ
-run_kept calls = onward_kept 0 calls
+abbrev pub run_kept_bytes : List Call → ℕ
+run_kept_bytes calls = onward_kept_bytes 0 calls

@@ -1,7 +1,6 @@
 -- What a call costs: products of two words, and bytes that are copied into a stream.
 use Rattle.std.specs.Prelude.{ℕ, ◌≡◌, ◌+◌, ◌-◌, ◌*◌, ◌/◌, ◌%◌, ◌==◌, nat_lt, if◌then◌else◌}
-use Rattle.std.specs.Borrow.{MutBor}
-use denote.Triple.Both.{Both}
+use Rattle.komihash.specs.Borrows.{Mut}
 use Rattle.komihash.specs.declared.tally.Tally.{Tally}
 
 -- the products of the hash of n bytes
@@ -9,8 +8,8 @@ abbrev pub hash_products : ℕ → ℕ
 hash_products n = 3 + 4 * (n / 64) + n % 64 / 16
 
 -- the products of a write of b bytes where f are pending
-abbrev pub write_products : ℕ → ℕ → ℕ
-write_products f b = 4 * ((f + b) / 64)
+abbrev pub absorb_products : ℕ → ℕ → ℕ
+absorb_products f b = 4 * ((f + b) / 64)
 
 -- the products of an answer where f bytes are pending
 abbrev pub answer_products : ℕ → ℕ
@@ -19,11 +18,11 @@ answer_products f = 2 + f / 16
 -- how many bytes a write of b bytes copies into a stream where f are pending: all if no block is
 -- completed; else those that complete the partial block, if there is one, and those after the last
 -- block
-abbrev pub kept_bytes : ℕ → ℕ → ℕ
-kept_bytes f b =
+abbrev pub absorb_kept_bytes : ℕ → ℕ → ℕ
+absorb_kept_bytes f b =
     if nat_lt (f + b) 64 then b else (if f == 0 then 0 else 64 - f) + (f + b) % 64
 
 -- a call raises a tally by n products and k kept bytes
-pub record Costs (tally : Both (MutBor Tally) (MutBor Tally)) (n k : ℕ) : Type 0 where
+pub record Costs (tally : Mut Tally) (n k : ℕ) : Type 0 where
   pub products : tally.exit.now.products ≡ tally.entry.now.products + n
-  pub kept : tally.exit.now.kept ≡ tally.entry.now.kept + k
+  pub kept_bytes : tally.exit.now.kept_bytes ≡ tally.entry.now.kept_bytes + k

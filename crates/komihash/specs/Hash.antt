@@ -10,9 +10,9 @@ hash_from_pair s ws = closing s ws
 
 -- while nine or more words are left, eight go to a block round; then the lanes are joined
 abbrev pub hash_from_lanes : ℕ → Lanes → Bool → List ℕ → ℕ
-hash_from_lanes v s absorbed (w0 ∷ w1 ∷ w2 ∷ w3 ∷ w4 ∷ w5 ∷ w6 ∷ w7 ∷ w ∷ ws) =
+hash_from_lanes v s had_block (w0 ∷ w1 ∷ w2 ∷ w3 ∷ w4 ∷ w5 ∷ w6 ∷ w7 ∷ w ∷ ws) =
     hash_from_lanes v (block_round v s (w0 ∷ w1 ∷ w2 ∷ w3 ∷ w4 ∷ w5 ∷ w6 ∷ w7 ∷ [])) true (w ∷ ws)
-hash_from_lanes v s absorbed ws = hash_from_pair (join absorbed s) ws
+hash_from_lanes v s had_block ws = hash_from_pair (join had_block s) ws
 
 -- the hash of a message with a seed in version v
 unfoldable pub komi : ℕ → ℕ → List ℕ → ℕ

@@ -1,3 +1,4 @@
+pub mod Borrows
 pub mod Calls
 pub mod Counts
 pub mod Generator
@@ -7,7 +8,7 @@ pub mod Padding
 pub mod Rounds
 pub mod Saved
 mod Sealed
-pub mod Storage
+pub mod Internals
 pub mod Stream
 pub mod Tallies
 pub mod Words

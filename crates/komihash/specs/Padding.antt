@@ -2,6 +2,7 @@
 use Rattle.std.specs.Prelude.{◌≡◌, ◌↔◌, ℕ, Bool, ◌+◌, ◌-◌, ◌/◌, ◌%◌, ◌==◌, ◌&&◌, nat_le}
 use Rattle.std.specs.Prelude.{List, [], ◌∷◌, ◌++◌, length, take, drop, replicate, slice_index}
 use Rattle.std.specs.Prelude.{Option, IfSome, IfNone, IsSomeAnd, IsNone, if◌then◌else◌}
+use Rattle.komihash.specs.Borrows.{Mut}
 use Rattle.komihash.specs.Words.{AreBytes, words_of}
 
 -- whether the version is 4 and a last byte is at least 128
@@ -32,22 +33,21 @@ ArePadded v ws = (m : List ℕ) × AreBytes m × (padded_words v m ≡ ws)
 
 -- ---- what a call does, which each version states alike
 
--- a call writes the padded words of a message to the front of `old`, which is then `new`, leaves
--- the rest, and returns how many they are
-pub record Padded (v : ℕ) (bytes old new : List ℕ) (result : ℕ) : Type 0 where
+-- a call writes the padded words of a message to the front of `out`, leaves the rest, and returns
+-- how many they are
+pub record Padded (v : ℕ) (bytes : List ℕ) (out : Mut (List ℕ)) (result : ℕ) : Type 0 where
   pub count : result ≡ length bytes / 8 + 1
-  pub padded : take result new ≡ padded_words v bytes
-  pub rest : drop result new ≡ drop result old
+  pub padded : take result out.exit.now ≡ padded_words v bytes
+  pub rest : drop result out.exit.now ≡ drop result out.entry.now
 
--- a call writes the message with these padded words to the front of `old`, which is then `new`,
--- leaves the rest, and returns the message's length, or None, with nothing written, if there is
--- no such message
-pub record Unpadded (v : ℕ) (words old new : List ℕ) (result : Option ℕ) : Type 0 where
-  pub message : IfSome result (λ n. padded_words v (take n new) ≡ words)
+-- a call writes the message with these padded words to the front of `out`, leaves the rest, and
+-- returns the message's length, or None, with nothing written, if there is no such message
+pub record Unpadded (v : ℕ) (words : List ℕ) (out : Mut (List ℕ)) (result : Option ℕ) : Type 0 where
+  pub message : IfSome result (λ n. padded_words v (take n out.exit.now) ≡ words)
   -- a message with these words is the one that is written
   pub same : (m : List ℕ) → AreBytes m → padded_words v m ≡ words
-      → IsSomeAnd result (λ n. take n new ≡ m)
-  pub rest : IfSome result (λ n. drop n new ≡ drop n old)
+      → IsSomeAnd result (λ n. take n out.exit.now ≡ m)
+  pub rest : IfSome result (λ n. drop n out.exit.now ≡ drop n out.entry.now)
   pub length : IfSome result (λ n. n / 8 + 1 ≡ length words)
   pub none : IsNone result ↔ ¬ ArePadded v words
-  pub unchanged : IfNone result (new ≡ old)
+  pub unchanged : IfNone result (out.exit.now ≡ out.entry.now)

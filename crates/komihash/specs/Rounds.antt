@@ -103,8 +103,8 @@ block_round v s ws = block_round_by (places v) s ws
 
 -- the pair of the lanes: s1 to s4 xored and s5 to s8 xored if a block was absorbed, else s1 and s5
 abbrev pub join : Bool → Lanes → ℕ × ℕ
-join absorbed s =
-    if absorbed
+join had_block s =
+    if had_block
     then (
       bit_xor (bit_xor (bit_xor s.s1 s.s2) s.s3) s.s4,
       bit_xor (bit_xor (bit_xor s.s5 s.s6) s.s7) s.s8,

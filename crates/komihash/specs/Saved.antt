@@ -1,6 +1,7 @@
 -- The saved text of a stream, which is a list of bytes.
 use Rattle.std.specs.Prelude.{ℕ, ◌≡◌, ◌≤◌, ◌↔◌, Bool, List, [], ◌∷◌, ◌++◌, length, take, drop}
 use Rattle.std.specs.Prelude.{Option, IfSome, IsSomeAnd, IsNone, if◌then◌else◌}
+use Rattle.komihash.specs.Borrows.{Mut}
 use Rattle.komihash.specs.Rounds.{in_order}
 use Rattle.komihash.specs.Stream.{State, IsState, HasAbsorbed}
 use Rattle.komihash.specs.Words.{all_bytes}
@@ -13,7 +14,7 @@ flag_byte flag = if flag then 1 else 0
 -- the first four bytes: the version, whether a block was absorbed, the top bit that only version 4
 -- keeps, and how many bytes are pending
 abbrev pub head : ℕ → State → List ℕ
-head v s = v ∷ flag_byte s.absorbed ∷ flag_byte s.top_bit ∷ length s.pending ∷ []
+head v s = v ∷ flag_byte s.had_block ∷ flag_byte s.top_bit ∷ length s.pending ∷ []
 
 -- the text of a state in version v: the first four bytes, the eight lanes, the pending bytes
 unfoldable pub text : ℕ → State → List ℕ
@@ -29,16 +30,16 @@ IsTextAfter v seed m bytes = (s : State) × IsState v s × HasAbsorbed v seed s 
 
 -- ---- what a call does, which the trait and each stream state alike
 
--- a call writes the text of a stream to the front of `old`, which is then `new`, leaves the rest,
--- and returns the length of the text
-pub record Stored (v : ℕ) (now : State) (old new : List ℕ) (result : ℕ) : Type 0 where
+-- a call writes the text of a stream to the front of `out`, leaves the rest, and returns the length
+-- of the text
+pub record Stored (v : ℕ) (now : State) (out : Mut (List ℕ)) (result : ℕ) : Type 0 where
   pub length : result ≡ length (text v now)
   pub most : result ≤ LONGEST_TEXT
-  pub text : take result new ≡ text v now
+  pub text : take result out.exit.now ≡ text v now
   -- so it is a text after the message that the stream has absorbed
   pub message : (seed : ℕ) (m : List ℕ) → HasAbsorbed v seed now m
-      → IsTextAfter v seed m (take result new)
-  pub rest : drop result new ≡ drop result old
+      → IsTextAfter v seed m (take result out.exit.now)
+  pub rest : drop result out.exit.now ≡ drop result out.entry.now
 
 -- a call returns the stream whose text the bytes are, where `state` gives its state, or None if
 -- they are the text of no state

@@ -6,7 +6,7 @@ use base.Fml.{Fml, ftrue}
 
 -- what a tally of these numbers owns: nothing, but no other crate can know that
 pub owned_by_tally : ℕ → ℕ → Fml
-owned_by_tally products kept = ftrue
+owned_by_tally products kept_bytes = ftrue
 
 pub Key : Type 0
 Key = Unit {0}
@@ -20,6 +20,6 @@ unfolding Key
 Key-prop = Unit-prop
 
 -- with the key, a proof can make what a tally of any numbers owns
-pub opened : Key → (products kept : ℕ) → owned_by_tally products kept ≡ ftrue
+pub opened : Key → (products kept_bytes : ℕ) → owned_by_tally products kept_bytes ≡ ftrue
 unfolding owned_by_tally
-opened _ products kept = refl
+opened _ products kept_bytes = refl

@@ -1,6 +1,7 @@
 -- A stream: its state, how it absorbs bytes one after the other, and what it answers.
 use Rattle.std.specs.Prelude.{ℕ, ◌<◌, ◌≡◌, ◌==◌, Bool, true, false, if◌then◌else◌}
 use Rattle.std.specs.Prelude.{List, [], ◌∷◌, ◌++◌, length}
+use Rattle.komihash.specs.Borrows.{Mut}
 use Rattle.komihash.specs.Hash.{komi, hash_from_pair}
 use Rattle.komihash.specs.Rounds.{Lanes, in_order, seed_pair, lanes, block_round, join}
 use Rattle.komihash.specs.Padding.{pads_with_two, padding_after, padded_words}
@@ -11,7 +12,7 @@ use Rattle.komihash.specs.Words.{AreBytes, AreWords, words_of}
 pub record State : Type 0 where
   pub lanes : Lanes
   pub pending : List ℕ
-  pub absorbed : Bool
+  pub had_block : Bool
   pub top_bit : Bool
 
 -- the new stream of a seed
@@ -19,7 +20,7 @@ abbrev pub start : ℕ → State
 start seed = record {
   lanes = lanes (seed_pair seed);
   pending = [];
-  absorbed = false;
+  had_block = false;
   top_bit = false;
 }
 
@@ -31,7 +32,7 @@ absorb_byte v s b =
     then record {
       lanes = block_round v s.lanes (words_of bytes);
       pending = [];
-      absorbed = true;
+      had_block = true;
       top_bit = pads_with_two v b;
     }
     else record s { pending = bytes }
@@ -48,17 +49,17 @@ HasAbsorbed v seed s m = s ≡ absorb v (start seed) m
 -- the byte that ends a stream with none pending: the padding byte of the last block, or 0 if no
 -- block was absorbed
 abbrev pub end_after_blocks : Bool → Bool → ℕ
-end_after_blocks absorbed top_bit = if absorbed then padding_after top_bit else 0
+end_after_blocks had_block top_bit = if had_block then padding_after top_bit else 0
 
 -- the words that an answer has left: the padded words of the pending bytes, or if there are none
 -- the byte that ends the stream
 abbrev pub tail_of : ℕ → List ℕ → Bool → Bool → List ℕ
-tail_of v (b ∷ m) absorbed top_bit = padded_words v (b ∷ m)
-tail_of v [] absorbed top_bit = end_after_blocks absorbed top_bit ∷ []
+tail_of v (b ∷ m) had_block top_bit = padded_words v (b ∷ m)
+tail_of v [] had_block top_bit = end_after_blocks had_block top_bit ∷ []
 
 -- what a stream answers
 unfoldable pub answer : ℕ → State → ℕ
-answer v s = hash_from_pair (join s.absorbed s.lanes) (tail_of v s.pending s.absorbed s.top_bit)
+answer v s = hash_from_pair (join s.had_block s.lanes) (tail_of v s.pending s.had_block s.top_bit)
 
 -- a state of version v: the lanes are words, at most 63 bytes are pending, and the bit is set only
 -- if a block was absorbed, and only in version 4
@@ -66,7 +67,7 @@ pub record IsState (v : ℕ) (s : State) : Type 0 where
   pub words : AreWords (in_order s.lanes)
   pub bytes : AreBytes s.pending
   pub few : length s.pending < 64
-  pub top_bit_absorbed : s.top_bit ≡ true → s.absorbed ≡ true
+  pub top_bit_block : s.top_bit ≡ true → s.had_block ≡ true
   pub top_bit_version : s.top_bit ≡ true → v ≡ 4
 
 -- what contracts see of a stream of version v: a state, and that it is one of this version
@@ -81,17 +82,18 @@ pub record Started (v seed : ℕ) (new : State) : Type 0 where
   pub state : new ≡ start seed
   pub message : HasAbsorbed v seed new []
 
--- a stream absorbs bytes
-pub record Absorbed (v : ℕ) (old new : State) (bytes : List ℕ) : Type 0 where
-  pub state : new ≡ absorb v old bytes
+-- a stream, whose state `view` gives, absorbs bytes
+pub record Absorbed {A : Type 0} (v : ℕ) (view : A → State) (stream : Mut A) (bytes : List ℕ)
+    : Type 0 where
+  pub state : view stream.exit.now ≡ absorb v (view stream.entry.now) bytes
   -- the message is then longer by these bytes
-  pub message : (seed : ℕ) (m : List ℕ) → HasAbsorbed v seed old m
-      → HasAbsorbed v seed new (m ++ bytes)
+  pub message : (seed : ℕ) (m : List ℕ) → HasAbsorbed v seed (view stream.entry.now) m
+      → HasAbsorbed v seed (view stream.exit.now) (m ++ bytes)
   -- the same in two more forms, by which the search finds proofs for callers that write numbers
-  pub joined : (seed : ℕ) (m all : List ℕ) → HasAbsorbed v seed old m → m ++ bytes ≡ all
-      → HasAbsorbed v seed new all
-  pub in_parts : (seed : ℕ) (m x : List ℕ) → HasAbsorbed v seed old (m ++ x)
-      → HasAbsorbed v seed new (m ++ (x ++ bytes))
+  pub joined : (seed : ℕ) (m all : List ℕ) → HasAbsorbed v seed (view stream.entry.now) m
+      → m ++ bytes ≡ all → HasAbsorbed v seed (view stream.exit.now) all
+  pub in_parts : (seed : ℕ) (m x : List ℕ) → HasAbsorbed v seed (view stream.entry.now) (m ++ x)
+      → HasAbsorbed v seed (view stream.exit.now) (m ++ (x ++ bytes))
 
 -- a stream answers: with the hash of the message that it has absorbed, if there is one
 pub record Answered (v : ℕ) (now : State) (result : ℕ) : Type 0 where

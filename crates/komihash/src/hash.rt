@@ -2,7 +2,7 @@
 //!
 //! Each range of lengths has a function of its own, with almost no jumps.
 
-#![tactic(auto, using(crate::proofs::HashSteps::hash_laws))]
+#![tactic(auto, using(crate::proofs::HashPaths::hash_laws))]
 
 ghost use Rattle.std.specs.Prelude.{◌≡◌, ◌<◌, ◌≤◌, length};
 ghost use Rattle.komihash.specs.Counts.{Costs, hash_products};

@@ -5,18 +5,11 @@ ghost use Rattle.std.specs.Prelude.{◌≡◌, ◌+◌, ◌*◌, ◌/◌, ◌^�
 ghost use Rattle.std.specs.Prelude.{IfSome, IfNone, length, take, slice_index};
 ghost use Rattle.komihash.specs.Padding.{ArePadded, Padded, Unpadded, padded_words};
 ghost use Rattle.komihash.specs.Padding.{pads_with_two, padding_after, padding_byte};
-ghost use Rattle.komihash.specs.Storage.{end_byte, final_word};
+ghost use Rattle.komihash.specs.Internals.{final_word};
 ghost use Rattle.komihash.specs.Words.{all_bytes};
 
-use crate::utils::{read_partial_word, word_at, words_from_bytes, write_bytes};
-
-/// Returns whether the padding byte after `byte` is 2: in version 4, if its top bit is set.
-#[inline(always)]
-pub(crate) fn pads_with_two<const V: u8>(byte: u8) -> bool
-    ensures { result ≡ pads_with_two V byte }
-{
-    V == 4 && byte >= 128
-}
+use crate::rounds::pads_with_two;
+use crate::utils::{read_partial_word, read_whole_words, word_at, write_first_bytes};
 
 /// Returns the padding byte: 2 after a last byte for which `pads_with_two` holds, otherwise 1.
 #[inline(always)]
@@ -30,7 +23,7 @@ pub(crate) fn padding_after(top_bit: bool) -> u64
 #[inline(always)]
 pub(crate) fn padding_byte<const V: u8>(message: &[u8]) -> u64
     requires { 0 < length message.now }
-    ensures byte { result ≡ end_byte V message.now }
+    ensures byte { result ≡ padding_byte V message.now }
     ensures small { result < 4 }
 {
     padding_after(pads_with_two::<V>(message[message.len() - 1]))
@@ -72,7 +65,7 @@ pub(crate) fn final_word_by_branch(bytes: &[u8], end: u64) -> u64
 #[inline(always)]
 pub(crate) fn pad<const V: u8>(bytes: &[u8], out: &mut [u64]) -> usize
     requires { length bytes.now / 8 + 1 ≤ length out.old }
-    ensures { Padded V bytes.now out.old out.new result }
+    ensures { Padded V bytes.now out result }
 {
     let whole = bytes.len() / 8;
     let last = if whole > 0 {
@@ -82,7 +75,7 @@ pub(crate) fn pad<const V: u8>(bytes: &[u8], out: &mut [u64]) -> usize
     } else {
         read_partial_word(bytes, padding_byte::<V>(bytes))
     };
-    words_from_bytes(bytes, out);
+    read_whole_words(bytes, out);
     out[whole] = last;
     whole + 1
 }
@@ -158,9 +151,9 @@ fn message_length<const V: u8>(words: &[u64]) -> Option<usize>
 #[inline(always)]
 pub(crate) fn unpad<const V: u8>(words: &[u64], out: &mut [u8]) -> Option<usize>
     requires { 8 * length words.now ≤ length out.old }
-    ensures { Unpadded V words.now out.old out.new result }
+    ensures { Unpadded V words.now out result }
 {
     let count = message_length::<V>(words)?;
-    write_bytes(words, count, out);
+    write_first_bytes(words, count, out);
     Some(count)
 }

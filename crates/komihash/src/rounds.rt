@@ -1,15 +1,16 @@
 //! The steps of the hash from the seed to the pair that is left after the blocks: seeding, lanes,
 //! block rounds, joining.
 //!
-//! Only `places` depends on the version.
+//! Only `places` and `pads_with_two` depend on the version. Streams keep the latter of each block.
 
 ghost use Rattle.std.specs.Prelude.{◌≡◌, ◌+◌, ◌*◌, ◌/◌, ◌%◌, ◌<◌, ◌≤◌, All, length, bit_xor};
 ghost use Rattle.std.proofs.Common.{refl};
 ghost use Rattle.komihash.specs.Counts.{Costs};
+ghost use Rattle.komihash.specs.Padding.{pads_with_two};
 ghost use Rattle.komihash.specs.Rounds.{low, high, plus, seed_words, mix, seed_pair, lanes, places};
 ghost use Rattle.komihash.specs.Rounds.{Lanes, in_order, block_round_by, block_round, join};
-ghost use Rattle.komihash.specs.Storage.{xor_again, pair_of};
-ghost use Rattle.komihash.specs.Storage.{whole_words, block_lanes, after_blocks};
+ghost use Rattle.komihash.specs.Internals.{xor_again, pair_of};
+ghost use Rattle.komihash.specs.Internals.{whole_words, block_lanes, after_blocks};
 
 use crate::tally::Tally;
 use crate::utils::{multiply128, word_at};
@@ -17,6 +18,7 @@ use std::marker::Model;
 
 pub(crate) mod pending;
 pub(crate) mod tail;
+pub(crate) mod words;
 
 // The hash's eight constants: the first 512 bits of the fractional part of π.
 const C1: u64 = 0x243f_6a88_85a3_08d3;
@@ -168,6 +170,14 @@ pub(crate) fn places<const V: u8>() -> [usize; 8]
     }
 }
 
+/// Returns whether the padding byte after `byte` is 2: in version 4, if its top bit is set.
+#[inline(always)]
+pub(crate) fn pads_with_two<const V: u8>(byte: u8) -> bool
+    ensures { result ≡ pads_with_two V byte }
+{
+    V == 4 && byte >= 128
+}
+
 /// Absorbs a block of eight words, multiplied as the table `places` says.
 #[inline(always)]
 #[tactic(auto, unfolding(crate::specs::Rounds::block_round_by), using(crate::proofs::Xor::products))]
@@ -261,12 +271,12 @@ pub(crate) fn absorb_blocks<'a, const V: u8>(
 /// otherwise s1 and s5.
 #[inline(always)]
 #[tactic(auto, using(crate::proofs::Xor::joined))]
-pub(crate) fn join(lanes: &Lanes, absorbed: bool) -> Pair
-    ensures { pair_of result ≡ join absorbed lanes.now }
+pub(crate) fn join(lanes: &Lanes, had_block: bool) -> Pair
+    ensures { pair_of result ≡ join had_block lanes.now }
 {
     let (Pair(low4, e4), Pair(low1, e1)) = (lanes.fourth, lanes.first);
     let (Pair(low2, e2), Pair(low3, e3)) = (lanes.second, lanes.third);
-    if absorbed {
+    if had_block {
         Pair(low1 ^ low2 ^ low3 ^ low4, e1 ^ e2 ^ e3 ^ e4)
     } else {
         Pair(e4 ^ low1 ^ e1, e1)

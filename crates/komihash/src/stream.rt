@@ -2,8 +2,8 @@
 
 ghost use Rattle.std.specs.Prelude.{◌≡◌, ◌<◌, ◌≤◌, ◌⊎◌, ℕ, List, ◌++◌, length, drop};
 ghost use Rattle.komihash.specs.Calls.{answers_after, answers, onward, bytes_of_calls};
-ghost use Rattle.komihash.specs.Calls.{onward_products, onward_kept, run_products, run_kept};
-ghost use Rattle.komihash.specs.Counts.{Costs, write_products, answer_products, kept_bytes};
+ghost use Rattle.komihash.specs.Calls.{onward_products, onward_kept_bytes, run_products, run_kept_bytes};
+ghost use Rattle.komihash.specs.Counts.{Costs, absorb_products, answer_products, absorb_kept_bytes};
 ghost use Rattle.komihash.specs.Hash.{komi};
 ghost use Rattle.komihash.specs.Saved.{Stored, Restored};
 ghost use Rattle.komihash.specs.Stream.{State, IsState, HasAbsorbed};
@@ -42,10 +42,10 @@ pub trait KomiStream: Sized + Drop {
     /// Absorbs bytes. Counts four products for each block of 64 bytes that they complete, and the
     /// bytes that are copied.
     fn absorb(&mut self, bytes: &[u8], tally: &mut Tally)
-        ensures absorbed { Absorbed VERSION (state self.old) (state self.new) bytes.now }
+        ensures absorbed { Absorbed VERSION state self bytes.now }
         ensures costs { Costs tally
-            (write_products (length (state self.old).pending) (length bytes.now))
-            (kept_bytes (length (state self.old).pending) (length bytes.now)) };
+            (absorb_products (length (state self.old).pending) (length bytes.now))
+            (absorb_kept_bytes (length (state self.old).pending) (length bytes.now)) };
 
     /// Returns the hash of all bytes so far. The stream is unchanged. Counts two products, and one
     /// for each 16 pending bytes.
@@ -59,7 +59,7 @@ pub trait KomiStream: Sized + Drop {
     /// `out` needs room for `LONGEST_TEXT` bytes, whatever is pending.
     fn store(&self, out: &mut [u8]) -> usize
         requires { LONGEST_TEXT ≤ length out.old }
-        ensures { Stored VERSION (state self.now) out.old out.new result };
+        ensures { Stored VERSION (state self.now) out result };
 
     /// Returns the stream that has these bytes as its saved text, or `None` if no stream of this
     /// version has. Damage that leaves them the text of a stream goes unnoticed.
@@ -100,11 +100,10 @@ pub fn run_on<S: KomiStream>(
     ensures count { result ≡ length (onward S.VERSION (S.state stream.old) calls.now) }
     ensures hashes { (seed : ℕ) (m : List ℕ) → HasAbsorbed S.VERSION seed (S.state stream.old) m
         → out.new ≡ answers_after (komi S.VERSION seed) m calls.now ++ drop result out.old }
-    ensures absorbed { Absorbed S.VERSION (S.state stream.old) (S.state stream.new)
-        (bytes_of_calls calls.now) }
+    ensures absorbed { Absorbed S.VERSION S.state stream (bytes_of_calls calls.now) }
     ensures costs { Costs tally
         (onward_products (length (S.state stream.old).pending) calls.now)
-        (onward_kept (length (S.state stream.old).pending) calls.now) }
+        (onward_kept_bytes (length (S.state stream.old).pending) calls.now) }
 {
     let mut count = 0;
     for call in calls {
@@ -133,7 +132,7 @@ pub fn run<S: KomiStream>(
     requires { length calls.now ≤ length out.old }
     ensures answers { out.new ≡ answers S.VERSION seed calls.now ++ drop result out.old }
     ensures count { result ≡ length (answers S.VERSION seed calls.now) }
-    ensures costs { Costs tally (run_products calls.now) (run_kept calls.now) }
+    ensures costs { Costs tally (run_products calls.now) (run_kept_bytes calls.now) }
 {
     let mut stream = S::start(seed, tally);
     run_on(&mut stream, calls, out, tally)

@@ -5,7 +5,7 @@ ghost use Rattle.std.specs.Prelude.{◌≡◌, ℕ};
 use std::marker::{Model, PhantomData};
 
 /// Counts, without limit, two things that only contracts see: `products`, the products of two
-/// words, and `kept`, the bytes that writes added to the pending bytes of streams. Each byte counts
+/// words, and `kept_bytes`, the bytes that writes added to the pending bytes of streams. Each byte counts
 /// once, however often its word is stored.
 ///
 /// A tally takes no memory at run time, and no program can read it. A contract says by how much a
@@ -16,13 +16,13 @@ pub struct Tally {
     // A struct needs a field that is not ghost.
     marker: PhantomData<()>,
     pub ghost products: { ℕ },
-    pub ghost kept: { ℕ },
+    pub ghost kept_bytes: { ℕ },
 }
 
 impl Model for Tally {
     ghost use Rattle.komihash.specs.Sealed.{owned_by_tally};
 
-    ghost also_owns = { λ t. owned_by_tally t.products t.kept };
+    ghost also_owns = { λ t. owned_by_tally t.products t.kept_bytes };
 }
 
 // Gives proofs in this crate the key of `specs/Sealed.antt`. No proof can make or raise a tally
@@ -47,7 +47,7 @@ impl Tally {
     #[inline(always)]
     pub fn new() -> Tally
         ensures products { result.products ≡ 0 }
-        ensures kept { result.kept ≡ 0 }
+        ensures kept_bytes { result.kept_bytes ≡ 0 }
     {
         Tally {
             marker: PhantomData,
@@ -59,8 +59,8 @@ impl Tally {
     /// The body is empty, since there is nothing to do at run time: the handwritten proof changes
     /// the ghost fields.
     #[inline(always)]
-    pub(crate) fn raise(&mut self, _products: usize, _kept: usize)
-        ensures costs { Costs self _products _kept }
+    pub(crate) fn raise(&mut self, _products: usize, _kept_bytes: usize)
+        ensures costs { Costs self _products _kept_bytes }
     {}
 }
 

@@ -5,7 +5,7 @@ ghost use Rattle.std.specs.Prelude.{◌≡◌, ◌+◌, ◌-◌, ◌*◌, ◌/�
 ghost use Rattle.std.specs.Prelude.{[], ◌∷◌, ◌++◌, length, take, drop, slice_index};
 ghost use Rattle.komihash.specs.Counts.{Costs};
 ghost use Rattle.komihash.specs.Rounds.{low, high};
-ghost use Rattle.komihash.specs.Storage.{whole_words};
+ghost use Rattle.komihash.specs.Internals.{whole_words};
 ghost use Rattle.komihash.specs.Words.{word_of, all_bytes};
 
 use crate::tally::Tally;
@@ -39,7 +39,7 @@ pub(crate) fn last_whole_word(bytes: &[u8]) -> u64
 }
 
 #[inline(always)]
-fn u32_at(bytes: &[u8], at: usize) -> u64
+fn half_word_at(bytes: &[u8], at: usize) -> u64
     requires { at + 4 ≤ length bytes.now }
     ensures { result ≡ word_of (take 4 (drop at bytes.now)) }
 {
@@ -60,7 +60,7 @@ pub(crate) fn read_partial_word(bytes: &[u8], end: u64) -> u64
 {
     let n = bytes.len();
     if n >= 4 {
-        u32_at(bytes, 0) | (u32_at(bytes, n - 4) | end << 32) >> (64 - 8 * n) << 32
+        half_word_at(bytes, 0) | (half_word_at(bytes, n - 4) | end << 32) >> (64 - 8 * n) << 32
     } else if n > 0 {
         let middle = u64::from(bytes[n / 2]) << 8;
         let last = u64::from(bytes[n - 1]) << 16;
@@ -108,7 +108,7 @@ pub(crate) fn write_partial_word(word: u64, out: &mut [u8])
 /// Writes the whole words of `bytes` to the front of `out`.
 #[inline(always)]
 #[tactic(auto, using(crate::proofs::WholeWords::read_words))]
-pub(crate) fn words_from_bytes(bytes: &[u8], out: &mut [u64])
+pub(crate) fn read_whole_words(bytes: &[u8], out: &mut [u64])
     requires { length bytes.now / 8 ≤ length out.old }
     ensures words { take (length bytes.now / 8) out.new ≡ whole_words bytes.now }
     ensures rest { drop (length bytes.now / 8) out.new ≡ drop (length bytes.now / 8) out.old }
@@ -120,7 +120,7 @@ pub(crate) fn words_from_bytes(bytes: &[u8], out: &mut [u64])
 
 /// Writes the first `count` bytes of `words` to the front of `out`.
 #[inline(always)]
-pub(crate) fn write_bytes(words: &[u64], count: usize, out: &mut [u8])
+pub(crate) fn write_first_bytes(words: &[u64], count: usize, out: &mut [u8])
     requires within { count ≤ 8 * length words.now }
     requires room { count ≤ length out.old }
     ensures bytes { take count out.new ≡ take count (all_bytes words.now) }

@@ -28,7 +28,7 @@ pub fn komihash(bytes: &[u8], seed: u64) -> u64
 /// Returns the hash of a message with a seed, and counts its cost in a tally.
 ///
 /// A message of n bytes takes `3 + 4 * (n / 64) + (n % 64) / 16` multiplications of two words, by
-/// which `products` rises. No byte is copied, so `kept` stays.
+/// which `products` rises. No byte is copied, so `kept_bytes` stays.
 #[inline]
 pub fn komihash_counted(bytes: &[u8], seed: u64, tally: &mut Tally) -> u64
     ensures hash { result ≡ komi 5 seed bytes.now }
@@ -45,7 +45,7 @@ pub fn komihash_counted(bytes: &[u8], seed: u64, tally: &mut Tally) -> u64
 #[inline]
 pub fn pad(bytes: &[u8], out: &mut [u64]) -> usize
     requires { length bytes.now / 8 + 1 ≤ length out.old }
-    ensures { Padded 5 bytes.now out.old out.new result }
+    ensures { Padded 5 bytes.now out result }
 {
     padding::pad::<5>(bytes, out)
 }
@@ -57,7 +57,7 @@ pub fn pad(bytes: &[u8], out: &mut [u64]) -> usize
 #[inline]
 pub fn unpad(words: &[u64], out: &mut [u8]) -> Option<usize>
     requires { 8 * length words.now ≤ length out.old }
-    ensures { Unpadded 5 words.now out.old out.new result }
+    ensures { Unpadded 5 words.now out result }
 {
     padding::unpad::<5>(words, out)
 }

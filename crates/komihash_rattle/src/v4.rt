@@ -37,7 +37,7 @@ pub extern "C" fn komihash_v4(bytes: &[u8], seed: u64) -> u64
 #[unsafe(no_mangle)]
 pub extern "C" fn komihash_v4_pad(bytes: &[u8], out: &mut [u64]) -> usize
     ensures padded { length bytes.now / 8 < length out.old
-        → Padded 4 bytes.now out.old out.new result }
+        → Padded 4 bytes.now out result }
     ensures no_room { length out.old ≤ length bytes.now / 8 → result ≡ 0 }
     ensures unchanged { length out.old ≤ length bytes.now / 8 → out.new ≡ out.old }
 {
@@ -53,7 +53,7 @@ pub extern "C" fn komihash_v4_pad(bytes: &[u8], out: &mut [u64]) -> usize
 #[unsafe(no_mangle)]
 pub extern "C" fn komihash_v4_unpad(words: &[u64], out: &mut [u8]) -> usize
     ensures unpadded { result < 2 ^ 64 - 1
-        → Unpadded 4 words.now out.old out.new (Some result) }
+        → Unpadded 4 words.now out (Some result) }
     ensures unchanged { result ≡ 2 ^ 64 - 1 → out.new ≡ out.old }
     ensures no_room { length out.old < 8 * length words.now → result ≡ 2 ^ 64 - 1 }
     ensures none { ¬ ArePadded 4 words.now → result ≡ 2 ^ 64 - 1 }
@@ -82,7 +82,7 @@ pub extern "C" fn komihash_v4_start(seed: u64) -> Stream
 /// Absorbs bytes.
 #[unsafe(no_mangle)]
 pub extern "C" fn komihash_v4_write(stream: &mut Stream, bytes: &[u8])
-    ensures { Absorbed 4 stream.old.raw stream.new.raw bytes.now }
+    ensures { Absorbed 4 (λ stream. stream.raw) stream bytes.now }
 {
     stream.raw.absorb::<4>(bytes, &mut Tally::new());
 }
@@ -100,7 +100,7 @@ pub extern "C" fn komihash_v4_finish(stream: &Stream) -> u64
 #[unsafe(no_mangle)]
 pub extern "C" fn komihash_v4_save(stream: &Stream, out: &mut [u8]) -> usize
     ensures stored { LONGEST_TEXT ≤ length out.old
-        → Stored 4 stream.now.raw out.old out.new result }
+        → Stored 4 stream.now.raw out result }
     ensures no_room { length out.old < LONGEST_TEXT → result ≡ 0 }
     ensures unchanged { length out.old < LONGEST_TEXT → out.new ≡ out.old }
 {

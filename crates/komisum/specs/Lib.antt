@@ -1,4 +1,5 @@
 pub mod Ending
+pub mod Faults
 pub mod Program
 pub mod Settings
 pub mod Watched

@@ -7,7 +7,7 @@ ghost use Rattle.komihash.specs.Hash.{komi};
 ghost use Rattle.komisum.specs.Program.{line};
 ghost use Rattle.komisum.specs.Watched.{Takes};
 
-use crate::ending::Fault;
+use crate::faults::Fault;
 use crate::watched::Watched;
 use komihash::stream::KomiStream;
 use komihash::tally::Tally;

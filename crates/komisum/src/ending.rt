@@ -3,46 +3,13 @@
 ghost use Rattle.std.specs.Prelude.{◌≡◌, false};
 ghost use Rattle.std.specs.Io.KnownBytes.{Appends};
 ghost use Rattle.std.specs.Process.{exit_status};
-ghost use Rattle.komisum.specs.Ending.{fault_text, line_of, status_of};
+ghost use Rattle.komisum.specs.Ending.{line_of, status_of};
 ghost use Rattle.komisum.specs.Watched.{AppendsPrefix};
 
+use crate::faults::{Fault, Refusal};
 use crate::watched::{Watched, write_whole};
 use std::io::Write;
 use std::process::ExitCode;
-
-/// Why the whole line was not written and flushed.
-#[derive(Drop)]
-pub enum Fault {
-    /// A read returned an error.
-    Read,
-    /// The input is longer than the call accepts.
-    TooLong,
-    /// A write or a flush returned an error, or a write accepted no byte.
-    Write,
-}
-
-impl Fault {
-    /// Returns the message.
-    pub fn text(&self) -> &'static str
-        ensures { result.now ≡ fault_text self.now }
-    {
-        match self {
-            Fault::Read => "read failed",
-            Fault::TooLong => "too long",
-            Fault::Write => "write failed",
-        }
-    }
-}
-
-/// Why the program did not begin to read.
-#[derive(Drop)]
-pub enum Refusal {
-    /// The arguments or the input's buffer could not be allocated.
-    NoMemory,
-    /// There are arguments, but not exactly a version and a seed. All errors in place of the
-    /// arguments count as this, but for `OutOfMemory`.
-    Usage,
-}
 
 /// How the program ends.
 #[derive(Drop)]

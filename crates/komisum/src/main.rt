@@ -6,6 +6,7 @@
 
 mod digest;
 mod ending;
+mod faults;
 mod program;
 mod settings;
 #[cfg(test)]

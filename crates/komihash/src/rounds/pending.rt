@@ -8,14 +8,15 @@ ghost use Rattle.std.specs.Prelude.{IsTrue, false, if◌then◌else◌};
 ghost use Rattle.std.proofs.Common.{sym};
 ghost use Rattle.komihash.specs.Counts.{Costs};
 ghost use Rattle.komihash.specs.Padding.{padding_byte};
-ghost use Rattle.komihash.specs.Storage.{pending_bytes, ArePending, Stores, StoresBut};
-ghost use Rattle.komihash.specs.Storage.{stored_words, whole_words, final_word};
+ghost use Rattle.komihash.specs.Internals.{pending_bytes, ArePending, Stores, StoresBut};
+ghost use Rattle.komihash.specs.Internals.{stored_words, whole_words, final_word};
 ghost use Rattle.komihash.specs.Words.{AreBytes, word_of};
 
-use super::tail::Words;
-use crate::padding::{padding_after, pads_with_two};
+use super::pads_with_two;
+use super::words::WholeWords;
+use crate::padding::padding_after;
 use crate::tally::Tally;
-use crate::utils::{read_partial_word, read_word, word_at, write_bytes};
+use crate::utils::{read_partial_word, read_word, word_at, write_first_bytes};
 use std::marker::Model;
 use std::simd::{u8x16, u64x2};
 
@@ -24,24 +25,24 @@ use std::simd::{u8x16, u64x2};
 #[repr(C)]
 pub(crate) struct Pending {
     words: [u64; 8],
-    fill: usize,
+    len: usize,
 }
 
 impl Model for Pending {
     ghost Value = { List ℕ };
 
-    ghost view = { λ p. pending_bytes p.words p.fill };
+    ghost view = { λ p. pending_bytes p.words p.len };
 
-    ghost invariant = { λ p. ArePending p.words p.fill };
+    ghost invariant = { λ p. ArePending p.words p.len };
 
     ghost inverse = { λ bytes. record {
       words = stored_words 8 bytes;
-      fill = length bytes;
+      len = length bytes;
     } };
 
     ghost inverse_ok = { λ p are i. record {
       words = sym are.words i;
-      fill = are.count i;
+      len = are.count i;
     } };
 }
 
@@ -52,7 +53,7 @@ impl Pending {
     {
         Pending {
             words: [0; 8],
-            fill: 0,
+            len: 0,
         }
     }
 
@@ -61,7 +62,7 @@ impl Pending {
         ensures length { result ≡ length self.now }
         ensures below_64 { result < 64 }
     {
-        self.fill
+        self.len
     }
 
     /// Appends bytes that do not complete a block, and counts them as kept.
@@ -71,14 +72,14 @@ impl Pending {
         ensures bytes { self.new ≡ self.old ++ bytes.now }
         ensures costs { Costs tally 0 (length bytes.now) }
     {
-        append_bytes::<false>(&mut self.words, self.fill, bytes, tally);
-        self.fill += bytes.len();
+        append_bytes::<false>(&mut self.words, self.len, bytes, tally);
+        self.len += bytes.len();
     }
 
-    /// Appends bytes where none are stored, and counts them as kept. Does what `append` does, by a
-    /// fill that the compiler knows to be 0.
+    /// Appends bytes if none are pending, and counts them as kept. Does what `append` does, but the
+    /// compiler knows that the length was 0.
     #[inline(always)]
-    pub(crate) fn append_first(&mut self, bytes: &[u8], tally: &mut Tally)
+    pub(crate) fn append_to_none(&mut self, bytes: &[u8], tally: &mut Tally)
         requires none { self.old ≡ [] }
         requires below_64 { length bytes.now < 64 }
         ensures bytes { self.new ≡ bytes.now }
@@ -86,7 +87,7 @@ impl Pending {
     {
         if !bytes.is_empty() {
             append_bytes::<false>(&mut self.words, 0, bytes, tally);
-            self.fill = bytes.len();
+            self.len = bytes.len();
         }
     }
 
@@ -99,14 +100,15 @@ impl Pending {
         ensures none { self.new ≡ [] }
         ensures costs { Costs tally 0 (64 - length self.old) }
     {
-        let fill = self.fill;
+        let len = self.len;
         if bytes.len() < 64 {
-            append_bytes::<false>(&mut self.words, fill, &bytes[..64 - fill], tally);
+            append_bytes::<false>(&mut self.words, len, &bytes[..64 - len], tally);
         } else {
-            append_bytes::<true>(&mut self.words, fill, bytes, tally);
+            append_bytes::<true>(&mut self.words, len, bytes, tally);
         }
         let block = self.words;
-        *self = Pending::new();
+        self.words = [0; 8];
+        self.len = 0;
         block
     }
 
@@ -116,7 +118,7 @@ impl Pending {
         ensures { 8 ≤ length self.now
             → result ≡ slice_index (whole_words self.now) (length self.now / 8 - 1) }
     {
-        self.words[(self.fill / 8 + 7) % 8]
+        self.words[(self.len / 8 + 7) % 8]
     }
 
     /// Returns the final word of at least one byte: those after the last whole word, and the
@@ -126,8 +128,8 @@ impl Pending {
         requires { 0 < length self.now }
         ensures { result ≡ final_word self.now (padding_byte V self.now) }
     {
-        let whole = self.fill / 8;
-        let over = self.fill % 8;
+        let whole = self.len / 8;
+        let over = self.len % 8;
         let word = self.words[whole];
         let last_byte = if over == 0 {
             (self.words[whole - 1] >> 56 & 0xff) as u8
@@ -144,21 +146,21 @@ impl Pending {
         ensures bytes { take (length self.now) out.new ≡ self.now }
         ensures rest { drop (length self.now) out.new ≡ drop (length self.now) out.old }
     {
-        write_bytes(&self.words, self.fill, out);
+        write_first_bytes(&self.words, self.len, out);
     }
 }
 
-impl Words for Pending {
+impl WholeWords for Pending {
     ghost words = { λ pending. whole_words pending };
 
     #[inline(always)]
     fn holds(&self, count: usize) -> bool {
-        8 * count <= self.fill
+        8 * count <= self.len
     }
 
     #[inline(always)]
     fn is_odd(&self) -> bool {
-        self.fill / 8 % 2 == 1
+        self.len / 8 % 2 == 1
     }
 
     #[inline(always)]
@@ -169,42 +171,42 @@ impl Words for Pending {
 
 // Appends the bytes of a word that fit in the partial word.
 #[inline(always)]
-fn append_within_word(words: &mut [u64; 8], fill: usize, word: u64)
-    requires { ArePending words.old fill }
-    ensures words { (bytes : List ℕ) (low high : ℕ) → AreBytes bytes
+fn append_within_word(words: &mut [u64; 8], len: usize, word: u64)
+    requires { ArePending words.old len }
+    ensures words { (bytes : List ℕ) (gap gap_end : ℕ) → AreBytes bytes
         → word ≡ word_of (take 8 bytes)
-        → (low ≤ fill / 8 + 1) × (fill + length bytes ≤ 8 * high)
-        → StoresBut words.new (pending_bytes words.old fill ++ bytes) low high }
-    ensures zeros { (k : ℕ) → fill / 8 < k → k < 8 → slice_index words.new k ≡ 0 }
+        → (gap ≤ len / 8 + 1) × (len + length bytes ≤ 8 * gap_end)
+        → StoresBut words.new (pending_bytes words.old len ++ bytes) gap gap_end }
+    ensures zeros { (k : ℕ) → len / 8 < k → k < 8 → slice_index words.new k ≡ 0 }
 {
-    words[fill / 8] |= word << (8 * (fill % 8));
+    words[len / 8] |= word << (8 * (len % 8));
 }
 
 // Appends fewer than eight bytes. What does not fit in the partial word is 0 if all fit.
 #[inline(always)]
-fn append_below_eight(words: &mut [u64; 8], fill: usize, bytes: &[u8])
-    requires pending { ArePending words.old fill }
+fn append_below_eight(words: &mut [u64; 8], len: usize, bytes: &[u8])
+    requires pending { ArePending words.old len }
     requires below_8 { length bytes.now < 8 }
-    requires room { fill + length bytes.now ≤ 64 }
-    ensures { Stores words.new (pending_bytes words.old fill ++ bytes.now) }
+    requires room { len + length bytes.now ≤ 64 }
+    ensures { Stores words.new (pending_bytes words.old len ++ bytes.now) }
 {
     let word = read_partial_word(bytes, 0);
-    let bits = 8 * (fill % 8);
-    append_within_word(words, fill, word);
+    let bits = 8 * (len % 8);
+    append_within_word(words, len, word);
     // The rotation has what the shift keeps, in its place, and below that, from the lowest byte on,
     // what the shift drops. The difference is therefore what goes to the front of the next word.
-    words[(fill / 8 + 1) % 8] |= word.rotate_left(bits as u32) - (word << bits);
+    words[(len / 8 + 1) % 8] |= word.rotate_left(bits as u32) - (word << bits);
 }
 
 // Appends those of the first eight bytes that fit in the partial word.
 #[inline(always)]
-fn append_first_eight(words: &mut [u64; 8], fill: usize, bytes: &[u8])
-    requires pending { ArePending words.old fill }
+fn append_first_eight(words: &mut [u64; 8], len: usize, bytes: &[u8])
+    requires pending { ArePending words.old len }
     requires at_least_8 { 8 ≤ length bytes.now }
-    ensures { (low high : ℕ) → (low ≤ fill / 8 + 1) × (fill + length bytes.now ≤ 8 * high)
-        → StoresBut words.new (pending_bytes words.old fill ++ bytes.now) low high }
+    ensures { (gap gap_end : ℕ) → (gap ≤ len / 8 + 1) × (len + length bytes.now ≤ 8 * gap_end)
+        → StoresBut words.new (pending_bytes words.old len ++ bytes.now) gap gap_end }
 {
-    append_within_word(words, fill, read_word(bytes));
+    append_within_word(words, len, read_word(bytes));
 }
 
 // Stores two whole words, of the sixteen bytes from `from` on, at index `at`.
@@ -212,9 +214,9 @@ fn append_first_eight(words: &mut [u64; 8], fill: usize, bytes: &[u8])
 fn store_two_words(words: &mut [u64; 8], at: usize, bytes: &[u8], from: usize)
     requires place { at < 7 }
     requires within { from + 16 ≤ length bytes.now }
-    ensures { (xs : List ℕ) (low high n : ℕ) → StoresBut words.old (xs ++ bytes.now) low high
-        → (length xs + from ≡ 8 * at) × (at ≤ low) × (n ≤ at + 2)
-        → StoresBut words.new (xs ++ bytes.now) n high }
+    ensures { (xs : List ℕ) (gap gap_end n : ℕ) → StoresBut words.old (xs ++ bytes.now) gap gap_end
+        → (length xs + from ≡ 8 * at) × (at ≤ gap) × (n ≤ at + 2)
+        → StoresBut words.new (xs ++ bytes.now) n gap_end }
 {
     let two = u64x2::from_le_bytes(u8x16::from_slice(&bytes[from..]));
     two.copy_to_slice(&mut words[at..]);
@@ -223,16 +225,16 @@ fn store_two_words(words: &mut [u64; 8], at: usize, bytes: &[u8], from: usize)
 // Appends the bytes of eight or more that belong to whole words. Some complete the partial word,
 // and the words after it are stored two at a time, from both ends.
 #[inline(always)]
-fn append_whole_words(words: &mut [u64; 8], fill: usize, bytes: &[u8])
-    requires pending { ArePending words.old fill }
+fn append_whole_words(words: &mut [u64; 8], len: usize, bytes: &[u8])
+    requires pending { ArePending words.old len }
     requires at_least_8 { 8 ≤ length bytes.now }
-    requires room { fill + length bytes.now ≤ 64 }
-    ensures { StoresBut words.new (pending_bytes words.old fill ++ bytes.now)
-        ((fill + length bytes.now) / 8) ((fill + length bytes.now) / 8 + 1) }
+    requires room { len + length bytes.now ≤ 64 }
+    ensures { StoresBut words.new (pending_bytes words.old len ++ bytes.now)
+        ((len + length bytes.now) / 8) ((len + length bytes.now) / 8 + 1) }
 {
-    append_first_eight(words, fill, bytes);
-    let at = fill / 8;
-    let over = fill % 8;
+    append_first_eight(words, len, bytes);
+    let at = len / 8;
+    let over = len % 8;
     // How many words are whole with the bytes, from the partial word on.
     let whole = (over + bytes.len()) / 8;
     if whole >= 3 {
@@ -242,7 +244,7 @@ fn append_whole_words(words: &mut [u64; 8], fill: usize, bytes: &[u8])
             store_two_words(words, at + whole - 4, bytes, 8 * whole - 32 - over);
         }
         store_two_words(words, at + whole - 2, bytes, 8 * whole - 16 - over);
-    } else if whole == 2 || fill + bytes.len() < 64 {
+    } else if whole == 2 || len + bytes.len() < 64 {
         // If only the partial word is whole, the bytes that are left take the place of this word.
         words[at + 1] = word_at(bytes, (8 - over).min(bytes.len() - 8));
     }
@@ -250,14 +252,14 @@ fn append_whole_words(words: &mut [u64; 8], fill: usize, bytes: &[u8])
 
 // Appends eight bytes or more: those of whole words, and then those that are left.
 #[inline(always)]
-fn append_eight_or_more(words: &mut [u64; 8], fill: usize, bytes: &[u8])
-    requires pending { ArePending words.old fill }
+fn append_eight_or_more(words: &mut [u64; 8], len: usize, bytes: &[u8])
+    requires pending { ArePending words.old len }
     requires at_least_8 { 8 ≤ length bytes.now }
-    requires room { fill + length bytes.now ≤ 64 }
-    ensures { Stores words.new (pending_bytes words.old fill ++ bytes.now) }
+    requires room { len + length bytes.now ≤ 64 }
+    ensures { Stores words.new (pending_bytes words.old len ++ bytes.now) }
 {
-    append_whole_words(words, fill, bytes);
-    let end = fill + bytes.len();
+    append_whole_words(words, len, bytes);
+    let end = len + bytes.len();
     if end < 64 {
         // By 8 last: LLVM would read seven bytes in three pieces if this shift came first.
         words[end / 8] = word_at(bytes, bytes.len() - 8) >> (56 - 8 * (end % 8)) >> 8;
@@ -267,54 +269,49 @@ fn append_eight_or_more(words: &mut [u64; 8], fill: usize, bytes: &[u8])
 // Completes the block with the first of at least 64 bytes. The words after the partial word are
 // stored two at a time, and some of them up to four times, so that one test serves any number.
 #[inline(always)]
-fn append_long(words: &mut [u64; 8], fill: usize, bytes: &[u8])
-    requires pending { ArePending words.old fill }
+fn append_long(words: &mut [u64; 8], len: usize, bytes: &[u8])
+    requires pending { ArePending words.old len }
     requires at_least_64 { 64 ≤ length bytes.now }
-    ensures { Stores words.new (pending_bytes words.old fill ++ bytes.now) }
+    ensures { Stores words.new (pending_bytes words.old len ++ bytes.now) }
 {
-    append_first_eight(words, fill, bytes);
-    let at = fill / 8;
+    append_first_eight(words, len, bytes);
+    let at = len / 8;
     if at < 6 {
         let second = (at + 3).min(6);
         let third = (at + 5).min(6);
-        store_two_words(words, at + 1, bytes, 8 * (at + 1) - fill);
-        store_two_words(words, second, bytes, 8 * second - fill);
-        store_two_words(words, third, bytes, 8 * third - fill);
-        store_two_words(words, 6, bytes, 48 - fill);
+        store_two_words(words, at + 1, bytes, 8 * (at + 1) - len);
+        store_two_words(words, second, bytes, 8 * second - len);
+        store_two_words(words, third, bytes, 8 * third - len);
+        store_two_words(words, 6, bytes, 48 - len);
     } else {
-        let next = word_at(bytes, 8 - fill % 8);
+        let next = word_at(bytes, 8 - len % 8);
         words[7] = if at == 6 { next } else { words[7] };
     }
 }
 
-// Appends bytes to those that the words store up to the fill, as many as complete the block if LONG
+// Appends bytes to the first `len` of those that the words store, as many as complete the block if LONG
 // tells that there are at least 64, and counts these as kept. Bytes come into the words only
 // through this function.
 #[inline(always)]
-fn append_bytes<const LONG: bool>(
-    words: &mut [u64; 8],
-    fill: usize,
-    bytes: &[u8],
-    tally: &mut Tally,
-)
-    requires pending { ArePending words.old fill }
+fn append_bytes<const LONG: bool>(words: &mut [u64; 8], len: usize, bytes: &[u8], tally: &mut Tally)
+    requires pending { ArePending words.old len }
     requires long { IsTrue LONG → 64 ≤ length bytes.now }
-    requires room { LONG ≡ false → fill + length bytes.now ≤ 64 }
-    ensures block { 64 ≤ fill + length bytes.now
-        → words.new ≡ whole_words (pending_bytes words.old fill ++ take (64 - fill) bytes.now) }
-    ensures bytes { fill + length bytes.now < 64
-        → pending_bytes words.new (fill + length bytes.now)
-        ≡ pending_bytes words.old fill ++ bytes.now }
-    ensures pending { fill + length bytes.now < 64
-        → ArePending words.new (fill + length bytes.now) }
-    ensures costs { Costs tally 0 (if LONG then 64 - fill else length bytes.now) }
+    requires room { LONG ≡ false → len + length bytes.now ≤ 64 }
+    ensures block { 64 ≤ len + length bytes.now
+        → words.new ≡ whole_words (pending_bytes words.old len ++ take (64 - len) bytes.now) }
+    ensures bytes { len + length bytes.now < 64
+        → pending_bytes words.new (len + length bytes.now)
+        ≡ pending_bytes words.old len ++ bytes.now }
+    ensures pending { len + length bytes.now < 64
+        → ArePending words.new (len + length bytes.now) }
+    ensures costs { Costs tally 0 (if LONG then 64 - len else length bytes.now) }
 {
-    tally.raise(0, bytes.len().min(64 - fill));
+    tally.raise(0, bytes.len().min(64 - len));
     if LONG {
-        append_long(words, fill, bytes);
+        append_long(words, len, bytes);
     } else if bytes.len() < 8 {
-        append_below_eight(words, fill, bytes);
+        append_below_eight(words, len, bytes);
     } else {
-        append_eight_or_more(words, fill, bytes);
+        append_eight_or_more(words, len, bytes);
     }
 }

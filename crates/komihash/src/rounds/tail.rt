@@ -1,59 +1,15 @@
 //! The end of a hash: fewer than eight whole words, and the final word.
 
-ghost use Rattle.std.specs.Prelude.{◌≡◌, ℕ, ◌+◌, ◌-◌, ◌*◌, ◌/◌, ◌%◌, ◌<◌, ◌≤◌, ◌↔◌, IsTrue};
-ghost use Rattle.std.specs.Prelude.{List, [], ◌∷◌, ◌++◌, length, drop, slice_index};
+ghost use Rattle.std.specs.Prelude.{◌≡◌, ℕ, ◌+◌, ◌-◌, ◌*◌, ◌/◌, ◌<◌, ◌≤◌};
+ghost use Rattle.std.specs.Prelude.{[], ◌∷◌, ◌++◌, length, drop, slice_index};
 ghost use Rattle.komihash.specs.Counts.{Costs};
 ghost use Rattle.komihash.specs.Hash.{hash_from_pair};
 ghost use Rattle.komihash.specs.Rounds.{pair_round, mix_again, closing};
-ghost use Rattle.komihash.specs.Storage.{pair_of, whole_words};
+ghost use Rattle.komihash.specs.Internals.{pair_of};
 
+use super::words::WholeWords;
 use super::{Pair, mix};
 use crate::tally::Tally;
-use crate::utils::word_at;
-
-/// Whole words, wherever they lie: in a message's bytes, or in the words of a stream.
-pub(crate) trait Words {
-    ghost words: { Self → List ℕ };
-
-    /// Returns whether there are at least `count` words.
-    fn holds(&self, count: usize) -> bool
-        requires at_most_8 { count ≤ 8 }
-        ensures { IsTrue result ↔ (count ≤ length (words self.now)) };
-
-    /// Returns whether the number of words is odd.
-    fn is_odd(&self) -> bool
-        ensures { IsTrue result ↔ (length (words self.now) % 2 ≡ 1) };
-
-    /// Returns the word at index `at`.
-    fn word(&self, at: usize) -> u64
-        requires within { at < length (words self.now) }
-        requires below_8 { at < 8 }
-        ensures { result ≡ slice_index (words self.now) at };
-}
-
-/// The whole words of a message's bytes. The impl is for the reference, since no type parameter can
-/// stand for `[u8]`. So callers pass a `&&[u8]`.
-impl Words for &[u8] {
-    ghost words = { λ bytes. whole_words bytes.now };
-
-    #[inline(always)]
-    #[tactic(auto, using(crate::proofs::WholeWords::read_words))]
-    fn holds(&self, count: usize) -> bool {
-        8 * count <= self.len()
-    }
-
-    #[inline(always)]
-    #[tactic(auto, using(crate::proofs::WholeWords::read_words))]
-    fn is_odd(&self) -> bool {
-        self.len() / 8 % 2 == 1
-    }
-
-    #[inline(always)]
-    #[tactic(auto, using(crate::proofs::WholeWords::read_words))]
-    fn word(&self, at: usize) -> u64 {
-        word_at(self, 8 * at)
-    }
-}
 
 #[inline(always)]
 #[tactic(auto, using(crate::proofs::Xor::xor_late))]
@@ -91,8 +47,8 @@ pub(crate) fn close(pair: Pair, word: u64, last: u64, tally: &mut Tally) -> u64
 // Returns the pair after a round on the two words from index `at`. The remaining words hash the
 // same from it. This is stated and proved here once, for three calls.
 #[inline(always)]
-#[tactic(auto, using(crate::proofs::HashSteps::hash_from_pair_two))]
-fn round_at<W: Words>(pair: Pair, left: &W, at: usize, tally: &mut Tally) -> Pair
+#[tactic(auto, using(crate::proofs::HashPaths::hash_from_pair_two))]
+fn round_at<W: WholeWords>(pair: Pair, left: &W, at: usize, tally: &mut Tally) -> Pair
     requires within { at + 2 ≤ length (W.words left.now) }
     requires place { at < 7 }
     ensures hash { (last : ℕ)
@@ -106,7 +62,7 @@ fn round_at<W: Words>(pair: Pair, left: &W, at: usize, tally: &mut Tally) -> Pai
 // Returns the pair after a round on each two words. The word that may remain hashes the same from
 // it.
 #[inline(always)]
-fn round_each<W: Words>(pair: Pair, left: &W, tally: &mut Tally) -> Pair
+fn round_each<W: WholeWords>(pair: Pair, left: &W, tally: &mut Tally) -> Pair
     requires { length (W.words left.now) < 8 }
     ensures hash { (last : ℕ) → hash_from_pair (pair_of result)
         (drop (length (W.words left.now) / 2 * 2) (W.words left.now) ++ last ∷ [])
@@ -130,7 +86,7 @@ fn round_each<W: Words>(pair: Pair, left: &W, tally: &mut Tally) -> Pair
 /// Returns the hash from a pair, fewer than eight words, and the final word. `word` is the last of
 /// the words, or any if there are none.
 #[inline(always)]
-pub(crate) fn hash_from_pair<W: Words>(
+pub(crate) fn hash_from_pair<W: WholeWords>(
     pair: Pair,
     left: &W,
     word: u64,

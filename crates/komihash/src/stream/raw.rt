@@ -1,16 +1,18 @@
 //! A stream whose type does not name its version, which is how C keeps one.
 
 ghost use Rattle.std.specs.Prelude.{◌≡◌, ◌+◌, ◌<◌, ◌≤◌, ℕ, List, IfSome, length, take, drop};
-ghost use Rattle.komihash.specs.Counts.{Costs, write_products, answer_products, kept_bytes};
+ghost use Rattle.komihash.specs.Counts.{Costs, absorb_products, answer_products, absorb_kept_bytes};
 ghost use Rattle.komihash.specs.Saved.{text, IsTextAfter, Restored};
 ghost use Rattle.komihash.specs.Stream.{State, IsState, HasAbsorbed, absorb};
 ghost use Rattle.komihash.specs.Stream.{Started, Absorbed, Answered};
 
 use super::{LONGEST_TEXT, saved};
-use crate::padding::{padding_after, pads_with_two};
+use crate::padding::padding_after;
 use crate::rounds::pending::Pending;
 use crate::rounds::tail::{close, hash_from_pair};
-use crate::rounds::{Lanes, absorb_blocks, block_round, join, lanes_of, places, seed_pair};
+use crate::rounds::{
+    Lanes, absorb_blocks, block_round, join, lanes_of, pads_with_two, places, seed_pair,
+};
 use crate::tally::Tally;
 use crate::version::{IsVersion, Versions};
 use std::marker::Model;
@@ -24,7 +26,7 @@ pub struct RawStream {
     pending: Pending,
     lanes: Lanes,
     // Whether a block was absorbed.
-    absorbed: bool,
+    had_block: bool,
     // In version 4, whether the last byte of the last block is at least 128.
     top_bit: bool,
 }
@@ -35,14 +37,14 @@ impl Model for RawStream {
     ghost view = { λ s. record {
       lanes = s.lanes;
       pending = s.pending;
-      absorbed = s.absorbed;
+      had_block = s.had_block;
       top_bit = s.top_bit;
     } };
 
     ghost inverse = { λ s. record {
       lanes = s.lanes;
       pending = s.pending;
-      absorbed = s.absorbed;
+      had_block = s.had_block;
       top_bit = s.top_bit;
     } };
 }
@@ -60,7 +62,7 @@ impl RawStream {
         RawStream {
             lanes: lanes_of(seed_pair(seed, tally)),
             pending: Pending::new(),
-            absorbed: false,
+            had_block: false,
             top_bit: false,
         }
     }
@@ -70,11 +72,11 @@ impl RawStream {
     pub fn absorb<const V: u8>(&mut self, bytes: &[u8], tally: &mut Tally)
     where
         Versions: IsVersion<V>,
-        ensures absorbed { Absorbed V self.old self.new bytes.now }
+        ensures absorbed { Absorbed V (λ state. state) self bytes.now }
         ensures is_state { IsState V self.old → IsState V self.new }
         ensures costs { Costs tally
-            (write_products (length self.old.pending) (length bytes.now))
-            (kept_bytes (length self.old.pending) (length bytes.now)) }
+            (absorb_products (length self.old.pending) (length bytes.now))
+            (absorb_kept_bytes (length self.old.pending) (length bytes.now)) }
     {
         if self.pending.len() + bytes.len() < 64 {
             self.pending.append(bytes, tally);
@@ -90,27 +92,27 @@ impl RawStream {
         requires { 64 ≤ length self.old.pending + length bytes.now }
         ensures state { self.new ≡ absorb V self.old bytes.now }
         ensures costs { Costs tally
-            (write_products (length self.old.pending) (length bytes.now))
-            (kept_bytes (length self.old.pending) (length bytes.now)) }
+            (absorb_products (length self.old.pending) (length bytes.now))
+            (absorb_kept_bytes (length self.old.pending) (length bytes.now)) }
     {
-        let fill = self.pending.len();
-        let blocks_end = bytes.len() - (fill + bytes.len()) % 64;
+        let pending_len = self.pending.len();
+        let blocks_end = bytes.len() - (pending_len + bytes.len()) % 64;
         self.top_bit = pads_with_two::<V>(bytes[blocks_end - 1]);
-        self.absorbed = true;
+        self.had_block = true;
         let mut lanes;
         let mut rest = bytes;
-        if fill == 0 {
+        if pending_len == 0 {
             lanes = self.lanes;
         } else {
             let block = self.pending.complete(bytes, tally);
             // Not before `complete`, which needs the registers itself.
             lanes = self.lanes;
             block_round(&mut lanes, &block, places::<V>(), tally);
-            (_, rest) = bytes.split_at(64 - fill);
+            (_, rest) = bytes.split_at(64 - pending_len);
         }
         let left = absorb_blocks::<V>(&mut lanes, rest, tally);
         self.lanes = lanes;
-        self.pending.append_first(left, tally);
+        self.pending.append_to_none(left, tally);
     }
 
     /// Returns the hash of all bytes so far, and counts what this costs. The stream is unchanged.
@@ -121,10 +123,10 @@ impl RawStream {
         ensures answered { Answered V self.now result }
         ensures costs { Costs tally (answer_products (length self.now.pending)) 0 }
     {
-        let pair = join(&self.lanes, self.absorbed);
+        let pair = join(&self.lanes, self.had_block);
         if self.pending.len() == 0 {
             // The padding byte of the last block, or 0 if no block was absorbed.
-            let end = if self.absorbed {
+            let end = if self.had_block {
                 padding_after(self.top_bit)
             } else {
                 0
@@ -150,7 +152,7 @@ impl RawStream {
             → HasAbsorbed V seed self.now m → IsTextAfter V seed m (take result out.new) }
         ensures rest { drop result out.new ≡ drop result out.old }
     {
-        saved::write_head::<V>(self.absorbed, self.top_bit, self.pending.len(), out);
+        saved::write_head::<V>(self.had_block, self.top_bit, self.pending.len(), out);
         saved::write_lanes(&self.lanes, out);
         saved::write_pending(&self.pending, out)
     }
@@ -167,11 +169,11 @@ impl RawStream {
         if !saved::is_text::<V>(bytes) {
             return None;
         }
-        let (absorbed, top_bit) = saved::read_flags(bytes);
+        let (had_block, top_bit) = saved::read_flags(bytes);
         Some(RawStream {
             lanes: saved::read_lanes(bytes),
             pending: saved::read_pending(bytes),
-            absorbed,
+            had_block,
             top_bit,
         })
     }

@@ -5,13 +5,13 @@ ghost use Rattle.std.specs.Prelude.{◌≡◌, ◌+◌, ◌<◌, ◌≤◌, ◌�
 ghost use Rattle.std.specs.Prelude.{[], ◌∷◌, ◌++◌, ◌==◌, length, take, drop, slice_index};
 ghost use Rattle.komihash.specs.Saved.{flag_byte, IsText};
 ghost use Rattle.komihash.specs.Rounds.{in_order};
-ghost use Rattle.komihash.specs.Storage.{whole_words};
+ghost use Rattle.komihash.specs.Internals.{whole_words};
 ghost use Rattle.komihash.specs.Words.{all_bytes};
 
 use crate::rounds::pending::Pending;
 use crate::rounds::{Lanes, from_order, in_order};
 use crate::tally::Tally;
-use crate::utils::{words_from_bytes, write_bytes};
+use crate::utils::{read_whole_words, write_first_bytes};
 
 const LANES_AT: usize = 4;
 
@@ -22,17 +22,22 @@ pub const LONGEST_TEXT: usize = PENDING_AT + 63;
 
 /// Writes the first four bytes: the version, the two flags, and the number of pending bytes.
 #[inline(always)]
-pub(crate) fn write_head<const V: u8>(absorbed: bool, top_bit: bool, fill: usize, out: &mut [u8])
-    requires below_64 { fill < 64 }
+pub(crate) fn write_head<const V: u8>(
+    had_block: bool,
+    top_bit: bool,
+    pending_len: usize,
+    out: &mut [u8],
+)
+    requires below_64 { pending_len < 64 }
     requires room { LANES_AT ≤ length out.old }
     ensures head { out.new
-        ≡ (V ∷ flag_byte absorbed ∷ flag_byte top_bit ∷ fill ∷ []) ++ drop LANES_AT out.old }
+        ≡ (V ∷ flag_byte had_block ∷ flag_byte top_bit ∷ pending_len ∷ []) ++ drop LANES_AT out.old }
     ensures after { (n : ℕ) → LANES_AT ≤ n → drop n out.new ≡ drop n out.old }
 {
     out[0] = V;
-    out[1] = u8::from(absorbed);
+    out[1] = u8::from(had_block);
     out[2] = u8::from(top_bit);
-    out[3] = fill as u8;
+    out[3] = pending_len as u8;
 }
 
 /// Writes the lanes after the first four bytes.
@@ -43,7 +48,7 @@ pub(crate) fn write_lanes(lanes: &Lanes, out: &mut [u8])
         ≡ take LANES_AT out.old ++ all_bytes (in_order lanes.now) }
     ensures after { (n : ℕ) → PENDING_AT ≤ n → drop n out.new ≡ drop n out.old }
 {
-    write_bytes(&in_order(lanes), 64, &mut out[LANES_AT..PENDING_AT]);
+    write_first_bytes(&in_order(lanes), 64, &mut out[LANES_AT..PENDING_AT]);
 }
 
 /// Writes the pending bytes after the lanes, and returns where they end.
@@ -79,7 +84,7 @@ pub(crate) fn is_text<const V: u8>(bytes: &[u8]) -> bool
 #[inline(always)]
 pub(crate) fn read_flags(bytes: &[u8]) -> (bool, bool)
     requires { LANES_AT ≤ length bytes.now }
-    ensures absorbed { result.0 ≡ (slice_index bytes.now 1 == 1) }
+    ensures had_block { result.0 ≡ (slice_index bytes.now 1 == 1) }
     ensures top_bit { result.1 ≡ (slice_index bytes.now 2 == 1) }
 {
     (bytes[1] == 1, bytes[2] == 1)
@@ -91,7 +96,7 @@ pub(crate) fn read_lanes(bytes: &[u8]) -> Lanes
     ensures { in_order result ≡ whole_words (take 64 (drop LANES_AT bytes.now)) }
 {
     let mut lanes = [0; 8];
-    words_from_bytes(&bytes[LANES_AT..PENDING_AT], &mut lanes);
+    read_whole_words(&bytes[LANES_AT..PENDING_AT], &mut lanes);
     from_order(&lanes)
 }
 

@@ -61,9 +61,9 @@ where
     /// Absorbs any number of bytes.
     #[inline(always)]
     pub fn write(&mut self, bytes: &[u8])
-        ensures { Absorbed V self.old.state self.new.state bytes.now }
+        ensures { Absorbed V (λ stream. stream.state) self bytes.now }
     {
-        self.absorb(bytes, &mut Tally::new());
+        self.raw.absorb::<V>(bytes, &mut Tally::new());
     }
 
     /// Returns the hash of all bytes so far. The stream is unchanged, and may absorb more.
@@ -71,7 +71,7 @@ where
     pub fn finish(&self) -> u64
         ensures { Answered V self.now.state result }
     {
-        self.answer(&mut Tally::new())
+        self.raw.answer::<V>(&mut Tally::new())
     }
 
     /// Writes the saved text of the stream to the front of `out`, whose rest is unchanged. Returns
@@ -82,7 +82,7 @@ where
     #[inline(always)]
     pub fn save(&self, out: &mut [u8]) -> usize
         requires { LONGEST_TEXT ≤ length out.old }
-        ensures { Stored V self.now.state out.old out.new result }
+        ensures { Stored V self.now.state out result }
     {
         self.store(out)
     }

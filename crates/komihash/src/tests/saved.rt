@@ -166,9 +166,21 @@ fn refuses_invalid_texts(rt: HostRuntime) {
         ([0, 0, 0], &b[..65], &[]),
         ([0, 0, 2], &b[..65], &[]),
     ];
-    for ([absorbed, top_bit, fill], lanes, pending) in rows {
-        assert_resumes::<4>(&rt, [4, absorbed, top_bit, fill], lanes, pending, None);
-        assert_resumes::<5>(&rt, [5, absorbed, top_bit, fill], lanes, pending, None);
+    for ([had_block, top_bit, pending_len], lanes, pending) in rows {
+        assert_resumes::<4>(
+            &rt,
+            [4, had_block, top_bit, pending_len],
+            lanes,
+            pending,
+            None,
+        );
+        assert_resumes::<5>(
+            &rt,
+            [5, had_block, top_bit, pending_len],
+            lanes,
+            pending,
+            None,
+        );
     }
     assert_resumes::<5>(&rt, [5, 1, 1, 0], &[0; 64], &[], None);
     assert_resumes::<5>(&rt, [5, 1, 1, 0], &b[..64], &[], None);

@@ -53,11 +53,11 @@ fn finishes_alike_after_pieces_of_every_size(rt: HostRuntime) {
 // Writes zeros at once after every number of pending bytes.
 #[test]
 fn completes_a_partial_block(rt: HostRuntime) {
-    for fill in 0..64usize {
+    for pending_len in 0..64usize {
         let mut message = [0; 193];
-        message[..fill].copy_from_slice(&pattern()[..fill]);
-        for end in fill..=fill + 130 {
-            finish_pieces(&rt, &message, 0, &[fill, end]);
+        message[..pending_len].copy_from_slice(&pattern()[..pending_len]);
+        for end in pending_len..=pending_len + 130 {
+            finish_pieces(&rt, &message, 0, &[pending_len, end]);
         }
     }
 }

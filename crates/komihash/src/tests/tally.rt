@@ -2,8 +2,8 @@
 //! functions here. Where they are parameters, it is proved at each call that they are right.
 
 ghost use Rattle.std.specs.Prelude.{◌≡◌, ◌+◌, ◌%◌, ◌≤◌, length};
-ghost use Rattle.komihash.specs.Calls.{run_products, run_kept};
-ghost use Rattle.komihash.specs.Counts.{Costs, hash_products, kept_bytes};
+ghost use Rattle.komihash.specs.Calls.{run_products, run_kept_bytes};
+ghost use Rattle.komihash.specs.Counts.{Costs, hash_products, absorb_kept_bytes};
 
 use super::messages::{BLOCK_HASH, EMPTY_HASH, LANES, SIX_IN_FIVE, SIX_IN_FOUR, ZERO};
 use super::saved::{assert_text, lanes_after_block};
@@ -44,16 +44,16 @@ fn hashes_cost<const V: u8>(rt: &impl Abort, message: &[u8; 95]) {
     assert_eq!(rt; hashes, [EMPTY_HASH, pair, BLOCK_HASH, 6, 0]);
 }
 
-// Absorbs N bytes where BEFORE are pending. This keeps KEPT bytes.
-fn absorb_costs<S: KomiStream, const BEFORE: usize, const N: usize, const KEPT: usize>(
+// Absorbs N bytes where BEFORE are pending. This keeps KEPT_BYTES bytes.
+fn absorb_costs<S: KomiStream, const BEFORE: usize, const N: usize, const KEPT_BYTES: usize>(
     stream: &mut S,
     bytes: &[u8; N],
     tally: &mut Tally,
 )
     requires pending { length (S.state stream.old).pending ≡ BEFORE }
-    requires kept { kept_bytes BEFORE N ≡ KEPT }
+    requires kept_bytes { absorb_kept_bytes BEFORE N ≡ KEPT_BYTES }
     ensures pending { length (S.state stream.new).pending ≡ (BEFORE + N) % 64 }
-    ensures kept { tally.new.kept ≡ tally.old.kept + KEPT }
+    ensures kept_bytes { tally.new.kept_bytes ≡ tally.old.kept_bytes + KEPT_BYTES }
 {
     stream.absorb(bytes, tally);
 }
@@ -80,7 +80,7 @@ fn counted_calls_give_known_hashes(rt: HostRuntime) {
 // Returns an Absorb of 1, 63, 0 and 31 bytes, with an Answer before and after each.
 fn at_cuts() -> [Call<'static>; 9]
     ensures products { run_products result ≡ 16 }
-    ensures kept { run_kept result ≡ 95 }
+    ensures kept_bytes { run_kept_bytes result ≡ 95 }
 {
     let ask = Call::Answer;
     let (one, block) = (&SIX_IN_FIVE[..1], &SIX_IN_FIVE[1..64]);
@@ -95,7 +95,7 @@ const CUT_ANSWERS: [u64; 5] = [EMPTY_HASH, 0xfd45_482d_180d_0441, BLOCK_HASH, BL
 // Returns an Absorb of each byte of `SIX_IN_FIVE`, and one Answer at the end.
 fn byte_by_byte() -> [Call<'static>; 96]
     ensures products { run_products result ≡ 8 }
-    ensures kept { run_kept result ≡ 95 }
+    ensures kept_bytes { run_kept_bytes result ≡ 95 }
 {
     let mut calls = [Call::Answer; 96];
     for i in (0..95usize).rev() {
@@ -114,7 +114,7 @@ fn assert_answers(rt: &impl Abort, count: usize, out: &[u64; 200], answers: &[u6
 }
 
 // Runs calls on a new stream of seed 0, for these products and kept bytes. Compares the answers.
-fn run_costs<S: KomiStream, const PRODUCTS: usize, const KEPT: usize>(
+fn run_costs<S: KomiStream, const PRODUCTS: usize, const KEPT_BYTES: usize>(
     rt: &impl Abort,
     calls: &[Call<'_>],
     answers: &[u64],
@@ -122,8 +122,8 @@ fn run_costs<S: KomiStream, const PRODUCTS: usize, const KEPT: usize>(
 )
     requires length { length calls.now ≤ 200 }
     requires products { run_products calls.now ≡ PRODUCTS }
-    requires kept { run_kept calls.now ≡ KEPT }
-    ensures costs { Costs tally PRODUCTS KEPT }
+    requires kept_bytes { run_kept_bytes calls.now ≡ KEPT_BYTES }
+    ensures costs { Costs tally PRODUCTS KEPT_BYTES }
 {
     let mut out = [9; 200];
     let count = run::<S>(0, calls, &mut out, tally);
@@ -165,7 +165,7 @@ fn answers_after_every_byte(rt: HostRuntime) {
 }
 
 // Saves a stream and resumes it.
-fn save_and_resume<S: KomiStream>(rt: &impl Abort, stream: &mut S)
+fn store_and_restore<S: KomiStream>(rt: &impl Abort, stream: &mut S)
     ensures { S.state stream.new ≡ S.state stream.old }
 {
     let mut text = [0; LONGEST_TEXT];
@@ -175,15 +175,15 @@ fn save_and_resume<S: KomiStream>(rt: &impl Abort, stream: &mut S)
 
 // Makes calls on a new stream of seed 0, each in its own run, and saves and resumes the stream
 // after each. They cost what one run does. Compares the answers, and returns the stream.
-fn run_resumed<S: KomiStream, const PRODUCTS: usize, const KEPT: usize>(
+fn run_restored<S: KomiStream, const PRODUCTS: usize, const KEPT_BYTES: usize>(
     rt: &impl Abort,
     calls: &[Call<'_>],
     answers: &[u64],
     tally: &mut Tally,
 ) -> S
     requires products { run_products calls.now ≡ PRODUCTS }
-    requires kept { run_kept calls.now ≡ KEPT }
-    ensures costs { Costs tally PRODUCTS KEPT }
+    requires kept_bytes { run_kept_bytes calls.now ≡ KEPT_BYTES }
+    ensures costs { Costs tally PRODUCTS KEPT_BYTES }
 {
     let mut out = [9; 200];
     let mut count = 0;
@@ -191,7 +191,7 @@ fn run_resumed<S: KomiStream, const PRODUCTS: usize, const KEPT: usize>(
     for call in calls {
         assert!(rt; count < 200);
         count += run_on(&mut stream, &[*call], &mut out[count..], tally);
-        save_and_resume(rt, &mut stream);
+        store_and_restore(rt, &mut stream);
     }
     assert_answers(rt, count, &out, answers);
     stream
@@ -210,20 +210,20 @@ fn start_costs(rt: &impl Abort, tally: &mut Tally)
 }
 
 // Resumes a stream from a text that has no pending bytes.
-fn resume_none_pending<S: KomiStream>(rt: &impl Abort, text: &[u8; 68]) -> S
+fn restore_none_pending<S: KomiStream>(rt: &impl Abort, text: &[u8; 68]) -> S
     ensures { length (S.state result).pending ≡ 0 }
 {
     S::restore(text).expect(rt, "a stream")
 }
 
 // Makes an Answer on a resumed stream.
-fn resumed_answer_costs(rt: &impl Abort, tally: &mut Tally)
+fn restored_answer_costs(rt: &impl Abort, tally: &mut Tally)
     ensures costs { Costs tally 2 0 }
 {
     let (mut text, mut out) = ([0; 68], [9; 200]);
     text[..4].copy_from_slice(&[4, 1, 1, 0]);
     text[67] = 0x80;
-    let mut stream = resume_none_pending::<Four>(rt, &text);
+    let mut stream = restore_none_pending::<Four>(rt, &text);
     let count = run_on(&mut stream, &[Call::Answer], &mut out, tally);
     assert_answers(rt, count, &out, &[0xc000_0000_0000_0003]);
 }
@@ -231,7 +231,7 @@ fn resumed_answer_costs(rt: &impl Abort, tally: &mut Tally)
 #[test]
 fn saving_and_resuming_changes_nothing(rt: HostRuntime) {
     let tally = &mut Tally::new();
-    let stream = run_resumed::<Five, 16, 95>(&rt, &at_cuts(), &CUT_ANSWERS, tally);
+    let stream = run_restored::<Five, 16, 95>(&rt, &at_cuts(), &CUT_ANSWERS, tally);
     let (mut text, lanes) = ([0xee; 140], lanes_after_block());
     let length = stream.store(&mut text);
     assert_text(
@@ -240,7 +240,7 @@ fn saving_and_resuming_changes_nothing(rt: HostRuntime) {
         length,
         [&[5, 1, 0, 31], &lanes, &SIX_IN_FIVE[64..]],
     );
-    run_resumed::<Five, 8, 95>(&rt, &byte_by_byte(), &[6], tally);
+    run_restored::<Five, 8, 95>(&rt, &byte_by_byte(), &[6], tally);
     start_costs(&rt, tally);
-    resumed_answer_costs(&rt, tally);
+    restored_answer_costs(&rt, tally);
 }

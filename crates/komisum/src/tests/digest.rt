@@ -5,7 +5,7 @@ ghost use Rattle.std.specs.Prelude.{◌<◌, ◌≤◌};
 use super::fakes::{Calls, ERRORS, FakeReader};
 use super::{BLOCK_MESSAGE, ZERO};
 use crate::digest::digest;
-use crate::ending::Fault;
+use crate::faults::Fault;
 use crate::watched::Watched;
 use komihash::stream::{Call, KomiStream, LONGEST_TEXT, run_on};
 use komihash::tally::Tally;

@@ -12,7 +12,7 @@ returns g c =
     let message = c.in_ok-count.ensures.message in
     record {
       message = search rules;
-      same = λ m are_m is. c.write_bytes.ensures.bytes
+      same = λ m are_m is. c.write_first_bytes.ensures.bytes
           ∙ same_message g.row.V _ m are are_m (message ∙ sym is);
       rest = search rules;
       length = search rules;

@@ -1,7 +1,7 @@
 -- What is left leads to the same lanes and the same remainder, and costs the products that are
 -- left. Its whole blocks are even in number.
 use Rattle.std.proofs.Common.{◌≡◌, ◌+◌, ◌*◌, ◌/◌, ◌%◌, length}
-use Rattle.komihash.specs.Storage.{whole_words, block_lanes, after_blocks}
+use Rattle.komihash.specs.Internals.{whole_words, block_lanes, after_blocks}
 use Rattle.komihash.proofs.rounds.absorb_blocks.Given as goal
 
 abbrev pub invariant-whole : goal.invariant-whole
@@ -11,7 +11,7 @@ invariant-whole g l = record {
   left : after_blocks l.rest ≡ after_blocks l.bytes;
   products : l.tally.products + 4 * (length l.rest / 64)
       ≡ l.fn.tally.products + 4 * (length l.bytes / 64);
-  kept : l.tally.kept ≡ l.fn.tally.kept;
+  kept_bytes : l.tally.kept_bytes ≡ l.fn.tally.kept_bytes;
   even : length l.rest / 64 % 2 ≡ 0;
 }
 

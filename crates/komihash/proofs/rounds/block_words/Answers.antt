@@ -1,7 +1,7 @@
 -- A block of 64 bytes has eight whole words.
 use Rattle.std.proofs.Common.{◌≡◌, ◌/◌, length, arith}
 use Rattle.std.proofs.lemmas.List.{drop-drop}
-use Rattle.komihash.specs.Storage.{stored_words}
+use Rattle.komihash.specs.Internals.{stored_words}
 use Rattle.komihash.proofs.rounds.block_words.Goals as goal
 
 pub returns : goal.returns

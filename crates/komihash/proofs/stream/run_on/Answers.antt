@@ -33,7 +33,7 @@ loop-call-init g c = record {
   answers = refl;
   state = sym (absorb-nothing _ _);
   products = no_products _ _ (g.met.S.KomiStream.is_state _).few;
-  kept = omega arith;
+  kept_bytes = omega arith;
 }
 
 pub loop-call-preserved : goal.loop-call-preserved
@@ -55,7 +55,7 @@ loop-call-preserved g c =
           let one = with (Absorb bytes) in
           let no_answer = one.answers ∙ append-nil _ in
           let pending : length now.pending % 64 ≡ length now.pending = omega arith in
-          let kept = rw pending at one.kept in
+          let kept_bytes = rw pending at one.kept_bytes in
           let state = w.absorb.ensures.absorbed.state
           ∙ sym (one.state ∙ ap (absorb v now) (append-nil bytes.now)) in
           rw (next _ _ w.in-Absorb.is, w.stream-is, w.out-is, w.tally-is, w.count-is, no_answer)

@@ -1,6 +1,6 @@
 -- what the calls so far have done
 use Rattle.std.proofs.Common.{◌≡◌, ◌+◌, ◌≤◌, ◌++◌, length, take, drop}
-use Rattle.komihash.specs.Calls.{onward, bytes_of_calls, onward_products, onward_kept}
+use Rattle.komihash.specs.Calls.{onward, bytes_of_calls, onward_products, onward_kept_bytes}
 use Rattle.komihash.specs.Stream.{absorb}
 use Rattle.komihash.proofs.stream.run_on.Given as goal
 
@@ -16,5 +16,5 @@ invariant-loop-call g l =
       state : g.S.KomiStream.state l.stream ≡ absorb v first (bytes_of_calls made);
       products : l.tally.products
           ≡ l.initial.tally.products + onward_products (length first.pending) made;
-      kept : l.tally.kept ≡ l.initial.tally.kept + onward_kept (length first.pending) made;
+      kept_bytes : l.tally.kept_bytes ≡ l.initial.tally.kept_bytes + onward_kept_bytes (length first.pending) made;
     }

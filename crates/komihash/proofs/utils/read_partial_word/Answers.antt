@@ -9,7 +9,7 @@ use Rattle.komihash.proofs.utils.read_partial_word.Goals.{else-n-gt2}
 pub returns-then-n-ge4 : goal.returns-then-n-ge4
 returns-then-n-ge4 c =
     let bytes = c.args.bytes.now in
-    rw (c.u32_at.ensures, c.u32_at-then-n-ge4.ensures)
+    rw (c.half_word_at.ensures, c.half_word_at-then-n-ge4.ensures)
     (word_of-two_ends bytes c.args.end _ (AreBytes-typed bytes c.type_inv.bytes)
     (omega arith) (omega arith) (omega arith) (omega arith))
 

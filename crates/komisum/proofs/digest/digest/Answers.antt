@@ -18,15 +18,15 @@ given old mid new xs ys n m before here within size = (
 
 pub returns-then-taken-most : goal.returns-then-taken-most
 returns-then-taken-most g c =
-    let kept = c.loop-stream.invariant.1 in
+    let before = c.loop-stream.invariant.1 in
     let here = c.in-Ok.ensures in
-    let all = given _ _ _ _ _ _ _ kept.consumed here.bytes.0 here.bound.0 kept.count in
+    let all = given _ _ _ _ _ _ _ before.consumed here.bytes.0 here.bound.0 before.count in
     search (rules, all)
 
 pub loop-stream-preserved : goal.loop-stream-preserved
 loop-stream-preserved g c =
-    let kept = c.loop-stream.invariant.1 in
+    let before = c.loop-stream.invariant.1 in
     let here = c.in-Ok.ensures in
-    let all = given _ _ _ _ _ _ _ kept.consumed here.bytes.0 here.bound.0 kept.count in
-    let message = c.absorb.ensures.absorbed.message c.args.seed _ kept.message in
+    let all = given _ _ _ _ _ _ _ before.consumed here.bytes.0 here.bound.0 before.count in
+    let message = c.absorb.ensures.absorbed.message c.args.seed _ before.message in
     search (rules, all, message)

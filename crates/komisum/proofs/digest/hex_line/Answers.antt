@@ -17,7 +17,7 @@ nonzero_div-digit c = omega (arith, c.pow.ensures, one-le-pow (15 - c.loop-i.i) 
 pub returns : goal.returns
 unfolding line
 returns c =
-    let kept = c.loop-i.invariant in
+    let before = c.loop-i.invariant in
     let written = λ (k : ℕ). cond (nat_lt k 16) (digit_at c.args.number k) 10 in
-    fill_by_all written c.loop-i.line 17 0 kept.length
-    (λ k h. grind (arith, nat_tests, kept.digits, kept.newline))
+    fill_by_all written c.loop-i.line 17 0 before.length
+    (λ k h. grind (arith, nat_tests, before.digits, before.newline))

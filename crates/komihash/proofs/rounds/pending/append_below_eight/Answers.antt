@@ -6,9 +6,9 @@ use Rattle.std.proofs.lemmas.List.{drop_all, set-get_or}
 use Rattle.std.proofs.lemmas.Nat.{or_shifted, shr_below, le_or_l}
 use Rattle.std.specs.Int.{rotate_left}
 use Rattle.std.specs.Int.Bits.{or_zero_l, or_zero_r, or_self}
-use Rattle.komihash.specs.Storage.{pending_bytes}
+use Rattle.komihash.specs.Internals.{pending_bytes}
 use Rattle.komihash.specs.Words.{word_of}
-use Rattle.komihash.proofs.WordOf.{AreBytes-typed, kept, word_of-drop, word_of-zeros}
+use Rattle.komihash.proofs.WordOf.{AreBytes-typed, shl_mod, word_of-drop, word_of-zeros}
 use Rattle.komihash.proofs.PendingBytes.{put_word, all_stored, word_after}
 use Rattle.komihash.proofs.rounds.pending.append_below_eight.Goals as goal
 
@@ -20,20 +20,20 @@ rotated w (suc b) c lt (sum, some) =
     let turn : suc b % 64 ≡ suc b = omega arith in
     let back : (64 - suc b % 64) % 64 ≡ c = omega arith in
     let total : c + suc b ≡ 64 = omega arith in
-    rw (back, turn, rw total at (kept w (suc b) c))
+    rw (back, turn, rw total at (shl_mod w (suc b) c))
     (or_shifted (w % 2 ^ c) (suc b) (w / 2 ^ c) (shr_below w (suc b) c (rw sum lt)))
 
 pub returns : goal.returns
 returns c =
     let bytes = c.args.bytes.now in
-    let xs = pending_bytes c.args.words.now c.args.fill in
-    let over = c.args.fill % 8 in
+    let xs = pending_bytes c.args.words.now c.args.len in
+    let over = c.args.len % 8 in
     let fit = 8 - over in
-    let at = (c.args.fill / 8 + 1) % 8 in
+    let at = (c.args.len / 8 + 1) % 8 in
     let are = AreBytes-typed bytes c.type_inv.bytes in
     let word = c.read_partial_word-word.ensures ∙ word_of-zeros bytes 1 in
-    let but = c.append_within_word.ensures.words bytes (c.args.fill / 8 + 1)
-    ((c.args.fill + length bytes + 7) / 8) are
+    let but = c.append_within_word.ensures.words bytes (c.args.len / 8 + 1)
+    ((c.args.len + length bytes + 7) / 8) are
     (word ∙ ap word_of (sym (take_all 8 bytes (omega arith)))) (omega arith) in
     let parts = rotated _ (8 * over) (8 * fit) c.read_partial_word-word.type_inv (omega arith) in
     let left = c.read_partial_word-word.result * 2 ^ (8 * over) % 2 ^ 64 in
@@ -51,5 +51,5 @@ returns c =
 
 pub overflow_sub-words : goal.overflow_sub-words
 overflow_sub-words c =
-    let turn : 8 * (c.args.fill % 8) % 64 ≡ 8 * (c.args.fill % 8) = omega arith in
+    let turn : 8 * (c.args.len % 8) % 64 ≡ 8 * (c.args.len % 8) = omega arith in
     rw (c.rotate_left.ensures, turn) (le_or_l _ _)

@@ -1,7 +1,7 @@
 -- The bytes after the last whole word are read with the last eight.
 use Rattle.std.proofs.Common.{◌+◌, ◌-◌, ◌*◌, ◌/◌, ◌%◌, length, drop, ap, arith, ◌∙◌, sym}
 use Rattle.std.proofs.Common.{take_all, length-drop, shr-shr}
-use Rattle.komihash.specs.Storage.{pending_bytes}
+use Rattle.komihash.specs.Internals.{pending_bytes}
 use Rattle.komihash.specs.Words.{word_of}
 use Rattle.komihash.proofs.WordOf.{AreBytes-typed, word_of-last}
 use Rattle.komihash.proofs.PendingBytes.{put_word, all_stored, word_after}
@@ -10,8 +10,8 @@ use Rattle.komihash.proofs.rounds.pending.append_eight_or_more.Goals as goal
 pub returns-then-end-lt64 : goal.returns-then-end-lt64
 returns-then-end-lt64 c =
     let bytes = c.args.bytes.now in
-    let xs = pending_bytes c.args.words.now c.args.fill in
-    let end = c.args.fill + length bytes in
+    let xs = pending_bytes c.args.words.now c.args.len in
+    let end = c.args.len + length bytes in
     let from = length bytes - end % 8 in
     let are = AreBytes-typed bytes c.type_inv.bytes in
     let last = word_of-last from (56 - 8 * (end % 8) + 8) bytes are c.requires.at_least_8

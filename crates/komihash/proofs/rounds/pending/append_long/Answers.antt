@@ -1,6 +1,6 @@
 -- Each two words continue those that are stored, or overlap them.
 use Rattle.std.proofs.Common.{◌+◌, ◌/◌, length, arith, ◌∙◌}
-use Rattle.komihash.specs.Storage.{pending_bytes}
+use Rattle.komihash.specs.Internals.{pending_bytes}
 use Rattle.komihash.proofs.PendingBytes.{put_word, all_stored, word_after}
 use Rattle.komihash.proofs.rounds.pending.append_long.Goals as goal
 use Rattle.komihash.proofs.rounds.pending.append_long.Goals.{then-at-eq6, else-at-eq6}
@@ -8,8 +8,8 @@ use Rattle.komihash.proofs.rounds.pending.append_long.Goals.{then-at-eq6, else-a
 pub returns-then-at-lt6 : goal.returns-then-at-lt6
 returns-then-at-lt6 c =
     let bytes = c.args.bytes.now in
-    let xs = pending_bytes c.args.words.now c.args.fill in
-    let at = c.args.fill / 8 in
+    let xs = pending_bytes c.args.words.now c.args.len in
+    let at = c.args.len / 8 in
     let but = c.append_first_eight.ensures (at + 1) (8 + length bytes) (omega arith) in
     let second = c.min-second.result in
     let third = c.min-third.result in
@@ -22,8 +22,8 @@ returns-then-at-lt6 c =
 pub returns-after-at-eq6 : goal.returns-after-at-eq6
 returns-after-at-eq6 c =
     let bytes = c.args.bytes.now in
-    let xs = pending_bytes c.args.words.now c.args.fill in
-    let at = c.args.fill / 8 in
+    let xs = pending_bytes c.args.words.now c.args.len in
+    let at = c.args.len / 8 in
     let but = c.append_first_eight.ensures (at + 1) (8 + length bytes) (omega arith) in
     all_stored (put_word but 7 8 _ (omega arith) (λ _. elim c.if-at-eq6.branch [
       | then-at-eq6 w ↦ w.words-is ∙ c.word_at-next.ensures ∙ word_after xs bytes 7 _ (omega arith)

@@ -4,7 +4,7 @@ use Rattle.std.proofs.Common.{ap, arith, ◌∙◌, length-append, length-drop, 
 use Rattle.std.proofs.lemmas.Bool.{cases_lt}
 use Rattle.std.proofs.lemmas.Grind.{elements}
 use Rattle.std.proofs.lemmas.List.{drop_all, take-append-le, drop-append-le}
-use Rattle.komihash.specs.Storage.{StoresBut, pending_bytes}
+use Rattle.komihash.specs.Internals.{StoresBut, pending_bytes}
 use Rattle.komihash.specs.Words.{word_of}
 use Rattle.komihash.proofs.Lists.{take-append}
 use Rattle.komihash.proofs.WordOf.{AreBytes-take, word_of-join}
@@ -14,23 +14,23 @@ use Rattle.komihash.proofs.rounds.pending.append_within_word.Goals as goal
 pub returns : goal.returns
 returns c =
     let pending = c.requires in
-    let xs = pending_bytes c.args.words.now c.args.fill in
-    let i = c.args.fill / 8 in
+    let xs = pending_bytes c.args.words.now c.args.len in
+    let i = c.args.len / 8 in
     let partial = drop (8 * i) xs in
-    let size : length partial ≡ c.args.fill % 8 = omega (arith, length-drop (8 * i) xs) in
+    let size : length partial ≡ c.args.len % 8 = omega (arith, length-drop (8 * i) xs) in
     record {
-      words = λ bytes low high are is within.
-          let before : StoresBut c.args.words.now (xs ++ bytes) i high = record {
+      words = λ bytes gap gap_end are is within.
+          let before : StoresBut c.args.words.now (xs ++ bytes) i gap_end = record {
             size = omega arith;
             words = λ k few after. get_or_pending pending k few ∙ ap word_of (elim (cases_lt k i) [
               | inl less ↦ grind (arith, drop-append-le, take-append-le, length-drop {A = ℕ})
               | inr least ↦ grind (arith, drop_all, length-append {A = ℕ}, after least)
             ]);
           } in
-          let join = word_of-join (take 8 partial) (take 8 bytes) (c.args.fill % 8)
+          let join = word_of-join (take 8 partial) (take 8 bytes) (c.args.len % 8)
           (AreBytes_word pending i) (AreBytes-take 8 bytes are) (omega (arith, length-take {A = ℕ}))
           (omega arith) in
-          put_word before i low _ (omega arith)
+          put_word before i gap _ (omega arith)
           (λ _. rw (get_or_pending pending i (omega arith), is, join)
           (ap word_of (grind (arith, take-take {A = ℕ}, drop-append-le, take-append))));
       zeros = λ k lt few. grind (arith, elements, get_or_pending pending k, drop_all (8 * k) xs);

@@ -4,13 +4,13 @@ use Rattle.std.proofs.Common.{◌∙◌, sym, ap, arith, length, drop, get_or}
 use Rattle.std.proofs.lemmas.Bool.{iff_false}
 use Rattle.std.proofs.lemmas.List.{drop_more, drop_all}
 use Rattle.komihash.specs.Hash.{hash_from_pair}
-use Rattle.komihash.specs.Storage.{pair_of}
+use Rattle.komihash.specs.Internals.{pair_of}
 use Rattle.komihash.proofs.rounds.tail.hash_from_pair.Goals as goal
 use Rattle.komihash.proofs.rounds.tail.hash_from_pair.Goals.{then-is_odd, else-is_odd}
 
 pub returns-clause-hash : goal.returns-clause-hash
 returns-clause-hash g c =
-    let words = g.W.Words.words c.args.left.now in
+    let words = g.W.WholeWords.words c.args.left.now in
     let last = c.args.last in
     let i = length words / 2 * 2 in
     let from = λ (left : List ℕ) (is : drop i words ≡ left).

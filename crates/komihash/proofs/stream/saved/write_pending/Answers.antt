@@ -6,8 +6,8 @@ use Rattle.komihash.proofs.stream.saved.write_pending.Goals as goal
 pub returns : goal.returns
 returns c =
     let end = 68 + c.len-end.result in
-    let fill : length c.args.pending.now ≡ end - 68 = omega arith in
+    let size : length c.args.pending.now ≡ end - 68 = omega arith in
     let (bytes, after) =
     part-put 68 end c.args.out.now c.write_to.new.out c.args.pending.now (omega arith) (omega arith)
-    c.write_to.auto.out (rw fill at c.write_to.ensures.bytes) in
+    c.write_to.auto.out (rw size at c.write_to.ensures.bytes) in
     record { end = omega arith; bytes = bytes; after = after end (omega arith) }

@@ -23,7 +23,7 @@ pub new_spec : {M : Type 1} → stated.statement M
 new_spec 𝓤 𝓛 𝓜 𝓡 wired =
     let c = it.clauses 𝓛 𝓜.mem 𝓡.returns in
     let v = vstruct (vcons (vstruct vnil) vnil) in
-    let r : Tally = record { marker = record {}; products = 0; kept = 0 } in
+    let r : Tally = record { marker = record {}; products = 0; kept_bytes = 0 } in
     let own = (Struct (Owning.shape T.the_type)).own_val (Owning.to T.the_type r) (v ∷ []) in
     proved 𝓛 it.ended tt c 𝓜 𝓡 tt it.Key.name code.function (code.unfolded 𝓤 𝓛.H 𝓜 𝓡 wired)
     (λ κs. tt) (λ κs. tt) (λ κs qs bounds a g are.

@@ -47,7 +47,7 @@ raise_spec 𝓤 𝓛 𝓜 𝓡 wired =
     let h : Tally = a.0.now in
     let m = a.1.0 in
     let n = a.1.1.0 in
-    let h' : Tally = record { marker = h.marker; products = h.products + m; kept = h.kept + n } in
+    let h' : Tally = record { marker = h.marker; products = h.products + m; kept_bytes = h.kept_bytes + n } in
     let vs = mut_vals a.0 in
     let y : W.Ghost = ((κs, qs, bounds, a, (vs, (uint_vals w64 m, (uint_vals w64 n, tt)))), tt) in
     let types = MutRef (named 0) κs.0 R ∷ usize ∷ usize ∷ [] in
@@ -58,7 +58,7 @@ raise_spec 𝓤 𝓛 𝓜 𝓡 wired =
     opens ! tt R at.0 at.1 (λ us. sets ! (of_opd ! (unit_lit !)) refl (tt, tt) $
     move ! (1 ∷ []) $ use1 𝓛 (‵ (R.own_val h' us))
     (tally_changed 𝓛 ((Struct (Owning.shape T)).own_val (Owning.to T h) us)
-    h.products h.kept h'.products h'.kept) $
+    h.products h.kept_bytes h'.products h'.kept_bytes) $
     move ! (1 ∷ 0 ∷ []) $ closes ! tt R h' us at.0 at.1 $
     returns ! (look_at ! 0 refl) $ free_all ! refl $
     suffices ! _ (ends_at 𝓛 f.ended stayed c y vunit tt (h', (tt, (tt, tt))) (tt, (tt, (tt, tt)))) $
@@ -66,4 +66,4 @@ raise_spec 𝓤 𝓛 𝓜 𝓡 wired =
     fjoin ! $ move ! (1 ∷ 0 ∷ []) $ fjoin ! $ feq_i ! (List Val) (vunit ∷ []) (vunit ∷ []) refl $
     move ! (1 ∷ 0 ∷ []) $ join ! $ nothing ! $
     move ! (2 ∷ 0 ∷ []) $ join ! $ join ! $ frame ! $
-    by ! (fact_i 𝓤 _ (emp 𝓤) (record { products = refl; kept = refl })))))
+    by ! (fact_i 𝓤 _ (emp 𝓤) (record { products = refl; kept_bytes = refl })))))

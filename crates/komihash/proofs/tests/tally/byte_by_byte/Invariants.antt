@@ -1,6 +1,6 @@
 -- the calls from the index on absorb the bytes from it on, and then answer
 use Rattle.std.proofs.Common.{◌≡◌, ◌+◌, drop, length}
-use Rattle.komihash.specs.Calls.{bytes_of_calls, products_of_answers, onward_kept}
+use Rattle.komihash.specs.Calls.{bytes_of_calls, products_of_answers, onward_kept_bytes}
 use Rattle.komihash.proofs.tests.tally.byte_by_byte.Given as goal
 
 abbrev pub invariant-loop-i : goal.invariant-loop-i
@@ -10,5 +10,5 @@ invariant-loop-i l =
       size : length l.calls ≡ 96;
       bytes : l.i + length (bytes_of_calls done) ≡ 95;
       answer : products_of_answers l.i done ≡ 3;
-      kept : l.i + onward_kept l.i done ≡ 95;
+      kept_bytes : l.i + onward_kept_bytes l.i done ≡ 95;
     }

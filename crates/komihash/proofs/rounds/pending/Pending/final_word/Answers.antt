@@ -4,7 +4,7 @@ use Rattle.std.proofs.Common.{length, get_or, take, drop, bit_and, refl, ap, ari
 use Rattle.std.proofs.Common.{length-take, length-drop, get_or-take, get_or-drop}
 use Rattle.std.proofs.lemmas.Nat.{and_mask}
 use Rattle.komihash.specs.Padding.{padding_byte}
-use Rattle.komihash.specs.Storage.{pending_bytes, ArePending, after_words}
+use Rattle.komihash.specs.Internals.{pending_bytes, ArePending, after_words}
 use Rattle.komihash.specs.Words.{AreBytes, word_of}
 use Rattle.komihash.proofs.WordOf.{AreBytes-drop, word_of-drop, word_of-push}
 use Rattle.komihash.proofs.PendingBytes.{get_or_pending, AreBytes_word}
@@ -15,8 +15,8 @@ low_byte [] are = refl
 low_byte (x ∷ xs) are = omega (arith, are 0)
 
 -- a byte of the words
-byte_at : {ws : List ℕ} {fill : ℕ} → ArePending ws fill → (i : ℕ) → i < fill
-    → bit_and (get_or ws (i / 8) 0 / 2 ^ (8 * (i % 8))) 255 ≡ get_or (pending_bytes ws fill) i 0
+byte_at : {ws : List ℕ} {len : ℕ} → ArePending ws len → (i : ℕ) → i < len
+    → bit_and (get_or ws (i / 8) 0 / 2 ^ (8 * (i % 8))) 255 ≡ get_or (pending_bytes ws len) i 0
 byte_at are i lt =
     let of_word = AreBytes_word are (i / 8) in
     let rest = word_of-drop (i % 8) _ of_word in
@@ -27,18 +27,18 @@ byte_at are i lt =
 pub returns : goal.returns
 returns g c =
     let are = c.self.invariant in
-    let fill = c.self.inside.fill in
-    let xs = pending_bytes c.self.inside.words fill in
-    let some : 0 < fill = omega (arith, ap length c.self.view_is) in
-    let last = byte_at are (fill - 1) (omega arith) in
-    let byte : c.if-over-eq0.last_byte ≡ get_or xs (fill - 1) 0 =
+    let len = c.self.inside.len in
+    let xs = pending_bytes c.self.inside.words len in
+    let some : 0 < len = omega (arith, ap length c.self.view_is) in
+    let last = byte_at are (len - 1) (omega arith) in
+    let byte : c.if-over-eq0.last_byte ≡ get_or xs (len - 1) 0 =
     grind (arith, c.if-over-eq0.branch, last) in
     let padding : c.padding_after.result ≡ padding_byte g.row.V xs =
     rw (c.padding_after.ensures, c.pads_with_two.ensures, byte, are.count) refl in
-    let rest = drop (8 * (fill / 8)) xs in
-    let size : length rest ≡ fill % 8 = omega (arith, length-drop (8 * (fill / 8)) xs) in
+    let rest = drop (8 * (len / 8)) xs in
+    let size : length rest ≡ len % 8 = omega (arith, length-drop (8 * (len / 8)) xs) in
     let whole = take_all 8 rest (omega arith) in
     let after : take 8 rest ≡ after_words xs = rw are.count whole in
-    rw (← c.self.view_is, padding, get_or_pending are (fill / 8) (omega arith), ← after)
-    (word_of-push (take 8 rest) (fill % 8) _ (AreBytes_word are (fill / 8))
+    rw (← c.self.view_is, padding, get_or_pending are (len / 8) (omega arith), ← after)
+    (word_of-push (take 8 rest) (len % 8) _ (AreBytes_word are (len / 8))
     (omega (arith, length-take {A = ℕ})) (omega arith) (grind arith))

@@ -13,7 +13,7 @@ pub returns-then-len-eq0-clause-answered : goal.returns-then-len-eq0-clause-answ
 returns-then-len-eq0-clause-answered g c =
     let s = c.self.inside in
     let none = nil_from_length s.pending (omega arith) in
-    let end : c.if-self.end ≡ end_after_blocks s.absorbed s.top_bit =
+    let end : c.if-self.end ≡ end_after_blocks s.had_block s.top_bit =
     elim c.if-self.branch [
       | then-self w ↦ rw (w.if-self.true) (w.end-is ∙ w.padding_after-end.ensures)
       | else-self w ↦ rw (w.if-self.false) w.end-is
@@ -38,7 +38,7 @@ returns-clause-costs g c =
 pub returns-clause-answered : goal.returns-clause-answered
 returns-clause-answered g c =
     let s = c.self.inside in
-    let end = tail_end-pending g.row.V s.pending s.absorbed s.top_bit (omega arith) in
+    let end = tail_end-pending g.row.V s.pending s.had_block s.top_bit (omega arith) in
     answered g.row.V _ _ (c.hash_from_pair.ensures.hash
     ∙ rw (c.join-pair.ensures, c.final_word-last.ensures, ← end) (sym (answer-by_pair g.row.V _))
     ∙ ap (answer g.row.V) c.self.view_is)

@@ -2,9 +2,9 @@
 use Rattle.std.proofs.Common.{◌+◌, ◌-◌, ◌<◌, ◌≤◌, ◌∙◌, refl, ap, arith, length}
 use Rattle.std.proofs.lemmas.List.{nil_from_length}
 use Rattle.komihash.specs.Stream.{State, absorb}
-use Rattle.komihash.proofs.Streams.{after_write, completed}
+use Rattle.komihash.proofs.Streams.{after_absorb, completed}
 use Rattle.komihash.proofs.stream.raw.RawStream.complete_blocks.Goals as goal
-use Rattle.komihash.proofs.stream.raw.RawStream.complete_blocks.Goals.{then-fill-eq0, else-fill-eq0}
+use Rattle.komihash.proofs.stream.raw.RawStream.complete_blocks.Goals.{then-pending_len-eq0, else-pending_len-eq0}
 
 pub returns-clause-state : goal.returns-clause-state
 returns-clause-state g c =
@@ -15,16 +15,16 @@ returns-clause-state g c =
     let same = ap (λ (s : State). length s.pending) c.self.view_is in
     let few : length xs < 64 = omega arith in
     let many : 64 ≤ length xs + length bytes = omega arith in
-    let size = c.len-fill.ensures.length in
+    let size = c.len-pending_len.ensures.length in
     let top_bit = c.pads_with_two-self-inside.ensures in
     let after = c.absorb_blocks-left.ensures in
-    rw (c.append_first.ensures.bytes, after.left, after.lanes) (elim c.if-fill-eq0.branch [
-      | then-fill-eq0 w ↦
+    rw (c.append_to_none.ensures.bytes, after.left, after.lanes) (elim c.if-pending_len-eq0.branch [
+      | then-pending_len-eq0 w ↦
           let none = nil_from_length xs (omega arith) in
           rw (w.self-inside-is, w.lanes-is, w.rest-is, top_bit, size)
-          (after_write v _ bytes lanes bytes few many
+          (after_absorb v _ bytes lanes bytes few many
           (rw none record { lanes = refl; left = refl }))
-      | else-fill-eq0 w ↦
+      | else-pending_len-eq0 w ↦
           rw (
             w.self-inside-is,
             w.lanes-is,
@@ -36,7 +36,7 @@ returns-clause-state g c =
             top_bit,
             size,
           )
-          (after_write v _ bytes _ _ few many
+          (after_absorb v _ bytes _ _ few many
           (completed v lanes xs bytes (64 - length xs) (omega arith) (omega arith)))
     ])
     ∙ ap (λ s. absorb v s bytes) c.self.view_is

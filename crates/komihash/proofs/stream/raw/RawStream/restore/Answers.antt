@@ -13,7 +13,7 @@ returns g c =
     let (is, made) = restored g.row.V c.args.bytes.now _ (c.is_text.ensures.text.0 (search rules))
     (rw (
       c.read_pending.ensures,
-      c.read_flags-absorbed.ensures.absorbed,
-      c.read_flags-absorbed.ensures.top_bit,
+      c.read_flags-had_block.ensures.had_block,
+      c.read_flags-had_block.ensures.top_bit,
     ) (read_state c.args.bytes.now c.read_lanes.result c.read_lanes.ensures)) in
     record { is_state = is; restored = made }

@@ -2,7 +2,7 @@
 use Rattle.std.proofs.Common.{◌*◌}
 use Rattle.komihash.specs.Words.{all_bytes}
 use Rattle.komihash.proofs.Lists.{Covers}
-use Rattle.komihash.proofs.utils.write_bytes.Given as goal
+use Rattle.komihash.proofs.utils.write_first_bytes.Given as goal
 
 abbrev pub invariant-whole : goal.invariant-whole
 invariant-whole l = Covers (8 * l.i) l.out (all_bytes l.words) l.fn.out

@@ -7,11 +7,12 @@ use Rattle.std.proofs.lemmas.Bool.{eqb-true}
 use Rattle.std.specs.Prelude.{slice_index, ◌==◌}
 use Rattle.komihash.specs.Rounds.{Lanes, lanes, seed_pair, block_round, pair_round, join, closing}
 use Rattle.komihash.specs.Hash.{hash_from_pair, hash_from_lanes, komi}
-use Rattle.komihash.specs.Storage.{stored_words, whole_words, after_words, final_word, end_byte}
-use Rattle.komihash.specs.Storage.{block_lanes, after_blocks}
+use Rattle.komihash.specs.Internals.{stored_words, whole_words, after_words, final_word, padding_or_zero}
+use Rattle.komihash.specs.Internals.{block_lanes, after_blocks}
 use Rattle.komihash.specs.Words.{word_of}
 use Rattle.komihash.proofs.Blocks.{after_words-whole_words, length-after_blocks}
-use Rattle.komihash.proofs.PaddedWords.{padded_words-by_tail}
+use Rattle.komihash.specs.Padding.{padding_byte}
+use Rattle.komihash.proofs.PaddedWords.{padding_or_zero-some, padded_words-by_tail}
 use Rattle.komihash.proofs.WholeWords.{length-whole_words, whole_words-few}
 
 -- a pair round takes two words that are followed by the final word
@@ -59,48 +60,58 @@ module _ (v seed : ℕ) (m : List ℕ) where
   pair = seed_pair seed
 
   abbrev last : ℕ
-  last = final_word m (end_byte v m)
+  last = final_word m (padding_byte v m)
 
-  pub komi_short : length m < 64 → komi v seed m ≡ hash_from_pair pair (whole_words m ++ last ∷ [])
+  pub komi_few : length m < 64
+      → komi v seed m
+      ≡ hash_from_pair pair (whole_words m ++ final_word m (padding_or_zero v m) ∷ [])
   unfolding komi
-  komi_short lt =
+  komi_few lt =
       rw (padded_words-by_tail v m)
-      (without_block v (lanes pair) (whole_words m) last (omega (arith, length-whole_words m)))
+      (without_block v (lanes pair) (whole_words m) _ (omega (arith, length-whole_words m)))
+
+  pub komi_short : 1 ≤ length m → length m < 64
+      → komi v seed m ≡ hash_from_pair pair (whole_words m ++ last ∷ [])
+  komi_short some lt = rw ((padding_or_zero-some v m (omega arith)).0) at (komi_few lt)
 
   pub komi_long : 64 ≤ length m
       → komi v seed m ≡ hash_from_pair (join true (block_lanes v (lanes pair) (whole_words m)))
       (whole_words (after_blocks m) ++ last ∷ [])
   unfolding komi
   komi_long le =
-      rw (padded_words-by_tail v m, ← after_words-whole_words m)
+      rw (
+        padded_words-by_tail v m,
+        (padding_or_zero-some v m (omega arith)).0,
+        ← after_words-whole_words m,
+      )
       (first_block v (lanes pair) (whole_words m) last (omega (arith, length-whole_words m))
       ∙ after_block v (lanes pair) (whole_words m) last)
 
   -- ---- a law for each function of `src/hash.rt`
 
   pub komi_partial_word : 1 ≤ length m → length m < 8
-      → komi v seed m ≡ closing pair (word_of (m ++ end_byte v m ∷ []) ∷ [])
+      → komi v seed m ≡ closing pair (word_of (m ++ padding_byte v m ∷ []) ∷ [])
   unfolding stored_words
   komi_partial_word some lt =
-      let count : length m / 8 ≡ 0 = omega arith in rw (komi_short (omega arith), count) refl
+      let count : length m / 8 ≡ 0 = omega arith in rw (komi_short (omega arith) (omega arith), count) refl
 
   pub komi_one_word : 8 ≤ length m → length m < 16
       → komi v seed m ≡ closing pair (word_of (take 8 m) ∷ last ∷ [])
   unfolding stored_words
   komi_one_word le lt =
-      let count : length m / 8 ≡ 1 = omega arith in rw (komi_short (omega arith), count) refl
+      let count : length m / 8 ≡ 1 = omega arith in rw (komi_short (omega arith) (omega arith), count) refl
 
   pub komi_two_words : 16 ≤ length m → length m < 24
       → komi v seed m
       ≡ closing (pair_round pair (word_of (take 8 m)) (word_of (take 8 (drop 8 m)))) (last ∷ [])
   unfolding stored_words
   komi_two_words le lt =
-      let count : length m / 8 ≡ 2 = omega arith in rw (komi_short (omega arith), count) refl
+      let count : length m / 8 ≡ 2 = omega arith in rw (komi_short (omega arith) (omega arith), count) refl
 
 pub komi_blocks : (v seed : ℕ) (m : List ℕ) → 64 ≤ length m → length m % 64 < 8
     → komi v seed m
     ≡ closing (join true (block_lanes v (lanes (seed_pair seed)) (whole_words m)))
-    (final_word m (end_byte v m) ∷ [])
+    (final_word m (padding_byte v m) ∷ [])
 komi_blocks v seed m le lt =
     let none = whole_words-few (after_blocks m) (omega (arith, length-after_blocks m)) in
     rw (komi_long v seed m le, none) refl

@@ -1,7 +1,7 @@
 -- Each turn covers eight more bytes of `out`; fewer than eight may be left after the loop.
 use Rattle.std.proofs.Common.{◌≡◌, ◌/◌, rules, arith}
 use Rattle.komihash.proofs.AllBytes.{Covers-more}
-use Rattle.komihash.proofs.utils.write_bytes.Goals as goal
+use Rattle.komihash.proofs.utils.write_first_bytes.Goals as goal
 
 pub whole-preserved : goal.whole-preserved
 whole-preserved c =

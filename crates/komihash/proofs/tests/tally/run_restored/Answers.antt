@@ -5,7 +5,7 @@ use Rattle.komihash.specs.Stream.{start}
 use Rattle.komihash.specs.declared.stream.Call.TheVariants.{Absorb}
 use Rattle.komihash.proofs.Streams.{absorb-nothing}
 use Rattle.komihash.proofs.CallLists.{goes_on}
-use Rattle.komihash.proofs.tests.tally.run_resumed.Goals as goal
+use Rattle.komihash.proofs.tests.tally.run_restored.Goals as goal
 
 pub loop-call-init : goal.loop-call-init
 loop-call-init g c = grind (arith, absorb-nothing)
@@ -20,4 +20,4 @@ loop-call-preserved g c =
     goes_on g.S.KomiStream.VERSION (start 0) now (take i calls) (get_or calls i absent ∷ [])
     (omega arith) c.loop-call.invariant.state in
     rw (take_more calls i absent c.loop-call-test.true)
-    record { state = cc; products = omega arith; kept = omega arith }
+    record { state = cc; products = omega arith; kept_bytes = omega arith }

@@ -4,7 +4,7 @@ use Rattle.std.proofs.lemmas.Grind.{common_steps}
 use Rattle.std.proofs.lemmas.List.{take_all}
 use Rattle.komihash.proofs.WholeWords.{length-stored_words, get_or-stored_words}
 use Rattle.komihash.proofs.WholeWords.{length-whole_words}
-use Rattle.komihash.proofs.utils.words_from_bytes.Goals as goal
+use Rattle.komihash.proofs.utils.read_whole_words.Goals as goal
 
 pub whole-preserved : goal.whole-preserved
 whole-preserved c =

@@ -26,9 +26,9 @@ abbrev pub after_words : List ℕ → List ℕ
 after_words bytes = drop (8 * (length bytes / 8)) bytes
 
 -- the byte that ends a message in version v: the padding byte, or 0 where the message is empty
-abbrev pub end_byte : ℕ → List ℕ → ℕ
-end_byte v [] = 0
-end_byte v (b ∷ m) = padding_byte v (b ∷ m)
+abbrev pub padding_or_zero : ℕ → List ℕ → ℕ
+padding_or_zero v [] = 0
+padding_or_zero v (b ∷ m) = padding_byte v (b ∷ m)
 
 -- the word of the bytes after the last whole word and of the byte that ends them
 abbrev pub final_word : List ℕ → ℕ → ℕ
@@ -47,8 +47,8 @@ after_blocks m = drop (length m - length m % 64) m
 -- the byte that ends a stream's tail: the padding byte of the pending bytes, or the byte after the
 -- blocks if none is pending
 abbrev pub tail_end : ℕ → List ℕ → Bool → Bool → ℕ
-tail_end v (b ∷ m) absorbed top_bit = padding_byte v (b ∷ m)
-tail_end v [] absorbed top_bit = end_after_blocks absorbed top_bit
+tail_end v (b ∷ m) had_block top_bit = padding_byte v (b ∷ m)
+tail_end v [] had_block top_bit = end_after_blocks had_block top_bit
 
 -- ---- a pair: the low half of a product stays apart from the word that it is xored with, until the
 -- next factor is made, which makes the way from one product to the next one xor shorter
@@ -63,24 +63,24 @@ pair_of p = (bit_xor p.1 p.0, p.1)
 abbrev pub Stores : List ℕ → List ℕ → Type 0
 Stores ws bytes = ws ≡ stored_words 8 bytes
 
--- the bytes that words store up to a fill
+-- the first bytes of those that words store
 abbrev pub pending_bytes : List ℕ → ℕ → List ℕ
-pending_bytes ws fill = take fill (all_bytes ws)
+pending_bytes ws len = take len (all_bytes ws)
 
 -- what is true of the fields that store pending bytes
-pub record ArePending (ws : List ℕ) (fill : ℕ) : Type 0 where
-  pub few : fill < 64
-  pub count : length (pending_bytes ws fill) ≡ fill
-  pub words : Stores ws (pending_bytes ws fill)
+pub record ArePending (ws : List ℕ) (len : ℕ) : Type 0 where
+  pub few : len < 64
+  pub count : length (pending_bytes ws len) ≡ len
+  pub words : Stores ws (pending_bytes ws len)
 
 -- the word at index k of those that store these bytes
 abbrev pub stored_word : List ℕ → ℕ → ℕ
 stored_word bytes k = word_of (take 8 (drop (8 * k) bytes))
 
--- of eight words, all but those from index `low` on and below `high` store these bytes
-pub record StoresBut (ws bytes : List ℕ) (low high : ℕ) : Type 0 where
+-- of eight words, all but those from index `gap` on and below `gap_end` store these bytes
+pub record StoresBut (ws bytes : List ℕ) (gap gap_end : ℕ) : Type 0 where
   pub size : length ws ≡ 8
-  pub words : (k : ℕ) → k < 8 → (low ≤ k → high ≤ k) → get_or ws k 0 ≡ stored_word bytes k
+  pub words : (k : ℕ) → k < 8 → (gap ≤ k → gap_end ≤ k) → get_or ws k 0 ≡ stored_word bytes k
 
 -- ---- lemmas by which a struct's value gives back its fields, which have to stand in `specs`
 

@@ -1,0 +1,38 @@
+//! Why the program ends without its line: faults while it runs, and refusals before it reads.
+
+ghost use Rattle.std.specs.Prelude.{◌≡◌};
+ghost use Rattle.komisum.specs.Faults.{fault_text};
+
+/// Why the whole line was not written and flushed.
+#[derive(Drop)]
+pub enum Fault {
+    /// A read returned an error.
+    Read,
+    /// The input is longer than the call accepts.
+    TooLong,
+    /// A write or a flush returned an error, or a write accepted no byte.
+    Write,
+}
+
+impl Fault {
+    /// Returns the message.
+    pub fn text(&self) -> &'static str
+        ensures { result.now ≡ fault_text self.now }
+    {
+        match self {
+            Fault::Read => "read failed",
+            Fault::TooLong => "too long",
+            Fault::Write => "write failed",
+        }
+    }
+}
+
+/// Why the program did not begin to read.
+#[derive(Drop)]
+pub enum Refusal {
+    /// The arguments or the input's buffer could not be allocated.
+    NoMemory,
+    /// There are arguments, but not exactly a version and a seed. All errors in place of the
+    /// arguments count as this, but for `OutOfMemory`.
+    Usage,
+}
