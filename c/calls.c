@@ -1,136 +1,105 @@
-/* Calls every function of komihash_rattle.h in the version VERSION, which is 4 or 5, and prints what
- * each returns and writes. calls.txt has what version 4 and then version 5 must print. The Rust
- * crate gave the hashes, outputs and filled bytes there; the padded words and saved texts follow
- * from their rules. With an argument, it reads rows like those of vectors.tsv instead, and prints
- * the ones of its version, each with the hash that the library gives. */
+/* Calls every function of komihash_rattle.h in the version VERSION, which is 4 or 5. Reads rows as
+ * in vectors.tsv, and prints the ones of its version, each with the hash that the library gives. If
+ * another function does what it must not, prints that and ends. Each array that is passed ends at
+ * the end of a page, after which nothing can be accessed. */
+#define _DEFAULT_SOURCE
 #include "komihash_rattle.h"
 #include <inttypes.h>
 #include <stdio.h>
 #include <stdlib.h>
 #include <string.h>
+#ifndef _WIN32
+#include <sys/mman.h>
+#endif
 
 #define JOINED(version, rest) komihash_v##version##rest
 #define NAMED(version, rest) JOINED(version, rest)
 #define KOMIHASH(rest) NAMED(VERSION, rest)
+#define CHECK(condition) \
+    ((condition) ? (void)0 : (puts("does not hold: " #condition), exit(1)))
 
 typedef KOMIHASH(_stream) Stream;
 typedef KOMIHASH(_rand) Rand;
+enum { ROOM = KOMIHASH_LONGEST_TEXT, PAGES = 65536 };
 
-static const uint64_t seed = 0x0123456789abcdef, other_seed = 0xfedcba9876543210;
+static uint8_t *message_end, *out_end, *copy_end;
 
-/* Byte i is 7 * i + 3 modulo 256. */
-static uint8_t message[100];
-
-/* Prints what a call returned, and bytes that it wrote or left. */
-static void print(const char *call, uint64_t returned, const void *bytes, size_t length) {
-    printf("%-26s %016" PRIx64, call, returned);
-    for (size_t i = 0; i < length; i++)
-        printf(" %02x", ((const uint8_t *)bytes)[i]);
-    printf("\n");
+/* Returns the end of some pages. On Windows, what follows them may be accessible. */
+static uint8_t *end_of_memory(void) {
+#ifdef _WIN32
+    return (uint8_t *)calloc(PAGES, 1) + PAGES;
+#else
+    const int flags = MAP_PRIVATE | MAP_ANONYMOUS;
+    uint8_t *pages = mmap(NULL, 2 * PAGES, PROT_READ | PROT_WRITE, flags, -1, 0);
+    CHECK(pages != MAP_FAILED && mprotect(pages + PAGES, PAGES, PROT_NONE) == 0);
+    return pages + PAGES;
+#endif
 }
 
-static void hashes(void) {
-    print("hash", KOMIHASH()(message, 100, seed), NULL, 0);
-    print("hash of no bytes", KOMIHASH()(NULL, 0, seed), NULL, 0);
-}
-
-static void streams(void) {
-    Stream stream = KOMIHASH(_start)(seed), copy;
-    print("finish, new", KOMIHASH(_finish)(&stream), NULL, 0);
-    KOMIHASH(_write)(&stream, message, 20);
-    copy = stream;
-    KOMIHASH(_write)(&stream, message + 20, 80);
-    KOMIHASH(_write)(&stream, NULL, 0);
-    print("finish, 100 bytes", KOMIHASH(_finish)(&stream), NULL, 0);
-    print("finish, copy of 20 bytes", KOMIHASH(_finish)(&copy), NULL, 0);
-    KOMIHASH(_write)(&copy, message + 20, 44);
-    print("finish, copy of 64 bytes", KOMIHASH(_finish)(&copy), NULL, 0);
-    print("finish, 100 bytes", KOMIHASH(_finish)(&stream), NULL, 0);
-}
-
-static void saves(void) {
-    uint8_t text[KOMIHASH_LONGEST_TEXT];
+/* Returns the hash of a message by a stream, which is saved and resumed after some of it. */
+static uint64_t streamed(const uint8_t *bytes, size_t length, size_t cut, uint64_t seed) {
     Stream stream = KOMIHASH(_start)(seed), resumed;
-    memset(text, 0x5a, sizeof text);
-    memset(&resumed, 0xff, sizeof resumed);
-    KOMIHASH(_write)(&stream, message, 100);
-    print("save, too little room", KOMIHASH(_save)(&stream, text, sizeof text - 1), text, 4);
-    print("save, no room", KOMIHASH(_save)(&stream, NULL, 0), NULL, 0);
-    size_t length = KOMIHASH(_save)(&stream, text, sizeof text);
-    print("save", length, text, 4);
-    print("resume, no bytes", KOMIHASH(_resume)(&resumed, NULL, 0), &resumed, 4);
-    print("resume, a byte less", KOMIHASH(_resume)(&resumed, text, length - 1), &resumed, 4);
-    print("resume", KOMIHASH(_resume)(&resumed, text, length), NULL, 0);
-    text[0] = 9 - VERSION;
-    print("resume, other version", KOMIHASH(_resume)(&resumed, text, length), NULL, 0);
-    print("finish, resumed", KOMIHASH(_finish)(&resumed), NULL, 0);
+    KOMIHASH(_write)(&stream, bytes, cut);
+    CHECK(KOMIHASH(_save)(&stream, out_end - ROOM + 1, ROOM - 1) == 0);
+    size_t saved = KOMIHASH(_save)(&stream, out_end - ROOM, ROOM);
+    uint8_t *text = memmove(out_end - saved, out_end - ROOM, saved);
+    CHECK(!KOMIHASH(_resume)(&resumed, text, saved - 1));
+    CHECK(KOMIHASH(_resume)(&resumed, text, saved));
+    KOMIHASH(_write)(&resumed, bytes + cut, length - cut);
+    CHECK(KOMIHASH(_finish)(&stream) == KOMIHASH()(bytes, cut, seed));
+    return KOMIHASH(_finish)(&resumed);
 }
 
-static void print_rand(const char *call, Rand rand) {
-    print(call, KOMIHASH(_rand_next)(&rand), NULL, 0);
-    print("  next", KOMIHASH(_rand_next)(&rand), NULL, 0);
+static void pad_and_unpad(const uint8_t *bytes, size_t length) {
+    const size_t count = length / 8 + 1;
+    uint64_t *words = (uint64_t *)out_end - count;
+    uint8_t *copy = copy_end - 8 * count;
+    CHECK(KOMIHASH(_pad)(bytes, length, words, count - 1) == 0);
+    CHECK(KOMIHASH(_pad)(bytes, length, words, count) == count);
+    CHECK(KOMIHASH(_unpad)(words, count, copy, 8 * count - 1) == KOMIHASH_NONE);
+    CHECK(KOMIHASH(_unpad)(words, count, copy, 8 * count) == length);
+    CHECK(memcmp(copy, bytes, length) == 0);
 }
 
+/* Compares the first outputs of generators with those of the Rust crate, and what a fill writes
+ * with the outputs of a copy. */
 static void generators(void) {
-    uint8_t out[12];
+    const uint64_t seed = 0x0123456789abcdef, extra_seed = 0xfedcba9876543210;
+    const bool v4 = VERSION == 4;
     Rand rand = KOMIHASH(_rand_init)(seed), copy = rand;
-    print_rand("rand_init", rand);
-    print_rand("rand_init_with_extra_seed",
-               KOMIHASH(_rand_init_with_extra_seed)(seed, other_seed));
-    print_rand("rand_init_words", KOMIHASH(_rand_init_words)(seed, other_seed));
-    memset(out, 0x5a, sizeof out);
+    Rand extra = KOMIHASH(_rand_init_with_extra_seed)(seed, extra_seed);
+    Rand words = KOMIHASH(_rand_init_words)(seed, extra_seed);
+    uint64_t outputs[2] = {KOMIHASH(_rand_next)(&copy)};
+    outputs[1] = KOMIHASH(_rand_next)(&copy);
+    CHECK(outputs[0] == (v4 ? 0xc501cc999ede619f : 0x19a95c363ccfdb39));
+    CHECK(KOMIHASH(_rand_next)(&extra) == (v4 ? 0xc2b5bec11a25b26d : 0xa668249f47348e9a));
+    CHECK(KOMIHASH(_rand_next)(&words) == (v4 ? 0x889f87cc2b173f0c : 0x786c77e49d6bb107));
     KOMIHASH(_rand_fill)(&rand, NULL, 0);
-    KOMIHASH(_rand_fill)(&rand, out, 11);
-    print("next after 11 bytes", KOMIHASH(_rand_next)(&rand), out, sizeof out);
-    print("next of a copy", KOMIHASH(_rand_next)(&copy), NULL, 0);
+    KOMIHASH(_rand_fill)(&rand, out_end - 11, 11);
+    CHECK(memcmp(out_end - 11, outputs, 11) == 0);
+    CHECK(KOMIHASH(_rand_next)(&rand) == KOMIHASH(_rand_next)(&copy));
 }
 
-static void padded(void) {
-    uint64_t words[3];
-    uint8_t out[17];
-    memset(words, 0x5a, sizeof words);
-    memset(out, 0x5a, sizeof out);
-    print("pad, too little room", KOMIHASH(_pad)(message + 11, 9, words, 1), words, 8);
-    print("pad, no bytes, no room", KOMIHASH(_pad)(NULL, 0, NULL, 0), NULL, 0);
-    print("pad, no bytes", KOMIHASH(_pad)(NULL, 0, words, 3), words, 16);
-    print("pad", KOMIHASH(_pad)(message + 11, 9, words, 3), words, sizeof words);
-    print("unpad, too little room", KOMIHASH(_unpad)(words, 2, out, 15), out, 1);
-    print("unpad, no words", KOMIHASH(_unpad)(NULL, 0, NULL, 0), NULL, 0);
-    print("unpad, not padded", KOMIHASH(_unpad)(words, 3, out, 17), out, 1);
-    print("unpad", KOMIHASH(_unpad)(words, 2, out, 17), out, sizeof out);
+static void print_row(const char *row) {
+    char *digits;
+    const uint64_t seed = strtoull(row + 2, &digits, 16);
+    const size_t length = strcspn(++digits, "\t") / 2;
+    uint8_t *bytes = message_end - length;
+    for (size_t i = 0; i < length; i++, digits += 2)
+        bytes[i] = (uint8_t)strtoul((char[3]){digits[0], digits[1]}, NULL, 16);
+    const uint64_t hash = KOMIHASH()(length ? bytes : NULL, length, seed);
+    CHECK(streamed(bytes, length, length / 3, seed) == hash);
+    pad_and_unpad(bytes, length);
+    printf("%.*s%016" PRIx64 "\n", (int)(digits + 1 - row), row, hash);
 }
 
-/* Prints a row with the hash of its message, whose digits begin there. */
-static void print_row(const char *row, char *digits, uint64_t row_seed) {
-    uint8_t bytes[512];
-    size_t length = 0;
-    for (; digits[0] != '\t'; digits += 2)
-        bytes[length++] = (uint8_t)strtoul((char[3]){digits[0], digits[1]}, NULL, 16);
-    printf("%.*s%016" PRIx64 "\n", (int)(digits + 1 - row), row,
-           KOMIHASH()(bytes, length, row_seed));
-}
-
-static void rows(void) {
-    char row[1024], *end;
-    while (fgets(row, sizeof row, stdin) != NULL)
-        if (row[0] == '0' + VERSION) {
-            uint64_t row_seed = strtoull(row + 2, &end, 16);
-            print_row(row, end + 1, row_seed);
-        }
-}
-
-int main(int count, char **arguments) {
-    (void)arguments;
-    if (count > 1) {
-        rows();
-        return 0;
-    }
-    for (size_t i = 0; i < sizeof message; i++)
-        message[i] = (uint8_t)(7 * i + 3);
-    printf("version %d\n", VERSION);
-    hashes();
-    streams();
-    saves();
+int main(void) {
+    char row[1024];
+    message_end = end_of_memory();
+    out_end = end_of_memory();
+    copy_end = end_of_memory();
     generators();
-    padded();
+    while (fgets(row, sizeof row, stdin) != NULL)
+        if (row[0] == '0' + VERSION)
+            print_row(row);
 }

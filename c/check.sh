@@ -7,9 +7,7 @@ cd "$(dirname "$0")" || exit 1
 
 prefix="$room/a & 'b'"
 lib="$prefix/lib"
-include="$prefix/include"
 archive="$lib/libkomihash_rattle.a"
-package=$room/komihash_rattle-$version.tar.gz
 linked="$lib/$soname"
 program=$room/program$exe
 machine=$($CC -dumpmachine)
@@ -22,28 +20,24 @@ fi
 case $CC in *clang*) clang= ;; esac
 export LD_LIBRARY_PATH="$lib" WINEPATH="Z:$prefix/bin" PKG_CONFIG_PATH="$lib/pkgconfig"
 unset MAKEFLAGS PREFIX BINDIR LIBDIR INCLUDEDIR DESTDIR
-sed -n '/^```c$/,/^```$/{/^```/!p;}' README.md > "$room/example.c"
-grep -o 'komihash_v[a-z0-9_]*(' komihash_rattle.h | tr -d '(' | sort > "$room/declared"
-for number in 4 5; do grep "^$number" vectors.tsv; done > "$room/vectors"
 
 # Runs make with what this script was given, but not with the paths that its caller may have set.
 build() {
     $MAKE --no-print-directory "OUT=$OUT" "ASSEMBLY=$ASSEMBLY" "CROSS=$CROSS" "CC=$CC" "$@"
 }
 
-# Whether a tool is there. Without it, a case is skipped: has TOOL NAME; needs TOOL NAME COMMAND..
-has() { command -v "$1" > "$room/case" || { skip "$2" "$1" && false; }; }
+# A case that needs a tool: needs TOOL NAME COMMAND..
 needs() {
     tool=$1
     shift
-    ! has "$tool" "$1" || note "$@"
+    if command -v "$tool" > "$room/case"; then note "$@"; else skip "$1" "$tool"; fi
 }
 
-# Whether a command prints what a file has, but for the ends of lines, which differ on Windows.
+# Whether a command prints a text. Lines end otherwise on Windows, and may be repeated.
 prints() {
-    wanted=$1
+    echo "$1" > "$room/text"
     shift
-    "$@" > "$room/printed" && tr -d '\r' < "$room/printed" | diff "$wanted" -
+    "$@" > "$room/printed" && tr -d '\r' < "$room/printed" | uniq | diff "$room/text" -
 }
 
 # Whether a command fails, and prints a text.
@@ -53,108 +47,71 @@ fails() {
     ! "$@" > "$room/printed" 2>&1 && grep "$text" "$room/printed"
 }
 
-# Prints the functions that a file has by a letter of nm: symbols LETTER FILE [FLAG]
-symbols() { "$NM" -P ${3-} "$2" | awk -v letter="$1" '$2 == letter { print $1 }' | sort; }
-needs_nothing() { ! "$NM" -u ${2-} "$1" | grep -v -e ':$' -e '^$'; }
-
-numbers_of_version() {
-    printf 'KOMIHASH_RATTLE_VERSION_%s\n' MAJOR MINOR PATCH | cat komihash_rattle.h - |
-        $CC -E -P - | tail -n 3 | paste -s -d . -
+# Whether a library has just the functions of the header, and needs nothing else.
+complete() {
+    case ${1##*/} in *.dll.a) kinds=T ;; *) kinds='[TU]' ;; esac
+    case ${1##*/} in *.a) flag= ;; *) flag=-D ;; esac
+    "$NM" -P $flag "$1" | awk -v "kinds=$kinds" '$2 ~ kinds { print $1 }' | sort |
+        diff "$room/declared" -
 }
 
-# Compile a program by $compiler, and calls.c for a version.
-compile() { $compiler "$@" -Wall -Wextra -Wpedantic -Werror -o "$program"; }
-compile_calls() { compile -std=c11 -I "$include" calls.c "$2" -D "VERSION=$1"; }
-
-called() {
-    for number in 4 5; do
-        compile_calls $number -c && symbols U "$program" | grep "komihash_v$number"
-    done
+# Compiles a program by $compiler, and runs it.
+runs() { $compiler "$@" -Wall -Wextra -Wpedantic -Werror -o "$program" && $RUN "$program"; }
+runs_by_package() {
+    eval "runs \"\$@\" $(pkg-config --cflags --libs komihash_rattle)" &&
+        grep -F "$soname" "$program" > "$room/case"
 }
-
-# Runs calls.c for both versions: calls LIBRARY [ARGUMENT]
 calls() {
     for number in 4 5; do
-        compile_calls $number "$1" && $RUN "$program" ${2-} < vectors.tsv || return
+        runs -std=c11 -D "VERSION=$number" -I "$prefix/include" calls.c "$1" < vectors.tsv || return
     done
 }
-cases_of_calls() {
-    note "calls.c prints what calls.txt has (${compiler%% -Q*}, ${1##*/})" prints calls.txt calls "$1"
-    note "the hashes of vectors.tsv (${compiler%% -Q*}, ${1##*/})" prints "$room/vectors" calls "$1" rows
-}
-
-# Compiles an example with these arguments, and runs it.
-runs() { compile "$@" && prints examples/printed.txt $RUN "$program"; }
-runs_shared() { runs "$@" && grep -F "$soname" "$program"; }
-runs_by_package() { eval "runs_shared \"\$@\" $(pkg-config --cflags --libs komihash_rattle)"; }
-
-# The example in a language, linked in each way: example LANGUAGE ARGUMENT..
-example() {
-    title="the example in $1 (${compiler%% -Q*}"
-    shift
-    note "$title, static library)" runs "$@" -I "$include" "$archive"
-    note "$title, shared object)" runs_shared "$@" -I "$include" -L "$lib" -lkomihash_rattle
-    needs pkg-config "$title, pkg-config)" runs_by_package "$@"
-}
-
 by_rustc() {
     rustc --edition 2021 -D warnings -L "native=$lib" -l static=komihash_rattle \
-        examples/example.rs -o "$program" && prints examples/printed.txt "$program"
+        examples/example.rs -o "$program" && "$program"
 }
 
-# Builds and runs hash_file by CMake, with these definitions.
+# Compiles calls that ignore a result, and that pass no stream.
+careless() {
+    cat komihash_rattle.h - << 'END' | $CC -x c -Wall -S -o "$program" - 2>&1 | grep -o '\[-W[^]=]*'
+void resume(komihash_v5_stream *stream) { komihash_v5_resume(stream, "", 0); }
+uint64_t finish(void) { return komihash_v5_finish(NULL); }
+END
+}
+
+# Runs hash_file, built by CMake with these definitions, on the message `a`.
 by_cmake() {
     rm -rf "$room/cmake" && cmake -S examples -B "$room/cmake" -D "CMAKE_C_COMPILER=$CC" \
         ${CROSS:+-D "CMAKE_SYSTEM_NAME=$system" -D "CMAKE_SYSTEM_PROCESSOR=${machine%%-*}"} \
-        -D "CMAKE_RUNTIME_OUTPUT_DIRECTORY=$room/cmake" "$@" && cmake --build "$room/cmake" &&
-        printf a | $RUN "$room/cmake/hash_file$exe" | grep '^5117f5064'
+        -D "CMAKE_RUNTIME_OUTPUT_DIRECTORY=$room/cmake" "$@" >&2 &&
+        cmake --build "$room/cmake" >&2 && printf a | $RUN "$room/cmake/hash_file$exe"
 }
 
-# Whether CMake takes the library for each version or range in $1, and for none in $2, and links the
-# static one.
+# Whether CMake finds the library for each VERSION:1 or RANGE:1, and not for those with 0, and links
+# the static one.
 requested() {
-    mkdir "$room/requested" && cat > "$room/requested/CMakeLists.txt" << END &&
+    mkdir "$room/requested" && cat > "$room/requested/CMakeLists.txt" << END
 cmake_minimum_required(VERSION 3.19)
 project(requested C)
-foreach(request $1 $2)
-  string(REPLACE "," ";" arguments \${request})
+foreach(request $*)
+  string(REGEX MATCHALL "[^,:]+" arguments \${request})
+  list(POP_BACK arguments wanted)
   unset(komihash_rattle_DIR CACHE)
   find_package(komihash_rattle \${arguments} QUIET)
-  message("\${request}: \${komihash_rattle_FOUND}")
+  if(NOT komihash_rattle_FOUND EQUAL wanted)
+    message(SEND_ERROR \${request})
+  endif()
 endforeach()
 add_executable(hash_file "$PWD/examples/hash_file.c")
 target_link_libraries(hash_file komihash_rattle::static)
 END
-    { printf '%s: 1\n' $1 && printf '%s: 0\n' $2; } > "$room/wanted" &&
-        cmake -S "$room/requested" -B "$room/requested" -D "CMAKE_C_COMPILER=$CC" \
-            -D "CMAKE_PREFIX_PATH=$prefix" 2>&1 > "$room/printed" | diff "$room/wanted" - &&
-        cmake --build "$room/requested" && ! "$NM" -u "$room/requested/hash_file" | grep komihash
-}
-
-# Whether make bench prints a number for each of twelve kinds of calls.
-measured() { build bench | grep -c '^\(hash\|write\) .* bytes *[0-9]' | grep -x 12; }
-
-# Compiles a line after the header: with_header LINE COMMAND..
-with_header() {
-    printf '#include "komihash_rattle.h"\n%s\n' "$1" > "$room/line.c"
-    shift
-    "$@" -I. -ffreestanding -S -o "$program" "$room/line.c"
+    cmake -S "$room/requested" -B "$room/requested" -D "CMAKE_C_COMPILER=$CC" \
+        -D "CMAKE_PREFIX_PATH=$prefix" && cmake --build "$room/requested" &&
+        "$NM" "$room/requested/hash_file" | grep 'T komihash_v5$'
 }
 
 hash_file() { $RUN "$OUT/hash_file$exe" "$@"; }
-hash_bytes() { printf 'a\r\n\032b' | hash_file; }
-full_disk() { hash_file > /dev/full; }
-
-# Whether hash_file ends with a status, and prints what standard input has: ends STATUS ARGUMENT..
-ends() {
-    wanted=$1
-    shift
-    cat > "$room/lines"
-    printf a | (hash_file "$@") > "$room/printed" 2> "$room/errors"
-    status=$?
-    cat "$room/errors"
-    tr -d '\r' < "$room/printed" | diff "$room/lines" - && test "$status" = "$wanted"
-}
+hash_files() { ! printf a | hash_file README.md -c -; }
 
 # Installs by the variables of the environment, builds an example with that, and uninstalls it.
 staged() {
@@ -167,76 +124,66 @@ staged() {
 }
 uninstalled() { build uninstall "PREFIX=$prefix" && test ! -e "$prefix"; }
 
-runs_here() { hash_file < /dev/null > "$program" 2>&1; }
-note "programs for $machine run here, or in the emulator that RUN names" runs_here
-[ "$failed" = 0 ] || { counted; exit 1; }
+note "programs for $machine run here, or in the emulator that RUN names" hash_file < /dev/null
 note 'the library is installed' build install "PREFIX=$prefix"
 [ "$failed" = 0 ] || { counted; exit 1; }
-note 'the numbers in the header are those of its version' \
-    test "$(numbers_of_version)" = "$version"
+note 'the numbers in the header are those of its version' test "$version" = \
+    "$(sed -n 's/.*_VERSION_[A-Z]* //p' komihash_rattle.h | paste -s -d .)"
+grep -o 'komihash_v[a-z0-9_]*(' komihash_rattle.h | tr -d '(' | sort > "$room/declared"
 find "$prefix" -type f -name 'lib*' ! -name '*.dll' > "$room/libraries"
 while read -r file; do
-    case $file in *.a) flag= ;; *) flag=-D ;; esac
-    name=${file#"$prefix/"}
-    note "$name has the functions of the header" prints "$room/declared" symbols T "$file" $flag
-    case $file in *.dll.a) ;; *) note "$name calls nothing else" needs_nothing "$file" $flag ;; esac
+    note "${file#"$prefix/"} has the functions of the header alone" complete "$file"
 done < "$room/libraries"
 
-compiler=$CC
-note 'calls.c calls every function' prints "$room/declared" called
+hash=a53b9c6b9eb8afe9 hash_of_a=5117f5064cfd0faa
+vectors=$(grep ^4 vectors.tsv && grep ^5 vectors.tsv)
+sed -n '/^```c$/,/^```$/{/^```/!p;}' README.md > "$room/example.c"
 for compiler in "$CC" ${clang:+"$clang"}; do
-    has "${compiler%% *}" 'calls.c and the example in C' || continue
-    cases_of_calls "$archive"
-    cases_of_calls "$linked"
-    example C -std=c11 "$room/example.c"
+    tool=${compiler%% *} name=${compiler%% -Q*}
+    needs "$tool" "calls.c, by $name" prints "$vectors" calls "$archive"
+    needs "$tool" "calls.c, by $name, shared library" prints "$vectors" calls "$linked"
+    needs "$tool" "the example in C, by $name" prints $hash runs "$room/example.c" \
+        -std=c11 -I "$prefix/include" "$archive"
+    needs pkg-config "the example in C, by $name and pkg-config" \
+        prints $hash runs_by_package -std=c11 "$room/example.c"
 done
 if [ ! "$CROSS" ]; then
     for compiler in "$CXX" clang++; do
-        has "${compiler%% *}" 'the example in C++' || continue
-        example C++ -std=c++17 examples/example.cpp
+        needs "${compiler%% *}" "the example in C++, by $compiler" prints $hash \
+            runs examples/example.cpp -std=c++17 -I "$prefix/include" "$archive"
     done
     compiler='musl-gcc -static'
-    ! has musl-gcc 'calls.c with musl' || cases_of_calls "$archive"
-    needs rustc 'the example in Rust' by_rustc
-    needs python3 'the example in Python' \
-        prints examples/printed.txt python3 examples/example.py "$lib/$soname"
-    note 'make bench' measured
+    needs musl-gcc 'calls.c with musl' prints "$vectors" calls "$archive"
+    needs rustc 'the example in Rust' prints $hash by_rustc
+    needs python3 'the example in Python' prints $hash python3 examples/example.py "$linked"
+    note 'make bench' build bench
 fi
+compiler=$CC
 for target in s390x:big-endian i686:64-bit x86_64-linux-gnux32:64-bit \
     x86_64-pc-windows-msvc:MinGW-w64; do
-    needs clang "the header refuses ${target%:*}" \
-        fails "${target#*:}" with_header '' clang "--target=${target%:*}"
+    needs clang "the header refuses ${target%:*}" fails "${target#*:}" \
+        clang "--target=${target%:*}" -x c -ffreestanding -fsyntax-only komihash_rattle.h
 done
-note 'a result that must not be ignored' fails unused-result with_header \
-    'void f(komihash_v5_stream *s) { komihash_v5_resume(s, "", 0); }' $CC -Werror
-note 'a stream that is null' fails nonnull with_header \
-    'uint64_t f(void) { return komihash_v5_finish(NULL); }' $CC -Werror -Wall
+note 'warnings for an ignored result and a null stream' \
+    prints "$(printf '[-W%s\n' nonnull unused-result)" careless
 
 note 'the package' build dist "OUT=$room"
 needs cmake 'hash_file, by CMake, with the installed library' \
-    by_cmake -D "CMAKE_PREFIX_PATH=$prefix"
-needs cmake 'hash_file, by CMake, with the package' by_cmake -D "PACKAGE=$package"
-needs cmake 'the versions that CMake may ask for, and the static library' requested \
-    "1 1.0 $version $version,EXACT 1.0...2 1...<2 0.9...$version" \
-    "0.9 2 99.0 1.0,EXACT 1.0...<$version 2...3"
+    prints $hash_of_a by_cmake -D "CMAKE_PREFIX_PATH=$prefix"
+needs cmake 'hash_file, by CMake, with the package' \
+    prints $hash_of_a by_cmake -D "PACKAGE=$room/komihash_rattle-$version.tar.gz"
+needs cmake 'the versions that CMake may ask for, and the static library' requested 1:1 1.0:1 \
+    "$version:1" "$version,EXACT:1" 1.0...2:1 '1...<2:1' "0.9...$version:1" \
+    0.9:0 2:0 99.0:0 1.0,EXACT:0 "1.0...<$version:0" 2...3:0
 
-note 'hash_file' ends 0 << 'END'
-5117f5064cfd0faa
-END
-note 'hash_file, files, two of which cannot be read' ends 1 README.md none / - << END
-$(hash_file < README.md | tr -d '\r')  README.md
-5117f5064cfd0faa  -
-END
-echo 41788abed31c8f17 > "$room/hash"
-note 'hash_file, bytes that end lines and files elsewhere' prints "$room/hash" hash_bytes
-note 'hash_file, a name that begins with -' ends 1 -- -none < /dev/null
-note 'hash_file, an unknown option' ends 2 -c README.md < /dev/null
-if [ "$system" = Linux ]; then
-    note 'hash_file, a folder' fails 'cannot read .*: Is a directory$' hash_file < /
-    note 'hash_file, a closed input' fails 'cannot read .*: Bad file descriptor$' hash_file <&-
-fi
-note 'hash_file, a full output' fails 'cannot write .*: No space left' full_disk < /dev/null
-compiler=$CC
+note 'hash_file, bytes that end lines and files elsewhere' \
+    prints 41788abed31c8f17 eval "printf 'a\r\n\032b' | hash_file"
+note 'hash_file, files, one of which is not there' \
+    prints "$(hash_file < README.md | tr -d '\r')  README.md
+$hash_of_a  -" hash_files
+[ "$system" = Windows ] || note 'hash_file, a folder' fails 'Is a directory$' hash_file < /
+note 'hash_file, a full output' \
+    fails 'cannot write .*: No space left' eval 'hash_file < /dev/null > /dev/full'
 note 'the paths of the environment' staged
 note 'an empty PREFIX' fails "not ''" build install PREFIX=
 note 'a relative PREFIX' fails "not 'here'" build install PREFIX=here

@@ -1,26 +1,28 @@
 /* SPDX-License-Identifier: MIT
  * Copyright (c) 2026 the authors of komihash_rattle
  *
- * komihash_rattle.h: komihash versions 4 and 5, a fast hash of 64 bits that is not cryptographic.
- * Link with libkomihash_rattle. Each function exists for both versions: the names for version 4
- * begin with komihash_v4, those for version 5 with komihash_v5. Use version 5 for new data; version
- * 4 is for hashes that exist already. Use neither where an attacker may choose the messages: it is
- * easy to find many that have one hash, and a secret seed gives no security.
+ * Komihash, versions 4 and 5, a fast hash of 64 bits that is not cryptographic. Link with
+ * libkomihash_rattle. Use version 5 for new data; version 4 is for hashes that exist already. Use
+ * neither where an attacker may choose the messages: it is easy to find many that have one hash,
+ * and a secret seed gives no security.
  *
- * For every call:
+ * What a caller must see to, because no call checks it:
  * - `length` and `room` are the number of bytes at the pointer that precedes them in the arguments,
- *   or of words if it points to words. No array takes more than PTRDIFF_MAX bytes; the writes to
- *   one stream may add up to more.
+ *   or of words if it points to words. They stand for at most PTRDIFF_MAX bytes. The writes to one
+ *   stream may add up to more.
  * - A pointer may be null only if the length or room after it is 0. `stream` and `rand` are never
  *   null.
  * - A pointer to words, a stream or a generator is aligned to eight bytes. One to bytes needs no
  *   alignment.
  * - What a call writes must not overlap anything else that the call is passed.
+ * - If threads share a stream or a generator and one of them changes it, they need a lock. If a
+ *   signal handler shares one, the signal must be blocked.
+ *
+ * What holds of every call:
  * - No jump and no address depends on a seed, on the bytes of a message, or on words made of them,
  *   but in `resume` and `unpad`. That does not promise equal times.
- * - No call allocates memory or sets errno. The library has no global state, so threads and signal
- *   handlers may make calls at the same time. If they share a stream or a generator and one of them
- *   changes it, threads need a lock, and the signal must be blocked.
+ * - It allocates no memory and doesn't set errno. The library has no global state, so threads and
+ *   signal handlers may make calls at the same time.
  */
 #ifndef KOMIHASH_RATTLE_H
 #define KOMIHASH_RATTLE_H
@@ -36,8 +38,8 @@
 #error "komihash_rattle needs 64-bit pointers: use -m64 on x86-64, and -mabi=lp64 on ARM64"
 #endif
 
-/* The calling convention of all functions, which pointers to them must name too, since Windows has
- * one of its own. */
+/* The calling convention of all functions. Windows has one of its own, so pointers to them name it
+ * too: uint64_t (KOMIHASH_CALL *hash)(const void *, size_t, uint64_t) = komihash_v5; */
 #if !defined(_WIN32) && !defined(__CYGWIN__)
 #define KOMIHASH_CALL
 #elif !defined(__CYGWIN__) && defined(__x86_64__) && defined(__GNUC__)
@@ -71,24 +73,16 @@ extern "C" {
 /* The room that `save` needs: the length of the longest saved text. */
 #define KOMIHASH_LONGEST_TEXT 131
 
-/* A stream of each version, which `start` returns. It may be copied by assignment, and each copy
- * then goes on by itself. Only the calls below change a stream. No call checks that: after any
- * other change, calls may return wrong hashes and access memory outside of the stream. So store or
- * send its saved text and not the stream itself: `resume` checks the text. */
-typedef struct {
-    uint64_t state[18];
-} komihash_v4_stream;
-typedef struct {
-    uint64_t state[18];
-} komihash_v5_stream;
+/* A stream of each version. Only `start` and `resume` make one: {0} is none. It may be copied by
+ * assignment, and each copy then goes on by itself. Only the calls below change a stream: after any
+ * other change, they may return wrong hashes and access memory outside of it. So store or send its
+ * saved text and not the stream itself: `resume` checks the text. */
+typedef struct { uint64_t state[18]; } komihash_v4_stream;
+typedef struct { uint64_t state[18]; } komihash_v5_stream;
 
 /* A generator of each version, which a `rand_init` returns. It may be copied by assignment too. */
-typedef struct {
-    uint64_t state[2];
-} komihash_v4_rand;
-typedef struct {
-    uint64_t state[2];
-} komihash_v5_rand;
+typedef struct { uint64_t state[2]; } komihash_v4_rand;
+typedef struct { uint64_t state[2]; } komihash_v5_rand;
 
 /* Returns the hash of a message. Any seed will do: use 0 unless you need several hashes of one
  * message. */
@@ -119,8 +113,9 @@ KOMIHASH_NONNULL KOMIHASH_CHECK_RESULT
 size_t KOMIHASH_CALL komihash_v5_save(const komihash_v5_stream *stream, void *out, size_t room);
 
 /* Replaces the stream by the one that has this saved text, and returns true. What `stream` held is
- * not read. Returns false, and changes nothing, if no stream of this version has the text. The text
- * has no checksum: damage that makes it the text of another stream is not noticed. */
+ * not read. Returns false, and changes nothing, if no stream of this version has the text: those of
+ * the other version are refused. The text has no checksum, so damage that makes it the text of
+ * another stream is not noticed. */
 KOMIHASH_NONNULL KOMIHASH_CHECK_RESULT
 bool KOMIHASH_CALL komihash_v4_resume(komihash_v4_stream *stream, const void *text, size_t length);
 KOMIHASH_NONNULL KOMIHASH_CHECK_RESULT
@@ -157,17 +152,17 @@ komihash_v5_rand_fill(komihash_v5_rand *rand, void *out, size_t length);
  * length / 8 + 1. They are the words that the hash reads: different messages have different ones.
  * Returns 0, and writes nothing, if `out` has no room for them. `length` counts bytes, and `room`
  * counts words. */
+KOMIHASH_CHECK_RESULT
 size_t KOMIHASH_CALL komihash_v4_pad(const void *bytes, size_t length, uint64_t *out, size_t room);
+KOMIHASH_CHECK_RESULT
 size_t KOMIHASH_CALL komihash_v5_pad(const void *bytes, size_t length, uint64_t *out, size_t room);
 
 /* Writes the message that has these padded words to the front of `out`, and returns its length.
  * Returns KOMIHASH_NONE, and writes nothing, if no message has them, or if `out` has fewer than
  * eight bytes for each word. `length` counts words, and `room` counts bytes. */
-KOMIHASH_CHECK_RESULT
-size_t KOMIHASH_CALL
+KOMIHASH_CHECK_RESULT size_t KOMIHASH_CALL
 komihash_v4_unpad(const uint64_t *words, size_t length, void *out, size_t room);
-KOMIHASH_CHECK_RESULT
-size_t KOMIHASH_CALL
+KOMIHASH_CHECK_RESULT size_t KOMIHASH_CALL
 komihash_v5_unpad(const uint64_t *words, size_t length, void *out, size_t room);
 
 #ifdef __cplusplus

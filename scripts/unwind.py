@@ -20,7 +20,7 @@ def place_of_main():
 steps = lost = 0
 for name in re.findall(r"komihash_v\w+", gdb.execute("info functions ^komihash_v", to_string=True)):
     gdb.Breakpoint(f"*&{name}")
-gdb.execute("run > /dev/null")
+gdb.execute("run")
 while gdb.selected_inferior().pid:
     wanted = place_of_main()
     while not gdb.newest_frame().find_sal().symtab:  # The library has no lines of source code.
