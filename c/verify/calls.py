@@ -3,7 +3,8 @@ call must return and store."""
 import z3
 from definition import Products, State, padding_byte
 from machine import Array
-from terms import (Refused, Unknown, address, at_point, bv, choose, join, part, secret, simple, sym, symbols)
+from terms import (Refused, Unknown, address, at_point, bv, choose, join, part, secret, simple, sym,
+                   symbols)
 
 NONE = bv(2**64 - 1)
 STREAM = 144
@@ -84,13 +85,13 @@ def some_lanes():
     return [secret(f'lane s{k}') for k in range(1, 9)]
 
 
-def some_state(version, fill, absorbed=None):
+def some_state(version, fill, had_block=None):
     """Any state with this number of pending bytes, and this flag or any."""
-    if absorbed is None:
-        absorbed = widened(sym('absorbed', 1))
+    if had_block is None:
+        had_block = widened(sym('had_block', 1))
     top_bit = widened(secret('top bit', 1)) if version == 4 else bv(0, 8)
-    top_bit = simple(top_bit & absorbed)
-    return State(some_lanes(), named('pending', range(fill)), absorbed, top_bit)
+    top_bit = simple(top_bit & had_block)
+    return State(some_lanes(), named('pending', range(fill)), had_block, top_bit)
 
 
 def widened(bit):
@@ -107,7 +108,7 @@ def store_state(memory, state, name='stream'):
     for k in range(4):
         memory.put(name, 72 + 16 * k, simple(s[(k + 3) % 4] ^ s[4 + (k + 2) % 4]))
         memory.put(name, 80 + 16 * k, s[4 + (k + 3) % 4])
-    memory.put(name, FLAGS, state.absorbed)
+    memory.put(name, FLAGS, state.had_block)
     memory.put(name, FLAGS + 1, state.top_bit)
     for k in range(FLAGS + 2, STREAM):
         memory.put(name, k, secret(f'unused[{k}]', 8))

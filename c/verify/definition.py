@@ -64,8 +64,8 @@ def block_round(products, version, s, block):
     return [simple(t[k - 1] ^ r[k][0]) for k in range(4)] + t
 
 
-def joined(absorbed, s):
-    if const(absorbed) == 0:
+def joined(had_block, s):
+    if const(had_block) == 0:
         return s[0], s[4]
     return [simple(functools.reduce(lambda x, y: x ^ y, half)) for half in (s[:4], s[4:])]
 
@@ -101,10 +101,10 @@ def hash_from_pair(products, pair, w):
     return mix(products, a, e, e)[0]
 
 
-def hash_from_lanes(products, version, s, w, absorbed):
+def hash_from_lanes(products, version, s, w, had_block):
     while len(w) >= 9:
-        s, w, absorbed = block_round(products, version, s, w[:8]), w[8:], TRUE
-    return hash_from_pair(products, joined(absorbed, s), w)
+        s, w, had_block = block_round(products, version, s, w[:8]), w[8:], TRUE
+    return hash_from_pair(products, joined(had_block, s), w)
 
 
 def komi(products, version, seed, message):
@@ -115,12 +115,12 @@ def komi(products, version, seed, message):
 class State:
     """A stream's state: lanes, pending bytes, and both flags, which are bytes."""
 
-    def __init__(self, lanes, pending=(), absorbed=FALSE, top_bit=FALSE):
+    def __init__(self, lanes, pending=(), had_block=FALSE, top_bit=FALSE):
         self.lanes, self.pending = lanes, list(pending)
-        self.absorbed, self.top_bit = absorbed, top_bit
+        self.had_block, self.top_bit = had_block, top_bit
 
     def absorb(self, products, version, message):
-        state = State(self.lanes, [*self.pending, *message], self.absorbed, self.top_bit)
+        state = State(self.lanes, [*self.pending, *message], self.had_block, self.top_bit)
         while len(state.pending) >= 64:
             block, rest = state.pending[:64], state.pending[64:]
             s = block_round(products, version, state.lanes, words_of(block))
@@ -129,12 +129,12 @@ class State:
 
     def answer(self, products, version):
         words = padded_words(version, self.pending)
-        if const(self.absorbed) and not self.pending:
+        if const(self.had_block) and not self.pending:
             words = words_of([simple(self.top_bit + 1)])
-        return hash_from_pair(products, joined(self.absorbed, self.lanes), words)
+        return hash_from_pair(products, joined(self.had_block, self.lanes), words)
 
     def text(self, version):
-        head = [bv(version, 8), self.absorbed, self.top_bit, bv(len(self.pending), 8)]
+        head = [bv(version, 8), self.had_block, self.top_bit, bv(len(self.pending), 8)]
         return join([*head, *self.lanes, *self.pending])
 
 

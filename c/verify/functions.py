@@ -47,9 +47,9 @@ def write_within(library, version, fill, length):
     return end
 
 
-def finish(library, version, fill, absorbed):
+def finish(library, version, fill, had_block):
     call = Call(library, version, '_finish')
-    state = some_state(version, fill, bv(absorbed, 8))
+    state = some_state(version, fill, bv(had_block, 8))
     wanted = state.answer(call.products, version)
     end = call.one(call.stream(state))
     check(end, 'hash', end.result(), wanted)
@@ -77,7 +77,7 @@ def resume(library, version, length):
     size = sym('length') if length is None else bv(length)
     text = named('text', range(132 if length is None else length))
     call.facts.add(z3.BoolVal(True) if length is not None else z3.UGT(size, 131))
-    fits, ends = is_text(version, text if length is not None else []), []
+    fits = is_text(version, text if length is not None else [])
     stream = call.stream(None, writable=True)
     for end in call.run(stream, call.array('text', size, text), size):
         is_one = accepted(end, fits)

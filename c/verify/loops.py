@@ -1,7 +1,7 @@
 """Calls of any length, by induction over the turns of a loop. What registers and memory hold when a
 turn begins, and after the last one, is found: forms are guessed from the first two turns of a long
 call, and what another arrival doesn't confirm is dropped, until each turn that begins with these
-forms ends with them. Lengths are GRAIN * q + r. From the end of the loop on, each r is run apart."""
+forms ends with them. Lengths are GRAIN * q + r. From the loop on, each r is run apart."""
 import collections
 import functools
 import z3
@@ -197,12 +197,12 @@ class Induction:
 
     def conditions(self, world):
         """Conditions, some of which hold at an arrival; after the last turn, 0 and 3 must."""
-        left, rest = self.left(world), self.rest()
-        log = int.bit_length
+        left, rest, log = self.left(world), self.rest(), int.bit_length
+        steps = range(log(self.GRAIN) - 1, log(self.step) - 1)
         return [left == rest, left != 0, left & (min(self.step, self.GRAIN) - 1) == rest,
                 z3.ULE(world.units, z3.LShR(world.length, log(self.UNIT) - 1)),
                 z3.UGE(left, self.step),
-                *(z3.Extract(k, k, left) == 0 for k in range(log(self.GRAIN) - 1, log(self.step) - 1)),
+                *(z3.Extract(k, k, left) == 0 for k in steps),
                 *(z3.Extract(k, k, world.units) == 0
                   for k in range(log(self.step // self.UNIT) - 1) if self.UNIT > 1)]
 

@@ -2,8 +2,8 @@
 import z3
 from capstone import Cs
 from elftools.elf.elffile import ELFFile
-from terms import (SYMBOLS, Facts, Refused, Unknown, bv, const, is_public, join, linear, part, secret,
-                   signed, simple, sym, symbols)
+from terms import (SYMBOLS, Facts, Refused, Unknown, bv, const, is_public, join, linear, part,
+                   secret, signed, simple, sym, symbols)
 
 STACK = 4096
 STEPS = 20000

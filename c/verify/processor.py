@@ -33,7 +33,7 @@ def on_numbers(kind):
 
 
 class Call:
-    """A call with numbers and arrays as arguments. The arrays lie in memory with gaps between them."""
+    """A call with numbers and arrays as arguments. The arrays lie in memory, with gaps between."""
 
     def __init__(self, r, name):
         self.r, self.name, self.args = r, name, []
@@ -85,8 +85,8 @@ class Call:
 
 
 def stream(r, version, fill):
-    absorbed = r.randrange(2)
-    flags = bytes([absorbed, r.randrange(2) if absorbed and version == 4 else 0])
+    had_block = r.randrange(2)
+    flags = bytes([had_block, r.randrange(2) if had_block and version == 4 else 0])
     return r.randbytes(fill).ljust(64, b'\0') + struct.pack('<Q', fill) + r.randbytes(64) + flags \
         + r.randbytes(6)
 
