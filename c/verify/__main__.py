@@ -73,7 +73,7 @@ def verify(path, names, jobs):
 def test(path, done, args):
     """Tests the check of a library, and returns how many tests passed and failed."""
     try:
-        calls, ran = processor.compare(path, 32, args.program)
+        calls, ran = processor.compare(path, 32, [*args.program, path])
     except Refused as refused:
         print(f'FAILED: {refused}')
         return 0, 1

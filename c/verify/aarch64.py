@@ -4,8 +4,8 @@ from functools import partial
 import z3
 from capstone import CS_ARCH_ARM64, CS_MODE_ARM
 from capstone import arm64_const as A
-from machine import RETURN, Cpu, means as enter
-from terms import (Refused, Unknown, bv, choose, join, part, secret, simple, sym, top, widen)
+from machine import RETURN, Cpu, means as enter, unknown
+from terms import Refused, bv, choose, join, part, secret, simple, sym, top, widen
 
 TABLE = {}
 means = partial(enter, TABLE)
@@ -27,16 +27,12 @@ def register(name):
     return (name[1:] if name[0] in 'xw' else f'v{name[1:]}'), SIZES[name[0]]
 
 
-def unknown(i):
-    return Unknown(f'{i.address:#x}: unknown operands of {i.mnemonic} {i.text}')
-
-
 class Arm(Cpu):
     NAME = 'ARM64'
     DECODER = CS_ARCH_ARM64, CS_MODE_ARM
     ARGS, RESULTS = tuple(str(n) for n in range(8)), ('0', '1')
     SAVED = tuple(str(n) for n in range(19, 30)) + (31,)
-    STACK, ABOVE, TABLE = 31, 0, TABLE
+    SP, ABOVE, TABLE = 31, 0, TABLE
 
     def registers(self):
         words = {str(n): secret(f'x{n} of the caller') for n in range(31)}

@@ -68,8 +68,8 @@ class Call:
 
     def check_products(self, end, wanted):
         """Whether just these products were made, each once."""
-        if end.asked != {(k, half) for k in wanted for half in (0, 1)}:
-            end.refuse(f'{len(end.asked) / 2:g} products, and not the {len(wanted)} of the '
+        if end.halves != {(k, half) for k in wanted for half in (0, 1)}:
+            end.refuse(f'{len(end.halves) / 2:g} products, and not the {len(wanted)} of the '
                        'definition')
 
     def check_all_products(self, end):
@@ -98,31 +98,31 @@ def widened(bit):
     return choose(bit == 1, bv(1, 8), bv(0, 8))
 
 
-def store_state(memory, state, name='stream'):
+def store_state(memory, state):
     """Stores a state as `start` and `write` do: the pending bytes as eight words with zeros after
     them, their number, the lanes as four pairs, each as their xor and the second, and the flags."""
     s = state.lanes
     for k, byte in enumerate(state.pending + [bv(0, 8)] * (64 - len(state.pending))):
-        memory.put(name, k, byte)
-    memory.put(name, 64, bv(len(state.pending)))
+        memory.put('stream', k, byte)
+    memory.put('stream', 64, bv(len(state.pending)))
     for k in range(4):
-        memory.put(name, 72 + 16 * k, simple(s[(k + 3) % 4] ^ s[4 + (k + 2) % 4]))
-        memory.put(name, 80 + 16 * k, s[4 + (k + 3) % 4])
-    memory.put(name, FLAGS, state.had_block)
-    memory.put(name, FLAGS + 1, state.top_bit)
+        memory.put('stream', 72 + 16 * k, simple(s[(k + 3) % 4] ^ s[4 + (k + 2) % 4]))
+        memory.put('stream', 80 + 16 * k, s[4 + (k + 3) % 4])
+    memory.put('stream', FLAGS, state.had_block)
+    memory.put('stream', FLAGS + 1, state.top_bit)
     for k in range(FLAGS + 2, STREAM):
-        memory.put(name, k, secret(f'unused[{k}]', 8))
+        memory.put('stream', k, secret(f'unused[{k}]', 8))
 
 
-def check_state(end, state, name='stream'):
+def check_state(end, state):
     """Whether this state is stored, as store_state has it."""
     wanted = end.memory.copy()
-    store_state(wanted, state, name)
+    store_state(wanted, state)
     for k in range(0, FLAGS, 8):
-        check(end, f'word {k // 8} of the stream', end.memory.content(name, k, 8),
-              wanted.content(name, k, 8))
-    check(end, 'flags of the stream', end.memory.content(name, FLAGS, 2),
-          wanted.content(name, FLAGS, 2))
+        check(end, f'word {k // 8} of the stream', end.memory.content('stream', k, 8),
+              wanted.content('stream', k, 8))
+    check(end, 'flags of the stream', end.memory.content('stream', FLAGS, 2),
+          wanted.content('stream', FLAGS, 2))
 
 
 def check(end, what, found, wanted):

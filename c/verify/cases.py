@@ -3,6 +3,7 @@ checks one of them."""
 import collections
 import time
 import functions as f
+import loops
 import terms
 from aarch64 import Arm
 from machine import Image
@@ -17,12 +18,13 @@ def each(numbers):
     return [(k,) for k in numbers]
 
 
-BYTES = each(range(f.GRAIN))
-FILLS = each(range(64))
+BYTES = each(range(loops.Fill.GRAIN))
+FILLS = each(range(loops.Write.GRAIN))
 # By function: the multiplications of the definition, whether jumps may depend on contents, and its
 # cases by how they are checked. Most cases are one length, remainder or number of pending bytes.
 FUNCTIONS = {
-    '': ('3+4(n/64)+(n%64)/16', False, {f.hash_of: FILLS, f.hash_many: each(range(8))}),
+    '': ('3+4(n/64)+(n%64)/16', False, {
+        f.hash_of: FILLS, f.hash_many: each(range(2**loops.Hash.LOW))}),
     '_start': ('1', False, {f.start_of: [()]}),
     '_write': ('4((f+n)/64)', False, {
         f.write_many: FILLS, f.write_within: [(p, n) for p in range(64) for n in range(64 - p)]}),
@@ -37,7 +39,7 @@ FUNCTIONS = {
     '_rand_fill': ('(n+7)/8', False, {f.rand_fill: BYTES, f.rand_fill_many: [()]}),
     '_pad': ('0', False, {f.pad: BYTES, f.pad_many: [()]}),
     '_unpad': ('0', True, {f.unpad_many: each(f.LAST_BYTES), f.unpad: [(0, None), *(
-        (n, last) for n in range(1, f.GRAIN // 8 + 1) for last in f.LAST_BYTES)]}),
+        (n, last) for n in range(1, loops.Unpad.GRAIN // 8 + 1) for last in f.LAST_BYTES)]}),
 }
 NAMES = [f'komihash_v{version}{suffix}' for version in (4, 5) for suffix in FUNCTIONS]
 
@@ -88,5 +90,5 @@ def run_case(case):
     except Refused as refused:
         failure = f'{refused}'
     except Exception as error:
-        failure = f'{type(error).__name__}: {error}'
+        failure = Unknown(f'{type(error).__name__}: {error}')
     return Done(case, failure, time.time() - begin, ran, depth, *terms.COUNTS.values())

@@ -7,8 +7,6 @@ from calls import (NONE, Call, accepted, check, check_bytes, check_generator, ch
 from definition import State, is_text, komi, next_pair, padded_words, start, words_of
 from terms import bv, bytes_of, join, secret, sym
 
-GRAIN = 128
-
 
 def hash_of(library, version, length):
     call = Call(library, version, '')

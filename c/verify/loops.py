@@ -196,15 +196,17 @@ class Induction:
         return simple(world.length - self.UNIT * world.units)
 
     def conditions(self, world):
-        """Conditions, some of which hold at an arrival; after the last turn, 0 and 3 must."""
+        """Conditions by name, some of which hold at an arrival."""
         left, rest, log = self.left(world), self.rest(), int.bit_length
         steps = range(log(self.GRAIN) - 1, log(self.step) - 1)
-        return [left == rest, left != 0, left & (min(self.step, self.GRAIN) - 1) == rest,
-                z3.ULE(world.units, z3.LShR(world.length, log(self.UNIT) - 1)),
-                z3.UGE(left, self.step),
-                *(z3.Extract(k, k, left) == 0 for k in steps),
-                *(z3.Extract(k, k, world.units) == 0
-                  for k in range(log(self.step // self.UNIT) - 1) if self.UNIT > 1)]
+        bits = {f'bit {k} of what is left is 0': z3.Extract(k, k, left) == 0 for k in steps}
+        if self.UNIT > 1:
+            bits.update({f'bit {k} of the units is 0': z3.Extract(k, k, world.units) == 0
+                         for k in range(log(self.step // self.UNIT) - 1)})
+        within = z3.ULE(world.units, z3.LShR(world.length, log(self.UNIT) - 1))
+        return {'the rest is left': left == rest, 'some is left': left != 0, 'not too much': within,
+                'whole turns': left & (min(self.step, self.GRAIN) - 1) == rest,
+                'a turn is left': z3.UGE(left, self.step), **bits}
 
     def rest(self):
         """How many bytes are left after the last turn."""
@@ -246,15 +248,15 @@ class Induction:
         forms = self.forms[pc]
         known = [w for w, form in forms.items() if form and w in words]
         holding = end.facts.holding(
-            end.path, [words[w] == world.value(forms[w]) for w in known])
-        lost = {w: None for k, w in enumerate(known) if k not in holding}
+            end.path, {w: words[w] == world.value(forms[w]) for w in known})
+        lost = {w: None for w in known if w not in holding}
         gone = [w for w in forms if w not in words]
         forms.update(lost)
         for w in gone:
             del forms[w]
         return not lost and not gone
 
-    def make(self, pc, world, r=None):
+    def make(self, pc, world, remainder=None):
         """Puts the processor into any state that has the form of this place."""
         cpu, conditions = self.call.cpu, self.conditions(world)
         cpu.facts.add(*(conditions[k] for k in self.holding[pc]))
@@ -262,8 +264,9 @@ class Induction:
         for (name, k), form in self.forms[pc].items():
             width = cpu.r[k].size() if name == 'r' else 8 if name == 'stream' and k >= FLAGS else 64
             value = world.value(form) if form else cpu.any(width)
-            if r is not None and symbols(self.r) <= symbols(value):
-                value = simple(z3.substitute(value, (self.r, bv(r >> self.LOW, self.r.size()))))
+            if remainder is not None and symbols(self.r) <= symbols(value):
+                fixed = bv(remainder >> self.LOW, self.r.size())
+                value = simple(z3.substitute(value, (self.r, fixed)))
             if name == 'r':
                 cpu.r[k] = value
             else:
@@ -278,27 +281,28 @@ class Induction:
         return self.arrive_all(self.run(call.cpu, self.cuts[0]))
 
     def leave_all(self):
-        if not {0, 3} <= self.holding.get(self.cuts[1], set()):
+        if not {'the rest is left', 'not too much'} <= self.holding.get(self.cuts[1], set()):
             raise Refused('after the last turn, more bytes or fewer are left than the rest')
-        for r in range(self.low, self.GRAIN, 2**self.LOW):
-            self.leave(r)
+        for remainder in range(self.low, self.GRAIN, 2**self.LOW):
+            self.leave(remainder)
 
-    def leave(self, r):
-        """From the end of the loop to the return, with r fixed, if it is reached with this r."""
-        call, rest = self.new_call(), r % min(self.step, self.GRAIN)
-        self.length, self.units = self.after_turns(r, rest)
+    def leave(self, remainder):
+        """From the end of the loop to the return, if it is reached with this remainder."""
+        call, rest = self.new_call(), remainder % min(self.step, self.GRAIN)
+        self.length, self.units = self.after_turns(remainder, rest)
         world = World(self.finish(rest), self.units, self.base, self.length)
-        if any(z3.is_false(simple(self.conditions(world)[k])) for k in self.holding[self.cuts[1]]):
+        conditions = self.conditions(world)
+        if any(z3.is_false(simple(conditions[k])) for k in self.holding[self.cuts[1]]):
             return
-        self.make(self.cuts[1], world, r)
+        self.make(self.cuts[1], world, remainder)
         for end, _ in call.cpu.run(self.cuts[1]):
             end.check_return()
             self.check_end(end)
 
-    def after_turns(self, r, rest):
+    def after_turns(self, remainder, rest):
         """The length, and the units that were taken when the last turn ends."""
-        taken = z3.LShR(self.many(1, r - rest), self.UNIT.bit_length() - 1)
-        return self.many(1, r), simple(taken)
+        taken = z3.LShR(self.many(1, remainder - rest), self.UNIT.bit_length() - 1)
+        return self.many(1, remainder), simple(taken)
 
     def windows(self, base, front, end, more=0):
         """The last of the bytes, and those from `base` on; there may be more than the length. What
@@ -332,7 +336,7 @@ class Hash(Induction):
             self.states.append(s)
 
     def made(self, end):
-        blocks = max(len(end.asked) // 2 - self.before, 0) // 4
+        blocks = max(len(end.halves) // 2 - self.before, 0) // 4
         self.call.check_products(end, range(self.before + 4 * blocks))
         return blocks
 
@@ -377,7 +381,7 @@ class Fill(Induction):
         self.outputs = [byte for x, _ in self.states[1:] for byte in bytes_of(x)]
 
     def made(self, end):
-        steps = len(end.asked) // 2
+        steps = len(end.halves) // 2
         self.call.check_products(end, range(steps))
         check_bytes(end, 'bytes', 'out', self.outputs[:8 * steps])
         return steps
@@ -558,8 +562,8 @@ class Write(Induction):
     def check_stream(self, end, s, rest):
         check_state(end, State(s, rest, TRUE, top_bit(self.version, secret('last', 8))))
 
-    def after_turns(self, r, rest):
-        return simple(sym('units') + r), sym('units')
+    def after_turns(self, remainder, rest):
+        return simple(sym('units') + remainder), sym('units')
 
     def finish(self, rest):
         self.tail, place = named('rest', range(rest)), self.open()

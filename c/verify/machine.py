@@ -5,12 +5,16 @@ from elftools.elf.elffile import ELFFile
 from terms import (SYMBOLS, Facts, Refused, Unknown, bv, const, is_public, join, linear, part,
                    secret, signed, simple, sym, symbols)
 
-STACK = 4096
+STACK_BYTES = 4096
 STEPS = 20000
 VISITS = 20
 LOADER = {'DT_SONAME', 'DT_HASH', 'DT_GNU_HASH', 'DT_STRTAB', 'DT_SYMTAB', 'DT_STRSZ', 'DT_SYMENT',
           'DT_FLAGS', 'DT_FLAGS_1', 'DT_NULL', 'DT_BIND_NOW', 'DT_SYMBOLIC'}
 RETURN = object()
+
+
+def unknown(i):
+    return Unknown(f'{i.address:#x}: no meaning is known of: {i.mnemonic} {i.text}')
 
 
 class Loop(Exception):
@@ -172,19 +176,19 @@ class Seen:
 
 class Cpu:
     """Registers, memory, and the products that were made. Each path has a copy."""
-    NAME = DECODER = ARGS = RESULTS = SAVED = STACK = ABOVE = TABLE = None
+    NAME = DECODER = ARGS = RESULTS = SAVED = SP = ABOVE = TABLE = None
 
     def __init__(self, image, products):
         self.image, self.products, self.facts, self.seen = image, products, Facts(), Seen()
         self.memory, self.r, self.flags, self.path = Memory(), self.registers(), {}, []
-        self.asked, self.undefined, self.enough = frozenset(), 0, {}
+        self.halves, self.undefined, self.enough = frozenset(), 0, {}
         self.place = None
         self.visits = self.on_fork = None
         self.lengths = []
         self.sp = sym('sp')
-        self.memory.add(Array('stack', self.sp, -STACK, self.ABOVE, True))
+        self.memory.add(Array('stack', self.sp, -STACK_BYTES, self.ABOVE, True))
         self.facts.add(self.sp & 15 == self.ABOVE)
-        self.r[self.STACK] = self.sp
+        self.r[self.SP] = self.sp
         self.enter()
         self.before = dict(self.r)
 
@@ -196,7 +200,7 @@ class Cpu:
 
     def check_stack(self, name, offset):
         if name == 'stack':
-            lowest = signed(simple(self.r[self.STACK] - self.sp))
+            lowest = signed(simple(self.r[self.SP] - self.sp))
             if lowest is None or offset < lowest:
                 raise Refused('access below the stack pointer')
             self.seen.depth = max(self.seen.depth, self.ABOVE - offset)
@@ -223,9 +227,9 @@ class Cpu:
         return self.r[self.RESULTS[k]]
 
     def multiply(self, a, b, halves):
-        """Halves (0 low, 1 high) of the product of these factors, asked for only once."""
-        k = self.products.find(self.facts, a, b, [(k, h) for k, h in self.asked if h in halves])
-        self.asked |= {(k, half) for half in halves}
+        """Halves (0 low, 1 high) of the product of these factors, each made only once."""
+        k = self.products.find(self.facts, a, b, [(k, h) for k, h in self.halves if h in halves])
+        self.halves |= {(k, half) for half in halves}
         return [self.products.list[k][2 + half] for half in halves]
 
     def check_aligned(self, address, size):
@@ -298,7 +302,7 @@ class Cpu:
         i = self.image.instruction(pc)
         do = self.TABLE.get(i.mnemonic)
         if do is None:
-            raise Unknown(f'{pc:#x}: unknown instruction: {i.mnemonic} {i.text}')
+            raise unknown(i)
         self.note(pc)
         self.place = pc
         try:
@@ -324,7 +328,7 @@ class Cpu:
         cond = simple(cond)
         decided = self.facts.decide(self.path, cond)
         if decided is None:
-            self.check_time(cond)
+            self.note_time(cond)
             other = self.copy()
             other.path = self.path + [simple(z3.Not(cond))]
             todo.append((other, no))
@@ -333,16 +337,16 @@ class Cpu:
                 self.on_fork(cpu)
         return no if decided is False else yes
 
-    def check_time(self, term):
+    def note_time(self, term):
         if not is_public(term):
             self.seen.by_contents.update(symbols(term))
 
     def with_values(self, term):
         """A copy for each value that a term can have here."""
-        self.check_time(term)
+        self.note_time(term)
         values = self.facts.values(term, self.path, 64)
         if values is None:
-            raise Refused(f'an address with too many values: {term}')
+            raise Refused(f'a number with too many values: {term}')
         copies = [self.copy() for _ in values]
         for other, value in zip(copies, values):
             other.path = self.path + [term == value]

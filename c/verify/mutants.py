@@ -1,6 +1,6 @@
 """Flips bits of the code of a library, one at a time, and tells which of these mutants the check
-refuses. What passes was shown to do what the definition says; random calls of it on the processor
-tell whether it really does."""
+refuses. What passes must do on the processor, for random calls, what the library does in the model;
+so must what is read as the same instruction."""
 import collections
 import multiprocessing
 import random
@@ -77,7 +77,7 @@ def really(path, mutant, program):
         changed.write(content)
         changed.flush()
         try:
-            return f'{compare(changed.name, 16, program)[0]} calls agree'
+            return f'{compare(path, 16, [*program, changed.name])[0]} calls agree'
         except (subprocess.CalledProcessError, terms.Refused) as error:
             return f'WRONGLY: {error}'
 
@@ -102,7 +102,7 @@ def test(path, done, args):
     with multiprocessing.Pool(args.jobs, start, [path], maxtasksperchild=20) as pool:
         for m in pool.imap_unordered(try_mutant, flips):
             found['several' if len(owners[m.address]) > 1 else min(owners[m.address])].append(m)
-            if verdict(m) in ('passed', 'no answer'):
+            if verdict(m) != 'refused':
                 told = m.failure or really(path, m, args.program)
                 wrong += 'WRONGLY' in str(told)
                 print(f'{m.address:#x} bit {m.bit}: {m.before} -> {m.after}: {verdict(m)}: {told}',

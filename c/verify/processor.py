@@ -140,13 +140,13 @@ def on_processor(path):
 
 
 def compare(path, rounds, program):
-    """Makes calls in both ways, and returns how many, and the instructions that they reach. Refuses
-    what differs."""
+    """Makes calls of a library in the model, and really by a program. Returns how many, and the
+    instructions that they reach. Refuses what differs."""
     r, image = random.Random(1), on_processor(path)
     calls = [call for k in range(rounds) for version in (4, 5)
              for call in round_of_calls(r, version, k % 64)]
-    asked = b''.join(call.request() for call in calls)
-    done = subprocess.run([*program, path], input=asked, stdout=subprocess.PIPE, check=True)
+    requests = b''.join(call.request() for call in calls)
+    done = subprocess.run(program, input=requests, stdout=subprocess.PIPE, check=True)
     for call, reply in zip(calls, REPLY.iter_unpack(done.stdout), strict=True):
         model, real = call.in_model(image), call.outcome(reply[:18], reply[18])
         if model != real:

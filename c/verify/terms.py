@@ -220,8 +220,8 @@ class Facts:
         return z3.is_true(cond) or self.model(path, z3.Not(cond)) is None
 
     def holding(self, path, conds):
-        """The numbers of those conditions that hold on this path."""
-        conds = {k: simple(cond) for k, cond in enumerate(conds)}
+        """The names of those conditions that hold on this path."""
+        conds = {k: simple(cond) for k, cond in conds.items()}
         sure = {k for k, cond in conds.items() if z3.is_true(cond)}
         left = {k: c for k, c in conds.items() if k not in sure and not z3.is_false(c)}
         while left:

@@ -4,9 +4,8 @@ from functools import partial
 import z3
 from capstone import CS_ARCH_X86, CS_MODE_64
 from capstone import x86_const as X
-from machine import RETURN, Cpu, means as enter
-from terms import (Refused, Unknown, bv, choose, const, join, part, secret, simple, sym, top,
-                   widen)
+from machine import RETURN, Cpu, means as enter, unknown
+from terms import Refused, bv, choose, const, join, part, secret, simple, sym, top, widen
 
 TABLE = {}
 means = partial(enter, TABLE)
@@ -41,7 +40,7 @@ class X86(Cpu):
     NAME = 'x86-64'
     DECODER = CS_ARCH_X86, CS_MODE_64
     ARGS, RESULTS, SAVED = (7, 6, 2, 1, 8, 9), (0, 2), (3, 5, 12, 13, 14, 15)
-    STACK, ABOVE, TABLE = 4, 8, TABLE
+    SP, ABOVE, TABLE = 4, 8, TABLE
 
     def registers(self):
         return {n: secret(f'{name} of the caller', 256 if name[0] == 'y' else 64)
@@ -63,7 +62,7 @@ class X86(Cpu):
         m, wide = op.mem, {NAMES[i.reg_name(n)][2] for n in (op.mem.base, op.mem.index)
                            if n and i.reg_name(n) != 'rip'}
         if wide - {64} or m.segment and i.reg_name(m.segment) in ('fs', 'gs'):
-            raise Unknown(f'{i.address:#x}: unknown address in {i.mnemonic} {i.text}')
+            raise unknown(i)
         a = bv(m.disp % 2**64)
         if m.base:
             name = i.reg_name(m.base)
@@ -97,7 +96,7 @@ class X86(Cpu):
         n, low, size = NAMES[i.reg_name(op.reg)]
         whole = self.r[n].size()
         if value.size() != size:
-            raise Unknown(f'{i.address:#x}: unknown operands of {i.mnemonic} {i.text}')
+            raise unknown(i)
         if size == 32 or size == 128 and i.mnemonic[0] == 'v':
             value = widen(value, whole)
         elif size < whole:
@@ -176,7 +175,7 @@ def count(c, i, k, width):
     n = c.get(i, k, 8) if len(i.ops) > k else bv(1, 8)
     n = simple(widen(n, width) & (63 if width == 64 else 31))
     if const(n) is None and width < 32 or const(n) is not None and const(n) >= width:
-        raise Unknown(f'{i.address:#x}: unknown shift: {i.mnemonic} {i.text}')
+        raise unknown(i)
     return n
 
 
@@ -210,7 +209,7 @@ def shift_double(c, i):
 @means('bt', 'bts')
 def bit_test(c, i):
     if i.ops[0].type != X.X86_OP_REG:
-        raise Unknown(f'{i.address:#x}: unknown operands of {i.mnemonic} {i.text}')
+        raise unknown(i)
     a = c.get(i, 0)
     n = simple(c.get(i, 1, a.size()) & (a.size() - 1))
     if i.mnemonic == 'bts':
@@ -233,7 +232,7 @@ def highest_bit(c, i):
 @means('mul')
 def multiply(c, i):
     if i.ops[0].size != 8:
-        raise Unknown(f'{i.address:#x}: unknown operands of {i.mnemonic} {i.text}')
+        raise unknown(i)
     c.r[0], c.r[2] = c.multiply(c.r[0], c.get(i, 0), (0, 1))
     c.flags = {}
 
@@ -248,7 +247,7 @@ def multiply_without_flags(c, i):
 def check_size(i):
     """Jumps and pushes must have no prefix by which they would take 16 bits."""
     if i.prefix[2]:
-        raise Unknown(f'{i.address:#x}: unknown prefix of {i.mnemonic} {i.text}')
+        raise unknown(i)
 
 
 @means('push')
@@ -321,7 +320,7 @@ def xor_vectors(c, i):
 @means('punpcklqdq', 'punpckhqdq', 'vpunpcklqdq', 'vpunpckhqdq', 'vunpckhpd', 'vmovlhps')
 def unpack(c, i):
     if i.ops[0].size != 16:
-        raise Unknown(f'{i.address:#x}: unknown operands of {i.mnemonic} {i.text}')
+        raise unknown(i)
     low = 64 if 'ckh' in i.mnemonic else 0
     c.put(i, 0, join([part(c.get(i, k, 128), low, 64) for k in sources(i)]))
 
@@ -329,7 +328,7 @@ def unpack(c, i):
 @means('palignr')
 def align(c, i):
     if i.ops[2].imm > 16:
-        raise Unknown(f'{i.address:#x}: unknown operands of {i.mnemonic} {i.text}')
+        raise unknown(i)
     c.put(i, 0, part(join([c.get(i, 1), c.get(i, 0)]), 8 * i.ops[2].imm, 128))
 
 
