@@ -94,7 +94,8 @@ class Array:
 
 
 class Memory:
-    """Arrays, and no other place. A byte is kept as the term that was stored, and its number."""
+    """Arrays, and no other place. A byte is kept as the term that was stored, its number in it, and
+    how many bytes the term has."""
 
     def __init__(self):
         self.arrays, self.data = [], {}
@@ -107,7 +108,7 @@ class Memory:
     def add(self, array, content=(), start=0):
         self.arrays.append(array)
         for k, byte in enumerate(content):
-            self.data[array.name, start + k] = byte, 0
+            self.data[array.name, start + k] = byte, 0, 1
 
     def find(self, cpu, address, length, write):
         """The array of an address, and the offset in it."""
@@ -146,12 +147,13 @@ class Memory:
         for k in range(offset, offset + length):
             if (name, k) not in self.data:
                 raise Refused(f'read of a byte at {name}{k:+} that was not written')
-            term, number = self.data[name, k]
+            term, number, size = self.data[name, k]
             if pieces and pieces[-1][0] is term and pieces[-1][2] == number:
                 pieces[-1][2] += 1
             else:
-                pieces.append([term, number, number + 1])
-        return join([part(term, 8 * low, 8 * (high - low)) for term, low, high in pieces])
+                pieces.append([term, number, number + 1, size])
+        return join([term if high - low == size else part(term, 8 * low, 8 * (high - low))
+                     for term, low, high, size in pieces])
 
     def store(self, cpu, address, value):
         name, offset = self.find(cpu, address, value.size() // 8, True)
@@ -159,8 +161,9 @@ class Memory:
         self.put(name, offset, value)
 
     def put(self, name, offset, value):
-        for k in range(value.size() // 8):
-            self.data[name, offset + k] = value, k
+        size = value.size() // 8
+        for k in range(size):
+            self.data[name, offset + k] = value, k, size
 
     def written(self, name):
         """The offsets of the bytes of an array that are known."""
