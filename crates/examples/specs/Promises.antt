@@ -5,7 +5,7 @@ use Rattle.std.specs.Prelude.{ℕ, ◌≡◌, ◌≤◌, ◌↔◌, List, [], �
 use Rattle.std.specs.Prelude.{Option, IfSome, IsSomeAnd, IsNone}
 use Rattle.komihash.specs.Borrows.{Mut}
 use Rattle.komihash.specs.Hash.{komi}
-use Rattle.komihash.specs.Saved.{text, IsText, IsTextAfter}
+use Rattle.komihash.specs.Saved.{longest_text, text, IsText, IsTextAfter}
 use Rattle.komihash.specs.Stream.{State, IsState, HasAbsorbed, start, absorb, answer}
 
 -- the state is that of the new stream of a seed
@@ -28,7 +28,7 @@ pub record AnswerPromise (v : ℕ) (s : State) (number : ℕ) : Type 0 where
 -- the first n bytes become the saved text of the state, and the rest is unchanged
 pub record StorePromise (v : ℕ) (s : State) (n : ℕ) (out : Mut (List ℕ)) : Type 0 where
   pub count : n ≡ length (text v s)
-  pub most : n ≤ 131
+  pub most : n ≤ longest_text
   pub saved : take n out.exit.now ≡ text v s
   pub message : (seed : ℕ) (m : List ℕ) → HasAbsorbed v seed s m
       → IsTextAfter v seed m (take n out.exit.now)
@@ -38,7 +38,7 @@ pub record StorePromise (v : ℕ) (s : State) (n : ℕ) (out : Mut (List ℕ)) :
 pub record RestorePromise (A : Type 0) (state : A → State) (v : ℕ) (bytes : List ℕ) (result : Option A)
     : Type 0 where
   pub saved : IfSome result (λ stream. text v (state stream) ≡ bytes)
-  pub most : IfSome result (λ _. length bytes ≤ 131)
+  pub most : IfSome result (λ _. length bytes ≤ longest_text)
   pub same :
       (s : State) → IsState v s → text v s ≡ bytes → IsSomeAnd result (λ stream. state stream ≡ s)
   pub message :

@@ -1,14 +1,12 @@
 -- What the generator's outputs fill a buffer with: their bytes, one output after the other.
 use Rattle.std.proofs.Common.{◌≡◌, ℕ, zero, suc, ◌+◌, ◌*◌, ◌%◌, ◌<◌, ◌≤◌, List, ◌∷◌, ◌++◌, length}
-use Rattle.std.proofs.Common.{take, refl, ap, arith, ◌∙◌, zero-add, suc-add}
+use Rattle.std.proofs.Common.{take, get_or, refl, ap, arith, ◌∙◌, sym, zero-add, suc-add}
 use Rattle.std.proofs.lemmas.List.{length-take-le, take_all}
 use Rattle.std.proofs.lemmas.List.Concat.{flat_map-append}
-use Rattle.std.proofs.lemmas.Slice.{take-put_mid}
 use Rattle.std.proofs.Math.Seq.{take-append-add}
 use Rattle.std.specs.Int.{to_le_bytes, w64}
 use Rattle.std.specs.List.{flat_map}
 use Rattle.std.specs.Prelude.{slice_index}
-use borrow.Rule.Slice.PartMut.{put_mid}
 use Rattle.komihash.specs.Generator.{next, after_steps, outputs, fill_steps, fill, after_fill}
 use Rattle.komihash.specs.Words.{all_bytes}
 use Rattle.komihash.proofs.AllBytes.{length-all_bytes}
@@ -81,25 +79,14 @@ fill-add v x y s whole =
     )
     (rw size at (take-append-add front (all_bytes (outputs v (fill_steps y) now)) y))
 
--- ---- a buffer that is filled word by word
+-- ---- a buffer that is filled output by output
 
--- the first n bytes of a buffer are a fill, and the pair is the one after it
-pub record Filled (v : ℕ) (s : ℕ × ℕ) (n : ℕ) (xs : List ℕ) (now : ℕ × ℕ) : Type 0 where
-  pub bytes : take n xs ≡ fill v s n
-  pub pair : now ≡ after_fill v s n
-
--- one more output is written: all its bytes, or the lowest of them
-pub Filled-more : {v n w : ℕ} {s now after : ℕ × ℕ} {xs ys : List ℕ} (j k m : ℕ)
-    → Filled v s n xs now → w ≡ (next v now).0 → after ≡ next v now
-    → ys ≡ take k (to_le_bytes w64 w)
-    → n % 8 ≡ 0 → fill_steps k ≡ 1 → n ≤ length xs → n + k ≡ m
-    → Filled v s m (put_mid n j xs ys) after
-unfolding outputs after_steps
-Filled-more {v} {n} {w} {s} {now} j k m filled output is wrote whole one fits sum =
-    let size = ap length wrote ∙ length-take-le k (to_le_bytes w64 w) (omega arith) in
-    rw (← sum) record {
-      bytes =
-          take-put_mid n j _ _ (n + k) (omega arith) fits
-          ∙ rw (filled.bytes, wrote, output, fill-add v n k s whole, ← filled.pair, one) refl;
-      pair = rw (after_fill-add v n k s whole, ← filled.pair, one) is;
-    }
+-- one more output, and the pair after it
+pub next_is : (v all n : ℕ) (s : ℕ × ℕ) {pair after : ℕ × ℕ} {w : ℕ} → pair ≡ after_steps v n s
+    → n < all → w ≡ (next v pair).0 → after ≡ next v pair
+    → (w ≡ get_or (outputs v all s) n 0) × (after ≡ after_steps v (n + 1) s)
+unfolding after_steps
+next_is v all n s is lt output step = (
+  output ∙ ap (λ p. (next v p).0) is ∙ sym (output-at v all n s lt),
+  step ∙ ap (next v) is ∙ sym (after_steps-add v n 1 s),
+)

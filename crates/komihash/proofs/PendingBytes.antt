@@ -1,10 +1,12 @@
 -- Pending bytes, and the eight words that store them.
 use Rattle.std.proofs.Common.{◌≡◌, ℕ, ◌+◌, ◌*◌, ◌<◌, ◌≤◌, List, [], ◌∷◌, ◌++◌, Fits}
 use Rattle.std.proofs.Common.{length, take, drop, get_or, set, refl, ap, arith, ◌∙◌, w8}
-use Rattle.std.proofs.Common.{◌-◌, ◌/◌, sym, length-append, length-take}
-use Rattle.std.proofs.lemmas.Bool.{cases_eq}
+use Rattle.std.proofs.Common.{◌-◌, ◌/◌, ◌%◌, ◌^◌, sym, inl, inr, length-append, length-drop}
+use Rattle.std.proofs.Common.{length-take, take-take}
+use Rattle.std.proofs.lemmas.Bool.{cases_eq, cases_lt}
 use Rattle.std.proofs.lemmas.Grind.{elements}
-use Rattle.std.proofs.lemmas.List.{append_assoc, append-nil, take-append-drop}
+use Rattle.std.proofs.lemmas.List.{append_assoc, append-nil, drop_all, drop-append-le}
+use Rattle.std.proofs.lemmas.List.{take-append-drop, take-append-le}
 use Rattle.std.proofs.Math.Seq.{drop-append-add}
 use Rattle.komihash.specs.Internals.{stored_words, pending_bytes, ArePending, Stores, StoresBut}
 use Rattle.komihash.specs.Internals.{whole_words, stored_word}
@@ -12,7 +14,10 @@ use Rattle.komihash.specs.Words.{AreBytes, word_of}
 use Rattle.komihash.proofs.AllBytes.{AreBytes-all_bytes, bytes-stored_words}
 use Rattle.komihash.proofs.WholeWords.{length-stored_words, get_or-stored_words, read_words}
 use Rattle.komihash.proofs.WholeWords.{stored_words-append}
+use Rattle.komihash.proofs.Lists.{take-append}
 use Rattle.komihash.proofs.WordOf.{AreBytes-append, AreBytes-take, AreBytes-drop, AreBytes-typed}
+use Rattle.komihash.proofs.WordOf.{word_of-join}
+use Rattle.std.specs.Prelude.{bit_or}
 
 -- ---- words that are stored one by one, some of them out of order or more than once
 
@@ -81,6 +86,37 @@ module _ {ws : List ℕ} {len : ℕ} (are : ArePending ws len) where
 
   pub AreBytes_word : (i : ℕ) → AreBytes (take 8 (drop (8 * i) pending))
   AreBytes_word i = search bytes_typed
+
+  abbrev partial : List ℕ
+  partial = drop (8 * (len / 8)) pending
+
+  length-partial : length partial ≡ len % 8
+  length-partial = omega (arith, are.count, length-drop (8 * (len / 8)) pending)
+
+  -- bytes put after them change no word before the partial word
+  pub before_partial : (bytes : List ℕ) (gap_end : ℕ) → len + length bytes ≤ 8 * gap_end
+      → StoresBut ws (pending ++ bytes) (len / 8) gap_end
+  before_partial bytes gap_end room = record {
+    size = omega (arith, ap length are.words, length-stored_words 8 pending);
+    words = λ k few after. get_or_pending k few ∙ ap word_of (elim (cases_lt k (len / 8)) [
+      | inl less ↦ grind (arith, drop-append-le, take-append-le, length-drop {A = ℕ})
+      | inr least ↦ grind (arith, drop_all, length-append {A = ℕ}, after least)
+    ]);
+  }
+
+  -- the partial word with those of them that fit
+  pub partial_joined : (bytes : List ℕ) → AreBytes bytes
+      → bit_or (get_or ws (len / 8) 0) (word_of (take 8 bytes) * 2 ^ (8 * (len % 8)) % 2 ^ 64)
+      ≡ stored_word (pending ++ bytes) (len / 8)
+  partial_joined bytes typed =
+      let few = are.few in
+      let size = length-partial in
+      rw (
+        get_or_pending (len / 8) (omega arith),
+        word_of-join (take 8 partial) (take 8 bytes) (len % 8) (AreBytes_word (len / 8))
+            (AreBytes-take 8 bytes typed) (omega (arith, length-take 8 partial)) (omega arith),
+      )
+      (ap word_of (grind (arith, are.count, take-take {A = ℕ}, drop-append-le, take-append)))
 
 pub ruleset pending_laws =
     (ArePending_none, bytes_put, ArePending_put, words_put, get_or_pending, read_words)

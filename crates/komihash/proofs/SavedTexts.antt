@@ -10,9 +10,10 @@ use Rattle.std.proofs.lemmas.Slice.{take-put_mid, drop-put_mid}
 use borrow.Rule.Slice.PartMut.{put_mid}
 use Rattle.std.specs.Prelude.{slice_index, ◌==◌}
 use Rattle.komihash.specs.Rounds.{Lanes, in_order}
-use Rattle.komihash.specs.Saved.{flag_byte, text, IsText, IsTextAfter, Restored}
+use Rattle.komihash.specs.Saved.{lanes_at, pending_at, longest_text, flag_byte, text}
+use Rattle.komihash.specs.Saved.{IsText, IsTextAfter, Restored}
 use Rattle.komihash.specs.Stream.{State, IsState, HasAbsorbed}
-use Rattle.komihash.specs.Internals.{stored_words, whole_words}
+use Rattle.komihash.specs.Internals.{IsHead, stored_words, whole_words}
 use Rattle.komihash.specs.Words.{AreBytes, AreWords, all_bytes}
 use Rattle.komihash.specs.Internals.{xor_again}
 use Rattle.komihash.proofs.WholeWords.{length-whole_words}
@@ -51,8 +52,8 @@ lanes_from ws = record {
 
 abbrev pub state_of : List ℕ → State
 state_of bytes = record {
-  lanes = lanes_from (whole_words (take 64 (drop 4 bytes)));
-  pending = drop 68 bytes;
+  lanes = lanes_from (whole_words (take 64 (drop lanes_at bytes)));
+  pending = drop pending_at bytes;
   had_block = slice_index bytes 1 == 1;
   top_bit = slice_index bytes 2 == 1;
 }
@@ -76,12 +77,12 @@ state_of-text v s are =
       flag_byte-back s.top_bit,
     )
 
-pub length-text : (v : ℕ) (s : State) → length (text v s) ≡ 68 + length s.pending
+pub length-text : (v : ℕ) (s : State) → length (text v s) ≡ pending_at + length s.pending
 unfolding text
 length-text v s = omega arith
 
 pub IsTextAfter-most : (v seed : ℕ) (m bytes : List ℕ) → IsTextAfter v seed m bytes
-    → length bytes ≤ 131
+    → length bytes ≤ longest_text
 unfolding IsTextAfter
 IsTextAfter-most v seed m bytes (s, is, absorbed, same) =
     omega (arith, is.few, length-text v s, ap length same)
@@ -107,12 +108,8 @@ pub ruleset lanes_back = (in_order-back, xor_again)
 
 -- the same as IsText by the first four bytes and the length, as the code tests it
 pub record IsLaidOut (v : ℕ) (bytes : List ℕ) : Type 0 where
-  pub version : slice_index bytes 0 ≡ v
-  pub had_block : slice_index bytes 1 < 2
-  pub top_bit : slice_index bytes 2 ≤ slice_index bytes 1
-  pub top_bit_version : 0 < slice_index bytes 2 → v ≡ 4
-  pub few : slice_index bytes 3 < 64
-  pub size : length bytes ≡ 68 + slice_index bytes 3
+  pub head : IsHead v bytes
+  pub size : length bytes ≡ pending_at + slice_index bytes 3
 
 laid_out-text : (v : ℕ) (bytes : List ℕ) → AreBytes bytes → IsLaidOut v bytes
     → text v (state_of bytes) ≡ bytes
@@ -123,11 +120,11 @@ laid_out-text v (b0 ∷ b1 ∷ b2 ∷ b3 ∷ rest) are laid =
     (length-whole_words (take 64 rest) ∙ omega arith) in
     let lanes =
     all_bytes-whole_words (take 64 rest)
-    (AreBytes-take 64 rest (AreBytes-drop 4 (b0 ∷ b1 ∷ b2 ∷ b3 ∷ rest) are)) (omega arith) in
-    let version : v ≡ b0 = sym laid.version in
-    let had_block : flag_byte (b1 == 1) ≡ b1 = grind (arith, nat_tests, laid.had_block) in
+    (AreBytes-take 64 rest (AreBytes-drop lanes_at (b0 ∷ b1 ∷ b2 ∷ b3 ∷ rest) are)) (omega arith) in
+    let version : v ≡ b0 = sym laid.head.version in
+    let had_block : flag_byte (b1 == 1) ≡ b1 = grind (arith, nat_tests, laid.head.had_block) in
     let top_bit : flag_byte (b2 == 1) ≡ b2 =
-    grind (arith, nat_tests, laid.top_bit, laid.had_block) in
+    grind (arith, nat_tests, laid.head.top_bit, laid.head.had_block) in
     let pending : length (drop 64 rest) ≡ b3 = omega (arith, laid.size, length-drop 64 rest) in
     cc (take-append-drop 64 rest)
 laid_out-text v bytes are laid = absurd (omega (arith, laid.size))
@@ -135,16 +132,16 @@ laid_out-text v bytes are laid = absurd (omega (arith, laid.size))
 laid_out-state : (v : ℕ) (bytes : List ℕ) → AreBytes bytes → IsLaidOut v bytes
     → IsState v (state_of bytes)
 laid_out-state v bytes are laid =
-    let lanes = take 64 (drop 4 bytes) in
-    let are_lanes = AreBytes-take 64 (drop 4 bytes) (AreBytes-drop 4 bytes are) in
-    let size = length-take 64 (drop 4 bytes) in
+    let lanes = take 64 (drop lanes_at bytes) in
+    let are_lanes = AreBytes-take 64 (drop lanes_at bytes) (AreBytes-drop lanes_at bytes are) in
+    let size = length-take 64 (drop lanes_at bytes) in
     let eight : length (whole_words lanes) ≡ 8 =
-    length-whole_words lanes ∙ omega (arith, laid.size, length-drop 4 bytes) in
+    length-whole_words lanes ∙ omega (arith, laid.size, length-drop lanes_at bytes) in
     record {
       words = subst AreWords (sym (in_order-back (whole_words lanes) eight))
           (AreWords-stored_words (length lanes / 8) lanes are_lanes);
-      bytes = AreBytes-drop 68 bytes are;
-      few = omega (arith, laid.size, laid.few, length-drop 68 bytes);
+      bytes = AreBytes-drop pending_at bytes are;
+      few = omega (arith, laid.size, laid.head.few, length-drop pending_at bytes);
       top_bit_block = grind (arith, nat_tests);
       top_bit_version = grind (arith, nat_tests);
     }
@@ -166,7 +163,7 @@ IsLaidOut-text v bytes typed =
 
 -- lanes read from a text
 pub read_state : (bytes : List ℕ) (lanes : Lanes)
-    → in_order lanes ≡ whole_words (take 64 (drop 4 bytes))
+    → in_order lanes ≡ whole_words (take 64 (drop lanes_at bytes))
     → record (state_of bytes) { lanes = lanes } ≡ state_of bytes
 read_state bytes lanes read = ap (λ ws. record (state_of bytes) { lanes = lanes_from ws }) read
 

@@ -40,6 +40,19 @@ last-from i r xs are le =
       drop-drop r (8 * i) xs,
     ) refl
 
+-- bytes that end the last word, and others of the same word
+same_end : (n : ℕ) (xs ys zs : List ℕ) → length xs / 8 ≡ n → length xs + length ys ≤ 8 * n + 8
+    → length xs + length zs ≤ 8 * n + 8 → word_of ys ≡ word_of zs
+    → stored_words (n + 1) (xs ++ ys) ≡ stored_words (n + 1) (xs ++ zs)
+same_end n xs ys zs count ys_fit zs_fit same =
+    rw (
+      stored_words-last n xs ys count ys_fit,
+      stored_words-last n xs zs count zs_fit,
+      word_of-append (drop (8 * n) xs) ys,
+      word_of-append (drop (8 * n) xs) zs,
+      same,
+    ) refl
+
 -- ---- what padded words say of their message
 
 padding_or_zero-lt : (v : ℕ) (m : List ℕ) → padding_or_zero v m < 256
@@ -52,6 +65,13 @@ record HoldsMessage (v : ℕ) (ws m : List ℕ) : Type 0 where
   bytes : take (length m) (all_bytes ws) ≡ m
   end : last ws / 2 ^ (8 * (length m % 8)) ≡ padding_or_zero v m
 
+-- the padded words store the message and the byte that ends it
+padded_words-stored : (v : ℕ) (m : List ℕ)
+    → padded_words v m ≡ stored_words (length m / 8 + 1) (m ++ padding_or_zero v m ∷ [])
+padded_words-stored v m =
+    padded_words-by_tail v m
+    ∙ sym (stored_words-last (length m / 8) m (padding_or_zero v m ∷ []) refl (omega arith))
+
 holds_message : (v : ℕ) (m : List ℕ) → AreBytes m → HoldsMessage v (padded_words v m) m
 holds_message v m are =
     let n = length m in
@@ -59,10 +79,8 @@ holds_message v m are =
     let xs = m ++ end ∷ [] in
     let are_xs = AreBytes-append m (end ∷ []) are (AreBytes-one end (padding_or_zero-lt v m)) in
     let size = length-append m (end ∷ []) in
-    let words : padded_words v m ≡ stored_words (n / 8 + 1) xs =
-    padded_words-by_tail v m ∙ sym (stored_words-last (n / 8) m (end ∷ []) refl (omega arith)) in
     let place : 8 * (n / 8) + n % 8 ≡ n = omega arith in
-    rw words record {
+    rw (padded_words-stored v m) record {
       size = length-stored_words (n / 8 + 1) xs;
       bytes = sym (take-take n (length xs) (all_bytes (stored_words (n / 8 + 1) xs)) (omega arith))
           ∙ ap (take n) (bytes-stored_words (n / 8 + 1) xs are_xs (omega arith))
@@ -133,23 +151,21 @@ module _ (v : ℕ) (ws : List ℕ) (r : ℕ) where
   unpadded fit some few long is =
       let bytes = all_bytes ws in
       let left = drop size bytes in
-      let end = padding_or_zero v message in
-      let words = stored_words-all_bytes ws (Each1-from_get_or _ ws 0 (λ i _. fit i)) in
+      let i = length ws - 1 in
       let count = length-all_bytes ws in
-      let n : length message ≡ size = length-take-le size bytes (omega arith) in
-      let all : length message / 8 + 1 ≡ length ws = omega arith in
-      let same : length ws - 1 + 1 ≡ length ws = omega arith in
-      let read = rw (same, words) at
-      (last-from (length ws - 1) r bytes (AreBytes-all_bytes ws) (omega arith)) in
-      let high : word_of left ≡ word_of (end ∷ []) =
+      let n = length-take-le size bytes (omega (arith, count)) in
+      let all : i + 1 ≡ length ws = omega arith in
+      let words : stored_words (i + 1) bytes ≡ ws =
+      rw all (stored_words-all_bytes ws (Each1-from_get_or _ ws 0 (λ i _. fit i))) in
+      let read = rw words at (last-from i r bytes (AreBytes-all_bytes ws) (omega arith)) in
+      let place : length message / 8 ≡ i = omega arith in
+      let end : word_of (padding_or_zero v message ∷ []) ≡ word_of left =
       omega (arith, read, is, (padding_or_zero-some v message (omega arith)).0) in
-      padded_words-by_tail v message
-      ∙ ap (λ w. whole_words message ++ w ∷ [])
-      (word_of-append (after_words message) (end ∷ [])
-      ∙ rw (← high) (sym (word_of-append (after_words message) left)))
-      ∙ sym (stored_words-last (length message / 8) message left refl
-      (omega (arith, length-drop size bytes)))
-      ∙ rw (take-append-drop size bytes, all) words
+      let same =
+      same_end i message (padding_or_zero v message ∷ []) left place (omega arith)
+      (omega (arith, length-drop size bytes)) end in
+      (rw place at (padded_words-stored v message)) ∙ same
+      ∙ ap (stored_words (i + 1)) (take-append-drop size bytes) ∙ words
 
   pub one_place : ArePadded v ws → 0 < last ws / 2 ^ (8 * r) → last ws / 2 ^ (8 * r) < 256
       → (0 < size) × (last ws / 2 ^ (8 * r) ≡ padding_byte v message)

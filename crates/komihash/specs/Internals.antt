@@ -3,7 +3,7 @@
 use Rattle.std.specs.Prelude.{ℕ, zero, suc, Bool, ◌≡◌, ◌-◌, ◌*◌, ◌/◌, ◌%◌, ◌<◌, ◌≤◌, bit_xor}
 use Rattle.std.specs.Int.Bits.{xor_assoc, xor_self, xor_zero_l}
 use Rattle.std.proofs.Common.{ap, ◌∙◌, sym}
-use Rattle.std.specs.Prelude.{List, [], ◌∷◌, ◌++◌, length, take, drop, get_or}
+use Rattle.std.specs.Prelude.{List, [], ◌∷◌, ◌++◌, length, take, drop, get_or, slice_index}
 use Rattle.komihash.specs.Padding.{padding_byte}
 use Rattle.komihash.specs.Rounds.{Lanes, block_round}
 use Rattle.komihash.specs.Stream.{end_after_blocks}
@@ -81,6 +81,16 @@ stored_word bytes k = word_of (take 8 (drop (8 * k) bytes))
 pub record StoresBut (ws bytes : List ℕ) (gap gap_end : ℕ) : Type 0 where
   pub size : length ws ≡ 8
   pub words : (k : ℕ) → k < 8 → (gap ≤ k → gap_end ≤ k) → get_or ws k 0 ≡ stored_word bytes k
+
+-- ---- a saved text
+
+-- the first four bytes may begin a text of version v
+pub record IsHead (v : ℕ) (bytes : List ℕ) : Type 0 where
+  pub version : slice_index bytes 0 ≡ v
+  pub had_block : slice_index bytes 1 < 2
+  pub top_bit : slice_index bytes 2 ≤ slice_index bytes 1
+  pub top_bit_version : 0 < slice_index bytes 2 → v ≡ 4
+  pub few : slice_index bytes 3 < 64
 
 -- ---- lemmas by which a struct's value gives back its fields, which have to stand in `specs`
 

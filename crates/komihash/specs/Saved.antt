@@ -5,7 +5,16 @@ use Rattle.komihash.specs.Borrows.{Mut}
 use Rattle.komihash.specs.Rounds.{in_order}
 use Rattle.komihash.specs.Stream.{State, IsState, HasAbsorbed}
 use Rattle.komihash.specs.Words.{all_bytes}
-use Rattle.komihash.specs.declared.stream.saved.TheConstants.{LONGEST_TEXT}
+
+-- where the lanes and the pending bytes begin, and the length of the longest text
+abbrev pub lanes_at : ℕ
+lanes_at = 4
+
+abbrev pub pending_at : ℕ
+pending_at = 68
+
+abbrev pub longest_text : ℕ
+longest_text = 131
 
 -- a flag as a byte
 abbrev pub flag_byte : Bool → ℕ
@@ -34,7 +43,7 @@ IsTextAfter v seed m bytes = (s : State) × IsState v s × HasAbsorbed v seed s 
 -- of the text
 pub record Stored (v : ℕ) (now : State) (out : Mut (List ℕ)) (result : ℕ) : Type 0 where
   pub length : result ≡ length (text v now)
-  pub most : result ≤ LONGEST_TEXT
+  pub most : result ≤ longest_text
   pub text : take result out.exit.now ≡ text v now
   -- so it is a text after the message that the stream has absorbed
   pub message : (seed : ℕ) (m : List ℕ) → HasAbsorbed v seed now m
@@ -52,6 +61,6 @@ pub record Restored {A : Type 0} (v : ℕ) (state : A → State) (bytes : List �
   pub message : (seed : ℕ) (m : List ℕ) → IsTextAfter v seed m bytes
       → IsSomeAnd result (λ stream. HasAbsorbed v seed (state stream) m)
   -- nothing else gives a stream
-  pub most : IfSome result (λ _. length bytes ≤ LONGEST_TEXT)
+  pub most : IfSome result (λ _. length bytes ≤ longest_text)
   pub text : IfSome result (λ stream. text v (state stream) ≡ bytes)
   pub none : IsNone result ↔ ¬ IsText v bytes

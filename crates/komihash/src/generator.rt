@@ -104,7 +104,8 @@ impl<const V: u8> Komirand<V> {
             let word = self.next();
             write_word(word, &mut buffer[8 * i..8 * i + 8]);
         }
-        if buffer.len() % 8 > 0 {
+        let has_remainder = buffer.len() % 8 > 0;
+        if has_remainder {
             let output = self.next();
             write_partial_word(output, &mut buffer[8 * whole..]);
         }

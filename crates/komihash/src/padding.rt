@@ -68,7 +68,8 @@ pub(crate) fn pad<const V: u8>(bytes: &[u8], out: &mut [u64]) -> usize
     ensures { Padded V bytes.now out result }
 {
     let whole = bytes.len() / 8;
-    let last = if whole > 0 {
+    let has_whole_word = whole > 0;
+    let last = if has_whole_word {
         final_word_by_shift(bytes, padding_byte::<V>(bytes))
     } else if bytes.is_empty() {
         0
@@ -131,12 +132,15 @@ fn message_length<const V: u8>(words: &[u64]) -> Option<usize>
         return None;
     }
     let last = words[count - 1];
-    if last == 0 {
-        return if count == 1 { Some(0) } else { None };
+    let is_zero = last == 0;
+    if is_zero {
+        let is_one_word = count == 1;
+        return if is_one_word { Some(0) } else { None };
     }
     let place = highest_place(last);
     let length = 8 * (count - 1) + place;
-    if length == 0 {
+    let is_without_bytes = length == 0;
+    if is_without_bytes {
         return None;
     }
     if is_padding_byte::<V>(last >> (8 * place), words, length) {

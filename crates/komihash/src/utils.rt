@@ -59,13 +59,15 @@ pub(crate) fn read_partial_word(bytes: &[u8], end: u64) -> u64
     ensures { result ≡ word_of (bytes.now ++ end ∷ []) }
 {
     let n = bytes.len();
-    if n >= 4 {
+    let has_half_word = n >= 4;
+    if has_half_word {
         half_word_at(bytes, 0) | (half_word_at(bytes, n - 4) | end << 32) >> (64 - 8 * n) << 32
     } else if n > 0 {
         let middle = u64::from(bytes[n / 2]) << 8;
         let last = u64::from(bytes[n - 1]) << 16;
-        let second = if n > 1 { middle } else { 0 };
-        let third = if n > 2 { last } else { 0 };
+        let (has_second, has_third) = (n > 1, n > 2);
+        let second = if has_second { middle } else { 0 };
+        let third = if has_third { last } else { 0 };
         (u64::from(bytes[0]) + second + third) | end << (8 * n)
     } else {
         end
@@ -130,7 +132,8 @@ pub(crate) fn write_first_bytes(words: &[u64], count: usize, out: &mut [u8])
     'whole: for i in 0..whole {
         write_word(words[i], &mut out[8 * i..8 * i + 8]);
     }
-    if count % 8 > 0 {
+    let has_remainder = count % 8 > 0;
+    if has_remainder {
         write_partial_word(words[whole], &mut out[8 * whole..count]);
     }
 }

@@ -56,7 +56,8 @@ pub fn digest<R: Read, S: KomiStream>(
             Ok(0) => return Ok(stream.answer(tally)),
             Ok(count) => {
                 taken += count as u64;
-                if taken > most {
+                let is_too_long = taken > most;
+                if is_too_long {
                     return Err(Fault::TooLong);
                 }
                 stream.absorb(&chunk[..count], tally);

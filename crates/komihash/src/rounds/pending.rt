@@ -131,7 +131,8 @@ impl Pending {
         let whole = self.len / 8;
         let over = self.len % 8;
         let word = self.words[whole];
-        let last_byte = if over == 0 {
+        let is_whole = over == 0;
+        let last_byte = if is_whole {
             (self.words[whole - 1] >> 56 & 0xff) as u8
         } else {
             (word >> (8 * over - 8) & 0xff) as u8
@@ -198,17 +199,6 @@ fn append_below_eight(words: &mut [u64; 8], len: usize, bytes: &[u8])
     words[(len / 8 + 1) % 8] |= word.rotate_left(bits as u32) - (word << bits);
 }
 
-// Appends those of the first eight bytes that fit in the partial word.
-#[inline(always)]
-fn append_first_eight(words: &mut [u64; 8], len: usize, bytes: &[u8])
-    requires pending { ArePending words.old len }
-    requires at_least_8 { 8 ≤ length bytes.now }
-    ensures { (gap gap_end : ℕ) → (gap ≤ len / 8 + 1) × (len + length bytes.now ≤ 8 * gap_end)
-        → StoresBut words.new (pending_bytes words.old len ++ bytes.now) gap gap_end }
-{
-    append_within_word(words, len, read_word(bytes));
-}
-
 // Stores two whole words, of the sixteen bytes from `from` on, at index `at`.
 #[inline(always)]
 fn store_two_words(words: &mut [u64; 8], at: usize, bytes: &[u8], from: usize)
@@ -232,21 +222,26 @@ fn append_whole_words(words: &mut [u64; 8], len: usize, bytes: &[u8])
     ensures { StoresBut words.new (pending_bytes words.old len ++ bytes.now)
         ((len + length bytes.now) / 8) ((len + length bytes.now) / 8 + 1) }
 {
-    append_first_eight(words, len, bytes);
+    append_within_word(words, len, read_word(bytes));
     let at = len / 8;
     let over = len % 8;
     // How many words are whole with the bytes, from the partial word on.
     let whole = (over + bytes.len()) / 8;
-    if whole >= 3 {
+    let has_two_more = whole >= 3;
+    if has_two_more {
         store_two_words(words, at + 1, bytes, 8 - over);
-        if whole >= 5 {
+        let has_four_more = whole >= 5;
+        if has_four_more {
             store_two_words(words, at + 3, bytes, 24 - over);
             store_two_words(words, at + whole - 4, bytes, 8 * whole - 32 - over);
         }
         store_two_words(words, at + whole - 2, bytes, 8 * whole - 16 - over);
-    } else if whole == 2 || len + bytes.len() < 64 {
-        // If only the partial word is whole, the bytes that are left take the place of this word.
-        words[at + 1] = word_at(bytes, (8 - over).min(bytes.len() - 8));
+    } else {
+        let has_one_more = whole == 2 || len + bytes.len() < 64;
+        if has_one_more {
+            // If only the partial word is whole, the bytes that are left take this word's place.
+            words[at + 1] = word_at(bytes, (8 - over).min(bytes.len() - 8));
+        }
     }
 }
 
@@ -260,7 +255,8 @@ fn append_eight_or_more(words: &mut [u64; 8], len: usize, bytes: &[u8])
 {
     append_whole_words(words, len, bytes);
     let end = len + bytes.len();
-    if end < 64 {
+    let has_remainder = end < 64;
+    if has_remainder {
         // By 8 last: LLVM would read seven bytes in three pieces if this shift came first.
         words[end / 8] = word_at(bytes, bytes.len() - 8) >> (56 - 8 * (end % 8)) >> 8;
     }
@@ -274,9 +270,10 @@ fn append_long(words: &mut [u64; 8], len: usize, bytes: &[u8])
     requires at_least_64 { 64 ≤ length bytes.now }
     ensures { Stores words.new (pending_bytes words.old len ++ bytes.now) }
 {
-    append_first_eight(words, len, bytes);
+    append_within_word(words, len, read_word(bytes));
     let at = len / 8;
-    if at < 6 {
+    let has_two_more = at < 6;
+    if has_two_more {
         let second = (at + 3).min(6);
         let third = (at + 5).min(6);
         store_two_words(words, at + 1, bytes, 8 * (at + 1) - len);
@@ -285,7 +282,8 @@ fn append_long(words: &mut [u64; 8], len: usize, bytes: &[u8])
         store_two_words(words, 6, bytes, 48 - len);
     } else {
         let next = word_at(bytes, 8 - len % 8);
-        words[7] = if at == 6 { next } else { words[7] };
+        let has_one_more = at == 6;
+        words[7] = if has_one_more { next } else { words[7] };
     }
 }
 

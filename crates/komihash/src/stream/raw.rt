@@ -78,7 +78,8 @@ impl RawStream {
             (absorb_products (length self.old.pending) (length bytes.now))
             (absorb_kept_bytes (length self.old.pending) (length bytes.now)) }
     {
-        if self.pending.len() + bytes.len() < 64 {
+        let is_partial = self.pending.len() + bytes.len() < 64;
+        if is_partial {
             self.pending.append(bytes, tally);
         } else {
             self.complete_blocks::<V>(bytes, tally);
@@ -101,7 +102,8 @@ impl RawStream {
         self.had_block = true;
         let mut lanes;
         let mut rest = bytes;
-        if pending_len == 0 {
+        let none_pending = pending_len == 0;
+        if none_pending {
             lanes = self.lanes;
         } else {
             let block = self.pending.complete(bytes, tally);
@@ -124,9 +126,11 @@ impl RawStream {
         ensures costs { Costs tally (answer_products (length self.now.pending)) 0 }
     {
         let pair = join(&self.lanes, self.had_block);
-        if self.pending.len() == 0 {
+        let none_pending = self.pending.len() == 0;
+        if none_pending {
             // The padding byte of the last block, or 0 if no block was absorbed.
-            let end = if self.had_block {
+            let had_block = self.had_block;
+            let end = if had_block {
                 padding_after(self.top_bit)
             } else {
                 0

@@ -5,7 +5,7 @@ ghost use Rattle.std.specs.Prelude.{◌≡◌, ◌+◌, ◌<◌, ◌≤◌, ◌�
 ghost use Rattle.std.specs.Prelude.{[], ◌∷◌, ◌++◌, ◌==◌, length, take, drop, slice_index};
 ghost use Rattle.komihash.specs.Saved.{flag_byte, IsText};
 ghost use Rattle.komihash.specs.Rounds.{in_order};
-ghost use Rattle.komihash.specs.Internals.{whole_words};
+ghost use Rattle.komihash.specs.Internals.{IsHead, whole_words};
 ghost use Rattle.komihash.specs.Words.{all_bytes};
 
 use crate::rounds::pending::Pending;
@@ -65,6 +65,18 @@ pub(crate) fn write_pending(pending: &Pending, out: &mut [u8]) -> usize
     end
 }
 
+// Returns whether the first four bytes may begin a text of version V.
+#[inline(always)]
+fn is_head<const V: u8>(bytes: &[u8]) -> bool
+    requires { LANES_AT ≤ length bytes.now }
+    ensures { IsTrue result ↔ IsHead V bytes.now }
+{
+    bytes[0] == V
+        && bytes[1] < 2
+        && bytes[2] <= (if V == 4 { bytes[1] } else { 0 })
+        && bytes[3] < 64
+}
+
 /// Returns whether bytes are the text of a state of version V.
 #[inline(always)]
 pub(crate) fn is_text<const V: u8>(bytes: &[u8]) -> bool
@@ -73,10 +85,7 @@ pub(crate) fn is_text<const V: u8>(bytes: &[u8]) -> bool
     ensures most { IsTrue result → length bytes.now ≤ LONGEST_TEXT }
 {
     bytes.len() >= PENDING_AT
-        && bytes[0] == V
-        && bytes[1] < 2
-        && bytes[2] <= (if V == 4 { bytes[1] } else { 0 })
-        && bytes[3] < 64
+        && is_head::<V>(bytes)
         && bytes.len() == PENDING_AT + usize::from(bytes[3])
 }
 

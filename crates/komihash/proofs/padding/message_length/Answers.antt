@@ -5,12 +5,12 @@ use Rattle.std.proofs.lemmas.Bool.{iff_false}
 use Rattle.komihash.proofs.Unpadding.{padded_zero, unpadded, one_place}
 use Rattle.komihash.proofs.padding.message_length.Goals as goal
 
-pub returns-else-count-eq1-clause-none : goal.returns-else-count-eq1-clause-none
-returns-else-count-eq1-clause-none g c p =
-    c.if-count-eq1.false (padded_zero g.row.V _ p c.if-last-eq0.true)
+pub returns-else-is_one_word-clause-none : goal.returns-else-is_one_word-clause-none
+returns-else-is_one_word-clause-none g c p =
+    c.if-is_one_word.false (padded_zero g.row.V _ p c.if-is_zero.true)
 
-pub returns-then-length-eq0-clause-none : goal.returns-then-length-eq0-clause-none
-returns-then-length-eq0-clause-none g c p =
+pub returns-then-is_without_bytes-clause-none : goal.returns-then-is_without_bytes-clause-none
+returns-then-is_without_bytes-clause-none g c p =
     let place = c.highest_place-place in
     omega (arith, (one_place g.row.V _ place.result p place.ensures.some place.ensures.last).0)
 

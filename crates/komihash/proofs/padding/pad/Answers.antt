@@ -8,23 +8,23 @@ use Rattle.komihash.specs.Internals.{final_word, padding_or_zero}
 use Rattle.komihash.specs.Words.{word_of}
 use Rattle.komihash.proofs.PaddedWords.{padding_or_zero-some, padded_words-by_tail}
 use Rattle.komihash.proofs.padding.pad.Goals as goal
-use Rattle.komihash.proofs.padding.pad.Goals.{then-whole-gt0, else-whole-gt0+else-is_empty}
-use Rattle.komihash.proofs.padding.pad.Goals.{else-whole-gt0+then-is_empty}
+use Rattle.komihash.proofs.padding.pad.Goals.{then-has_whole_word, else-has_whole_word+else-is_empty}
+use Rattle.komihash.proofs.padding.pad.Goals.{else-has_whole_word+then-is_empty}
 
 pub returns : goal.returns
 returns g c =
     let bytes = c.args.bytes.now in
     let end = padding_or_zero g.row.V bytes in
     let some = λ (some : 0 < length bytes). sym (padding_or_zero-some g.row.V bytes some).0 in
-    let last : c.if-whole-gt0.last ≡ final_word bytes end = elim c.if-whole-gt0.branch [
-      | then-whole-gt0 w ↦
+    let last : c.if-has_whole_word.last ≡ final_word bytes end = elim c.if-has_whole_word.branch [
+      | then-has_whole_word w ↦
           w.last-is ∙ w.final_word_by_shift-last.ensures
           ∙ ap (final_word bytes)
           (w.padding_byte.ensures.byte ∙ some (omega arith))
-      | else-whole-gt0+then-is_empty w ↦
+      | else-has_whole_word+then-is_empty w ↦
           let none = nil_from_length bytes (eqb-true _ _ (sym w.if-is_empty.ensures)) in
           w.last-is ∙ rw none refl
-      | else-whole-gt0+else-is_empty w ↦
+      | else-has_whole_word+else-is_empty w ↦
           let none : 8 * (length bytes / 8) ≡ 0 = omega arith in
           rw none (w.last-is ∙ w.read_partial_word.ensures
           ∙ ap (λ b. word_of (bytes ++ b ∷ []))

@@ -8,8 +8,8 @@ whole-preserved c =
     Covers-more _ _ _ _ _ 8 _ _ c.whole.invariant c.write_word.ensures (omega arith) (omega arith)
     (omega arith) (omega arith) (omega arith)
 
-pub returns-then-count-gt0 : goal.returns-then-count-gt0
-returns-then-count-gt0 c =
+pub returns-then-has_remainder : goal.returns-then-has_remainder
+returns-then-has_remainder c =
     let same : c.whole.i ≡ c.args.count / 8 = omega arith in
     let all = Covers-more _ _ _ _ (c.args.count / 8) _ _ c.args.count (rw same at c.whole.invariant)
     c.write_partial_word.ensures

@@ -16,8 +16,8 @@ given old mid new xs ys n m before here within size = (
   omega (arith, length-append xs (take n ys), length-take-le n ys within),
 )
 
-pub returns-then-taken-most : goal.returns-then-taken-most
-returns-then-taken-most g c =
+pub returns-then-is_too_long : goal.returns-then-is_too_long
+returns-then-is_too_long g c =
     let before = c.loop-stream.invariant.1 in
     let here = c.in-Ok.ensures in
     let all = given _ _ _ _ _ _ _ before.consumed here.bytes.0 here.bound.0 before.count in

@@ -1,7 +1,13 @@
--- The words so far are filled, and the generator has taken as many steps.
-use Rattle.std.proofs.Common.{◌*◌}
-use Rattle.komihash.proofs.GeneratorFills.{Filled}
+-- The words so far are outputs, and the generator has taken as many steps.
+use Rattle.std.proofs.Common.{◌≡◌, ◌*◌, length}
+use Rattle.komihash.specs.Generator.{after_steps, outputs, fill_steps}
+use Rattle.komihash.specs.Words.{all_bytes}
+use Rattle.komihash.proofs.Lists.{Covers}
 use Rattle.komihash.proofs.generator.Komirand.fill_bytes.Given as goal
 
 abbrev pub invariant-words : goal.invariant-words
-invariant-words g l = Filled g.row.V l.fn.self (8 * l.i) l.buffer l.self
+invariant-words g l = record {
+  bytes : Covers (8 * l.i) l.buffer
+      (all_bytes (outputs g.row.V (fill_steps (length l.fn.buffer)) l.fn.self)) l.fn.buffer;
+  pair : l.self ≡ after_steps g.row.V l.i l.fn.self;
+}

@@ -7,8 +7,8 @@ use Rattle.komihash.proofs.WordOf.{AreBytes-typed, word_of-last}
 use Rattle.komihash.proofs.PendingBytes.{put_word, all_stored, word_after}
 use Rattle.komihash.proofs.rounds.pending.append_eight_or_more.Goals as goal
 
-pub returns-then-end-lt64 : goal.returns-then-end-lt64
-returns-then-end-lt64 c =
+pub returns-then-has_remainder : goal.returns-then-has_remainder
+returns-then-has_remainder c =
     let bytes = c.args.bytes.now in
     let xs = pending_bytes c.args.words.now c.args.len in
     let end = c.args.len + length bytes in
@@ -21,5 +21,5 @@ returns-then-end-lt64 c =
     all_stored (put_word c.append_whole_words.ensures (end / 8) (end / 8 + 1) _ (omega arith)
     (λ _. rw (c.word_at.ensures, shr-shr) word)) (omega arith)
 
-pub returns-else-end-lt64 : goal.returns-else-end-lt64
-returns-else-end-lt64 c = all_stored c.append_whole_words.ensures (omega arith)
+pub returns-else-has_remainder : goal.returns-else-has_remainder
+returns-else-has_remainder c = all_stored c.append_whole_words.ensures (omega arith)

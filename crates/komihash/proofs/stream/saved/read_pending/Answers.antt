@@ -1,10 +1,11 @@
--- The pending bytes are all bytes after the first 68.
+-- The pending bytes are all bytes after the lanes.
 use Rattle.std.proofs.Common.{length, drop, ◌-◌, arith}
 use Rattle.std.proofs.lemmas.List.{length-drop, take_all}
+use Rattle.komihash.specs.Saved.{pending_at}
 use Rattle.komihash.proofs.stream.saved.read_pending.Goals as goal
 
 pub returns : goal.returns
 returns c =
     let bytes = c.args.bytes.now in
-    let all = take_all (length bytes - 68) (drop 68 bytes) (omega (arith, length-drop 68 bytes)) in
+    let all = take_all (length bytes - pending_at) (drop pending_at bytes) (omega (arith, length-drop pending_at bytes)) in
     rw (c.new-pending.ensures, all) at c.append.ensures.bytes

@@ -2,6 +2,7 @@
 use Rattle.std.proofs.Common.{◌∙◌, ap, arith, take}
 use Rattle.std.proofs.lemmas.List.{take_all}
 use Rattle.komihash.specs.Rounds.{in_order}
+use Rattle.komihash.specs.Saved.{lanes_at, pending_at}
 use Rattle.komihash.specs.Words.{all_bytes}
 use Rattle.komihash.proofs.AllBytes.{length-all_bytes}
 use Rattle.komihash.proofs.SavedTexts.{part-put}
@@ -11,7 +12,7 @@ pub returns : goal.returns
 returns c =
     let ws = in_order c.args.lanes.now in
     let (lanes, after) =
-    part-put 4 68 c.args.out.now c.write_first_bytes.new.out (all_bytes ws) (omega arith) (omega arith)
+    part-put lanes_at pending_at c.args.out.now c.write_first_bytes.new.out (all_bytes ws) (omega arith) (omega arith)
     c.write_first_bytes.auto.out
     (c.write_first_bytes.ensures.bytes ∙ ap (λ ws. take 64 (all_bytes ws)) c.in_order.ensures
     ∙ take_all 64 (all_bytes ws) (omega (arith, length-all_bytes ws))) in

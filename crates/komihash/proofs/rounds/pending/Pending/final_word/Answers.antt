@@ -31,8 +31,8 @@ returns g c =
     let xs = pending_bytes c.self.inside.words len in
     let some : 0 < len = omega (arith, ap length c.self.view_is) in
     let last = byte_at are (len - 1) (omega arith) in
-    let byte : c.if-over-eq0.last_byte ≡ get_or xs (len - 1) 0 =
-    grind (arith, c.if-over-eq0.branch, last) in
+    let byte : c.if-is_whole.last_byte ≡ get_or xs (len - 1) 0 =
+    grind (arith, c.if-is_whole.branch, last) in
     let padding : c.padding_after.result ≡ padding_byte g.row.V xs =
     rw (c.padding_after.ensures, c.pads_with_two.ensures, byte, are.count) refl in
     let rest = drop (8 * (len / 8)) xs in

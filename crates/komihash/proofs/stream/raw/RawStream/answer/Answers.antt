@@ -7,19 +7,19 @@ use Rattle.komihash.specs.Stream.{State, answer, end_after_blocks}
 use Rattle.komihash.proofs.Streams.{answer-by_pair, answer-none, tail_end-pending, answered}
 use Rattle.komihash.proofs.WholeWords.{length-whole_words}
 use Rattle.komihash.proofs.stream.raw.RawStream.answer.Goals as goal
-use Rattle.komihash.proofs.stream.raw.RawStream.answer.Goals.{then-self, else-self}
+use Rattle.komihash.proofs.stream.raw.RawStream.answer.Goals.{then-had_block, else-had_block}
 
-pub returns-then-len-eq0-clause-answered : goal.returns-then-len-eq0-clause-answered
-returns-then-len-eq0-clause-answered g c =
+pub returns-then-none_pending-clause-answered : goal.returns-then-none_pending-clause-answered
+returns-then-none_pending-clause-answered g c =
     let s = c.self.inside in
     let none = nil_from_length s.pending (omega arith) in
-    let end : c.if-self.end ≡ end_after_blocks s.had_block s.top_bit =
-    elim c.if-self.branch [
-      | then-self w ↦ rw (w.if-self.true) (w.end-is ∙ w.padding_after-end.ensures)
-      | else-self w ↦ rw (w.if-self.false) w.end-is
+    let end : c.if-had_block.end ≡ end_after_blocks s.had_block s.top_bit =
+    elim c.if-had_block.branch [
+      | then-had_block w ↦ rw (w.if-had_block.true) (w.end-is ∙ w.padding_after-end.ensures)
+      | else-had_block w ↦ rw (w.if-had_block.false) w.end-is
     ] in
     answered g.row.V _ _ (c.close.ensures.alone refl
-    ∙ ap (λ p. closing p (c.if-self.end ∷ [])) c.join-pair.ensures
+    ∙ ap (λ p. closing p (c.if-had_block.end ∷ [])) c.join-pair.ensures
     ∙ rw end (sym (answer-none g.row.V _ none)) ∙ ap (answer g.row.V) c.self.view_is)
 
 pub hash_from_pair-requires : goal.hash_from_pair-requires

@@ -4,7 +4,7 @@ use Rattle.std.proofs.lemmas.List.{nil_from_length}
 use Rattle.komihash.specs.Stream.{State, absorb}
 use Rattle.komihash.proofs.Streams.{after_absorb, completed}
 use Rattle.komihash.proofs.stream.raw.RawStream.complete_blocks.Goals as goal
-use Rattle.komihash.proofs.stream.raw.RawStream.complete_blocks.Goals.{then-pending_len-eq0, else-pending_len-eq0}
+use Rattle.komihash.proofs.stream.raw.RawStream.complete_blocks.Goals.{then-none_pending, else-none_pending}
 
 pub returns-clause-state : goal.returns-clause-state
 returns-clause-state g c =
@@ -18,13 +18,13 @@ returns-clause-state g c =
     let size = c.len-pending_len.ensures.length in
     let top_bit = c.pads_with_two-self-inside.ensures in
     let after = c.absorb_blocks-left.ensures in
-    rw (c.append_to_none.ensures.bytes, after.left, after.lanes) (elim c.if-pending_len-eq0.branch [
-      | then-pending_len-eq0 w ↦
+    rw (c.append_to_none.ensures.bytes, after.left, after.lanes) (elim c.if-none_pending.branch [
+      | then-none_pending w ↦
           let none = nil_from_length xs (omega arith) in
           rw (w.self-inside-is, w.lanes-is, w.rest-is, top_bit, size)
           (after_absorb v _ bytes lanes bytes few many
           (rw none record { lanes = refl; left = refl }))
-      | else-pending_len-eq0 w ↦
+      | else-none_pending w ↦
           rw (
             w.self-inside-is,
             w.lanes-is,
