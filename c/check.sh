@@ -54,6 +54,7 @@ complete() {
     "$NM" -P $flag "$1" | awk -v "kinds=$kinds" '$2 ~ kinds { print $1 }' | sort |
         diff "$room/declared" -
 }
+without_libraries() { ! "${CROSS}objdump" -p "$OUT/$dll" | grep 'DLL Name'; }
 
 # Compiles a program by $compiler, and runs it.
 runs() { $compiler "$@" -Wall -Wextra -Wpedantic -Werror -o "$program" && $RUN "$program"; }
@@ -73,10 +74,11 @@ by_rustc() {
 
 # Compiles calls that ignore a result, and that pass no stream.
 careless() {
-    cat komihash_rattle.h - << 'END' | $CC -x c -Wall -S -o "$program" - 2>&1 | grep -o '\[-W[^]=]*'
+    cat komihash_rattle.h - << 'END' | $CC -x c -Wall -S -o "$program" - 2>&1 |
 void resume(komihash_v5_stream *stream) { komihash_v5_resume(stream, "", 0); }
 uint64_t finish(void) { return komihash_v5_finish(NULL); }
 END
+        grep -o '\[-W[^]=]*' | sort
 }
 
 # Runs hash_file, built by CMake with these definitions, on the message `a`.
@@ -134,6 +136,7 @@ find "$prefix" -type f -name 'lib*' ! -name '*.dll' > "$room/libraries"
 while read -r file; do
     note "${file#"$prefix/"} has the functions of the header alone" complete "$file"
 done < "$room/libraries"
+[ "$system" = Linux ] || note "$dll needs no other library" without_libraries
 
 hash=a53b9c6b9eb8afe9 hash_of_a=5117f5064cfd0faa
 vectors=$(grep ^4 vectors.tsv && grep ^5 vectors.tsv)
@@ -188,6 +191,6 @@ note 'the paths of the environment' staged
 note 'an empty PREFIX' fails "not ''" build install PREFIX=
 note 'a relative PREFIX' fails "not 'here'" build install PREFIX=here
 note 'another processor' fails 'none for riscv64' build machine=riscv64-linux-gnu
-note 'a missing compiler' fails 'there is no: no-compiler' build CC=no-compiler
+note 'a missing compiler' fails "no C compiler 'no-compiler'" build CC=no-compiler
 note 'the library is uninstalled' uninstalled
 counted
