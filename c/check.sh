@@ -19,7 +19,7 @@ if [ "$system" = Windows ]; then
 fi
 case $CC in *clang*) clang= ;; esac
 export LD_LIBRARY_PATH="$lib" WINEPATH="Z:$prefix/bin" PKG_CONFIG_PATH="$lib/pkgconfig"
-unset MAKEFLAGS PREFIX BINDIR LIBDIR INCLUDEDIR DESTDIR
+unset MAKEFLAGS PREFIX BINDIR LIBDIR INCLUDEDIR DOCDIR DESTDIR
 
 # Runs make with what this script was given, but not with the paths that its caller may have set.
 build() {
@@ -118,8 +118,8 @@ hash_files() { ! printf a | hash_file README.md -c -; }
 # Installs by the variables of the environment, builds an example with that, and uninstalls it.
 staged() {
     export DESTDIR="$room/staged" PREFIX='/a|"#\b' LIBDIR='/a|"#\b/lib/c' INCLUDEDIR=/d/include
-    export PKG_CONFIG_SYSROOT_DIR="$DESTDIR" PKG_CONFIG_PATH="$DESTDIR$LIBDIR/pkgconfig"
-    (umask 077 && build install) &&
+    export PKG_CONFIG_SYSROOT_DIR="$DESTDIR" PKG_CONFIG_PATH="$DESTDIR$LIBDIR/pkgconfig" DOCDIR=/e
+    (umask 077 && build install) && test -f "$DESTDIR/e/LICENSE" &&
         test -z "$(find "$DESTDIR" ! -type l ! -perm 755 ! '(' -type f -perm 644 ')')" &&
         { ! command -v pkg-config || runs_by_package -std=c11 "$room/example.c"; } &&
         build uninstall && test ! -e "$DESTDIR"

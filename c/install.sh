@@ -7,27 +7,27 @@ prefix=${PREFIX-/usr/local}
 bindir=${BINDIR-$prefix/bin}
 libdir=${LIBDIR-$prefix/lib}
 includedir=${INCLUDEDIR-$prefix/include}
-for folder in "$prefix" "$bindir" "$libdir" "$includedir"; do
+docdir=${DOCDIR-$prefix/share/doc/komihash_rattle}
+for folder in "$prefix" "$bindir" "$libdir" "$includedir" "$docdir"; do
     case $folder in
     /*) ;;
-    *) echo "PREFIX, LIBDIR and the like are absolute paths, and not '$folder'" >&2 && exit 2 ;;
-    esac
+    [A-Za-z]:/*) [ -d "${folder%%/*}/" ] ;; # a drive, which only Windows has
+    *) false ;;
+    esac || { echo "PREFIX, LIBDIR and the like are absolute paths, and not '$folder'" >&2; exit 2; }
 done
 
 # Calls a function with the mode, the source and the path of each file.
 each_file() {
     "$1" 644 komihash_rattle.h "$includedir/komihash_rattle.h"
-    "$1" 644 LICENSE "$prefix/share/doc/komihash_rattle/LICENSE"
+    "$1" 644 LICENSE "$docdir/LICENSE"
     "$1" 644 "$filled/komihash_rattle.pc" "$libdir/pkgconfig/komihash_rattle.pc"
     for file in komihash_rattle-config.cmake komihash_rattle-config-version.cmake; do
         "$1" 644 "$filled/$file" "$libdir/cmake/komihash_rattle/$file"
     done
     for file in $archives; do "$1" 644 "$OUT/$file" "$libdir/$file"; done
     for file in $shared; do
-        case $file in
-        *.dll) "$1" 755 "$OUT/$file" "$bindir/$file" ;;
-        *) "$1" 755 "$OUT/$file" "$libdir/$file" ;;
-        esac
+        case $file in *.dll) folder=$bindir ;; *) folder=$libdir ;; esac
+        "$1" 755 "$OUT/$file" "$folder/$file"
     done
     [ "$system" = Windows ] || "$1" link "$soname" "$libdir/${soname%.*}"
 }
