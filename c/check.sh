@@ -81,11 +81,11 @@ END
         grep -o '\[-W[^]=]*' | sort
 }
 
-# Runs hash_file, built by CMake with these definitions, on the message `a`.
+# Runs hash_file, built by CMake in a folder with these definitions, on the message `a`.
 by_cmake() {
-    rm -rf "$room/cmake" && cmake -S examples -B "$room/cmake" -D "CMAKE_C_COMPILER=$CC" \
+    rm -rf "$room/cmake" && cmake -B "$room/cmake" -D "CMAKE_C_COMPILER=$CC" -S "$@" \
         ${CROSS:+-D "CMAKE_SYSTEM_NAME=$system" -D "CMAKE_SYSTEM_PROCESSOR=${machine%%-*}"} \
-        -D "CMAKE_RUNTIME_OUTPUT_DIRECTORY=$room/cmake" "$@" >&2 &&
+        -D "CMAKE_RUNTIME_OUTPUT_DIRECTORY=$room/cmake" >&2 &&
         cmake --build "$room/cmake" >&2 && printf a | $RUN "$room/cmake/hash_file$exe"
 }
 
@@ -107,9 +107,8 @@ endforeach()
 add_executable(hash_file "$PWD/examples/hash_file.c")
 target_link_libraries(hash_file komihash_rattle::static)
 END
-    cmake -S "$room/requested" -B "$room/requested" -D "CMAKE_C_COMPILER=$CC" \
-        -D "CMAKE_PREFIX_PATH=$prefix" && cmake --build "$room/requested" &&
-        "$NM" "$room/requested/hash_file" | grep 'T komihash_v5$'
+    by_cmake "$room/requested" -D "CMAKE_PREFIX_PATH=$prefix" &&
+        "$NM" "$room/cmake/hash_file$exe" | grep 'T komihash_v5$'
 }
 
 hash_file() { $RUN "$OUT/hash_file$exe" "$@"; }
@@ -172,9 +171,9 @@ note 'warnings for an ignored result and a null stream' \
 
 note 'the package' build dist "OUT=$room"
 needs cmake 'hash_file, by CMake, with the installed library' \
-    prints $hash_of_a by_cmake -D "CMAKE_PREFIX_PATH=$prefix"
+    prints $hash_of_a by_cmake examples -D "CMAKE_PREFIX_PATH=$prefix"
 needs cmake 'hash_file, by CMake, with the package' \
-    prints $hash_of_a by_cmake -D "PACKAGE=$room/komihash_rattle-$version.tar.gz"
+    prints $hash_of_a by_cmake examples -D "PACKAGE=$room/komihash_rattle-$version.tar.gz"
 needs cmake 'the versions that CMake may ask for, and the static library' requested 1:1 1.0:1 \
     "$version:1" "$version,EXACT:1" 1.0...2:1 '1...<2:1' "0.9...$version:1" \
     0.9:0 2:0 99.0:0 1.0,EXACT:0 "1.0...<$version:0" 2...3:0
