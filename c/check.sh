@@ -19,7 +19,7 @@ if [ "$system" = Windows ]; then
 fi
 case $CC in *clang*) clang= ;; esac
 export LD_LIBRARY_PATH="$lib" WINEPATH="Z:$prefix/bin" PKG_CONFIG_PATH="$lib/pkgconfig"
-unset MAKEFLAGS PREFIX BINDIR LIBDIR INCLUDEDIR DESTDIR
+unset MAKEFLAGS PREFIX BINDIR LIBDIR INCLUDEDIR DOCDIR DESTDIR
 
 # Runs make with what this script was given, but not with the paths that its caller may have set.
 build() {
@@ -54,6 +54,7 @@ complete() {
     "$NM" -P $flag "$1" | awk -v "kinds=$kinds" '$2 ~ kinds { print $1 }' | sort |
         diff "$room/declared" -
 }
+without_libraries() { ! "${CROSS}objdump" -p "$OUT/$dll" | grep 'DLL Name'; }
 
 # Compiles a program by $compiler, and runs it.
 runs() { $compiler "$@" -Wall -Wextra -Wpedantic -Werror -o "$program" && $RUN "$program"; }
@@ -73,17 +74,18 @@ by_rustc() {
 
 # Compiles calls that ignore a result, and that pass no stream.
 careless() {
-    cat komihash_rattle.h - << 'END' | $CC -x c -Wall -S -o "$program" - 2>&1 | grep -o '\[-W[^]=]*'
+    cat komihash_rattle.h - << 'END' | $CC -x c -Wall -S -o "$program" - 2>&1 |
 void resume(komihash_v5_stream *stream) { komihash_v5_resume(stream, "", 0); }
 uint64_t finish(void) { return komihash_v5_finish(NULL); }
 END
+        grep -o '\[-W[^]=]*' | sort
 }
 
-# Runs hash_file, built by CMake with these definitions, on the message `a`.
+# Runs hash_file, built by CMake in a folder with these definitions, on the message `a`.
 by_cmake() {
-    rm -rf "$room/cmake" && cmake -S examples -B "$room/cmake" -D "CMAKE_C_COMPILER=$CC" \
+    rm -rf "$room/cmake" && cmake -B "$room/cmake" -D "CMAKE_C_COMPILER=$CC" -S "$@" \
         ${CROSS:+-D "CMAKE_SYSTEM_NAME=$system" -D "CMAKE_SYSTEM_PROCESSOR=${machine%%-*}"} \
-        -D "CMAKE_RUNTIME_OUTPUT_DIRECTORY=$room/cmake" "$@" >&2 &&
+        -D "CMAKE_RUNTIME_OUTPUT_DIRECTORY=$room/cmake" >&2 &&
         cmake --build "$room/cmake" >&2 && printf a | $RUN "$room/cmake/hash_file$exe"
 }
 
@@ -105,19 +107,17 @@ endforeach()
 add_executable(hash_file "$PWD/examples/hash_file.c")
 target_link_libraries(hash_file komihash_rattle::static)
 END
-    cmake -S "$room/requested" -B "$room/requested" -D "CMAKE_C_COMPILER=$CC" \
-        -D "CMAKE_PREFIX_PATH=$prefix" && cmake --build "$room/requested" &&
-        "$NM" "$room/requested/hash_file" | grep 'T komihash_v5$'
+    by_cmake "$room/requested" -D "CMAKE_PREFIX_PATH=$prefix" &&
+        "$NM" "$room/cmake/hash_file$exe" | grep 'T komihash_v5$'
 }
 
 hash_file() { $RUN "$OUT/hash_file$exe" "$@"; }
-hash_files() { ! printf a | hash_file README.md -c -; }
 
 # Installs by the variables of the environment, builds an example with that, and uninstalls it.
 staged() {
     export DESTDIR="$room/staged" PREFIX='/a|"#\b' LIBDIR='/a|"#\b/lib/c' INCLUDEDIR=/d/include
-    export PKG_CONFIG_SYSROOT_DIR="$DESTDIR" PKG_CONFIG_PATH="$DESTDIR$LIBDIR/pkgconfig"
-    (umask 077 && build install) &&
+    export PKG_CONFIG_SYSROOT_DIR="$DESTDIR" PKG_CONFIG_PATH="$DESTDIR$LIBDIR/pkgconfig" DOCDIR=/e
+    (umask 077 && build install) && test -f "$DESTDIR/e/LICENSE" &&
         test -z "$(find "$DESTDIR" ! -type l ! -perm 755 ! '(' -type f -perm 644 ')')" &&
         { ! command -v pkg-config || runs_by_package -std=c11 "$room/example.c"; } &&
         build uninstall && test ! -e "$DESTDIR"
@@ -134,15 +134,17 @@ find "$prefix" -type f -name 'lib*' ! -name '*.dll' > "$room/libraries"
 while read -r file; do
     note "${file#"$prefix/"} has the functions of the header alone" complete "$file"
 done < "$room/libraries"
+[ "$system" = Linux ] || note "$dll needs no other library" without_libraries
 
 hash=a53b9c6b9eb8afe9 hash_of_a=5117f5064cfd0faa
 vectors=$(grep ^4 vectors.tsv && grep ^5 vectors.tsv)
 sed -n '/^```c$/,/^```$/{/^```/!p;}' README.md > "$room/example.c"
 for compiler in "$CC" ${clang:+"$clang"}; do
     tool=${compiler%% *} name=${compiler%% -Q*}
-    needs "$tool" "calls.c, by $name" prints "$vectors" calls "$archive"
-    needs "$tool" "calls.c, by $name, shared library" prints "$vectors" calls "$linked"
-    needs "$tool" "the example in C, by $name" prints $hash runs "$room/example.c" \
+    command -v "$tool" > "$room/case" || { skip 'calls.c and the example in C' "$tool"; continue; }
+    note "calls.c, by $name" prints "$vectors" calls "$archive"
+    note "calls.c, by $name, shared library" prints "$vectors" calls "$linked"
+    note "the example in C, by $name" prints $hash runs "$room/example.c" \
         -std=c11 -I "$prefix/include" "$archive"
     needs pkg-config "the example in C, by $name and pkg-config" \
         prints $hash runs_by_package -std=c11 "$room/example.c"
@@ -169,9 +171,9 @@ note 'warnings for an ignored result and a null stream' \
 
 note 'the package' build dist "OUT=$room"
 needs cmake 'hash_file, by CMake, with the installed library' \
-    prints $hash_of_a by_cmake -D "CMAKE_PREFIX_PATH=$prefix"
+    prints $hash_of_a by_cmake examples -D "CMAKE_PREFIX_PATH=$prefix"
 needs cmake 'hash_file, by CMake, with the package' \
-    prints $hash_of_a by_cmake -D "PACKAGE=$room/komihash_rattle-$version.tar.gz"
+    prints $hash_of_a by_cmake examples -D "PACKAGE=$room/komihash_rattle-$version.tar.gz"
 needs cmake 'the versions that CMake may ask for, and the static library' requested 1:1 1.0:1 \
     "$version:1" "$version,EXACT:1" 1.0...2:1 '1...<2:1' "0.9...$version:1" \
     0.9:0 2:0 99.0:0 1.0,EXACT:0 "1.0...<$version:0" 2...3:0
@@ -180,7 +182,7 @@ note 'hash_file, bytes that end lines and files elsewhere' \
     prints 41788abed31c8f17 eval "printf 'a\r\n\032b' | hash_file"
 note 'hash_file, files, one of which is not there' \
     prints "$(hash_file < README.md | tr -d '\r')  README.md
-$hash_of_a  -" hash_files
+$hash_of_a  -" eval '! printf a | hash_file README.md -c -'
 [ "$system" = Windows ] || note 'hash_file, a folder' fails 'Is a directory$' hash_file < /
 note 'hash_file, a full output' \
     fails 'cannot write .*: No space left' eval 'hash_file < /dev/null > /dev/full'
@@ -188,6 +190,6 @@ note 'the paths of the environment' staged
 note 'an empty PREFIX' fails "not ''" build install PREFIX=
 note 'a relative PREFIX' fails "not 'here'" build install PREFIX=here
 note 'another processor' fails 'none for riscv64' build machine=riscv64-linux-gnu
-note 'a missing compiler' fails 'there is no: no-compiler' build CC=no-compiler
+note 'a missing compiler' fails "no C compiler 'no-compiler'" build CC=no-compiler
 note 'the library is uninstalled' uninstalled
 counted

@@ -7,27 +7,27 @@ prefix=${PREFIX-/usr/local}
 bindir=${BINDIR-$prefix/bin}
 libdir=${LIBDIR-$prefix/lib}
 includedir=${INCLUDEDIR-$prefix/include}
-for folder in "$prefix" "$bindir" "$libdir" "$includedir"; do
+docdir=${DOCDIR-$prefix/share/doc/komihash_rattle}
+for folder in "$prefix" "$bindir" "$libdir" "$includedir" "$docdir"; do
     case $folder in
     /*) ;;
-    *) echo "PREFIX, LIBDIR and the like are absolute paths, and not '$folder'" >&2 && exit 2 ;;
-    esac
+    [A-Za-z]:/*) [ -d "${folder%%/*}/" ] ;; # a drive, which only Windows has
+    *) false ;;
+    esac || { echo "PREFIX, LIBDIR and the like are absolute paths, and not '$folder'" >&2; exit 2; }
 done
 
 # Calls a function with the mode, the source and the path of each file.
 each_file() {
     "$1" 644 komihash_rattle.h "$includedir/komihash_rattle.h"
-    "$1" 644 LICENSE "$prefix/share/doc/komihash_rattle/LICENSE"
+    "$1" 644 LICENSE "$docdir/LICENSE"
     "$1" 644 "$filled/komihash_rattle.pc" "$libdir/pkgconfig/komihash_rattle.pc"
-    for file in komihash_rattle-config.cmake komihash_rattle-config-version.cmake; do
-        "$1" 644 "$filled/$file" "$libdir/cmake/komihash_rattle/$file"
+    for file in "$filled"/*.cmake; do
+        "$1" 644 "$file" "$libdir/cmake/komihash_rattle/${file##*/}"
     done
     for file in $archives; do "$1" 644 "$OUT/$file" "$libdir/$file"; done
     for file in $shared; do
-        case $file in
-        *.dll) "$1" 755 "$OUT/$file" "$bindir/$file" ;;
-        *) "$1" 755 "$OUT/$file" "$libdir/$file" ;;
-        esac
+        case $file in *.dll) folder=$bindir ;; *) folder=$libdir ;; esac
+        "$1" 755 "$OUT/$file" "$folder/$file"
     done
     [ "$system" = Windows ] || "$1" link "$soname" "$libdir/${soname%.*}"
 }
@@ -43,27 +43,22 @@ install_file() {
     make_folder "${target%/*}"
     if [ "$1" = link ]; then ln -sf "$2" "$target"; else install -m "$1" "$2" "$target"; fi
 }
-remove_file() { rm -f "${DESTDIR-}$3"; }
+uninstall_file() { rm -f "${DESTDIR-}$3"; }
 
-# Writes a file for pkg-config or CMake into a folder of its own, with the paths in it. For
-# pkg-config, a backslash precedes some characters of theirs.
+# Writes the files for pkg-config and CMake into a folder of their own, with the paths in them. For
+# pkg-config, a backslash precedes some characters of the paths.
 filled=$(mktemp -d)
 trap 'rm -rf "$filled"' EXIT
 quoted() { printf '%s\n' "$1" | sed "s/$special/\\\\&/g; s/[\\\\&|]/\\\\&/g"; }
-fill() {
-    case $1 in *.pc) special='["\\#]' ;; *) special='^$' ;; esac
+for file in package/*; do
+    case $file in *.pc) special='["\\#]' ;; *) special='^$' ;; esac
     sed "s|@VERSION@|$version|; s|@PREFIX@|$(quoted "$prefix")|; s|@LIBDIR@|$(quoted "$libdir")|
-        s|@INCLUDEDIR@|$(quoted "$includedir")|" "$1" > "$filled/${1##*/}"
-}
+        s|@INCLUDEDIR@|$(quoted "$includedir")|" "$file" > "$filled/${file##*/}"
+done
 
-if [ "$1" = install ]; then
-    for file in package/*; do fill "$file"; done
-    each_file install_file
-else
-    each_file remove_file
-    [ -f "$made" ] || exit 0
-    sort -r "$made" > "$made.all"
-    while read -r folder; do
-        rmdir "$folder" 2> /dev/null || [ ! -d "$folder" ] || printf '%s\n' "$folder"
-    done < "$made.all" > "$made"
-fi
+each_file "$1_file"
+[ "$1" = uninstall ] && [ -f "$made" ] || exit 0
+sort -r "$made" > "$made.all"
+while read -r folder; do
+    rmdir "$folder" 2> /dev/null || [ ! -d "$folder" ] || printf '%s\n' "$folder"
+done < "$made.all" > "$made"
