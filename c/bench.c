@@ -1,77 +1,114 @@
-/* Prints how many nanoseconds a hash takes, by version 5, and by XXH3, XXH64 and wyhash where their
- * headers are installed. Each time is the least of many rounds, in which the hashes take turns. They
+/* Prints how long calls of version 5 take, and of XXH3, XXH64 and wyhash where their headers are
+ * installed. Each time is the least of many rounds, in which the hashes take turns. All functions
  * are called by pointers, so none is inlined. Random lengths are drawn anew for each round, because
  * a processor learns a list of lengths that it meets again. */
 #define _POSIX_C_SOURCE 200809L
 #include <komihash_rattle.h>
 #include <stdio.h>
 #include <time.h>
+
 #if __has_include(<xxhash.h>)
 #define XXH_INLINE_ALL
 #include <xxhash.h>
 #endif
 #if __has_include(<wyhash/wyhash.h>)
 #include <wyhash/wyhash.h>
-#define WYHASH
-static uint64_t wyhash_seeded(const void *bytes, size_t length, uint64_t seed) {
-    return wyhash(bytes, length, seed, _wyp);
-}
+#define HAS_WYHASH
 #endif
 
-static const volatile struct {
-    const char *name;
-    uint64_t (*hash)(const void *bytes, size_t length, uint64_t seed);
-} sides[] = {
-    {"komihash", komihash_v5},
-#ifdef XXH_INLINE_ALL
-    {"XXH3", XXH3_64bits_withSeed},
-    {"XXH64", XXH64},
-#endif
-#ifdef WYHASH
-    {"wyhash", wyhash_seeded},
-#endif
-};
-enum { SIDES = sizeof sides / sizeof sides[0], ROUNDS = 100, CALLS = 4096, MEBIBYTE = 1 << 20 };
+enum { ROUNDS = 100, CALLS = 4096, MEBIBYTE = 1 << 20 };
 
 static unsigned char message[MEBIBYTE];
+static size_t lengths[CALLS];
 static volatile uint64_t kept;
 
-/* Returns how many nanoseconds a hash of a side takes, for these lengths. */
-static double time_of(int side, const size_t *lengths, size_t calls) {
+struct side {
+    const char *name;
+    uint64_t (*hash)(const void *bytes, size_t length, uint64_t seed);
+    void (*start)(void);
+    void (*write)(const void *bytes, size_t length);
+};
+
+#define HASH(name, call) \
+    static uint64_t name(const void *bytes, size_t length, uint64_t seed) { return call; }
+#define STREAM(name, type, starts, writes) \
+    static type name; \
+    static void name##_start(void) { starts; } \
+    static void name##_write(const void *bytes, size_t length) { writes(&name, bytes, length); }
+
+STREAM(komihash, komihash_v5_stream, komihash = komihash_v5_start(0), komihash_v5_write)
+#ifdef XXH_INLINE_ALL
+HASH(xxh3_hash, XXH3_64bits_withSeed(bytes, length, seed))
+HASH(xxh64_hash, XXH64(bytes, length, seed))
+STREAM(xxh3, XXH3_state_t, XXH3_64bits_reset(&xxh3), XXH3_64bits_update)
+STREAM(xxh64, XXH64_state_t, XXH64_reset(&xxh64, 0), XXH64_update)
+#endif
+#ifdef HAS_WYHASH
+HASH(wyhash_hash, wyhash(bytes, length, seed, _wyp))
+#endif
+
+static const volatile struct side sides[] = {
+    {"komihash", komihash_v5, komihash_start, komihash_write},
+#ifdef XXH_INLINE_ALL
+    {"XXH3", xxh3_hash, xxh3_start, xxh3_write},
+    {"XXH64", xxh64_hash, xxh64_start, xxh64_write},
+#endif
+#ifdef HAS_WYHASH
+    {"wyhash", wyhash_hash, NULL, NULL},
+#endif
+};
+enum { SIDES = sizeof sides / sizeof sides[0] };
+
+static uint64_t split_mix_64(void) {
+    static uint64_t state;
+    uint64_t word = state += 0x9e3779b97f4a7c15;
+    word = (word ^ word >> 30) * 0xbf58476d1ce4e5b9;
+    word = (word ^ word >> 27) * 0x94d049bb133111eb;
+    return word ^ word >> 31;
+}
+
+/* Returns how many nanoseconds a hash takes, or a write to a stream, for the lengths above. */
+static double time_of(struct side side, size_t calls, bool stream) {
     struct timespec start, end;
-    uint64_t (*hash)(const void *, size_t, uint64_t) = sides[side].hash, sum = 0;
+    uint64_t sum = 0;
+    if (stream)
+        side.start();
     clock_gettime(CLOCK_MONOTONIC, &start);
     for (size_t i = 0; i < calls; i++)
-        sum += hash(message, lengths[i], 0);
+        if (stream)
+            side.write(message, lengths[i]);
+        else
+            sum += side.hash(message, lengths[i], 0);
     clock_gettime(CLOCK_MONOTONIC, &end);
     kept = sum;
     return ((end.tv_sec - start.tv_sec) * 1e9 + (end.tv_nsec - start.tv_nsec)) / calls;
 }
 
-/* Prints a row, for messages of a length or of random lengths below it. */
-static void row(bool random, size_t length) {
-    static size_t lengths[CALLS];
-    komihash_v5_rand rand = komihash_v5_rand_init(length);
+/* Prints a row, for calls of a length or of random lengths below it. */
+static void row(bool stream, bool random, size_t length) {
     const size_t calls = length < MEBIBYTE ? CALLS : 4;
     double least[SIDES];
     for (int turn = 0; turn < ROUNDS * SIDES; turn++) {
-        for (size_t i = 0; i < calls; i++)
-            lengths[i] = random ? komihash_v5_rand_next(&rand) % length : length;
-        const int side = turn % SIDES;
-        const double time = time_of(side, lengths, calls);
-        least[side] = turn < SIDES || time < least[side] ? time : least[side];
+        const int i = turn % SIDES;
+        for (size_t j = 0; j < calls; j++)
+            lengths[j] = random ? split_mix_64() % length : length;
+        double time = stream && !sides[i].write ? 0 : time_of(sides[i], calls, stream);
+        least[i] = turn < SIDES || time < least[i] ? time : least[i];
     }
-    printf("%-14s%8zu bytes", random ? "random, below" : "", length);
-    for (int side = 0; side < SIDES; side++)
-        printf("%11.1f%s", least[side], side < SIDES - 1 ? "" : "\n");
+    printf("%-6s%-14s%7zu bytes", stream ? "write" : "hash", random ? "random, below" : "", length);
+    for (int i = 0; i < SIDES; i++)
+        printf(least[i] > 0 ? "%11.1f" : "          -", least[i]);
+    printf("\n");
 }
 
 int main(void) {
-    printf("nanoseconds for a hash      ");
-    for (int side = 0; side < SIDES; side++)
-        printf("%11s%s", sides[side].name, side < SIDES - 1 ? "" : "\n");
-    for (size_t length = 16; length <= 256; length *= 4)
-        row(true, length);
-    for (size_t length = 4; length <= MEBIBYTE; length *= 4)
-        row(false, length);
+    printf("%-33s", "nanoseconds for a call");
+    for (int i = 0; i < SIDES; i++)
+        printf("%11s", sides[i].name);
+    printf("\n");
+    static const size_t fixed[] = {8, 16, 64, 256, 1024, MEBIBYTE};
+    for (int i = 0; i < 6; i++)
+        row(false, false, fixed[i]);
+    for (int i = 0; i < 6; i++)
+        row(i > 2, true, (size_t[]){16, 64, 256}[i % 3]);
 }

@@ -112,6 +112,12 @@ END
 }
 
 hash_file() { $RUN "$OUT/hash_file$exe" "$@"; }
+ends() { # STATUS ARGUMENT..
+    status=$1
+    shift
+    hash_file "$@" < /dev/null
+    [ $? = "$status" ]
+}
 
 # Installs by the variables of the environment, builds an example with that, and uninstalls it.
 staged() {
@@ -182,7 +188,9 @@ note 'hash_file, bytes that end lines and files elsewhere' \
     prints 41788abed31c8f17 eval "printf 'a\r\n\032b' | hash_file"
 note 'hash_file, files, one of which is not there' \
     prints "$(hash_file < README.md | tr -d '\r')  README.md
-$hash_of_a  -" eval '! printf a | hash_file README.md -c -'
+$hash_of_a  -" eval '! printf a | hash_file README.md none -'
+note 'hash_file, an unknown option' ends 2 -c README.md
+note 'hash_file, a name that begins with -' ends 1 -- -none
 [ "$system" = Windows ] || note 'hash_file, a folder' fails 'Is a directory$' hash_file < /
 note 'hash_file, a full output' \
     fails 'cannot write .*: No space left' eval 'hash_file < /dev/null > /dev/full'

@@ -1,11 +1,13 @@
 /* Prints the hash of each file, by version 5 with seed 0: hash_file [FILE].. prints a line with 16
  * hexadecimal digits, two spaces and the name for each, and - is standard input. Without files, it
  * prints the digits for standard input alone. */
+#define _POSIX_C_SOURCE 200809L
 #include <errno.h>
 #include <inttypes.h>
 #include <komihash_rattle.h>
 #include <stdio.h>
 #include <string.h>
+#include <unistd.h>
 #ifdef _WIN32
 #include <fcntl.h>
 #include <io.h>
@@ -36,13 +38,18 @@ static int print_hash(FILE *file, const char *name) {
 }
 
 int main(int count, char **arguments) {
+    if (getopt(count, arguments, "") != -1) {
+        fputs("usage: hash_file [FILE]..\n", stderr);
+        return 2;
+    }
 #ifdef _WIN32
     _setmode(0, _O_BINARY);
 #endif
-    int status = count < 2 ? print_hash(stdin, NULL) : 0;
-    for (int i = 1; i < count; i++) {
-        FILE *file = strcmp(arguments[i], "-") == 0 ? stdin : fopen(arguments[i], "rb");
-        status |= print_hash(file, arguments[i]);
+    int status = optind == count ? print_hash(stdin, NULL) : 0;
+    for (; optind < count; optind++) {
+        const char *name = arguments[optind];
+        FILE *file = strcmp(name, "-") == 0 ? stdin : fopen(name, "rb");
+        status |= print_hash(file, name);
         if (file && file != stdin)
             fclose(file);
     }
