@@ -47,7 +47,7 @@ final_word_many xs end typed many small =
     let are = AreBytes-typed xs typed in
     sym (rw (
       shr-shr (word_of (take 8 (drop (length xs - 8) xs))) 1 (63 - 8 * r),
-      word_of-last j (1 + (63 - 8 * r)) xs are many (omega arith) (omega arith) (omega arith),
+      word_of-last 8 j (1 + (63 - 8 * r)) xs are many (omega arith) (omega arith) (omega arith),
     )
     (word_of-push (drop j xs) r end (AreBytes-drop j xs are) (omega (arith, length-drop j xs))
     (omega arith) (omega arith)))

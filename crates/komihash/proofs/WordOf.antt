@@ -97,6 +97,17 @@ word_of-zeros [] zero = refl
 word_of-zeros [] (suc k) = omega (arith, word_of-zeros [] k)
 word_of-zeros (x ∷ xs) k = omega (arith, word_of-zeros xs k)
 
+-- the bytes from index j on, read with the last n: a shift drops those before
+pub word_of-last : (n j s : ℕ) (xs : List ℕ) → AreBytes xs → n ≤ length xs → j ≤ length xs
+    → s ≡ 8 * (j + n - length xs) → length xs ≤ j + n
+    → word_of (take n (drop (length xs - n) xs)) / 2 ^ s ≡ word_of (drop j xs)
+word_of-last n j s xs h many within e most =
+    let place : length xs - n + (j + n - length xs) ≡ j = omega arith in
+    let last = drop (length xs - n) xs in
+    rw (e, take_all n last (omega (arith, length-drop (length xs - n) xs)))
+    (sym (word_of-drop (j + n - length xs) last (AreBytes-drop (length xs - n) xs h))
+    ∙ ap word_of (drop-drop (j + n - length xs) (length xs - n) xs ∙ ap (λ k. drop k xs) place))
+
 -- four to seven bytes, read in two pieces of four from both ends, and a byte b after them
 pub word_of-two_ends : (xs : List ℕ) (b s : ℕ) → AreBytes xs → 4 ≤ length xs → length xs < 8
     → b < 256 → s ≡ 64 - 8 * length xs
@@ -109,17 +120,15 @@ word_of-two_ends xs b s h least most small e =
     let zs = xs ++ b ∷ [] in
     let are = AreBytes-append xs (b ∷ []) h (AreBytes-one b small) in
     let size = length-append xs (b ∷ []) in
+    let five = take_all 5 (drop k zs) (omega (arith, length-drop k zs)) in
+    let from : length zs - 5 ≡ k = omega arith in
+    let second = rw (from, five, drop-append-le k xs (b ∷ []) (omega arith)) at
+    (word_of-last 5 4 s zs are (omega arith) (omega arith) (omega arith) (omega arith)) in
     let last : length (drop k xs) ≡ 4 = omega (arith, length-drop k xs) in
-    let bits : s ≡ 8 * (8 - length xs) = omega arith in
-    let place : k + (8 - length xs) ≡ 4 = omega arith in
     rw (
-      bits,
       take_all 4 (drop k xs) (omega arith),
       word_of-push (drop k xs) 4 b (AreBytes-drop k xs h) last (omega arith) small,
-      ← drop-append-le k xs (b ∷ []) (omega arith),
-      ← word_of-drop (8 - length xs) (drop k zs) (AreBytes-drop k zs are),
-      drop-drop (8 - length xs) k zs,
-      place,
+      second,
       ← take-append-le 4 xs (b ∷ []) least,
     )
     (word_of-join (take 4 zs) (drop 4 zs) 4 (AreBytes-take 4 zs are) (AreBytes-drop 4 zs are)
@@ -131,17 +140,6 @@ pub word_of-few : (xs : List ℕ) → length xs < 4
     → get_or xs 0 0 + get_or xs 1 0 * 2 ^ 8 + get_or xs 2 0 * 2 ^ 16 ≡ word_of xs
 word_of-few (w ∷ x ∷ y ∷ z ∷ xs) lt = absurd (omega arith)
 word_of-few xs lt = omega arith
-
--- the bytes from index j on, read with the last eight: a shift drops those before
-pub word_of-last : (j s : ℕ) (xs : List ℕ) → AreBytes xs → 8 ≤ length xs → j ≤ length xs
-    → s ≡ 8 * (j + 8 - length xs) → length xs ≤ j + 8
-    → word_of (take 8 (drop (length xs - 8) xs)) / 2 ^ s ≡ word_of (drop j xs)
-word_of-last j s xs h many within e most =
-    let place : length xs - 8 + (j + 8 - length xs) ≡ j = omega arith in
-    let last = drop (length xs - 8) xs in
-    rw (e, take_all 8 last (omega (arith, length-drop (length xs - 8) xs)))
-    (sym (word_of-drop (j + 8 - length xs) last (AreBytes-drop (length xs - 8) xs h))
-    ∙ ap word_of (drop-drop (j + 8 - length xs) (length xs - 8) xs ∙ ap (λ k. drop k xs) place))
 
 -- the two words of sixteen bytes, as a vector of bytes becomes a vector of words
 pub two_words : (xs : List ℕ) → AreBytes xs → let n = number_l 256 (take 16 xs) in

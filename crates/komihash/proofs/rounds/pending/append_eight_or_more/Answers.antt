@@ -14,7 +14,7 @@ returns-then-has_remainder c =
     let end = c.args.len + length bytes in
     let from = length bytes - end % 8 in
     let are = AreBytes-typed bytes c.type_inv.bytes in
-    let last = word_of-last from (56 - 8 * (end % 8) + 8) bytes are c.requires.at_least_8
+    let last = word_of-last 8 from (56 - 8 * (end % 8) + 8) bytes are c.requires.at_least_8
     (omega arith) (omega arith) (omega arith) in
     let whole = take_all 8 (drop from bytes) (omega (arith, length-drop from bytes)) in
     let word = last ∙ ap word_of (sym whole) ∙ word_after xs bytes (end / 8) from (omega arith) in
