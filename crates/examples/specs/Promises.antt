@@ -35,8 +35,8 @@ pub record StorePromise (v : ℕ) (s : State) (n : ℕ) (out : Mut (List ℕ)) :
   pub rest : drop n out.exit.now ≡ drop n out.entry.now
 
 -- the result is the stream whose saved text the bytes are, or none if they are the text of none
-pub record RestorePromise (A : Type 0) (state : A → State) (v : ℕ) (bytes : List ℕ) (result : Option A)
-    : Type 0 where
+pub record RestorePromise (A : Type 0) (state : A → State) (v : ℕ) (bytes : List ℕ)
+    (result : Option A) : Type 0 where
   pub saved : IfSome result (λ stream. text v (state stream) ≡ bytes)
   pub most : IfSome result (λ _. length bytes ≤ longest_text)
   pub same :

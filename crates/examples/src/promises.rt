@@ -4,7 +4,8 @@
 ghost use Rattle.std.specs.Prelude.{◌≡◌, ◌+◌, ◌*◌, ◌/◌, ◌%◌, ◌≤◌, ◌↔◌, ◌⊎◌, ◌++◌, ◌∷◌, []};
 ghost use Rattle.std.specs.Prelude.{ℕ, List, length, take, drop, IfSome, IfNone, IsNone, IsSomeAnd};
 ghost use Rattle.komihash.specs.Calls.{AreAbsorbs, answers, answers_after, onward, bytes_of_calls};
-ghost use Rattle.komihash.specs.Calls.{onward_products, onward_kept_bytes, run_products, run_kept_bytes};
+ghost use Rattle.komihash.specs.Calls.{onward_products, onward_kept_bytes};
+ghost use Rattle.komihash.specs.Calls.{run_products, run_kept_bytes};
 ghost use Rattle.komihash.specs.Counts.{absorb_products, answer_products, absorb_kept_bytes};
 ghost use Rattle.komihash.specs.Generator.{next, after_steps, fill, after_fill};
 ghost use Rattle.komihash.specs.Hash.{komi};
@@ -13,7 +14,8 @@ ghost use Rattle.komihash.specs.Stream.{IsState, HasAbsorbed};
 ghost use Rattle.komihash.specs.Words.{AreBytes};
 ghost use Rattle.komihash.specs.declared.stream.Call.{Call};
 ghost use Rattle.komihash.specs.declared.stream.Call.TheVariants.{Answer};
-ghost use Rattle.examples.specs.Promises.{StartPromise, AbsorbPromise, AnswerPromise, StorePromise, RestorePromise};
+ghost use Rattle.examples.specs.Promises.{StartPromise, AbsorbPromise, AnswerPromise};
+ghost use Rattle.examples.specs.Promises.{StorePromise, RestorePromise};
 
 use komihash::stream::{Call, KomiStream, LONGEST_TEXT, run, run_on};
 use komihash::tally::Tally;
@@ -216,7 +218,8 @@ pub fn absorbed<S: KomiStream>(stream: &mut S, bytes: &[u8], tally: &mut Tally) 
         + absorb_products (length (S.state stream.old).pending) (length bytes.now)
         + answer_products (length (S.state stream.new).pending) }
     ensures kept_bytes { tally.new.kept_bytes
-        ≡ tally.old.kept_bytes + absorb_kept_bytes (length (S.state stream.old).pending) (length bytes.now) }
+        ≡ tally.old.kept_bytes
+        + absorb_kept_bytes (length (S.state stream.old).pending) (length bytes.now) }
 {
     stream.absorb(bytes, tally);
     stream.answer(tally)

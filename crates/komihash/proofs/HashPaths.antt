@@ -7,8 +7,8 @@ use Rattle.std.proofs.lemmas.Bool.{eqb-true}
 use Rattle.std.specs.Prelude.{slice_index, ◌==◌}
 use Rattle.komihash.specs.Rounds.{Lanes, lanes, seed_pair, block_round, pair_round, join, closing}
 use Rattle.komihash.specs.Hash.{hash_from_pair, hash_from_lanes, komi}
-use Rattle.komihash.specs.Internals.{stored_words, whole_words, after_words, final_word, padding_or_zero}
-use Rattle.komihash.specs.Internals.{block_lanes, after_blocks}
+use Rattle.komihash.specs.Internals.{stored_words, whole_words, after_words, final_word}
+use Rattle.komihash.specs.Internals.{padding_or_zero, block_lanes, after_blocks}
 use Rattle.komihash.specs.Words.{word_of}
 use Rattle.komihash.proofs.Blocks.{after_words-whole_words, length-after_blocks}
 use Rattle.komihash.specs.Padding.{padding_byte}
@@ -93,20 +93,23 @@ module _ (v seed : ℕ) (m : List ℕ) where
       → komi v seed m ≡ closing pair (word_of (m ++ padding_byte v m ∷ []) ∷ [])
   unfolding stored_words
   komi_partial_word some lt =
-      let count : length m / 8 ≡ 0 = omega arith in rw (komi_short (omega arith) (omega arith), count) refl
+      let count : length m / 8 ≡ 0 = omega arith in
+      rw (komi_short (omega arith) (omega arith), count) refl
 
   pub komi_one_word : 8 ≤ length m → length m < 16
       → komi v seed m ≡ closing pair (word_of (take 8 m) ∷ last ∷ [])
   unfolding stored_words
   komi_one_word le lt =
-      let count : length m / 8 ≡ 1 = omega arith in rw (komi_short (omega arith) (omega arith), count) refl
+      let count : length m / 8 ≡ 1 = omega arith in
+      rw (komi_short (omega arith) (omega arith), count) refl
 
   pub komi_two_words : 16 ≤ length m → length m < 24
       → komi v seed m
       ≡ closing (pair_round pair (word_of (take 8 m)) (word_of (take 8 (drop 8 m)))) (last ∷ [])
   unfolding stored_words
   komi_two_words le lt =
-      let count : length m / 8 ≡ 2 = omega arith in rw (komi_short (omega arith) (omega arith), count) refl
+      let count : length m / 8 ≡ 2 = omega arith in
+      rw (komi_short (omega arith) (omega arith), count) refl
 
 pub komi_blocks : (v seed : ℕ) (m : List ℕ) → 64 ≤ length m → length m % 64 < 8
     → komi v seed m

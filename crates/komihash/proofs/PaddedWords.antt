@@ -8,7 +8,8 @@ use Rattle.std.proofs.lemmas.Nat.{shr-shr}
 use Rattle.std.specs.Prelude.{bit_or}
 use Rattle.komihash.specs.Padding.{padded_words, padding_byte}
 use Rattle.komihash.specs.Words.{word_of}
-use Rattle.komihash.specs.Internals.{stored_words, whole_words, after_words, padding_or_zero, final_word}
+use Rattle.komihash.specs.Internals.{stored_words, whole_words, after_words, final_word}
+use Rattle.komihash.specs.Internals.{padding_or_zero}
 use Rattle.komihash.proofs.WordOf.{AreBytes-typed, AreBytes-drop, word_of-last, word_of-push}
 use Rattle.komihash.proofs.WordOf.{word_of-zeros}
 use Rattle.komihash.proofs.WholeWords.{stored_words-last, words_of-whole}

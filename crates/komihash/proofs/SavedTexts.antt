@@ -1,5 +1,5 @@
 -- The saved text: its state can be read back from it, and which bytes are a text.
-use Rattle.std.proofs.Common.{◌≡◌, ℕ, ◌+◌, ◌-◌, ◌/◌, ◌<◌, ◌≤◌, ◌↔◌, Bool, List, []}
+use Rattle.std.proofs.Common.{◌≡◌, ℕ, ◌+◌, ◌-◌, ◌/◌, ◌≤◌, ◌↔◌, Bool, List, []}
 use Rattle.std.proofs.Common.{◌∷◌, ◌++◌, length, take, drop, get_or, refl, ap, arith, ◌∙◌, sym}
 use Rattle.std.proofs.Common.{subst, Fits, w8, Some, None, rules}
 use Rattle.std.proofs.lemmas.Bool.{false≢true}

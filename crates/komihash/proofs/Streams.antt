@@ -208,7 +208,8 @@ tail_of-words v (b ∷ m) had_block top_bit = padded_words-by_tail v (b ∷ m)
 -- an answer, from the pair of its lanes, its whole words and its final word
 pub answer-by_pair : (v : ℕ) (s : State)
     → answer v s ≡ hash_from_pair (join s.had_block s.lanes)
-    (whole_words s.pending ++ final_word s.pending (tail_end v s.pending s.had_block s.top_bit) ∷ [])
+    (whole_words s.pending
+    ++ final_word s.pending (tail_end v s.pending s.had_block s.top_bit) ∷ [])
 unfolding answer
 answer-by_pair v s =
     ap (hash_from_pair (join s.had_block s.lanes)) (tail_of-words v s.pending s.had_block s.top_bit)

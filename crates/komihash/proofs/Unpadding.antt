@@ -11,7 +11,7 @@ use Rattle.std.proofs.lemmas.Nat.{pow-add, pow_pos, shr-shr, shr_below, shr_le, 
 use Rattle.std.proofs.lemmas.Simd.{Each1-from_get_or}
 use Rattle.std.specs.Int.{to_le_bytes}
 use Rattle.std.specs.Prelude.{slice_index}
-use Rattle.komihash.specs.Internals.{stored_words, whole_words, after_words, padding_or_zero}
+use Rattle.komihash.specs.Internals.{stored_words, padding_or_zero}
 use Rattle.komihash.specs.Padding.{ArePadded, pads_with_two, padding_after, padded_words}
 use Rattle.komihash.specs.Padding.{padding_byte}
 use Rattle.komihash.specs.Words.{AreBytes, word_of, all_bytes}

@@ -4,7 +4,7 @@
 ghost use Rattle.std.specs.Prelude.{◌≡◌, ◌+◌, ◌*◌, ◌/◌, ◌^◌, ◌<◌, ◌≤◌, ◌↔◌, IsTrue};
 ghost use Rattle.std.specs.Prelude.{IfSome, IfNone, length, take, slice_index};
 ghost use Rattle.komihash.specs.Padding.{ArePadded, Padded, Unpadded, padded_words};
-ghost use Rattle.komihash.specs.Padding.{pads_with_two, padding_after, padding_byte};
+ghost use Rattle.komihash.specs.Padding.{padding_after, padding_byte};
 ghost use Rattle.komihash.specs.Internals.{final_word};
 ghost use Rattle.komihash.specs.Words.{all_bytes};
 

@@ -2,7 +2,8 @@
 
 ghost use Rattle.std.specs.Prelude.{◌≡◌, ◌<◌, ◌≤◌, ◌⊎◌, ℕ, List, ◌++◌, length, drop};
 ghost use Rattle.komihash.specs.Calls.{answers_after, answers, onward, bytes_of_calls};
-ghost use Rattle.komihash.specs.Calls.{onward_products, onward_kept_bytes, run_products, run_kept_bytes};
+ghost use Rattle.komihash.specs.Calls.{onward_products, onward_kept_bytes};
+ghost use Rattle.komihash.specs.Calls.{run_products, run_kept_bytes};
 ghost use Rattle.komihash.specs.Counts.{Costs, absorb_products, answer_products, absorb_kept_bytes};
 ghost use Rattle.komihash.specs.Hash.{komi};
 ghost use Rattle.komihash.specs.Saved.{Stored, Restored};

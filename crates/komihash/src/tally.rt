@@ -5,8 +5,8 @@ ghost use Rattle.std.specs.Prelude.{◌≡◌, ℕ};
 use std::marker::{Model, PhantomData};
 
 /// Counts, without limit, two things that only contracts see: `products`, the products of two
-/// words, and `kept_bytes`, the bytes that writes added to the pending bytes of streams. Each byte counts
-/// once, however often its word is stored.
+/// words, and `kept_bytes`, the bytes that writes copied into the pending bytes of streams. Each
+/// byte counts once, however often its word is stored.
 ///
 /// A tally takes no memory at run time, and no program can read it. A contract says by how much a
 /// call raises the tally that it is passed. Another crate can change a tally only by passing it to

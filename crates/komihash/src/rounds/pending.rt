@@ -287,8 +287,8 @@ fn append_long(words: &mut [u64; 8], len: usize, bytes: &[u8])
     }
 }
 
-// Appends bytes to the first `len` of those that the words store, as many as complete the block if LONG
-// tells that there are at least 64, and counts these as kept. Bytes come into the words only
+// Appends bytes to the first `len` of those that the words store, as many as complete the block if
+// LONG tells that there are at least 64, and counts these as kept. Bytes come into the words only
 // through this function.
 #[inline(always)]
 fn append_bytes<const LONG: bool>(words: &mut [u64; 8], len: usize, bytes: &[u8], tally: &mut Tally)

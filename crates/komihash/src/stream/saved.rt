@@ -31,7 +31,8 @@ pub(crate) fn write_head<const V: u8>(
     requires below_64 { pending_len < 64 }
     requires room { LANES_AT ≤ length out.old }
     ensures head { out.new
-        ≡ (V ∷ flag_byte had_block ∷ flag_byte top_bit ∷ pending_len ∷ []) ++ drop LANES_AT out.old }
+        ≡ (V ∷ flag_byte had_block ∷ flag_byte top_bit ∷ pending_len ∷ [])
+        ++ drop LANES_AT out.old }
     ensures after { (n : ℕ) → LANES_AT ≤ n → drop n out.new ≡ drop n out.old }
 {
     out[0] = V;

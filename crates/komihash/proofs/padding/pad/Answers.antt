@@ -8,7 +8,8 @@ use Rattle.komihash.specs.Internals.{final_word, padding_or_zero}
 use Rattle.komihash.specs.Words.{word_of}
 use Rattle.komihash.proofs.PaddedWords.{padding_or_zero-some, padded_words-by_tail}
 use Rattle.komihash.proofs.padding.pad.Goals as goal
-use Rattle.komihash.proofs.padding.pad.Goals.{then-has_whole_word, else-has_whole_word+else-is_empty}
+use Rattle.komihash.proofs.padding.pad.Goals.{then-has_whole_word}
+use Rattle.komihash.proofs.padding.pad.Goals.{else-has_whole_word+else-is_empty}
 use Rattle.komihash.proofs.padding.pad.Goals.{else-has_whole_word+then-is_empty}
 
 pub returns : goal.returns

@@ -16,5 +16,6 @@ invariant-loop-call g l =
       state : g.S.KomiStream.state l.stream ≡ absorb v first (bytes_of_calls made);
       products : l.tally.products
           ≡ l.initial.tally.products + onward_products (length first.pending) made;
-      kept_bytes : l.tally.kept_bytes ≡ l.initial.tally.kept_bytes + onward_kept_bytes (length first.pending) made;
+      kept_bytes : l.tally.kept_bytes
+          ≡ l.initial.tally.kept_bytes + onward_kept_bytes (length first.pending) made;
     }

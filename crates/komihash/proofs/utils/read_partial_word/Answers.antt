@@ -3,8 +3,8 @@ use Rattle.std.proofs.Common.{◌≡◌, ◌*◌, ◌/◌, ◌-◌, ◌^◌, len
 use Rattle.std.proofs.lemmas.List.{get_or_past}
 use Rattle.komihash.proofs.WordOf.{AreBytes-typed, word_of-two_ends, word_of-few, word_of-push}
 use Rattle.komihash.proofs.utils.read_partial_word.Goals as goal
-use Rattle.komihash.proofs.utils.read_partial_word.Goals.{then-has_second, else-has_second, then-has_third}
-use Rattle.komihash.proofs.utils.read_partial_word.Goals.{else-has_third}
+use Rattle.komihash.proofs.utils.read_partial_word.Goals.{then-has_second, else-has_second}
+use Rattle.komihash.proofs.utils.read_partial_word.Goals.{then-has_third, else-has_third}
 
 pub returns-then-has_half_word : goal.returns-then-has_half_word
 returns-then-has_half_word c =

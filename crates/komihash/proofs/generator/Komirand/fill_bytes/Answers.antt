@@ -1,5 +1,6 @@
 -- `Covers-more` adds an output to those that the buffer has: its eight bytes, or at the end fewer.
-use Rattle.std.proofs.Common.{◌≡◌, ◌+◌, ◌-◌, ◌*◌, ◌/◌, ◌∙◌, length, take, drop, arith, refl, rules, sym}
+use Rattle.std.proofs.Common.{◌≡◌, ◌+◌, ◌-◌, ◌*◌, ◌/◌, ◌∙◌, length, take, drop, arith}
+use Rattle.std.proofs.Common.{rules, sym}
 use Rattle.std.proofs.lemmas.List.{take_all}
 use Rattle.std.proofs.lemmas.Slice.{overwrites}
 use Rattle.komihash.specs.Generator.{fill_steps}
@@ -33,8 +34,8 @@ returns-then-has_remainder g c =
     c.next-output.ensures.pair in
     let count = length-outputs g.row.V all c.args.self.now in
     let filled = Covers-more _ _ _ _ whole _ _ n is.bytes
-    (rw word at c.write_partial_word.ensures) (omega arith) (omega arith) (omega arith) (omega arith)
-    (omega arith) in
+    (rw word at c.write_partial_word.ensures) (omega arith) (omega arith) (omega arith)
+    (omega arith) (omega arith) in
     let whole_buffer = take_all n _ (search (rules, overwrites)) in
     let steps : all ≡ whole + 1 = omega arith in
     record { bytes = sym whole_buffer ∙ filled.front; pair = rw steps pair }

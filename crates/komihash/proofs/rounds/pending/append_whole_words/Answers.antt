@@ -5,7 +5,8 @@ use Rattle.komihash.specs.Internals.{pending_bytes}
 use Rattle.komihash.proofs.WordOf.{AreBytes-typed}
 use Rattle.komihash.proofs.PendingBytes.{put_word, word_after}
 use Rattle.komihash.proofs.rounds.pending.append_whole_words.Goals as goal
-use Rattle.komihash.proofs.rounds.pending.append_whole_words.Goals.{then-has_four_more, else-has_four_more}
+use Rattle.komihash.proofs.rounds.pending.append_whole_words.Goals.{then-has_four_more}
+use Rattle.komihash.proofs.rounds.pending.append_whole_words.Goals.{else-has_four_more}
 
 pub returns-after-has_four_more : goal.returns-after-has_four_more
 returns-after-has_four_more c =
@@ -21,8 +22,10 @@ returns-after-has_four_more c =
     let last = c.store_two_words-then-has_two_more.ensures xs in
     elim c.if-has_four_more.branch [
       | then-has_four_more w ↦
-          let next = w.store_two_words-then-has_four_more.ensures xs _ _ (at + 5) first (omega arith) in
-          let over = w.store_two_words-then-has_four_more-2.ensures xs _ _ back next (omega arith) in
+          let next = w.store_two_words-then-has_four_more.ensures xs _ _ (at + 5) first
+          (omega arith) in
+          let over = w.store_two_words-then-has_four_more-2.ensures xs _ _ back next
+          (omega arith) in
           last back _ end (rw (w.words-is) over) (omega arith)
       | else-has_four_more w ↦ last (at + 3) _ end (rw (w.words-is) first) (omega arith)
     ]

@@ -12,8 +12,8 @@ pub returns : goal.returns
 returns c =
     let ws = in_order c.args.lanes.now in
     let (lanes, after) =
-    part-put lanes_at pending_at c.args.out.now c.write_first_bytes.new.out (all_bytes ws) (omega arith) (omega arith)
-    c.write_first_bytes.auto.out
+    part-put lanes_at pending_at c.args.out.now c.write_first_bytes.new.out (all_bytes ws)
+    (omega arith) (omega arith) c.write_first_bytes.auto.out
     (c.write_first_bytes.ensures.bytes ∙ ap (λ ws. take 64 (all_bytes ws)) c.in_order.ensures
     ∙ take_all 64 (all_bytes ws) (omega (arith, length-all_bytes ws))) in
     record { lanes = lanes; after = after }

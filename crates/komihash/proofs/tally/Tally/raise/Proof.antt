@@ -47,7 +47,8 @@ raise_spec 𝓤 𝓛 𝓜 𝓡 wired =
     let h : Tally = a.0.now in
     let m = a.1.0 in
     let n = a.1.1.0 in
-    let h' : Tally = record { marker = h.marker; products = h.products + m; kept_bytes = h.kept_bytes + n } in
+    let h' : Tally =
+    record { marker = h.marker; products = h.products + m; kept_bytes = h.kept_bytes + n } in
     let vs = mut_vals a.0 in
     let y : W.Ghost = ((κs, qs, bounds, a, (vs, (uint_vals w64 m, (uint_vals w64 n, tt)))), tt) in
     let types = MutRef (named 0) κs.0 R ∷ usize ∷ usize ∷ [] in

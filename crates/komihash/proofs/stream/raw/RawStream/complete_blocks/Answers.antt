@@ -4,7 +4,8 @@ use Rattle.std.proofs.lemmas.List.{nil_from_length}
 use Rattle.komihash.specs.Stream.{State, absorb}
 use Rattle.komihash.proofs.Streams.{after_absorb, completed}
 use Rattle.komihash.proofs.stream.raw.RawStream.complete_blocks.Goals as goal
-use Rattle.komihash.proofs.stream.raw.RawStream.complete_blocks.Goals.{then-none_pending, else-none_pending}
+use Rattle.komihash.proofs.stream.raw.RawStream.complete_blocks.Goals.{then-none_pending}
+use Rattle.komihash.proofs.stream.raw.RawStream.complete_blocks.Goals.{else-none_pending}
 
 pub returns-clause-state : goal.returns-clause-state
 returns-clause-state g c =
