@@ -1,7 +1,7 @@
 #!/usr/bin/env python3
 """Checks that each block of Rattle in README and CALLING is a part of a file of crates/examples,
-that README and compare/speed.md have the same table of speed, and that the package of the library
-for C has the same licence."""
+that README and compare/speed.md have the same table of speed, and that what is copied from the
+repository has its licence."""
 
 import re
 from pathlib import Path
@@ -16,11 +16,10 @@ kinds = ("src/*.rt", "specs/*.antt", "proofs/**/*.antt")
 files = [file for kind in kinds for file in (ROOT / "crates/examples").glob(kind)]
 examples = [file.read_text("utf-8") for file in files]
 
-licence, copy = ((ROOT / file).read_text("utf-8") for file in ("LICENSE", "c/LICENSE"))
-checks = [
-    ("the table of speed", SPEED.search(readme)[1] == SPEED.search(speed)[1]),
-    ("the licence in c/", licence == copy),
-]
+checks = [("the table of speed", SPEED.search(readme)[1] == SPEED.search(speed)[1])]
+for folder in ("c", "crates/komihash"):
+    licences = ((ROOT / path / "LICENSE").read_text("utf-8") for path in (".", folder))
+    checks.append((f"the licence in {folder}", len(set(licences)) == 1))
 for code in CODE.findall(readme + calling):
     checks.append((f"the block `{code.splitlines()[0]}`", any(code in text for text in examples)))
 for name, holds in checks:

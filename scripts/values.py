@@ -1,5 +1,5 @@
 #!/usr/bin/env python3
-"""Compares the definition that c/verify has with the tables of values in docs/DEFINITIONS.md."""
+"""Compares the definition that c/verify has with the table of values in docs/DEFINITIONS.md."""
 
 import re
 import sys
@@ -30,11 +30,8 @@ def message(version, name):
         before = terms(message(version, name[len('the text after '):]))
         state = start(PRODUCTS, bv(0)).absorb(PRODUCTS, version, before)
         return numbers(bytes_of(state.text(version)))
-    count, *byte = [int(n) for n in re.findall(r'\d+', name)] or [0]
-    if name[0] in '"B':
-        return name[1:-1].encode() if name[0] == '"' else bytes(
-            (7 * i + 3) % 256 for i in range(count))
-    return bytes([count]) if 'the byte' in name else bytes(byte) * count
+    count = 0 if name == 'no bytes' else int(re.fullmatch(r'B\((\d+)\)', name)[1])
+    return bytes((7 * i + 3) % 256 for i in range(count))
 
 
 def hash_of(version, content, seed=0):
@@ -85,7 +82,6 @@ def each(function, version, quoted, *more):
 
 
 ROWS = {
-    '(".*")': lambda v, name: hash_of(v, message(v, name)),
     '(hash of 35 bytes: the 27 of a fill after this `init`, then the 8 of the next output)':
         lambda v, _: hash_of(v, (found := outputs(v, 40, SEED))[:27] + found[32:]),
     r'hash of (.*?)(?:, with the seed (\w+))?':
@@ -116,7 +112,7 @@ def check_values():
     section = PAGE.read_text('utf-8').split('\n## Values\n')[1].split('\n## ')[0]
     rows = [row.split(' | ') for row in re.findall(r'^\| (.*) \|$', section, re.M)]
     values = [(v, row, cell) for row, *cells in rows for v, cell in zip((5, 4), cells[::-1])
-              if cell not in ('Hash', 'Version 4', 'Version 5')]
+              if cell not in ('Version 4', 'Version 5')]
     for value in values:
         check_value(*value)
     return len(values)
