@@ -37,7 +37,7 @@ unpack() {
         cmp "$room"/komihash_rattle-*.tar.gz "$room"/komihash_rattle-*/out/*.tar.gz
 }
 check_package() { make -C "$room"/komihash_rattle-*/ --no-print-directory check "$@"; }
-# Verifies the build that every processor can run, and tests how. The one for x86-64-v3 takes longer.
+# Verifies the build that every processor can run, and tests the check itself.
 verify_package() {
     local python
     for python in python3 /usr/bin/python3; do

@@ -1,7 +1,7 @@
 //! The steps of the hash from the seed to the pair that is left after the blocks: seeding, lanes,
 //! block rounds, joining.
 //!
-//! Only `places` and `pads_with_two` depend on the version. Streams keep the latter of each block.
+//! Only `places` and `pads_with_two` depend on the version. Streams keep the latter of their last block.
 
 ghost use Rattle.std.specs.Prelude.{◌≡◌, ◌+◌, ◌*◌, ◌/◌, ◌%◌, ◌<◌, ◌≤◌, All, length, bit_xor};
 ghost use Rattle.std.proofs.Common.{refl};

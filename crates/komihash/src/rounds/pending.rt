@@ -287,9 +287,9 @@ fn append_long(words: &mut [u64; 8], len: usize, bytes: &[u8])
     }
 }
 
-// Appends bytes to the first `len` of those that the words store, as many as complete the block if
-// LONG tells that there are at least 64, and counts these as kept. Bytes come into the words only
-// through this function.
+// Appends bytes after the first `len` pending ones, and counts them as kept. With LONG there are at
+// least 64, and only those that complete the block are appended. Only this function puts bytes into
+// the words.
 #[inline(always)]
 fn append_bytes<const LONG: bool>(words: &mut [u64; 8], len: usize, bytes: &[u8], tally: &mut Tally)
     requires pending { ArePending words.old len }
