@@ -2,6 +2,7 @@
 refuses. What passes must do on the processor, for random calls, what the library does in the model;
 so must what is read as the same instruction."""
 import collections
+import functools
 import multiprocessing
 import random
 import signal
@@ -13,9 +14,9 @@ import terms
 from elftools.elf.elffile import ELFFile
 from processor import compare
 
-EFFORT, SECONDS = 2 * 10**8, 300
+EFFORT, SECONDS, SOME = 2 * 10**8, 300, 100
 AT = collections.defaultdict(list)
-Mutant = collections.namedtuple('Mutant', 'address bit before after failure')
+Mutant = collections.namedtuple('Mutant', 'address bit before after failure told')
 
 
 def start(path):
@@ -37,24 +38,31 @@ def text(image, address):
     return f'{i.mnemonic} {i.text}'
 
 
-def try_mutant(place):
-    """Runs the cases that reach the instruction until one fails; none if it is the same."""
-    (address, bit), image, failure = place, cases.IMAGE, None
-    before = text(image, address)
+def refusal(tried):
+    """Why the first of the cases fails that does, or None."""
+    return next((f for case in tried if (f := cases.run_case(case).failure) is not None), None)
+
+
+def try_mutant(path, program, place):
+    """Runs some cases that reach the instruction, and if calls on the processor differ, the others
+    too."""
+    (address, bit), image, failure, told = place, cases.IMAGE, None, ''
+    before, reaching = text(image, address), AT[address]
+    some = reaching[::max(len(reaching) // SOME, 1)]
     image.flip(address + bit // 8, bit % 8)
     after = text(image, address)
     loops.HEADS.clear()
     signal.setitimer(signal.ITIMER_PROF, SECONDS)
     try:
-        for case in AT[address] if after != before else ():
-            failure = cases.run_case(case).failure
-            if failure is not None:
-                break
+        failure = refusal(some) if after != before else None
+        if failure is None:
+            told = really(path, address + bit // 8, bit % 8, program)
+            failure = refusal(c for c in reaching if c not in some) if 'WRONGLY' in told else None
     except TimeoutError as error:
         failure = terms.Unknown(error)
     signal.setitimer(signal.ITIMER_PROF, 0)
     image.flip(address + bit // 8, bit % 8)
-    return Mutant(address, bit, before, after, failure)
+    return Mutant(address, bit, before, after, failure, told)
 
 
 def places(image, owners, count, seed):
@@ -67,13 +75,13 @@ def places(image, owners, count, seed):
         yield address, r.randrange(8 * image.instruction(address).size)
 
 
-def really(path, mutant, program):
-    """What random calls of a mutant that passes show."""
+def really(path, address, bit, program):
+    """What random calls of a library with this bit changed show."""
     with open(path, 'rb') as file, tempfile.NamedTemporaryFile(suffix='.so') as changed:
-        offset, = ELFFile(file).address_offsets(mutant.address + mutant.bit // 8)
+        offset, = ELFFile(file).address_offsets(address)
         file.seek(0)
         content = bytearray(file.read())
-        content[offset] ^= 1 << mutant.bit % 8
+        content[offset] ^= 1 << bit
         changed.write(content)
         changed.flush()
         try:
@@ -98,15 +106,15 @@ def test(path, done, args):
         for address in one.ran:
             owners[address].add(one.case.name)
             AT[address].append(one.case)
-    flips = list(places(image, owners, args.mutants, args.seed))
+    flips = places(image, owners, args.mutants, args.seed)
+    tries = functools.partial(try_mutant, path, args.program)
     with multiprocessing.Pool(args.jobs, start, [path], maxtasksperchild=20) as pool:
-        for m in pool.imap_unordered(try_mutant, flips):
+        for m in pool.imap_unordered(tries, list(flips)):
             found['several' if len(owners[m.address]) > 1 else min(owners[m.address])].append(m)
+            wrong += m.failure is None and 'WRONGLY' in m.told
             if verdict(m) != 'refused':
-                told = m.failure or really(path, m, args.program)
-                wrong += 'WRONGLY' in str(told)
-                print(f'{m.address:#x} bit {m.bit}: {m.before} -> {m.after}: {verdict(m)}: {told}',
-                      flush=True)
+                print(f'{m.address:#x} bit {m.bit}: {m.before} -> {m.after}: {verdict(m)}: '
+                      f'{m.failure or m.told}', flush=True)
     tell(found)
     return wrong
 
