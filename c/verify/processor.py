@@ -11,6 +11,7 @@ from terms import Refused, bv, const
 
 PLACE, SIZE, REPLY = 2**32, 2048, struct.Struct('<18Q2048s')
 NO_RESULT, PAIRS = ('_write', '_rand_fill'), ('_init', '_seed', '_words')
+STREAMS = ('_write', '_finish', '_save', '_resume')
 
 
 def on_numbers(kind):
@@ -63,8 +64,15 @@ class Call:
         return struct.pack('<64s6Q', self.name.encode(), self.words, *args, PLACE) + self.memory
 
     def outcome(self, words, memory):
-        """What counts of an outcome: `resume` returns a byte, and two calls return nothing."""
-        words = [w & 255 if self.name.endswith('_resume') else w for w in words[:self.words]]
+        """What counts of an outcome: `resume` returns a byte, two calls return nothing, and six bytes
+        of a stream are unused."""
+        words, memory = list(words[:self.words]), bytearray(memory)
+        if self.words == 18:
+            words[17] &= 0xffff
+        elif self.name.endswith(STREAMS):
+            place = self.args[0] - PLACE
+            memory[place + 138:place + 144] = bytes(6)
+        words = [w & 255 if self.name.endswith('_resume') else w for w in words]
         return [] if self.name.endswith(NO_RESULT) else words, bytes(memory)
 
     def in_model(self, image):
