@@ -1,7 +1,11 @@
 """Calls of any length, by induction over the turns of a loop. What registers and memory hold when a
 turn begins, and after the last one, is found: forms are guessed from the first two turns of a long
 call, and what another arrival doesn't confirm is dropped, until each turn that begins with these
-forms ends with them. Lengths are GRAIN * q + r. From the loop on, each r is run apart."""
+forms ends with them. Lengths are GRAIN * q + r. From the loop on, each r is run apart.
+
+For example, when a turn of a hash begins, a register is the address of the bytes and as many as were
+taken (a linear form), words of registers or of the stack are lanes (each a word of the definition),
+the stack pointer is what it was (fixed), and a turn is left (a condition)."""
 import collections
 import functools
 import z3
