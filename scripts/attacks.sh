@@ -32,7 +32,7 @@ refused() {
     read -r _ kind name < <(cat "$1".*)
     told=$(check "$1".*)
     echo "$told"
-    grep -F "$kind:" <<< "$told" && grep "\`[^\`]*\b$name\b" <<< "$told"
+    grep -F "$kind:" <<< "$told" | grep "\`[^\`]*\b$name\b"
 }
 
 note 'the controls are accepted' check

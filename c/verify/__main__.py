@@ -47,9 +47,9 @@ class Progress:
                       max(d.depth for d in self.done[name]), f'{self.total("seconds", name):.0f}'))
 
 
-def verify(path, names, jobs):
+def verify(image, path, names, jobs):
     """Checks a library, and returns what was done."""
-    begin, image = time.time(), open_library(path)
+    begin = time.time()
     print(f'{path}: {image.processor.NAME}')
     missing = [name for name in names if name not in image.functions]
     if missing:
@@ -70,7 +70,7 @@ def verify(path, names, jobs):
     return progress
 
 
-def test(path, done, args):
+def test(image, path, done, args):
     """Tests the check of a library, and returns how many tests passed and failed."""
     try:
         calls, ran = processor.compare(path, 32, [*args.program, path])
@@ -78,13 +78,13 @@ def test(path, done, args):
         print(f'FAILED: {refused}')
         return 0, 1
     print(f'{calls} calls do the same in the model and on the processor')
-    image = open_library(path)
-    dead = sorted(image.code() - ran.union(*(d.ran for some in done.values() for d in some)))
-    print(f'{len(image.code())} instructions; no call that is allowed reaches these {len(dead)}:')
+    code = image.code()
+    dead = sorted(code - ran.union(*(d.ran for d in done)))
+    print(f'{len(code)} instructions; no call that is allowed reaches these {len(dead)}:')
     for address in dead:
         i = image.instruction(address)
         print(f'{address:#x} {i.mnemonic} {i.text}')
-    wrong = mutants.test(path, done, args)
+    wrong = mutants.test(image, path, done, args)
     return 1 + args.mutants - wrong, wrong
 
 
@@ -103,14 +103,15 @@ def arguments():
 def main():
     args = arguments()
     try:
-        check_definition()
+        check_definition(args.jobs)
         passed, failed = 1, 0
         for path in args.library:
-            progress = verify(path, args.function, args.jobs)
+            image = open_library(path)
+            progress = verify(image, path, args.function, args.jobs)
             passed += len(args.function) - len(progress.failed)
             failed += len(progress.failed)
             if args.program and not failed:
-                right, wrong = test(path, progress.done, args)
+                right, wrong = test(image, path, sum(progress.done.values(), []), args)
                 passed, failed = passed + right, failed + wrong
     except (OSError, ELFError, Unknown) as error:
         print(f'verify: nothing is claimed: {error}', file=sys.stderr)

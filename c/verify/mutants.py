@@ -98,10 +98,9 @@ def verdict(mutant):
     return 'no answer' if isinstance(mutant.failure, terms.Unknown) else 'refused'
 
 
-def test(path, done, args):
+def test(image, path, done, args):
     """Tries so many mutants. Returns how many were passed wrongly."""
     owners, found, wrong = collections.defaultdict(set), collections.defaultdict(list), 0
-    image, done = cases.open_library(path), sum(done.values(), [])
     for one in sorted(done, key=lambda d: (d.case.check.__name__.endswith('_many'), d.seconds)):
         for address in one.ran:
             owners[address].add(one.case.name)

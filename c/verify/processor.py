@@ -4,6 +4,7 @@ processor.c, compiled for the library's processor; an emulator may come before i
 import random
 import struct
 import subprocess
+from calls import FLAGS, STREAM
 from cases import PROCESSORS
 from definition import Numbers, padded_words
 from machine import Image
@@ -71,7 +72,7 @@ class Call:
             words[17] &= 0xffff
         elif self.name.endswith(STREAMS):
             place = self.args[0] - PLACE
-            memory[place + 138:place + 144] = bytes(6)
+            memory[place + FLAGS + 2:place + STREAM] = bytes(STREAM - FLAGS - 2)
         words = [w & 255 if self.name.endswith('_resume') else w for w in words]
         return [] if self.name.endswith(NO_RESULT) else words, bytes(memory)
 

@@ -1,4 +1,5 @@
 """The definition against hashes of the Rust crate and of the C original, and against itself."""
+import multiprocessing
 import os
 import z3
 from definition import Numbers, Products, komi, start
@@ -32,8 +33,8 @@ def check_streams(length):
             raise Unknown(f'the definition of streams gives other hashes for {length} bytes')
 
 
-def check_definition():
+def check_definition(jobs):
     print(f'the definition gives the {check_hashes()} hashes of vectors.tsv')
-    for length in range(130):
-        check_streams(length)
+    with multiprocessing.Pool(jobs) as pool:
+        pool.map(check_streams, range(130), chunksize=1)
     print('in the definition, streams answer the hash of any message of fewer than 130 bytes')
