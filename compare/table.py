@@ -44,7 +44,7 @@ DRAWN = dict(zip(("komihash 5", VERSIONS["komihash 5"], *RIVALS), COLOURS))
 
 # Calls that the Rust crate lacks, and the ratio below which others are named as slower.
 LACKING = ("save", "pad", "unpad")
-LEVEL = 0.97
+SLOWER_BELOW = 0.97
 
 BESIDE_CRATE = (
     "A ratio is the time of the Rust crate `komihash` 0.5.0, built with fat LTO and for x86-64-v2,"
@@ -104,7 +104,7 @@ class Times:
         for row in self.rows:
             for ours, theirs in VERSIONS.items():
                 median = self.ratio(row, theirs, ours)[0]
-                if round(median, 2) < LEVEL and not row.startswith(LACKING):
+                if round(median, 2) < SLOWER_BELOW and not row.startswith(LACKING):
                     yield f"{row}, {theirs.split(', ')[1]} ({median:.2f})"
 
 
@@ -128,23 +128,23 @@ def table(heads, lines):
     return "\n".join(f"| {' | '.join(line)} |" for line in (heads, rule, *lines) if lines)
 
 
-def asked(*command):
+def output_of(*command):
     env = {**os.environ, "LC_ALL": "C"}
     said = subprocess.run(command, capture_output=True, text=True, check=False, env=env, cwd=HERE)
     return said.stdout.strip()
 
 
 def circumstances(layouts, repeats):
-    fields = dict(re.findall(r"^([^:\n]+): *(.*)$", asked("lscpu"), re.MULTILINE))
-    changes = asked("git", "status", "--porcelain", "--", "../c", "driver", "run.sh")
-    commit = asked("git", "rev-parse", "--short", "HEAD") + " and changes" * bool(changes)
+    fields = dict(re.findall(r"^([^:\n]+): *(.*)$", output_of("lscpu"), re.MULTILINE))
+    changes = output_of("git", "status", "--porcelain", "--", "../c", "driver", "run.sh")
+    commit = output_of("git", "rev-parse", "--short", "HEAD") + " and changes" * bool(changes)
     packages = ("libxxhash-dev", "libwyhash-dev")
     facts = (
         "{Model name} (family {CPU family}, model {Model}), {CPU(s)} CPUs".format(**fields),
         f"commit {commit}, {datetime.date.today()}",
-        " ".join(asked("rustc", "--version").split()[:2]),
-        asked(os.environ.get("CC", "cc"), "--version").split("\n")[0],
-        *asked("dpkg-query", "-Wf", "${Package} ${Version}\n", *packages).splitlines(),
+        " ".join(output_of("rustc", "--version").split()[:2]),
+        output_of(os.environ.get("CC", "cc"), "--version").split("\n")[0],
+        *output_of("dpkg-query", "-Wf", "${Package} ${Version}\n", *packages).splitlines(),
         f"{layouts} layouts, {repeats} repeats",
     )
     return f"Measured on {'; '.join(facts)}."
@@ -204,7 +204,7 @@ def main(repeats, word, *files):
         f"# How fast the library is\n\n{block}",
         "All tables are of the same run. [README.md](README.md) tells how they were measured.",
         "![GB/s over the size of a message](speed.svg)\n\n## Beside the Rust crate",
-        f"Ratios below {LEVEL} of calls that the Rust crate has: {'; '.join(times.slower())}.",
+        f"Ratios below {SLOWER_BELOW} of calls that the Rust crate has: {'; '.join(times.slower())}.",
         f"{rows[0]}\n\n## Beside other hashes",
         "A ratio is the time of the hash at the head divided by the time of this library, built for"
         " x86-64-v2: in version 4 below `komihash 4, x86-64-v3`, and in version 5 below all other"
