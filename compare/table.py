@@ -150,15 +150,16 @@ def circumstances(layouts, repeats):
     return f"Measured on {'; '.join(facts)}."
 
 
-def plot(times):
-    """Draws the speeds of hashes over their sizes, with logarithmic scales."""
+def x_of(size):
+    return round(36 * math.log2(bytes_in(size)))
 
-    def x(size):
-        return round(36 * math.log2(bytes_in(size)))
 
-    def y(speed):
-        return round(310 - 45 * math.log2(speed))
+def y_of(speed):
+    return round(310 - 45 * math.log2(speed))
 
+
+def axes():
+    """Draws the axes, whose scales are logarithmic."""
     parts = [
         '<svg xmlns="http://www.w3.org/2000/svg" viewBox="0 0 800 460" font-family="sans-serif"'
         ' font-size="14" text-anchor="middle"><rect width="800" height="460" fill="white"/>',
@@ -166,15 +167,21 @@ def plot(times):
         '<text transform="translate(15 220) rotate(-90)">GB/s, independent calls</text>',
     ]
     for size in ("4 bytes", "16 bytes", "64 bytes", "256 bytes", "1 KiB", "64 KiB", "1 MiB"):
-        parts.append(f'<path d="M{x(size)} 40V400" stroke="#ddd"/>')
-        parts.append(f'<text x="{x(size)}" y="420">{size}</text>')
+        parts.append(f'<path d="M{x_of(size)} 40V400" stroke="#ddd"/>')
+        parts.append(f'<text x="{x_of(size)}" y="420">{size}</text>')
     for speed in (0.5, 1, 2, 4, 8, 16, 32):
-        parts.append(f'<path d="M72 {y(speed)}H720" stroke="#ddd"/>')
-        parts.append(f'<text x="50" y="{y(speed) + 5}">{speed}</text>')
+        parts.append(f'<path d="M72 {y_of(speed)}H720" stroke="#ddd"/>')
+        parts.append(f'<text x="50" y="{y_of(speed) + 5}">{speed}</text>')
+    return parts
+
+
+def plot(times):
+    """Draws the speeds of hashes over their sizes."""
+    parts = axes()
     sizes = re.findall(r"^hash of (\d+ (?:bytes|KiB|MiB))$", "\n".join(times.rows), re.MULTILINE)
     for line, column in enumerate(filter(DRAWN.get, times.columns)):
         least = ((size, min(times.times[f"hash of {size}", column])) for size in sizes)
-        points = " ".join(f"{x(size)},{y(bytes_in(size) / time)}" for size, time in least)
+        points = " ".join(f"{x_of(size)},{y_of(bytes_in(size) / time)}" for size, time in least)
         style = f'stroke="{DRAWN[column]}" stroke-width="2" fill="none"'
         parts.append(f'<polyline points="{points}" {style}/>')
         at = f'x="600" y="{300 + 20 * line}" fill="{DRAWN[column]}"'
