@@ -1,8 +1,7 @@
 -- The saved text: its state can be read back from it, and which bytes are a text.
 use Rattle.std.proofs.Common.{◌≡◌, ℕ, ◌+◌, ◌-◌, ◌/◌, ◌≤◌, ◌↔◌, Bool, List, []}
 use Rattle.std.proofs.Common.{◌∷◌, ◌++◌, length, take, drop, get_or, refl, ap, arith, ◌∙◌, sym}
-use Rattle.std.proofs.Common.{subst, Fits, w8, Some, None, rules}
-use Rattle.std.proofs.lemmas.Bool.{false≢true}
+use Rattle.std.proofs.Common.{subst, Fits, w8, Some}
 use Rattle.std.proofs.lemmas.Bool.Decides.{nat_tests}
 use Rattle.std.proofs.lemmas.List.{length-take, length-drop, length-take-le}
 use Rattle.std.proofs.lemmas.List.{take-append-drop, take_at, drop_at, take_all}
@@ -12,7 +11,7 @@ use Rattle.std.specs.Prelude.{slice_index, ◌==◌}
 use Rattle.komihash.specs.Rounds.{Lanes, in_order}
 use Rattle.komihash.specs.Saved.{lanes_at, pending_at, longest_text, flag_byte, text}
 use Rattle.komihash.specs.Saved.{IsText, IsTextAfter, Restored}
-use Rattle.komihash.specs.Stream.{State, IsState, HasAbsorbed}
+use Rattle.komihash.specs.Stream.{State, IsState}
 use Rattle.komihash.specs.Internals.{IsHead, stored_words, whole_words}
 use Rattle.komihash.specs.Words.{AreBytes, AreWords, all_bytes}
 use Rattle.komihash.specs.Internals.{xor_again}
@@ -29,11 +28,8 @@ pub part-put : (a n : ℕ) (out part bytes : List ℕ) → a ≤ n → n ≤ len
     → (take n (put_mid a (n - a) out part) ≡ take a out ++ bytes)
     × ((m : ℕ) → n ≤ m → drop m (put_mid a (n - a) out part) ≡ drop m out)
 part-put a n out part bytes le within room is =
-    let size = room ∙ length-take-le (n - a) (drop a out) (omega (arith, length-drop a out)) in (
-      take-put_mid a (n - a) out part n (omega (arith, size)) (omega arith)
-          ∙ ap (λ xs. take a out ++ xs) (sym (take_all (n - a) part (omega arith)) ∙ is),
-      λ m after. drop-put_mid a (n - a) out part m (omega arith) (omega arith) size,
-    )
+    let size = room ∙ length-take-le (n - a) (drop a out) (omega (arith, length-drop a out)) in
+    grind (arith, take-put_mid, drop-put_mid, take_all)
 
 -- ---- a text, and the state that is read from it
 
@@ -161,30 +157,20 @@ IsLaidOut-text v bytes typed =
 
 -- ---- what the calls say
 
--- lanes read from a text
-pub read_state : (bytes : List ℕ) (lanes : Lanes)
-    → in_order lanes ≡ whole_words (take 64 (drop lanes_at bytes))
-    → record (state_of bytes) { lanes = lanes } ≡ state_of bytes
-read_state bytes lanes read = ap (λ ws. record (state_of bytes) { lanes = lanes_from ws }) read
-
-pub restored : (v : ℕ) (bytes : List ℕ) (now : State) → IsText v bytes → now ≡ state_of bytes
+-- a state whose parts are read from a text
+pub restored : (v : ℕ) (bytes : List ℕ) (now : State) → IsText v bytes
+    → in_order now.lanes ≡ whole_words (take 64 (drop lanes_at bytes))
+    → now.pending ≡ drop pending_at bytes → now.had_block ≡ (slice_index bytes 1 == 1)
+    → now.top_bit ≡ (slice_index bytes 2 == 1)
     → IsState v now × Restored v (λ (s : State). s) bytes (Some now)
 unfolding IsTextAfter
-restored v bytes now (s, is, of_s) read =
+restored v bytes now (s, is, of_s) lanes pending had_block top_bit =
+    let read : now ≡ state_of bytes = grind arith in
     let back = λ (t : State) (is : IsState v t) (of : text v t ≡ bytes).
-    read ∙ ap state_of (sym of) ∙ state_of-text v t is.words in (
-      subst (IsState v) (sym (back s is of_s)) is,
-      record {
-        same = back;
-        message = λ seed m (t, is, after, of).
-            subst (λ u. HasAbsorbed v seed u m) (sym (back t is of)) after;
-        most = omega (arith, length-text v s, is.few, ap length of_s);
-        text = ap (text v) (back s is of_s) ∙ of_s;
-        none = ((λ e _. false≢true (sym e)), λ none. absurd (none (s, is, of_s)));
-      },
-    )
+    read ∙ ap state_of (sym of) ∙ state_of-text v t is.words in
+    let same = back s is of_s in
+    let size = length-text v s in
+    (grind (arith, back), grind (arith, back))
 
-pub refused : {A : Type 0} (v : ℕ) (state : A → State) (bytes : List ℕ) → ¬ IsText v bytes
-    → Restored v state bytes None
-unfolding IsTextAfter
-refused v state bytes not = search rules
+-- what the proof of `store` needs
+pub ruleset stored = (length-text)

@@ -6,19 +6,19 @@ use Rattle.std.proofs.Common.{inl, inr}
 use Rattle.std.proofs.lemmas.Bool.{false≢true, cases_lt}
 use Rattle.std.proofs.lemmas.Bool.Decides.{nat_tests}
 use Rattle.std.proofs.lemmas.List.{append_assoc, append-nil, length-append, length-drop, drop_at}
-use Rattle.std.proofs.lemmas.List.{length-take-le, take-append-drop, get_or-drop}
+use Rattle.std.proofs.lemmas.List.{length-take-le, take-append-drop, get_or-drop, drop_all}
 use Rattle.std.proofs.lemmas.Nat.{xor_lt}
 use Rattle.std.specs.Prelude.{slice_index, bit_xor}
 use Rattle.komihash.specs.Borrows.{Mut}
 use Rattle.komihash.specs.Hash.{komi, hash_from_pair, hash_from_lanes}
-use Rattle.komihash.specs.Padding.{pads_with_two, padding_byte, padded_words}
+use Rattle.komihash.specs.Padding.{pads_with_two, padding_after, padding_byte, padded_words}
 use Rattle.komihash.specs.Rounds.{Lanes, low, plus, mix, seed_pair, lanes, block_round}
 use Rattle.komihash.specs.Rounds.{block_round_by, in_order, join, pair_round, closing}
 use Rattle.komihash.specs.Saved.{text, IsTextAfter}
 use Rattle.komihash.specs.Internals.{stored_words, whole_words, block_lanes, after_blocks}
 use Rattle.komihash.specs.Internals.{tail_end, final_word, padding_or_zero}
 use Rattle.komihash.specs.Stream.{State, IsState, HasAbsorbed, start, absorb, absorb_byte}
-use Rattle.komihash.specs.Stream.{answer, tail_of, Started, Absorbed, Answered}
+use Rattle.komihash.specs.Stream.{answer, tail_of, Absorbed, Answered}
 use Rattle.komihash.specs.Words.{AreBytes, AreWords}
 use Rattle.komihash.proofs.Blocks.{block_lanes-bytes, block_lanes-few_bytes, after_blocks_few}
 use Rattle.komihash.proofs.Blocks.{after_blocks_more, length-after_blocks}
@@ -26,7 +26,7 @@ use Rattle.komihash.proofs.Blocks.{after_words-after_blocks}
 use Rattle.komihash.proofs.HashPaths.{komi_few, komi_long}
 use Rattle.komihash.proofs.PaddedWords.{padded_words-by_tail}
 use Rattle.komihash.proofs.WholeWords.{words_of-whole}
-use Rattle.komihash.proofs.WordOf.{AreBytes-append, AreBytes-drop}
+use Rattle.komihash.proofs.WordOf.{AreBytes-append, AreBytes-drop, AreBytes-typed}
 
 -- ---- what is absorbed
 
@@ -173,18 +173,18 @@ AreWords-block_lanes v s (w0 ∷ w1 ∷ w2 ∷ w3 ∷ w4 ∷ w5 ∷ w6 ∷ w7 �
     (AreWords-block v s _)
 AreWords-block_lanes v s ws words = words
 
-pub IsState-start : (v seed : ℕ) (s : State) → s ≡ start seed → IsState v s
-IsState-start v seed s is = rw is (search (arith, AreWords-seed_pair, false≢true))
+pub IsState-start : (v seed : ℕ) → IsState v (start seed)
+IsState-start v seed = search (arith, AreWords-seed_pair, false≢true)
 
 pads_with_two-version : (v b : ℕ) → pads_with_two v b ≡ true → v ≡ 4
 pads_with_two-version v b h = grind (arith, nat_tests)
 
-pub IsState-absorb : (v : ℕ) (s new : State) (bytes : List ℕ) → IsState v s → AreBytes bytes
-    → new ≡ absorb v s bytes → IsState v new
-IsState-absorb v s new bytes is are same =
+pub IsState-absorb : (v : ℕ) (s : State) (bytes : List ℕ) → IsState v s → AreBytes bytes
+    → IsState v (absorb v s bytes)
+IsState-absorb v s bytes is are =
     let all = s.pending ++ bytes in
     let are_all = AreBytes-append s.pending bytes is.bytes are in
-    rw same (elim (cases_lt (length s.pending + length bytes) 64) [
+    elim (cases_lt (length s.pending + length bytes) 64) [
       | inl lt ↦ rw (absorb-few v s bytes lt) (search (arith, length-append s.pending bytes))
       | inr le ↦
           rw (absorb-blocks v s bytes is.few le) (search (
@@ -194,7 +194,10 @@ IsState-absorb v s new bytes is are same =
             length-after_blocks all,
             pads_with_two-version,
           ))
-    ])
+    ]
+
+-- what the proof of a write needs
+pub ruleset more_absorbed = (absorb-append, absorb-few, IsState-absorb, AreBytes-typed)
 
 -- ---- what it answers
 
@@ -228,17 +231,16 @@ answer-none v s none = rw none
 -- what ends the tail after n bytes, the last of them the last of a block
 tail_end-drop : (v n : ℕ) (m : List ℕ) → 0 < n → n ≤ length m
     → tail_end v (drop n m) true (pads_with_two v (slice_index m (n - 1))) ≡ padding_byte v m
-tail_end-drop v n [] some le = absurd (omega arith)
-tail_end-drop v n (b ∷ m) some le = go (drop n (b ∷ m)) refl where
-  go : (p : List ℕ) → drop n (b ∷ m) ≡ p
-      → tail_end v p true (pads_with_two v (slice_index (b ∷ m) (n - 1))) ≡ padding_byte v (b ∷ m)
-  go [] e =
-      let all : n ≡ length (b ∷ m) = omega (arith, length-drop n (b ∷ m), ap length e) in rw all
-  go (c ∷ p) e =
-      let size : n + (length (c ∷ p) - 1) ≡ length (b ∷ m) - 1 =
-      omega (arith, length-drop n (b ∷ m), ap length e) in
-      let last = get_or-drop n (b ∷ m) (length (c ∷ p) - 1) 0 in
-      cc
+tail_end-drop v n m some le =
+    let size = length-drop n m in
+    elim (cases_lt n (length m)) [
+      | inl lt ↦
+          let last : n + (length (drop n m) - 1) ≡ length m - 1 = omega arith in
+          tail_end-pending v (drop n m) true _ (omega arith)
+          ∙ ap (λ b. padding_after (pads_with_two v b))
+          (get_or-drop n m (length (drop n m) - 1) 0 ∙ ap (slice_index m) last)
+      | inr ge ↦ let all : n ≡ length m = omega arith in rw (drop_all n m ge, all) refl
+    ]
 
 tail_end-start : (v : ℕ) (m : List ℕ) → tail_end v m false false ≡ padding_or_zero v m
 tail_end-start v [] = refl
@@ -264,10 +266,6 @@ answer-joined v seed m =
     ]
 
 -- ---- what its calls say
-
-pub started : (v seed : ℕ) (new : State) → new ≡ start seed → Started v seed new
-unfolding HasAbsorbed absorb
-started v seed new is = record { state = is; message = is }
 
 pub absorbed : {A : Type 0} (v : ℕ) (view : A → State) (stream : Mut A) (bytes : List ℕ)
     → view stream.exit.now ≡ absorb v (view stream.entry.now) bytes

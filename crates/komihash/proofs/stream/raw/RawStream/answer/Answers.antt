@@ -1,11 +1,10 @@
 -- With no pending bytes, one word is left. Otherwise the tail is read as its whole words and a
 -- final word, which is `answer-by_pair`.
-use Rattle.std.proofs.Common.{◌≡◌, [], ◌∷◌, ◌∙◌, refl, ap, arith, length, sym}
+use Rattle.std.proofs.Common.{◌≡◌, [], ◌∷◌, ◌∙◌, refl, ap, arith, sym}
 use Rattle.std.proofs.lemmas.List.{nil_from_length}
 use Rattle.komihash.specs.Rounds.{closing}
-use Rattle.komihash.specs.Stream.{State, answer, end_after_blocks}
+use Rattle.komihash.specs.Stream.{answer, end_after_blocks}
 use Rattle.komihash.proofs.Streams.{answer-by_pair, answer-none, tail_end-pending, answered}
-use Rattle.komihash.proofs.WholeWords.{length-whole_words}
 use Rattle.komihash.proofs.stream.raw.RawStream.answer.Goals as goal
 use Rattle.komihash.proofs.stream.raw.RawStream.answer.Goals.{then-had_block, else-had_block}
 
@@ -21,19 +20,6 @@ returns-then-none_pending-clause-answered g c =
     answered g.row.V _ _ (c.close.ensures.alone refl
     ∙ ap (λ p. closing p (c.if-had_block.end ∷ [])) c.join-pair.ensures
     ∙ rw end (sym (answer-none g.row.V _ none)) ∙ ap (answer g.row.V) c.self.view_is)
-
-pub hash_from_pair-requires : goal.hash_from_pair-requires
-hash_from_pair-requires g c =
-    let count = length-whole_words c.self.inside.pending in
-    record {
-      below_8 = omega (arith, count);
-      word = λ some. rw count (c.last_whole_word-word.ensures (omega (arith, count)));
-    }
-
-pub returns-clause-costs : goal.returns-clause-costs
-returns-clause-costs g c =
-    let same = ap (λ (s : State). length s.pending) c.self.view_is in
-    search (arith, length-whole_words c.self.inside.pending)
 
 pub returns-clause-answered : goal.returns-clause-answered
 returns-clause-answered g c =
