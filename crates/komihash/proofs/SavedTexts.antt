@@ -11,7 +11,7 @@ use Rattle.std.specs.Prelude.{slice_index, ◌==◌}
 use Rattle.komihash.specs.Rounds.{Lanes, in_order}
 use Rattle.komihash.specs.Saved.{lanes_at, pending_at, longest_text, flag_byte, text}
 use Rattle.komihash.specs.Saved.{IsText, IsTextAfter, Restored}
-use Rattle.komihash.specs.Stream.{State, IsState}
+use Rattle.komihash.specs.Stream.{State, IsState, HasAbsorbed}
 use Rattle.komihash.specs.Internals.{IsHead, stored_words, whole_words}
 use Rattle.komihash.specs.Words.{AreBytes, AreWords, all_bytes}
 use Rattle.komihash.specs.Internals.{xor_again}
@@ -172,5 +172,10 @@ restored v bytes now (s, is, of_s) lanes pending had_block top_bit =
     let size = length-text v s in
     (grind (arith, back), grind (arith, back))
 
+pub text-after : (v seed : ℕ) (s : State) (m bytes : List ℕ) → IsState v s → HasAbsorbed v seed s m
+    → text v s ≡ bytes → IsTextAfter v seed m bytes
+unfolding IsTextAfter
+text-after v seed s m bytes is after same = (s, is, after, same)
+
 -- what the proof of `store` needs
-pub ruleset stored = (length-text)
+pub ruleset stored = (length-text, text-after)

@@ -1,29 +1,28 @@
 -- A stream absorbs whole blocks and keeps what is left, its state stays one of its version, and it
 -- answers the hash of its message.
-use Rattle.std.proofs.Common.{◌≡◌, ℕ, suc, ◌+◌, ◌-◌, ◌%◌, ◌^◌, ◌<◌, ◌≤◌, Bool, true, false}
-use Rattle.std.proofs.Common.{List, [], ◌∷◌, ◌++◌, length, take, drop, refl, ap, arith, ◌∙◌, sym}
+use Rattle.std.proofs.Common.{◌≡◌, ℕ, suc, ◌+◌, ◌-◌, ◌%◌, ◌<◌, ◌≤◌, Bool, true, false}
+use Rattle.std.proofs.Common.{List, [], ◌∷◌, ◌++◌, length, drop, refl, ap, arith, ◌∙◌, sym}
 use Rattle.std.proofs.Common.{inl, inr}
 use Rattle.std.proofs.lemmas.Bool.{false≢true, cases_lt}
 use Rattle.std.proofs.lemmas.Bool.Decides.{nat_tests}
-use Rattle.std.proofs.lemmas.List.{append_assoc, append-nil, length-append, length-drop, drop_at}
-use Rattle.std.proofs.lemmas.List.{length-take-le, take-append-drop, get_or-drop, drop_all}
-use Rattle.std.proofs.lemmas.Nat.{xor_lt}
-use Rattle.std.specs.Prelude.{slice_index, bit_xor}
-use Rattle.komihash.specs.Borrows.{Mut}
-use Rattle.komihash.specs.Hash.{komi, hash_from_pair, hash_from_lanes}
-use Rattle.komihash.specs.Padding.{pads_with_two, padding_after, padding_byte, padded_words}
-use Rattle.komihash.specs.Rounds.{Lanes, low, plus, mix, seed_pair, lanes, block_round}
-use Rattle.komihash.specs.Rounds.{block_round_by, in_order, join, pair_round, closing}
+use Rattle.std.proofs.lemmas.List.{append_assoc, append-nil, length-append, length-drop}
+use Rattle.std.proofs.lemmas.List.{get_or-drop, drop_all}
+use Rattle.std.specs.Prelude.{slice_index}
+use Rattle.komihash.specs.Hash.{komi, hash_from_pair}
+use Rattle.komihash.specs.Padding.{pads_with_two, padding_after, padding_byte}
+use Rattle.komihash.specs.Rounds.{block_round}
+use Rattle.komihash.specs.Rounds.{join, closing}
 use Rattle.komihash.specs.Saved.{text, IsTextAfter}
 use Rattle.komihash.specs.Internals.{stored_words, whole_words, block_lanes, after_blocks}
 use Rattle.komihash.specs.Internals.{tail_end, final_word, padding_or_zero}
 use Rattle.komihash.specs.Stream.{State, IsState, HasAbsorbed, start, absorb, absorb_byte}
-use Rattle.komihash.specs.Stream.{answer, tail_of, Absorbed, Answered}
-use Rattle.komihash.specs.Words.{AreBytes, AreWords}
-use Rattle.komihash.proofs.Blocks.{block_lanes-bytes, block_lanes-few_bytes, after_blocks_few}
-use Rattle.komihash.proofs.Blocks.{after_blocks_more, length-after_blocks}
+use Rattle.komihash.specs.Stream.{answer, tail_of, Answered}
+use Rattle.komihash.specs.Words.{AreBytes}
+use Rattle.komihash.proofs.Blocks.{completed, block_lanes-few_bytes, after_blocks_few}
+use Rattle.komihash.proofs.Blocks.{length-after_blocks}
 use Rattle.komihash.proofs.Blocks.{after_words-after_blocks}
 use Rattle.komihash.proofs.HashPaths.{komi_few, komi_long}
+use Rattle.komihash.proofs.HashWords.{AreWords-seed_pair, AreWords-block_lanes}
 use Rattle.komihash.proofs.PaddedWords.{padded_words-by_tail}
 use Rattle.komihash.proofs.WholeWords.{words_of-whole}
 use Rattle.komihash.proofs.WordOf.{AreBytes-append, AreBytes-drop, AreBytes-typed}
@@ -76,28 +75,6 @@ absorb-few v s (b ∷ bytes) few =
     absorb-byte v s b bytes (omega arith) ∙ absorb-few v (byte_state s b) bytes (omega arith)
     ∙ rw append_assoc
 
--- from lanes l, the bytes `rest` lead where xs and then `bytes` lead from the lanes `before`
-pub record SameBlocks (v : ℕ) (before : Lanes) (xs bytes : List ℕ) (l : Lanes) (rest : List ℕ)
-    : Type 0 where
-  pub lanes : block_lanes v before (whole_words (xs ++ bytes)) ≡ block_lanes v l (whole_words rest)
-  pub left : after_blocks (xs ++ bytes) ≡ after_blocks rest
-
--- k bytes complete the block of those before them
-pub completed : (v : ℕ) (l : Lanes) (xs bytes : List ℕ) (k : ℕ) → length xs + k ≡ 64
-    → k ≤ length bytes
-    → SameBlocks v l xs bytes (block_round v l (whole_words (xs ++ take k bytes))) (drop k bytes)
-completed v l xs bytes k full enough =
-    let block = xs ++ take k bytes in
-    let rest = drop k bytes in
-    let size : length block ≡ 64 =
-    omega (arith, length-append xs (take k bytes), length-take-le k bytes enough) in
-    let cut : xs ++ bytes ≡ block ++ rest = rw (append_assoc, take-append-drop) refl in
-    record {
-      lanes = rw cut (block_lanes-bytes v l block rest size);
-      left = rw cut (after_blocks_more (block ++ rest) (omega (arith, length-append block rest))
-          ∙ ap after_blocks (drop_at block rest 64 size));
-    }
-
 -- the index, in n bytes that follow f pending ones, of the last byte of the last block
 abbrev last_at : ℕ → ℕ → ℕ
 last_at f n = n - (f + n) % 64 - 1
@@ -141,37 +118,7 @@ absorb-blocks v s (b ∷ bytes) few le =
           ]
     ]
 
--- the state after a write that completes a block, from what is left after that block
-pub after_absorb : (v : ℕ) (s : State) (bytes : List ℕ) (l : Lanes) (rest : List ℕ)
-    → length s.pending < 64 → 64 ≤ length s.pending + length bytes
-    → SameBlocks v s.lanes s.pending bytes l rest
-    → record (blocks_state v s bytes) {
-      lanes = block_lanes v l (whole_words rest);
-      pending = after_blocks rest;
-    } ≡ absorb v s bytes
-after_absorb v s bytes l rest few many on =
-    rw (absorb-blocks v s bytes few many, on.lanes, on.left) refl
-
 -- ---- it stays a state
-
--- a sum xor a low half is a word
-mixed-lt : (a b p : ℕ) → bit_xor (plus a b) (low p) < 2 ^ 64
-mixed-lt a b p = xor_lt 64 (plus a b) (low p) (omega arith) (omega arith)
-
-AreWords-seed_pair : (seed : ℕ) → AreWords (in_order (lanes (seed_pair seed)))
-unfolding mix
-AreWords-seed_pair seed = search (arith, xor_lt 64, mixed-lt)
-
-AreWords-block : (v : ℕ) (s : Lanes) (ws : List ℕ) → AreWords (in_order (block_round v s ws))
-unfolding block_round_by
-AreWords-block v s ws = search (arith, mixed-lt)
-
-AreWords-block_lanes : (v : ℕ) (s : Lanes) (ws : List ℕ) → AreWords (in_order s)
-    → AreWords (in_order (block_lanes v s ws))
-AreWords-block_lanes v s (w0 ∷ w1 ∷ w2 ∷ w3 ∷ w4 ∷ w5 ∷ w6 ∷ w7 ∷ ws) words =
-    AreWords-block_lanes v (block_round v s (w0 ∷ w1 ∷ w2 ∷ w3 ∷ w4 ∷ w5 ∷ w6 ∷ w7 ∷ [])) ws
-    (AreWords-block v s _)
-AreWords-block_lanes v s ws words = words
 
 pub IsState-start : (v seed : ℕ) → IsState v (start seed)
 IsState-start v seed = search (arith, AreWords-seed_pair, false≢true)
@@ -267,19 +214,6 @@ answer-joined v seed m =
 
 -- ---- what its calls say
 
-pub absorbed : {A : Type 0} (v : ℕ) (view : A → State) (stream : Mut A) (bytes : List ℕ)
-    → view stream.exit.now ≡ absorb v (view stream.entry.now) bytes
-    → Absorbed v view stream bytes
-unfolding HasAbsorbed
-absorbed v view stream bytes is = record {
-  state = is;
-  message = λ seed m before. rw (is, before) (sym (absorb-append v (start seed) m bytes));
-  joined = λ seed m all before same.
-      rw (is, before, ← same) (sym (absorb-append v (start seed) m bytes));
-  in_parts = λ seed m x before.
-      rw (is, before, ← append_assoc m x bytes) (sym (absorb-append v (start seed) (m ++ x) bytes));
-}
-
 pub answered : (v : ℕ) (now : State) (result : ℕ) → result ≡ answer v now → Answered v now result
 unfolding HasAbsorbed
 answered v now result is = record {
@@ -298,26 +232,3 @@ pub same_text_after : (v seed : ℕ) (m x y : List ℕ) → IsTextAfter v seed m
 unfolding IsTextAfter HasAbsorbed
 same_text_after v seed m x y (s, _, first, of_s) (t, _, second, of_t) =
     sym of_s ∙ ap (text v) (first ∙ sym second) ∙ of_t
-
--- ---- hashes are words
-
-closing-lt : (s : ℕ × ℕ) (ws : List ℕ) → closing s ws < 2 ^ 64
-unfolding mix
-closing-lt s (p ∷ []) = mixed-lt _ _ _
-closing-lt s (w ∷ p ∷ []) = mixed-lt _ _ _
-closing-lt s ws = omega arith
-
-hash_from_pair-lt : (s : ℕ × ℕ) (ws : List ℕ) → hash_from_pair s ws < 2 ^ 64
-hash_from_pair-lt s (w0 ∷ w1 ∷ w ∷ ws) = hash_from_pair-lt (pair_round s w0 w1) (w ∷ ws)
-hash_from_pair-lt s ws = closing-lt s ws
-
-hash_from_lanes-lt : (v : ℕ) (s : Lanes) (had_block : Bool) (ws : List ℕ)
-    → hash_from_lanes v s had_block ws < 2 ^ 64
-hash_from_lanes-lt v s had_block (w0 ∷ w1 ∷ w2 ∷ w3 ∷ w4 ∷ w5 ∷ w6 ∷ w7 ∷ w ∷ ws) =
-    let block = w0 ∷ w1 ∷ w2 ∷ w3 ∷ w4 ∷ w5 ∷ w6 ∷ w7 ∷ [] in
-    hash_from_lanes-lt v (block_round v s block) true (w ∷ ws)
-hash_from_lanes-lt v s had_block ws = hash_from_pair-lt (join had_block s) ws
-
-pub komi-lt : (v seed : ℕ) (m : List ℕ) → komi v seed m < 2 ^ 64
-unfolding komi
-komi-lt v seed m = hash_from_lanes-lt v (lanes (seed_pair seed)) _ (padded_words v m)

@@ -148,7 +148,7 @@ impl RawStream {
     /// Writes the saved text to the front of `out`, which needs room for `LONGEST_TEXT` bytes, and
     /// returns its length. The rest of `out` is unchanged.
     #[inline(always)]
-    #[tactic(auto, unfolding(crate::specs::Saved::text, crate::specs::Saved::IsTextAfter), using(crate::proofs::SavedTexts::stored))]
+    #[tactic(auto, unfolding(crate::specs::Saved::text), using(crate::proofs::SavedTexts::stored))]
     pub fn store<const V: u8>(&self, out: &mut [u8]) -> usize
     where
         Versions: IsVersion<V>,

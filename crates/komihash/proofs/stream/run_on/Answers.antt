@@ -2,11 +2,11 @@
 use Rattle.std.proofs.Common.{◌≡◌, sym, ◌+◌, get_or, drop, ap, arith, ◌∙◌, ◌∷◌}
 use Rattle.std.proofs.lemmas.List.{drop_more, drop_all, append-nil}
 use Rattle.std.proofs.lemmas.Grind.{common_steps}
-use Rattle.komihash.specs.Stream.{absorb}
+use Rattle.komihash.specs.Stream.{absorb, HasAbsorbed}
 use Rattle.komihash.specs.declared.stream.Call.{Call}
 use Rattle.komihash.specs.declared.stream.Call.TheVariants.{Absorb, Answer}
 use Rattle.komihash.proofs.CallLists.{call_first, onward-message}
-use Rattle.komihash.proofs.Streams.{absorb-nothing, absorbed}
+use Rattle.komihash.proofs.Streams.{absorb-nothing, more_absorbed}
 use Rattle.komihash.proofs.stream.run_on.Goals as goal
 use Rattle.komihash.proofs.stream.run_on.Goals.{in-Absorb, in-Answer}
 
@@ -41,6 +41,8 @@ returns-clause-hashes g c seed m before =
     grind (arith, common_steps)
 
 pub returns-clause-absorbed : goal.returns-clause-absorbed
+unfolding HasAbsorbed
 returns-clause-absorbed g c =
     let none = drop_all c.loop-call.call-index c.args.calls.now c.loop-call-test.false in
-    absorbed _ _ _ _ (sym (absorb-nothing _ _) ∙ rw none at c.loop-call.invariant.state)
+    let state = sym (absorb-nothing _ _) ∙ rw none at c.loop-call.invariant.state in
+    grind (arith, common_steps, more_absorbed)
