@@ -1,4 +1,5 @@
--- Calls on a stream: what they answer, absorb and cost after a first call, and two lists in a row.
+-- Lists of calls on a stream: how many bytes are pending after them, what two lists in a row answer,
+-- absorb and cost, and what the first call of a list leaves to the others.
 use Rattle.std.proofs.Common.{◌≡◌, ℕ, ◌+◌, ◌%◌, ◌<◌, List, [], ◌∷◌, ◌++◌, length, refl, ap, arith}
 use Rattle.std.proofs.Common.{sym, inl, inr, ◌∙◌}
 use Rattle.std.proofs.lemmas.List.{append_assoc, append-nil, length-append}
@@ -33,6 +34,7 @@ HasAbsorbed-pending v seed s m is =
     let pending = pending-absorb v (start seed) m (omega arith) in
     rw is (omega arith)
 
+-- what the proof of a test of costs needs
 pub ruleset costs = (pending-absorb)
 
 -- ---- answers

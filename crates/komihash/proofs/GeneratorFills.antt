@@ -1,6 +1,7 @@
--- What the generator's outputs fill a buffer with: their bytes, one output after the other.
-use Rattle.std.proofs.Common.{◌≡◌, ℕ, zero, suc, ◌+◌, ◌-◌, ◌*◌, ◌%◌, ◌<◌, ◌≤◌, List, ◌∷◌, ◌++◌, length, take}
-use Rattle.std.proofs.Common.{refl, ap, arith, ◌∙◌, zero-add, suc-add}
+-- The generator: its steps in two parts, each of its outputs, and the bytes of outputs that fill a
+-- buffer, in two parts and output by output.
+use Rattle.std.proofs.Common.{◌≡◌, ℕ, zero, suc, ◌+◌, ◌-◌, ◌*◌, ◌%◌, ◌<◌, ◌≤◌, List, ◌∷◌, ◌++◌}
+use Rattle.std.proofs.Common.{length, take, refl, ap, arith, ◌∙◌, zero-add, suc-add}
 use Rattle.std.proofs.lemmas.List.{length-take-le, take_all}
 use Rattle.std.proofs.lemmas.List.Concat.{flat_map-append}
 use Rattle.std.proofs.Math.Seq.{take-append-add}

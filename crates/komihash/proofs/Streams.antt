@@ -1,5 +1,5 @@
--- A stream absorbs whole blocks and keeps what is left, its state stays one of its version, and it
--- answers the hash of its message.
+-- Streams. The definition absorbs byte by byte, and the code in blocks: both lead to one state. It
+-- stays a state of its version, and a new stream that absorbed a message answers the message's hash.
 use Rattle.std.proofs.Common.{◌≡◌, ℕ, suc, ◌+◌, ◌-◌, ◌%◌, ◌<◌, ◌≤◌, Bool, true, false}
 use Rattle.std.proofs.Common.{List, [], ◌∷◌, ◌++◌, length, drop, refl, ap, arith, ◌∙◌, sym}
 use Rattle.std.proofs.Common.{inl, inr}
@@ -10,8 +10,7 @@ use Rattle.std.proofs.lemmas.List.{get_or-drop, drop_all}
 use Rattle.std.specs.Prelude.{slice_index}
 use Rattle.komihash.specs.Hash.{komi, hash_from_pair}
 use Rattle.komihash.specs.Padding.{pads_with_two, padding_after, padding_byte}
-use Rattle.komihash.specs.Rounds.{block_round}
-use Rattle.komihash.specs.Rounds.{join, closing}
+use Rattle.komihash.specs.Rounds.{block_round, join, closing}
 use Rattle.komihash.specs.Saved.{text, IsTextAfter}
 use Rattle.komihash.specs.Internals.{stored_words, whole_words, block_lanes, after_blocks}
 use Rattle.komihash.specs.Internals.{tail_end, final_word, padding_or_zero}
@@ -19,8 +18,7 @@ use Rattle.komihash.specs.Stream.{State, IsState, HasAbsorbed, start, absorb, ab
 use Rattle.komihash.specs.Stream.{answer, tail_of, Answered}
 use Rattle.komihash.specs.Words.{AreBytes}
 use Rattle.komihash.proofs.Blocks.{completed, block_lanes-few_bytes, after_blocks_few}
-use Rattle.komihash.proofs.Blocks.{length-after_blocks}
-use Rattle.komihash.proofs.Blocks.{after_words-after_blocks}
+use Rattle.komihash.proofs.Blocks.{length-after_blocks, after_words-after_blocks}
 use Rattle.komihash.proofs.HashPaths.{komi_few, komi_long}
 use Rattle.komihash.proofs.HashWords.{AreWords-seed_pair, AreWords-block_lanes}
 use Rattle.komihash.proofs.PaddedWords.{padded_words-by_tail}
@@ -120,11 +118,12 @@ absorb-blocks v s (b ∷ bytes) few le =
 
 -- ---- it stays a state
 
-pub IsState-start : (v seed : ℕ) → IsState v (start seed)
-IsState-start v seed = search (arith, AreWords-seed_pair, false≢true)
-
 pads_with_two-version : (v b : ℕ) → pads_with_two v b ≡ true → v ≡ 4
 pads_with_two-version v b h = grind (arith, nat_tests)
+
+-- a new stream's state, and the state after bytes
+pub IsState-start : (v seed : ℕ) → IsState v (start seed)
+IsState-start v seed = search (arith, AreWords-seed_pair, false≢true)
 
 pub IsState-absorb : (v : ℕ) (s : State) (bytes : List ℕ) → IsState v s → AreBytes bytes
     → IsState v (absorb v s bytes)
@@ -134,13 +133,9 @@ IsState-absorb v s bytes is are =
     elim (cases_lt (length s.pending + length bytes) 64) [
       | inl lt ↦ rw (absorb-few v s bytes lt) (search (arith, length-append s.pending bytes))
       | inr le ↦
-          rw (absorb-blocks v s bytes is.few le) (search (
-            arith,
-            AreWords-block_lanes,
-            AreBytes-drop,
-            length-after_blocks all,
-            pads_with_two-version,
-          ))
+          let left = length-after_blocks all in
+          rw (absorb-blocks v s bytes is.few le)
+          (search (arith, AreWords-block_lanes, AreBytes-drop, pads_with_two-version))
     ]
 
 -- what the proof of a write needs
@@ -148,6 +143,7 @@ pub ruleset more_absorbed = (absorb-append, absorb-few, IsState-absorb, AreBytes
 
 -- ---- what it answers
 
+-- the words that an answer has left are the whole words and a final word
 tail_of-words : (v : ℕ) (m : List ℕ) (had_block top_bit : Bool)
     → tail_of v m had_block top_bit
     ≡ whole_words m ++ final_word m (tail_end v m had_block top_bit) ∷ []
@@ -164,6 +160,7 @@ unfolding answer
 answer-by_pair v s =
     ap (hash_from_pair (join s.had_block s.lanes)) (tail_of-words v s.pending s.had_block s.top_bit)
 
+-- what ends the tail, with pending bytes
 pub tail_end-pending : (v : ℕ) (m : List ℕ) (had_block top_bit : Bool) → 0 < length m
     → tail_end v m had_block top_bit ≡ padding_byte v m
 tail_end-pending v [] had_block top_bit some = absurd (omega arith)
@@ -175,7 +172,7 @@ pub answer-none : (v : ℕ) (s : State) → s.pending ≡ []
 unfolding answer
 answer-none v s none = rw none
 
--- what ends the tail after n bytes, the last of them the last of a block
+-- with those that are left after n bytes, the last of which ends a block
 tail_end-drop : (v n : ℕ) (m : List ℕ) → 0 < n → n ≤ length m
     → tail_end v (drop n m) true (pads_with_two v (slice_index m (n - 1))) ≡ padding_byte v m
 tail_end-drop v n m some le =
@@ -189,6 +186,7 @@ tail_end-drop v n m some le =
       | inr ge ↦ let all : n ≡ length m = omega arith in rw (drop_all n m ge, all) refl
     ]
 
+-- with those of a stream that has had no block
 tail_end-start : (v : ℕ) (m : List ℕ) → tail_end v m false false ≡ padding_or_zero v m
 tail_end-start v [] = refl
 tail_end-start v (b ∷ m) = refl
@@ -214,6 +212,7 @@ answer-joined v seed m =
 
 -- ---- what its calls say
 
+-- an answer is the hash of the message that the stream has absorbed
 pub answered : (v : ℕ) (now : State) (result : ℕ) → result ≡ answer v now → Answered v now result
 unfolding HasAbsorbed
 answered v now result is = record {
