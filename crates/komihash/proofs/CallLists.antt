@@ -1,5 +1,5 @@
--- Lists of calls on a stream: how many bytes are pending after them, what two lists in a row answer,
--- absorb and cost, and what the first call of a list leaves to the others.
+-- Lists of calls on a stream: how many bytes are pending after a write, what calls answer, the bytes
+-- and the costs of calls, and what the first call of a list leaves to the others.
 use Rattle.std.proofs.Common.{◌≡◌, ℕ, ◌+◌, ◌%◌, ◌<◌, List, [], ◌∷◌, ◌++◌, length, refl, ap, arith}
 use Rattle.std.proofs.Common.{sym, inl, inr, ◌∙◌}
 use Rattle.std.proofs.lemmas.List.{append_assoc, append-nil, length-append}
@@ -12,7 +12,8 @@ use Rattle.komihash.specs.Stream.{State, HasAbsorbed, start, absorb, answer}
 use Rattle.komihash.specs.declared.stream.Call.{Call}
 use Rattle.komihash.specs.declared.stream.Call.TheVariants.{Absorb, Answer}
 use Rattle.komihash.proofs.Blocks.{length-after_blocks}
-use Rattle.komihash.proofs.Streams.{absorb-append, absorb-nothing, absorb-few, absorb-blocks, answer-joined}
+use Rattle.komihash.proofs.Streams.{absorb-append, absorb-nothing, absorb-few, absorb-blocks}
+use Rattle.komihash.proofs.Streams.{answer-joined}
 
 -- ---- how many bytes are pending
 
@@ -34,7 +35,7 @@ HasAbsorbed-pending v seed s m is =
     let pending = pending-absorb v (start seed) m (omega arith) in
     rw is (omega arith)
 
--- what the proof of a test of costs needs
+-- what the proof of `absorb_costs` of `src/tests/tally.rt` needs
 pub ruleset costs = (pending-absorb)
 
 -- ---- answers
