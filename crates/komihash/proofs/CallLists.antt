@@ -1,5 +1,5 @@
--- Lists of calls on a stream: how many bytes are pending after a write, what calls answer, the bytes
--- and the costs of calls, and what the first call of a list leaves to the others.
+-- Lists of calls on a stream: how many bytes are pending after a write, what calls answer, the
+-- bytes and the costs of calls, and what the first call of a list leaves to the others.
 use Rattle.std.proofs.Common.{◌≡◌, ℕ, ◌+◌, ◌%◌, ◌<◌, List, [], ◌∷◌, ◌++◌, length, refl, ap, arith}
 use Rattle.std.proofs.Common.{sym, inl, inr, ◌∙◌}
 use Rattle.std.proofs.lemmas.List.{append_assoc, append-nil, length-append}
@@ -137,4 +137,9 @@ call_first v s next (Absorb bytes) calls few is =
     }
 call_first v s next Answer calls few is =
     let same : next ≡ s = is ∙ absorb-nothing v s in
-    rw same record { answers = refl; state = refl; products = omega arith; kept_bytes = omega arith }
+    rw same record {
+      answers = refl;
+      state = refl;
+      products = omega arith;
+      kept_bytes = omega arith;
+    }

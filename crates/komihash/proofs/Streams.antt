@@ -1,5 +1,5 @@
 -- Streams. The definition absorbs byte by byte, and the code in blocks: both lead to one state. It
--- stays a state of its version, and a new stream that absorbed a message answers the message's hash.
+-- stays a state of its version, and a new stream that absorbed a message answers its hash.
 use Rattle.std.proofs.Common.{◌≡◌, ℕ, suc, ◌+◌, ◌-◌, ◌%◌, ◌<◌, ◌≤◌, Bool, true, false}
 use Rattle.std.proofs.Common.{List, [], ◌∷◌, ◌++◌, length, drop, refl, ap, arith, ◌∙◌, sym}
 use Rattle.std.proofs.Common.{inl, inr}

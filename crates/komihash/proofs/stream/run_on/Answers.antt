@@ -1,4 +1,5 @@
--- A turn makes the first of the calls that are left (`call_first`). After the loop none is left.
+-- A turn makes the first of the calls that are left (`call_first`). After the loop none is left, so
+-- the answers so far are all answers, and those of a stream that absorbed a message are hashes.
 use Rattle.std.proofs.Common.{◌≡◌, sym, ◌+◌, get_or, drop, ap, arith, ◌∙◌, ◌∷◌}
 use Rattle.std.proofs.lemmas.List.{drop_more, drop_all, append-nil}
 use Rattle.std.proofs.lemmas.Grind.{common_steps}
@@ -24,7 +25,8 @@ loop-call-preserved g c =
       | in-Absorb w ↦
           let bytes = w.in-Absorb.bytes in
           let is = rw (left _ _ w.in-Absorb.is) at c.loop-call.invariant in
-          let state = w.absorb.ensures.absorbed.state ∙ ap (absorb v now) (sym (append-nil bytes.now)) in
+          let alone = sym (append-nil bytes.now) in
+          let state = w.absorb.ensures.absorbed.state ∙ ap (absorb v now) alone in
           let first = call_first v now _ (Absorb bytes) after few state in
           rw (w.stream-is, w.out-is, w.tally-is, w.count-is) (grind (arith, common_steps))
       | in-Answer w ↦

@@ -1,7 +1,7 @@
 -- The answers so far and those of the calls that are left are the answers of all calls. The same
--- holds for the state after the calls, and for what they cost. All calls are made on the stream when
--- the loop began, so that a wrong body that begins with another stream keeps this invariant, and is
--- refused because of a clause.
+-- holds for the state after the calls, and for what they cost. `first` is the state when the loop
+-- began, so that a wrong body that begins with another stream keeps this invariant, and is refused
+-- because of a clause.
 use Rattle.std.proofs.Common.{◌≡◌, ◌+◌, ◌≤◌, ◌++◌, length, take, drop}
 use Rattle.komihash.specs.Calls.{onward, bytes_of_calls, onward_products, onward_kept_bytes}
 use Rattle.komihash.specs.Stream.{absorb}

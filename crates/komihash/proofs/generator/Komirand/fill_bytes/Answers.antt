@@ -10,9 +10,10 @@ pub words-preserved : goal.words-preserved
 words-preserved g c =
     let at = 8 * c.words.i in
     let is = c.words.invariant in
+    let word = rw c.next-word.ensures.output at c.write_word.ensures in
     let (bytes, pair) =
     fill_more g.row.V at 8 (at + 8) _ _ c.words.buffer _ (omega arith) (omega arith) (omega arith)
-    (omega arith) (omega arith) is.pair is.bytes (rw c.next-word.ensures.output at c.write_word.ensures) in
+    (omega arith) (omega arith) is.pair is.bytes word in
     let next : 8 * (c.words.i + 1) ≡ at + 8 = omega arith in
     rw next record { bytes = bytes; pair = c.next-word.ensures.pair ∙ pair }
 
@@ -24,9 +25,9 @@ returns-then-has_remainder g c =
     let done : c.words.i ≡ n / 8 = omega arith in
     let is = rw done at c.words.invariant in
     let size : length (take (n - at) (drop at c.words.buffer)) ≡ n - at = search (rules, arith) in
+    let word = rw (c.next-output.ensures.output, same, size) at c.write_partial_word.ensures in
     let (bytes, pair) =
     fill_more g.row.V at (n - at) n _ _ c.words.buffer _ (omega arith) (omega arith) (omega arith)
-    (omega arith) (omega arith) is.pair is.bytes
-    (rw (c.next-output.ensures.output, same, size) at c.write_partial_word.ensures) in
+    (omega arith) (omega arith) is.pair is.bytes word in
     let all = take_all n _ (search (rules, overwrites)) in
     rw same record { bytes = sym all ∙ bytes; pair = c.next-output.ensures.pair ∙ pair }

@@ -12,7 +12,8 @@ pub returns : goal.returns
 returns c =
     let ws = in_order c.args.lanes.now in
     let all = take_all 64 (all_bytes ws) (omega (arith, length-all_bytes ws)) in
+    let bytes = rw (c.in_order.ensures, all) at c.write_first_bytes.ensures.bytes in
     let (lanes, after) =
     part-put lanes_at pending_at c.args.out.now _ _ (omega arith) (omega arith)
-    c.write_first_bytes.auto.out (rw (c.in_order.ensures, all) at c.write_first_bytes.ensures.bytes) in
+    c.write_first_bytes.auto.out bytes in
     record { lanes = lanes; after = after }

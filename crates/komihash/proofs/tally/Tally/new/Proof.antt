@@ -26,7 +26,8 @@ new_spec 𝓤 𝓛 𝓜 𝓡 wired =
     let v = vstruct (vcons (vstruct vnil) vnil) in
     let tally : Tally = record { marker = record {}; products = 0; kept_bytes = 0 } in
     -- its fields without what `also_owns` adds
-    let Fields = Struct (Owning.shape T.the_type) in
+    let shape = Owning.shape T.the_type in
+    let Fields = Struct shape in
     let fields = Owning.to T.the_type tally in
     proved 𝓛 it.ended tt c 𝓜 𝓡 tt it.Key.name code.function (code.unfolded 𝓤 𝓛.H 𝓜 𝓡 wired)
     (λ κs. tt) (λ κs. tt) (λ κs qs bounds a g are.
@@ -40,9 +41,11 @@ new_spec 𝓤 𝓛 𝓜 𝓡 wired =
     -- Return it, and free the locals.
     returns ! (look_at ! 0 refl) $ free_all ! refl $
     -- What the fields own is nothing. `tally_made` puts what a tally owns beside it.
-    nothing ! $ owned ! Fields (Is Fields) (Struct-Makes 𝓛 (Owning.shape T.the_type) ((λ x vs uss. (tt, tt)), tt)) fields
-    (v ∷ []) ((vstruct vnil ∷ [], tt), (refl, ((tt, (refl, tt)), tt))) $ fjoin ! $
-    use1 𝓛 (‵ ((T.the_row).own_val tally (v ∷ []))) (tally_made 𝓛 (Fields.own_val fields (v ∷ [])) 0 0) $
+    nothing ! $
+    owned ! Fields (Is Fields) (Struct-Makes 𝓛 shape ((λ x vs uss. (tt, tt)), tt)) fields (v ∷ [])
+    ((vstruct vnil ∷ [], tt), (refl, ((tt, (refl, tt)), tt))) $ fjoin ! $
+    use1 𝓛 (‵ ((T.the_row).own_val tally (v ∷ [])))
+    (tally_made 𝓛 (Fields.own_val fields (v ∷ [])) 0 0) $
     -- That is owned at the end, with no lifetime and no parameter, and both clauses hold.
     suffices ! _ (ends_at 𝓛 it.ended tt c ((κs, qs, bounds, a, tt), g) v tally tt tt) $
     nothing ! $ join ! $ nothing ! $ join ! $ frame ! $

@@ -71,13 +71,16 @@ raise_spec 𝓤 𝓛 𝓜 𝓡 wired =
     old.products old.kept_bytes new.products new.kept_bytes) $
     -- Close the borrow at the new tally.
     move ! (1 ∷ 0 ∷ []) $ closes ! tt R new us at.0 at.1 $
-    -- Return, and free the locals. Left are two parts of the reference, the token, and its first part.
+    -- Return, and free the locals. Left are the first part of the reference, the other two, and the
+    -- token.
     returns ! (look_at ! 0 refl) $ free_all ! refl $ move ! (3 ∷ []) $
     -- The clause holds of the new tally.
-    suffices ! _ (ends_at 𝓛 f.ended stayed c y vunit tt (new, (tt, (tt, tt))) (tt, (tt, (tt, tt)))) $
+    suffices ! _
+    (ends_at 𝓛 f.ended stayed c y vunit tt (new, (tt, (tt, tt))) (tt, (tt, (tt, tt)))) $
     says ! (record { products = refl; kept_bytes = refl }) $
     -- Put the reference together, and beside it nothing for each number.
-    group ! 3 $ nothing ! $ nothing ! $ join ! $ nothing ! $ join ! $ move ! (1 ∷ 0 ∷ []) $ join ! $
+    group ! 3 $ nothing ! $ nothing ! $ join ! $ nothing ! $ join ! $
+    move ! (1 ∷ 0 ∷ []) $ join ! $
     -- Put the token together with the end of the list of tokens, and add the result, which is ().
     nothing ! $ move ! (2 ∷ 0 ∷ []) $ join ! $ frame ! $ frame ! $
     feq_i ! (List Val) (vunit ∷ []) _ refl $ done !)))

@@ -1,4 +1,5 @@
--- The pending bytes and the first of the write are the first block, if any are pending.
+-- `absorb-blocks` says what the write leads to. If bytes are pending, the first of the write
+-- complete their block, and `completed` says that the others then lead to the same.
 use Rattle.std.proofs.Common.{◌-◌, ◌<◌, ap, arith, length}
 use Rattle.std.proofs.lemmas.List.{nil_from_length}
 use Rattle.komihash.specs.Stream.{State}
@@ -21,6 +22,7 @@ returns-clause-state g c =
           grind arith
       | else-none_pending w ↦
           let missing = 64 - length s.pending in
-          let first = completed g.row.V s.lanes s.pending bytes missing (omega arith) (omega arith) in
+          let first =
+          completed g.row.V s.lanes s.pending bytes missing (omega arith) (omega arith) in
           grind arith
     ]
