@@ -36,6 +36,7 @@ fn hashes_cost<const V: u8>() {
 }
 
 // Absorbs N bytes where BEFORE are pending. This keeps KEPT_BYTES bytes.
+#[tactic(auto, using(crate::proofs::CallLists::costs))]
 fn absorb_costs<S: KomiStream, const BEFORE: usize, const N: usize, const KEPT_BYTES: usize>(
     stream: &mut S,
     bytes: &[u8; N],
@@ -197,6 +198,7 @@ fn start_costs(rt: &impl Abort, tally: &mut Tally)
 }
 
 // Resumes a stream from a text that has no pending bytes.
+#[tactic(auto, using(crate::proofs::SavedTexts::stored))]
 fn restore_none_pending<S: KomiStream>(rt: &impl Abort, text: &[u8; 68]) -> S
     ensures { length (S.state result).pending ≡ 0 }
 {
