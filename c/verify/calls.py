@@ -2,7 +2,7 @@
 call must return and store."""
 import z3
 from definition import Products, State, padding_byte
-from machine import Array
+from memory import Array
 from terms import (Refused, Unknown, address, at_point, bv, choose, join, part, secret, simple, sym,
                    symbols)
 

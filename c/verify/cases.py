@@ -6,7 +6,7 @@ import functions as f
 import loops
 import terms
 from aarch64 import Arm
-from machine import Image
+from image import Image
 from terms import Refused, Unknown
 from x86_64 import X86
 

@@ -23,11 +23,11 @@ class Products:
         self.list.append((simple(x), simple(y), *halves))
         return halves
 
-    def find(self, facts, a, b, busy):
-        """The number of the product with these factors, which is none of the busy ones."""
-        busy, points = {k for k, _ in busy}, {facts.point(a), facts.point(b)}
+    def find(self, facts, a, b, made):
+        """The number of the product with these factors, which is none of those already made."""
+        points = {facts.point(a), facts.point(b)}
         for k, (x, y, _, _) in enumerate(self.list):
-            if k not in busy and {facts.point(x), facts.point(y)} == points:
+            if k not in made and {facts.point(x), facts.point(y)} == points:
                 for u, v in ((x, y), (y, x)):
                     if facts.same(a, u) and facts.same(b, v):
                         return k

@@ -9,7 +9,6 @@ import signal
 import subprocess
 import tempfile
 import cases
-import loops
 import terms
 from elftools.elf.elffile import ELFFile
 from processor import compare
@@ -51,7 +50,6 @@ def try_mutant(path, program, place):
     some = reaching[::max(len(reaching) // SOME, 1)]
     image.flip(address + bit // 8, bit % 8)
     after = text(image, address)
-    loops.HEADS.clear()
     signal.setitimer(signal.ITIMER_PROF, SECONDS)
     try:
         failure = refusal(some) if after != before else None

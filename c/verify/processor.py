@@ -7,7 +7,7 @@ import subprocess
 from calls import FLAGS, STREAM
 from cases import PROCESSORS
 from definition import Numbers, padded_words
-from machine import Image
+from image import Image
 from terms import Refused, bv, const
 
 PLACE, SIZE, REPLY = 2**32, 2048, struct.Struct('<18Q2048s')

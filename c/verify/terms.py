@@ -148,6 +148,15 @@ def top(term):
     return z3.Extract(term.size() - 1, term.size() - 1, term) == 1
 
 
+def leading_zeros(term):
+    """How many of the highest bits are 0."""
+    width = term.size()
+    result = bv(width, width)
+    for k in range(width):
+        result = z3.If(z3.Extract(k, k, term) == 1, bv(width - 1 - k, width), result)
+    return result
+
+
 @functools.lru_cache(maxsize=None)
 def at_point(point, name):
     """The value of a symbol at a random point."""

@@ -1,19 +1,15 @@
-"""The meaning of the x86-64 instructions that the library uses, by Intel's manual, volume 2. Flags
-are z (zero), c (carry), s (sign), and l (less: sign unlike overflow)."""
-from functools import partial
+"""The meaning of the x86-64 instructions that the library uses, by Intel's manual, volume 2."""
+import operator
 import z3
 from capstone import CS_ARCH_X86, CS_MODE_64
 from capstone import x86_const as X
-from machine import RETURN, Cpu, means as enter, unknown
-from terms import Refused, bv, choose, const, join, part, secret, simple, sym, top, widen
+from machine import CONDITIONS, RETURN, Cpu, means, unknown
+from terms import (Refused, bv, choose, const, join, leading_zeros, part, secret, simple, sym, top,
+                   widen)
 
 TABLE = {}
-means = partial(enter, TABLE)
 ALIGNED = ('movaps', 'movdqa', 'vmovaps', 'pxor', 'xorps', 'punpcklqdq', 'punpckhqdq', 'palignr')
-NOT = {'ne': 'e', 'ae': 'b', 'ns': 's', 'a': 'be', 'ge': 'l', 'g': 'le'}
-CODES = ('e', 'b', 's', 'be', 'l', 'le', *NOT)
-SHIFTS = {'shl': lambda a, n: a << n, 'shr': z3.LShR, 'sar': lambda a, n: a >> n,
-          'shlx': lambda a, n: a << n, 'shrx': z3.LShR, 'sarx': lambda a, n: a >> n}
+SHIFTS = {'shl': operator.lshift, 'shr': z3.LShR, 'sar': operator.rshift}
 
 
 def registers():
@@ -107,16 +103,9 @@ class X86(Cpu):
     def both(self, i, first=0):
         return [self.get(i, k, 8 * i.ops[0].size) for k in (first, first + 1)]
 
-    def cond(self, code):
-        z, c = (lambda name=name: self.flag(name) for name in 'zc')
-        found = {'e': z, 'b': c, 's': lambda: self.flag('s'), 'be': lambda: z3.Or(c(), z()),
-                 'l': lambda: self.flag('l'), 'le': lambda: z3.Or(self.flag('l'), z()),
-                 }[NOT.get(code, code)]()
-        return z3.Not(found) if code in NOT else found
-
     def set_flags(self, result, **flags):
         """Zero and sign by the result, the others as given; without these they are not defined."""
-        self.flags = {'z': lambda: result == 0, 's': lambda: top(result), **flags}
+        self.flags = {'z': result == 0, 's': top(result), **flags}
 
 
 TABLE.update({
@@ -129,45 +118,45 @@ TABLE.update({
     'vbroadcastsd': lambda c, i: c.put(i, 0, join([c.get(i, 1, 64)] * 4))})
 
 
-@means('xor', 'and', 'or', 'test', 'andn')
+@means(TABLE, 'xor', 'and', 'or', 'test', 'andn')
 def logic(c, i):
     a, b = c.both(i, 1 if i.mnemonic == 'andn' else 0)
     result = simple({'xor': a ^ b, 'or': a | b, 'andn': ~a & b}.get(i.mnemonic, a & b))
     if i.mnemonic != 'test':
         c.put(i, 0, result)
-    c.set_flags(result, c=lambda: z3.BoolVal(False), l=lambda: top(result))
+    c.set_flags(result, c=z3.BoolVal(False), l=top(result))
 
 
-@means('add', 'adc')
+@means(TABLE, 'add', 'adc')
 def add(c, i):
     a, b = c.both(i)
     carry = z3.BoolVal(False) if i.mnemonic == 'add' else c.flag('c')
     result = simple(a + b + z3.If(carry, bv(1, a.size()), bv(0, a.size())))
     c.put(i, 0, result)
-    c.set_flags(result, c=lambda: z3.If(carry, z3.ULE(result, a), z3.ULT(result, a)))
+    c.set_flags(result, c=z3.If(carry, z3.ULE(result, a), z3.ULT(result, a)))
 
 
-@means('sub', 'cmp')
+@means(TABLE, 'sub', 'cmp')
 def subtract(c, i):
     a, b = c.both(i)
     result = simple(a - b)
     if i.mnemonic == 'sub':
         c.put(i, 0, result)
-    c.set_flags(result, c=lambda: z3.ULT(a, b), l=lambda: a < b, z=lambda: a == b)
+    c.set_flags(result, c=z3.ULT(a, b), l=a < b, z=a == b)
 
 
-@means('inc', 'dec')
+@means(TABLE, 'inc', 'dec')
 def step_by_one(c, i):
     result = simple(c.get(i, 0) + (1 if i.mnemonic == 'inc' else -1))
     c.put(i, 0, result)
     c.set_flags(result, **{k: f for k, f in c.flags.items() if k == 'c'})
 
 
-@means('neg')
+@means(TABLE, 'neg')
 def negate(c, i):
     a = c.get(i, 0)
     c.put(i, 0, -a)
-    c.set_flags(simple(-a), c=lambda: a != 0)
+    c.set_flags(simple(-a), c=a != 0)
 
 
 def count(c, i, k, width):
@@ -179,7 +168,7 @@ def count(c, i, k, width):
     return n
 
 
-@means('shl', 'shr', 'sar')
+@means(TABLE, 'shl', 'shr', 'sar')
 def shift(c, i):
     a = c.get(i, 0)
     n, do = count(c, i, 1, a.size()), SHIFTS[i.mnemonic]
@@ -189,16 +178,16 @@ def shift(c, i):
         c.flags = {}
     elif const(n):
         last = a.size() - const(n) if i.mnemonic == 'shl' else const(n) - 1
-        c.set_flags(result, c=lambda: part(a, last, 1) == 1)
+        c.set_flags(result, c=part(a, last, 1) == 1)
 
 
-@means('shlx', 'shrx', 'sarx')
+@means(TABLE, 'shlx', 'shrx', 'sarx')
 def shift_by_register(c, i):
     a = c.get(i, 1)
-    c.put(i, 0, SHIFTS[i.mnemonic](a, count(c, i, 2, a.size())))
+    c.put(i, 0, SHIFTS[i.mnemonic[:3]](a, count(c, i, 2, a.size())))
 
 
-@means('shld')
+@means(TABLE, 'shld')
 def shift_double(c, i):
     a, b = c.get(i, 0), c.get(i, 1)
     n = count(c, i, 2, a.size())
@@ -206,7 +195,7 @@ def shift_double(c, i):
     c.flags = {}
 
 
-@means('bt', 'bts')
+@means(TABLE, 'bt', 'bts')
 def bit_test(c, i):
     if i.ops[0].type != X.X86_OP_REG:
         raise unknown(i)
@@ -214,22 +203,25 @@ def bit_test(c, i):
     n = simple(c.get(i, 1, a.size()) & (a.size() - 1))
     if i.mnemonic == 'bts':
         c.put(i, 0, a | (bv(1, a.size()) << n))
-    c.flags = {'c': lambda: z3.Extract(0, 0, z3.LShR(a, n)) == 1,
+    c.flags = {'c': z3.Extract(0, 0, z3.LShR(a, n)) == 1,
                **{k: f for k, f in c.flags.items() if k == 'z'}}
 
 
-@means('bsr', 'lzcnt')
+@means(TABLE, 'bsr')
 def highest_bit(c, i):
-    a, scan = c.get(i, 1), i.mnemonic == 'bsr'
-    w = a.size()
-    result = c.any(w) if scan else bv(w, w)
-    for k in range(w):
-        result = z3.If(z3.Extract(k, k, a) == 1, bv(k if scan else w - 1 - k, w), result)
-    c.put(i, 0, result)
-    c.flags = {'z': lambda: a == 0} if scan else {'z': lambda: top(a), 'c': lambda: a == 0}
+    a = c.get(i, 1)
+    c.put(i, 0, z3.If(a == 0, c.any(a.size()), a.size() - 1 - leading_zeros(a)))
+    c.flags = {'z': a == 0}
 
 
-@means('mul')
+@means(TABLE, 'lzcnt')
+def count_zeros(c, i):
+    a = c.get(i, 1)
+    c.put(i, 0, leading_zeros(a))
+    c.flags = {'z': top(a), 'c': a == 0}
+
+
+@means(TABLE, 'mul')
 def multiply(c, i):
     if i.ops[0].size != 8:
         raise unknown(i)
@@ -237,7 +229,7 @@ def multiply(c, i):
     c.flags = {}
 
 
-@means('mulx')
+@means(TABLE, 'mulx')
 def multiply_without_flags(c, i):
     low, high = c.multiply(c.r[2], c.get(i, 2), (0, 1))
     c.put(i, 1, low)
@@ -250,7 +242,7 @@ def check_size(i):
         raise unknown(i)
 
 
-@means('push')
+@means(TABLE, 'push')
 def push(c, i):
     check_size(i)
     value = c.get(i, 0, 64)
@@ -258,14 +250,14 @@ def push(c, i):
     c.store(c.r[4], value)
 
 
-@means('pop')
+@means(TABLE, 'pop')
 def pop(c, i):
     value = c.load(c.r[4], 8)
     c.r[4] = simple(c.r[4] + 8)
     c.put(i, 0, value)
 
 
-@means('ret')
+@means(TABLE, 'ret')
 def give_back(c, i):
     check_size(i)
     to = c.load(c.r[4], 8)
@@ -275,7 +267,7 @@ def give_back(c, i):
     return RETURN
 
 
-@means('jmp')
+@means(TABLE, 'jmp')
 def jump(c, i):
     check_size(i)
     if i.ops[0].type != X.X86_OP_IMM:
@@ -283,23 +275,23 @@ def jump(c, i):
     return i.ops[0].imm
 
 
-@means(*(f'j{code}' for code in CODES))
+@means(TABLE, *(f'j{code}' for code in CONDITIONS))
 def branch(c, i):
     check_size(i)
     return c.cond(i.mnemonic[1:]), i.ops[0].imm, i.address + i.size
 
 
-@means(*(f'set{code}' for code in CODES))
+@means(TABLE, *(f'set{code}' for code in CONDITIONS))
 def set_if(c, i):
     c.put(i, 0, choose(c.known(c.cond(i.mnemonic[3:])), bv(1, 8), bv(0, 8)))
 
 
-@means(*(f'cmov{code}' for code in CODES))
+@means(TABLE, *(f'cmov{code}' for code in CONDITIONS))
 def move_if(c, i):
     c.put(i, 0, choose(c.known(c.cond(i.mnemonic[4:])), c.get(i, 1), c.get(i, 0)))
 
 
-@means('movq', 'vmovq')
+@means(TABLE, 'movq', 'vmovq')
 def move_quad(c, i):
     value = c.get(i, 1, 64)
     to_vector = i.ops[0].type == X.X86_OP_REG and i.ops[0].size == 16
@@ -311,13 +303,13 @@ def sources(i):
     return (1, 2) if i.mnemonic[0] == 'v' else (0, 1)
 
 
-@means('pxor', 'xorps', 'vpxor', 'vxorps')
+@means(TABLE, 'pxor', 'xorps', 'vpxor', 'vxorps')
 def xor_vectors(c, i):
     a, b = (c.get(i, k, 8 * i.ops[0].size) for k in sources(i))
     c.put(i, 0, a ^ b)
 
 
-@means('punpcklqdq', 'punpckhqdq', 'vpunpcklqdq', 'vpunpckhqdq', 'vunpckhpd', 'vmovlhps')
+@means(TABLE, 'punpcklqdq', 'punpckhqdq', 'vpunpcklqdq', 'vpunpckhqdq', 'vunpckhpd', 'vmovlhps')
 def unpack(c, i):
     if i.ops[0].size != 16:
         raise unknown(i)
@@ -325,26 +317,26 @@ def unpack(c, i):
     c.put(i, 0, join([part(c.get(i, k, 128), low, 64) for k in sources(i)]))
 
 
-@means('palignr')
+@means(TABLE, 'palignr')
 def align(c, i):
     if i.ops[2].imm > 16:
         raise unknown(i)
     c.put(i, 0, part(join([c.get(i, 1), c.get(i, 0)]), 8 * i.ops[2].imm, 128))
 
 
-@means('vzeroupper')
+@means(TABLE, 'vzeroupper')
 def zero_upper(c, i):
     for n in range(16):
         c.r[f'v{n}'] = widen(part(c.r[f'v{n}'], 0, 128), 256)
 
 
-@means('vpermq', 'vpermpd')
+@means(TABLE, 'vpermq', 'vpermpd')
 def permute(c, i):
     a = c.get(i, 1)
     c.put(i, 0, join([part(a, 64 * (i.ops[2].imm >> 2 * k & 3), 64) for k in range(4)]))
 
 
-@means('vblendps')
+@means(TABLE, 'vblendps')
 def blend(c, i):
     a, b = c.get(i, 1), c.get(i, 2)
     c.put(i, 0, join([part(b if i.ops[3].imm >> k & 1 else a, 32 * k, 32)
