@@ -16,28 +16,26 @@ VECTORS = {**dict.fromkeys(('eor', 'orr', 'and', 'bic', 'mov', 'mvn', 'ext'), '.
 
 
 def register(name):
-    """Number (None for the zero register) and width of a register."""
+    """The whole register (None for the zero register) and the width of a part by its name."""
+    if name in ('sp', 'wsp', 'xzr', 'wzr'):
+        return ('sp' if 'sp' in name else None), 32 if name[0] == 'w' else 64
     name = {'lr': 'x30', 'fp': 'x29'}.get(name, name)
-    if name in ('sp', 'wsp'):
-        return 31, 64 if name == 'sp' else 32
-    if name in ('xzr', 'wzr'):
-        return None, SIZES[name[0]]
-    return (name[1:] if name[0] in 'xw' else f'v{name[1:]}'), SIZES[name[0]]
+    return ('x' if name[0] in 'xw' else 'v') + name[1:], SIZES[name[0]]
 
 
 class Arm(Cpu):
     NAME = 'ARM64'
     DECODER = CS_ARCH_ARM64, CS_MODE_ARM
-    ARGS, RESULTS = tuple(str(n) for n in range(8)), ('0', '1')
-    SAVED = tuple(str(n) for n in range(19, 30)) + (31,)
-    SP, ABOVE, TABLE = 31, 0, TABLE
+    ARGS, RESULTS = [f'x{n}' for n in range(8)], ('x0', 'x1')
+    SAVED = [*(f'x{n}' for n in range(19, 30)), 'sp']
+    SP, ABOVE, TABLE = 'sp', 0, TABLE
 
     def registers(self):
-        words = {str(n): secret(f'x{n} of the caller') for n in range(31)}
+        words = {f'x{n}': secret(f'x{n} of the caller') for n in range(31)}
         return {**words, **{f'v{n}': secret(f'v{n} of the caller', 128) for n in range(32)}}
 
     def enter(self):
-        self.r['30'] = sym('return')
+        self.r['x30'] = sym('return')
 
     def check_return(self):
         super().check_return()
@@ -45,9 +43,9 @@ class Arm(Cpu):
             if not z3.eq(part(self.r[f'v{n}'], 0, 64), part(self.before[f'v{n}'], 0, 64)):
                 self.refuse(f'd{n} of the caller is lost')
 
-    def struct_at(self, place):
+    def struct_at(self, address):
         """The arguments by which a function is told where its struct goes, and its result."""
-        self.r['8'] = place
+        self.r['x8'] = address
         return [], None
 
     def get(self, i, k, width=None):
@@ -83,22 +81,20 @@ class Arm(Cpu):
             self.r[n] = self.in_length(widen(value, self.r[n].size()))
 
     def address(self, i, k):
-        """The address in operand k; a base that changes is changed."""
+        """The address in operand k. A further operand is added to the base afterwards."""
         m, base = i.ops[k].mem, register(i.reg_name(i.ops[k].mem.base))[0]
         if i.ops[k].ext or i.ops[k].shift.type:
             raise unknown(i)
-        if base == 31:
-            self.check_aligned(self.r[31], 16)
+        if base == 'sp':
+            self.check_aligned(self.r['sp'], 16)
         if m.index and register(i.reg_name(m.index))[1] != 64:
             raise unknown(i)
         index = self.r[register(i.reg_name(m.index))[0]] if m.index else 0
         address = simple(self.r[base] + index + m.disp)
-        if len(i.ops) > k + 1:
-            if not i.writeback or m.disp or m.index:
+        if i.writeback or len(i.ops) > k + 1:
+            if not i.writeback or len(i.ops) != k + 2 or m.disp or m.index:
                 raise unknown(i)
             self.r[base] = simple(address + i.ops[k + 1].imm)
-        elif i.writeback:
-            self.r[base] = address
         return address
 
 
@@ -237,7 +233,7 @@ def store(c, i):
 
 @means(TABLE, 'ret')
 def give_back(c, i):
-    if i.ops or not z3.eq(c.r['30'], sym('return')):
+    if i.ops or not z3.eq(c.r['x30'], sym('return')):
         raise Refused('a return to another place than the caller')
     return RETURN
 

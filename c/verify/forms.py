@@ -11,7 +11,7 @@ Beside forms, some conditions hold, as that a turn of the loop is left."""
 import itertools
 import z3
 from calls import FLAGS
-from terms import bv, join, simple, symbols
+from terms import simple, symbols
 
 # In a linear form, the factors of the units, of the base and of the length.
 FACTORS = list(itertools.product((0, 1, -1, 8, -8), (0, 1), (0, 1)))

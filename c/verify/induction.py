@@ -4,17 +4,17 @@ The code is cut at two places: the head of its loop, and its exit, the first pla
 Each has an invariant (forms.py), which speaks of how much was taken of the bytes so far. Code is
 run with symbols from one place to the next cut or return, in three ways:
 
-1. Start: whatever arrives from a call's first instruction has the invariant of where it arrives.
-2. Turn: whatever arrives from any state that has the head's invariant has the invariant of where
+1. `begin`: whatever arrives from a call's first instruction has the invariant of where it arrives.
+2. `turn`: whatever arrives from any state that has the head's invariant has the invariant of where
    it arrives. If it arrives at the head again, it took some bytes on the way.
-3. End: from any state that has the exit's invariant, the call returns and stores what it must.
+3. `end`: from any state that has the exit's invariant, the call returns and stores what it must.
 
 On each way, what was multiplied and written must be what the definition has next. So by induction
 over its arrivals, each call has the right state at each of them, and what it returns is right too.
-It does return: each turn takes some bytes, and the invariant says that no more are taken than
+It does return, since each turn takes some bytes, and the invariant says that no more are taken than
 there are.
 
-The cuts and the invariants are found by trying, and it doesn't matter how. If they are wrong or too
+The cuts and the invariants are found by trying, and how doesn't matter: if they are wrong or too
 weak, one of the three ways fails.
 
 Lengths are GRAIN * q + r, with q at least 1. The number q stays a symbol. In the first two ways, so
@@ -26,8 +26,9 @@ from calls import Call
 from forms import Arrival, Invariant, World
 from machine import Seen
 from memory import Array
-from terms import Refused, Unknown, bv, const, simple, sym, symbols
+from terms import Refused, Unknown, bv, simple, sym, symbols
 
+# To find the loop, these calls are run: with a huge q, and with a small one and a remainder.
 LONG, TURNS, REST = 2**20, 12, 40
 
 
@@ -41,8 +42,9 @@ class Induction:
     - steps(cpu): how many steps were made since, after checking all that they make
     - check_end(cpu): checks a return"""
     NAME, UNIT, SIZE, GRAIN = '', 8, 8, 128
-    # The low bits of the length that a case fixes, and what they are.
-    LOW = low = 0
+    # How many low bits of the length a case fixes, and the number that they are.
+    LOW, low = 0, 0
+    # What means the same at each arrival, beside q, r, and what the caller had in registers.
     STABLE = frozenset({'sp', 'return', 'bytes', 'words', 'out', 'rand', 'room', 'padding byte',
                         *(f'end[{k}]' for k in range(-136, 0))})
 
@@ -227,6 +229,7 @@ class Induction:
                   lambda term: simple(z3.substitute(term, (self.r, r))))
         for cpu, _ in call.cpu.run(self.exit):
             cpu.check_return()
+            self.call.check_all_products(cpu)
             self.check_end(cpu)
 
     def after_turns(self, remainder, rest):

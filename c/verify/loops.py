@@ -1,7 +1,8 @@
 """The five kinds of calls that have a loop over bytes, and are proved by induction."""
 import z3
-from calls import (FLAGS, NONE, STREAM, accepted, check, check_bytes, check_generator, check_state,
-                   generator, named, padded_content, some_lanes, some_state)
+from calls import (FLAGS, NONE, STREAM, generator, named, padded_content, some_lanes,
+                   some_state)
+from checks import accepted, check, check_bytes, check_generator, check_state
 from definition import (TRUE, State, block_round, hash_from_pair, joined, lanes, next_pair,
                         padded_words, padding_byte, seed_pair, top_bit, words_of)
 from induction import Induction
@@ -36,20 +37,20 @@ class Hash(Blocks):
         self.low = low
         call, seed = self.new_call(), secret('seed')
         self.length, content = self.many(least), named('front', range(front))
-        self.base = call.place('bytes', self.length)
+        self.base = call.base('bytes', self.length)
         self.windows(self.base, content, named('end', range(-64, 0)))
         self.follow(lanes(seed_pair(call.products, seed)), content, before=1)
         return self.base, self.length, seed
 
     def again(self):
         self.length, content = self.many(), named('turn', range(self.step))
-        self.base = self.call.place('bytes', self.length)
+        self.base = self.call.base('bytes', self.length)
         self.windows(simple(self.base + self.units), content, named('end', range(-64, 0)))
         self.follow(some_lanes(), content)
         return self.states[0]
 
     def finish(self, rest):
-        self.base = self.call.place('bytes', self.length)
+        self.base = self.call.base('bytes', self.length)
         s, last = some_lanes(), named('end', range(-64, 0))
         self.windows(self.base, [], last)
         if rest:
@@ -61,7 +62,6 @@ class Hash(Blocks):
 
     def check_end(self, cpu):
         check(cpu, 'hash', cpu.result(), self.wanted)
-        self.call.check_all_products(cpu)
 
 
 class Write(Blocks):
@@ -82,7 +82,7 @@ class Write(Blocks):
         call = self.new_call()
         self.length, content = simple(self.many(least) - fill), named('front', range(front))
         state = some_state(self.version, fill)
-        stream, self.base = call.stream(state, writable=True), call.place('bytes', self.length)
+        stream, self.base = call.stream(state, writable=True), call.base('bytes', self.length)
         call.memory.add(Array('front', self.base, 0, front, limit=self.length), content)
         after = simple(self.base + self.length - self.rest())
         call.memory.add(Array('last', after, -1, 0), [secret('last', 8)], -1)
@@ -93,13 +93,13 @@ class Write(Blocks):
     def open(self):
         """Any write, some bytes of which were taken. Returns the address of the next."""
         self.call.stream(None, writable=True)
-        self.base = self.call.place('bytes', self.length)
+        self.base = self.call.base('bytes', self.length)
         return simple(self.base + self.units)
 
     def again(self):
         self.length, content = sym('length'), named('turn', range(self.step))
-        place, limit = self.open(), simple(self.length - self.units)
-        self.call.memory.add(Array('front', place, 0, self.step, limit=limit), content)
+        address, limit = self.open(), simple(self.length - self.units)
+        self.call.memory.add(Array('front', address, 0, self.step, limit=limit), content)
         self.follow(some_lanes(), content)
         return self.states[0]
 
@@ -107,9 +107,9 @@ class Write(Blocks):
         return simple(sym('units') + remainder), sym('units')
 
     def finish(self, rest):
-        self.tail, place = named('rest', range(rest)), self.open()
+        self.tail, address = named('rest', range(rest)), self.open()
         content = [secret('last', 8), *self.tail]
-        self.call.memory.add(Array('rest', place, -1, rest), content, -1)
+        self.call.memory.add(Array('rest', address, -1, rest), content, -1)
         return some_lanes()
 
     def leave_early(self, cpu):
@@ -121,7 +121,6 @@ class Write(Blocks):
 
     def check_end(self, cpu):
         self.check_stream(cpu, some_lanes(), self.tail)
-        self.call.check_all_products(cpu)
 
     def check_stream(self, cpu, s, rest):
         check_state(cpu, State(s, rest, TRUE, top_bit(self.version, secret('last', 8))))
@@ -150,11 +149,11 @@ class Fill(Induction):
     def enter(self, least, front=512):
         call = self.new_call()
         self.length = self.many(least)
-        place, pair = generator(call)
-        self.base = call.place('out', self.length)
+        address, pair = generator(call)
+        self.base = call.base('out', self.length)
         self.follow(pair, front // 8)
         call.memory.add(Array('out', self.base, 0, front, True, self.length))
-        return place, self.base, self.length
+        return address, self.base, self.length
 
     def follow(self, pair, steps):
         """The pairs after each step, and the bytes of their outputs."""
@@ -181,16 +180,15 @@ class Fill(Induction):
         """Any pair, when so many bytes come. What memory holds of the first is not read again."""
         self.call.array('rand', 16, high=16, writable=True)
         pair = secret('s1'), secret('s2')
-        self.base = self.call.place('out', self.length)
+        self.base = self.call.base('out', self.length)
         self.follow(pair, (size + 7) // 8)
-        place, limit = simple(self.base + 8 * self.units), simple(self.length - 8 * self.units)
-        self.call.memory.add(Array('out', place, 0, size, True, limit))
+        address, limit = simple(self.base + 8 * self.units), simple(self.length - 8 * self.units)
+        self.call.memory.add(Array('out', address, 0, size, True, limit))
         return pair
 
     def check_end(self, cpu):
         check_generator(cpu, self.states[-1])
         check_bytes(cpu, 'bytes', 'out', self.outputs[:self.size])
-        self.call.check_all_products(cpu)
 
 
 class Copy(Induction):
@@ -242,12 +240,10 @@ class Copy(Induction):
             cpu.refuse('a return before the end')
         check(cpu, 'length', cpu.result(), self.REFUSED)
         check_bytes(cpu, 'refused', 'out', [])
-        self.call.check_all_products(cpu)
 
     def check_end(self, cpu):
         check(cpu, 'length', cpu.result(), self.result)
         check_bytes(cpu, 'bytes', 'out', self.tail)
-        self.call.check_all_products(cpu)
 
 
 class Pad(Copy):
@@ -256,9 +252,9 @@ class Pad(Copy):
     def pass_arrays(self):
         self.result = simple(z3.LShR(self.length, 3) + 1)
         self.call.facts.add(z3.ULT(sym('room'), 2**60))
-        self.base = self.call.place('bytes', self.length)
+        self.base = self.call.base('bytes', self.length)
         apart = [(self.base, self.length)]
-        self.call.aligned(self.call.place('out', 8 * sym('room'), apart))
+        self.call.aligned(self.call.base('out', 8 * sym('room'), apart))
         return named('end', range(-self.GRAIN, 0))
 
     def args(self):
@@ -284,8 +280,8 @@ class Unpad(Copy):
         self.more = max(at - self.GRAIN, 0)
         self.result = simple(self.length + self.more)
         self.call.facts.add(z3.ULT(self.length, 2**63 - 8))
-        self.base = self.call.aligned(self.call.place('words', self.size))
-        self.call.place('out', sym('room'), [(self.base, self.size)])
+        self.base = self.call.aligned(self.call.base('words', self.size))
+        self.call.base('out', sym('room'), [(self.base, self.size)])
         return content
 
     def args(self):

@@ -58,7 +58,9 @@ class Cpu:
         # Conditions that hold on this path, and which halves of products were made on it.
         self.path, self.halves = [], frozenset()
         self.memory, self.r, self.flags = Memory(), self.registers(), {}
-        self.place, self.undefined, self.enough, self.lengths = None, 0, {}, []
+        # The last instruction, how many values are undefined, how many bytes arrays are known to
+        # have, and terms for lengths.
+        self.pc, self.undefined, self.enough, self.lengths = None, 0, {}, []
         self.sp = sym('sp')
         self.memory.add(Array('stack', self.sp, -STACK_BYTES, self.ABOVE, True))
         self.facts.add(self.sp & 15 == self.ABOVE)
@@ -74,7 +76,7 @@ class Cpu:
 
     def refuse(self, why):
         """Refuses what the last instruction did, or what is found at its return."""
-        i = self.image.instruction(self.place)
+        i = self.image.instruction(self.pc)
         raise Refused(f'{i.address:#x}: {f"{i.mnemonic} {i.text}".strip()}: {why}') from None
 
     # Calls and paths
@@ -118,7 +120,7 @@ class Cpu:
         do = self.TABLE.get(i.mnemonic)
         if do is None:
             raise unknown(i)
-        self.place = pc
+        self.pc = pc
         self.seen.ran.add(pc)
         self.seen.order.append(pc)
         if len(self.seen.order) > STEPS:

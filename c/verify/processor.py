@@ -10,7 +10,7 @@ from definition import Numbers, padded_words
 from image import Image
 from terms import Refused, bv, const
 
-PLACE, SIZE, REPLY = 2**32, 2048, struct.Struct('<18Q2048s')
+BASE, SIZE, REPLY = 2**32, 2048, struct.Struct('<18Q2048s')
 NO_RESULT, PAIRS = ('_write', '_rand_fill'), ('_init', '_seed', '_words')
 STREAMS = ('_write', '_finish', '_save', '_resume')
 
@@ -34,7 +34,7 @@ def on_numbers(kind):
     return OnNumbers
 
 
-class Call:
+class RandomCall:
     """A call with numbers and arrays as arguments. The arrays lie in memory, with gaps between."""
 
     def __init__(self, r, name):
@@ -53,7 +53,7 @@ class Call:
             self.memory[start:start + len(content)] = content
             self.known.update(range(start, start + len(content)))
         self.end = (start + len(content) + 7) // 8 * 8
-        return self.number(PLACE + start)
+        return self.number(BASE + start)
 
     def bytes_at(self, content, known=True):
         if not content and self.r.randrange(2):
@@ -62,7 +62,7 @@ class Call:
 
     def request(self):
         args = [*self.args, 0, 0, 0][:4]
-        return struct.pack('<64s6Q', self.name.encode(), self.words, *args, PLACE) + self.memory
+        return struct.pack('<64s6Q', self.name.encode(), self.words, *args, BASE) + self.memory
 
     def outcome(self, words, memory):
         """What counts of an outcome: `resume` returns a byte, two calls return nothing, and six bytes
@@ -71,21 +71,21 @@ class Call:
         if self.words == 18:
             words[17] &= 0xffff
         elif self.name.endswith(STREAMS):
-            place = self.args[0] - PLACE
-            memory[place + FLAGS + 2:place + STREAM] = bytes(STREAM - FLAGS - 2)
+            start = self.args[0] - BASE
+            memory[start + FLAGS + 2:start + STREAM] = bytes(STREAM - FLAGS - 2)
         words = [w & 255 if self.name.endswith('_resume') else w for w in words]
         return [] if self.name.endswith(NO_RESULT) else words, bytes(memory)
 
     def in_model(self, image):
         cpu, args = image.processor(image, None), [bv(arg) for arg in self.args]
         for k in self.known:
-            cpu.memory.put('arrays', PLACE + k, bv(self.memory[k], 8))
+            cpu.memory.put('arrays', BASE + k, bv(self.memory[k], 8))
         if self.words == 18:
-            args = [*cpu.struct_at(bv(PLACE))[0], *args]
+            args = [*cpu.struct_at(bv(BASE))[0], *args]
         end, = cpu.call(self.name, *args)
         memory = bytearray(self.memory)
         for k in end.memory.written('arrays'):
-            memory[k - PLACE] = const(end.memory.content('arrays', k, 1))
+            memory[k - BASE] = const(end.memory.content('arrays', k, 1))
         if self.words == 18:
             words, memory[:144] = struct.unpack('<18Q', memory[:144]), self.memory[:144]
         else:
@@ -119,7 +119,7 @@ def words_with_end(r, version, message):
 def round_of_calls(r, version, fill):
     """A call of each function, of some two."""
     def call(name):
-        return Call(r, f'komihash_v{version}{name}')
+        return RandomCall(r, f'komihash_v{version}{name}')
     n = r.choice([r.randrange(20), r.randrange(70), r.randrange(301)])
     message, seed, other = r.randbytes(n), r.getrandbits(64), r.getrandbits(64)
     text, rand = saved_text(r, version, fill), r.randbytes(16)

@@ -13,58 +13,65 @@ SHIFTS = {'shl': operator.lshift, 'shr': z3.LShR, 'sar': operator.rshift}
 
 
 def registers():
-    """Register, lowest bit and width by name."""
+    """Register, lowest bit and width by the name of a part."""
     names = {}
-    for n, b in enumerate('acdb'):
-        names.update({f'r{b}x': (n, 0, 64), f'e{b}x': (n, 0, 32), f'{b}x': (n, 0, 16),
-                      f'{b}l': (n, 0, 8), f'{b}h': (n, 8, 8)})
-    for n, b in enumerate(['sp', 'bp', 'si', 'di'], 4):
-        names.update({f'r{b}': (n, 0, 64), f'e{b}': (n, 0, 32), b: (n, 0, 16), f'{b}l': (n, 0, 8)})
+    for n in 'abcd':
+        whole = f'r{n}x'
+        names.update({whole: (whole, 0, 64), f'e{n}x': (whole, 0, 32), f'{n}x': (whole, 0, 16),
+                      f'{n}l': (whole, 0, 8), f'{n}h': (whole, 8, 8)})
+    for n in ('sp', 'bp', 'si', 'di'):
+        whole = f'r{n}'
+        names.update({whole: (whole, 0, 64), f'e{n}': (whole, 0, 32), n: (whole, 0, 16),
+                      f'{n}l': (whole, 0, 8)})
     for n in range(8, 16):
-        names.update({f'r{n}': (n, 0, 64), f'r{n}d': (n, 0, 32), f'r{n}w': (n, 0, 16),
-                      f'r{n}b': (n, 0, 8)})
+        whole = f'r{n}'
+        names.update({whole: (whole, 0, 64), f'{whole}d': (whole, 0, 32),
+                      f'{whole}w': (whole, 0, 16), f'{whole}b': (whole, 0, 8)})
     for n in range(16):
-        names.update({f'xmm{n}': (f'v{n}', 0, 128), f'ymm{n}': (f'v{n}', 0, 256)})
+        names.update({f'ymm{n}': (f'ymm{n}', 0, 256), f'xmm{n}': (f'ymm{n}', 0, 128)})
     return names
 
 
 NAMES = registers()
-FULL = {where[0]: name for name, where in NAMES.items() if where[2] in (64, 256)}
 
 
 class X86(Cpu):
     NAME = 'x86-64'
     DECODER = CS_ARCH_X86, CS_MODE_64
-    ARGS, RESULTS, SAVED = (7, 6, 2, 1, 8, 9), (0, 2), (3, 5, 12, 13, 14, 15)
-    SP, ABOVE, TABLE = 4, 8, TABLE
+    ARGS, RESULTS = ('rdi', 'rsi', 'rdx', 'rcx', 'r8', 'r9'), ('rax', 'rdx')
+    SAVED = 'rbx', 'rbp', 'r12', 'r13', 'r14', 'r15'
+    SP, ABOVE, TABLE = 'rsp', 8, TABLE
 
     def registers(self):
-        return {n: secret(f'{name} of the caller', 256 if name[0] == 'y' else 64)
-                for n, name in FULL.items()}
+        return {name: secret(f'{name} of the caller', width)
+                for name, (whole, _, width) in NAMES.items() if name == whole}
 
     def enter(self):
         self.memory.put('stack', 0, sym('return'))
 
     def check_return(self):
         super().check_return()
-        if not z3.is_true(simple(self.r[4] == self.sp + 8)):
+        if not z3.is_true(simple(self.r['rsp'] == self.sp + 8)):
             self.refuse('the stack pointer is not where the caller left it')
 
-    def struct_at(self, place):
+    def struct_at(self, address):
         """The arguments by which a function is told where its struct goes, and its result."""
-        return [place], place
+        return [address], address
 
     def address(self, i, op):
-        m, wide = op.mem, {NAMES[i.reg_name(n)][2] for n in (op.mem.base, op.mem.index)
-                           if n and i.reg_name(n) != 'rip'}
-        if wide - {64} or m.segment and i.reg_name(m.segment) in ('fs', 'gs'):
+        m = op.mem
+        names = [i.reg_name(n) for n in (m.base, m.index) if n]
+        if any(name != 'rip' and NAMES[name][2] != 64 for name in names):
+            raise unknown(i)
+        if m.segment and i.reg_name(m.segment) in ('fs', 'gs'):
             raise unknown(i)
         a = bv(m.disp % 2**64)
         if m.base:
             name = i.reg_name(m.base)
-            a = a + (bv(i.address + i.size) if name == 'rip' else self.r[NAMES[name][0]])
+            a = a + (bv(i.address + i.size) if name == 'rip' else self.r[name])
         if m.index:
-            index = self.r[NAMES[i.reg_name(m.index)][0]]
+            index = self.r[i.reg_name(m.index)]
+            # A shift keeps a length as bits side by side, and a product keeps a sum as a sum.
             aside = z3.is_app_of(index, z3.Z3_OP_CONCAT)
             a = a + (simple(index << m.scale.bit_length() - 1) if aside else index * m.scale)
         return simple(a)
@@ -109,7 +116,7 @@ class X86(Cpu):
 
 
 TABLE.update({
-    **dict.fromkeys(('nop', 'endbr64'), lambda c, i: None),
+    'nop': lambda c, i: None,
     **dict.fromkeys(('mov', 'movabs', 'movups', 'movdqu', 'movaps', 'movdqa', 'vmovups', 'vmovdqu',
                      'vmovaps'), lambda c, i: c.put(i, 0, c.get(i, 1, 8 * i.ops[0].size))),
     'movzx': lambda c, i: c.put(i, 0, widen(c.get(i, 1), 8 * i.ops[0].size)),
@@ -225,13 +232,13 @@ def count_zeros(c, i):
 def multiply(c, i):
     if i.ops[0].size != 8:
         raise unknown(i)
-    c.r[0], c.r[2] = c.multiply(c.r[0], c.get(i, 0), (0, 1))
+    c.r['rax'], c.r['rdx'] = c.multiply(c.r['rax'], c.get(i, 0), (0, 1))
     c.flags = {}
 
 
 @means(TABLE, 'mulx')
 def multiply_without_flags(c, i):
-    low, high = c.multiply(c.r[2], c.get(i, 2), (0, 1))
+    low, high = c.multiply(c.r['rdx'], c.get(i, 2), (0, 1))
     c.put(i, 1, low)
     c.put(i, 0, high)
 
@@ -246,22 +253,22 @@ def check_size(i):
 def push(c, i):
     check_size(i)
     value = c.get(i, 0, 64)
-    c.r[4] = simple(c.r[4] - 8)
-    c.store(c.r[4], value)
+    c.r['rsp'] = simple(c.r['rsp'] - 8)
+    c.store(c.r['rsp'], value)
 
 
 @means(TABLE, 'pop')
 def pop(c, i):
-    value = c.load(c.r[4], 8)
-    c.r[4] = simple(c.r[4] + 8)
+    value = c.load(c.r['rsp'], 8)
+    c.r['rsp'] = simple(c.r['rsp'] + 8)
     c.put(i, 0, value)
 
 
 @means(TABLE, 'ret')
 def give_back(c, i):
     check_size(i)
-    to = c.load(c.r[4], 8)
-    c.r[4] = simple(c.r[4] + 8)
+    to = c.load(c.r['rsp'], 8)
+    c.r['rsp'] = simple(c.r['rsp'] + 8)
     if i.ops or not z3.eq(to, sym('return')):
         raise Refused(f'a return to {to}, which is not the caller')
     return RETURN
@@ -327,7 +334,7 @@ def align(c, i):
 @means(TABLE, 'vzeroupper')
 def zero_upper(c, i):
     for n in range(16):
-        c.r[f'v{n}'] = widen(part(c.r[f'v{n}'], 0, 128), 256)
+        c.r[f'ymm{n}'] = widen(part(c.r[f'ymm{n}'], 0, 128), 256)
 
 
 @means(TABLE, 'vpermq', 'vpermpd')
