@@ -78,7 +78,7 @@ class Arm(Cpu):
         if value.size() != size or name[0] == 'v' and VECTORS.get(i.mnemonic, '?') not in i.text:
             raise unknown(i)
         if n is not None:
-            self.r[n] = self.in_length(widen(value, self.r[n].size()))
+            self.r[n] = widen(value, self.r[n].size())
 
     def address(self, i, k):
         """The address in operand k. A further operand is added to the base afterwards."""

@@ -111,7 +111,8 @@ class Invariant:
         return before == (self.holding, list(self.forms.items()))
 
     def make(self, cpu, world, change):
-        """Puts a processor into any state that has the forms. Words without one hold anything."""
+        """Puts a processor into any state that has the forms, of which each term is changed as the
+        function says. Words without a form hold anything."""
         for (name, k), form in self.forms.items():
             if name == 'r':
                 cpu.r[k] = change(form(world)) if form else cpu.any(cpu.r[k].size())

@@ -89,15 +89,11 @@ class Induction:
         """A call before its first instruction, which is accepted if that is to be sure."""
         self.units = bv(0)
         args, cpu = self.enter(least, *self.case, **more), self.call.cpu
-        self.tell_lengths()
         cpu.r.update(zip(cpu.ARGS, args))
         if sure:
             cpu.facts.add(self.accepted())
         self.call.check_possible()
         return cpu
-
-    def tell_lengths(self):
-        self.call.cpu.lengths = [self.length, simple(self.length + 8)]
 
     def accepted(self):
         return z3.BoolVal(True)
@@ -203,7 +199,6 @@ class Induction:
         world, invariant = World(words, self.units, self.base, self.length), self.invariants[pc]
         conditions = self.conditions(world)
         self.call.facts.add(*(conditions[k] for k in invariant.holding))
-        self.tell_lengths()
         invariant.make(self.call.cpu, world, change)
         self.call.check_possible()
 

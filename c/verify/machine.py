@@ -1,7 +1,7 @@
 """What both processors share: registers, memory, products, and the paths through the code."""
 import z3
 from memory import Array, Memory, Several
-from terms import (Facts, Refused, Unknown, bv, const, is_public, linear, secret, signed, simple,
+from terms import (Facts, Refused, Unknown, bv, const, is_public, secret, signed, simple,
                    sym, symbols)
 
 STACK_BYTES = 4096
@@ -58,9 +58,8 @@ class Cpu:
         # Conditions that hold on this path, and which halves of products were made on it.
         self.path, self.halves = [], frozenset()
         self.memory, self.r, self.flags = Memory(), self.registers(), {}
-        # The last instruction, how many values are undefined, how many bytes arrays are known to
-        # have, and terms for lengths.
-        self.pc, self.undefined, self.enough, self.lengths = None, 0, {}, []
+        # The last instruction, how many values are undefined, how many bytes arrays surely have.
+        self.pc, self.undefined, self.enough = None, 0, {}
         self.sp = sym('sp')
         self.memory.add(Array('stack', self.sp, -STACK_BYTES, self.ABOVE, True))
         self.facts.add(self.sp & 15 == self.ABOVE)
@@ -204,15 +203,6 @@ class Cpu:
         k = self.products.find(self.facts, a, b, made)
         self.halves |= {(k, half) for half in halves}
         return [self.products.list[k][2 + half] for half in halves]
-
-    def in_length(self, term):
-        """A term, or the length that it is. Lengths have their low bits apart, by which their bits
-        and remainders are simple; sums of them lose this form."""
-        for length in self.lengths:
-            if term.size() == 64 and symbols(term) == symbols(length):
-                if const(simple(linear(term) - linear(length))) == 0:
-                    return length
-        return term
 
     def any(self, width=64):
         """A value that is not defined."""

@@ -70,10 +70,7 @@ class X86(Cpu):
             name = i.reg_name(m.base)
             a = a + (bv(i.address + i.size) if name == 'rip' else self.r[name])
         if m.index:
-            index = self.r[i.reg_name(m.index)]
-            # A shift keeps a length as bits side by side, and a product keeps a sum as a sum.
-            aside = z3.is_app_of(index, z3.Z3_OP_CONCAT)
-            a = a + (simple(index << m.scale.bit_length() - 1) if aside else index * m.scale)
+            a = a + self.r[i.reg_name(m.index)] * m.scale
         return simple(a)
 
     def aligned_address(self, i, op):
@@ -105,7 +102,7 @@ class X86(Cpu):
         elif size < whole:
             value = join([*([part(self.r[n], 0, low)] if low else []), value,
                           part(self.r[n], low + size, whole - low - size)])
-        self.r[n] = self.in_length(value)
+        self.r[n] = value
 
     def both(self, i, first=0):
         return [self.get(i, k, 8 * i.ops[0].size) for k in (first, first + 1)]
