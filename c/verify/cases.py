@@ -100,4 +100,5 @@ def run_case(case):
         failure = f'{refused}'
     except Exception as error:
         failure = Unknown(f'{type(error).__name__}: {error}')
-    return Done(case, failure, time.time() - begin, ran, depth, *terms.COUNTS.values())
+    return Done(case, failure, time.time() - begin, ran, depth,
+                terms.COUNTS['asked'], terms.COUNTS['second'])

@@ -64,6 +64,7 @@ def lanes(pair):
 def block_round(products, version, s, block):
     w = [block[k] for k in PLACES[version]]
     r = [products.new(w[2 * k] ^ s[k], w[2 * k + 1] ^ s[4 + k]) for k in range(4)]
+    # The new s5 to s8; before the first comes the last.
     t = [simple(s[4 + k] + r[k][1]) for k in range(4)]
     return [simple(t[k - 1] ^ r[k][0]) for k in range(4)] + t
 

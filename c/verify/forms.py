@@ -94,21 +94,21 @@ class Invariant:
                           (second.words[word], second.world))
             for word, term in first.words.items() if word in second.words}
 
-    def copy(self):
-        other = Invariant.__new__(Invariant)
-        other.holding, other.forms = self.holding, dict(self.forms)
-        return other
-
     def admit(self, arrival):
         """Drops what doesn't hold of an arrival. Returns whether all did."""
-        before = self.holding, list(self.forms.items())
-        self.holding = self.holding & arrival.holding
-        self.forms = {word: form for word, form in self.forms.items() if word in arrival.words}
-        formed = {word: form for word, form in self.forms.items() if form}
+        holding, forms = self.holding & arrival.holding, self.confirmed(arrival)
+        fits = (holding, forms) == (self.holding, self.forms)
+        self.holding, self.forms = holding, forms
+        return fits
+
+    def confirmed(self, arrival):
+        """The forms, of which those that an arrival doesn't have are None, for the words that it
+        has."""
+        forms = {word: form for word, form in self.forms.items() if word in arrival.words}
         true = arrival.facts.holding(arrival.path, {
-            word: arrival.words[word] == form(arrival.world) for word, form in formed.items()})
-        self.forms.update((word, None) for word in formed if word not in true)
-        return before == (self.holding, list(self.forms.items()))
+            word: arrival.words[word] == form(arrival.world)
+            for word, form in forms.items() if form})
+        return {word: form if word in true else None for word, form in forms.items()}
 
     def make(self, cpu, world, change):
         """Puts a processor into any state that has the forms, of which each term is changed as the

@@ -77,7 +77,8 @@ class Induction:
         return self.STABLE | symbols(self.r) | symbols(self.q) | frozenset().union(*callers)
 
     def many(self, least=1, r=None):
-        """GRAIN * q + r, for any r that has the low bits of this case, unless r is given."""
+        """The term GRAIN * q + r, which is the bits of q and r side by side. Unless r is given, it
+        is any number that has the low bits of this case."""
         self.call.facts.add(z3.UGE(self.q, least))
         if r is not None:
             r = bv(r, 64 - self.q.size())
@@ -130,7 +131,8 @@ class Induction:
         return list(self.seen.order)
 
     def guess(self):
-        """Guesses the invariant of the head from two arrivals of a long call."""
+        """Guesses the invariant of the head from two arrivals of a long call, and how many bytes a
+        turn takes. That of the exit is guessed when a turn arrives there."""
         one, _ = next(self.run(self.start(LONG, True)))
         other, _ = next(self.run(one.copy(), self.head))
         self.step = self.SIZE * (self.steps(other) - self.steps(one))
@@ -146,6 +148,7 @@ class Induction:
         return Arrival(cpu, world, self.conditions(world))
 
     def left(self, world):
+        """How many bytes are left."""
         return simple(world.length - self.UNIT * world.units)
 
     def conditions(self, world):
@@ -163,6 +166,7 @@ class Induction:
         return simple(self.length & (self.modulus() - 1))
 
     def modulus(self):
+        """A power of two. The length modulo this is left after the last turn."""
         return min(self.step, self.GRAIN)
 
     def begin(self):
@@ -192,6 +196,7 @@ class Induction:
         return fits
 
     def leave_early(self, cpu):
+        """Judges a return that comes before the exit."""
         cpu.refuse('a return before the end')
 
     def make(self, pc, words, change=lambda term: term):
@@ -214,7 +219,8 @@ class Induction:
             self.leave(remainder)
 
     def leave(self, remainder):
-        """From the exit to the return. What was taken follows from what is left."""
+        """From the exit to the return. What was taken follows from what is left. If the invariant
+        says that some is left, calls with no rest end before, which `leave_early` judges."""
         rest = remainder % self.modulus()
         if not rest and 'some is left' in self.invariants[self.exit].holding:
             return

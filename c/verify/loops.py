@@ -1,4 +1,5 @@
 """The five kinds of calls that have a loop over bytes, and are proved by induction."""
+import copy
 import z3
 from calls import (FLAGS, NONE, STREAM, generator, named, padded_content, some_lanes,
                    some_state)
@@ -134,7 +135,7 @@ class Write(Blocks):
             found[key] = super(Write, Write(self.library, self.version, 13)).prove()
         shown = found[key]
         self.head, self.exit, self.step = shown.head, shown.exit, shown.step
-        self.invariants = {pc: one.copy() for pc, one in shown.invariants.items()}
+        self.invariants = {pc: copy.copy(one) for pc, one in shown.invariants.items()}
         if not self.begin():
             self.settle()
         self.seen.include(shown.seen)

@@ -1,4 +1,5 @@
 """What both processors share: registers, memory, products, and the paths through the code."""
+import copy
 import z3
 from memory import Array, Memory, Several
 from terms import (Facts, Refused, Unknown, bv, const, is_public, secret, signed, simple,
@@ -68,8 +69,7 @@ class Cpu:
         self.before = dict(self.r)
 
     def copy(self):
-        other = self.__class__.__new__(self.__class__)
-        other.__dict__.update(self.__dict__)
+        other = copy.copy(self)
         other.r, other.memory = dict(self.r), self.memory.copy()
         return other
 

@@ -39,7 +39,8 @@ def text(image, address):
 
 def refusal(tried):
     """Why the first of the cases fails that does, or None."""
-    return next((f for case in tried if (f := cases.run_case(case).failure) is not None), None)
+    failures = (cases.run_case(case).failure for case in tried)
+    return next((failure for failure in failures if failure is not None), None)
 
 
 def try_mutant(path, program, flip):

@@ -263,14 +263,14 @@ class Facts:
 
     def values(self, term, path, most):
         """The values that a term can have on this path; None if there are more."""
-        found = []
-        while True:
-            model = self.model(path, *[term != v for v in found] or [term == term])
-            if model is None:
-                return found
+        # The first condition is always true, and makes the facts about the term relevant.
+        found, conds = [], [term == term]
+        while (model := self.model(path, *conds)) is not None:
             found.append(model.eval(term, model_completion=True))
+            conds = [term != value for value in found]
             if len(found) > most:
                 return None
+        return found
 
     def unique(self, term, path):
         """The one signed number that a term can be on this path, or None."""

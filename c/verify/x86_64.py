@@ -100,8 +100,9 @@ class X86(Cpu):
         if size == 32 or size == 128 and i.mnemonic[0] == 'v':
             value = widen(value, whole)
         elif size < whole:
-            value = join([*([part(self.r[n], 0, low)] if low else []), value,
-                          part(self.r[n], low + size, whole - low - size)])
+            below = [part(self.r[n], 0, low)] if low else []
+            above = part(self.r[n], low + size, whole - low - size)
+            value = join([*below, value, above])
         self.r[n] = value
 
     def both(self, i, first=0):
