@@ -4,9 +4,8 @@ from definition import Products, State, padding_byte
 from memory import Array
 from terms import Refused, Unknown, address, bv, choose, secret, simple, sym
 
-NONE = bv(2**64 - 1)
-STREAM = 144
-FLAGS = 136
+# What `unpad` returns instead of a length; the bytes of a stream, and where its flags are.
+NONE, STREAM, FLAGS = bv(2**64 - 1), 144, 136
 
 
 class Call:

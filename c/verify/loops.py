@@ -224,6 +224,7 @@ class Copy(Induction):
 
     def finish(self, rest):
         last = self.pass_arrays(*self.case)
+        # After the rest, at most the last word is written, or what it has of the message.
         self.open([], last, rest + 8)
         self.call.facts.add(self.accepted())
         self.tail = self.tail_of(last, rest)

@@ -5,9 +5,9 @@ from memory import Array, Memory, Several
 from terms import (Facts, Refused, Unknown, bv, const, is_public, secret, signed, simple,
                    sym, symbols)
 
-STACK_BYTES = 4096
-STEPS = 20000
-VALUES = 64
+# Limits: the bytes of a call's stack, the instructions of a case, and the values of a number for
+# which a path is split.
+STACK_BYTES, STEPS, VALUES = 4096, 20000, 64
 RETURN = object()
 # Conditions of both processors, by the flags of which one must be set, or none. Flags are z (zero),
 # s (sign), c (carry of a sum, borrow of a difference), and l (less: sign unlike overflow).

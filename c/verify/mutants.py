@@ -13,7 +13,10 @@ import terms
 from elftools.elf.elffile import ELFFile
 from processor import compare
 
+# Limits for a mutant: steps of Z3 for a question, processor time, and how many cases are run before
+# calls on the processor show whether others need to be.
 EFFORT, SECONDS, SOME = 2 * 10**8, 300, 100
+# The cases that reach an instruction, by its address. Workers inherit this.
 AT = collections.defaultdict(list)
 Mutant = collections.namedtuple('Mutant', 'address bit before after failure told')
 

@@ -6,8 +6,11 @@ import subprocess
 import z3
 
 SECOND = os.environ.get('SECOND')
+# Sums and xors of the same parts, in any order, become the same term.
 SIMPLIFY = z3.args2params([], {'bv_sort_ac': True})
+# Z3 may make so many steps for a question.
 EFFORT = 10**9
+# What was answered in this case, and how many questions were asked.
 ANSWERS, COUNTS = {}, {'asked': 0, 'second': 0}
 
 
