@@ -11,6 +11,7 @@ TABLE = {}
 SIZES = {'x': 64, 'w': 32, 'q': 128, 'd': 64, 'v': 128}
 SHIFTS = {A.ARM64_SFT_LSL: operator.lshift, A.ARM64_SFT_LSR: z3.LShR,
           A.ARM64_SFT_ASR: operator.rshift}
+# Vector instructions, and the one arrangement of each whose meaning is known here.
 VECTORS = {**dict.fromkeys(('eor', 'orr', 'and', 'bic', 'mov', 'mvn', 'ext'), '.16b'),
            **dict.fromkeys(('movi', 'zip1', 'zip2'), '.2d')}
 

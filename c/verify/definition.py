@@ -14,9 +14,9 @@ FIVES, TENS = 0x5555555555555555, 0xaaaaaaaaaaaaaaaa
 class Products:
     """The products of a definition: their factors, and the symbols of their halves.
 
-    Nothing is said of the symbols, so what is shown holds whatever the halves are. If the factors
-    in the code equal those of a product here, then so do the halves, by whatever they are. So code
-    may take this product's symbols for its own, and nothing needs to be known of multiplication."""
+    Nothing is known of these symbols, so what is shown holds for any halves, also for the right
+    ones. Code that multiplies the factors of a product here gets the same halves as the definition,
+    so it is given the same symbols. Therefore nothing needs to be known of multiplication."""
 
     def __init__(self):
         self.list = []

@@ -67,10 +67,12 @@ def save(library, version, fill):
 def resume(library, version, length):
     """Any text of this length, or if it is None, of any length above 131."""
     call = Call(library, version, '_resume')
-    size = sym('length') if length is None else bv(length)
-    text = named('text', range(132 if length is None else length))
-    call.facts.add(z3.BoolVal(True) if length is not None else z3.UGT(size, 131))
-    fits = is_text(version, text if length is not None else [])
+    if length is None:
+        size, text, fits = sym('length'), named('text', range(132)), z3.BoolVal(False)
+        call.facts.add(z3.UGT(size, 131))
+    else:
+        size, text = bv(length), named('text', range(length))
+        fits = is_text(version, text)
     stream = call.stream(None, writable=True)
     for end in call.run(stream, call.array('text', size, text), size):
         is_one = accepted(end, fits)

@@ -8,6 +8,7 @@ from terms import (Refused, bv, choose, const, join, leading_zeros, part, secret
                    widen)
 
 TABLE = {}
+# Instructions whose address must be a multiple of the operand's size.
 ALIGNED = ('movaps', 'movdqa', 'vmovaps', 'pxor', 'xorps', 'punpcklqdq', 'punpckhqdq', 'palignr')
 SHIFTS = {'shl': operator.lshift, 'shr': z3.LShR, 'sar': operator.rshift}
 
@@ -97,6 +98,7 @@ class X86(Cpu):
         whole = self.r[n].size()
         if value.size() != size:
             raise unknown(i)
+        # These clear what is above them in the register; others keep it.
         if size == 32 or size == 128 and i.mnemonic[0] == 'v':
             value = widen(value, whole)
         elif size < whole:
