@@ -211,7 +211,8 @@ def main(repeats, word, *files):
         f"# How fast the library is\n\n{block}",
         "All tables are of the same run. [README.md](README.md) tells how they were measured.",
         "![GB/s over the size of a message](speed.svg)\n\n## Beside the Rust crate",
-        f"Ratios below {SLOWER_BELOW} of calls that the Rust crate has: {'; '.join(times.slower())}.",
+        f"Ratios below {SLOWER_BELOW} of calls that the Rust crate has:"
+        f" {'; '.join(times.slower())}.",
         f"{rows[0]}\n\n## Beside other hashes",
         "A ratio is the time of the hash at the head divided by the time of this library, built for"
         " x86-64-v2: in version 4 below `komihash 4, x86-64-v3`, and in version 5 below all other"

@@ -69,8 +69,8 @@ class RandomCall:
         return struct.pack('<64s6Q', self.name.encode(), self.words, *args, BASE) + self.memory
 
     def outcome(self, words, memory):
-        """What counts of an outcome: `resume` returns a byte, two calls return nothing, and six bytes
-        of a stream are unused."""
+        """What counts of an outcome: `resume` returns a byte, two calls return nothing, and six
+        bytes of a stream are unused."""
         words, memory = list(words[:self.words]), bytearray(memory)
         if self.words == WORDS:
             words[-1] &= 0xffff

@@ -20,11 +20,11 @@ def check_hashes():
 
 
 def check_streams(length):
-    """Whether a stream answers the hash of any bytes, cut in the middle, by the same products. Fewer
-    than 64 bytes come after the start from any seed, others after any lanes. Of 64 or more, both
-    definitions first take a block, and then have lanes and the bytes after it. So by induction over
-    the blocks, this holds of all lengths if it holds below 128. It holds of other cuts too, since
-    `absorb` takes blocks from the front of all bytes that it has."""
+    """Whether a stream answers the hash of any bytes, cut in the middle, by the same products.
+    Fewer than 64 bytes are absorbed by a new stream of any seed, others from any lanes. Of these,
+    both definitions first take a block, and then have lanes again, and the bytes after it. So by
+    induction over the blocks, all lengths are right if those below 128 are. Other cuts are too,
+    since `absorb` takes blocks from the front of all bytes that it has."""
     message = [secret(f'bytes[{k}]', 8) for k in range(length)]
     for version in (4, 5):
         one, other = Products(), Products()

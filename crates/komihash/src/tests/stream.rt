@@ -1,5 +1,5 @@
-//! Streams of both versions in pieces of many sizes: `finish` against `komihash` of all bytes, whose
-//! hashes `hash.rt` compares with known ones.
+//! Streams of both versions in pieces of many sizes: `finish` against `komihash` of all bytes.
+//! `hash.rt` compares the hashes of `komihash` with known ones.
 
 use super::hash::hashes;
 use super::messages::{HIGH_END, SIX, SIX_IN_FIVE, SIX_IN_FOUR, pattern};
