@@ -8,10 +8,10 @@ set -u
 cd "$(dirname "$0")/attacks" || exit 1
 . ../../c/cases.sh
 
-above=$room/crates/above
+above=$scratch/crates/above
 mkdir -p "$above"/{src,proofs/tally_raised_by_hand/raised}
-cp -r ../../crates/komihash "$room/crates"
-printf 'komihash:\nabove: komihash\n' > "$room/crates.txt"
+cp -r ../../crates/komihash "$scratch/crates"
+printf 'komihash:\nabove: komihash\n' > "$scratch/crates.txt"
 for file in *.rt.txt; do cp "$file" "$above/src/${file%.txt}"; done
 for file in *.antt.txt; do cp "$file" "$above/proofs/${file%.txt}"; done
 cp tally_raised_by_hand.proof.txt "$above/proofs/tally_raised_by_hand/raised/Proof.antt"
@@ -38,13 +38,13 @@ attacks=$(printf '%s\n' *_* | sed 's/\..*//' | uniq)
 for hidden_by in nothing names methods; do
     output=$(check)
     for attack in $attacks; do
-        ls "$above"/*/"$attack".* > "$room/case" 2>&1 || continue
+        ls "$above"/*/"$attack".* > "$scratch/case" 2>&1 || continue
         told[$attack]=$output
-        ! refused "$attack" > "$room/case" || rm -rf "$above"/*/"$attack"{,.*}
+        ! refused "$attack" > "$scratch/case" || rm -rf "$above"/*/"$attack"{,.*}
     done
 done
 for attack in $attacks; do
-    note "$attack is refused" refused "$attack"
+    run_case "$attack is refused" refused "$attack"
 done
-note 'the controls are accepted' check
+run_case 'the controls are accepted' check
 counted
