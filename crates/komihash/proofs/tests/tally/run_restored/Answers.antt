@@ -1,5 +1,5 @@
 -- A turn makes the first of the calls that are left (`call_first`).
-use Rattle.std.proofs.Common.{◌∷◌, [], ◌+◌, drop, get_or, arith}
+use Rattle.std.proofs.Common.{[], ◌+◌, drop, get_or, arith}
 use Rattle.std.proofs.lemmas.List.{drop_more}
 use Rattle.komihash.specs.declared.stream.Call.TheVariants.{Absorb}
 use Rattle.komihash.proofs.CallLists.{call_first}
