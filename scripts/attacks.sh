@@ -19,8 +19,8 @@ cp tally_raised_by_hand.proof.txt "$above/proofs/tally_raised_by_hand/raised/Pro
 # Checks the crate, whose modules are the files that are there.
 check() {
     cd "$above" && rm -f src/lib.rt proofs/Lib.antt || return
-    { echo '#![tactic(auto)]'; ls src | sed 's/\.rt$/;/; s/^/mod /'; } > lib.rt
-    ls proofs | sed -n 's/\.antt$//; t mod; d; :mod s/^/mod /p' > Lib.antt
+    { echo '#![tactic(auto)]'; ls src | sed 's/^\(.*\)\.rt$/mod \1;/'; } > lib.rt
+    ls proofs | sed -n 's/^\(.*\)\.antt$/mod \1/p' > Lib.antt
     mv lib.rt src && mv Lib.antt proofs && rt check 2>&1
 }
 refused() {
@@ -31,11 +31,11 @@ refused() {
         grep -F "$kind:" | grep "\`[^\`]*\b$name\b"
 }
 
-# Errors in names hide those in methods, and both hide those in proofs: what a check refuses is
+# Errors in names hide those in methods, and both hide those in proofs, so what a check refuses is
 # taken out before the next.
 declare -A told
 attacks=$(printf '%s\n' *_* | sed 's/\..*//' | uniq)
-for hidden_by in nothing names methods; do
+for errors_in in names methods proofs; do
     output=$(check)
     for attack in $attacks; do
         ls "$above"/*/"$attack".* > "$scratch/case" 2>&1 || continue
