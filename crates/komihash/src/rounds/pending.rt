@@ -46,130 +46,6 @@ impl Model for Pending {
     } };
 }
 
-impl Pending {
-    #[inline(always)]
-    pub(crate) fn new() -> Self
-        ensures { result ≡ [] }
-    {
-        Pending {
-            words: [0; 8],
-            len: 0,
-        }
-    }
-
-    #[inline(always)]
-    pub(crate) fn len(&self) -> usize
-        ensures length { result ≡ length self.now }
-        ensures below_64 { result < 64 }
-    {
-        self.len
-    }
-
-    /// Appends bytes that do not complete a block, and counts them as kept.
-    #[inline(always)]
-    pub(crate) fn append(&mut self, bytes: &[u8], tally: &mut Tally)
-        requires { length self.old + length bytes.now < 64 }
-        ensures bytes { self.new ≡ self.old ++ bytes.now }
-        ensures costs { Costs tally 0 (length bytes.now) }
-    {
-        append_bytes::<false>(&mut self.words, self.len, bytes, tally);
-        self.len += bytes.len();
-    }
-
-    /// Appends bytes if none are pending, and counts them as kept. Does what `append` does, but the
-    /// compiler knows that the length was 0.
-    #[inline(always)]
-    pub(crate) fn append_to_none(&mut self, bytes: &[u8], tally: &mut Tally)
-        requires none { self.old ≡ [] }
-        requires below_64 { length bytes.now < 64 }
-        ensures bytes { self.new ≡ bytes.now }
-        ensures costs { Costs tally 0 (length bytes.now) }
-    {
-        if !bytes.is_empty() {
-            append_bytes::<false>(&mut self.words, 0, bytes, tally);
-            self.len = bytes.len();
-        }
-    }
-
-    /// Returns the words of the block that the first of the bytes complete, counts these bytes as
-    /// kept, and stores none then.
-    #[inline(always)]
-    pub(crate) fn complete(&mut self, bytes: &[u8], tally: &mut Tally) -> [u64; 8]
-        requires { 64 ≤ length self.old + length bytes.now }
-        ensures block { result ≡ whole_words (self.old ++ take (64 - length self.old) bytes.now) }
-        ensures none { self.new ≡ [] }
-        ensures costs { Costs tally 0 (64 - length self.old) }
-    {
-        let len = self.len;
-        if bytes.len() < 64 {
-            append_bytes::<false>(&mut self.words, len, &bytes[..64 - len], tally);
-        } else {
-            append_bytes::<true>(&mut self.words, len, bytes, tally);
-        }
-        let block = self.words;
-        self.words = [0; 8];
-        self.len = 0;
-        block
-    }
-
-    /// Returns the last whole word, or any word if there is none.
-    #[inline(always)]
-    pub(crate) fn last_whole_word(&self) -> u64
-        ensures { 8 ≤ length self.now
-            → result ≡ slice_index (whole_words self.now) (length self.now / 8 - 1) }
-    {
-        self.words[(self.len / 8 + 7) % 8]
-    }
-
-    /// Returns the final word of at least one byte: those after the last whole word, and the
-    /// padding byte.
-    #[inline(always)]
-    pub(crate) fn final_word<const V: u8>(&self) -> u64
-        requires { 0 < length self.now }
-        ensures { result ≡ final_word self.now (padding_byte V self.now) }
-    {
-        let whole = self.len / 8;
-        let over = self.len % 8;
-        let word = self.words[whole];
-        let is_whole = over == 0;
-        let last_byte = if is_whole {
-            (self.words[whole - 1] >> 56 & 0xff) as u8
-        } else {
-            (word >> (8 * over - 8) & 0xff) as u8
-        };
-        word | padding_after(pads_with_two::<V>(last_byte)) << (8 * over)
-    }
-
-    /// Writes the bytes to the front of `out`, whose rest is unchanged.
-    #[inline(always)]
-    pub(crate) fn write_to(&self, out: &mut [u8])
-        requires { length self.now ≤ length out.old }
-        ensures bytes { take (length self.now) out.new ≡ self.now }
-        ensures rest { drop (length self.now) out.new ≡ drop (length self.now) out.old }
-    {
-        write_first_bytes(&self.words, self.len, out);
-    }
-}
-
-impl WholeWords for Pending {
-    ghost words = { λ pending. whole_words pending };
-
-    #[inline(always)]
-    fn holds(&self, count: usize) -> bool {
-        8 * count <= self.len
-    }
-
-    #[inline(always)]
-    fn is_odd(&self) -> bool {
-        self.len / 8 % 2 == 1
-    }
-
-    #[inline(always)]
-    fn word(&self, at: usize) -> u64 {
-        self.words[at]
-    }
-}
-
 // Appends the bytes of a word that fit in the partial word.
 #[inline(always)]
 fn append_within_word(words: &mut [u64; 8], len: usize, word: u64)
@@ -311,5 +187,129 @@ fn append_bytes<const LONG: bool>(words: &mut [u64; 8], len: usize, bytes: &[u8]
         append_below_eight(words, len, bytes);
     } else {
         append_eight_or_more(words, len, bytes);
+    }
+}
+
+impl Pending {
+    #[inline(always)]
+    pub(crate) fn new() -> Self
+        ensures { result ≡ [] }
+    {
+        Pending {
+            words: [0; 8],
+            len: 0,
+        }
+    }
+
+    #[inline(always)]
+    pub(crate) fn len(&self) -> usize
+        ensures length { result ≡ length self.now }
+        ensures below_64 { result < 64 }
+    {
+        self.len
+    }
+
+    /// Appends bytes that do not complete a block, and counts them as kept.
+    #[inline(always)]
+    pub(crate) fn append(&mut self, bytes: &[u8], tally: &mut Tally)
+        requires { length self.old + length bytes.now < 64 }
+        ensures bytes { self.new ≡ self.old ++ bytes.now }
+        ensures costs { Costs tally 0 (length bytes.now) }
+    {
+        append_bytes::<false>(&mut self.words, self.len, bytes, tally);
+        self.len += bytes.len();
+    }
+
+    /// Appends bytes if none are pending, and counts them as kept. Does what `append` does, but the
+    /// compiler knows that the length was 0.
+    #[inline(always)]
+    pub(crate) fn append_to_none(&mut self, bytes: &[u8], tally: &mut Tally)
+        requires none { self.old ≡ [] }
+        requires below_64 { length bytes.now < 64 }
+        ensures bytes { self.new ≡ bytes.now }
+        ensures costs { Costs tally 0 (length bytes.now) }
+    {
+        if !bytes.is_empty() {
+            append_bytes::<false>(&mut self.words, 0, bytes, tally);
+            self.len = bytes.len();
+        }
+    }
+
+    /// Returns the words of the block that the first of the bytes complete, counts these bytes as
+    /// kept, and stores none then.
+    #[inline(always)]
+    pub(crate) fn complete(&mut self, bytes: &[u8], tally: &mut Tally) -> [u64; 8]
+        requires { 64 ≤ length self.old + length bytes.now }
+        ensures block { result ≡ whole_words (self.old ++ take (64 - length self.old) bytes.now) }
+        ensures none { self.new ≡ [] }
+        ensures costs { Costs tally 0 (64 - length self.old) }
+    {
+        let len = self.len;
+        if bytes.len() < 64 {
+            append_bytes::<false>(&mut self.words, len, &bytes[..64 - len], tally);
+        } else {
+            append_bytes::<true>(&mut self.words, len, bytes, tally);
+        }
+        let block = self.words;
+        self.words = [0; 8];
+        self.len = 0;
+        block
+    }
+
+    /// Returns the last whole word, or any word if there is none.
+    #[inline(always)]
+    pub(crate) fn last_whole_word(&self) -> u64
+        ensures { 8 ≤ length self.now
+            → result ≡ slice_index (whole_words self.now) (length self.now / 8 - 1) }
+    {
+        self.words[(self.len / 8 + 7) % 8]
+    }
+
+    /// Returns the final word of at least one byte: those after the last whole word, and the
+    /// padding byte.
+    #[inline(always)]
+    pub(crate) fn final_word<const V: u8>(&self) -> u64
+        requires { 0 < length self.now }
+        ensures { result ≡ final_word self.now (padding_byte V self.now) }
+    {
+        let whole = self.len / 8;
+        let over = self.len % 8;
+        let word = self.words[whole];
+        let is_whole = over == 0;
+        let last_byte = if is_whole {
+            (self.words[whole - 1] >> 56 & 0xff) as u8
+        } else {
+            (word >> (8 * over - 8) & 0xff) as u8
+        };
+        word | padding_after(pads_with_two::<V>(last_byte)) << (8 * over)
+    }
+
+    /// Writes the bytes to the front of `out`, whose rest is unchanged.
+    #[inline(always)]
+    pub(crate) fn write_to(&self, out: &mut [u8])
+        requires { length self.now ≤ length out.old }
+        ensures bytes { take (length self.now) out.new ≡ self.now }
+        ensures rest { drop (length self.now) out.new ≡ drop (length self.now) out.old }
+    {
+        write_first_bytes(&self.words, self.len, out);
+    }
+}
+
+impl WholeWords for Pending {
+    ghost words = { λ pending. whole_words pending };
+
+    #[inline(always)]
+    fn holds(&self, count: usize) -> bool {
+        8 * count <= self.len
+    }
+
+    #[inline(always)]
+    fn is_odd(&self) -> bool {
+        self.len / 8 % 2 == 1
+    }
+
+    #[inline(always)]
+    fn word(&self, at: usize) -> u64 {
+        self.words[at]
     }
 }

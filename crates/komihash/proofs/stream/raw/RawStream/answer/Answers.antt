@@ -27,7 +27,7 @@ hash_from_pair-requires g c =
     let count = length-whole_words c.self.inside.pending in
     record {
       below_8 = omega (arith, count);
-      word = λ some. rw count (c.last_whole_word-word.ensures (omega (arith, count)));
+      word = λ some. rw count (c.last_whole_word-last_whole_word.ensures (omega (arith, count)));
     }
 
 pub returns-clause-costs : goal.returns-clause-costs
@@ -40,5 +40,5 @@ returns-clause-answered g c =
     let s = c.self.inside in
     let end = tail_end-pending g.row.V s.pending s.had_block s.top_bit (omega arith) in
     answered g.row.V _ _ (c.hash_from_pair.ensures.hash
-    ∙ rw (c.join-pair.ensures, c.final_word-last.ensures, ← end) (sym (answer-by_pair g.row.V _))
+    ∙ rw (c.join-pair.ensures, c.final_word-final_word.ensures, ← end) (sym (answer-by_pair g.row.V _))
     ∙ ap (answer g.row.V) c.self.view_is)
