@@ -21,7 +21,7 @@ use Rattle.komihash.specs.Words.{AreBytes, word_of}
 pub AreBytes-typed : (xs : List ℕ) → ((k : ℕ) → Fits w8 (get_or xs k 0)) → AreBytes xs
 AreBytes-typed xs h k = (h k).fits
 
-pub AreBytes-one : (b : ℕ) → b < 256 → AreBytes (b ∷ [])
+AreBytes-one : (b : ℕ) → b < 256 → AreBytes (b ∷ [])
 AreBytes-one b h k = grind (arith, elements)
 
 pub AreBytes-append : (xs ys : List ℕ) → AreBytes xs → AreBytes ys → AreBytes (xs ++ ys)
@@ -47,7 +47,7 @@ word_of-cut (suc k) (x ∷ xs) =
     omega (arith, word_of-cut k xs, ap (λ p. word_of (drop k xs) * p) (pow_byte k))
 
 -- the word of two pieces, the second shifted by the length of the first
-pub word_of-append : (xs ys : List ℕ)
+word_of-append : (xs ys : List ℕ)
     → word_of (xs ++ ys) ≡ word_of ys * 2 ^ (8 * length xs) + word_of xs
 word_of-append xs ys =
     rw (take_at xs ys _ refl, drop_at xs ys _ refl) at (word_of-cut (length xs) (xs ++ ys))

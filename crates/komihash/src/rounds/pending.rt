@@ -8,9 +8,8 @@ ghost use Rattle.std.specs.Prelude.{IsTrue, false, if◌then◌else◌};
 ghost use Rattle.std.proofs.Common.{sym};
 ghost use Rattle.komihash.specs.Counts.{Costs};
 ghost use Rattle.komihash.specs.Padding.{padding_byte};
-ghost use Rattle.komihash.specs.Internals.{pending_bytes, ArePending, Stores, StoresBut};
+ghost use Rattle.komihash.specs.Internals.{pending_bytes, ArePending, StoresBut};
 ghost use Rattle.komihash.specs.Internals.{stored_words, whole_words, final_word};
-ghost use Rattle.komihash.specs.Words.{AreBytes, word_of};
 
 use super::pads_with_two;
 use super::words::WholeWords;
@@ -46,42 +45,42 @@ impl Model for Pending {
     } };
 }
 
-// Appends the bytes of a word that fit in the partial word.
-#[inline(always)]
-fn append_within_word(words: &mut [u64; 8], len: usize, word: u64)
-    requires { ArePending words.old len }
-    ensures words { (bytes : List ℕ) (gap gap_end : ℕ) → AreBytes bytes
-        → word ≡ word_of (take 8 bytes)
-        → (gap ≤ len / 8 + 1) × (len + length bytes ≤ 8 * gap_end)
-        → StoresBut words.new (pending_bytes words.old len ++ bytes) gap gap_end }
-    ensures zeros { (k : ℕ) → len / 8 < k → k < 8 → slice_index words.new k ≡ 0 }
-{
-    words[len / 8] |= word << (8 * (len % 8));
-}
-
 // Appends fewer than eight bytes. What does not fit in the partial word is 0 if all fit.
 #[inline(always)]
 fn append_below_eight(words: &mut [u64; 8], len: usize, bytes: &[u8])
     requires pending { ArePending words.old len }
     requires below_8 { length bytes.now < 8 }
     requires room { len + length bytes.now ≤ 64 }
-    ensures { Stores words.new (pending_bytes words.old len ++ bytes.now) }
+    ensures { words.new ≡ stored_words 8 (pending_bytes words.old len ++ bytes.now) }
 {
     let word = read_partial_word(bytes, 0);
     let bits = 8 * (len % 8);
-    append_within_word(words, len, word);
+    words[len / 8] |= word << bits;
     // The rotation has what the shift keeps, in its place, and below that, from the lowest byte on,
     // what the shift drops. The difference is therefore what goes to the front of the next word.
     words[(len / 8 + 1) % 8] |= word.rotate_left(bits as u32) - (word << bits);
 }
 
-// Stores two whole words, of the sixteen bytes from `from` on, at index `at`.
+// Appends those of eight or more bytes that complete the partial word.
+#[inline(always)]
+fn append_within_word(words: &mut [u64; 8], len: usize, bytes: &[u8])
+    requires pending { ArePending words.old len }
+    requires at_least_8 { 8 ≤ length bytes.now }
+    ensures { (gap gap_end : ℕ)
+        → (gap ≤ len / 8 + 1) × (gap_end < 8 → len + length bytes.now ≤ 8 * gap_end)
+        → StoresBut words.new (pending_bytes words.old len ++ bytes.now) gap gap_end }
+{
+    words[len / 8] |= read_word(bytes) << (8 * (len % 8));
+}
+
+// Stores two whole words, of the sixteen bytes from `from` on, at index `at`. If the words below
+// `at` are stored, then so are those below `at + 2`: the two continue the others, or overlap them.
 #[inline(always)]
 fn store_two_words(words: &mut [u64; 8], at: usize, bytes: &[u8], from: usize)
     requires place { at < 7 }
     requires within { from + 16 ≤ length bytes.now }
-    ensures { (xs : List ℕ) (gap gap_end n : ℕ) → StoresBut words.old (xs ++ bytes.now) gap gap_end
-        → (length xs + from ≡ 8 * at) × (at ≤ gap) × (n ≤ at + 2)
+    ensures { (xs : List ℕ) (n gap_end : ℕ) → StoresBut words.old (xs ++ bytes.now) at gap_end
+        → (length xs + from ≡ 8 * at) × (n ≤ at + 2)
         → StoresBut words.new (xs ++ bytes.now) n gap_end }
 {
     let two = u64x2::from_le_bytes(u8x16::from_slice(&bytes[from..]));
@@ -98,7 +97,7 @@ fn append_whole_words(words: &mut [u64; 8], len: usize, bytes: &[u8])
     ensures { StoresBut words.new (pending_bytes words.old len ++ bytes.now)
         ((len + length bytes.now) / 8) ((len + length bytes.now) / 8 + 1) }
 {
-    append_within_word(words, len, read_word(bytes));
+    append_within_word(words, len, bytes);
     let at = len / 8;
     let over = len % 8;
     // How many words are whole with the bytes, from the partial word on.
@@ -127,7 +126,7 @@ fn append_eight_or_more(words: &mut [u64; 8], len: usize, bytes: &[u8])
     requires pending { ArePending words.old len }
     requires at_least_8 { 8 ≤ length bytes.now }
     requires room { len + length bytes.now ≤ 64 }
-    ensures { Stores words.new (pending_bytes words.old len ++ bytes.now) }
+    ensures { words.new ≡ stored_words 8 (pending_bytes words.old len ++ bytes.now) }
 {
     append_whole_words(words, len, bytes);
     let end = len + bytes.len();
@@ -144,9 +143,9 @@ fn append_eight_or_more(words: &mut [u64; 8], len: usize, bytes: &[u8])
 fn append_long(words: &mut [u64; 8], len: usize, bytes: &[u8])
     requires pending { ArePending words.old len }
     requires at_least_64 { 64 ≤ length bytes.now }
-    ensures { Stores words.new (pending_bytes words.old len ++ bytes.now) }
+    ensures { words.new ≡ stored_words 8 (pending_bytes words.old len ++ bytes.now) }
 {
-    append_within_word(words, len, read_word(bytes));
+    append_within_word(words, len, bytes);
     let at = len / 8;
     let has_two_more = at < 6;
     if has_two_more {

@@ -40,5 +40,5 @@ returns-clause-answered g c =
     let s = c.self.inside in
     let end = tail_end-pending g.row.V s.pending s.had_block s.top_bit (omega arith) in
     answered g.row.V _ _ (c.hash_from_pair.ensures.hash
-    ∙ rw (c.join-pair.ensures, c.final_word-final_word.ensures, ← end) (sym (answer-by_pair g.row.V _))
-    ∙ ap (answer g.row.V) c.self.view_is)
+    ∙ rw (c.join-pair.ensures, c.final_word-final_word.ensures, ← end)
+    (sym (answer-by_pair g.row.V _)) ∙ ap (answer g.row.V) c.self.view_is)
