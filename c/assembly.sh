@@ -5,8 +5,8 @@ set -euo pipefail
 folder=$(realpath -m "$1")
 rt=$(command -v rt) || { echo 'assembly.sh: there is no rt, the Rattle kit' >&2; exit 1; }
 kit=$(dirname "$(dirname "$(readlink -f "$rt")")")
-room=$(mktemp -d)
-trap 'rm -rf "$room"' EXIT
+scratch=$(mktemp -d)
+trap 'rm -rf "$scratch"' EXIT
 cd "$(dirname "${BASH_SOURCE[0]}")/../crates/komihash_rattle"
 
 # The kit's toolchain, whose clang here edits the module that it gets, and also writes the assembly.
@@ -15,26 +15,26 @@ cd "$(dirname "${BASH_SOURCE[0]}")/../crates/komihash_rattle"
 # - The attribute uwtable asks for unwind tables. It changes no instruction.
 # - The attribute noredzone keeps values out of the memory below the stack pointer, because Windows
 #   may overwrite it.
-mkdir "$room/bin" "$room/made"
-ln -s "$kit"/toolchain/bin/{ld.lld,llvm-ar} "$room/bin/"
-ln -s "$kit/toolchain/lib" "$room/"
-{ echo '#!/bin/bash'; declare -p kit room; cat << 'END'; } > "$room/bin/clang"
+mkdir "$scratch/bin" "$scratch/made"
+ln -s "$kit"/toolchain/bin/{ld.lld,llvm-ar} "$scratch/bin/"
+ln -s "$kit/toolchain/lib" "$scratch/"
+{ echo '#!/bin/bash'; declare -p kit scratch; cat << 'END'; } > "$scratch/bin/clang"
 set -euo pipefail
 clang=$kit/toolchain/bin/clang
-given=$room/given.ll null='= mul i64 (%r[0-9]+), 4096$'
+given=$scratch/given.ll null='= mul i64 (%r[0-9]+), 4096$'
 if [[ " $* " == *' module.bc '* ]]; then
     "$clang" "${@/#-c/-S}" -emit-llvm -Xclang -emit-llvm-uselists -Xclang -disable-llvm-passes \
         -o "$given"
     grep -qE "$null" "$given" || { echo 'no null pointer is replaced' >&2; exit 1; }
     sed -E "s/$null/= mul i64 \1, 0/; s/^(define .*)\{$/\1uwtable noredzone {/" \
-        "$given" > "$room/module.ll"
+        "$given" > "$scratch/module.ll"
 fi
-set -- "${@/#module.bc/$room/module.ll}"
+set -- "${@/#module.bc/$scratch/module.ll}"
 words=("${@/#-c/-S}")
-"$clang" "${words[@]/module.o/$room/module.s}" -fno-addrsig -fno-verbose-asm
+"$clang" "${words[@]/module.o/$scratch/module.s}" -fno-addrsig -fno-verbose-asm
 exec "$clang" "$@"
 END
-chmod +x "$room/bin/clang"
+chmod +x "$scratch/bin/clang"
 
 # Prints the assembly for a processor, which flags name, under a head that says what made it.
 assembly_for() {
@@ -42,8 +42,8 @@ assembly_for() {
         --extern "std=$kit/rlibs/std.rlib" -L "dependency=$kit/rlibs" \
         --extern komihash=../komihash/out/rlib/komihash.rlib -L dependency=../komihash/out/rlib \
         --antt-project "$kit/rattle/logic/antt-project.json" --logic-built "$kit/logic_built" \
-        --incremental out/incremental --toolchain "$room" "$@" -o "$room/library.a" \
-        > "$room/log" 2>&1 || { tail -n 40 "$room/log" >&2; return 1; }
+        --incremental out/incremental --toolchain "$scratch" "$@" -o "$scratch/library.a" \
+        > "$scratch/log" 2>&1 || { tail -n 40 "$scratch/log" >&2; return 1; }
     cat << END
 /* SPDX-License-Identifier: MIT
  * Copyright (c) 2026 the authors of komihash_rattle
@@ -51,7 +51,7 @@ assembly_for() {
  * \`make assembly\` made this file from the proved crate komihash_rattle. Do not edit it.
  * The flags are those of rt. A kit has its commit and its compiler in the file WHAT.
  * flags $*
-$(sed -n 's/.*\.ident.*"rattle logic=\([0-9a-f]*\)".*/ * logic \1/p' "$room/module.s")
+$(sed -n 's/.*\.ident.*"rattle logic=\([0-9a-f]*\)".*/ * logic \1/p' "$scratch/module.s")
 $(sed -nE 's/^(commit|compiler) / * &/p' "$kit/WHAT")
  */
 #ifdef _WIN32
@@ -63,13 +63,13 @@ $(sed -nE 's/^(commit|compiler) / * &/p' "$kit/WHAT")
 #endif
 END
     sed -E '/^\t\.(file|ident)\t/d; s/^\t(\.(section|type|size)\t.*)/\tELF_ONLY(\1)/
-        s/^\t\.globl\t(.*)/&\n\tWINDOWS_ONLY(.def \1; .scl 2; .type 32; .endef)/' "$room/module.s"
+        s/^\t\.globl\t(.*)/&\n\tWINDOWS_ONLY(.def \1; .scl 2; .type 32; .endef)/' "$scratch/module.s"
 }
 
 echo 'Proving and compiling the crate. If nothing is proved yet, this takes minutes.' >&2
-rt lib > "$room/log" 2>&1 || { tail -n 40 "$room/log" >&2; exit 1; }
-assembly_for --cpu x86-64-v2 > "$room/made/x86_64.S"
-assembly_for --cpu x86-64-v3 > "$room/made/x86_64_v3.S"
-assembly_for --target aarch64-unknown-linux-gnu > "$room/made/aarch64.S"
+rt lib > "$scratch/log" 2>&1 || { tail -n 40 "$scratch/log" >&2; exit 1; }
+assembly_for --cpu x86-64-v2 > "$scratch/made/x86_64.S"
+assembly_for --cpu x86-64-v3 > "$scratch/made/x86_64_v3.S"
+assembly_for --target aarch64-unknown-linux-gnu > "$scratch/made/aarch64.S"
 mkdir -p "$folder"
-cp "$room"/made/*.S "$folder/"
+cp "$scratch"/made/*.S "$folder/"

@@ -1,20 +1,20 @@
 # Counts cases, for the scripts that source this file, in sh or bash. The last line of such a script
 # is 'N passed, M failed', with ', K skipped' if there are any.
 passed=0 failed=0 skipped=0
-room=$(mktemp -d) && room=$(realpath "$room") || exit
-trap 'rm -rf "$room"' EXIT
+scratch=$(mktemp -d) && scratch=$(realpath "$scratch") || exit
+trap 'rm -rf "$scratch"' EXIT
 
-# A case, which prints what its command printed if that fails: note NAME COMMAND..
-note() {
+# Runs a case, and prints what its command printed if that fails: run_case NAME COMMAND..
+run_case() {
     case_name=$1
     shift
-    if ("$@") > "$room/case" 2>&1; then
+    if ("$@") > "$scratch/case" 2>&1; then
         passed=$((passed + 1))
         echo "ok: $case_name"
     else
         failed=$((failed + 1))
         echo "FAILED: $case_name"
-        cat "$room/case"
+        cat "$scratch/case"
     fi
 }
 

@@ -13,7 +13,7 @@ for folder in "$prefix" "$bindir" "$libdir" "$includedir" "$docdir"; do
     /*) ;;
     [A-Za-z]:/*) [ -d "${folder%%/*}/" ] ;; # a drive, which only Windows has
     *) false ;;
-    esac || { echo "PREFIX, LIBDIR and the like are absolute paths, and not '$folder'" >&2; exit 2; }
+    esac || { echo "PREFIX, LIBDIR and the like are absolute paths, not '$folder'" >&2; exit 2; }
 done
 
 # Calls a function with the mode, the source and the path of each file.

@@ -44,7 +44,7 @@ DRAWN = dict(zip(("komihash 5", VERSIONS["komihash 5"], *RIVALS), COLOURS))
 
 # Calls that the Rust crate lacks, and the ratio below which others are named as slower.
 LACKING = ("save", "pad", "unpad")
-LEVEL = 0.97
+SLOWER_BELOW = 0.97
 
 BESIDE_CRATE = (
     "A ratio is the time of the Rust crate `komihash` 0.5.0, built with fat LTO and for x86-64-v2,"
@@ -104,7 +104,7 @@ class Times:
         for row in self.rows:
             for ours, theirs in VERSIONS.items():
                 median = self.ratio(row, theirs, ours)[0]
-                if round(median, 2) < LEVEL and not row.startswith(LACKING):
+                if round(median, 2) < SLOWER_BELOW and not row.startswith(LACKING):
                     yield f"{row}, {theirs.split(', ')[1]} ({median:.2f})"
 
 
@@ -128,37 +128,38 @@ def table(heads, lines):
     return "\n".join(f"| {' | '.join(line)} |" for line in (heads, rule, *lines) if lines)
 
 
-def asked(*command):
+def output_of(*command):
     env = {**os.environ, "LC_ALL": "C"}
     said = subprocess.run(command, capture_output=True, text=True, check=False, env=env, cwd=HERE)
     return said.stdout.strip()
 
 
 def circumstances(layouts, repeats):
-    fields = dict(re.findall(r"^([^:\n]+): *(.*)$", asked("lscpu"), re.MULTILINE))
-    changes = asked("git", "status", "--porcelain", "--", "../c", "driver", "run.sh")
-    commit = asked("git", "rev-parse", "--short", "HEAD") + " and changes" * bool(changes)
+    fields = dict(re.findall(r"^([^:\n]+): *(.*)$", output_of("lscpu"), re.MULTILINE))
+    changes = output_of("git", "status", "--porcelain", "--", "../c", "driver", "run.sh")
+    commit = output_of("git", "rev-parse", "--short", "HEAD") + " and changes" * bool(changes)
     packages = ("libxxhash-dev", "libwyhash-dev")
     facts = (
         "{Model name} (family {CPU family}, model {Model}), {CPU(s)} CPUs".format(**fields),
         f"commit {commit}, {datetime.date.today()}",
-        " ".join(asked("rustc", "--version").split()[:2]),
-        asked(os.environ.get("CC", "cc"), "--version").split("\n")[0],
-        *asked("dpkg-query", "-Wf", "${Package} ${Version}\n", *packages).splitlines(),
+        " ".join(output_of("rustc", "--version").split()[:2]),
+        output_of(os.environ.get("CC", "cc"), "--version").split("\n")[0],
+        *output_of("dpkg-query", "-Wf", "${Package} ${Version}\n", *packages).splitlines(),
         f"{layouts} layouts, {repeats} repeats",
     )
     return f"Measured on {'; '.join(facts)}."
 
 
-def plot(times):
-    """Draws the speeds of hashes over their sizes, with logarithmic scales."""
+def x_of(size):
+    return round(36 * math.log2(bytes_in(size)))
 
-    def x(size):
-        return round(36 * math.log2(bytes_in(size)))
 
-    def y(speed):
-        return round(310 - 45 * math.log2(speed))
+def y_of(speed):
+    return round(310 - 45 * math.log2(speed))
 
+
+def axes():
+    """Draws the axes, whose scales are logarithmic."""
     parts = [
         '<svg xmlns="http://www.w3.org/2000/svg" viewBox="0 0 800 460" font-family="sans-serif"'
         ' font-size="14" text-anchor="middle"><rect width="800" height="460" fill="white"/>',
@@ -166,15 +167,21 @@ def plot(times):
         '<text transform="translate(15 220) rotate(-90)">GB/s, independent calls</text>',
     ]
     for size in ("4 bytes", "16 bytes", "64 bytes", "256 bytes", "1 KiB", "64 KiB", "1 MiB"):
-        parts.append(f'<path d="M{x(size)} 40V400" stroke="#ddd"/>')
-        parts.append(f'<text x="{x(size)}" y="420">{size}</text>')
+        parts.append(f'<path d="M{x_of(size)} 40V400" stroke="#ddd"/>')
+        parts.append(f'<text x="{x_of(size)}" y="420">{size}</text>')
     for speed in (0.5, 1, 2, 4, 8, 16, 32):
-        parts.append(f'<path d="M72 {y(speed)}H720" stroke="#ddd"/>')
-        parts.append(f'<text x="50" y="{y(speed) + 5}">{speed}</text>')
+        parts.append(f'<path d="M72 {y_of(speed)}H720" stroke="#ddd"/>')
+        parts.append(f'<text x="50" y="{y_of(speed) + 5}">{speed}</text>')
+    return parts
+
+
+def plot(times):
+    """Draws the speeds of hashes over their sizes."""
+    parts = axes()
     sizes = re.findall(r"^hash of (\d+ (?:bytes|KiB|MiB))$", "\n".join(times.rows), re.MULTILINE)
     for line, column in enumerate(filter(DRAWN.get, times.columns)):
         least = ((size, min(times.times[f"hash of {size}", column])) for size in sizes)
-        points = " ".join(f"{x(size)},{y(bytes_in(size) / time)}" for size, time in least)
+        points = " ".join(f"{x_of(size)},{y_of(bytes_in(size) / time)}" for size, time in least)
         style = f'stroke="{DRAWN[column]}" stroke-width="2" fill="none"'
         parts.append(f'<polyline points="{points}" {style}/>')
         at = f'x="600" y="{300 + 20 * line}" fill="{DRAWN[column]}"'
@@ -204,7 +211,8 @@ def main(repeats, word, *files):
         f"# How fast the library is\n\n{block}",
         "All tables are of the same run. [README.md](README.md) tells how they were measured.",
         "![GB/s over the size of a message](speed.svg)\n\n## Beside the Rust crate",
-        f"Ratios below {LEVEL} of calls that the Rust crate has: {'; '.join(times.slower())}.",
+        f"Ratios below {SLOWER_BELOW} of calls that the Rust crate has:"
+        f" {'; '.join(times.slower())}.",
         f"{rows[0]}\n\n## Beside other hashes",
         "A ratio is the time of the hash at the head divided by the time of this library, built for"
         " x86-64-v2: in version 4 below `komihash 4, x86-64-v3`, and in version 5 below all other"

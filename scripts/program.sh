@@ -11,14 +11,14 @@ long=$(printf '%0300d' 0)
 
 # Runs the tests of both crates, each with its first allocation refused, while the cases below run.
 for crate in komihash komisum; do
-    (cd "../$crate" && rt try --test --fail-alloc 1 --seconds 600) > "$room/$crate" 2>&1 &
+    (cd "../$crate" && rt try --test --fail-alloc 1 --seconds 600) > "$scratch/$crate" 2>&1 &
 done
 
 # Runs a command, and then prints its status and its standard error.
 ran() {
-    "$@" 2> "$room/errors"
+    "$@" 2> "$scratch/errors"
     printf 'status %s\n' $?
-    cat "$room/errors"
+    cat "$scratch/errors"
 }
 
 # Print what `ran` prints for a line and for a fault.
@@ -33,20 +33,20 @@ hashed() {
             "$(printf "$(sed 's/../\\x&/g' <<< "$message")" | "$program" "$version" "$seed")"
     done
 }
-grep -v '^#' ../../c/vectors.tsv | tr '\t' '|' > "$room/vectors" || exit
-note 'c/vectors.tsv' diff "$room/vectors" <(hashed < "$room/vectors")
+grep -v '^#' ../../c/vectors.tsv | tr '\t' '|' > "$scratch/vectors" || exit
+run_case 'c/vectors.tsv' diff "$scratch/vectors" <(hashed < "$scratch/vectors")
 
 # The program's name need not be UTF-8, may be long, and may be empty.
 named() { (exec -a "$1" "$program" 4 1f); }
 for name in '' $'\xff' "$long"; do
-    note "a name of ${#name} characters" \
+    run_case "a name of ${#name} characters" \
         diff <(line 4bde5bdc63771675) <(printf a | ran named "$name")
 done
 
 # Arguments that it refuses. It then leaves all of the input to `cat`.
 refuse() {
     local arguments=${*@Q}
-    note "refused: ${arguments:0:40}" diff <(fault 2 'usage: komisum [4|5 SEED]'; echo input) \
+    run_case "refused: ${arguments:0:40}" diff <(fault 2 'usage: komisum [4|5 SEED]'; echo input) \
         <({ ran "$program" "$@"; cat; } <<< input)
 }
 refuse 5
@@ -63,9 +63,9 @@ refuse 5 0 "$long"
 # version 5 is b105583901d0a6f8.
 message() { seq 1 1000000 | head -c "$1"; }
 while read -r size five four; do
-    message "$size" > "$room/message"
-    note "$size bytes from a file" diff <(line "$five") <(ran "$program" < "$room/message")
-    note "$size bytes from a pipe" diff <(line "$four") <(message "$size" | ran "$program" 4 1f)
+    message "$size" > "$scratch/message"
+    run_case "$size bytes from a file" diff <(line "$five") <(ran "$program" < "$scratch/message")
+    run_case "$size bytes from a pipe" diff <(line "$four") <(message "$size" | ran "$program" 4 1f)
 done << 'SIZES'
 0 b7683ea7430132b4 f80fbf600441f1bd
 1 7f7f0c9b903d173d 1b8661ed829a60b5
@@ -80,32 +80,34 @@ SIZES
 
 full() { "$program" > /dev/full; }
 closed() { "$program" >&-; }
-note 'the input is a folder' diff <(fault 1 'read failed') <(ran "$program" < /)
-note 'a closed input' diff <(fault 1 'read failed') <(ran "$program" <&-)
+run_case 'the input is a folder' diff <(fault 1 'read failed') <(ran "$program" < /)
+run_case 'a closed input' diff <(fault 1 'read failed') <(ran "$program" <&-)
 for output in full closed; do
-    note "a $output output" diff <(fault 1 'write failed') <(ran "$output" < stdin)
+    run_case "a $output output" diff <(fault 1 'write failed') <(ran "$output" < stdin)
 done
 
 # Refuses all allocations of the program, from the one of this number on. It allocates its arguments
 # and the buffer of its input, and nothing after it has read.
-refusing() { REFUSE_FROM=$1 LD_PRELOAD=$room/refuse.so "$program" "${@:2}"; }
+refusing() { REFUSE_FROM=$1 LD_PRELOAD=$scratch/refuse.so "$program" "${@:2}"; }
 refuse_memory() {
     local count=$1 line=$2 request
     shift 2
     for ((request = 1; request <= count; request++)); do
-        note "no memory from allocation $request on: ${*:-no arguments}" \
+        run_case "no memory from allocation $request on: ${*:-no arguments}" \
             diff <(fault 1 'no memory') <(ran refusing "$request" "$@" < stdin)
     done
-    note "memory for $count allocations: ${*:-no arguments}" \
+    run_case "memory for $count allocations: ${*:-no arguments}" \
         diff <(line "$line") <(ran refusing "$request" "$@" < stdin)
 }
-note 'refuse.c compiles' "${CC:-cc}" -shared -fPIC -o "$room/refuse.so" ../../scripts/refuse.c
+run_case 'refuse.c compiles' \
+    "${CC:-cc}" -shared -fPIC -o "$scratch/refuse.so" ../../scripts/refuse.c
 refuse_memory 2 "$(cat stdout)"
 refuse_memory 5 4bde5bdc63771675 4 1f
 
 wait
 for crate in komihash komisum; do
-    note "the tests of $crate allocate nothing" grep -q '^test result: ok\. [1-9]' "$room/$crate"
+    run_case "the tests of $crate allocate nothing" \
+        grep -q '^test result: ok\. [1-9]' "$scratch/$crate"
 done
 
 counted

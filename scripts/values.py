@@ -39,7 +39,9 @@ def hash_of(version, content, seed=0):
     found, state = komi(PRODUCTS, version, bv(seed), terms(content)), start(PRODUCTS, bv(seed))
     for byte in terms(content):
         state = state.absorb(PRODUCTS, version, [byte])
-    return const(found) if z3.eq(found, state.answer(PRODUCTS, version)) else 'none of a stream'
+    if not z3.eq(found, state.answer(PRODUCTS, version)):
+        raise Unknown('the definition of streams gives another hash')
+    return const(found)
 
 
 def after_writes(version, number, names):
@@ -76,9 +78,11 @@ def unpadded(version, words):
 
 
 def each(function, version, quoted, *more):
-    """The value that a function has for each quoted list, or all if they aren't the same."""
+    """The value that a function has for each quoted list."""
     found = {function(version, re.findall(r'\w+', text), *more) for text in quoted.split('`')[1::2]}
-    return found.pop() if len(found) == 1 else found
+    if len(found) > 1:
+        raise Unknown(f'the definition gives several values for {quoted}')
+    return found.pop()
 
 
 ROWS = {
@@ -111,7 +115,7 @@ def check_values():
     """Computes each value of the page. Returns how many there are."""
     section = PAGE.read_text('utf-8').split('\n## Values\n')[1].split('\n## ')[0]
     rows = [row.split(' | ') for row in re.findall(r'^\| (.*) \|$', section, re.M)]
-    values = [(v, row, cell) for row, *cells in rows for v, cell in zip((5, 4), cells[::-1])
+    values = [(v, row, cell) for row, *cells in rows for v, cell in zip((4, 5), cells)
               if cell not in ('Version 4', 'Version 5')]
     for value in values:
         check_value(*value)

@@ -10,7 +10,7 @@ from elftools.common.exceptions import ELFError
 import mutants
 import processor
 import terms
-from cases import NAMES, cases_of, facts_of, open_library, run_case
+from cases import NAMES, cases_of, open_library, run_case, said_of
 from terms import Refused, Unknown
 from vectors import check_definition
 
@@ -42,8 +42,9 @@ class Progress:
             if name in self.failed:
                 print(f'FAILED: {self.failed[name]}')
                 continue
-            products, by_contents, _ = facts_of(name)
-            print(row(name, self.all[name], products, 'contents' if by_contents else 'lengths',
+            said = said_of(name)
+            print(row(name, self.all[name], said.multiplications,
+                      'contents' if said.by_contents else 'lengths',
                       max(d.depth for d in self.done[name]), f'{self.total("seconds", name):.0f}'))
 
 
@@ -56,7 +57,8 @@ def verify(image, path, names, jobs):
         raise Unknown(f'there is no function {missing[0]}')
     cases = [case for name in names for case in cases_of(name)]
     progress = Progress(cases)
-    cases.sort(key=lambda case: not case.check.__name__.endswith('_many'))
+    # The cases that take longest come first, so that no worker is left with one at the end.
+    cases.sort(key=lambda case: not case.has_loop())
     with multiprocessing.Pool(jobs, open_library, [path]) as pool:
         for done in pool.imap_unordered(run_case, cases):
             if isinstance(done.failure, Unknown):

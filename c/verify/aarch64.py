@@ -1,45 +1,42 @@
-"""The meaning of the ARM64 instructions that the library uses, by Arm's manual. Flags are z (zero),
-c (carry: no borrow), n (negative), and l (less: negative unlike overflow)."""
-from functools import partial
+"""The meaning of the ARM64 instructions that the library uses, by Arm's manual. Its carry flag is
+set if a difference has no borrow, so the flag c here is its opposite."""
+import operator
 import z3
 from capstone import CS_ARCH_ARM64, CS_MODE_ARM
 from capstone import arm64_const as A
-from machine import RETURN, Cpu, means as enter, unknown
-from terms import Refused, bv, choose, join, part, secret, simple, sym, top, widen
+from machine import CONDITIONS, RETURN, Cpu, means, unknown
+from terms import Refused, bv, choose, join, leading_zeros, part, secret, simple, sym, top, widen
 
 TABLE = {}
-means = partial(enter, TABLE)
 SIZES = {'x': 64, 'w': 32, 'q': 128, 'd': 64, 'v': 128}
-SHIFTS = {A.ARM64_SFT_LSL: lambda a, n: a << n, A.ARM64_SFT_LSR: z3.LShR,
-          A.ARM64_SFT_ASR: lambda a, n: a >> n}
+SHIFTS = {A.ARM64_SFT_LSL: operator.lshift, A.ARM64_SFT_LSR: z3.LShR,
+          A.ARM64_SFT_ASR: operator.rshift}
+# Vector instructions, and the one arrangement of each whose meaning is known here.
 VECTORS = {**dict.fromkeys(('eor', 'orr', 'and', 'bic', 'mov', 'mvn', 'ext'), '.16b'),
            **dict.fromkeys(('movi', 'zip1', 'zip2'), '.2d')}
-NOT = {'ne': 'eq', 'lo': 'hs', 'hi': 'ls', 'ge': 'lt', 'gt': 'le', 'pl': 'mi'}
 
 
 def register(name):
-    """Number (None for the zero register) and width of a register."""
+    """The whole register (None for the zero register) and the width of a part by its name."""
+    if name in ('sp', 'wsp', 'xzr', 'wzr'):
+        return ('sp' if 'sp' in name else None), 32 if name[0] == 'w' else 64
     name = {'lr': 'x30', 'fp': 'x29'}.get(name, name)
-    if name in ('sp', 'wsp'):
-        return 31, 64 if name == 'sp' else 32
-    if name in ('xzr', 'wzr'):
-        return None, SIZES[name[0]]
-    return (name[1:] if name[0] in 'xw' else f'v{name[1:]}'), SIZES[name[0]]
+    return ('x' if name[0] in 'xw' else 'v') + name[1:], SIZES[name[0]]
 
 
 class Arm(Cpu):
     NAME = 'ARM64'
     DECODER = CS_ARCH_ARM64, CS_MODE_ARM
-    ARGS, RESULTS = tuple(str(n) for n in range(8)), ('0', '1')
-    SAVED = tuple(str(n) for n in range(19, 30)) + (31,)
-    SP, ABOVE, TABLE = 31, 0, TABLE
+    ARGS, RESULTS = [f'x{n}' for n in range(8)], ('x0', 'x1')
+    SAVED = [*(f'x{n}' for n in range(19, 30)), 'sp']
+    SP, ABOVE, TABLE = 'sp', 0, TABLE
 
     def registers(self):
-        words = {str(n): secret(f'x{n} of the caller') for n in range(31)}
+        words = {f'x{n}': secret(f'x{n} of the caller') for n in range(31)}
         return {**words, **{f'v{n}': secret(f'v{n} of the caller', 128) for n in range(32)}}
 
     def enter(self):
-        self.r['30'] = sym('return')
+        self.r['x30'] = sym('return')
 
     def check_return(self):
         super().check_return()
@@ -47,9 +44,9 @@ class Arm(Cpu):
             if not z3.eq(part(self.r[f'v{n}'], 0, 64), part(self.before[f'v{n}'], 0, 64)):
                 self.refuse(f'd{n} of the caller is lost')
 
-    def struct_at(self, place):
+    def struct_at(self, address):
         """The arguments by which a function is told where its struct goes, and its result."""
-        self.r['8'] = place
+        self.r['x8'] = address
         return [], None
 
     def get(self, i, k, width=None):
@@ -82,37 +79,29 @@ class Arm(Cpu):
         if value.size() != size or name[0] == 'v' and VECTORS.get(i.mnemonic, '?') not in i.text:
             raise unknown(i)
         if n is not None:
-            self.r[n] = self.in_length(widen(value, self.r[n].size()))
+            self.r[n] = widen(value, self.r[n].size())
 
     def address(self, i, k):
-        """The address in operand k; a base that changes is changed."""
+        """The address in operand k. A further operand is added to the base afterwards."""
         m, base = i.ops[k].mem, register(i.reg_name(i.ops[k].mem.base))[0]
         if i.ops[k].ext or i.ops[k].shift.type:
             raise unknown(i)
-        if base == 31:
-            self.check_aligned(self.r[31], 16)
+        if base == 'sp':
+            self.check_aligned(self.r['sp'], 16)
         if m.index and register(i.reg_name(m.index))[1] != 64:
             raise unknown(i)
         index = self.r[register(i.reg_name(m.index))[0]] if m.index else 0
         address = simple(self.r[base] + index + m.disp)
-        if len(i.ops) > k + 1:
-            if not i.writeback or m.disp or m.index:
+        if i.writeback or len(i.ops) > k + 1:
+            if not i.writeback or len(i.ops) != k + 2 or m.disp or m.index:
                 raise unknown(i)
             self.r[base] = simple(address + i.ops[k + 1].imm)
-        elif i.writeback:
-            self.r[base] = address
         return address
 
-    def cond(self, code):
-        z, c, n, l = (lambda name=name: self.flag(name) for name in 'zcnl')
-        found = {'eq': z, 'hs': c, 'mi': n, 'ls': lambda: z3.Or(z3.Not(c()), z()), 'lt': l,
-                 'le': lambda: z3.Or(l(), z())}[NOT.get(code, code)]()
-        return z3.Not(found) if code in NOT else found
 
-    def compared(self, a, b):
-        """Flags of a - b."""
-        return {'z': lambda: a == b, 'c': lambda: z3.UGE(a, b), 'n': lambda: top(a - b),
-                'l': lambda: a < b}
+def compared(a, b):
+    """Flags of a - b."""
+    return {'z': a == b, 'c': z3.ULT(a, b), 's': top(a - b), 'l': a < b}
 
 
 def code(i):
@@ -125,87 +114,83 @@ TABLE.update({'nop': lambda c, i: None, 'b': lambda c, i: i.ops[0].imm,
               'mvn': lambda c, i: c.put(i, 0, ~c.get(i, 1))})
 
 
-@means('add', 'sub', 'eor', 'orr', 'and', 'bic')
+@means(TABLE, 'add', 'sub', 'eor', 'orr', 'and', 'bic')
 def compute(c, i):
     a, b = c.both(i)
     c.put(i, 0, {'add': a + b, 'sub': a - b, 'eor': a ^ b, 'orr': a | b, 'and': a & b,
                  'bic': a & ~b}[i.mnemonic])
 
 
-@means('subs', 'cmp')
+@means(TABLE, 'subs', 'cmp')
 def subtract(c, i):
     a, b = c.both(i, 0 if i.mnemonic == 'cmp' else 1)
     if i.mnemonic == 'subs':
         c.put(i, 0, a - b)
-    c.flags = c.compared(a, b)
+    c.flags = compared(a, b)
 
 
-@means('ands', 'tst')
+@means(TABLE, 'ands', 'tst')
 def test(c, i):
     a, b = c.both(i, 0 if i.mnemonic == 'tst' else 1)
     result = simple(a & b)
     if i.mnemonic == 'ands':
         c.put(i, 0, result)
-    c.flags = {'z': lambda: result == 0, 'n': lambda: top(result), 'c': lambda: z3.BoolVal(False),
-               'l': lambda: top(result)}
+    c.flags = {'z': result == 0, 's': top(result), 'c': z3.BoolVal(True), 'l': top(result)}
 
 
-@means('ccmp')
+@means(TABLE, 'ccmp')
 def compare_if(c, i):
     a, b = c.both(i, 0)
-    cond, bits, yes = c.known(c.cond(code(i))), i.ops[2].imm, c.compared(a, b)
-    no = {'n': bits >> 3 & 1, 'z': bits >> 2 & 1, 'c': bits >> 1 & 1, 'l': (bits >> 3 ^ bits) & 1}
-    c.flags = {k: lambda k=k: z3.If(cond, yes[k](), z3.BoolVal(bool(no[k]))) for k in yes}
+    cond, yes = c.known(c.cond(code(i))), compared(a, b)
+    negative, zero, carry, overflow = (i.ops[2].imm >> k & 1 for k in (3, 2, 1, 0))
+    no = {'z': zero, 's': negative, 'c': not carry, 'l': negative != overflow}
+    c.flags = {k: z3.If(cond, yes[k], z3.BoolVal(bool(no[k]))) for k in yes}
 
 
-@means('mov', 'movz', 'movn')
+@means(TABLE, 'mov', 'movz', 'movn')
 def move(c, i):
     value = c.get(i, 1, c.width(i))
     c.put(i, 0, ~value if i.mnemonic == 'movn' else value)
 
 
-@means('movk')
+@means(TABLE, 'movk')
 def move_and_keep(c, i):
     shift, w = i.ops[1].shift, c.width(i)
     mask = (2**w - 1) ^ 0xffff << (shift.value if shift.type else 0)
     c.put(i, 0, c.get(i, 0) & mask | c.get(i, 1, w))
 
 
-@means('lsl', 'lsr')
+@means(TABLE, 'lsl', 'lsr')
 def shift(c, i):
     a, n = c.both(i)
     n = simple(n & (a.size() - 1))
     c.put(i, 0, a << n if i.mnemonic == 'lsl' else z3.LShR(a, n))
 
 
-@means('ubfiz')
+@means(TABLE, 'ubfiz')
 def insert_in_zeros(c, i):
     a, low, width = c.get(i, 1), i.ops[2].imm, i.ops[3].imm
     c.put(i, 0, widen(part(a, 0, width), a.size()) << low)
 
 
-@means('ubfx')
+@means(TABLE, 'ubfx')
 def extract(c, i):
     a = c.get(i, 1)
     c.put(i, 0, widen(part(a, i.ops[2].imm, i.ops[3].imm), a.size()))
 
 
-@means('bfxil')
+@means(TABLE, 'bfxil')
 def insert_low(c, i):
     a, width = c.get(i, 0), i.ops[3].imm
     c.put(i, 0, join([part(c.get(i, 1), i.ops[2].imm, width), part(a, width, a.size() - width)]))
 
 
-@means('clz')
-def leading_zeros(c, i):
-    a = c.get(i, 1)
-    result = bv(a.size(), a.size())
-    for k in range(a.size()):
-        result = z3.If(z3.Extract(k, k, a) == 1, bv(a.size() - 1 - k, a.size()), result)
-    c.put(i, 0, result)
+@means(TABLE, 'clz')
+def count_zeros(c, i):
+    c.put(i, 0, leading_zeros(c.get(i, 1)))
 
 
-@means('mul', 'umulh')
+@means(TABLE, 'mul', 'umulh')
 def multiply(c, i):
     a, b = c.both(i)
     if a.size() != 64:
@@ -213,12 +198,12 @@ def multiply(c, i):
     c.put(i, 0, c.multiply(a, b, (0 if i.mnemonic == 'mul' else 1,))[0])
 
 
-@means('csel')
+@means(TABLE, 'csel')
 def select(c, i):
     c.put(i, 0, choose(c.known(c.cond(code(i))), c.get(i, 1), c.get(i, 2)))
 
 
-@means('cset')
+@means(TABLE, 'cset')
 def set_if(c, i):
     c.put(i, 0, choose(c.known(c.cond(code(i))), bv(1, c.width(i)), bv(0, c.width(i))))
 
@@ -229,7 +214,7 @@ def access(c, i):
     return number, {'b': 1, 'h': 2}.get(i.mnemonic[-1], c.width(i) // 8)
 
 
-@means('ldr', 'ldur', 'ldrb', 'ldurb', 'ldrh', 'ldurh', 'ldp')
+@means(TABLE, 'ldr', 'ldur', 'ldrb', 'ldurb', 'ldrh', 'ldurh', 'ldp')
 def load(c, i):
     number, size = access(c, i)
     address = c.address(i, number)
@@ -238,7 +223,7 @@ def load(c, i):
         c.put(i, k, widen(value, c.width(i)))
 
 
-@means('str', 'stur', 'strb', 'sturb', 'strh', 'sturh', 'stp')
+@means(TABLE, 'str', 'stur', 'strb', 'sturb', 'strh', 'sturh', 'stp')
 def store(c, i):
     number, size = access(c, i)
     values = [c.get(i, k) for k in range(number)]
@@ -247,38 +232,38 @@ def store(c, i):
         c.store(simple(address + size * k), part(value, 0, 8 * size))
 
 
-@means('ret')
+@means(TABLE, 'ret')
 def give_back(c, i):
-    if i.ops or not z3.eq(c.r['30'], sym('return')):
+    if i.ops or not z3.eq(c.r['x30'], sym('return')):
         raise Refused('a return to another place than the caller')
     return RETURN
 
 
-@means(*(f'b.{name}' for name in ('eq', 'hs', 'mi', 'ls', 'lt', 'le', *NOT)))
+@means(TABLE, *(f'b.{name}' for name in CONDITIONS))
 def branch(c, i):
     return c.cond(i.mnemonic[2:]), i.ops[0].imm, i.address + i.size
 
 
-@means('cbz', 'cbnz', 'tbz', 'tbnz')
+@means(TABLE, 'cbz', 'cbnz', 'tbz', 'tbnz')
 def branch_on_bits(c, i):
     a = c.get(i, 0)
     zero = a == 0 if i.mnemonic[0] == 'c' else part(a, i.ops[1].imm, 1) == 0
     return z3.Not(zero) if 'n' in i.mnemonic else zero, i.ops[-1].imm, i.address + i.size
 
 
-@means('movi')
+@means(TABLE, 'movi')
 def move_vector(c, i):
     if i.ops[1].imm != 0:
         raise unknown(i)
     c.put(i, 0, bv(0, c.width(i)))
 
 
-@means('zip1', 'zip2')
+@means(TABLE, 'zip1', 'zip2')
 def zip_words(c, i):
     low = 0 if i.mnemonic == 'zip1' else 64
     c.put(i, 0, join([part(c.get(i, k), low, 64) for k in (1, 2)]))
 
 
-@means('ext')
+@means(TABLE, 'ext')
 def extract_vector(c, i):
     c.put(i, 0, part(join([c.get(i, 1), c.get(i, 2)]), 8 * i.ops[3].imm, 128))

@@ -6,40 +6,45 @@ import functions as f
 import loops
 import terms
 from aarch64 import Arm
-from machine import Image
+from image import Image
 from terms import Refused, Unknown
 from x86_64 import X86
 
 PROCESSORS = {'EM_X86_64': X86, 'EM_AARCH64': Arm}
 IMAGE = None
+# What is said of a function: the number of multiplications, whether jumps may depend on contents,
+# and its cases by how they are checked.
+Function = collections.namedtuple('Function', 'multiplications by_contents cases')
 
 
 def each(numbers):
     return [(k,) for k in numbers]
 
 
-BYTES = each(range(loops.Fill.GRAIN))
-FILLS = each(range(loops.Write.GRAIN))
-# By function: the multiplications of the definition, whether jumps may depend on contents, and its
-# cases by how they are checked. Most cases are one length, remainder or number of pending bytes.
+# Most cases are one length, remainder or number of pending bytes. A class of loops.py stands for
+# all calls that are longer than the cases before it.
+SHORT = each(range(loops.Fill.GRAIN))
+FILLS = each(range(64))
 FUNCTIONS = {
-    '': ('3+4(n/64)+(n%64)/16', False, {
-        f.hash_of: FILLS, f.hash_many: each(range(2**loops.Hash.LOW))}),
-    '_start': ('1', False, {f.start_of: [()]}),
-    '_write': ('4((f+n)/64)', False, {
-        f.write_many: FILLS, f.write_within: [(p, n) for p in range(64) for n in range(64 - p)]}),
-    '_finish': ('2+f/16', False, {f.finish: [(p, b) for p in range(64) for b in (0, 1)]}),
-    '_save': ('0', False, {f.save: FILLS}),
-    '_resume': ('0', True, {f.resume: each([None, *range(132)])}),
-    '_rand_init': ('4', False, {f.rand_init: [('_rand_init', 1, 4)]}),
-    '_rand_init_with_extra_seed': ('4', False, {
+    '': Function('3+4(n/64)+(n%64)/16', False, {
+        f.hash_of: each(range(loops.Hash.GRAIN)), loops.Hash: each(range(2**loops.Hash.LOW))}),
+    '_start': Function('1', False, {f.start_of: [()]}),
+    '_write': Function('4((f+n)/64)', False, {
+        f.write_within: [(p, n) for p in range(64) for n in range(64 - p)], loops.Write: FILLS}),
+    '_finish': Function('2+f/16', False, {f.finish: [(p, b) for p in range(64) for b in (0, 1)]}),
+    '_save': Function('0', False, {f.save: FILLS}),
+    '_resume': Function('0', True, {f.resume: each([None, *range(132)])}),
+    '_rand_init': Function('4', False, {f.rand_init: [('_rand_init', 1, 4)]}),
+    '_rand_init_with_extra_seed': Function('4', False, {
         f.rand_init: [('_rand_init_with_extra_seed', 2, 4)]}),
-    '_rand_init_words': ('0', False, {f.rand_init: [('_rand_init_words', 2, 0)]}),
-    '_rand_next': ('1', False, {f.rand_next: [()]}),
-    '_rand_fill': ('(n+7)/8', False, {f.rand_fill: BYTES, f.rand_fill_many: [()]}),
-    '_pad': ('0', False, {f.pad: BYTES, f.pad_many: [()]}),
-    '_unpad': ('0', True, {f.unpad_many: each(f.LAST_BYTES), f.unpad: [(0, None), *(
-        (n, last) for n in range(1, loops.Unpad.GRAIN // 8 + 1) for last in f.LAST_BYTES)]}),
+    '_rand_init_words': Function('0', False, {f.rand_init: [('_rand_init_words', 2, 0)]}),
+    '_rand_next': Function('1', False, {f.rand_next: [()]}),
+    '_rand_fill': Function('(n+7)/8', False, {f.rand_fill: SHORT, loops.Fill: [()]}),
+    '_pad': Function('0', False, {f.pad: SHORT, loops.Pad: [()]}),
+    '_unpad': Function('0', True, {
+        f.unpad: [(0, None), *((n, last) for n in range(1, loops.Unpad.GRAIN // 8 + 1)
+                               for last in f.LAST_BYTES)],
+        loops.Unpad: each(f.LAST_BYTES)}),
 }
 NAMES = [f'komihash_v{version}{suffix}' for version in (4, 5) for suffix in FUNCTIONS]
 
@@ -50,8 +55,12 @@ class Case(collections.namedtuple('Case', 'name check args')):
     def __str__(self):
         return f'{self.name}, {self.check.__name__}{self.args}'
 
+    def has_loop(self):
+        return isinstance(self.check, type)
+
     def run(self, image):
-        return self.check(image, int(self.name[len('komihash_v')]), *self.args).seen
+        done = self.check(image, int(self.name[len('komihash_v')]), *self.args)
+        return (done.prove() if self.has_loop() else done).seen
 
 
 # What a case gave: why it failed, or the instructions that ran and how deep the stack was; and how
@@ -59,14 +68,13 @@ class Case(collections.namedtuple('Case', 'name check args')):
 Done = collections.namedtuple('Done', 'case failure seconds ran depth asked second')
 
 
-def facts_of(name):
-    """The multiplications of a function, whether its jumps may depend on contents, its checks."""
+def said_of(name):
     return FUNCTIONS[name[len('komihash_v4'):]]
 
 
 def cases_of(name):
     return [Case(name, check, args)
-            for check, cases in facts_of(name)[2].items() for args in cases]
+            for check, cases in said_of(name).cases.items() for args in cases]
 
 
 def open_library(path):
@@ -77,13 +85,14 @@ def open_library(path):
 
 
 def run_case(case):
+    """Checks a case. Nothing may be claimed after an error of this program, either."""
     terms.ANSWERS.clear()
     terms.COUNTS.update(asked=0, second=0)
     begin, ran, depth, failure = time.time(), frozenset(), 0, None
     try:
         seen = case.run(IMAGE)
         ran, depth = frozenset(seen.ran), seen.depth
-        if seen.by_contents and not facts_of(case.name)[1]:
+        if seen.by_contents and not said_of(case.name).by_contents:
             failure = f'a jump or an address depends on {sorted(seen.by_contents)[0]}'
     except Unknown as unknown:
         failure = unknown
@@ -91,4 +100,5 @@ def run_case(case):
         failure = f'{refused}'
     except Exception as error:
         failure = Unknown(f'{type(error).__name__}: {error}')
-    return Done(case, failure, time.time() - begin, ran, depth, *terms.COUNTS.values())
+    return Done(case, failure, time.time() - begin, ran, depth,
+                terms.COUNTS['asked'], terms.COUNTS['second'])

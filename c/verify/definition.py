@@ -12,7 +12,11 @@ FIVES, TENS = 0x5555555555555555, 0xaaaaaaaaaaaaaaaa
 
 
 class Products:
-    """The products of a definition: their factors, and the symbols of their halves."""
+    """The products of a definition: their factors, and the symbols of their halves.
+
+    Nothing is known of these symbols, so what is shown holds for any halves, also for the right
+    ones. Code that multiplies the factors of a product here gets the same halves as the definition,
+    so it is given the same symbols. Therefore nothing needs to be known of multiplication."""
 
     def __init__(self):
         self.list = []
@@ -23,11 +27,11 @@ class Products:
         self.list.append((simple(x), simple(y), *halves))
         return halves
 
-    def find(self, facts, a, b, busy):
-        """The number of the product with these factors, which is none of the busy ones."""
-        busy, points = {k for k, _ in busy}, {facts.point(a), facts.point(b)}
+    def find(self, facts, a, b, made):
+        """The number of the product with these factors, which is none of those already made."""
+        points = {facts.point(a), facts.point(b)}
         for k, (x, y, _, _) in enumerate(self.list):
-            if k not in busy and {facts.point(x), facts.point(y)} == points:
+            if k not in made and {facts.point(x), facts.point(y)} == points:
                 for u, v in ((x, y), (y, x)):
                     if facts.same(a, u) and facts.same(b, v):
                         return k
@@ -60,6 +64,7 @@ def lanes(pair):
 def block_round(products, version, s, block):
     w = [block[k] for k in PLACES[version]]
     r = [products.new(w[2 * k] ^ s[k], w[2 * k + 1] ^ s[4 + k]) for k in range(4)]
+    # The new s5 to s8; before the first comes the last.
     t = [simple(s[4 + k] + r[k][1]) for k in range(4)]
     return [simple(t[k - 1] ^ r[k][0]) for k in range(4)] + t
 

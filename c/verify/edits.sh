@@ -6,22 +6,22 @@ python=$1 sources=("${@:2}")
 
 # refused FUNCTION SOURCE EDIT, which is some Perl
 refused() {
-    mkdir -p "$room/assembly" "$room/out" && cp assembly/* "$room/assembly" &&
+    mkdir -p "$scratch/assembly" "$scratch/out" && cp assembly/* "$scratch/assembly" &&
         perl -pi -e "if (!\$done and /^$1:/ .. /^\\.Lfunc_end/) { \$done = $3 }" \
-            "$room/assembly/$2.S" &&
-        ! cmp -s "assembly/$2.S" "$room/assembly/$2.S" &&
-        "${CROSS}gcc" -shared -nostdlib -o "$room/out/$2.so" "$room/assembly/$2.S" || return
-    "$python" verify --function "$1" -- "$room/out/$2.so" > "$room/told" 2>&1
-    [ $? = 1 ] && grep FAILED "$room/told" || { cat "$room/told"; false; }
+            "$scratch/assembly/$2.S" &&
+        ! cmp -s "assembly/$2.S" "$scratch/assembly/$2.S" &&
+        "${CROSS}gcc" -shared -nostdlib -o "$scratch/out/$2.so" "$scratch/assembly/$2.S" || return
+    "$python" verify --function "$1" -- "$scratch/out/$2.so" > "$scratch/told" 2>&1
+    [ $? = 1 ] && grep FAILED "$scratch/told" || { cat "$scratch/told"; false; }
 }
 
 for source in "${sources[@]}"; do
     for version in 4 5; do
         while read -r function name; do
             read -r edit
-            note "$name in komihash_v${version}_$function of $source" \
+            run_case "$name in komihash_v${version}_$function of $source" \
                 refused "komihash_v${version}_$function" "$source" "$edit"
-            cat "$room/case"
+            cat "$scratch/case"
         done << 'EDITS'
 save a compare with one more
 s/\tcmpq?\t.*[\$#]\K(\d+)/$1 + 1/e

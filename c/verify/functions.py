@@ -1,21 +1,20 @@
 """What each function must do, and how a case of it is checked. Calls of any length, by induction,
-are in loops.py."""
+are in loops.py. Each check runs a call with symbols for all contents, asks whether what it returns
+and stores is what the definition says, and returns the processor at the end."""
 import z3
-import loops
-from calls import (NONE, Call, accepted, check, check_bytes, check_generator, check_state,
-                   generator, low_byte, named, padded_content, some_state)
+from calls import NONE, Call, generator, named, padded_content, some_state
+from checks import accepted, check, check_bytes, check_generator, check_state, low_byte
 from definition import State, is_text, komi, next_pair, padded_words, start, words_of
 from terms import bv, bytes_of, join, secret, sym
 
 
 def hash_of(library, version, length):
     call = Call(library, version, '')
-    place, message = call.message(length)
+    address, message = call.message(length)
     seed = secret('seed')
     wanted = komi(call.products, version, seed, message)
-    end = call.one(place, bv(length), seed)
+    end = call.one(address, bv(length), seed)
     check(end, 'hash', end.result(), wanted)
-    call.check_all_products(end)
     return end
 
 
@@ -28,7 +27,6 @@ def start_of(library, version):
     check_state(end, wanted)
     if result is not None:
         check(end, 'address of the struct', end.result(), result)
-    call.check_all_products(end)
     return end
 
 
@@ -37,11 +35,10 @@ def write_within(library, version, fill, length):
     call = Call(library, version, '_write')
     state = some_state(version, fill)
     stream = call.stream(state, writable=True)
-    place, message = call.message(length)
+    address, message = call.message(length)
     wanted = state.absorb(call.products, version, message)
-    end = call.one(stream, place, bv(length))
+    end = call.one(stream, address, bv(length))
     check_state(end, wanted)
-    call.check_all_products(end)
     return end
 
 
@@ -51,7 +48,6 @@ def finish(library, version, fill, had_block):
     wanted = state.answer(call.products, version)
     end = call.one(call.stream(state))
     check(end, 'hash', end.result(), wanted)
-    call.check_all_products(end)
     return end
 
 
@@ -65,17 +61,18 @@ def save(library, version, fill):
         enough = accepted(end, z3.UGE(room, 131))
         check(end, 'length', end.result(), bv(68 + fill if enough else 0))
         check_bytes(end, 'text', 'out', bytes_of(state.text(version)) if enough else [])
-        call.check_all_products(end)
     return end
 
 
 def resume(library, version, length):
     """Any text of this length, or if it is None, of any length above 131."""
     call = Call(library, version, '_resume')
-    size = sym('length') if length is None else bv(length)
-    text = named('text', range(132 if length is None else length))
-    call.facts.add(z3.BoolVal(True) if length is not None else z3.UGT(size, 131))
-    fits = is_text(version, text if length is not None else [])
+    if length is None:
+        size, text, fits = sym('length'), named('text', range(132)), z3.BoolVal(False)
+        call.facts.add(z3.UGT(size, 131))
+    else:
+        size, text = bv(length), named('text', range(length))
+        fits = is_text(version, text)
     stream = call.stream(None, writable=True)
     for end in call.run(stream, call.array('text', size, text), size):
         is_one = accepted(end, fits)
@@ -84,7 +81,6 @@ def resume(library, version, length):
             check_state(end, State(words_of(text[4:68]), text[68:], text[1], text[2]))
         else:
             check_bytes(end, 'refused', 'stream', [])
-        call.check_all_products(end)
     return end
 
 
@@ -97,52 +93,48 @@ def rand_init(library, version, name, seeds, steps):
     end = call.one(*args)
     for k in (0, 1):
         check(end, f's{k + 1}', end.result(k), pair[k])
-    call.check_all_products(end)
     return end
 
 
 def rand_next(library, version):
     call = Call(library, version, '_rand_next')
-    place, pair = generator(call)
+    address, pair = generator(call)
     pair = next_pair(call.products, version, *pair)
-    end = call.one(place)
+    end = call.one(address)
     check(end, 'output', end.result(), pair[0])
     check_generator(end, pair)
-    call.check_all_products(end)
     return end
 
 
 def rand_fill(library, version, length):
     call = Call(library, version, '_rand_fill')
-    place, pair = generator(call)
+    address, pair = generator(call)
     out, wanted = call.array('out', length, high=length, writable=True), []
     for _ in range((length + 7) // 8):
         pair = next_pair(call.products, version, *pair)
         wanted += bytes_of(pair[0])
-    end = call.one(place, out, bv(length))
+    end = call.one(address, out, bv(length))
     check_generator(end, pair)
     check_bytes(end, 'bytes', 'out', wanted[:length])
-    call.check_all_products(end)
     return end
 
 
 def pad(library, version, length):
     """With any room: the words, or nothing if there is no room for them."""
     call = Call(library, version, '_pad')
-    place, message = call.message(length)
+    address, message = call.message(length)
     room, words = sym('room'), padded_words(version, message)
     call.facts.add(z3.ULT(room, 2**60))
     out = call.aligned(call.array('out', 8 * room, high=8 * len(words), writable=True,
-                                  apart_from=[(place, bv(length))]))
-    for end in call.run(place, bv(length), out, room):
+                                  apart_from=[(address, bv(length))]))
+    for end in call.run(address, bv(length), out, room):
         enough = accepted(end, z3.UGE(room, len(words)))
         check(end, 'number', end.result(), bv(len(words) if enough else 0))
         check_bytes(end, 'words', 'out', bytes_of(join(words)) if enough else [])
-        call.check_all_products(end)
     return end
 
 
-LAST_BYTES = [None, *((place, byte) for place in range(8) for byte in (1, 2, 3))]
+LAST_BYTES = [None, *((index, byte) for index in range(8) for byte in (1, 2, 3))]
 
 
 def unpad(library, version, count, last):
@@ -157,25 +149,4 @@ def unpad(library, version, count, last):
         found = accepted(end, z3.And(fits, z3.UGE(room, 8 * count)))
         check(end, 'length', end.result(), bv(length) if found else NONE)
         check_bytes(end, 'message', 'out', content[:length] if found else [])
-        call.check_all_products(end)
     return end
-
-
-def hash_many(library, version, low):
-    return loops.Hash(library, version, low).prove()
-
-
-def write_many(library, version, fill):
-    return loops.Write(library, version, fill).prove()
-
-
-def rand_fill_many(library, version):
-    return loops.Fill(library, version).prove()
-
-
-def pad_many(library, version):
-    return loops.Pad(library, version).prove()
-
-
-def unpad_many(library, version, last):
-    return loops.Unpad(library, version, last).prove()

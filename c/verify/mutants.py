@@ -9,12 +9,14 @@ import signal
 import subprocess
 import tempfile
 import cases
-import loops
 import terms
 from elftools.elf.elffile import ELFFile
 from processor import compare
 
+# Limits for a mutant: steps of Z3 for a question, processor time, and how many cases are run before
+# calls on the processor show whether others need to be.
 EFFORT, SECONDS, SOME = 2 * 10**8, 300, 100
+# The cases that reach an instruction, by its address. Workers inherit this.
 AT = collections.defaultdict(list)
 Mutant = collections.namedtuple('Mutant', 'address bit before after failure told')
 
@@ -40,18 +42,18 @@ def text(image, address):
 
 def refusal(tried):
     """Why the first of the cases fails that does, or None."""
-    return next((f for case in tried if (f := cases.run_case(case).failure) is not None), None)
+    failures = (cases.run_case(case).failure for case in tried)
+    return next((failure for failure in failures if failure is not None), None)
 
 
-def try_mutant(path, program, place):
+def try_mutant(path, program, flip):
     """Runs some cases that reach the instruction, and if calls on the processor differ, the others
     too."""
-    (address, bit), image, failure, told = place, cases.IMAGE, None, ''
+    (address, bit), image, failure, told = flip, cases.IMAGE, None, ''
     before, reaching = text(image, address), AT[address]
     some = reaching[::max(len(reaching) // SOME, 1)]
     image.flip(address + bit // 8, bit % 8)
     after = text(image, address)
-    loops.HEADS.clear()
     signal.setitimer(signal.ITIMER_PROF, SECONDS)
     try:
         failure = refusal(some) if after != before else None
@@ -65,7 +67,7 @@ def try_mutant(path, program, place):
     return Mutant(address, bit, before, after, failure, told)
 
 
-def places(image, owners, count, seed):
+def choose_flips(image, owners, count, seed):
     """Bits to flip: one for each function, and then of any instruction that is reached."""
     r, addresses = random.Random(seed), sorted(owners)
     names = sorted(set().union(*owners.values()))
@@ -101,11 +103,11 @@ def verdict(mutant):
 def test(image, path, done, args):
     """Tries so many mutants. Returns how many were passed wrongly."""
     owners, found, wrong = collections.defaultdict(set), collections.defaultdict(list), 0
-    for one in sorted(done, key=lambda d: (d.case.check.__name__.endswith('_many'), d.seconds)):
+    for one in sorted(done, key=lambda d: (d.case.has_loop(), d.seconds)):
         for address in one.ran:
             owners[address].add(one.case.name)
             AT[address].append(one.case)
-    flips = places(image, owners, args.mutants, args.seed)
+    flips = choose_flips(image, owners, args.mutants, args.seed)
     tries = functools.partial(try_mutant, path, args.program)
     with multiprocessing.Pool(args.jobs, start, [path], maxtasksperchild=20) as pool:
         for m in pool.imap_unordered(tries, list(flips)):

@@ -7,10 +7,14 @@ import subprocess
 from calls import FLAGS, STREAM
 from cases import PROCESSORS
 from definition import Numbers, padded_words
-from machine import Image
+from image import Image
 from terms import Refused, bv, const
 
-PLACE, SIZE, REPLY = 2**32, 2048, struct.Struct('<18Q2048s')
+# Where memory is in a call, its bytes, the words of a stream, and what the program replies.
+BASE, SIZE, WORDS = 2**32, 2048, STREAM // 8
+REPLY = struct.Struct(f'<{WORDS}Q{SIZE}s')
+# The ends of names of functions that return nothing, of those that return two words, and of those
+# whose first argument is a stream.
 NO_RESULT, PAIRS = ('_write', '_rand_fill'), ('_init', '_seed', '_words')
 STREAMS = ('_write', '_finish', '_save', '_resume')
 
@@ -34,13 +38,13 @@ def on_numbers(kind):
     return OnNumbers
 
 
-class Call:
+class RandomCall:
     """A call with numbers and arrays as arguments. The arrays lie in memory, with gaps between."""
 
     def __init__(self, r, name):
         self.r, self.name, self.args = r, name, []
         self.memory, self.known, self.end = bytearray(r.randbytes(SIZE)), set(), 256
-        self.words = 18 if name.endswith('_start') else 2 if name.endswith(PAIRS) else 1
+        self.words = WORDS if name.endswith('_start') else 2 if name.endswith(PAIRS) else 1
 
     def number(self, value):
         self.args.append(value)
@@ -53,7 +57,7 @@ class Call:
             self.memory[start:start + len(content)] = content
             self.known.update(range(start, start + len(content)))
         self.end = (start + len(content) + 7) // 8 * 8
-        return self.number(PLACE + start)
+        return self.number(BASE + start)
 
     def bytes_at(self, content, known=True):
         if not content and self.r.randrange(2):
@@ -62,32 +66,33 @@ class Call:
 
     def request(self):
         args = [*self.args, 0, 0, 0][:4]
-        return struct.pack('<64s6Q', self.name.encode(), self.words, *args, PLACE) + self.memory
+        return struct.pack('<64s6Q', self.name.encode(), self.words, *args, BASE) + self.memory
 
     def outcome(self, words, memory):
-        """What counts of an outcome: `resume` returns a byte, two calls return nothing, and six bytes
-        of a stream are unused."""
+        """What counts of an outcome: `resume` returns a byte, two calls return nothing, and six
+        bytes of a stream are unused."""
         words, memory = list(words[:self.words]), bytearray(memory)
-        if self.words == 18:
-            words[17] &= 0xffff
+        if self.words == WORDS:
+            words[-1] &= 0xffff
         elif self.name.endswith(STREAMS):
-            place = self.args[0] - PLACE
-            memory[place + FLAGS + 2:place + STREAM] = bytes(STREAM - FLAGS - 2)
+            start = self.args[0] - BASE
+            memory[start + FLAGS + 2:start + STREAM] = bytes(STREAM - FLAGS - 2)
         words = [w & 255 if self.name.endswith('_resume') else w for w in words]
         return [] if self.name.endswith(NO_RESULT) else words, bytes(memory)
 
     def in_model(self, image):
         cpu, args = image.processor(image, None), [bv(arg) for arg in self.args]
         for k in self.known:
-            cpu.memory.put('arrays', PLACE + k, bv(self.memory[k], 8))
-        if self.words == 18:
-            args = [*cpu.struct_at(bv(PLACE))[0], *args]
+            cpu.memory.put('arrays', BASE + k, bv(self.memory[k], 8))
+        if self.words == WORDS:
+            args = [*cpu.struct_at(bv(BASE))[0], *args]
         end, = cpu.call(self.name, *args)
         memory = bytearray(self.memory)
         for k in end.memory.written('arrays'):
-            memory[k - PLACE] = const(end.memory.content('arrays', k, 1))
-        if self.words == 18:
-            words, memory[:144] = struct.unpack('<18Q', memory[:144]), self.memory[:144]
+            memory[k - BASE] = const(end.memory.content('arrays', k, 1))
+        if self.words == WORDS:
+            words = struct.unpack(f'<{WORDS}Q', memory[:STREAM])
+            memory[:STREAM] = self.memory[:STREAM]
         else:
             words = [const(end.result(k)) for k in range(self.words)]
         return self.outcome(words, memory)
@@ -119,7 +124,7 @@ def words_with_end(r, version, message):
 def round_of_calls(r, version, fill):
     """A call of each function, of some two."""
     def call(name):
-        return Call(r, f'komihash_v{version}{name}')
+        return RandomCall(r, f'komihash_v{version}{name}')
     n = r.choice([r.randrange(20), r.randrange(70), r.randrange(301)])
     message, seed, other = r.randbytes(n), r.getrandbits(64), r.getrandbits(64)
     text, rand = saved_text(r, version, fill), r.randbytes(16)
@@ -129,7 +134,7 @@ def round_of_calls(r, version, fill):
     yield call('_finish').words_at(stream(r, version, fill))
     room = r.choice([0, 130, 131, 140])
     yield call('_save').words_at(stream(r, version, fill)).bytes_at(bytes(room), False).number(room)
-    yield call('_resume').words_at(bytes(144), False).bytes_at(text).number(len(text))
+    yield call('_resume').words_at(bytes(STREAM), False).bytes_at(text).number(len(text))
     yield call('_rand_init').number(seed)
     yield call('_rand_init_with_extra_seed').number(seed).number(other)
     yield call('_rand_init_words').number(seed).number(other)
@@ -157,7 +162,7 @@ def compare(path, rounds, program):
     requests = b''.join(call.request() for call in calls)
     done = subprocess.run(program, input=requests, stdout=subprocess.PIPE, check=True)
     for call, reply in zip(calls, REPLY.iter_unpack(done.stdout), strict=True):
-        model, real = call.in_model(image), call.outcome(reply[:18], reply[18])
+        model, real = call.in_model(image), call.outcome(reply[:WORDS], reply[WORDS])
         if model != real:
             raise Refused(f'{call.name}{call.args} on {call.memory.hex()}: {model} in the model, '
                           f'{real} really')

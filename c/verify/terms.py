@@ -6,8 +6,11 @@ import subprocess
 import z3
 
 SECOND = os.environ.get('SECOND')
+# Sums and xors of the same parts, in any order, become the same term.
 SIMPLIFY = z3.args2params([], {'bv_sort_ac': True})
+# Z3 may make so many steps for a question.
 EFFORT = 10**9
+# What was answered in this case, and how many questions were asked.
 ANSWERS, COUNTS = {}, {'asked': 0, 'second': 0}
 
 
@@ -21,14 +24,15 @@ class Unknown(Exception):
 
 class Symbols:
     """The symbols by name. Secret are those that stand for contents, and not for lengths or
-    addresses."""
+    addresses. What `of` finds is remembered for each part of a term, by the number that Z3 gives
+    it; the terms are kept, so that Z3 doesn't give their numbers to others."""
 
     def __init__(self):
         self.term, self.secret, self.found, self.kept = {}, set(), {}, []
         self.addresses = {'sp'}
 
     def of(self, term):
-        """The names of the symbols in a term, which are remembered for each part of it."""
+        """The names of the symbols in a term. It calls the C interface of Z3, which is faster."""
         context, todo = term.ctx_ref(), [term.as_ast()]
         if z3.Z3_get_ast_id(context, todo[0]) not in self.found:
             self.kept.append(term)
@@ -148,6 +152,15 @@ def top(term):
     return z3.Extract(term.size() - 1, term.size() - 1, term) == 1
 
 
+def leading_zeros(term):
+    """How many of the highest bits are 0."""
+    width = term.size()
+    result = bv(width, width)
+    for k in range(width):
+        result = z3.If(z3.Extract(k, k, term) == 1, bv(width - 1 - k, width), result)
+    return result
+
+
 @functools.lru_cache(maxsize=None)
 def at_point(point, name):
     """The value of a symbol at a random point."""
@@ -156,8 +169,9 @@ def at_point(point, name):
 
 
 class Facts:
-    """What holds for the symbols. Conditions are asked on a path, a list of conditions that can
-    hold together with the facts."""
+    """What holds for the symbols. Conditions are asked on a path, a list of conditions that hold
+    there too. The symbols stand for all values that the facts allow: what is shown, is shown by
+    finding that its opposite has no model."""
 
     def __init__(self):
         self.list, self.points = [], {}
@@ -166,8 +180,9 @@ class Facts:
         self.list.extend(facts)
 
     def relevant(self, path, terms):
-        """The facts that share symbols with the terms, directly or through others. The others
-        can't matter, since they can hold, and have no symbol in common with these."""
+        """The facts that share symbols with the terms, directly or through others. Leaving out
+        facts is always safe: what can't be without them can't be with them. So at worst, a path is
+        run that can't happen, or right code is refused."""
         left, chosen = self.list + list(path), []
         names = set().union(*map(symbols, terms))
         while True:
@@ -243,26 +258,22 @@ class Facts:
         return known[1]
 
     def same(self, a, b, path=()):
-        """Whether two terms are equal. On a path, random points can't tell them apart."""
-        if z3.eq(a, b):
-            return True
-        equal = simple(a == b)
-        if z3.is_true(equal) or z3.is_false(equal):
-            return z3.is_true(equal)
+        """Whether two terms are equal. If they differ at a random point, the answer is no, at no
+        cost; but a path may leave out that point."""
         if not path and self.point(a) != self.point(b):
             return False
-        return self.model(path, a != b) is None
+        return z3.eq(a, b) or self.holds(path, a == b)
 
     def values(self, term, path, most):
         """The values that a term can have on this path; None if there are more."""
-        found = []
-        while True:
-            model = self.model(path, *[term != v for v in found] or [term == term])
-            if model is None:
-                return found
+        # The first condition is always true, and makes the facts about the term relevant.
+        found, conds = [], [term == term]
+        while (model := self.model(path, *conds)) is not None:
             found.append(model.eval(term, model_completion=True))
+            conds = [term != value for value in found]
             if len(found) > most:
                 return None
+        return found
 
     def unique(self, term, path):
         """The one signed number that a term can be on this path, or None."""

@@ -1,76 +1,77 @@
-"""The meaning of the x86-64 instructions that the library uses, by Intel's manual, volume 2. Flags
-are z (zero), c (carry), s (sign), and l (less: sign unlike overflow)."""
-from functools import partial
+"""The meaning of the x86-64 instructions that the library uses, by Intel's manual, volume 2."""
+import operator
 import z3
 from capstone import CS_ARCH_X86, CS_MODE_64
 from capstone import x86_const as X
-from machine import RETURN, Cpu, means as enter, unknown
-from terms import Refused, bv, choose, const, join, part, secret, simple, sym, top, widen
+from machine import CONDITIONS, RETURN, Cpu, means, unknown
+from terms import (Refused, bv, choose, const, join, leading_zeros, part, secret, simple, sym, top,
+                   widen)
 
 TABLE = {}
-means = partial(enter, TABLE)
+# Instructions whose address must be a multiple of the operand's size.
 ALIGNED = ('movaps', 'movdqa', 'vmovaps', 'pxor', 'xorps', 'punpcklqdq', 'punpckhqdq', 'palignr')
-NOT = {'ne': 'e', 'ae': 'b', 'ns': 's', 'a': 'be', 'ge': 'l', 'g': 'le'}
-CODES = ('e', 'b', 's', 'be', 'l', 'le', *NOT)
-SHIFTS = {'shl': lambda a, n: a << n, 'shr': z3.LShR, 'sar': lambda a, n: a >> n,
-          'shlx': lambda a, n: a << n, 'shrx': z3.LShR, 'sarx': lambda a, n: a >> n}
+SHIFTS = {'shl': operator.lshift, 'shr': z3.LShR, 'sar': operator.rshift}
 
 
 def registers():
-    """Register, lowest bit and width by name."""
+    """Register, lowest bit and width by the name of a part."""
     names = {}
-    for n, b in enumerate('acdb'):
-        names.update({f'r{b}x': (n, 0, 64), f'e{b}x': (n, 0, 32), f'{b}x': (n, 0, 16),
-                      f'{b}l': (n, 0, 8), f'{b}h': (n, 8, 8)})
-    for n, b in enumerate(['sp', 'bp', 'si', 'di'], 4):
-        names.update({f'r{b}': (n, 0, 64), f'e{b}': (n, 0, 32), b: (n, 0, 16), f'{b}l': (n, 0, 8)})
+    for n in 'abcd':
+        whole = f'r{n}x'
+        names.update({whole: (whole, 0, 64), f'e{n}x': (whole, 0, 32), f'{n}x': (whole, 0, 16),
+                      f'{n}l': (whole, 0, 8), f'{n}h': (whole, 8, 8)})
+    for n in ('sp', 'bp', 'si', 'di'):
+        whole = f'r{n}'
+        names.update({whole: (whole, 0, 64), f'e{n}': (whole, 0, 32), n: (whole, 0, 16),
+                      f'{n}l': (whole, 0, 8)})
     for n in range(8, 16):
-        names.update({f'r{n}': (n, 0, 64), f'r{n}d': (n, 0, 32), f'r{n}w': (n, 0, 16),
-                      f'r{n}b': (n, 0, 8)})
+        whole = f'r{n}'
+        names.update({whole: (whole, 0, 64), f'{whole}d': (whole, 0, 32),
+                      f'{whole}w': (whole, 0, 16), f'{whole}b': (whole, 0, 8)})
     for n in range(16):
-        names.update({f'xmm{n}': (f'v{n}', 0, 128), f'ymm{n}': (f'v{n}', 0, 256)})
+        names.update({f'ymm{n}': (f'ymm{n}', 0, 256), f'xmm{n}': (f'ymm{n}', 0, 128)})
     return names
 
 
 NAMES = registers()
-FULL = {where[0]: name for name, where in NAMES.items() if where[2] in (64, 256)}
 
 
 class X86(Cpu):
     NAME = 'x86-64'
     DECODER = CS_ARCH_X86, CS_MODE_64
-    ARGS, RESULTS, SAVED = (7, 6, 2, 1, 8, 9), (0, 2), (3, 5, 12, 13, 14, 15)
-    SP, ABOVE, TABLE = 4, 8, TABLE
+    ARGS, RESULTS = ('rdi', 'rsi', 'rdx', 'rcx', 'r8', 'r9'), ('rax', 'rdx')
+    SAVED = 'rbx', 'rbp', 'r12', 'r13', 'r14', 'r15'
+    SP, ABOVE, TABLE = 'rsp', 8, TABLE
 
     def registers(self):
-        return {n: secret(f'{name} of the caller', 256 if name[0] == 'y' else 64)
-                for n, name in FULL.items()}
+        return {name: secret(f'{name} of the caller', width)
+                for name, (whole, _, width) in NAMES.items() if name == whole}
 
     def enter(self):
         self.memory.put('stack', 0, sym('return'))
 
     def check_return(self):
         super().check_return()
-        if not z3.is_true(simple(self.r[4] == self.sp + 8)):
+        if not z3.is_true(simple(self.r['rsp'] == self.sp + 8)):
             self.refuse('the stack pointer is not where the caller left it')
 
-    def struct_at(self, place):
+    def struct_at(self, address):
         """The arguments by which a function is told where its struct goes, and its result."""
-        return [place], place
+        return [address], address
 
     def address(self, i, op):
-        m, wide = op.mem, {NAMES[i.reg_name(n)][2] for n in (op.mem.base, op.mem.index)
-                           if n and i.reg_name(n) != 'rip'}
-        if wide - {64} or m.segment and i.reg_name(m.segment) in ('fs', 'gs'):
+        m = op.mem
+        names = [i.reg_name(n) for n in (m.base, m.index) if n]
+        if any(name != 'rip' and NAMES[name][2] != 64 for name in names):
+            raise unknown(i)
+        if m.segment and i.reg_name(m.segment) in ('fs', 'gs'):
             raise unknown(i)
         a = bv(m.disp % 2**64)
         if m.base:
             name = i.reg_name(m.base)
-            a = a + (bv(i.address + i.size) if name == 'rip' else self.r[NAMES[name][0]])
+            a = a + (bv(i.address + i.size) if name == 'rip' else self.r[name])
         if m.index:
-            index = self.r[NAMES[i.reg_name(m.index)][0]]
-            aside = z3.is_app_of(index, z3.Z3_OP_CONCAT)
-            a = a + (simple(index << m.scale.bit_length() - 1) if aside else index * m.scale)
+            a = a + self.r[i.reg_name(m.index)] * m.scale
         return simple(a)
 
     def aligned_address(self, i, op):
@@ -97,30 +98,25 @@ class X86(Cpu):
         whole = self.r[n].size()
         if value.size() != size:
             raise unknown(i)
+        # These clear what is above them in the register; others keep it.
         if size == 32 or size == 128 and i.mnemonic[0] == 'v':
             value = widen(value, whole)
         elif size < whole:
-            value = join([*([part(self.r[n], 0, low)] if low else []), value,
-                          part(self.r[n], low + size, whole - low - size)])
-        self.r[n] = self.in_length(value)
+            below = [part(self.r[n], 0, low)] if low else []
+            above = part(self.r[n], low + size, whole - low - size)
+            value = join([*below, value, above])
+        self.r[n] = value
 
     def both(self, i, first=0):
         return [self.get(i, k, 8 * i.ops[0].size) for k in (first, first + 1)]
 
-    def cond(self, code):
-        z, c = (lambda name=name: self.flag(name) for name in 'zc')
-        found = {'e': z, 'b': c, 's': lambda: self.flag('s'), 'be': lambda: z3.Or(c(), z()),
-                 'l': lambda: self.flag('l'), 'le': lambda: z3.Or(self.flag('l'), z()),
-                 }[NOT.get(code, code)]()
-        return z3.Not(found) if code in NOT else found
-
     def set_flags(self, result, **flags):
         """Zero and sign by the result, the others as given; without these they are not defined."""
-        self.flags = {'z': lambda: result == 0, 's': lambda: top(result), **flags}
+        self.flags = {'z': result == 0, 's': top(result), **flags}
 
 
 TABLE.update({
-    **dict.fromkeys(('nop', 'endbr64'), lambda c, i: None),
+    'nop': lambda c, i: None,
     **dict.fromkeys(('mov', 'movabs', 'movups', 'movdqu', 'movaps', 'movdqa', 'vmovups', 'vmovdqu',
                      'vmovaps'), lambda c, i: c.put(i, 0, c.get(i, 1, 8 * i.ops[0].size))),
     'movzx': lambda c, i: c.put(i, 0, widen(c.get(i, 1), 8 * i.ops[0].size)),
@@ -129,45 +125,45 @@ TABLE.update({
     'vbroadcastsd': lambda c, i: c.put(i, 0, join([c.get(i, 1, 64)] * 4))})
 
 
-@means('xor', 'and', 'or', 'test', 'andn')
+@means(TABLE, 'xor', 'and', 'or', 'test', 'andn')
 def logic(c, i):
     a, b = c.both(i, 1 if i.mnemonic == 'andn' else 0)
     result = simple({'xor': a ^ b, 'or': a | b, 'andn': ~a & b}.get(i.mnemonic, a & b))
     if i.mnemonic != 'test':
         c.put(i, 0, result)
-    c.set_flags(result, c=lambda: z3.BoolVal(False), l=lambda: top(result))
+    c.set_flags(result, c=z3.BoolVal(False), l=top(result))
 
 
-@means('add', 'adc')
+@means(TABLE, 'add', 'adc')
 def add(c, i):
     a, b = c.both(i)
     carry = z3.BoolVal(False) if i.mnemonic == 'add' else c.flag('c')
     result = simple(a + b + z3.If(carry, bv(1, a.size()), bv(0, a.size())))
     c.put(i, 0, result)
-    c.set_flags(result, c=lambda: z3.If(carry, z3.ULE(result, a), z3.ULT(result, a)))
+    c.set_flags(result, c=z3.If(carry, z3.ULE(result, a), z3.ULT(result, a)))
 
 
-@means('sub', 'cmp')
+@means(TABLE, 'sub', 'cmp')
 def subtract(c, i):
     a, b = c.both(i)
     result = simple(a - b)
     if i.mnemonic == 'sub':
         c.put(i, 0, result)
-    c.set_flags(result, c=lambda: z3.ULT(a, b), l=lambda: a < b, z=lambda: a == b)
+    c.set_flags(result, c=z3.ULT(a, b), l=a < b, z=a == b)
 
 
-@means('inc', 'dec')
+@means(TABLE, 'inc', 'dec')
 def step_by_one(c, i):
     result = simple(c.get(i, 0) + (1 if i.mnemonic == 'inc' else -1))
     c.put(i, 0, result)
     c.set_flags(result, **{k: f for k, f in c.flags.items() if k == 'c'})
 
 
-@means('neg')
+@means(TABLE, 'neg')
 def negate(c, i):
     a = c.get(i, 0)
     c.put(i, 0, -a)
-    c.set_flags(simple(-a), c=lambda: a != 0)
+    c.set_flags(simple(-a), c=a != 0)
 
 
 def count(c, i, k, width):
@@ -179,7 +175,7 @@ def count(c, i, k, width):
     return n
 
 
-@means('shl', 'shr', 'sar')
+@means(TABLE, 'shl', 'shr', 'sar')
 def shift(c, i):
     a = c.get(i, 0)
     n, do = count(c, i, 1, a.size()), SHIFTS[i.mnemonic]
@@ -189,16 +185,16 @@ def shift(c, i):
         c.flags = {}
     elif const(n):
         last = a.size() - const(n) if i.mnemonic == 'shl' else const(n) - 1
-        c.set_flags(result, c=lambda: part(a, last, 1) == 1)
+        c.set_flags(result, c=part(a, last, 1) == 1)
 
 
-@means('shlx', 'shrx', 'sarx')
+@means(TABLE, 'shlx', 'shrx', 'sarx')
 def shift_by_register(c, i):
     a = c.get(i, 1)
-    c.put(i, 0, SHIFTS[i.mnemonic](a, count(c, i, 2, a.size())))
+    c.put(i, 0, SHIFTS[i.mnemonic[:3]](a, count(c, i, 2, a.size())))
 
 
-@means('shld')
+@means(TABLE, 'shld')
 def shift_double(c, i):
     a, b = c.get(i, 0), c.get(i, 1)
     n = count(c, i, 2, a.size())
@@ -206,7 +202,7 @@ def shift_double(c, i):
     c.flags = {}
 
 
-@means('bt', 'bts')
+@means(TABLE, 'bt', 'bts')
 def bit_test(c, i):
     if i.ops[0].type != X.X86_OP_REG:
         raise unknown(i)
@@ -214,32 +210,35 @@ def bit_test(c, i):
     n = simple(c.get(i, 1, a.size()) & (a.size() - 1))
     if i.mnemonic == 'bts':
         c.put(i, 0, a | (bv(1, a.size()) << n))
-    c.flags = {'c': lambda: z3.Extract(0, 0, z3.LShR(a, n)) == 1,
+    c.flags = {'c': z3.Extract(0, 0, z3.LShR(a, n)) == 1,
                **{k: f for k, f in c.flags.items() if k == 'z'}}
 
 
-@means('bsr', 'lzcnt')
+@means(TABLE, 'bsr')
 def highest_bit(c, i):
-    a, scan = c.get(i, 1), i.mnemonic == 'bsr'
-    w = a.size()
-    result = c.any(w) if scan else bv(w, w)
-    for k in range(w):
-        result = z3.If(z3.Extract(k, k, a) == 1, bv(k if scan else w - 1 - k, w), result)
-    c.put(i, 0, result)
-    c.flags = {'z': lambda: a == 0} if scan else {'z': lambda: top(a), 'c': lambda: a == 0}
+    a = c.get(i, 1)
+    c.put(i, 0, z3.If(a == 0, c.any(a.size()), a.size() - 1 - leading_zeros(a)))
+    c.flags = {'z': a == 0}
 
 
-@means('mul')
+@means(TABLE, 'lzcnt')
+def count_zeros(c, i):
+    a = c.get(i, 1)
+    c.put(i, 0, leading_zeros(a))
+    c.flags = {'z': top(a), 'c': a == 0}
+
+
+@means(TABLE, 'mul')
 def multiply(c, i):
     if i.ops[0].size != 8:
         raise unknown(i)
-    c.r[0], c.r[2] = c.multiply(c.r[0], c.get(i, 0), (0, 1))
+    c.r['rax'], c.r['rdx'] = c.multiply(c.r['rax'], c.get(i, 0), (0, 1))
     c.flags = {}
 
 
-@means('mulx')
+@means(TABLE, 'mulx')
 def multiply_without_flags(c, i):
-    low, high = c.multiply(c.r[2], c.get(i, 2), (0, 1))
+    low, high = c.multiply(c.r['rdx'], c.get(i, 2), (0, 1))
     c.put(i, 1, low)
     c.put(i, 0, high)
 
@@ -250,32 +249,32 @@ def check_size(i):
         raise unknown(i)
 
 
-@means('push')
+@means(TABLE, 'push')
 def push(c, i):
     check_size(i)
     value = c.get(i, 0, 64)
-    c.r[4] = simple(c.r[4] - 8)
-    c.store(c.r[4], value)
+    c.r['rsp'] = simple(c.r['rsp'] - 8)
+    c.store(c.r['rsp'], value)
 
 
-@means('pop')
+@means(TABLE, 'pop')
 def pop(c, i):
-    value = c.load(c.r[4], 8)
-    c.r[4] = simple(c.r[4] + 8)
+    value = c.load(c.r['rsp'], 8)
+    c.r['rsp'] = simple(c.r['rsp'] + 8)
     c.put(i, 0, value)
 
 
-@means('ret')
+@means(TABLE, 'ret')
 def give_back(c, i):
     check_size(i)
-    to = c.load(c.r[4], 8)
-    c.r[4] = simple(c.r[4] + 8)
+    to = c.load(c.r['rsp'], 8)
+    c.r['rsp'] = simple(c.r['rsp'] + 8)
     if i.ops or not z3.eq(to, sym('return')):
         raise Refused(f'a return to {to}, which is not the caller')
     return RETURN
 
 
-@means('jmp')
+@means(TABLE, 'jmp')
 def jump(c, i):
     check_size(i)
     if i.ops[0].type != X.X86_OP_IMM:
@@ -283,23 +282,23 @@ def jump(c, i):
     return i.ops[0].imm
 
 
-@means(*(f'j{code}' for code in CODES))
+@means(TABLE, *(f'j{code}' for code in CONDITIONS))
 def branch(c, i):
     check_size(i)
     return c.cond(i.mnemonic[1:]), i.ops[0].imm, i.address + i.size
 
 
-@means(*(f'set{code}' for code in CODES))
+@means(TABLE, *(f'set{code}' for code in CONDITIONS))
 def set_if(c, i):
     c.put(i, 0, choose(c.known(c.cond(i.mnemonic[3:])), bv(1, 8), bv(0, 8)))
 
 
-@means(*(f'cmov{code}' for code in CODES))
+@means(TABLE, *(f'cmov{code}' for code in CONDITIONS))
 def move_if(c, i):
     c.put(i, 0, choose(c.known(c.cond(i.mnemonic[4:])), c.get(i, 1), c.get(i, 0)))
 
 
-@means('movq', 'vmovq')
+@means(TABLE, 'movq', 'vmovq')
 def move_quad(c, i):
     value = c.get(i, 1, 64)
     to_vector = i.ops[0].type == X.X86_OP_REG and i.ops[0].size == 16
@@ -311,13 +310,13 @@ def sources(i):
     return (1, 2) if i.mnemonic[0] == 'v' else (0, 1)
 
 
-@means('pxor', 'xorps', 'vpxor', 'vxorps')
+@means(TABLE, 'pxor', 'xorps', 'vpxor', 'vxorps')
 def xor_vectors(c, i):
     a, b = (c.get(i, k, 8 * i.ops[0].size) for k in sources(i))
     c.put(i, 0, a ^ b)
 
 
-@means('punpcklqdq', 'punpckhqdq', 'vpunpcklqdq', 'vpunpckhqdq', 'vunpckhpd', 'vmovlhps')
+@means(TABLE, 'punpcklqdq', 'punpckhqdq', 'vpunpcklqdq', 'vpunpckhqdq', 'vunpckhpd', 'vmovlhps')
 def unpack(c, i):
     if i.ops[0].size != 16:
         raise unknown(i)
@@ -325,26 +324,26 @@ def unpack(c, i):
     c.put(i, 0, join([part(c.get(i, k, 128), low, 64) for k in sources(i)]))
 
 
-@means('palignr')
+@means(TABLE, 'palignr')
 def align(c, i):
     if i.ops[2].imm > 16:
         raise unknown(i)
     c.put(i, 0, part(join([c.get(i, 1), c.get(i, 0)]), 8 * i.ops[2].imm, 128))
 
 
-@means('vzeroupper')
+@means(TABLE, 'vzeroupper')
 def zero_upper(c, i):
     for n in range(16):
-        c.r[f'v{n}'] = widen(part(c.r[f'v{n}'], 0, 128), 256)
+        c.r[f'ymm{n}'] = widen(part(c.r[f'ymm{n}'], 0, 128), 256)
 
 
-@means('vpermq', 'vpermpd')
+@means(TABLE, 'vpermq', 'vpermpd')
 def permute(c, i):
     a = c.get(i, 1)
     c.put(i, 0, join([part(a, 64 * (i.ops[2].imm >> 2 * k & 3), 64) for k in range(4)]))
 
 
-@means('vblendps')
+@means(TABLE, 'vblendps')
 def blend(c, i):
     a, b = c.get(i, 1), c.get(i, 2)
     c.put(i, 0, join([part(b if i.ops[3].imm >> k & 1 else a, 32 * k, 32)

@@ -1,10 +1,10 @@
-//! Compares the calls of the library with those of the Rust crate. It lacks saved texts and padded
-//! words, and the builds for other processors: c/verify shows that all do what one definition says.
+//! Compares the calls of the library with those of the Rust crate, which has no saved texts and no
+//! padded words. c/verify shows what these do, and what the builds for other processors do.
 use crate::calls::{Build, Calls, Generator, builds};
 use crate::random::Random;
 use std::fmt::Debug;
 
-type Found = Result<(), String>;
+type Comparison = Result<(), String>;
 
 const SEEDS: [u64; 5] = [0, 1, u64::MAX, 0x5555_5555_5555_5555, 0x0123_4567_89ab_cdef];
 
@@ -12,7 +12,7 @@ const SEEDS: [u64; 5] = [0, 1, u64::MAX, 0x5555_5555_5555_5555, 0x0123_4567_89ab
 const ENDS: [u8; 5] = [0x00, 0x01, 0x7f, 0x80, 0xff];
 
 /// Compares every message of a small set, and random inputs. Returns the first difference.
-pub fn run(seed: u64, count: u64) -> Found {
+pub fn run(seed: u64, count: u64) -> Comparison {
     for build in builds() {
         let mut random = Random(seed);
         build
@@ -23,7 +23,7 @@ pub fn run(seed: u64, count: u64) -> Found {
     Ok(())
 }
 
-fn same<T: PartialEq + Debug>(call: &str, wanted: T, got: T) -> Found {
+fn same<T: PartialEq + Debug>(call: &str, wanted: T, got: T) -> Comparison {
     if wanted == got { Ok(()) } else { Err(format!("{call}: wanted {wanted:x?}, got {got:x?}")) }
 }
 
@@ -71,7 +71,7 @@ impl Random {
 
 impl Build {
     /// Compares messages that are cut twice, that have one bit, and that have each last byte.
-    fn edges(&self) -> Found {
+    fn edges(&self) -> Comparison {
         for length in 0..=260 {
             let bytes = pattern(length);
             let cuts = (0..=length).flat_map(|it| (0..=it).map(move |first| (first, it - first)));
@@ -91,7 +91,7 @@ impl Build {
         Ok(())
     }
 
-    fn random(&self, random: &mut Random) -> Found {
+    fn random(&self, random: &mut Random) -> Comparison {
         let (offset, length) = (random.below(64), random.length());
         let room = random.bytes(offset + length);
         let (bytes, seed) = (&room[offset..], random.number());
@@ -100,7 +100,7 @@ impl Build {
     }
 
     /// Compares the hash, and the answers of streams.
-    fn message(&self, bytes: &[u8], pieces: &[usize], seed: u64) -> Found {
+    fn message(&self, bytes: &[u8], pieces: &[usize], seed: u64) -> Comparison {
         let hash = |calls: &Calls| (calls.hash)(bytes.into(), seed);
         same("hash", hash(&self.rust_crate), hash(&self.library))
             .and_then(|_| self.streams(bytes, pieces, seed))
@@ -108,7 +108,7 @@ impl Build {
     }
 
     /// Compares the answers after each piece.
-    fn streams(&self, bytes: &[u8], pieces: &[usize], seed: u64) -> Found {
+    fn streams(&self, bytes: &[u8], pieces: &[usize], seed: u64) -> Comparison {
         let (mut wanted, mut got) = ((self.rust_crate.start)(seed), (self.library.start)(seed));
         let mut length = 0;
         for piece in pieces {
@@ -121,7 +121,7 @@ impl Build {
         Ok(())
     }
 
-    fn generators(&self, random: &mut Random) -> Found {
+    fn generators(&self, random: &mut Random) -> Comparison {
         let (s1, s2, kind) = (random.number(), random.number(), random.below(3));
         let start = |calls: &Calls| match kind {
             0 => (calls.rand_init)(s1),

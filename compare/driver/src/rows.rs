@@ -1,12 +1,14 @@
 //! Times the rows of the tables. Prints a line for each row and column: the names of both, and the
 //! nanoseconds of a call, with tabs between.
-use crate::calls::{Calls, builds, builds_for_v3, other_hashes};
+use crate::calls::{Calls, Hash, builds, builds_for_v3, other_hashes};
 use crate::random::Random;
 use std::hint::black_box;
 use std::time::{Duration, Instant};
 
 /// A batch takes half of this time or more. Three must, since an interrupt may make one seem long.
 const BATCH: Duration = Duration::from_micros(60);
+
+const KIB: usize = 1024;
 
 struct Rows<'a> {
     repeats: u64,
@@ -95,7 +97,6 @@ impl Rows<'_> {
         let for_v3 = builds_for_v3().map(|it| (it.name.to_string(), it.library.hash));
         let others = other_hashes().map(|(name, hash)| (name.to_string(), hash));
         let columns: Vec<_> = sides.chain(for_v3).chain(others).collect();
-        const KIB: usize = 1024;
         for length in [1, 4, 8, 16, 24, 32, 40, 64, 96, 128, 256, KIB, 4 * KIB, 64 * KIB, KIB * KIB]
         {
             let bytes = &self.bytes[..length];
@@ -103,25 +104,34 @@ impl Rows<'_> {
                 move || hash(bytes.into(), 0)
             });
         }
-        for limit in [8, 16, 32, 64, 256, 1024] {
-            let mut random = Random(limit as u64);
-            let lengths: Vec<u16> = (0..1 << 20).map(|_| random.below(limit) as u16).collect();
-            let name = format!("hash of 0 to {} bytes, random lengths", limit - 1);
-            self.row(&name, &columns, |hash| {
-                let mut lengths = lengths.iter().cycle();
-                move || hash(self.bytes[..usize::from(*lengths.next().unwrap())].into(), 0)
-            });
+        for limit in [8, 16, 32, 64, 256, KIB] {
+            self.random_lengths(limit, &columns);
         }
         for length in [1, 4, 8, 16, 32, 64, 256, KIB] {
-            let bytes = &self.bytes[..length];
-            self.row(&format!("hash of {}, chained", size(length)), &columns, |hash| {
-                let mut seed = 0;
-                move || {
-                    seed = hash(bytes.into(), seed);
-                    seed
-                }
-            });
+            self.chained(length, &columns);
         }
+    }
+
+    fn random_lengths(&self, limit: usize, columns: &[(String, Hash)]) {
+        let mut random = Random(limit as u64);
+        let lengths: Vec<u16> = (0..1 << 20).map(|_| random.below(limit) as u16).collect();
+        let name = format!("hash of 0 to {} bytes, random lengths", limit - 1);
+        self.row(&name, columns, |hash| {
+            let mut lengths = lengths.iter().cycle();
+            move || hash(self.bytes[..usize::from(*lengths.next().unwrap())].into(), 0)
+        });
+    }
+
+    /// Times hashes each of which is the seed of the next.
+    fn chained(&self, length: usize, columns: &[(String, Hash)]) {
+        let bytes = &self.bytes[..length];
+        self.row(&format!("hash of {}, chained", size(length)), columns, |hash| {
+            let mut seed = 0;
+            move || {
+                seed = hash(bytes.into(), seed);
+                seed
+            }
+        });
     }
 
     fn streams(&self) {

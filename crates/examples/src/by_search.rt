@@ -36,7 +36,7 @@ pub fn of_four(a: u64, b: u64, c: u64, d: u64) -> u64
     stream.finish()
 }
 
-/// Hashes eight short numbers.
+/// Hashes eight numbers of 16 bits.
 pub fn of_eight(a: u16, b: u16, c: u16, d: u16, e: u16, f: u16, g: u16, h: u16) -> u64
     ensures { result ≡ komi 5 0 (to_le_bytes w16 a ++ to_le_bytes w16 b ++ to_le_bytes w16 c
         ++ to_le_bytes w16 d ++ to_le_bytes w16 e ++ to_le_bytes w16 f ++ to_le_bytes w16 g
@@ -55,7 +55,7 @@ pub fn of_eight(a: u16, b: u16, c: u16, d: u16, e: u16, f: u16, g: u16, h: u16) 
 }
 
 /// Hashes three numbers of 32 bits.
-pub fn of_three_short(a: u32, b: u32, c: u32) -> u64
+pub fn of_three(a: u32, b: u32, c: u32) -> u64
     ensures { result ≡ komi 5 0 (to_le_bytes w32 a ++ to_le_bytes w32 b ++ to_le_bytes w32 c) }
 {
     let mut stream = StreamedKomihash::new();
@@ -76,7 +76,7 @@ pub fn of_three_widths(a: u64, b: u16, c: u8) -> u64
     stream.finish()
 }
 
-/// Hashes a short number and a long one, in either version.
+/// Hashes a number of 32 bits and one of 64, in either version.
 pub fn of_two_widths<S: KomiStream>(a: u32, b: u64, seed: u64, tally: &mut Tally) -> u64
     ensures hash { result ≡ komi S.VERSION seed (to_le_bytes w32 a ++ to_le_bytes w64 b) }
     ensures cost { tally.new.products ≡ tally.old.products + 3 }

@@ -36,7 +36,11 @@ pub fn digest_at(checkpoint: &[u8; LONGEST_TEXT], count: usize) -> Option<u64>
 }
 
 /// Digests parts, with a checkpoint after each.
-pub fn upload(parts: &[&[u8]], seed: u64, checkpoint: &mut [u8; LONGEST_TEXT]) -> Option<u64>
+pub fn digest_with_checkpoints(
+    parts: &[&[u8]],
+    seed: u64,
+    checkpoint: &mut [u8; LONGEST_TEXT],
+) -> Option<u64>
     ensures { IsSomeAnd result (λ hash.
         hash ≡ komi 5 seed (flat_map (λ part. part.now) parts.now)) }
 {

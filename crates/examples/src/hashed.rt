@@ -9,8 +9,7 @@ use std::alloc::{AllocFailed, Global};
 use std::collections::HashMap;
 use std::hash::{BuildHasher, Hash, Hasher};
 
-/// Hashes a value in version 5, from seed 0. Each of its writes is hashed with the hash so far as
-/// the seed.
+/// Returns the hash of a value by a hasher of version 5, which chains the hashes of its writes.
 pub fn hash_of<T: Hash>(value: &T) -> u64
     ensures { result ≡ fold (komi 5) 0 (T.hash_input value.now) }
 {

@@ -1,7 +1,5 @@
 //! Digests in pieces.
 
-#![tactic(auto)]
-
 ghost use Rattle.std.specs.Prelude.{◌≡◌, ◌++◌};
 ghost use Rattle.komihash.specs.Hash.{komi};
 

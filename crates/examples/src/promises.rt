@@ -283,3 +283,15 @@ pub fn run_of_further_calls<S: KomiStream>(
 {
     run_on(stream, calls, out, tally)
 }
+
+fn can_cross_threads<T: Send + Sync>() {}
+
+/// Streams, hashers and generators can be sent to other threads, and shared with them.
+pub fn all_can_cross_threads() {
+    can_cross_threads::<v4::StreamedKomihash>();
+    can_cross_threads::<v5::StreamedKomihash>();
+    can_cross_threads::<v4::KomiHasher>();
+    can_cross_threads::<v5::KomiHasher>();
+    can_cross_threads::<v4::Komirand>();
+    can_cross_threads::<v5::Komirand>();
+}

@@ -14,6 +14,7 @@ pub fn digest_of_reader<R: Read>(reader: &mut R, chunk: &mut [u8]) -> io::Result
         hash ≡ komi 5 0 bytes)) }
 {
     let mut stream = StreamedKomihash::new();
+    // Each loop must be proved to end, as a `for` over a range does.
     for _ in 0..u64::MAX {
         let count = reader.read(chunk)?;
         if count == 0 {

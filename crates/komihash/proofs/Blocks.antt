@@ -2,7 +2,7 @@
 use Rattle.std.proofs.Common.{◌≡◌, ℕ, ◌+◌, ◌-◌, ◌*◌, ◌/◌, ◌%◌, ◌<◌, ◌≤◌, List, [], ◌∷◌, ◌++◌}
 use Rattle.std.proofs.Common.{length, take, drop, refl, ap, arith, ◌∙◌, sym}
 use Rattle.std.proofs.lemmas.List.{length-drop, length-take-le, take-append-drop, drop-drop}
-use Rattle.std.proofs.lemmas.List.{drop_at}
+use Rattle.std.proofs.lemmas.List.{drop_at, append_assoc, length-append}
 use Rattle.komihash.specs.Rounds.{Lanes, block_round}
 use Rattle.komihash.specs.Internals.{whole_words, after_words, block_lanes, after_blocks}
 use Rattle.komihash.proofs.WholeWords.{whole_words-append, length-whole_words}
@@ -14,21 +14,6 @@ block_lanes-round : (v : ℕ) (l : Lanes) (ws us : List ℕ) → length ws ≡ 8
     → block_lanes v l (ws ++ us) ≡ block_lanes v (block_round v l ws) us
 block_lanes-round v l (w0 ∷ w1 ∷ w2 ∷ w3 ∷ w4 ∷ w5 ∷ w6 ∷ w7 ∷ []) us e = refl
 block_lanes-round v l ws us e = absurd (omega arith)
-
--- a block of bytes, and more bytes after it
-pub block_lanes-bytes : (v : ℕ) (l : Lanes) (xs ys : List ℕ) → length xs ≡ 64
-    → block_lanes v l (whole_words (xs ++ ys))
-    ≡ block_lanes v (block_round v l (whole_words xs)) (whole_words ys)
-block_lanes-bytes v l xs ys e =
-    rw (whole_words-append xs ys 8 e)
-    (block_lanes-round v l (whole_words xs) (whole_words ys) (omega (arith, length-whole_words xs)))
-
-pub block_lanes_more : (v : ℕ) (l : Lanes) (xs : List ℕ) → 64 ≤ length xs
-    → block_lanes v l (whole_words xs)
-    ≡ block_lanes v (block_round v l (whole_words (take 64 xs))) (whole_words (drop 64 xs))
-block_lanes_more v l xs le =
-    ap (λ ys. block_lanes v l (whole_words ys)) (sym (take-append-drop 64 xs))
-    ∙ block_lanes-bytes v l (take 64 xs) (drop 64 xs) (length-take-le 64 xs le)
 
 block_lanes-few_words : (v : ℕ) (l : Lanes) (ws : List ℕ) → length ws < 8 → block_lanes v l ws ≡ l
 block_lanes-few_words v l (w0 ∷ w1 ∷ w2 ∷ w3 ∷ w4 ∷ w5 ∷ w6 ∷ w7 ∷ ws) lt = absurd (omega arith)
@@ -53,6 +38,38 @@ after_blocks_more xs le =
 
 pub length-after_blocks : (m : List ℕ) → length (after_blocks m) ≡ length m % 64
 length-after_blocks m = omega (arith, length-drop (length m - length m % 64) m)
+
+-- ---- both, from after the first block on
+
+-- from lanes l, the bytes `rest` lead where xs and then `bytes` lead from the lanes `before`
+pub record SameBlocks (v : ℕ) (before : Lanes) (xs bytes : List ℕ) (l : Lanes) (rest : List ℕ)
+    : Type 0 where
+  pub lanes : block_lanes v before (whole_words (xs ++ bytes)) ≡ block_lanes v l (whole_words rest)
+  pub left : after_blocks (xs ++ bytes) ≡ after_blocks rest
+
+-- k bytes complete the block of those before them
+pub completed : (v : ℕ) (l : Lanes) (xs bytes : List ℕ) (k : ℕ) → length xs + k ≡ 64
+    → k ≤ length bytes
+    → SameBlocks v l xs bytes (block_round v l (whole_words (xs ++ take k bytes))) (drop k bytes)
+completed v l xs bytes k full enough =
+    let block = xs ++ take k bytes in
+    let rest = drop k bytes in
+    let size : length block ≡ 64 =
+    omega (arith, length-append xs (take k bytes), length-take-le k bytes enough) in
+    let cut : xs ++ bytes ≡ block ++ rest = rw (append_assoc, take-append-drop) refl in
+    record {
+      lanes = rw (cut, whole_words-append block rest 8 size)
+          (block_lanes-round v l (whole_words block) (whole_words rest)
+          (omega (arith, length-whole_words block)));
+      left = rw cut (after_blocks_more (block ++ rest) (omega (arith, length-append block rest))
+          ∙ ap after_blocks (drop_at block rest 64 size));
+    }
+
+-- the same of the first block of a message
+pub block_lanes_more : (v : ℕ) (l : Lanes) (xs : List ℕ) → 64 ≤ length xs
+    → block_lanes v l (whole_words xs)
+    ≡ block_lanes v (block_round v l (whole_words (take 64 xs))) (whole_words (drop 64 xs))
+block_lanes_more v l xs le = (completed v l [] xs 64 refl le).lanes
 
 -- ---- the words after them, and the bytes after their last word
 

@@ -1,19 +1,22 @@
--- Calls on a stream, and then others: what they answer, absorb and cost together.
+-- Lists of calls on a stream: how many bytes are pending after a write, what calls answer, the
+-- bytes and the costs of calls, and what the first call of a list leaves to the others.
 use Rattle.std.proofs.Common.{◌≡◌, ℕ, ◌+◌, ◌%◌, ◌<◌, List, [], ◌∷◌, ◌++◌, length, refl, ap, arith}
-use Rattle.std.proofs.Common.{sym, inl, inr}
+use Rattle.std.proofs.Common.{sym, inl, inr, ◌∙◌}
 use Rattle.std.proofs.lemmas.List.{append_assoc, append-nil, length-append}
 use Rattle.std.proofs.lemmas.Bool.{cases_lt}
 use Rattle.komihash.specs.Calls.{answers_after, onward, bytes_of_calls, AreAbsorbs, run_products}
 use Rattle.komihash.specs.Calls.{products_of_answers, onward_products, onward_kept_bytes}
-use Rattle.komihash.specs.Counts.{hash_products}
+use Rattle.komihash.specs.Counts.{answer_products, hash_products}
 use Rattle.komihash.specs.Hash.{komi}
 use Rattle.komihash.specs.Stream.{State, HasAbsorbed, start, absorb, answer}
 use Rattle.komihash.specs.declared.stream.Call.{Call}
 use Rattle.komihash.specs.declared.stream.Call.TheVariants.{Absorb, Answer}
 use Rattle.komihash.proofs.Blocks.{length-after_blocks}
-use Rattle.komihash.proofs.Streams.{absorb-append, absorb-few, absorb-blocks, answer-joined}
+use Rattle.komihash.proofs.Streams.{absorb-append, absorb-nothing, absorb-few, absorb-blocks}
+use Rattle.komihash.proofs.Streams.{answer-joined}
 
--- how many bytes are pending
+-- ---- how many bytes are pending
+
 pub pending-absorb : (v : ℕ) (s : State) (bytes : List ℕ) → length s.pending < 64
     → length (absorb v s bytes).pending ≡ (length s.pending + length bytes) % 64
 pending-absorb v s bytes few =
@@ -24,7 +27,7 @@ pending-absorb v s bytes few =
       | inr le ↦ rw (absorb-blocks v s bytes few le) (omega arith)
     ]
 
--- how many bytes are pending after a message
+-- after a message
 pub HasAbsorbed-pending : (v seed : ℕ) (s : State) (m : List ℕ) → HasAbsorbed v seed s m
     → length s.pending ≡ length m % 64
 unfolding HasAbsorbed
@@ -32,30 +35,31 @@ HasAbsorbed-pending v seed s m is =
     let pending = pending-absorb v (start seed) m (omega arith) in
     rw is (omega arith)
 
--- the later calls have the answers of g, if f agrees with g on all that may come after the first
-answers_after-then : (f g : List ℕ → ℕ) (m n : List ℕ) (xs ys : List Call)
-    → ((x : List ℕ) → f (m ++ (bytes_of_calls xs ++ x)) ≡ g (n ++ x))
-    → answers_after f m (xs ++ ys) ≡ answers_after f m xs ++ answers_after g n ys
-answers_after-then f g m n [] [] same = refl
-answers_after-then f g m n [] (Absorb bytes ∷ ys) same =
-    answers_after-then f g (m ++ bytes.now) (n ++ bytes.now) [] ys
-    (λ x. simp append_assoc (same (bytes.now ++ x)))
-answers_after-then f g m n [] (Answer ∷ ys) same =
-    let here = simp append-nil at (same []) in
-    let rest = answers_after-then f g m n [] ys same in
-    cc
-answers_after-then f g m n (Absorb bytes ∷ xs) ys same =
-    answers_after-then f g (m ++ bytes.now) n xs ys
-    (λ x. simp append_assoc (simp append_assoc at (same x)))
-answers_after-then f g m n (Answer ∷ xs) ys same =
-    ap (λ rest. f m ∷ rest) (answers_after-then f g m n xs ys same)
+-- what the proof of `absorb_costs` of `src/tests/tally.rt` needs
+pub ruleset costs = (pending-absorb)
 
--- the answers of calls, and then those of others after the bytes of the first
+-- ---- answers
+
+-- the answers after m and after n are equal if f and g agree on all messages that begin with these
+answers_after-same : (f g : List ℕ → ℕ) (m n : List ℕ) (calls : List Call)
+    → ((x : List ℕ) → f (m ++ x) ≡ g (n ++ x)) → answers_after f m calls ≡ answers_after g n calls
+answers_after-same f g m n [] same = refl
+answers_after-same f g m n (Absorb bytes ∷ calls) same =
+    answers_after-same f g (m ++ bytes.now) (n ++ bytes.now) calls
+    (λ x. simp append_assoc (same (bytes.now ++ x)))
+answers_after-same f g m n (Answer ∷ calls) same =
+    let here = simp append-nil at (same []) in
+    let rest = answers_after-same f g m n calls same in
+    cc
+
 pub answers_after-append : (f : List ℕ → ℕ) (m : List ℕ) (xs ys : List Call)
     → answers_after f m (xs ++ ys)
     ≡ answers_after f m xs ++ answers_after f (m ++ bytes_of_calls xs) ys
-answers_after-append f m xs ys =
-    answers_after-then f f m (m ++ bytes_of_calls xs) xs ys (λ x. rw append_assoc refl)
+answers_after-append f m [] ys = rw append-nil refl
+answers_after-append f m (Absorb bytes ∷ xs) ys =
+    simp append_assoc at (answers_after-append f (m ++ bytes.now) xs ys)
+answers_after-append f m (Answer ∷ xs) ys =
+    ap (λ rest. f m ∷ rest) (answers_after-append f m xs ys)
 
 -- the answers of a stream that absorbed a message are hashes
 pub onward-message : (v seed : ℕ) (s : State) (m : List ℕ) (calls : List Call)
@@ -63,7 +67,7 @@ pub onward-message : (v seed : ℕ) (s : State) (m : List ℕ) (calls : List Cal
     → onward v s calls ≡ answers_after (komi v seed) m calls
 unfolding HasAbsorbed
 onward-message v seed s m calls is =
-    answers_after-then (λ x. answer v (absorb v s x)) (komi v seed) [] m [] calls
+    answers_after-same (λ x. answer v (absorb v s x)) (komi v seed) [] m calls
     (λ x. rw (is, sym (absorb-append v (start seed) m x)) (answer-joined v seed (m ++ x)))
 
 -- ---- bytes and costs
@@ -76,66 +80,66 @@ bytes_of_calls-append (Absorb bytes ∷ xs) ys =
 bytes_of_calls-append (Answer ∷ xs) ys = bytes_of_calls-append xs ys
 
 -- costs depend only on how many bytes came before, modulo 64
-costs-then : (p q : ℕ) (xs ys : List Call) → q % 64 ≡ (p + length (bytes_of_calls xs)) % 64
-    → (products_of_answers p (xs ++ ys) ≡ products_of_answers p xs + products_of_answers q ys)
-    × (onward_kept_bytes p (xs ++ ys) ≡ onward_kept_bytes p xs + onward_kept_bytes q ys)
-costs-then p q [] [] e = (refl, refl)
-costs-then p q [] (Absorb bytes ∷ ys) e =
-    let same : q % 64 ≡ p % 64 = omega arith in
-    let rest = costs-then (p + length bytes.now) (q + length bytes.now) [] ys (omega arith) in
+costs-modulo : (p q : ℕ) (calls : List Call) → p % 64 ≡ q % 64
+    → (products_of_answers p calls ≡ products_of_answers q calls)
+    × (onward_kept_bytes p calls ≡ onward_kept_bytes q calls)
+costs-modulo p q [] same = (refl, refl)
+costs-modulo p q (Absorb bytes ∷ calls) same =
+    let rest = costs-modulo (p + length bytes.now) (q + length bytes.now) calls (omega arith) in
     (rest.0, rw same (omega arith))
-costs-then p q [] (Answer ∷ ys) e =
-    let same : q % 64 ≡ p % 64 = omega arith in
-    let rest = costs-then p q [] ys e in
-    (rw same (omega arith), rest.1)
-costs-then p q (Absorb bytes ∷ xs) ys e =
-    let size = length-append bytes.now (bytes_of_calls xs) in
-    let rest = costs-then (p + length bytes.now) q xs ys (omega arith) in
-    (rest.0, omega arith)
-costs-then p q (Answer ∷ xs) ys e = let rest = costs-then p q xs ys e in (omega arith, rest.1)
+costs-modulo p q (Answer ∷ calls) same =
+    let rest = costs-modulo p q calls same in (rw same (omega arith), rest.1)
 
-onward_products-then : (p q : ℕ) (xs ys : List Call) → q ≡ (p + length (bytes_of_calls xs)) % 64
-    → onward_products p (xs ++ ys) ≡ onward_products p xs + onward_products q ys
-onward_products-then p q xs ys is =
-    let bytes = ap length (bytes_of_calls-append xs ys) in
-    let size = length-append (bytes_of_calls xs) (bytes_of_calls ys) in
-    omega (arith, (costs-then p q xs ys (omega arith)).0)
+-- the products of pieces and one answer at their end are those of the hash of their bytes
+products_of_answers-pieces : (n : ℕ) (pieces : List Call) → AreAbsorbs pieces
+    → products_of_answers n (pieces ++ Answer ∷ [])
+    ≡ answer_products ((n + length (bytes_of_calls pieces)) % 64)
+products_of_answers-pieces n [] only = omega arith
+products_of_answers-pieces n (Absorb bytes ∷ pieces) only =
+    let size = length-append bytes.now (bytes_of_calls pieces) in
+    omega (arith, products_of_answers-pieces (n + length bytes.now) pieces only)
+products_of_answers-pieces n (Answer ∷ pieces) only = absurd only
 
-products_of_answers-none : (n : ℕ) (pieces : List Call) → AreAbsorbs pieces
-    → products_of_answers n pieces ≡ 0
-products_of_answers-none n [] only = refl
-products_of_answers-none n (Absorb bytes ∷ pieces) only =
-    products_of_answers-none (n + length bytes.now) pieces only
-products_of_answers-none n (Answer ∷ pieces) only = absurd only
-
--- pieces, and one answer at their end
 pub run_products-pieces : (pieces : List Call) → AreAbsorbs pieces
     → run_products (pieces ++ Answer ∷ []) ≡ hash_products (length (bytes_of_calls pieces))
 run_products-pieces pieces only =
-    let rest = length (bytes_of_calls pieces) % 64 in
-    let all = onward_products-then 0 rest pieces (Answer ∷ []) (omega arith) in
-    omega (arith, products_of_answers-none 0 pieces only)
+    let bytes = bytes_of_calls-append pieces (Answer ∷ []) ∙ append-nil _ in
+    rw bytes (omega (arith, products_of_answers-pieces 0 pieces only))
 
--- calls on a stream, and then others on the stream that they leave
-pub record GoesOn (v : ℕ) (first now : State) (xs ys : List Call) : Type 0 where
-  pub answers : onward v first (xs ++ ys) ≡ onward v first xs ++ onward v now ys
-  pub state : absorb v first (bytes_of_calls (xs ++ ys)) ≡ absorb v now (bytes_of_calls ys)
-  pub products : onward_products (length first.pending) (xs ++ ys)
-      ≡ onward_products (length first.pending) xs + onward_products (length now.pending) ys
-  pub kept_bytes : onward_kept_bytes (length first.pending) (xs ++ ys)
-      ≡ onward_kept_bytes (length first.pending) xs + onward_kept_bytes (length now.pending) ys
+-- ---- the first of several calls
 
-pub goes_on : (v : ℕ) (first now : State) (xs ys : List Call) → length first.pending < 64
-    → now ≡ absorb v first (bytes_of_calls xs) → GoesOn v first now xs ys
-goes_on v first now xs ys few is =
-    let bytes = bytes_of_calls xs in
-    let pending : length now.pending ≡ (length first.pending + length bytes) % 64 =
-    rw is (pending-absorb v first bytes few) in
+-- the first call leads from the state s to the state `next`, from which the others go on
+pub record CallFirst (v : ℕ) (s next : State) (call : Call) (calls : List Call) : Type 0 where
+  pub answers : onward v s (call ∷ calls) ≡ onward v s (call ∷ []) ++ onward v next calls
+  pub state : absorb v s (bytes_of_calls (call ∷ calls)) ≡ absorb v next (bytes_of_calls calls)
+  pub products : onward_products (length s.pending) (call ∷ calls)
+      ≡ onward_products (length s.pending) (call ∷ []) + onward_products (length next.pending) calls
+  pub kept_bytes : onward_kept_bytes (length s.pending) (call ∷ calls)
+      ≡ onward_kept_bytes (length s.pending) (call ∷ [])
+      + onward_kept_bytes (length next.pending) calls
+
+pub call_first : (v : ℕ) (s next : State) (call : Call) (calls : List Call)
+    → length s.pending < 64 → next ≡ absorb v s (bytes_of_calls (call ∷ []))
+    → CallFirst v s next call calls
+call_first v s next (Absorb bytes) calls few is =
+    let bytes_alone = append-nil bytes.now in
+    let pending : length next.pending ≡ (length s.pending + length bytes.now) % 64 =
+    rw (is, bytes_alone) (pending-absorb v s bytes.now few) in
+    let size = length-append bytes.now (bytes_of_calls calls) in
+    let rest = costs-modulo (length s.pending + length bytes.now) (length next.pending) calls
+    (omega arith) in
     record {
-      answers = answers_after-then (λ m. answer v (absorb v first m))
-          (λ m. answer v (absorb v now m))
-          [] [] xs ys (λ m. rw is (ap (answer v) (absorb-append v first bytes m)));
-      state = rw (is, bytes_of_calls-append) (absorb-append v first bytes (bytes_of_calls ys));
-      products = onward_products-then (length first.pending) (length now.pending) xs ys pending;
-      kept_bytes = (costs-then (length first.pending) (length now.pending) xs ys (omega arith)).1;
+      answers = answers_after-same (λ m. answer v (absorb v s m)) _ bytes.now [] calls
+          (λ x. rw (is, bytes_alone) (ap (answer v) (absorb-append v s bytes.now x)));
+      state = rw (is, bytes_alone) (absorb-append v s bytes.now (bytes_of_calls calls));
+      products = rw bytes_alone (omega arith);
+      kept_bytes = omega arith;
+    }
+call_first v s next Answer calls few is =
+    let same : next ≡ s = is ∙ absorb-nothing v s in
+    rw same record {
+      answers = refl;
+      state = refl;
+      products = omega arith;
+      kept_bytes = omega arith;
     }

@@ -1,9 +1,12 @@
--- What the generator's outputs fill a buffer with: their bytes, one output after the other.
-use Rattle.std.proofs.Common.{◌≡◌, ℕ, zero, suc, ◌+◌, ◌*◌, ◌%◌, ◌<◌, ◌∷◌, ◌++◌, length}
-use Rattle.std.proofs.Common.{get_or, refl, ap, arith, ◌∙◌, sym, zero-add, suc-add}
+-- The generator: its steps in two parts, each of its outputs, and the bytes of outputs that fill a
+-- buffer, in two parts and output by output.
+use Rattle.std.proofs.Common.{◌≡◌, ℕ, zero, suc, ◌+◌, ◌-◌, ◌*◌, ◌%◌, ◌<◌, ◌≤◌, List, ◌∷◌, ◌++◌}
+use Rattle.std.proofs.Common.{length, take, refl, ap, arith, ◌∙◌, zero-add, suc-add}
 use Rattle.std.proofs.lemmas.List.{length-take-le, take_all}
 use Rattle.std.proofs.lemmas.List.Concat.{flat_map-append}
 use Rattle.std.proofs.Math.Seq.{take-append-add}
+use Rattle.std.proofs.lemmas.Slice.{take-put_mid}
+use borrow.Rule.Slice.PartMut.{put_mid}
 use Rattle.std.specs.Int.{to_le_bytes, w64}
 use Rattle.std.specs.List.{flat_map}
 use Rattle.std.specs.Prelude.{slice_index}
@@ -81,12 +84,16 @@ fill-add v x y s whole =
 
 -- ---- a buffer that is filled output by output
 
--- one more output, and the pair after it
-pub next_is : (v all n : ℕ) (s : ℕ × ℕ) {pair after : ℕ × ℕ} {w : ℕ} → pair ≡ after_steps v n s
-    → n < all → w ≡ (next v pair).0 → after ≡ next v pair
-    → (w ≡ get_or (outputs v all s) n 0) × (after ≡ after_steps v (n + 1) s)
-unfolding after_steps
-next_is v all n s is lt output step = (
-  output ∙ ap (λ p. (next v p).0) is ∙ sym (output-at v all n s lt),
-  step ∙ ap (next v) is ∙ sym (after_steps-add v n 1 s),
-)
+-- k bytes of the next output are put after the first `at` bytes, and end at n
+pub fill_more : (v at k n : ℕ) (s now : ℕ × ℕ) (out new : List ℕ) → at % 8 ≡ 0 → 0 < k → k ≤ 8
+    → at + k ≡ n → n ≤ length out → now ≡ after_fill v s at → take at out ≡ fill v s at
+    → new ≡ take k (to_le_bytes w64 (next v now).0)
+    → (take n (put_mid at (n - at) out new) ≡ fill v s n) × (next v now ≡ after_fill v s n)
+unfolding outputs after_steps
+fill_more v at k n s now out new whole some most end room is so_far bytes =
+    let one : fill_steps k ≡ 1 = omega arith in
+    let size = ap length bytes ∙ length-take-le k (to_le_bytes w64 (next v now).0) most in (
+      take-put_mid at (n - at) out new n (omega arith) (omega arith)
+          ∙ rw (← end, fill-add v at k s whole, ← is, one, so_far, bytes) refl,
+      rw (← end, after_fill-add v at k s whole, ← is, one) refl,
+    )

@@ -1,10 +1,11 @@
--- The hash of a message, in a form for each path of the code.
+-- The hash of a message: what its rounds make of the words, then its hash by its length, in a form
+-- for each path of `src/hash.rt`.
 use Rattle.std.proofs.Common.{◌≡◌, ℕ, zero, suc, ◌+◌, ◌*◌, ◌/◌, ◌%◌, ◌<◌, ◌≤◌, Bool, true, false}
 use Rattle.std.proofs.Common.{List, [], ◌∷◌, ◌++◌, length, take, drop, refl, arith, ◌∙◌, sym}
 use native.Mathlib.Numerals.{unary_clauses}
 use Rattle.std.proofs.lemmas.List.{drop-drop}
 use Rattle.std.proofs.lemmas.Bool.{eqb-true}
-use Rattle.std.specs.Prelude.{slice_index, ◌==◌}
+use Rattle.std.specs.Prelude.{slice_index}
 use Rattle.komihash.specs.Rounds.{Lanes, lanes, seed_pair, block_round, pair_round, join, closing}
 use Rattle.komihash.specs.Hash.{hash_from_pair, hash_from_lanes, komi}
 use Rattle.komihash.specs.Internals.{stored_words, whole_words, after_words, final_word}
@@ -119,14 +120,13 @@ komi_blocks v seed m le lt =
     let none = whole_words-few (after_blocks m) (omega (arith, length-after_blocks m)) in
     rw (komi_long v seed m le, none) refl
 
-pub komi_empty : (v seed : ℕ) (m : List ℕ) (empty : Bool) → empty ≡ (length m == 0)
-    → empty ≡ true
+pub komi_empty : (v seed : ℕ) (m : List ℕ) → length m ≡ 0
     → komi v seed m ≡ closing (seed_pair seed) (0 ∷ [])
 unfolding komi
-komi_empty v seed [] empty is so = refl
-komi_empty v seed (b ∷ m) empty is so =
-    absurd (omega (arith, eqb-true (length (b ∷ m)) 0 (sym is ∙ so)))
+komi_empty v seed [] none = refl
+komi_empty v seed (b ∷ m) none = absurd (omega arith)
 
+-- what the proofs of `src/hash.rt` need
 pub ruleset hash_laws = (
   komi_empty,
   komi_partial_word,
@@ -136,4 +136,5 @@ pub ruleset hash_laws = (
   komi_long,
   komi_blocks,
   length-whole_words,
+  eqb-true,
 )

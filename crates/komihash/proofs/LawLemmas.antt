@@ -8,7 +8,8 @@ use Rattle.komihash.proofs.GeneratorFills.{length-outputs, output-at, fill-whole
 use Rattle.komihash.proofs.Unpadding.{same_message}
 use Rattle.komihash.proofs.SavedTexts.{same_version, same_state, IsTextAfter-most}
 use Rattle.komihash.proofs.Streams.{absorb-append, absorb-nothing, answer-joined}
-use Rattle.komihash.proofs.Streams.{same_state_after, same_text_after, komi-lt}
+use Rattle.komihash.proofs.Streams.{same_state_after, same_text_after}
+use Rattle.komihash.proofs.HashWords.{komi-lt}
 
 pub ruleset of_hashes = (komi-lt, fold-append)
 

@@ -3,6 +3,7 @@ mod Blocks
 mod CallLists
 mod GeneratorFills
 mod HashPaths
+mod HashWords
 pub mod LawLemmas
 mod Lists
 mod PaddedWords

@@ -1,16 +1,16 @@
--- The saved text: its state can be read back from it, and which bytes are a text.
-use Rattle.std.proofs.Common.{◌≡◌, ℕ, ◌+◌, ◌-◌, ◌/◌, ◌≤◌, ◌↔◌, Bool, List, []}
+-- Saved texts: how their parts are put together, how the state is read back from one, which bytes
+-- are one, and what the calls that save and resume say.
+use Rattle.std.proofs.Common.{◌≡◌, ℕ, ◌+◌, ◌-◌, ◌/◌, ◌≤◌, ◌↔◌, List, []}
 use Rattle.std.proofs.Common.{◌∷◌, ◌++◌, length, take, drop, get_or, refl, ap, arith, ◌∙◌, sym}
-use Rattle.std.proofs.Common.{subst, Fits, w8, Some, None, rules}
-use Rattle.std.proofs.lemmas.Bool.{false≢true}
+use Rattle.std.proofs.Common.{subst, Fits, w8, Some}
 use Rattle.std.proofs.lemmas.Bool.Decides.{nat_tests}
-use Rattle.std.proofs.lemmas.List.{length-take, length-drop, length-take-le}
-use Rattle.std.proofs.lemmas.List.{take-append-drop, take_at, drop_at, take_all}
+use Rattle.std.proofs.lemmas.List.{length-drop, length-take-le}
+use Rattle.std.proofs.lemmas.List.{drop-drop, take-append-drop, take_at, drop_at, take_all}
 use Rattle.std.proofs.lemmas.Slice.{take-put_mid, drop-put_mid}
 use borrow.Rule.Slice.PartMut.{put_mid}
 use Rattle.std.specs.Prelude.{slice_index, ◌==◌}
 use Rattle.komihash.specs.Rounds.{Lanes, in_order}
-use Rattle.komihash.specs.Saved.{lanes_at, pending_at, longest_text, flag_byte, text}
+use Rattle.komihash.specs.Saved.{lanes_at, pending_at, longest_text, text}
 use Rattle.komihash.specs.Saved.{IsText, IsTextAfter, Restored}
 use Rattle.komihash.specs.Stream.{State, IsState, HasAbsorbed}
 use Rattle.komihash.specs.Internals.{IsHead, stored_words, whole_words}
@@ -29,11 +29,8 @@ pub part-put : (a n : ℕ) (out part bytes : List ℕ) → a ≤ n → n ≤ len
     → (take n (put_mid a (n - a) out part) ≡ take a out ++ bytes)
     × ((m : ℕ) → n ≤ m → drop m (put_mid a (n - a) out part) ≡ drop m out)
 part-put a n out part bytes le within room is =
-    let size = room ∙ length-take-le (n - a) (drop a out) (omega (arith, length-drop a out)) in (
-      take-put_mid a (n - a) out part n (omega (arith, size)) (omega arith)
-          ∙ ap (λ xs. take a out ++ xs) (sym (take_all (n - a) part (omega arith)) ∙ is),
-      λ m after. drop-put_mid a (n - a) out part m (omega arith) (omega arith) size,
-    )
+    let size = room ∙ length-take-le (n - a) (drop a out) (omega (arith, length-drop a out)) in
+    grind (arith, take-put_mid, drop-put_mid, take_all)
 
 -- ---- a text, and the state that is read from it
 
@@ -50,6 +47,7 @@ lanes_from ws = record {
   s8 = slice_index ws 7;
 }
 
+-- the state that is read from a text
 abbrev pub state_of : List ℕ → State
 state_of bytes = record {
   lanes = lanes_from (whole_words (take 64 (drop lanes_at bytes)));
@@ -58,9 +56,7 @@ state_of bytes = record {
   top_bit = slice_index bytes 2 == 1;
 }
 
-flag_byte-back : (flag : Bool) → (flag_byte flag == 1) ≡ flag
-flag_byte-back flag = grind (arith, nat_tests)
-
+-- the text of a state gives it back
 state_of-text : (v : ℕ) (s : State) → AreWords (in_order s.lanes) → state_of (text v s) ≡ s
 unfolding text
 state_of-text v s are =
@@ -69,13 +65,7 @@ state_of-text v s are =
     let words : whole_words lanes ≡ in_order s.lanes =
     ap (λ n. stored_words (n / 8) lanes) size
     ∙ stored_words-all_bytes (in_order s.lanes) are in
-    rw (
-      take_at lanes s.pending 64 size,
-      drop_at lanes s.pending 64 size,
-      words,
-      flag_byte-back s.had_block,
-      flag_byte-back s.top_bit,
-    )
+    grind (arith, nat_tests, take_at lanes s.pending 64 size, drop_at lanes s.pending 64 size)
 
 pub length-text : (v : ℕ) (s : State) → length (text v s) ≡ pending_at + length s.pending
 unfolding text
@@ -99,6 +89,7 @@ module _ (v w : ℕ) (s t : State) (same : text v s ≡ text w t) where
 
 -- ---- which bytes are a text
 
+-- eight words give lanes with these words
 pub in_order-back : (ws : List ℕ) → length ws ≡ 8 → in_order (lanes_from ws) ≡ ws
 in_order-back (a ∷ b ∷ c ∷ d ∷ e ∷ f ∷ g ∷ h ∷ []) eight = refl
 in_order-back ws eight = absurd (omega arith)
@@ -111,41 +102,47 @@ pub record IsLaidOut (v : ℕ) (bytes : List ℕ) : Type 0 where
   pub head : IsHead v bytes
   pub size : length bytes ≡ pending_at + slice_index bytes 3
 
-laid_out-text : (v : ℕ) (bytes : List ℕ) → AreBytes bytes → IsLaidOut v bytes
-    → text v (state_of bytes) ≡ bytes
-unfolding text
-laid_out-text v (b0 ∷ b1 ∷ b2 ∷ b3 ∷ rest) are laid =
-    let size : length (take 64 rest) ≡ 64 = length-take-le 64 rest (omega (arith, laid.size)) in
-    let words = in_order-back (whole_words (take 64 rest))
-    (length-whole_words (take 64 rest) ∙ omega arith) in
-    let lanes =
-    all_bytes-whole_words (take 64 rest)
-    (AreBytes-take 64 rest (AreBytes-drop lanes_at (b0 ∷ b1 ∷ b2 ∷ b3 ∷ rest) are)) (omega arith) in
-    let version : v ≡ b0 = sym laid.head.version in
-    let had_block : flag_byte (b1 == 1) ≡ b1 = grind (arith, nat_tests, laid.head.had_block) in
-    let top_bit : flag_byte (b2 == 1) ≡ b2 =
-    grind (arith, nat_tests, laid.head.top_bit, laid.head.had_block) in
-    let pending : length (drop 64 rest) ≡ b3 = omega (arith, laid.size, length-drop 64 rest) in
-    cc (take-append-drop 64 rest)
-laid_out-text v bytes are laid = absurd (omega (arith, laid.size))
+-- the first four items of a list
+four : (xs : List ℕ) → 4 ≤ length xs → xs
+    ≡ slice_index xs 0 ∷ slice_index xs 1 ∷ slice_index xs 2 ∷ slice_index xs 3 ∷ drop 4 xs
+four (a ∷ b ∷ c ∷ d ∷ xs) le = refl
+four xs le = absurd (omega arith)
 
-laid_out-state : (v : ℕ) (bytes : List ℕ) → AreBytes bytes → IsLaidOut v bytes
-    → IsState v (state_of bytes)
-laid_out-state v bytes are laid =
-    let lanes = take 64 (drop lanes_at bytes) in
-    let are_lanes = AreBytes-take 64 (drop lanes_at bytes) (AreBytes-drop lanes_at bytes are) in
-    let size = length-take 64 (drop lanes_at bytes) in
-    let eight : length (whole_words lanes) ≡ 8 =
-    length-whole_words lanes ∙ omega (arith, laid.size, length-drop lanes_at bytes) in
-    record {
-      words = subst AreWords (sym (in_order-back (whole_words lanes) eight))
-          (AreWords-stored_words (length lanes / 8) lanes are_lanes);
-      bytes = AreBytes-drop pending_at bytes are;
-      few = omega (arith, laid.size, laid.head.few, length-drop pending_at bytes);
-      top_bit_block = grind (arith, nat_tests);
-      top_bit_version = grind (arith, nat_tests);
-    }
+-- bytes that are laid out so are the text of the state that is read from them
+module _ (v : ℕ) (bytes : List ℕ) (are : AreBytes bytes) (laid : IsLaidOut v bytes) where
+  abbrev lanes : List ℕ
+  lanes = take 64 (drop lanes_at bytes)
 
+  length-lanes : length lanes ≡ 64
+  length-lanes =
+      length-take-le 64 (drop lanes_at bytes) (omega (arith, laid.size, length-drop lanes_at bytes))
+
+  AreBytes-lanes : AreBytes lanes
+  AreBytes-lanes = AreBytes-take 64 (drop lanes_at bytes) (AreBytes-drop lanes_at bytes are)
+
+  lanes-back : in_order (lanes_from (whole_words lanes)) ≡ whole_words lanes
+  lanes-back =
+      in_order-back (whole_words lanes) (omega (arith, length-whole_words lanes, length-lanes))
+
+  laid_out-text : text v (state_of bytes) ≡ bytes
+  unfolding text
+  laid_out-text =
+      let words = all_bytes-whole_words lanes AreBytes-lanes (omega (arith, length-lanes)) in
+      let first = four bytes (omega (arith, laid.size)) in
+      let whole = take-append-drop 64 (drop lanes_at bytes) in
+      grind (arith, nat_tests, laid.head, laid.size, lanes-back, drop-drop, length-drop {A = ℕ})
+
+  laid_out-state : IsState v (state_of bytes)
+  laid_out-state = record {
+    words = subst AreWords (sym lanes-back)
+        (AreWords-stored_words (length lanes / 8) lanes AreBytes-lanes);
+    bytes = AreBytes-drop pending_at bytes are;
+    few = omega (arith, laid.size, laid.head.few, length-drop pending_at bytes);
+    top_bit_block = grind (arith, nat_tests, laid.head);
+    top_bit_version = grind (arith, nat_tests, laid.head);
+  }
+
+-- and the text of a state is laid out so
 text-laid_out : (v : ℕ) (s : State) → IsState v s → IsLaidOut v (text v s)
 unfolding text
 text-laid_out v s is =
@@ -161,30 +158,26 @@ IsLaidOut-text v bytes typed =
 
 -- ---- what the calls say
 
--- lanes read from a text
-pub read_state : (bytes : List ℕ) (lanes : Lanes)
-    → in_order lanes ≡ whole_words (take 64 (drop lanes_at bytes))
-    → record (state_of bytes) { lanes = lanes } ≡ state_of bytes
-read_state bytes lanes read = ap (λ ws. record (state_of bytes) { lanes = lanes_from ws }) read
-
-pub restored : (v : ℕ) (bytes : List ℕ) (now : State) → IsText v bytes → now ≡ state_of bytes
+-- a state whose parts are read from a text
+pub restored : (v : ℕ) (bytes : List ℕ) (now : State) → IsText v bytes
+    → in_order now.lanes ≡ whole_words (take 64 (drop lanes_at bytes))
+    → now.pending ≡ drop pending_at bytes → now.had_block ≡ (slice_index bytes 1 == 1)
+    → now.top_bit ≡ (slice_index bytes 2 == 1)
     → IsState v now × Restored v (λ (s : State). s) bytes (Some now)
 unfolding IsTextAfter
-restored v bytes now (s, is, of_s) read =
+restored v bytes now (s, is, of_s) lanes pending had_block top_bit =
+    let read : now ≡ state_of bytes = grind arith in
     let back = λ (t : State) (is : IsState v t) (of : text v t ≡ bytes).
-    read ∙ ap state_of (sym of) ∙ state_of-text v t is.words in (
-      subst (IsState v) (sym (back s is of_s)) is,
-      record {
-        same = back;
-        message = λ seed m (t, is, after, of).
-            subst (λ u. HasAbsorbed v seed u m) (sym (back t is of)) after;
-        most = omega (arith, length-text v s, is.few, ap length of_s);
-        text = ap (text v) (back s is of_s) ∙ of_s;
-        none = ((λ e _. false≢true (sym e)), λ none. absurd (none (s, is, of_s)));
-      },
-    )
+    read ∙ ap state_of (sym of) ∙ state_of-text v t is.words in
+    let same = back s is of_s in
+    let size = length-text v s in
+    (grind (arith, back), grind (arith, back))
 
-pub refused : {A : Type 0} (v : ℕ) (state : A → State) (bytes : List ℕ) → ¬ IsText v bytes
-    → Restored v state bytes None
+-- the text of a stream that has absorbed a message
+pub text-after : (v seed : ℕ) (s : State) (m bytes : List ℕ) → IsState v s → HasAbsorbed v seed s m
+    → text v s ≡ bytes → IsTextAfter v seed m bytes
 unfolding IsTextAfter
-refused v state bytes not = search rules
+text-after v seed s m bytes is after same = (s, is, after, same)
+
+-- what the proof of `store` needs
+pub ruleset stored = (length-text, text-after)

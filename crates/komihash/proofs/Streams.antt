@@ -1,32 +1,29 @@
--- A stream absorbs whole blocks and keeps what is left, its state stays one of its version, and it
--- answers the hash of its message.
-use Rattle.std.proofs.Common.{◌≡◌, ℕ, suc, ◌+◌, ◌-◌, ◌%◌, ◌^◌, ◌<◌, ◌≤◌, Bool, true, false}
-use Rattle.std.proofs.Common.{List, [], ◌∷◌, ◌++◌, length, take, drop, refl, ap, arith, ◌∙◌, sym}
+-- Streams. The definition absorbs byte by byte, and the code in blocks: both lead to one state. It
+-- stays a state of its version, and a new stream that absorbed a message answers its hash.
+use Rattle.std.proofs.Common.{◌≡◌, ℕ, suc, ◌+◌, ◌-◌, ◌%◌, ◌<◌, ◌≤◌, Bool, true, false}
+use Rattle.std.proofs.Common.{List, [], ◌∷◌, ◌++◌, length, drop, refl, ap, arith, ◌∙◌, sym}
 use Rattle.std.proofs.Common.{inl, inr}
 use Rattle.std.proofs.lemmas.Bool.{false≢true, cases_lt}
 use Rattle.std.proofs.lemmas.Bool.Decides.{nat_tests}
-use Rattle.std.proofs.lemmas.List.{append_assoc, append-nil, length-append, length-drop, drop_at}
-use Rattle.std.proofs.lemmas.List.{length-take-le, take-append-drop, get_or-drop}
-use Rattle.std.proofs.lemmas.Nat.{xor_lt}
-use Rattle.std.specs.Prelude.{slice_index, bit_xor}
-use Rattle.komihash.specs.Borrows.{Mut}
-use Rattle.komihash.specs.Hash.{komi, hash_from_pair, hash_from_lanes}
-use Rattle.komihash.specs.Padding.{pads_with_two, padding_byte, padded_words}
-use Rattle.komihash.specs.Rounds.{Lanes, low, plus, mix, seed_pair, lanes, block_round}
-use Rattle.komihash.specs.Rounds.{block_round_by, in_order, join, pair_round, closing}
+use Rattle.std.proofs.lemmas.List.{append_assoc, append-nil, length-append, length-drop}
+use Rattle.std.proofs.lemmas.List.{get_or-drop, drop_all}
+use Rattle.std.specs.Prelude.{slice_index}
+use Rattle.komihash.specs.Hash.{komi, hash_from_pair}
+use Rattle.komihash.specs.Padding.{pads_with_two, padding_after, padding_byte}
+use Rattle.komihash.specs.Rounds.{block_round, join, closing}
 use Rattle.komihash.specs.Saved.{text, IsTextAfter}
 use Rattle.komihash.specs.Internals.{stored_words, whole_words, block_lanes, after_blocks}
 use Rattle.komihash.specs.Internals.{tail_end, final_word, padding_or_zero}
 use Rattle.komihash.specs.Stream.{State, IsState, HasAbsorbed, start, absorb, absorb_byte}
-use Rattle.komihash.specs.Stream.{answer, tail_of, Started, Absorbed, Answered}
-use Rattle.komihash.specs.Words.{AreBytes, AreWords}
-use Rattle.komihash.proofs.Blocks.{block_lanes-bytes, block_lanes-few_bytes, after_blocks_few}
-use Rattle.komihash.proofs.Blocks.{after_blocks_more, length-after_blocks}
-use Rattle.komihash.proofs.Blocks.{after_words-after_blocks}
+use Rattle.komihash.specs.Stream.{answer, tail_of, Answered}
+use Rattle.komihash.specs.Words.{AreBytes}
+use Rattle.komihash.proofs.Blocks.{completed, block_lanes-few_bytes, after_blocks_few}
+use Rattle.komihash.proofs.Blocks.{length-after_blocks, after_words-after_blocks}
 use Rattle.komihash.proofs.HashPaths.{komi_few, komi_long}
+use Rattle.komihash.proofs.HashWords.{AreWords-seed_pair, AreWords-block_lanes}
 use Rattle.komihash.proofs.PaddedWords.{padded_words-by_tail}
 use Rattle.komihash.proofs.WholeWords.{words_of-whole}
-use Rattle.komihash.proofs.WordOf.{AreBytes-append, AreBytes-drop}
+use Rattle.komihash.proofs.WordOf.{AreBytes-append, AreBytes-drop, AreBytes-typed}
 
 -- ---- what is absorbed
 
@@ -76,28 +73,6 @@ absorb-few v s (b ∷ bytes) few =
     absorb-byte v s b bytes (omega arith) ∙ absorb-few v (byte_state s b) bytes (omega arith)
     ∙ rw append_assoc
 
--- from lanes l, the bytes `rest` lead where xs and then `bytes` lead from the lanes `before`
-pub record SameBlocks (v : ℕ) (before : Lanes) (xs bytes : List ℕ) (l : Lanes) (rest : List ℕ)
-    : Type 0 where
-  pub lanes : block_lanes v before (whole_words (xs ++ bytes)) ≡ block_lanes v l (whole_words rest)
-  pub left : after_blocks (xs ++ bytes) ≡ after_blocks rest
-
--- k bytes complete the block of those before them
-pub completed : (v : ℕ) (l : Lanes) (xs bytes : List ℕ) (k : ℕ) → length xs + k ≡ 64
-    → k ≤ length bytes
-    → SameBlocks v l xs bytes (block_round v l (whole_words (xs ++ take k bytes))) (drop k bytes)
-completed v l xs bytes k full enough =
-    let block = xs ++ take k bytes in
-    let rest = drop k bytes in
-    let size : length block ≡ 64 =
-    omega (arith, length-append xs (take k bytes), length-take-le k bytes enough) in
-    let cut : xs ++ bytes ≡ block ++ rest = rw (append_assoc, take-append-drop) refl in
-    record {
-      lanes = rw cut (block_lanes-bytes v l block rest size);
-      left = rw cut (after_blocks_more (block ++ rest) (omega (arith, length-append block rest))
-          ∙ ap after_blocks (drop_at block rest 64 size));
-    }
-
 -- the index, in n bytes that follow f pending ones, of the last byte of the last block
 abbrev last_at : ℕ → ℕ → ℕ
 last_at f n = n - (f + n) % 64 - 1
@@ -141,63 +116,34 @@ absorb-blocks v s (b ∷ bytes) few le =
           ]
     ]
 
--- the state after a write that completes a block, from what is left after that block
-pub after_absorb : (v : ℕ) (s : State) (bytes : List ℕ) (l : Lanes) (rest : List ℕ)
-    → length s.pending < 64 → 64 ≤ length s.pending + length bytes
-    → SameBlocks v s.lanes s.pending bytes l rest
-    → record (blocks_state v s bytes) {
-      lanes = block_lanes v l (whole_words rest);
-      pending = after_blocks rest;
-    } ≡ absorb v s bytes
-after_absorb v s bytes l rest few many on =
-    rw (absorb-blocks v s bytes few many, on.lanes, on.left) refl
-
 -- ---- it stays a state
-
--- a sum xor a low half is a word
-mixed-lt : (a b p : ℕ) → bit_xor (plus a b) (low p) < 2 ^ 64
-mixed-lt a b p = xor_lt 64 (plus a b) (low p) (omega arith) (omega arith)
-
-AreWords-seed_pair : (seed : ℕ) → AreWords (in_order (lanes (seed_pair seed)))
-unfolding mix
-AreWords-seed_pair seed = search (arith, xor_lt 64, mixed-lt)
-
-AreWords-block : (v : ℕ) (s : Lanes) (ws : List ℕ) → AreWords (in_order (block_round v s ws))
-unfolding block_round_by
-AreWords-block v s ws = search (arith, mixed-lt)
-
-AreWords-block_lanes : (v : ℕ) (s : Lanes) (ws : List ℕ) → AreWords (in_order s)
-    → AreWords (in_order (block_lanes v s ws))
-AreWords-block_lanes v s (w0 ∷ w1 ∷ w2 ∷ w3 ∷ w4 ∷ w5 ∷ w6 ∷ w7 ∷ ws) words =
-    AreWords-block_lanes v (block_round v s (w0 ∷ w1 ∷ w2 ∷ w3 ∷ w4 ∷ w5 ∷ w6 ∷ w7 ∷ [])) ws
-    (AreWords-block v s _)
-AreWords-block_lanes v s ws words = words
-
-pub IsState-start : (v seed : ℕ) (s : State) → s ≡ start seed → IsState v s
-IsState-start v seed s is = rw is (search (arith, AreWords-seed_pair, false≢true))
 
 pads_with_two-version : (v b : ℕ) → pads_with_two v b ≡ true → v ≡ 4
 pads_with_two-version v b h = grind (arith, nat_tests)
 
-pub IsState-absorb : (v : ℕ) (s new : State) (bytes : List ℕ) → IsState v s → AreBytes bytes
-    → new ≡ absorb v s bytes → IsState v new
-IsState-absorb v s new bytes is are same =
+-- a new stream's state, and the state after bytes
+pub IsState-start : (v seed : ℕ) → IsState v (start seed)
+IsState-start v seed = search (arith, AreWords-seed_pair, false≢true)
+
+pub IsState-absorb : (v : ℕ) (s : State) (bytes : List ℕ) → IsState v s → AreBytes bytes
+    → IsState v (absorb v s bytes)
+IsState-absorb v s bytes is are =
     let all = s.pending ++ bytes in
     let are_all = AreBytes-append s.pending bytes is.bytes are in
-    rw same (elim (cases_lt (length s.pending + length bytes) 64) [
+    elim (cases_lt (length s.pending + length bytes) 64) [
       | inl lt ↦ rw (absorb-few v s bytes lt) (search (arith, length-append s.pending bytes))
       | inr le ↦
-          rw (absorb-blocks v s bytes is.few le) (search (
-            arith,
-            AreWords-block_lanes,
-            AreBytes-drop,
-            length-after_blocks all,
-            pads_with_two-version,
-          ))
-    ])
+          let left = length-after_blocks all in
+          rw (absorb-blocks v s bytes is.few le)
+          (search (arith, AreWords-block_lanes, AreBytes-drop, pads_with_two-version))
+    ]
+
+-- what the proof of a write needs
+pub ruleset more_absorbed = (absorb-append, absorb-few, IsState-absorb, AreBytes-typed)
 
 -- ---- what it answers
 
+-- the words that an answer has left are the whole words and a final word
 tail_of-words : (v : ℕ) (m : List ℕ) (had_block top_bit : Bool)
     → tail_of v m had_block top_bit
     ≡ whole_words m ++ final_word m (tail_end v m had_block top_bit) ∷ []
@@ -214,6 +160,7 @@ unfolding answer
 answer-by_pair v s =
     ap (hash_from_pair (join s.had_block s.lanes)) (tail_of-words v s.pending s.had_block s.top_bit)
 
+-- what ends the tail, with pending bytes
 pub tail_end-pending : (v : ℕ) (m : List ℕ) (had_block top_bit : Bool) → 0 < length m
     → tail_end v m had_block top_bit ≡ padding_byte v m
 tail_end-pending v [] had_block top_bit some = absurd (omega arith)
@@ -225,21 +172,21 @@ pub answer-none : (v : ℕ) (s : State) → s.pending ≡ []
 unfolding answer
 answer-none v s none = rw none
 
--- what ends the tail after n bytes, the last of them the last of a block
+-- with those that are left after n bytes, the last of which ends a block
 tail_end-drop : (v n : ℕ) (m : List ℕ) → 0 < n → n ≤ length m
     → tail_end v (drop n m) true (pads_with_two v (slice_index m (n - 1))) ≡ padding_byte v m
-tail_end-drop v n [] some le = absurd (omega arith)
-tail_end-drop v n (b ∷ m) some le = go (drop n (b ∷ m)) refl where
-  go : (p : List ℕ) → drop n (b ∷ m) ≡ p
-      → tail_end v p true (pads_with_two v (slice_index (b ∷ m) (n - 1))) ≡ padding_byte v (b ∷ m)
-  go [] e =
-      let all : n ≡ length (b ∷ m) = omega (arith, length-drop n (b ∷ m), ap length e) in rw all
-  go (c ∷ p) e =
-      let size : n + (length (c ∷ p) - 1) ≡ length (b ∷ m) - 1 =
-      omega (arith, length-drop n (b ∷ m), ap length e) in
-      let last = get_or-drop n (b ∷ m) (length (c ∷ p) - 1) 0 in
-      cc
+tail_end-drop v n m some le =
+    let size = length-drop n m in
+    elim (cases_lt n (length m)) [
+      | inl lt ↦
+          let last : n + (length (drop n m) - 1) ≡ length m - 1 = omega arith in
+          tail_end-pending v (drop n m) true _ (omega arith)
+          ∙ ap (λ b. padding_after (pads_with_two v b))
+          (get_or-drop n m (length (drop n m) - 1) 0 ∙ ap (slice_index m) last)
+      | inr ge ↦ let all : n ≡ length m = omega arith in rw (drop_all n m ge, all) refl
+    ]
 
+-- with those of a stream that has had no block
 tail_end-start : (v : ℕ) (m : List ℕ) → tail_end v m false false ≡ padding_or_zero v m
 tail_end-start v [] = refl
 tail_end-start v (b ∷ m) = refl
@@ -265,23 +212,7 @@ answer-joined v seed m =
 
 -- ---- what its calls say
 
-pub started : (v seed : ℕ) (new : State) → new ≡ start seed → Started v seed new
-unfolding HasAbsorbed absorb
-started v seed new is = record { state = is; message = is }
-
-pub absorbed : {A : Type 0} (v : ℕ) (view : A → State) (stream : Mut A) (bytes : List ℕ)
-    → view stream.exit.now ≡ absorb v (view stream.entry.now) bytes
-    → Absorbed v view stream bytes
-unfolding HasAbsorbed
-absorbed v view stream bytes is = record {
-  state = is;
-  message = λ seed m before. rw (is, before) (sym (absorb-append v (start seed) m bytes));
-  joined = λ seed m all before same.
-      rw (is, before, ← same) (sym (absorb-append v (start seed) m bytes));
-  in_parts = λ seed m x before.
-      rw (is, before, ← append_assoc m x bytes) (sym (absorb-append v (start seed) (m ++ x) bytes));
-}
-
+-- an answer is the hash of the message that the stream has absorbed
 pub answered : (v : ℕ) (now : State) (result : ℕ) → result ≡ answer v now → Answered v now result
 unfolding HasAbsorbed
 answered v now result is = record {
@@ -300,26 +231,3 @@ pub same_text_after : (v seed : ℕ) (m x y : List ℕ) → IsTextAfter v seed m
 unfolding IsTextAfter HasAbsorbed
 same_text_after v seed m x y (s, _, first, of_s) (t, _, second, of_t) =
     sym of_s ∙ ap (text v) (first ∙ sym second) ∙ of_t
-
--- ---- hashes are words
-
-closing-lt : (s : ℕ × ℕ) (ws : List ℕ) → closing s ws < 2 ^ 64
-unfolding mix
-closing-lt s (p ∷ []) = mixed-lt _ _ _
-closing-lt s (w ∷ p ∷ []) = mixed-lt _ _ _
-closing-lt s ws = omega arith
-
-hash_from_pair-lt : (s : ℕ × ℕ) (ws : List ℕ) → hash_from_pair s ws < 2 ^ 64
-hash_from_pair-lt s (w0 ∷ w1 ∷ w ∷ ws) = hash_from_pair-lt (pair_round s w0 w1) (w ∷ ws)
-hash_from_pair-lt s ws = closing-lt s ws
-
-hash_from_lanes-lt : (v : ℕ) (s : Lanes) (had_block : Bool) (ws : List ℕ)
-    → hash_from_lanes v s had_block ws < 2 ^ 64
-hash_from_lanes-lt v s had_block (w0 ∷ w1 ∷ w2 ∷ w3 ∷ w4 ∷ w5 ∷ w6 ∷ w7 ∷ w ∷ ws) =
-    let block = w0 ∷ w1 ∷ w2 ∷ w3 ∷ w4 ∷ w5 ∷ w6 ∷ w7 ∷ [] in
-    hash_from_lanes-lt v (block_round v s block) true (w ∷ ws)
-hash_from_lanes-lt v s had_block ws = hash_from_pair-lt (join had_block s) ws
-
-pub komi-lt : (v seed : ℕ) (m : List ℕ) → komi v seed m < 2 ^ 64
-unfolding komi
-komi-lt v seed m = hash_from_lanes-lt v (lanes (seed_pair seed)) _ (padded_words v m)

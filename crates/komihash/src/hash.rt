@@ -1,6 +1,6 @@
-//! The hash of a whole message, which is read where it lies.
+//! The hash of a whole message, which is read without a copy.
 //!
-//! Each range of lengths has a function of its own, with almost no jumps.
+//! Each range of lengths has a function of its own, so that short messages take few jumps.
 
 #![tactic(auto, using(crate::proofs::HashPaths::hash_laws))]
 

@@ -1,7 +1,8 @@
 //! The steps of the hash from the seed to the pair that is left after the blocks: seeding, lanes,
 //! block rounds, joining.
 //!
-//! Only `places` and `pads_with_two` depend on the version. Streams keep the latter of their last block.
+//! Only `places` and `pads_with_two` depend on the version. Streams keep the latter of their last
+//! block.
 
 ghost use Rattle.std.specs.Prelude.{◌≡◌, ◌+◌, ◌*◌, ◌/◌, ◌%◌, ◌<◌, ◌≤◌, All, length, bit_xor};
 ghost use Rattle.std.proofs.Common.{refl};
@@ -180,7 +181,11 @@ pub(crate) fn pads_with_two<const V: u8>(byte: u8) -> bool
 
 /// Absorbs a block of eight words, multiplied as the table `places` says.
 #[inline(always)]
-#[tactic(auto, unfolding(crate::specs::Rounds::block_round_by), using(crate::proofs::Xor::products))]
+#[tactic(
+    auto,
+    unfolding(crate::specs::Rounds::block_round_by),
+    using(crate::proofs::Xor::products)
+)]
 pub(crate) fn block_round(
     lanes: &mut Lanes,
     words: &[u64; 8],

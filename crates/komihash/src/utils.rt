@@ -49,9 +49,9 @@ fn half_word_at(bytes: &[u8], at: usize) -> u64
 
 /// Returns the word of at most seven bytes and the byte `end` after them.
 ///
-/// Reads four bytes or more in two pieces, which may overlap. `end` follows the second piece, and a
-/// shift drops from this piece the bytes that the first has too. Of fewer bytes, all three places
-/// are read in any case, since a choice between two values costs less than a jump.
+/// Reads four bytes or more in two pieces, which may overlap. `end` follows the second piece, of
+/// which a shift removes the bytes that the first has too. Fewer bytes are read at three indices,
+/// however many there are, since a choice between two values costs less than a jump.
 #[inline(always)]
 pub(crate) fn read_partial_word(bytes: &[u8], end: u64) -> u64
     requires at_most_7 { length bytes.now ≤ 7 }

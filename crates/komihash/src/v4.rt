@@ -1,7 +1,8 @@
 //! Komihash version 4, for hashes that exist already. Version 5 is for new data.
 //!
 //! It differs from version 5 in which words of a block are multiplied with each other, in the
-//! padding of messages that end in a byte of 128 or more, and in the generator's step.
+//! padding of messages that end in a byte of 128 or more, in the generator's step, and in the saved
+//! texts of streams.
 
 ghost use Rattle.std.specs.Prelude.{◌≡◌, ◌+◌, ◌*◌, ◌/◌, ◌≤◌, length};
 ghost use Rattle.komihash.specs.Counts.{Costs, hash_products};

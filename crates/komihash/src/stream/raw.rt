@@ -52,6 +52,7 @@ impl Model for RawStream {
 impl RawStream {
     /// Returns the new stream of a seed, at the cost of one product.
     #[inline(always)]
+    #[tactic(auto, unfolding(crate::specs::Stream::HasAbsorbed, crate::specs::Stream::absorb))]
     pub fn start<const V: u8>(seed: u64, tally: &mut Tally) -> RawStream
     where
         Versions: IsVersion<V>,
@@ -69,6 +70,11 @@ impl RawStream {
 
     /// Absorbs any number of bytes, and counts what this costs.
     #[inline(always)]
+    #[tactic(
+        auto,
+        unfolding(crate::specs::Stream::HasAbsorbed),
+        using(crate::proofs::Streams::more_absorbed)
+    )]
     pub fn absorb<const V: u8>(&mut self, bytes: &[u8], tally: &mut Tally)
     where
         Versions: IsVersion<V>,
@@ -119,6 +125,7 @@ impl RawStream {
 
     /// Returns the hash of all bytes so far, and counts what this costs. The stream is unchanged.
     #[inline(always)]
+    #[tactic(auto, using(crate::proofs::WholeWords::read_words))]
     pub fn answer<const V: u8>(&self, tally: &mut Tally) -> u64
     where
         Versions: IsVersion<V>,
@@ -145,6 +152,7 @@ impl RawStream {
     /// Writes the saved text to the front of `out`, which needs room for `LONGEST_TEXT` bytes, and
     /// returns its length. The rest of `out` is unchanged.
     #[inline(always)]
+    #[tactic(auto, unfolding(crate::specs::Saved::text), using(crate::proofs::SavedTexts::stored))]
     pub fn store<const V: u8>(&self, out: &mut [u8]) -> usize
     where
         Versions: IsVersion<V>,
@@ -164,6 +172,7 @@ impl RawStream {
     /// Returns the stream that has these bytes as its saved text, or `None` if no stream of this
     /// version has.
     #[inline(always)]
+    #[tactic(auto, unfolding(crate::specs::Saved::IsTextAfter))]
     pub fn restore<const V: u8>(bytes: &[u8]) -> Option<RawStream>
     where
         Versions: IsVersion<V>,

@@ -1,31 +1,10 @@
 //! `pad` of known messages, and `unpad` of known words and of what was padded.
 
-ghost use Rattle.std.specs.Prelude.{◌+◌, ◌*◌, ◌/◌, ◌≤◌, length};
-
 use super::messages::pattern;
 use crate::{v4, v5};
 use std::process::Abort;
 
-fn pad(version: u8, bytes: &[u8], out: &mut [u64]) -> usize
-    requires { length bytes.now / 8 + 1 ≤ length out.old }
-{
-    if version == 4 {
-        v4::pad(bytes, out)
-    } else {
-        v5::pad(bytes, out)
-    }
-}
-
-fn unpad(version: u8, words: &[u64], out: &mut [u8]) -> Option<usize>
-    requires { 8 * length words.now ≤ length out.old }
-{
-    if version == 4 {
-        v4::unpad(words, out)
-    } else {
-        v5::unpad(words, out)
-    }
-}
-
+// The rest of `out` is unchanged.
 #[test]
 fn pads_known_messages(rt: HostRuntime) {
     let rows: [(&[u8], [u64; 3], [u64; 3]); 4] = [
@@ -37,25 +16,30 @@ fn pads_known_messages(rt: HostRuntime) {
     for (message, four, five) in rows {
         let n = message.len();
         assert!(rt; n <= 8);
-        for (version, wanted) in [(4, four), (5, five)] {
-            let mut out = [7; 3];
-            assert_eq!(rt; pad(version, message, &mut out), n / 8 + 1, "{n} bytes");
-            assert_eq!(rt; out, wanted, "{n} bytes");
-        }
+        let (mut of_four, mut of_five) = ([7; 3], [7; 3]);
+        let count = v4::pad(message, &mut of_four);
+        let counts = [count, v5::pad(message, &mut of_five)];
+        assert_eq!(rt; counts, [n / 8 + 1; 2], "{n} bytes");
+        assert_eq!(rt; [of_four, of_five], [four, five], "{n} bytes");
     }
 }
 
-// Unpads words into the bytes that they need, and into one more. Writes the message and no more.
-fn assert_unpads(rt: &impl Abort, version: u8, words: &[u64], message: Option<&[u8]>) {
-    let bytes = message.unwrap_or(&[]);
-    assert!(rt; words.len() <= 11 && bytes.len() <= 89);
-    let mut wanted = [0xee; 89];
-    wanted[..bytes.len()].copy_from_slice(bytes);
-    for more in 0..2usize {
-        let mut out = [0xee; 89];
-        let length = unpad(version, words, &mut out[..8 * words.len() + more]);
-        assert_eq!(rt; length, message.map(|bytes| bytes.len()), "{words:?}");
-        assert_eq!(rt; out, wanted, "{words:?}");
+// Unpads words into the bytes that they need, and into one more. Writes the messages that have them
+// in version 4 and in version 5, and no more.
+fn assert_unpads(rt: &impl Abort, words: &[u64], messages: [Option<&[u8]>; 2]) {
+    assert!(rt; words.len() <= 11);
+    for size in 8 * words.len()..=8 * words.len() + 1 {
+        let (mut of_four, mut of_five) = ([0xee; 89], [0xee; 89]);
+        let four = v4::unpad(words, &mut of_four[..size]);
+        let five = v5::unpad(words, &mut of_five[..size]);
+        for (count, out, message) in [(four, of_four, messages[0]), (five, of_five, messages[1])] {
+            let bytes = message.unwrap_or(&[]);
+            assert!(rt; bytes.len() <= 89);
+            let mut wanted = [0xee; 89];
+            wanted[..bytes.len()].copy_from_slice(bytes);
+            assert_eq!(rt; count, message.map(|bytes| bytes.len()), "{words:?}");
+            assert_eq!(rt; out, wanted, "{words:?}");
+        }
     }
 }
 
@@ -63,11 +47,10 @@ fn assert_unpads(rt: &impl Abort, version: u8, words: &[u64], message: Option<&[
 #[test]
 fn unpads_known_words(rt: HostRuntime) {
     let low: &[u8] = b"\xff\xff\xff\xff\xff\xff\xff\x7f";
-    let high: &[u8] = b"\x00\x00\x00\x00\x00\x00\x80";
-    let two: &[u8] = b"\x02\x00\x00\x00\x00\x00\x00\x00";
-    let rows: [(&[u64], Option<&[u8]>, Option<&[u8]>); 22] = [
+    let high: &[u8] = b"\0\0\0\0\0\0\x80";
+    let two: &[u8] = b"\x02\0\0\0\0\0\0\0";
+    let rows: [(&[u64], Option<&[u8]>, Option<&[u8]>); 20] = [
         (&[0], Some(&[]), Some(&[])),
-        (&[0x017f], Some(&[0x7f]), Some(&[0x7f])),
         (&[0x0180], None, Some(&[0x80])),
         (&[0x0280], Some(&[0x80]), None),
         (&[0x0201], None, None),
@@ -75,7 +58,6 @@ fn unpads_known_words(rt: HostRuntime) {
         (&[2], None, None),
         (&[], None, None),
         (&[0, 0], None, None),
-        (&[0x017f, 0], None, None),
         (&[u64::MAX, 2], Some(&[0xff; 8]), None),
         (&[u64::MAX, 1], None, Some(&[0xff; 8])),
         (&[u64::MAX / 2, 1], Some(low), Some(low)),
@@ -90,37 +72,39 @@ fn unpads_known_words(rt: HostRuntime) {
         (&[u64::MAX], None, None),
     ];
     for (words, four, five) in rows {
-        assert_unpads(&rt, 4, words, four);
-        assert_unpads(&rt, 5, words, five);
+        assert_unpads(&rt, words, [four, five]);
     }
 }
 
+// A version has a message of the words of the other one only if they are its own words too.
 #[test]
 fn unpads_what_was_padded(rt: HostRuntime) {
+    let pattern = pattern();
     for n in 0..81usize {
-        for version in [4u8, 5u8] {
-            let mut words = [7; 11];
-            let count = pad(version, &pattern()[..n], &mut words);
-            assert_eq!(rt; count, n / 8 + 1);
-            assert_unpads(&rt, version, &words[..count], Some(&pattern()[..n]));
-        }
+        let message = &pattern[..n];
+        let (mut four, mut five) = ([7; 11], [7; 11]);
+        let count = v4::pad(message, &mut four);
+        assert_eq!(rt; [count, v5::pad(message, &mut five)], [n / 8 + 1; 2]);
+        let of_other = (four == five).then_some(message);
+        assert_unpads(&rt, &four[..count], [Some(message), of_other]);
+        assert_unpads(&rt, &five[..count], [of_other, Some(message)]);
     }
 }
 
-fn unpads_two_bytes(rt: &impl Abort, version: u8, x: u8, y: u8) {
-    let padding = if version == 4 && y >= 128 { 2 } else { 1 };
+// The word 0 has the empty message, and others have the byte y if x is the padding byte after it.
+fn unpads_two_bytes(rt: &impl Abort, x: u8, y: u8) {
     let word = 256 * u64::from(x) + u64::from(y);
-    let is_padded = word == 0 || x == padding;
     let message = &[y][..usize::from(x > 0)];
-    assert_unpads(rt, version, &[word], is_padded.then_some(message));
+    let unpadded = |padding: u8| (word == 0 || x == padding).then_some(message);
+    let four = unpadded(if y < 128 { 1 } else { 2 });
+    assert_unpads(rt, &[word], [four, unpadded(1)]);
 }
 
 #[test]
 fn unpads_every_word_of_two_bytes(rt: HostRuntime) {
     for x in 0..=255u8 {
         for y in 0..=255u8 {
-            unpads_two_bytes(&rt, 4, x, y);
-            unpads_two_bytes(&rt, 5, x, y);
+            unpads_two_bytes(&rt, x, y);
         }
     }
 }

@@ -2,11 +2,10 @@
 
 ghost use Rattle.std.specs.Prelude.{◌≤◌};
 
-use super::messages::{EMPTY_HASH, LANES, SIX_IN_FIVE, pattern};
-use crate::stream::LONGEST_TEXT;
+use super::messages::{EMPTY_HASH, LANES, SIX_IN_FIVE};
 use crate::stream::streamed::StreamedKomihash;
+use crate::v5;
 use crate::version::{IsVersion, Versions};
-use crate::{v4, v5};
 use std::process::Abort;
 
 /// Returns the lanes of version 5 after the block of `SIX_IN_FIVE`. Each of its products has a
@@ -18,7 +17,8 @@ pub(crate) fn lanes_after_block() -> [u8; 64] {
     lanes
 }
 
-// Joins the parts of a text, and returns its length too. The bytes after it are 0xee.
+// Joins a text's first four bytes, its lanes and pending bytes, and returns its length too. The
+// bytes after it are 0xee.
 fn joined(rt: &impl Abort, parts: [&[u8]; 3]) -> ([u8; 140], usize)
     ensures { result.1 ≤ 140 }
 {
@@ -40,150 +40,97 @@ pub(crate) fn assert_text(rt: &impl Abort, given: &[u8; 140], length: usize, par
     assert_eq!(rt; *given, wanted);
 }
 
-#[test]
-fn saves_streams_of_seed_zero(rt: HostRuntime) {
-    let (mut four, mut five) = (v4::StreamedKomihash::new(), v5::StreamedKomihash::new());
+// Saves a new stream before and after a write, and one after a block whose last byte is 0xff.
+fn assert_saves<const V: u8>(rt: &impl Abort)
+where
+    Versions: IsVersion<V>,
+{
+    let mut stream = StreamedKomihash::<V>::new();
     let mut text = [0xee; 140];
-    let length = four.save(&mut text);
-    assert_text(&rt, &text, length, [&[4, 0, 0, 0], &LANES, &[]]);
-    let length = five.save(&mut text);
-    assert_text(&rt, &text, length, [&[5, 0, 0, 0], &LANES, &[]]);
-    four.write(b"abc");
-    five.write(b"abc");
-    let length = four.save(&mut text);
-    assert_text(&rt, &text, length, [&[4, 0, 0, 3], &LANES, b"abc"]);
-    let length = five.save(&mut text);
-    assert_text(&rt, &text, length, [&[5, 0, 0, 3], &LANES, b"abc"]);
+    let length = stream.save(&mut text);
+    assert_text(rt, &text, length, [&[V, 0, 0, 0], &LANES, &[]]);
+    stream.write(b"abc");
+    let length = stream.save(&mut text);
+    let parts: [&[u8]; 3] = [&[V, 0, 0, 3], &LANES, b"abc"];
+    assert_text(rt, &text, length, parts);
+    let mut stream = StreamedKomihash::<V>::new();
+    stream.write(&[0xff; 64]);
+    assert_eq!(rt; stream.save(&mut text), 68);
+    assert_eq!(rt; &text[..4], [V, 1, u8::from(V == 4), 0].as_slice());
+}
+
+#[test]
+fn saves_known_streams(rt: HostRuntime) {
+    assert_saves::<4>(&rt);
+    assert_saves::<5>(&rt);
 }
 
 #[test]
 fn resumes_in_mid_message(rt: HostRuntime) {
-    let lanes = lanes_after_block();
     let mut stream = v5::StreamedKomihash::new();
     stream.write(&SIX_IN_FIVE[..64]);
     let mut text = [0xee; 140];
     let length = stream.save(&mut text);
-    assert_text(&rt, &text, length, [&[5, 1, 0, 0], &lanes, &[]]);
+    let parts: [&[u8]; 3] = [&[5, 1, 0, 0], &lanes_after_block(), &[]];
+    assert_text(&rt, &text, length, parts);
     let mut resumed = v5::StreamedKomihash::resume(&text[..length]).expect(&rt, "a stream");
     resumed.write(&SIX_IN_FIVE[64..]);
     assert_eq!(rt; resumed.finish(), 6);
 }
 
-// Returns the texts after a message in version 4 and in version 5, and their lengths.
-fn texts_after(message: &[u8]) -> ([[u8; LONGEST_TEXT]; 2], [usize; 2]) {
-    let (mut four, mut five) = (v4::StreamedKomihash::new(), v5::StreamedKomihash::new());
-    four.write(message);
-    five.write(message);
-    let (mut of_four, mut of_five) = ([0; LONGEST_TEXT], [0; LONGEST_TEXT]);
-    let ends = [four.save(&mut of_four), five.save(&mut of_five)];
-    ([of_four, of_five], ends)
-}
-
-// Each row has a message, and the hashes of the texts after it.
-#[test]
-fn saves_known_texts(rt: HostRuntime) {
-    let ([four, five], ends) = texts_after(&[0xff; 64]);
-    assert_eq!(rt; ends, [68, 68]);
-    assert_eq!(rt; &four[..4], [4, 1, 1, 0].as_slice());
-    assert_eq!(rt; &five[..4], [5, 1, 0, 0].as_slice());
-    let b: &[u8; 300] = &pattern();
-    let rows: [(&[u8], u64, u64); 3] = [
-        (&[], 0x758a_e966_d145_f7ee, 0x3908_2e84_39c3_93c8),
-        (&b[..64], 0x7db2_82ab_41f1_944d, 0x95ec_3ef7_0b12_9ee6),
-        (&b[..130], 0x02ce_046d_841a_928f, 0xafff_d5fc_9cec_9ace),
-    ];
-    for (message, four, five) in rows {
-        let (texts, ends) = texts_after(message);
-        assert!(rt; ends[0] <= LONGEST_TEXT && ends[1] <= LONGEST_TEXT);
-        assert_eq!(rt; v4::komihash(&texts[0][..ends[0]], 0), four);
-        assert_eq!(rt; v5::komihash(&texts[1][..ends[1]], 0), five);
-    }
-}
-
-// Resumes a text that begins with these four bytes, and saves the stream again. In the version that
-// the text names, compares the stream's answer, or None. The other version refuses the text.
-fn assert_resumes<const V: u8>(
-    rt: &impl Abort,
-    head: [u8; 4],
-    lanes: &[u8],
-    pending: &[u8],
-    answer: Option<u64>,
-)
+// Resumes a stream, compares its answer, and saves it as the same text again.
+fn assert_resumes<const V: u8>(rt: &impl Abort, parts: [&[u8]; 3], answer: u64)
 where
     Versions: IsVersion<V>,
 {
-    let (text, end) = joined(rt, [&head, lanes, pending]);
-    let wanted = if head[0] == V { answer } else { None };
-    let Some(stream) = StreamedKomihash::<V>::resume(&text[..end]) else {
-        assert!(rt; wanted.is_none(), "{text:?}");
-        return;
-    };
-    assert_eq!(rt; Some(stream.finish()), wanted, "{text:?}");
+    let (text, end) = joined(rt, parts);
+    let stream = StreamedKomihash::<V>::resume(&text[..end]).expect(rt, "a stream");
+    assert_eq!(rt; stream.finish(), answer);
     let mut saved = [0xee; 140];
     assert_eq!(rt; stream.save(&mut saved), end);
     assert_eq!(rt; saved, text);
 }
 
-// Each row has a text's first four bytes, its lanes and pending bytes, and the stream's answer.
+// A state need not be one that a message leads to.
 #[test]
 fn resumes_known_texts(rt: HostRuntime) {
     let mut top = [0; 64];
     top[63] = 0x80;
-    let b: &[u8; 300] = &pattern();
-    let rows: [([u8; 4], &[u8], &[u8], u64); 8] = [
-        ([4, 0, 0, 0], &LANES, &[], EMPTY_HASH),
-        ([5, 0, 0, 0], &LANES, &[], EMPTY_HASH),
-        ([4, 1, 1, 0], &top, &[], 0xc000_0000_0000_0003),
-        ([4, 1, 0, 0], &top, &[], 0x8000_0000_0000_0000),
-        ([5, 0, 0, 63], &[0; 64], &[0xaa; 63], 0x090b_45d3_109b_3fc1),
-        ([4, 1, 1, 0], &b[..64], &[], 0x549b_1916_3f58_3ed4),
-        ([4, 1, 0, 0], &b[..64], &[], 0xe0d8_6c95_bd60_1a23),
-        ([5, 0, 0, 63], &b[..127], &[], 0xe804_3153_4f68_9bae),
+    assert_resumes::<4>(&rt, [&[4, 0, 0, 0], &LANES, &[]], EMPTY_HASH);
+    assert_resumes::<5>(&rt, [&[5, 0, 0, 0], &LANES, &[]], EMPTY_HASH);
+    assert_resumes::<4>(&rt, [&[4, 1, 1, 0], &top, &[]], 0xc000_0000_0000_0003);
+    assert_resumes::<4>(&rt, [&[4, 1, 0, 0], &top, &[]], 0x8000_0000_0000_0000);
+    let full: [&[u8]; 3] = [&[5, 0, 0, 63], &[0; 64], &[0xaa; 63]];
+    assert_resumes::<5>(&rt, full, 0x090b_45d3_109b_3fc1);
+}
+
+// Texts that no version has, the text of the other version, and the top bit in version 5.
+fn assert_refuses<const V: u8>(rt: &impl Abort)
+where
+    Versions: IsVersion<V>,
+{
+    let rows: [[&[u8]; 3]; 11] = [
+        [&[], &[], &[]],
+        [&[V, 0, 0, 0], &LANES[..63], &[]],
+        [&[V, 0, 0, 0], &LANES, &[0]],
+        [&[9 - V, 0, 0, 0], &LANES, &[]],
+        [&[V, 2, 0, 0], &LANES, &[]],
+        [&[V, 0, 1, 0], &LANES, &[]],
+        [&[V, 1, 2, 0], &[0; 64], &[]],
+        [&[5, 1, 1, 0], &[0; 64], &[]],
+        [&[V, 0, 0, 64], &LANES, &[0; 64]],
+        [&[V, 0, 0, 63], &[0; 64], &[0xaa; 62]],
+        [&[V, 0, 0, 63], &[0; 64], &[0xaa; 64]],
     ];
-    for (head, lanes, pending, answer) in rows {
-        assert_resumes::<4>(&rt, head, lanes, pending, Some(answer));
-        assert_resumes::<5>(&rt, head, lanes, pending, Some(answer));
+    for parts in rows {
+        let (text, end) = joined(rt, parts);
+        let resumed = StreamedKomihash::<V>::resume(&text[..end]);
+        assert!(rt; resumed.is_none(), "{text:?}");
     }
 }
 
-// Each row has what follows the version in a text that both versions refuse.
 #[test]
-fn refuses_invalid_texts(rt: HostRuntime) {
-    let b: &[u8; 300] = &pattern();
-    let rows: [([u8; 3], &[u8], &[u8]); 14] = [
-        ([0, 0, 0], &LANES[..63], &[]),
-        ([0, 0, 0], &LANES, &[0]),
-        ([2, 0, 0], &LANES, &[]),
-        ([0, 1, 0], &LANES, &[]),
-        ([0, 0, 64], &LANES, &[0; 64]),
-        ([1, 2, 0], &[0; 64], &[]),
-        ([0, 0, 63], &[0; 64], &[0xaa; 62]),
-        ([0, 0, 63], &[0; 64], &[0xaa; 64]),
-        ([0, 1, 0], &b[..64], &[]),
-        ([2, 0, 0], &b[..64], &[]),
-        ([1, 2, 0], &b[..64], &[]),
-        ([0, 0, 64], &b[..128], &[]),
-        ([0, 0, 0], &b[..65], &[]),
-        ([0, 0, 2], &b[..65], &[]),
-    ];
-    for ([had_block, top_bit, pending_len], lanes, pending) in rows {
-        assert_resumes::<4>(
-            &rt,
-            [4, had_block, top_bit, pending_len],
-            lanes,
-            pending,
-            None,
-        );
-        assert_resumes::<5>(
-            &rt,
-            [5, had_block, top_bit, pending_len],
-            lanes,
-            pending,
-            None,
-        );
-    }
-    assert_resumes::<5>(&rt, [5, 1, 1, 0], &[0; 64], &[], None);
-    assert_resumes::<5>(&rt, [5, 1, 1, 0], &b[..64], &[], None);
-    assert!(rt; v4::StreamedKomihash::resume(&[]).is_none());
-    assert!(rt; v5::StreamedKomihash::resume(&[]).is_none());
+fn refuses_other_texts(rt: HostRuntime) {
+    assert_refuses::<4>(&rt);
+    assert_refuses::<5>(&rt);
 }

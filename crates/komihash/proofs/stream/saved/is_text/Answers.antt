@@ -1,5 +1,5 @@
 -- The head and the length are those of a text that is laid out well.
-use Rattle.std.proofs.Common.{rules, arith}
+use Rattle.std.proofs.Common.{arith}
 use Rattle.std.proofs.lemmas.Bool.Decides.{nat_tests}
 use Rattle.komihash.proofs.SavedTexts.{IsLaidOut-text}
 use Rattle.komihash.proofs.stream.saved.is_text.Goals as goal
@@ -7,9 +7,9 @@ use Rattle.komihash.proofs.stream.saved.is_text.Goals as goal
 pub returns-then-is_head-clause-text : goal.returns-then-is_head-clause-text
 returns-then-is_head-clause-text g c =
     let laid = IsLaidOut-text g.row.V c.args.bytes.now c.type_inv.bytes in
-    ((λ is. laid.0 (search rules)), λ is. let l = laid.1 is in grind (arith, nat_tests))
+    grind (arith, nat_tests, laid.0, laid.1)
 
 pub returns-else-is_head-clause-text : goal.returns-else-is_head-clause-text
 returns-else-is_head-clause-text g c =
     let laid = IsLaidOut-text g.row.V c.args.bytes.now c.type_inv.bytes in
-    ((λ is. absurd (grind (arith, nat_tests))), λ is. let l = laid.1 is in grind (arith, nat_tests))
+    grind (arith, nat_tests, laid.0, laid.1)

@@ -1,5 +1,5 @@
 -- The lanes follow the first four bytes.
-use Rattle.std.proofs.Common.{◌∙◌, ap, arith, take}
+use Rattle.std.proofs.Common.{arith}
 use Rattle.std.proofs.lemmas.List.{take_all}
 use Rattle.komihash.specs.Rounds.{in_order}
 use Rattle.komihash.specs.Saved.{lanes_at, pending_at}
@@ -11,9 +11,9 @@ use Rattle.komihash.proofs.stream.saved.write_lanes.Goals as goal
 pub returns : goal.returns
 returns c =
     let ws = in_order c.args.lanes.now in
+    let all = take_all 64 (all_bytes ws) (omega (arith, length-all_bytes ws)) in
+    let bytes = rw (c.in_order.ensures, all) at c.write_first_bytes.ensures.bytes in
     let (lanes, after) =
-    part-put lanes_at pending_at c.args.out.now c.write_first_bytes.new.out (all_bytes ws)
-    (omega arith) (omega arith) c.write_first_bytes.auto.out
-    (c.write_first_bytes.ensures.bytes ∙ ap (λ ws. take 64 (all_bytes ws)) c.in_order.ensures
-    ∙ take_all 64 (all_bytes ws) (omega (arith, length-all_bytes ws))) in
+    part-put lanes_at pending_at c.args.out.now _ _ (omega arith) (omega arith)
+    c.write_first_bytes.auto.out bytes in
     record { lanes = lanes; after = after }

@@ -9,6 +9,6 @@ returns c =
     let end = pending_at + c.len-end.result in
     let size : length c.args.pending.now ≡ end - pending_at = omega arith in
     let (bytes, after) =
-    part-put pending_at end c.args.out.now c.write_to.new.out c.args.pending.now (omega arith)
-    (omega arith) c.write_to.auto.out (rw size at c.write_to.ensures.bytes) in
+    part-put pending_at end c.args.out.now _ _ (omega arith) (omega arith) c.write_to.auto.out
+    (rw size at c.write_to.ensures.bytes) in
     record { end = omega arith; bytes = bytes; after = after end (omega arith) }

@@ -1,10 +1,7 @@
--- A new state is what `Started` says, and a state of its version.
-use Rattle.std.proofs.Common.{rules}
-use Rattle.komihash.proofs.Streams.{started, IsState-start}
+-- A new state is a state of its version.
+use Rattle.std.proofs.Common.{rules, arith}
+use Rattle.komihash.proofs.Streams.{IsState-start}
 use Rattle.komihash.proofs.stream.raw.RawStream.start.Goals as goal
 
-pub returns-clause-started : goal.returns-clause-started
-returns-clause-started g c = started g.row.V c.args.seed _ (search rules)
-
 pub returns-clause-is_state : goal.returns-clause-is_state
-returns-clause-is_state g c = IsState-start g.row.V c.args.seed _ (search rules)
+returns-clause-is_state g c = let is = IsState-start g.row.V c.args.seed in search (rules, arith)

@@ -1,7 +1,7 @@
 use Rattle.std.proofs.Common.{◌≤◌, take}
 use Rattle.std.specs.List.{flat_map}
 use Rattle.komihash.specs.Saved.{IsTextAfter}
-use Rattle.examples.proofs.checkpoints.upload.Given as goal
+use Rattle.examples.proofs.checkpoints.digest_with_checkpoints.Given as goal
 
 -- the checkpoint is that of the parts so far
 abbrev pub invariant-loop-part : goal.invariant-loop-part

@@ -22,50 +22,50 @@ sizes() {
     done | cat komihash_rattle.h - | "${CC:-cc}" -x c -fsyntax-only -
 }
 
-same() { diff "$@" > "$room/differ" || { head -n 40 "$room/differ"; false; }; }
+same() { diff "$@" > "$scratch/differ" || { head -n 40 "$scratch/differ"; false; }; }
 
 # Whether gdb finds its way from each instruction of the library to main.
 unwinds() {
-    make ASSEMBLY="$room/assembly" OUT="$room/out" &&
+    make ASSEMBLY="$scratch/assembly" OUT="$scratch/out" &&
         for number in 4 5; do
-            "${CC:-cc}" -g -D "VERSION=$number" -o "$room/calls" calls.c \
-                "$room/out/libkomihash_rattle.a" &&
-                grep "^$number" vectors.tsv | tail -n 6 > "$room/rows" &&
-                gdb -q -nx -batch -ex "set args < $room/rows > /dev/null" \
-                    -x ../scripts/unwind.py "$room/calls" || return
+            "${CC:-cc}" -g -D "VERSION=$number" -o "$scratch/calls" calls.c \
+                "$scratch/out/libkomihash_rattle.a" &&
+                grep "^$number" vectors.tsv | tail -n 6 > "$scratch/rows" &&
+                gdb -q -nx -batch -ex "set args < $scratch/rows > /dev/null" \
+                    -x ../scripts/unwind.py "$scratch/calls" || return
         done
 }
 
 wasm() {
     local option=--experimental-wasm-memory64 # which old versions of Node need
     node $option -e 0 || option=
-    make wasm OUT="$room" &&
-        node $option examples/vectors.mjs "$room/komihash_rattle.wasm" < vectors.tsv \
-            > "$room/hashed" && grep -v '^#' vectors.tsv | diff - "$room/hashed"
+    make wasm OUT="$scratch" &&
+        node $option examples/vectors.mjs "$scratch/komihash_rattle.wasm" < vectors.tsv \
+            > "$scratch/hashed" && grep -v '^#' vectors.tsv | diff - "$scratch/hashed"
 }
 
-note 'the types of the header have the sizes that the crate proves' sizes
-note 'the assembly is made anew' make assembly ASSEMBLY="$room/assembly"
+run_case 'the types of the header have the sizes that the crate proves' sizes
+run_case 'the assembly is made anew' make assembly ASSEMBLY="$scratch/assembly"
 [ "$failed" = 0 ] || { counted; exit; }
 differs=
-for made in "$room"/assembly/*.S; do
+for made in "$scratch"/assembly/*.S; do
     file=assembly/${made##*/}
     if [ "$(compiler_of "$file")" = "$(compiler_of "$made")" ]; then
-        note "c/$file is what assembly.sh makes of the proved source code" same "$file" "$made"
+        run_case "c/$file is what assembly.sh makes of the proved source code" same "$file" "$made"
     else
         echo "c/$file is not compared: it is from another compiler than that of this kit"
         differs=1
     fi
 done
-[ ! "$differs" ] || note 'the library from the assembly made anew passes its tests' \
-    make check ASSEMBLY="$room/assembly" OUT="$room/out"
-if command -v gdb > "$room/case"; then
-    note 'gdb finds main from each instruction of the library' unwinds
+[ ! "$differs" ] || run_case 'the library from the assembly made anew passes its tests' \
+    make check ASSEMBLY="$scratch/assembly" OUT="$scratch/out"
+if command -v gdb > "$scratch/case"; then
+    run_case 'gdb finds main from each instruction of the library' unwinds
 else
     skip 'the unwind tables of the library' gdb
 fi
-if command -v node > "$room/case"; then
-    note 'the library for WebAssembly gives the hashes of c/vectors.tsv' wasm
+if command -v node > "$scratch/case"; then
+    run_case 'the library for WebAssembly gives the hashes of c/vectors.tsv' wasm
 else
     skip 'the library for WebAssembly' node
 fi

@@ -1,0 +1,248 @@
+"""Calls of any length, by induction over the turns of a loop.
+
+The code is cut at two places: the head of its loop, and its exit, the first place after the loop.
+Each has an invariant (forms.py), which speaks of how much was taken of the bytes so far. Code is
+run with symbols from one place to the next cut or return, in three ways:
+
+1. `begin`: whatever arrives from a call's first instruction has the invariant of where it arrives.
+2. `turn`: whatever arrives from any state that has the head's invariant has the invariant of where
+   it arrives. If it arrives at the head again, it took some bytes on the way.
+3. `end`: from any state that has the exit's invariant, the call returns and stores what it must.
+
+On each way, what was multiplied and written must be what the definition has next. So by induction
+over its arrivals, each call has the right state at each of them, and what it returns is right too.
+It does return, since each turn takes some bytes, and the invariant says that no more are taken than
+there are.
+
+The cuts and the invariants are found by trying, and how doesn't matter: if they are wrong or too
+weak, one of the three ways fails.
+
+Lengths are GRAIN * q + r, with q at least 1. The number q stays a symbol. In the first two ways, so
+does r; in the third, each r is run by itself, so that the number of bytes after the loop is known.
+"""
+import collections
+import z3
+from calls import Call
+from forms import Arrival, Invariant, World
+from machine import Seen
+from memory import Array
+from terms import Refused, Unknown, bv, simple, sym, symbols
+
+# To find the loop, these calls are run: with a huge q, and with a small one and a remainder.
+LONG, TURNS, REST = 2**20, 12, 40
+
+
+class Induction:
+    """Calls of one kind. The code counts bytes in units of UNIT; a step of the definition takes
+    SIZE bytes. A kind has these methods, of which the first three begin a call, and set `base` and
+    `length` (of its bytes) and `states` (the definition's words after each of its next steps):
+    - enter(least, ...): a call before its first instruction; returns its arguments
+    - again(): a call at the head, in any state, when `units` were taken
+    - finish(rest): a call at the exit, in any state, when so many bytes are left
+    - steps(cpu): how many steps were made since, after checking all that they make
+    - check_end(cpu): checks a return"""
+    NAME, UNIT, SIZE, GRAIN = '', 8, 8, 128
+    # How many low bits of the length a case fixes, and the number that they are.
+    LOW, low = 0, 0
+    # What means the same at each arrival, beside q, r, and what the caller had in registers.
+    STABLE = frozenset({'sp', 'return', 'bytes', 'words', 'out', 'rand', 'room', 'padding byte',
+                        *(f'end[{k}]' for k in range(-136, 0))})
+
+    def __init__(self, library, version, *case):
+        self.library, self.version, self.case = library, version, case
+        self.invariants, self.seen, self.head, self.exit = {}, Seen(), None, None
+        width = self.GRAIN.bit_length() - 1
+        self.q, self.r = sym(f'q{width}', 64 - width), sym(f'r{width}', width - self.LOW)
+
+    def prove(self):
+        self.head, self.exit = self.find_cuts()
+        self.guess()
+        self.settle()
+        return self
+
+    def settle(self):
+        """Weakens the invariants until no way drops more of them, and shows what they lead to."""
+        while not (self.turn() and self.begin()):
+            pass
+        self.end()
+
+    def new_call(self):
+        self.call = Call(self.library, self.version, self.NAME)
+        self.call.cpu.seen = self.seen
+        self.seen.order.clear()
+        return self.call
+
+    def stable(self):
+        callers = map(symbols, self.call.cpu.before.values())
+        return self.STABLE | symbols(self.r) | symbols(self.q) | frozenset().union(*callers)
+
+    def many(self, least=1, r=None):
+        """The term GRAIN * q + r, which is the bits of q and r side by side. Unless r is given, it
+        is any number that has the low bits of this case."""
+        self.call.facts.add(z3.UGE(self.q, least))
+        if r is not None:
+            r = bv(r, 64 - self.q.size())
+        else:
+            r = z3.Concat(self.r, bv(self.low, self.LOW)) if self.LOW else self.r
+        return simple(z3.Concat(self.q, r))
+
+    def start(self, least=1, sure=False, **more):
+        """A call before its first instruction, which is accepted if that is to be sure."""
+        self.units = bv(0)
+        args, cpu = self.enter(least, *self.case, **more), self.call.cpu
+        cpu.r.update(zip(cpu.ARGS, args))
+        if sure:
+            cpu.facts.add(self.accepted())
+        self.call.check_possible()
+        return cpu
+
+    def accepted(self):
+        return z3.BoolVal(True)
+
+    def run(self, cpu, pc=None):
+        """The arrivals and the returns."""
+        return cpu.run(pc or self.library.functions[self.call.name], (self.head, self.exit))
+
+    def find_cuts(self):
+        """The head is the first of the places to which a long call comes most often. The exit is
+        the first place outside of the loop that a call with one turn or none comes to too."""
+        found = self.library.found
+        if (self.NAME, self.version) not in found:
+            few, many = self.way(1), self.way(TURNS)
+            often = collections.Counter(many)
+            head = max(many, key=often.get)
+            if often[head] < 2:
+                raise Unknown(f'{self.call.name}: no loop was found')
+            last = len(many) - 1 - many[::-1].index(head)
+            inside = set(many[many.index(head):last])
+            exits = [pc for pc in many[last:] if pc not in inside and (head in few or pc in few)]
+            found[self.NAME, self.version] = head, exits[0]
+        return found[self.NAME, self.version]
+
+    def way(self, q):
+        """The places to which an accepted call of GRAIN * q + REST bytes comes. What it does after
+        the loop is not checked here."""
+        cpu = self.start(1, True, front=self.GRAIN * (q + 1))
+        cpu.facts.add(self.q == q, self.r == REST >> self.LOW)
+        try:
+            list(cpu.run(self.library.functions[self.call.name]))
+        except Refused:
+            pass
+        return list(self.seen.order)
+
+    def guess(self):
+        """Guesses the invariant of the head from two arrivals of a long call, and how many bytes a
+        turn takes. That of the exit is guessed when a turn arrives there."""
+        one, _ = next(self.run(self.start(LONG, True)))
+        other, _ = next(self.run(one.copy(), self.head))
+        self.step = self.SIZE * (self.steps(other) - self.steps(one))
+        if self.step <= 0 or self.GRAIN % self.step and self.step % self.GRAIN:
+            raise Unknown(f'{self.call.name}: a turn takes {self.step} bytes')
+        self.invariants[self.head] = Invariant(
+            self.stable(), self.arrival(one), self.arrival(other))
+
+    def arrival(self, cpu):
+        steps = self.steps(cpu)
+        units = simple(self.units + self.SIZE // self.UNIT * steps)
+        world = World(self.states[steps], units, self.base, self.length)
+        return Arrival(cpu, world, self.conditions(world))
+
+    def left(self, world):
+        """How many bytes are left."""
+        return simple(world.length - self.UNIT * world.units)
+
+    def conditions(self, world):
+        """Conditions by name, of which an invariant has some."""
+        left, rest = self.left(world), self.rest()
+        most = z3.LShR(world.length, self.UNIT.bit_length() - 1)
+        return {'not too much': z3.ULE(world.units, most),
+                'whole turns': left & (self.step - 1) == rest,
+                'some is left': left != 0,
+                'a turn is left': z3.UGE(left, self.step),
+                'the rest is left': left == rest}
+
+    def rest(self):
+        """How many bytes are left after the last turn."""
+        return simple(self.length & (self.modulus() - 1))
+
+    def modulus(self):
+        """A power of two. The length modulo this is left after the last turn."""
+        return min(self.step, self.GRAIN)
+
+    def begin(self):
+        """Runs calls from their first instruction. Returns whether the invariants hold then."""
+        return self.arrive_all(self.run(self.start()))
+
+    def turn(self):
+        """Runs one turn from any state at the head. Returns whether the invariants hold then."""
+        self.units, call = sym('units'), self.new_call()
+        self.make(self.head, self.again())
+        return self.arrive_all(self.run(call.cpu, self.head), turned=True)
+
+    def arrive_all(self, arrivals, turned=False):
+        """Drops what doesn't hold at an arrival. Returns whether all did. Checks returns."""
+        fits = True
+        for cpu, pc in arrivals:
+            if pc is None:
+                cpu.check_return()
+                self.leave_early(cpu)
+                continue
+            if turned and pc == self.head and not self.steps(cpu):
+                cpu.refuse('a turn that takes nothing')
+            arrival = self.arrival(cpu)
+            if pc not in self.invariants:
+                self.invariants[pc] = Invariant(self.stable(), arrival, arrival)
+            fits = self.invariants[pc].admit(arrival) and fits
+        return fits
+
+    def leave_early(self, cpu):
+        """Judges a return that comes before the exit."""
+        cpu.refuse('a return before the end')
+
+    def make(self, pc, words, change=lambda term: term):
+        """Puts the call into any state that has the invariant of this place."""
+        world, invariant = World(words, self.units, self.base, self.length), self.invariants[pc]
+        conditions = self.conditions(world)
+        self.call.facts.add(*(conditions[k] for k in invariant.holding))
+        invariant.make(self.call.cpu, world, change)
+        self.call.check_possible()
+
+    def end(self):
+        """Runs what follows the loop, for each remainder of the length."""
+        if self.exit not in self.invariants:
+            raise Refused('no turn leads out of the loop')
+        if 'not too much' not in self.invariants[self.head].holding:
+            raise Refused('a turn may begin after more bytes were taken than there are')
+        if not {'the rest is left', 'not too much'} <= self.invariants[self.exit].holding:
+            raise Refused('after the last turn, more bytes or fewer are left than the rest')
+        for remainder in range(self.low, self.GRAIN, 2**self.LOW):
+            self.leave(remainder)
+
+    def leave(self, remainder):
+        """From the exit to the return. What was taken follows from what is left. If the invariant
+        says that some is left, calls with no rest end before, which `leave_early` judges."""
+        rest = remainder % self.modulus()
+        if not rest and 'some is left' in self.invariants[self.exit].holding:
+            return
+        call, r = self.new_call(), bv(remainder >> self.LOW, self.r.size())
+        self.length, self.units = self.after_turns(remainder, rest)
+        self.make(self.exit, self.finish(rest),
+                  lambda term: simple(z3.substitute(term, (self.r, r))))
+        for cpu, _ in call.cpu.run(self.exit):
+            cpu.check_return()
+            self.call.check_all_products(cpu)
+            self.check_end(cpu)
+
+    def after_turns(self, remainder, rest):
+        """The length, and the units that were taken when the last turn ends."""
+        taken = z3.LShR(self.many(1, remainder - rest), self.UNIT.bit_length() - 1)
+        return self.many(1, remainder), simple(taken)
+
+    def windows(self, base, front, end, more=0):
+        """Passes the last of the bytes, and those from `base` on; `more` follow the length. A byte
+        in both is read from the last. It then has another symbol than in the front, as if it could
+        differ, so that code may be refused for it and never passed."""
+        after = self.base + self.length + more
+        memory, limit = self.call.memory, simple(after - base)
+        memory.add(Array('end', after, -len(end), 0), end, -len(end))
+        memory.add(Array('front', base, 0, len(front), limit=limit), front)
