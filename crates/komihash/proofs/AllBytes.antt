@@ -1,11 +1,10 @@
 -- The bytes of words: how many, by index, and those of words that store bytes.
 use Rattle.std.proofs.Common.{◌≡◌, ℕ, zero, suc, ◌+◌, ◌*◌, ◌/◌, ◌%◌, ◌<◌, ◌≤◌, List, [], ◌∷◌, ◌-◌}
 use Rattle.std.proofs.Common.{length, take, drop, get_or, refl, ap, arith, ◌∙◌, sym, take-add, w64}
-use Rattle.std.proofs.lemmas.List.{drop-drop, length-drop, length-take, length-take-le}
+use Rattle.std.proofs.lemmas.List.{drop-drop, length-drop, length-take-le}
 use Rattle.std.proofs.lemmas.List.{take-append-drop, take-append-le, take_all}
 use Rattle.std.proofs.lemmas.Slice.{take-put_mid, drop-put_mid}
 use borrow.Rule.Slice.PartMut.{put_mid}
-use Rattle.std.proofs.Math.Pow.{pow_mono}
 use Rattle.std.proofs.Math.Nat.{div-div-eq-div-mul}
 use Rattle.std.specs.Int.{to_le_bytes}
 use Rattle.std.specs.Simd.Lanes.{digits_l}
@@ -13,7 +12,7 @@ use Rattle.komihash.specs.Internals.{stored_words, whole_words}
 use Rattle.komihash.specs.Words.{AreBytes, AreWords, word_of, all_bytes}
 use Rattle.komihash.proofs.Lists.{Covers, take-append}
 use Rattle.komihash.proofs.WholeWords.{length-whole_words}
-use Rattle.komihash.proofs.WordOf.{AreBytes-drop, AreBytes-take, word_of-lt}
+use Rattle.komihash.proofs.WordOf.{AreBytes-drop, word_of-take-lt}
 
 pub length-all_bytes : (ws : List ℕ) → length (all_bytes ws) ≡ 8 * length ws
 length-all_bytes [] = refl
@@ -93,10 +92,7 @@ pub AreWords-stored_words : (n : ℕ) (xs : List ℕ) → AreBytes xs → AreWor
 unfolding stored_words
 AreWords-stored_words zero xs are = tt
 AreWords-stored_words (suc n) xs are =
-    let size : 8 * length (take 8 xs) ≤ 64 = omega (arith, length-take 8 xs) in (
-      omega (arith, word_of-lt (take 8 xs) (AreBytes-take 8 xs are), pow_mono {j = 64} size),
-      AreWords-stored_words n (drop 8 xs) (AreBytes-drop 8 xs are),
-    )
+    (word_of-take-lt 8 xs are, AreWords-stored_words n (drop 8 xs) (AreBytes-drop 8 xs are))
 
 pub stored_words-all_bytes : (ws : List ℕ) → AreWords ws
     → stored_words (length ws) (all_bytes ws) ≡ ws

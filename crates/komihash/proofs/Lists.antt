@@ -1,6 +1,8 @@
 -- Lists that are cut, joined and written over piece by piece.
 use Rattle.std.proofs.Common.{◌≡◌, ℕ, zero, suc, ◌+◌, ◌-◌, ◌≤◌, List, [], ◌∷◌, ◌++◌, length, take}
-use Rattle.std.proofs.Common.{drop, set, ap, arith, refl}
+use Rattle.std.proofs.Common.{drop, set, ap, arith}
+use Rattle.std.proofs.lemmas.Bool.{cases_lt}
+use Rattle.std.proofs.lemmas.Grind.{elements}
 use Rattle.std.proofs.lemmas.List.{take-append-drop}
 use Rattle.std.proofs.lemmas.Simd.{put_chunk_is}
 use Rattle.std.specs.Simd.Lanes.{put_chunk}
@@ -9,11 +11,7 @@ use borrow.Rule.Slice.PartMut.{put_mid, mid_of}
 -- the first n items of two pieces: those of the first, and as many of the second as are missing
 pub take-append : (n : ℕ) (xs ys : List ℕ)
     → take n (xs ++ ys) ≡ take n xs ++ take (n - length xs) ys
-take-append zero xs ys = let none : 0 - length xs ≡ 0 = omega arith in rw none refl
-take-append (suc n) [] ys = let all : suc n - 0 ≡ suc n = omega arith in rw all refl
-take-append (suc n) (x ∷ xs) ys =
-    let left : suc n - suc (length xs) ≡ n - length xs = omega arith in
-    rw left (ap (λ zs. x ∷ zs) (take-append n xs ys))
+take-append n xs ys = grind (arith, elements, cases_lt)
 
 -- the first n items of out are those of all, and the others those of old
 pub record Covers (n : ℕ) (out all old : List ℕ) : Type 0 where

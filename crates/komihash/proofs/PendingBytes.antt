@@ -8,7 +8,7 @@ use Rattle.std.proofs.lemmas.Grind.{elements}
 use Rattle.std.proofs.lemmas.List.{append_assoc, append-nil, drop_all, drop-append-le}
 use Rattle.std.proofs.lemmas.List.{take-append-drop, take-append-le}
 use Rattle.std.proofs.Math.Seq.{drop-append-add}
-use Rattle.komihash.specs.Internals.{stored_words, pending_bytes, ArePending, Stores, StoresBut}
+use Rattle.komihash.specs.Internals.{stored_words, pending_bytes, ArePending, StoresBut}
 use Rattle.komihash.specs.Internals.{whole_words, stored_word}
 use Rattle.komihash.specs.Words.{AreBytes, word_of}
 use Rattle.komihash.proofs.AllBytes.{AreBytes-all_bytes, bytes-stored_words}
@@ -29,7 +29,7 @@ put_word but i n x within is = grind (arith, elements, cases_eq, but.words, but.
 
 -- none is missing
 pub all_stored : {ws zs : List ℕ} {gap gap_end : ℕ} → StoresBut ws zs gap gap_end
-    → (gap < 8 → gap_end ≤ gap) → Stores ws zs
+    → (gap < 8 → gap_end ≤ gap) → ws ≡ stored_words 8 zs
 all_stored but none =
     grind (arith, elements, but.words, but.size, length-stored_words, get_or-stored_words)
 
@@ -53,7 +53,7 @@ module _ {ws : List ℕ} {len : ℕ} (are : ArePending ws len) where
 
   -- bytes put after them
   module _ (new bytes : List ℕ) (typed : (k : ℕ) → Fits w8 (get_or bytes k 0))
-      (is : Stores new (pending ++ bytes)) where
+      (is : new ≡ stored_words 8 (pending ++ bytes)) where
     length_put : length (pending ++ bytes) ≡ len + length bytes
     length_put = omega (arith, length-append pending bytes)
 
@@ -87,14 +87,20 @@ module _ {ws : List ℕ} {len : ℕ} (are : ArePending ws len) where
   pub AreBytes_word : (i : ℕ) → AreBytes (take 8 (drop (8 * i) pending))
   AreBytes_word i = search bytes_typed
 
-  abbrev partial : List ℕ
+  abbrev pub partial : List ℕ
   partial = drop (8 * (len / 8)) pending
 
-  length-partial : length partial ≡ len % 8
+  pub length-partial : length partial ≡ len % 8
   length-partial = omega (arith, are.count, length-drop (8 * (len / 8)) pending)
 
+  -- the words after the partial word are 0, whatever is stored there
+  pub zero_after : (k : ℕ) → len / 8 < k → k < 8 → (word : ℕ)
+      → get_or (set ws (len / 8) word) k 0 ≡ 0
+  zero_after k lt few word = grind (arith, elements, get_or_pending k, drop_all (8 * k) pending)
+
   -- bytes put after them change no word before the partial word
-  pub before_partial : (bytes : List ℕ) (gap_end : ℕ) → len + length bytes ≤ 8 * gap_end
+  before_partial : (bytes : List ℕ) (gap_end : ℕ)
+      → (gap_end < 8 → len + length bytes ≤ 8 * gap_end)
       → StoresBut ws (pending ++ bytes) (len / 8) gap_end
   before_partial bytes gap_end room = record {
     size = omega (arith, ap length are.words, length-stored_words 8 pending);
@@ -105,7 +111,7 @@ module _ {ws : List ℕ} {len : ℕ} (are : ArePending ws len) where
   }
 
   -- the partial word with those of them that fit
-  pub partial_joined : (bytes : List ℕ) → AreBytes bytes
+  partial_joined : (bytes : List ℕ) → AreBytes bytes
       → bit_or (get_or ws (len / 8) 0) (word_of (take 8 bytes) * 2 ^ (8 * (len % 8)) % 2 ^ 64)
       ≡ stored_word (pending ++ bytes) (len / 8)
   partial_joined bytes typed =
@@ -117,6 +123,17 @@ module _ {ws : List ℕ} {len : ℕ} (are : ArePending ws len) where
             (AreBytes-take 8 bytes typed) (omega (arith, length-take 8 partial)) (omega arith),
       )
       (ap word_of (grind (arith, are.count, take-take {A = ℕ}, drop-append-le, take-append)))
+
+  -- with that word stored, the words after it are missing, but for those that stay 0
+  pub partial_stored : (bytes : List ℕ) (word gap gap_end : ℕ) → AreBytes bytes
+      → word ≡ word_of (take 8 bytes)
+      → (gap ≤ len / 8 + 1) × (gap_end < 8 → len + length bytes ≤ 8 * gap_end)
+      → StoresBut
+      (set ws (len / 8) (bit_or (get_or ws (len / 8) 0) (word * 2 ^ (8 * (len % 8)) % 2 ^ 64)))
+      (pending ++ bytes) gap gap_end
+  partial_stored bytes word gap gap_end typed is (le, room) =
+      put_word (before_partial bytes gap_end room) (len / 8) gap _ (omega arith)
+      (λ _. rw is (partial_joined bytes typed))
 
 pub ruleset pending_laws =
     (ArePending_none, bytes_put, ArePending_put, words_put, get_or_pending, read_words)

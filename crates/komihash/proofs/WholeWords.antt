@@ -2,7 +2,7 @@
 use Rattle.std.proofs.Common.{◌≡◌, ℕ, zero, suc, ◌+◌, ◌*◌, ◌/◌, ◌<◌, ◌≤◌, List, [], ◌∷◌, ◌++◌}
 use Rattle.std.proofs.Common.{length, take, drop, get_or, refl, ap, arith, zero-add, suc-add}
 use Rattle.std.proofs.lemmas.List.{length-append, length-drop, drop-drop, take-append-le}
-use Rattle.std.proofs.lemmas.List.{drop-append-le, take_all}
+use Rattle.std.proofs.lemmas.List.{drop-append-le, drop_all, take_all}
 use Rattle.komihash.specs.Internals.{stored_words, whole_words}
 use Rattle.komihash.specs.Words.{word_of, words_of}
 
@@ -32,15 +32,26 @@ whole_words-few xs lt = let none : length xs / 8 ≡ 0 = omega arith in rw none 
 pub ruleset read_words = (length-stored_words, get_or-stored_words)
 
 -- a cut after whole words, and more words after it
+stored_words-cut : (n k : ℕ) (xs ys : List ℕ) → 8 * n ≤ length xs
+    → stored_words (n + k) (xs ++ ys) ≡ stored_words n xs ++ stored_words k (drop (8 * n) xs ++ ys)
+unfolding stored_words
+stored_words-cut zero k xs ys le = rw zero-add refl
+stored_words-cut (suc n) k xs ys le =
+    let next : 8 * suc n ≡ 8 + 8 * n = omega arith in
+    let size = length-drop 8 xs in
+    rw (
+      suc-add,
+      next,
+      ← drop-drop (8 * n) 8 xs,
+      take-append-le 8 xs ys (omega arith),
+      drop-append-le 8 xs ys (omega arith),
+    )
+    (ap (λ ws. word_of (take 8 xs) ∷ ws) (stored_words-cut n k (drop 8 xs) ys (omega arith)))
+
 pub stored_words-append : (n k : ℕ) (xs ys : List ℕ) → length xs ≡ 8 * n
     → stored_words (n + k) (xs ++ ys) ≡ stored_words n xs ++ stored_words k ys
-unfolding stored_words
-stored_words-append zero k [] ys e = rw zero-add refl
-stored_words-append zero k (x ∷ xs) ys e = absurd (omega arith)
-stored_words-append (suc n) k xs ys e =
-    rw (suc-add, take-append-le 8 xs ys (omega arith), drop-append-le 8 xs ys (omega arith))
-    (ap (λ ws. word_of (take 8 xs) ∷ ws)
-    (stored_words-append n k (drop 8 xs) ys (omega (arith, length-drop 8 xs))))
+stored_words-append n k xs ys e =
+    rw (drop_all (8 * n) xs (omega arith)) at (stored_words-cut n k xs ys (omega arith))
 
 pub whole_words-append : (xs ys : List ℕ) (k : ℕ) → length xs ≡ 8 * k
     → whole_words (xs ++ ys) ≡ whole_words xs ++ whole_words ys
@@ -54,20 +65,10 @@ pub stored_words-last : (n : ℕ) (xs ys : List ℕ) → length xs / 8 ≡ n
     → length xs + length ys ≤ 8 * n + 8
     → stored_words (n + 1) (xs ++ ys) ≡ stored_words n xs ++ word_of (drop (8 * n) xs ++ ys) ∷ []
 unfolding stored_words
-stored_words-last zero xs ys e le =
-    rw (take_all 8 (xs ++ ys) (omega (arith, length-append xs ys))) refl
-stored_words-last (suc n) xs ys e le =
-    let size = length-drop 8 xs in
-    let next : 8 * suc n ≡ 8 + 8 * n = omega arith in
-    rw (
-      suc-add,
-      next,
-      ← drop-drop (8 * n) 8 xs,
-      take-append-le 8 xs ys (omega arith),
-      drop-append-le 8 xs ys (omega arith),
-    )
-    (ap (λ ws. word_of (take 8 xs) ∷ ws)
-    (stored_words-last n (drop 8 xs) ys (omega arith) (omega arith)))
+stored_words-last n xs ys e le =
+    let size = length-append (drop (8 * n) xs) ys in
+    let one = take_all 8 (drop (8 * n) xs ++ ys) (omega (arith, length-drop (8 * n) xs)) in
+    rw one at (stored_words-cut n 1 xs ys (omega arith))
 
 -- bytes that are all in whole words
 pub words_of-whole : (n : ℕ) (xs : List ℕ) → length xs ≡ 8 * n → words_of xs ≡ stored_words n xs

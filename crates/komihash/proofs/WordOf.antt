@@ -2,65 +2,79 @@
 use Rattle.std.proofs.Common.{◌≡◌, ℕ, zero, suc, ◌+◌, ◌-◌, ◌*◌, ◌/◌, ◌%◌, ◌^◌, ◌<◌, ◌≤◌, List, []}
 use Rattle.std.proofs.Common.{◌∷◌, ◌++◌, length, take, drop, get_or, ap, arith, ◌∙◌, sym, take-add}
 use Rattle.std.proofs.Common.{Fits, w8, refl, take-take, drop-drop, replicate}
+use Rattle.std.proofs.lemmas.Bool.{cases_lt}
+use Rattle.std.proofs.lemmas.Grind.{elements}
 use Rattle.std.proofs.lemmas.List.{length-append, length-drop, length-take-le, take_all}
-use Rattle.std.proofs.lemmas.List.{get_or-drop, drop-take, drop-append-le, take-append-le}
-use Rattle.std.proofs.lemmas.Nat.{pow-add, shl-shr, shr-shr, mod-pow-add, or_shifted, or_comm}
-use Rattle.std.proofs.Math.Nat.{mul-mod_left, zero-mod, zero-div}
+use Rattle.std.proofs.lemmas.List.{get_or-drop, get_or_past, drop-take, drop-append-le}
+use Rattle.std.proofs.lemmas.List.{take-append-le, take_at, drop_at}
+use Rattle.std.proofs.lemmas.Nat.{pow-add, pow_pos, shl-shr, shr_high, mod_low, mod-pow-add}
+use Rattle.std.proofs.lemmas.Simd.{Each1-from_get_or, get_or_wider}
+use Rattle.std.proofs.Math.Nat.{mul-mod_left}
+use Rattle.std.specs.Int.Bits.{or_shifted_r}
 use Rattle.std.specs.Prelude.{bit_or}
 use Rattle.std.specs.Simd.Lanes.{number_l}
 use Rattle.komihash.specs.Words.{AreBytes, word_of}
 
-pub AreBytes-append : (xs ys : List ℕ) → AreBytes xs → AreBytes ys → AreBytes (xs ++ ys)
-AreBytes-append [] ys h g k = g k
-AreBytes-append (x ∷ xs) ys h g zero = h 0
-AreBytes-append (x ∷ xs) ys h g (suc k) = AreBytes-append xs ys (λ j. h (suc j)) g k
+-- ---- lists of bytes
 
 -- what the type of a slice of bytes says
 pub AreBytes-typed : (xs : List ℕ) → ((k : ℕ) → Fits w8 (get_or xs k 0)) → AreBytes xs
 AreBytes-typed xs h k = (h k).fits
 
-pow_byte : (n : ℕ) → 2 ^ (8 * suc n) ≡ 256 * 2 ^ (8 * n)
-pow_byte n = let e : 8 * suc n ≡ 8 + 8 * n = omega arith in ap (λ k. 2 ^ k) e ∙ pow-add 2 8 (8 * n)
+AreBytes-one : (b : ℕ) → b < 256 → AreBytes (b ∷ [])
+AreBytes-one b h k = grind (arith, elements)
 
--- the word of two pieces, the second shifted by the length of the first
-pub word_of-append : (xs ys : List ℕ)
-    → word_of (xs ++ ys) ≡ word_of ys * 2 ^ (8 * length xs) + word_of xs
-word_of-append [] ys = omega arith
-word_of-append (x ∷ xs) ys =
-    omega (arith, word_of-append xs ys, ap (λ p. word_of ys * p) (pow_byte (length xs)))
-
-pub word_of-lt : (xs : List ℕ) → AreBytes xs → word_of xs < 2 ^ (8 * length xs)
-word_of-lt [] h = omega arith
-word_of-lt (x ∷ xs) h = omega (arith, h 0, word_of-lt xs (λ k. h (suc k)), pow_byte (length xs))
+pub AreBytes-append : (xs ys : List ℕ) → AreBytes xs → AreBytes ys → AreBytes (xs ++ ys)
+AreBytes-append xs ys h g k = grind (arith, elements, cases_lt, h k, g (k - length xs))
 
 pub AreBytes-take : (k : ℕ) (xs : List ℕ) → AreBytes xs → AreBytes (take k xs)
-AreBytes-take zero xs h i = omega arith
-AreBytes-take (suc k) [] h i = omega arith
-AreBytes-take (suc k) (x ∷ xs) h zero = h 0
-AreBytes-take (suc k) (x ∷ xs) h (suc i) = AreBytes-take k xs (λ j. h (suc j)) i
+AreBytes-take k xs h i = grind (arith, elements, get_or_past {X = ℕ}, cases_lt, h i)
 
 pub AreBytes-drop : (k : ℕ) (xs : List ℕ) → AreBytes xs → AreBytes (drop k xs)
 AreBytes-drop k xs h i = rw get_or-drop (h (k + i))
 
--- a mask leaves the first bytes, and a shift to the right the others
+-- ---- the words of two pieces
+
+pow_byte : (n : ℕ) → 2 ^ (8 * suc n) ≡ 256 * 2 ^ (8 * n)
+pow_byte n = let e : 8 * suc n ≡ 8 + 8 * n = omega arith in ap (λ k. 2 ^ k) e ∙ pow-add 2 8 (8 * n)
+
+-- the word of the first k bytes, and the word of the others above it
+word_of-cut : (k : ℕ) (xs : List ℕ)
+    → word_of xs ≡ word_of (drop k xs) * 2 ^ (8 * k) + word_of (take k xs)
+word_of-cut zero xs = omega arith
+word_of-cut (suc k) [] = omega arith
+word_of-cut (suc k) (x ∷ xs) =
+    omega (arith, word_of-cut k xs, ap (λ p. word_of (drop k xs) * p) (pow_byte k))
+
+-- the word of two pieces, the second shifted by the length of the first
+word_of-append : (xs ys : List ℕ)
+    → word_of (xs ++ ys) ≡ word_of ys * 2 ^ (8 * length xs) + word_of xs
+word_of-append xs ys =
+    rw (take_at xs ys _ refl, drop_at xs ys _ refl) at (word_of-cut (length xs) (xs ++ ys))
+
+-- zeros after others
+pub word_of-zeros : (xs : List ℕ) (k : ℕ) → word_of (xs ++ replicate k 0) ≡ word_of xs
+word_of-zeros [] zero = refl
+word_of-zeros [] (suc k) = omega (arith, word_of-zeros [] k)
+word_of-zeros (x ∷ xs) k = omega (arith, word_of-zeros xs k)
+
+pub word_of-take-lt : (k : ℕ) (xs : List ℕ) → AreBytes xs → word_of (take k xs) < 2 ^ (8 * k)
+word_of-take-lt zero xs h = omega arith
+word_of-take-lt (suc k) [] h = pow_pos (8 * suc k)
+word_of-take-lt (suc k) (x ∷ xs) h =
+    omega (arith, h 0, word_of-take-lt k xs (λ i. h (suc i)), pow_byte k)
+
+-- so a mask leaves the first bytes, and a shift to the right the others
 word_of-take : (k : ℕ) (xs : List ℕ) → AreBytes xs → word_of (take k xs) ≡ word_of xs % 2 ^ (8 * k)
-word_of-take zero xs h = omega arith
-word_of-take (suc k) [] h = sym (zero-mod (2 ^ (8 * suc k)))
-word_of-take (suc k) (x ∷ xs) h =
-    let high : (x + 256 * word_of xs) / 256 ≡ word_of xs = omega (arith, h 0) in
-    let low : (x + 256 * word_of xs) % 256 ≡ x = omega (arith, h 0) in
-    let bits : 8 * suc k ≡ 8 * k + 8 = omega arith in
-    rw (bits, mod-pow-add (x + 256 * word_of xs) (8 * k) 8, high, low)
-    (omega (arith, word_of-take k xs (λ j. h (suc j))))
+word_of-take k xs h =
+    rw (word_of-cut k xs) (sym (mod_low (word_of (drop k xs)) (8 * k) _ (word_of-take-lt k xs h)))
 
 pub word_of-drop : (k : ℕ) (xs : List ℕ) → AreBytes xs
     → word_of (drop k xs) ≡ word_of xs / 2 ^ (8 * k)
-word_of-drop zero xs h = omega arith
-word_of-drop (suc k) [] h = sym (zero-div (2 ^ (8 * suc k)))
-word_of-drop (suc k) (x ∷ xs) h =
-    let high : (x + 256 * word_of xs) / 256 ≡ word_of xs = omega (arith, h 0) in
-    let bits : 8 * suc k ≡ 8 + 8 * k = omega arith in
-    rw (bits, ← shr-shr (x + 256 * word_of xs) 8 (8 * k), high) (word_of-drop k xs (λ j. h (suc j)))
+word_of-drop k xs h =
+    rw (word_of-cut k xs) (sym (shr_high (word_of (drop k xs)) (8 * k) _ (word_of-take-lt k xs h)))
+
+-- ---- bytes that a shift to the left and `|` set after others
 
 -- what a shift to the left keeps
 pub shl_mod : (w b c : ℕ) → w * 2 ^ b % 2 ^ (c + b) ≡ w % 2 ^ c * 2 ^ b
@@ -75,13 +89,9 @@ word_of-join xs ys n h g size le =
     let fit : word_of ys * 2 ^ k % 2 ^ 64 ≡ word_of (take (8 - n) ys) * 2 ^ k =
     ap (λ w. word_of ys * 2 ^ k % 2 ^ w) bits ∙ shl_mod (word_of ys) k (8 * (8 - n))
     ∙ ap (λ w. w * 2 ^ k) (sym (word_of-take (8 - n) ys g)) in
-    let below : word_of xs < 2 ^ k = rw (← size) (word_of-lt xs h) in
+    let below = rw (take_all n xs (omega arith)) at (word_of-take-lt n xs h) in
     rw (fit, word_of-append xs (take (8 - n) ys), size)
-    (or_comm (word_of xs) _ ∙ or_shifted (word_of (take (8 - n) ys)) k (word_of xs) below)
-
-pub AreBytes-one : (b : ℕ) → b < 256 → AreBytes (b ∷ [])
-AreBytes-one b h zero = h
-AreBytes-one b h (suc k) = omega arith
+    (or_shifted_r (word_of (take (8 - n) ys)) k (word_of xs) below)
 
 -- one byte after others
 pub word_of-push : (xs : List ℕ) (n b : ℕ) → AreBytes xs → length xs ≡ n → n < 8 → b < 256
@@ -91,11 +101,7 @@ word_of-push xs n b h size few small =
     let all : take (8 - n) (b ∷ []) ≡ b ∷ [] = take_all (8 - n) (b ∷ []) (omega arith) in
     rw (one, all) at (word_of-join xs (b ∷ []) n h (AreBytes-one b small) size (omega arith))
 
--- zeros after others
-pub word_of-zeros : (xs : List ℕ) (k : ℕ) → word_of (xs ++ replicate k 0) ≡ word_of xs
-word_of-zeros [] zero = refl
-word_of-zeros [] (suc k) = omega (arith, word_of-zeros [] k)
-word_of-zeros (x ∷ xs) k = omega (arith, word_of-zeros xs k)
+-- ---- bytes that are read in pieces
 
 -- the bytes from index j on, read with the last n: a shift drops those before
 pub word_of-last : (n j s : ℕ) (xs : List ℕ) → AreBytes xs → n ≤ length xs → j ≤ length xs
@@ -146,11 +152,9 @@ pub two_words : (xs : List ℕ) → AreBytes xs → let n = number_l 256 (take 1
     (n % 2 ^ 64 ≡ word_of (take 8 xs)) × (n / 2 ^ 64 % 2 ^ 64 ≡ word_of (take 8 (drop 8 xs)))
 two_words xs are =
     let two = take 16 xs in
-    let next = take 8 (drop 8 xs) in
-    let are_two = AreBytes-take 16 xs are in
-    let are_next = AreBytes-take 8 (drop 8 xs) (AreBytes-drop 8 xs are) in (
-      sym (word_of-take 8 two are_two) ∙ ap word_of (take-take 8 16 xs (omega arith)),
-      ap (λ w. w % 2 ^ 64) (sym (word_of-drop 8 two are_two) ∙ ap word_of (drop-take 8 8 xs))
-          ∙ sym (word_of-take 8 next are_next)
-          ∙ ap word_of (take-take 8 8 (drop 8 xs) (omega arith)),
+    let each = Each1-from_get_or (λ x. x < 256) two 0 (λ k _. AreBytes-take 16 xs are k) in (
+      get_or_wider 256 8 (2 ^ 64) 2 two 0 refl each (omega arith)
+          ∙ ap word_of (take-take 8 16 xs (omega arith)),
+      get_or_wider 256 8 (2 ^ 64) 2 two 1 refl each (omega arith)
+          ∙ ap word_of (ap (take 8) (drop-take 8 8 xs) ∙ take-take 8 8 (drop 8 xs) (omega arith)),
     )

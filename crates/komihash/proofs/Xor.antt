@@ -7,12 +7,19 @@ use Rattle.komihash.specs.Rounds.{mix}
 use Rattle.komihash.specs.Internals.{xor_again}
 use Rattle.std.specs.Int.Bits.{xor_assoc, xor_comm, xor_disjoint, xor_zero_r}
 
+-- the first two change places
+pub xor_swap : (a b c : ℕ) → bit_xor a (bit_xor b c) ≡ bit_xor b (bit_xor a c)
+xor_swap a b c = sym (xor_assoc a b c) ∙ ap (λ x. bit_xor x c) (xor_comm a b) ∙ xor_assoc b a c
+
+-- by these laws `simp` puts words in one order
+ruleset order = (xor_assoc, xor_comm, xor_swap)
+
 -- a word is xored with a low half first, and then with the word that the half belongs to
 pub xor_late : (w low e : ℕ) → bit_xor (bit_xor w low) e ≡ bit_xor w (bit_xor e low)
-xor_late w low e = xor_assoc w low e ∙ ap (bit_xor w) (xor_comm low e)
+xor_late w low e = simp order
 
 pub xor_late_left : (w low e : ℕ) → bit_xor (bit_xor low w) e ≡ bit_xor (bit_xor e low) w
-xor_late_left w low e = xor_comm (bit_xor low w) e ∙ sym (xor_assoc e low w)
+xor_late_left w low e = simp order
 
 -- the factors of a product change places
 pub mix_swap : (x y e : ℕ) → mix x y e ≡ mix y x e
@@ -24,22 +31,15 @@ pub ruleset products = (xor_late, mul_comm)
 
 pub ruleset factors = (xor_late_left, xor_zero_r, mix_swap)
 
--- the first two change places
-pub xor_swap : (a b c : ℕ) → bit_xor a (bit_xor b c) ≡ bit_xor b (bit_xor a c)
-xor_swap a b c = sym (xor_assoc a b c) ∙ ap (λ x. bit_xor x c) (xor_comm a b) ∙ xor_assoc b a c
-
 -- the middle ones change places
 pub xor_middle : (a b c d : ℕ)
     → bit_xor (bit_xor a b) (bit_xor c d) ≡ bit_xor (bit_xor a c) (bit_xor b d)
-xor_middle a b c d =
-    xor_assoc a b (bit_xor c d) ∙ ap (bit_xor a) (xor_swap b c d)
-    ∙ sym (xor_assoc a c (bit_xor b d))
+xor_middle a b c d = simp order
 
 -- the first of four goes to the end
 pub xor_turn : (a b c d : ℕ)
     → bit_xor (bit_xor (bit_xor a b) c) d ≡ bit_xor (bit_xor (bit_xor b c) d) a
-xor_turn a b c d =
-    rw (xor_assoc a b c, xor_assoc a (bit_xor b c) d) (xor_comm a (bit_xor (bit_xor b c) d))
+xor_turn a b c d = simp order
 
 -- xor with the same word twice cancels (`xor_again`), also in other orders
 pub xor_back : (c x : ℕ) → bit_xor (bit_xor c x) c ≡ x

@@ -59,10 +59,6 @@ pair_of p = (bit_xor p.1 p.0, p.1)
 
 -- ---- pending bytes: in eight words, with zeros after the last byte
 
--- the eight words store these bytes
-abbrev pub Stores : List ℕ → List ℕ → Type 0
-Stores ws bytes = ws ≡ stored_words 8 bytes
-
 -- the first bytes of those that words store
 abbrev pub pending_bytes : List ℕ → ℕ → List ℕ
 pending_bytes ws len = take len (all_bytes ws)
@@ -71,7 +67,7 @@ pending_bytes ws len = take len (all_bytes ws)
 pub record ArePending (ws : List ℕ) (len : ℕ) : Type 0 where
   pub few : len < 64
   pub count : length (pending_bytes ws len) ≡ len
-  pub words : Stores ws (pending_bytes ws len)
+  pub words : ws ≡ stored_words 8 (pending_bytes ws len)
 
 -- the word at index k of those that store these bytes
 abbrev pub stored_word : List ℕ → ℕ → ℕ

@@ -22,8 +22,8 @@ fn hash_of_partial_word<const V: u8>(bytes: &[u8], seed: u64, tally: &mut Tally)
     ensures costs { Costs tally (hash_products (length bytes.now)) 0 }
 {
     let pair = seed_pair(seed, tally);
-    let last = read_partial_word(bytes, padding_byte::<V>(bytes));
-    close(pair, last, 0, tally)
+    let final_word = read_partial_word(bytes, padding_byte::<V>(bytes));
+    close(pair, final_word, 0, tally)
 }
 
 // The final word comes first, so that its shift doesn't take registers that the products need.
@@ -34,9 +34,9 @@ fn hash_of_one_word<const V: u8>(bytes: &[u8], seed: u64, tally: &mut Tally) -> 
     ensures hash { result ≡ komi V seed bytes.now }
     ensures costs { Costs tally (hash_products (length bytes.now)) 0 }
 {
-    let last = final_word_by_shift(bytes, padding_byte::<V>(bytes));
+    let final_word = final_word_by_shift(bytes, padding_byte::<V>(bytes));
     let pair = seed_pair(seed, tally);
-    close(pair, read_word(bytes), last, tally)
+    close(pair, read_word(bytes), final_word, tally)
 }
 
 #[inline(never)]
@@ -47,9 +47,9 @@ fn hash_of_two_words<const V: u8>(bytes: &[u8], seed: u64, tally: &mut Tally) ->
     ensures costs { Costs tally (hash_products (length bytes.now)) 0 }
 {
     let pair = seed_pair(seed, tally);
-    let last = final_word_by_branch(bytes, padding_byte::<V>(bytes));
+    let final_word = final_word_by_branch(bytes, padding_byte::<V>(bytes));
     let pair = pair_round(pair, read_word(bytes), word_at(bytes, 8), tally);
-    close(pair, last, 0, tally)
+    close(pair, final_word, 0, tally)
 }
 
 #[inline(never)]
@@ -60,8 +60,8 @@ fn hash_of_words<const V: u8>(bytes: &[u8], seed: u64, tally: &mut Tally) -> u64
     ensures costs { Costs tally (hash_products (length bytes.now)) 0 }
 {
     let pair = seed_pair(seed, tally);
-    let last = final_word_by_shift(bytes, padding_byte::<V>(bytes));
-    hash_from_pair(pair, &bytes, last_whole_word(bytes), last, tally)
+    let final_word = final_word_by_shift(bytes, padding_byte::<V>(bytes));
+    hash_from_pair(pair, &bytes, last_whole_word(bytes), final_word, tally)
 }
 
 #[inline(never)]
@@ -71,14 +71,14 @@ fn hash_of_blocks<const V: u8>(bytes: &[u8], seed: u64, tally: &mut Tally) -> u6
     ensures costs { Costs tally (hash_products (length bytes.now)) 0 }
 {
     let pair = seed_pair(seed, tally);
-    let last = final_word_by_branch(bytes, padding_byte::<V>(bytes));
+    let final_word = final_word_by_branch(bytes, padding_byte::<V>(bytes));
     let mut lanes = lanes_of(pair);
     let rest = absorb_blocks::<V>(&mut lanes, bytes, tally);
     let pair = join(&lanes, true);
     if rest.len() < 8 {
-        return close(pair, last, 0, tally);
+        return close(pair, final_word, 0, tally);
     }
-    hash_from_pair(pair, &rest, last_whole_word(rest), last, tally)
+    hash_from_pair(pair, &rest, last_whole_word(rest), final_word, tally)
 }
 
 /// Returns the hash of a message with a seed in version V, and counts its products in the tally.

@@ -69,7 +69,7 @@ pub(crate) fn pad<const V: u8>(bytes: &[u8], out: &mut [u64]) -> usize
 {
     let whole = bytes.len() / 8;
     let has_whole_word = whole > 0;
-    let last = if has_whole_word {
+    let final_word = if has_whole_word {
         final_word_by_shift(bytes, padding_byte::<V>(bytes))
     } else if bytes.is_empty() {
         0
@@ -77,7 +77,7 @@ pub(crate) fn pad<const V: u8>(bytes: &[u8], out: &mut [u64]) -> usize
         read_partial_word(bytes, padding_byte::<V>(bytes))
     };
     read_whole_words(bytes, out);
-    out[whole] = last;
+    out[whole] = final_word;
     whole + 1
 }
 

@@ -8,9 +8,8 @@ ghost use Rattle.std.specs.Prelude.{IsTrue, false, if◌then◌else◌};
 ghost use Rattle.std.proofs.Common.{sym};
 ghost use Rattle.komihash.specs.Counts.{Costs};
 ghost use Rattle.komihash.specs.Padding.{padding_byte};
-ghost use Rattle.komihash.specs.Internals.{pending_bytes, ArePending, Stores, StoresBut};
+ghost use Rattle.komihash.specs.Internals.{pending_bytes, ArePending, StoresBut};
 ghost use Rattle.komihash.specs.Internals.{stored_words, whole_words, final_word};
-ghost use Rattle.komihash.specs.Words.{AreBytes, word_of};
 
 use super::pads_with_two;
 use super::words::WholeWords;
@@ -44,6 +43,150 @@ impl Model for Pending {
       words = sym are.words i;
       len = are.count i;
     } };
+}
+
+// Appends fewer than eight bytes. What does not fit in the partial word is 0 if all fit.
+#[inline(always)]
+fn append_below_eight(words: &mut [u64; 8], len: usize, bytes: &[u8])
+    requires pending { ArePending words.old len }
+    requires below_8 { length bytes.now < 8 }
+    requires room { len + length bytes.now ≤ 64 }
+    ensures { words.new ≡ stored_words 8 (pending_bytes words.old len ++ bytes.now) }
+{
+    let word = read_partial_word(bytes, 0);
+    let bits = 8 * (len % 8);
+    words[len / 8] |= word << bits;
+    // The rotation has what the shift keeps, in its place, and below that, from the lowest byte on,
+    // what the shift drops. The difference is therefore what goes to the front of the next word.
+    words[(len / 8 + 1) % 8] |= word.rotate_left(bits as u32) - (word << bits);
+}
+
+// Appends those of eight or more bytes that complete the partial word.
+#[inline(always)]
+fn append_within_word(words: &mut [u64; 8], len: usize, bytes: &[u8])
+    requires pending { ArePending words.old len }
+    requires at_least_8 { 8 ≤ length bytes.now }
+    ensures { (gap gap_end : ℕ)
+        → (gap ≤ len / 8 + 1) × (gap_end < 8 → len + length bytes.now ≤ 8 * gap_end)
+        → StoresBut words.new (pending_bytes words.old len ++ bytes.now) gap gap_end }
+{
+    words[len / 8] |= read_word(bytes) << (8 * (len % 8));
+}
+
+// Stores two whole words, of the sixteen bytes from `from` on, at index `at`. If the words below
+// `at` are stored, then so are those below `at + 2`: the two continue the others, or overlap them.
+#[inline(always)]
+fn store_two_words(words: &mut [u64; 8], at: usize, bytes: &[u8], from: usize)
+    requires place { at < 7 }
+    requires within { from + 16 ≤ length bytes.now }
+    ensures { (xs : List ℕ) (n gap_end : ℕ) → StoresBut words.old (xs ++ bytes.now) at gap_end
+        → (length xs + from ≡ 8 * at) × (n ≤ at + 2)
+        → StoresBut words.new (xs ++ bytes.now) n gap_end }
+{
+    let two = u64x2::from_le_bytes(u8x16::from_slice(&bytes[from..]));
+    two.copy_to_slice(&mut words[at..]);
+}
+
+// Appends the bytes of eight or more that belong to whole words. Some complete the partial word,
+// and the words after it are stored two at a time, from both ends.
+#[inline(always)]
+fn append_whole_words(words: &mut [u64; 8], len: usize, bytes: &[u8])
+    requires pending { ArePending words.old len }
+    requires at_least_8 { 8 ≤ length bytes.now }
+    requires room { len + length bytes.now ≤ 64 }
+    ensures { StoresBut words.new (pending_bytes words.old len ++ bytes.now)
+        ((len + length bytes.now) / 8) ((len + length bytes.now) / 8 + 1) }
+{
+    append_within_word(words, len, bytes);
+    let at = len / 8;
+    let over = len % 8;
+    // How many words are whole with the bytes, from the partial word on.
+    let whole = (over + bytes.len()) / 8;
+    let has_two_more = whole >= 3;
+    if has_two_more {
+        store_two_words(words, at + 1, bytes, 8 - over);
+        let has_four_more = whole >= 5;
+        if has_four_more {
+            store_two_words(words, at + 3, bytes, 24 - over);
+            store_two_words(words, at + whole - 4, bytes, 8 * whole - 32 - over);
+        }
+        store_two_words(words, at + whole - 2, bytes, 8 * whole - 16 - over);
+    } else {
+        let has_one_more = whole == 2 || len + bytes.len() < 64;
+        if has_one_more {
+            // If only the partial word is whole, the bytes that are left take this word's place.
+            words[at + 1] = word_at(bytes, (8 - over).min(bytes.len() - 8));
+        }
+    }
+}
+
+// Appends eight bytes or more: those of whole words, and then those that are left.
+#[inline(always)]
+fn append_eight_or_more(words: &mut [u64; 8], len: usize, bytes: &[u8])
+    requires pending { ArePending words.old len }
+    requires at_least_8 { 8 ≤ length bytes.now }
+    requires room { len + length bytes.now ≤ 64 }
+    ensures { words.new ≡ stored_words 8 (pending_bytes words.old len ++ bytes.now) }
+{
+    append_whole_words(words, len, bytes);
+    let end = len + bytes.len();
+    let has_remainder = end < 64;
+    if has_remainder {
+        // By 8 last: LLVM would read seven bytes in three pieces if this shift came first.
+        words[end / 8] = word_at(bytes, bytes.len() - 8) >> (56 - 8 * (end % 8)) >> 8;
+    }
+}
+
+// Completes the block with the first of at least 64 bytes. The words after the partial word are
+// stored two at a time, and some of them up to four times, so that one test serves any number.
+#[inline(always)]
+fn append_long(words: &mut [u64; 8], len: usize, bytes: &[u8])
+    requires pending { ArePending words.old len }
+    requires at_least_64 { 64 ≤ length bytes.now }
+    ensures { words.new ≡ stored_words 8 (pending_bytes words.old len ++ bytes.now) }
+{
+    append_within_word(words, len, bytes);
+    let at = len / 8;
+    let has_two_more = at < 6;
+    if has_two_more {
+        let second = (at + 3).min(6);
+        let third = (at + 5).min(6);
+        store_two_words(words, at + 1, bytes, 8 * (at + 1) - len);
+        store_two_words(words, second, bytes, 8 * second - len);
+        store_two_words(words, third, bytes, 8 * third - len);
+        store_two_words(words, 6, bytes, 48 - len);
+    } else {
+        let next = word_at(bytes, 8 - len % 8);
+        let has_one_more = at == 6;
+        words[7] = if has_one_more { next } else { words[7] };
+    }
+}
+
+// Appends bytes after the first `len` pending ones, and counts them as kept. With LONG there are at
+// least 64, and only those that complete the block are appended. Only this function puts bytes into
+// the words.
+#[inline(always)]
+fn append_bytes<const LONG: bool>(words: &mut [u64; 8], len: usize, bytes: &[u8], tally: &mut Tally)
+    requires pending { ArePending words.old len }
+    requires long { IsTrue LONG → 64 ≤ length bytes.now }
+    requires room { LONG ≡ false → len + length bytes.now ≤ 64 }
+    ensures block { 64 ≤ len + length bytes.now
+        → words.new ≡ whole_words (pending_bytes words.old len ++ take (64 - len) bytes.now) }
+    ensures bytes { len + length bytes.now < 64
+        → pending_bytes words.new (len + length bytes.now)
+        ≡ pending_bytes words.old len ++ bytes.now }
+    ensures pending { len + length bytes.now < 64
+        → ArePending words.new (len + length bytes.now) }
+    ensures costs { Costs tally 0 (if LONG then 64 - len else length bytes.now) }
+{
+    tally.raise(0, bytes.len().min(64 - len));
+    if LONG {
+        append_long(words, len, bytes);
+    } else if bytes.len() < 8 {
+        append_below_eight(words, len, bytes);
+    } else {
+        append_eight_or_more(words, len, bytes);
+    }
 }
 
 impl Pending {
@@ -167,149 +310,5 @@ impl WholeWords for Pending {
     #[inline(always)]
     fn word(&self, at: usize) -> u64 {
         self.words[at]
-    }
-}
-
-// Appends the bytes of a word that fit in the partial word.
-#[inline(always)]
-fn append_within_word(words: &mut [u64; 8], len: usize, word: u64)
-    requires { ArePending words.old len }
-    ensures words { (bytes : List ℕ) (gap gap_end : ℕ) → AreBytes bytes
-        → word ≡ word_of (take 8 bytes)
-        → (gap ≤ len / 8 + 1) × (len + length bytes ≤ 8 * gap_end)
-        → StoresBut words.new (pending_bytes words.old len ++ bytes) gap gap_end }
-    ensures zeros { (k : ℕ) → len / 8 < k → k < 8 → slice_index words.new k ≡ 0 }
-{
-    words[len / 8] |= word << (8 * (len % 8));
-}
-
-// Appends fewer than eight bytes. What does not fit in the partial word is 0 if all fit.
-#[inline(always)]
-fn append_below_eight(words: &mut [u64; 8], len: usize, bytes: &[u8])
-    requires pending { ArePending words.old len }
-    requires below_8 { length bytes.now < 8 }
-    requires room { len + length bytes.now ≤ 64 }
-    ensures { Stores words.new (pending_bytes words.old len ++ bytes.now) }
-{
-    let word = read_partial_word(bytes, 0);
-    let bits = 8 * (len % 8);
-    append_within_word(words, len, word);
-    // The rotation has what the shift keeps, in its place, and below that, from the lowest byte on,
-    // what the shift drops. The difference is therefore what goes to the front of the next word.
-    words[(len / 8 + 1) % 8] |= word.rotate_left(bits as u32) - (word << bits);
-}
-
-// Stores two whole words, of the sixteen bytes from `from` on, at index `at`.
-#[inline(always)]
-fn store_two_words(words: &mut [u64; 8], at: usize, bytes: &[u8], from: usize)
-    requires place { at < 7 }
-    requires within { from + 16 ≤ length bytes.now }
-    ensures { (xs : List ℕ) (gap gap_end n : ℕ) → StoresBut words.old (xs ++ bytes.now) gap gap_end
-        → (length xs + from ≡ 8 * at) × (at ≤ gap) × (n ≤ at + 2)
-        → StoresBut words.new (xs ++ bytes.now) n gap_end }
-{
-    let two = u64x2::from_le_bytes(u8x16::from_slice(&bytes[from..]));
-    two.copy_to_slice(&mut words[at..]);
-}
-
-// Appends the bytes of eight or more that belong to whole words. Some complete the partial word,
-// and the words after it are stored two at a time, from both ends.
-#[inline(always)]
-fn append_whole_words(words: &mut [u64; 8], len: usize, bytes: &[u8])
-    requires pending { ArePending words.old len }
-    requires at_least_8 { 8 ≤ length bytes.now }
-    requires room { len + length bytes.now ≤ 64 }
-    ensures { StoresBut words.new (pending_bytes words.old len ++ bytes.now)
-        ((len + length bytes.now) / 8) ((len + length bytes.now) / 8 + 1) }
-{
-    append_within_word(words, len, read_word(bytes));
-    let at = len / 8;
-    let over = len % 8;
-    // How many words are whole with the bytes, from the partial word on.
-    let whole = (over + bytes.len()) / 8;
-    let has_two_more = whole >= 3;
-    if has_two_more {
-        store_two_words(words, at + 1, bytes, 8 - over);
-        let has_four_more = whole >= 5;
-        if has_four_more {
-            store_two_words(words, at + 3, bytes, 24 - over);
-            store_two_words(words, at + whole - 4, bytes, 8 * whole - 32 - over);
-        }
-        store_two_words(words, at + whole - 2, bytes, 8 * whole - 16 - over);
-    } else {
-        let has_one_more = whole == 2 || len + bytes.len() < 64;
-        if has_one_more {
-            // If only the partial word is whole, the bytes that are left take this word's place.
-            words[at + 1] = word_at(bytes, (8 - over).min(bytes.len() - 8));
-        }
-    }
-}
-
-// Appends eight bytes or more: those of whole words, and then those that are left.
-#[inline(always)]
-fn append_eight_or_more(words: &mut [u64; 8], len: usize, bytes: &[u8])
-    requires pending { ArePending words.old len }
-    requires at_least_8 { 8 ≤ length bytes.now }
-    requires room { len + length bytes.now ≤ 64 }
-    ensures { Stores words.new (pending_bytes words.old len ++ bytes.now) }
-{
-    append_whole_words(words, len, bytes);
-    let end = len + bytes.len();
-    let has_remainder = end < 64;
-    if has_remainder {
-        // By 8 last: LLVM would read seven bytes in three pieces if this shift came first.
-        words[end / 8] = word_at(bytes, bytes.len() - 8) >> (56 - 8 * (end % 8)) >> 8;
-    }
-}
-
-// Completes the block with the first of at least 64 bytes. The words after the partial word are
-// stored two at a time, and some of them up to four times, so that one test serves any number.
-#[inline(always)]
-fn append_long(words: &mut [u64; 8], len: usize, bytes: &[u8])
-    requires pending { ArePending words.old len }
-    requires at_least_64 { 64 ≤ length bytes.now }
-    ensures { Stores words.new (pending_bytes words.old len ++ bytes.now) }
-{
-    append_within_word(words, len, read_word(bytes));
-    let at = len / 8;
-    let has_two_more = at < 6;
-    if has_two_more {
-        let second = (at + 3).min(6);
-        let third = (at + 5).min(6);
-        store_two_words(words, at + 1, bytes, 8 * (at + 1) - len);
-        store_two_words(words, second, bytes, 8 * second - len);
-        store_two_words(words, third, bytes, 8 * third - len);
-        store_two_words(words, 6, bytes, 48 - len);
-    } else {
-        let next = word_at(bytes, 8 - len % 8);
-        let has_one_more = at == 6;
-        words[7] = if has_one_more { next } else { words[7] };
-    }
-}
-
-// Appends bytes after the first `len` pending ones, and counts them as kept. With LONG there are at
-// least 64, and only those that complete the block are appended. Only this function puts bytes into
-// the words.
-#[inline(always)]
-fn append_bytes<const LONG: bool>(words: &mut [u64; 8], len: usize, bytes: &[u8], tally: &mut Tally)
-    requires pending { ArePending words.old len }
-    requires long { IsTrue LONG → 64 ≤ length bytes.now }
-    requires room { LONG ≡ false → len + length bytes.now ≤ 64 }
-    ensures block { 64 ≤ len + length bytes.now
-        → words.new ≡ whole_words (pending_bytes words.old len ++ take (64 - len) bytes.now) }
-    ensures bytes { len + length bytes.now < 64
-        → pending_bytes words.new (len + length bytes.now)
-        ≡ pending_bytes words.old len ++ bytes.now }
-    ensures pending { len + length bytes.now < 64
-        → ArePending words.new (len + length bytes.now) }
-    ensures costs { Costs tally 0 (if LONG then 64 - len else length bytes.now) }
-{
-    tally.raise(0, bytes.len().min(64 - len));
-    if LONG {
-        append_long(words, len, bytes);
-    } else if bytes.len() < 8 {
-        append_below_eight(words, len, bytes);
-    } else {
-        append_eight_or_more(words, len, bytes);
     }
 }

@@ -35,13 +35,13 @@ fn mix_again(pair: Pair, tally: &mut Tally) -> u64
 /// Returns the hash from a pair and the two words that are left, or the one that is left and 0.
 #[inline(always)]
 #[tactic(auto, using(crate::proofs::Xor::factors))]
-pub(crate) fn close(pair: Pair, word: u64, last: u64, tally: &mut Tally) -> u64
-    ensures hash { result ≡ closing (pair_of pair) (word ∷ last ∷ []) }
-    ensures alone { last ≡ 0 → result ≡ closing (pair_of pair) (word ∷ []) }
+pub(crate) fn close(pair: Pair, first: u64, second: u64, tally: &mut Tally) -> u64
+    ensures hash { result ≡ closing (pair_of pair) (first ∷ second ∷ []) }
+    ensures alone { second ≡ 0 → result ≡ closing (pair_of pair) (first ∷ []) }
     ensures costs { Costs tally 2 0 }
 {
     let Pair(low, e) = pair;
-    mix_again(mix((low ^ word) ^ e, e ^ last, e, tally), tally)
+    mix_again(mix((low ^ first) ^ e, e ^ second, e, tally), tally)
 }
 
 // Returns the pair after a round on the two words from index `at`. The remaining words hash the
@@ -51,9 +51,9 @@ pub(crate) fn close(pair: Pair, word: u64, last: u64, tally: &mut Tally) -> u64
 fn round_at<W: WholeWords>(pair: Pair, left: &W, at: usize, tally: &mut Tally) -> Pair
     requires within { at + 2 ≤ length (W.words left.now) }
     requires place { at < 7 }
-    ensures hash { (last : ℕ)
-        → hash_from_pair (pair_of result) (drop (at + 2) (W.words left.now) ++ last ∷ [])
-        ≡ hash_from_pair (pair_of pair) (drop at (W.words left.now) ++ last ∷ []) }
+    ensures hash { (final_word : ℕ)
+        → hash_from_pair (pair_of result) (drop (at + 2) (W.words left.now) ++ final_word ∷ [])
+        ≡ hash_from_pair (pair_of pair) (drop at (W.words left.now) ++ final_word ∷ []) }
     ensures costs { Costs tally 1 0 }
 {
     pair_round(pair, left.word(at), left.word(at + 1), tally)
@@ -64,9 +64,9 @@ fn round_at<W: WholeWords>(pair: Pair, left: &W, at: usize, tally: &mut Tally) -
 #[inline(always)]
 fn round_each<W: WholeWords>(pair: Pair, left: &W, tally: &mut Tally) -> Pair
     requires { length (W.words left.now) < 8 }
-    ensures hash { (last : ℕ) → hash_from_pair (pair_of result)
-        (drop (length (W.words left.now) / 2 * 2) (W.words left.now) ++ last ∷ [])
-        ≡ hash_from_pair (pair_of pair) (W.words left.now ++ last ∷ []) }
+    ensures hash { (final_word : ℕ) → hash_from_pair (pair_of result)
+        (drop (length (W.words left.now) / 2 * 2) (W.words left.now) ++ final_word ∷ [])
+        ≡ hash_from_pair (pair_of pair) (W.words left.now ++ final_word ∷ []) }
     ensures costs { Costs tally (length (W.words left.now) / 2) 0 }
 {
     if !left.holds(2) {
@@ -83,28 +83,28 @@ fn round_each<W: WholeWords>(pair: Pair, left: &W, tally: &mut Tally) -> Pair
     round_at(pair, left, 4, tally)
 }
 
-/// Returns the hash from a pair, fewer than eight words, and the final word. `word` is the last of
-/// the words, or any if there are none.
+/// Returns the hash from a pair, fewer than eight whole words, and the final word. The last whole
+/// word is any word if there are none.
 #[inline(always)]
 pub(crate) fn hash_from_pair<W: WholeWords>(
     pair: Pair,
     left: &W,
-    word: u64,
-    last: u64,
+    last_whole_word: u64,
+    final_word: u64,
     tally: &mut Tally,
 ) -> u64
     requires below_8 { length (W.words left.now) < 8 }
     requires word { 0 < length (W.words left.now)
-        → word ≡ slice_index (W.words left.now) (length (W.words left.now) - 1) }
-    ensures hash { result ≡ hash_from_pair (pair_of pair) (W.words left.now ++ last ∷ []) }
+        → last_whole_word ≡ slice_index (W.words left.now) (length (W.words left.now) - 1) }
+    ensures hash { result ≡ hash_from_pair (pair_of pair) (W.words left.now ++ final_word ∷ []) }
     ensures costs { Costs tally (2 + length (W.words left.now) / 2) 0 }
 {
     let pair = round_each(pair, left, tally);
     // The closing of one word is that of two, the second of which is 0. So it needs no jump.
     let (first, second) = if left.is_odd() {
-        (word, last)
+        (last_whole_word, final_word)
     } else {
-        (last, 0)
+        (final_word, 0)
     };
     close(pair, first, second, tally)
 }

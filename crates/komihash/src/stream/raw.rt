@@ -144,9 +144,9 @@ impl RawStream {
             };
             return close(pair, end, 0, tally);
         }
-        let word = self.pending.last_whole_word();
-        let last = self.pending.final_word::<V>();
-        hash_from_pair(pair, &self.pending, word, last, tally)
+        let last_whole_word = self.pending.last_whole_word();
+        let final_word = self.pending.final_word::<V>();
+        hash_from_pair(pair, &self.pending, last_whole_word, final_word, tally)
     }
 
     /// Writes the saved text to the front of `out`, which needs room for `LONGEST_TEXT` bytes, and

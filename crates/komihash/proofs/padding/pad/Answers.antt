@@ -16,24 +16,24 @@ pub returns : goal.returns
 returns g c =
     let bytes = c.args.bytes.now in
     let end = padding_or_zero g.row.V bytes in
+    let branch = c.if-has_whole_word in
     let some = λ (some : 0 < length bytes). sym (padding_or_zero-some g.row.V bytes some).0 in
-    let last : c.if-has_whole_word.last ≡ final_word bytes end = elim c.if-has_whole_word.branch [
+    let word : branch.final_word ≡ final_word bytes end = elim branch.branch [
       | then-has_whole_word w ↦
-          w.last-is ∙ w.final_word_by_shift-last.ensures
-          ∙ ap (final_word bytes)
-          (w.padding_byte.ensures.byte ∙ some (omega arith))
+          w.final_word-is ∙ w.final_word_by_shift-final_word.ensures
+          ∙ ap (final_word bytes) (w.padding_byte.ensures.byte ∙ some (omega arith))
       | else-has_whole_word+then-is_empty w ↦
           let none = nil_from_length bytes (eqb-true _ _ (sym w.if-is_empty.ensures)) in
-          w.last-is ∙ rw none refl
+          w.final_word-is ∙ rw none refl
       | else-has_whole_word+else-is_empty w ↦
           let none : 8 * (length bytes / 8) ≡ 0 = omega arith in
-          rw none (w.last-is ∙ w.read_partial_word.ensures
+          rw none (w.final_word-is ∙ w.read_partial_word.ensures
           ∙ ap (λ b. word_of (bytes ++ b ∷ []))
           (w.padding_byte-else-is_empty.ensures.byte ∙ some (grind (arith, nat_tests))))
     ] in
     record {
       count = refl;
       padded = take_more_set c.read_whole_words.new.out (length bytes / 8) _ (omega arith)
-          ∙ rw (c.read_whole_words.ensures.words, last) (sym (padded_words-by_tail g.row.V bytes));
+          ∙ rw (c.read_whole_words.ensures.words, word) (sym (padded_words-by_tail g.row.V bytes));
       rest = grind (arith, common_steps);
     }

@@ -1,6 +1,7 @@
 -- What does not fit in the partial word goes into the next one, which is 0.
-use Rattle.std.proofs.Common.{◌≡◌, ℕ, zero, suc, ◌+◌, ◌-◌, ◌*◌, ◌/◌, ◌%◌, ◌^◌, ◌<◌, length, drop}
-use Rattle.std.proofs.Common.{refl, ap, arith, ◌∙◌, sym, inl, inr, w64, take_all, length-drop}
+use Rattle.std.proofs.Common.{◌≡◌, ℕ, zero, suc, ◌+◌, ◌-◌, ◌*◌, ◌/◌, ◌%◌, ◌^◌, ◌<◌}
+use Rattle.std.proofs.Common.{length, drop, refl, ap, arith, ◌∙◌, sym, inl, inr, w64, take_all}
+use Rattle.std.proofs.Common.{length-drop}
 use Rattle.std.proofs.lemmas.Bool.{cases_lt}
 use Rattle.std.proofs.lemmas.List.{drop_all, set-get_or}
 use Rattle.std.proofs.lemmas.Nat.{or_shifted, shr_below, le_or_l}
@@ -9,7 +10,8 @@ use Rattle.std.specs.Int.Bits.{or_zero_l, or_zero_r, or_self}
 use Rattle.komihash.specs.Internals.{pending_bytes}
 use Rattle.komihash.specs.Words.{word_of}
 use Rattle.komihash.proofs.WordOf.{AreBytes-typed, shl_mod, word_of-drop, word_of-zeros}
-use Rattle.komihash.proofs.PendingBytes.{put_word, all_stored, word_after}
+use Rattle.komihash.proofs.PendingBytes.{put_word, all_stored, word_after, partial_stored}
+use Rattle.komihash.proofs.PendingBytes.{zero_after}
 use Rattle.komihash.proofs.rounds.pending.append_below_eight.Goals as goal
 
 -- a rotation has the bits that a shift to the left keeps, and those that it drops
@@ -32,21 +34,22 @@ returns c =
     let at = (c.args.len / 8 + 1) % 8 in
     let are = AreBytes-typed bytes c.type_inv.bytes in
     let word = c.read_partial_word-word.ensures ∙ word_of-zeros bytes 1 in
-    let but = c.append_within_word.ensures.words bytes (c.args.len / 8 + 1)
-    ((c.args.len + length bytes + 7) / 8) are
-    (word ∙ ap word_of (sym (take_all 8 bytes (omega arith)))) (omega arith) in
+    let first = word ∙ ap word_of (sym (take_all 8 bytes (omega arith))) in
+    let partial = partial_stored c.requires.pending bytes _ (c.args.len / 8 + 1)
+    ((c.args.len + length bytes + 7) / 8) are first (omega arith) in
     let parts = rotated _ (8 * over) (8 * fit) c.read_partial_word-word.type_inv (omega arith) in
     let left = c.read_partial_word-word.result * 2 ^ (8 * over) % 2 ^ 64 in
     let rest : c.rotate_left.result - left ≡ word_of (drop fit bytes) =
     grind (arith, parts, word, word_of-drop fit bytes are) in
     rw rest (elim (cases_lt fit (length bytes)) [
       | inl more ↦
-          let zero = c.append_within_word.ensures.zeros at (omega arith) (omega arith) in
+          let zero = zero_after c.requires.pending at (omega arith) (omega arith) in
           let whole = take_all 8 (drop fit bytes) (omega (arith, length-drop fit bytes)) in
           let next = word_after xs bytes at fit (omega arith) in
-          all_stored (put_word but at (at + 1) _ (omega arith)
+          all_stored (put_word partial at (at + 1) _ (omega arith)
           (λ _. rw (zero, or_zero_l (word_of (drop fit bytes)), ← next, whole) refl)) (omega arith)
-      | inr all ↦ rw (drop_all fit bytes all, or_zero_r, set-get_or) (all_stored but (omega arith))
+      | inr all ↦
+          rw (drop_all fit bytes all, or_zero_r, set-get_or) (all_stored partial (omega arith))
     ])
 
 pub overflow_sub-words : goal.overflow_sub-words

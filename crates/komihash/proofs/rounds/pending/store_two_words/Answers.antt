@@ -6,7 +6,7 @@ use Rattle.komihash.proofs.PendingBytes.{put_word, word_after}
 use Rattle.komihash.proofs.rounds.pending.store_two_words.Goals as goal
 
 pub returns : goal.returns
-returns c xs gap gap_end n but (place, le, most) =
+returns c xs n gap_end but (place, most) =
     let at = c.args.at in
     let from = c.args.from in
     let bytes = c.args.bytes.now in

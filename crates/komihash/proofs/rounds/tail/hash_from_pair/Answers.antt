@@ -9,7 +9,7 @@ pub returns-clause-hash : goal.returns-clause-hash
 returns-clause-hash g c =
     let words = g.W.WholeWords.words c.args.left.now in
     let i = length words / 2 * 2 in
-    let rounds = c.round_each-pair.ensures.hash c.args.last in
+    let rounds = c.round_each-pair.ensures.hash c.args.final_word in
     elim c.if-is_odd.branch [
       | then-is_odd w ↦
           let odd = c.is_odd.ensures.0 (search rules) in

@@ -1,13 +1,13 @@
 -- The padding byte is that of the last byte, wherever it lies.
 use Rattle.std.proofs.Common.{◌≡◌, ℕ, ◌<◌, ◌-◌, ◌*◌, ◌/◌, ◌%◌, ◌^◌, List, [], ◌∷◌}
-use Rattle.std.proofs.Common.{length, get_or, take, drop, bit_and, refl, ap, arith, ◌∙◌, take_all}
-use Rattle.std.proofs.Common.{length-take, length-drop, get_or-take, get_or-drop}
+use Rattle.std.proofs.Common.{length, get_or, take, bit_and, refl, ap, arith, ◌∙◌, take_all}
+use Rattle.std.proofs.Common.{length-take, get_or-take, get_or-drop}
 use Rattle.std.proofs.lemmas.Nat.{and_mask}
 use Rattle.komihash.specs.Padding.{padding_byte}
 use Rattle.komihash.specs.Internals.{pending_bytes, ArePending, after_words}
 use Rattle.komihash.specs.Words.{AreBytes, word_of}
 use Rattle.komihash.proofs.WordOf.{AreBytes-drop, word_of-drop, word_of-push}
-use Rattle.komihash.proofs.PendingBytes.{get_or_pending, AreBytes_word}
+use Rattle.komihash.proofs.PendingBytes.{get_or_pending, AreBytes_word, partial, length-partial}
 use Rattle.komihash.proofs.rounds.pending.Pending.final_word.Goals as goal
 
 low_byte : (xs : List ℕ) → AreBytes xs → word_of xs % 256 ≡ get_or xs 0 0
@@ -35,10 +35,9 @@ returns g c =
     grind (arith, c.if-is_whole.branch, last) in
     let padding : c.padding_after.result ≡ padding_byte g.row.V xs =
     rw (c.padding_after.ensures, c.pads_with_two.ensures, byte, are.count) refl in
-    let rest = drop (8 * (len / 8)) xs in
-    let size : length rest ≡ len % 8 = omega (arith, length-drop (8 * (len / 8)) xs) in
-    let whole = take_all 8 rest (omega arith) in
-    let after : take 8 rest ≡ after_words xs = rw are.count whole in
+    let size = length-partial are in
+    let whole = take_all 8 (partial are) (omega arith) in
+    let after : take 8 (partial are) ≡ after_words xs = rw are.count whole in
     rw (← c.self.view_is, padding, get_or_pending are (len / 8) (omega arith), ← after)
-    (word_of-push (take 8 rest) (len % 8) _ (AreBytes_word are (len / 8))
+    (word_of-push (take 8 (partial are)) (len % 8) _ (AreBytes_word are (len / 8))
     (omega (arith, length-take {A = ℕ})) (omega arith) (grind arith))
