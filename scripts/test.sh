@@ -54,8 +54,8 @@ check_cross() { # PREFIX EMULATOR: with a cross compiler
     fi
 }
 
-# An edit that can't be applied counts for nothing in `rt ci`, which prints a line for each edit that
-# is refused, or in some versions their number.
+# An edit that can't be applied counts for nothing in `rt ci`, which prints a line for each edit
+# that is refused, or in some versions their number.
 all_refused() {
     local edits=(crates/*/must-fail/*.edit)
     [ "$(grep -c '\.edit: refused' "$scratch/told")" = ${#edits[@]} ] ||

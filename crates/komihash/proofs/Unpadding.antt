@@ -1,5 +1,5 @@
--- Padded words read back. Their bytes are the message, the byte that ends it, which is 0 only if the
--- message is empty, and zeros. So the padding byte is the last byte that is not 0.
+-- Padded words read back. Their bytes are the message, the byte that ends it, which is 0 only if
+-- the message is empty, and zeros. So the padding byte is the last byte that is not 0.
 use Rattle.std.proofs.Common.{◌≡◌, ℕ, zero, suc, ◌+◌, ◌-◌, ◌*◌, ◌/◌, ◌%◌, ◌^◌, ◌<◌, ◌≤◌, List, []}
 use Rattle.std.proofs.Common.{◌∷◌, ◌++◌, length, take, drop, get_or, replicate, refl, ap, arith}
 use Rattle.std.proofs.Common.{◌∙◌, sym, w64, inl, inr}

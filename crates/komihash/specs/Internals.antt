@@ -73,8 +73,8 @@ pub record ArePending (ws : List ℕ) (len : ℕ) : Type 0 where
 abbrev pub stored_word : List ℕ → ℕ → ℕ
 stored_word bytes k = word_of (take 8 (drop (8 * k) bytes))
 
--- of eight words, all but those from index `gap` on and below `gap_end` store these bytes: if word 3
--- alone is still missing, these are 3 and 4
+-- of eight words, all but those from index `gap` on and below `gap_end` store these bytes: `gap` is
+-- 3 and `gap_end` is 4 if word 3 alone is still missing
 pub record StoresBut (ws bytes : List ℕ) (gap gap_end : ℕ) : Type 0 where
   pub size : length ws ≡ 8
   pub words : (k : ℕ) → k < 8 → (gap ≤ k → gap_end ≤ k) → get_or ws k 0 ≡ stored_word bytes k
