@@ -27,7 +27,7 @@ unfolding mix
 mix_swap x y e = rw (mul_comm x y) refl
 
 -- what block rounds and the closing need
-pub ruleset products = (xor_late, mul_comm)
+pub ruleset reorder = (xor_late, mul_comm)
 
 pub ruleset factors = (xor_late_left, xor_zero_r, mix_swap)
 

@@ -181,11 +181,7 @@ pub(crate) fn pads_with_two<const V: u8>(byte: u8) -> bool
 
 /// Absorbs a block of eight words, multiplied as the table `places` says.
 #[inline(always)]
-#[tactic(
-    auto,
-    unfolding(crate::specs::Rounds::block_round_by),
-    using(crate::proofs::Xor::products)
-)]
+#[tactic(auto, unfolding(crate::specs::Rounds::block_round_by), using(crate::proofs::Xor::reorder))]
 pub(crate) fn block_round(
     lanes: &mut Lanes,
     words: &[u64; 8],

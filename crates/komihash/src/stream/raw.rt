@@ -70,11 +70,7 @@ impl RawStream {
 
     /// Absorbs any number of bytes, and counts what this costs.
     #[inline(always)]
-    #[tactic(
-        auto,
-        unfolding(crate::specs::Stream::HasAbsorbed),
-        using(crate::proofs::Streams::more_absorbed)
-    )]
+    #[tactic(auto, unfolding(crate::specs::Stream::HasAbsorbed), using(crate::proofs::Streams::more_absorbed))]
     pub fn absorb<const V: u8>(&mut self, bytes: &[u8], tally: &mut Tally)
     where
         Versions: IsVersion<V>,
