@@ -53,7 +53,7 @@ for made in "$scratch"/assembly/*.S; do
     if [ "$(compiler_of "$file")" = "$(compiler_of "$made")" ]; then
         run_case "c/$file is what assembly.sh makes of the proved source code" same "$file" "$made"
     else
-        echo "c/$file is not compared: it is from another compiler than that of this kit"
+        skip "the comparison of c/$file" 'kit with the compiler that made it'
         differs=1
     fi
 done

@@ -20,6 +20,7 @@ checks = [("the table of speed", SPEED.search(readme)[1] == SPEED.search(speed)[
 for folder in ("c", "crates/komihash"):
     licences = ((ROOT / path / "LICENSE").read_text("utf-8") for path in (".", folder))
     checks.append((f"the licence in {folder}", len(set(licences)) == 1))
+checks.append(("README and CALLING have blocks", all(map(CODE.search, (readme, calling)))))
 for code in CODE.findall(readme + calling):
     checks.append((f"the block `{code.splitlines()[0]}`", any(code in text for text in examples)))
 for name, holds in checks:

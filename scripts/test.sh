@@ -13,7 +13,7 @@ cd "$(dirname "$0")/.." || exit 1
 # Runs a part, and adds the counts in its last line.
 part() {
     local status before=$failed counts='^([0-9]+) passed, ([0-9]+) failed(, ([0-9]+) skipped)?$'
-    echo "== $*"
+    echo "== $*" | tee -a "$scratch/told"
     "$@" 2>&1 | tee -a "$scratch/told"
     status=$?
     [[ $(tail -n 1 "$scratch/told") =~ $counts ]] || status=1

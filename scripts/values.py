@@ -117,6 +117,8 @@ def check_values():
     rows = [row.split(' | ') for row in re.findall(r'^\| (.*) \|$', section, re.M)]
     values = [(v, row, cell) for row, *cells in rows for v, cell in zip((4, 5), cells)
               if cell not in ('Version 4', 'Version 5')]
+    if not values:
+        raise Unknown('the page has no values')
     for value in values:
         check_value(*value)
     return len(values)

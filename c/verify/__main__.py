@@ -10,7 +10,7 @@ from elftools.common.exceptions import ELFError
 import mutants
 import processor
 import terms
-from cases import NAMES, cases_of, open_library, run_case, said_of
+from cases import NAMES, cases_of, open_library, row_of, run_case
 from terms import Refused, Unknown
 from vectors import check_definition
 
@@ -42,7 +42,7 @@ class Progress:
             if name in self.failed:
                 print(f'FAILED: {self.failed[name]}')
                 continue
-            said = said_of(name)
+            said = row_of(name)
             print(row(name, self.all[name], said.multiplications,
                       'contents' if said.by_contents else 'lengths',
                       max(d.depth for d in self.done[name]), f'{self.total("seconds", name):.0f}'))
@@ -72,6 +72,14 @@ def verify(image, path, names, jobs):
     return progress
 
 
+def tell_dead(image, ran):
+    code = image.code()
+    print(f'{len(code)} instructions; no call that is allowed reaches these {len(code - ran)}:')
+    for address in sorted(code - ran):
+        i = image.instruction(address)
+        print(f'{address:#x} {i.mnemonic} {i.text}')
+
+
 def test(image, path, done, args):
     """Tests the check of a library, and returns how many tests passed and failed."""
     try:
@@ -80,12 +88,8 @@ def test(image, path, done, args):
         print(f'FAILED: {refused}')
         return 0, 1
     print(f'{calls} calls do the same in the model and on the processor')
-    code = image.code()
-    dead = sorted(code - ran.union(*(d.ran for d in done)))
-    print(f'{len(code)} instructions; no call that is allowed reaches these {len(dead)}:')
-    for address in dead:
-        i = image.instruction(address)
-        print(f'{address:#x} {i.mnemonic} {i.text}')
+    if args.function == NAMES:
+        tell_dead(image, ran.union(*(d.ran for d in done)))
     wrong = mutants.test(image, path, done, args)
     return 1 + args.mutants - wrong, wrong
 

@@ -1,5 +1,5 @@
-"""The meaning of the ARM64 instructions that the library uses, by Arm's manual. Its carry flag is
-set if a difference has no borrow, so the flag c here is its opposite."""
+"""The meaning of ARM64 instructions, by Arm's manual. Its carry flag is set if a difference has no
+borrow, so the flag c here is its opposite."""
 import operator
 import z3
 from capstone import CS_ARCH_ARM64, CS_MODE_ARM

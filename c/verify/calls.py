@@ -127,8 +127,9 @@ def generator(call):
 
 
 def padded_content(call, content, last):
-    """The bytes of words whose last word has its highest byte that isn't 0 at a place: 1, 2, or for
-    3, any other. Returns them, the length of their message, and whether they have one."""
+    """The bytes of words whose last byte that isn't 0 is byte `index` of the last word: `byte`, or
+    for 3, at least 3. If `last` is None, the last word is 0. Returns the bytes, the length of their
+    message, and whether they have one."""
     if last is None:
         return content[:-8] + [bv(0, 8)] * 8, 0, z3.BoolVal(len(content) == 8)
     index, byte = last

@@ -12,8 +12,8 @@ from x86_64 import X86
 
 PROCESSORS = {'EM_X86_64': X86, 'EM_AARCH64': Arm}
 IMAGE = None
-# What is said of a function: the number of multiplications, whether jumps may depend on contents,
-# and its cases by how they are checked.
+# The row of a function: the definition's multiplications, which are only told; whether jumps may
+# depend on contents; and its cases by how they are checked.
 Function = collections.namedtuple('Function', 'multiplications by_contents cases')
 
 
@@ -23,11 +23,11 @@ def each(numbers):
 
 # Most cases are one length, remainder or number of pending bytes. A class of loops.py stands for
 # all calls that are longer than the cases before it.
-SHORT = each(range(loops.Fill.GRAIN))
 FILLS = each(range(64))
 FUNCTIONS = {
     '': Function('3+4(n/64)+(n%64)/16', False, {
-        f.hash_of: each(range(loops.Hash.GRAIN)), loops.Hash: each(range(2**loops.Hash.LOW))}),
+        f.hash_of: each(range(loops.Hash.GRAIN)),
+        loops.Hash: each(range(2**loops.Hash.FIXED_BITS))}),
     '_start': Function('1', False, {f.start_of: [()]}),
     '_write': Function('4((f+n)/64)', False, {
         f.write_within: [(p, n) for p in range(64) for n in range(64 - p)], loops.Write: FILLS}),
@@ -39,8 +39,9 @@ FUNCTIONS = {
         f.rand_init: [('_rand_init_with_extra_seed', 2, 4)]}),
     '_rand_init_words': Function('0', False, {f.rand_init: [('_rand_init_words', 2, 0)]}),
     '_rand_next': Function('1', False, {f.rand_next: [()]}),
-    '_rand_fill': Function('(n+7)/8', False, {f.rand_fill: SHORT, loops.Fill: [()]}),
-    '_pad': Function('0', False, {f.pad: SHORT, loops.Pad: [()]}),
+    '_rand_fill': Function('(n+7)/8', False, {
+        f.rand_fill: each(range(loops.Fill.GRAIN)), loops.Fill: [()]}),
+    '_pad': Function('0', False, {f.pad: each(range(loops.Pad.GRAIN)), loops.Pad: [()]}),
     '_unpad': Function('0', True, {
         f.unpad: [(0, None), *((n, last) for n in range(1, loops.Unpad.GRAIN // 8 + 1)
                                for last in f.LAST_BYTES)],
@@ -68,13 +69,13 @@ class Case(collections.namedtuple('Case', 'name check args')):
 Done = collections.namedtuple('Done', 'case failure seconds ran depth asked second')
 
 
-def said_of(name):
+def row_of(name):
     return FUNCTIONS[name[len('komihash_v4'):]]
 
 
 def cases_of(name):
     return [Case(name, check, args)
-            for check, cases in said_of(name).cases.items() for args in cases]
+            for check, cases in row_of(name).cases.items() for args in cases]
 
 
 def open_library(path):
@@ -92,7 +93,7 @@ def run_case(case):
     try:
         seen = case.run(IMAGE)
         ran, depth = frozenset(seen.ran), seen.depth
-        if seen.by_contents and not said_of(case.name).by_contents:
+        if seen.by_contents and not row_of(case.name).by_contents:
             failure = f'a jump or an address depends on {sorted(seen.by_contents)[0]}'
     except Unknown as unknown:
         failure = unknown

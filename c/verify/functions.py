@@ -31,7 +31,7 @@ def start_of(library, version):
 
 
 def write_within(library, version, fill, length):
-    """A write that may complete blocks, of a fixed length."""
+    """A write of a fixed length. Those in cases.py complete no block."""
     call = Call(library, version, '_write')
     state = some_state(version, fill)
     stream = call.stream(state, writable=True)

@@ -31,6 +31,8 @@ class Image:
             self.text = text['sh_addr'], text['sh_size']
             self.functions = {s.name: s['st_value'] for s in names.iter_symbols()
                               if s['st_info']['type'] == 'STT_FUNC' and s['st_value']}
+        # The loader takes a library from this folder only if the processor has x86-64-v3.
+        self.is_v3 = 'x86-64-v3' in path
         self.decoder, self.decoded = Cs(*self.processor.DECODER), {}
         self.decoder.detail = True
         # What checks have found of the code, by names of their own.

@@ -34,8 +34,9 @@ LONG, TURNS, REST = 2**20, 12, 40
 
 class Induction:
     """Calls of one kind. The code counts bytes in units of UNIT; a step of the definition takes
-    SIZE bytes. A kind has these methods, of which the first three begin a call, and set `base` and
-    `length` (of its bytes) and `states` (the definition's words after each of its next steps):
+    SIZE bytes. A kind has these methods. The first two begin a call, and set `base` and `length`
+    (of its bytes) and `states` (the definition's words after each of its next steps). The third
+    sets `base`, for the length that is set already, and what `check_end` compares.
     - enter(least, ...): a call before its first instruction; returns its arguments
     - again(): a call at the head, in any state, when `units` were taken
     - finish(rest): a call at the exit, in any state, when so many bytes are left
@@ -43,16 +44,16 @@ class Induction:
     - check_end(cpu): checks a return"""
     NAME, UNIT, SIZE, GRAIN = '', 8, 8, 128
     # How many low bits of the length a case fixes, and the number that they are.
-    LOW, low = 0, 0
+    FIXED_BITS, fixed = 0, 0
     # What means the same at each arrival, beside q, r, and what the caller had in registers.
-    STABLE = frozenset({'sp', 'return', 'bytes', 'words', 'out', 'rand', 'room', 'padding byte',
-                        *(f'end[{k}]' for k in range(-136, 0))})
+    STABLE = frozenset({'sp', 'return', 'library', 'bytes', 'words', 'out', 'rand', 'room',
+                        'padding byte', *(f'end[{k}]' for k in range(-136, 0))})
 
     def __init__(self, library, version, *case):
         self.library, self.version, self.case = library, version, case
         self.invariants, self.seen, self.head, self.exit = {}, Seen(), None, None
         width = self.GRAIN.bit_length() - 1
-        self.q, self.r = sym(f'q{width}', 64 - width), sym(f'r{width}', width - self.LOW)
+        self.q, self.r = sym(f'q{width}', 64 - width), sym(f'r{width}', width - self.FIXED_BITS)
 
     def prove(self):
         self.head, self.exit = self.find_cuts()
@@ -83,11 +84,12 @@ class Induction:
         if r is not None:
             r = bv(r, 64 - self.q.size())
         else:
-            r = z3.Concat(self.r, bv(self.low, self.LOW)) if self.LOW else self.r
+            fixed = bv(self.fixed, self.FIXED_BITS) if self.FIXED_BITS else None
+            r = self.r if fixed is None else z3.Concat(self.r, fixed)
         return simple(z3.Concat(self.q, r))
 
     def start(self, least=1, sure=False, **more):
-        """A call before its first instruction, which is accepted if that is to be sure."""
+        """A call before its first instruction. With `sure`, only those that are accepted."""
         self.units = bv(0)
         args, cpu = self.enter(least, *self.case, **more), self.call.cpu
         cpu.r.update(zip(cpu.ARGS, args))
@@ -123,7 +125,7 @@ class Induction:
         """The places to which an accepted call of GRAIN * q + REST bytes comes. What it does after
         the loop is not checked here."""
         cpu = self.start(1, True, front=self.GRAIN * (q + 1))
-        cpu.facts.add(self.q == q, self.r == REST >> self.LOW)
+        cpu.facts.add(self.q == q, self.r == REST >> self.FIXED_BITS)
         try:
             list(cpu.run(self.library.functions[self.call.name]))
         except Refused:
@@ -215,7 +217,7 @@ class Induction:
             raise Refused('a turn may begin after more bytes were taken than there are')
         if not {'the rest is left', 'not too much'} <= self.invariants[self.exit].holding:
             raise Refused('after the last turn, more bytes or fewer are left than the rest')
-        for remainder in range(self.low, self.GRAIN, 2**self.LOW):
+        for remainder in range(self.fixed, self.GRAIN, 2**self.FIXED_BITS):
             self.leave(remainder)
 
     def leave(self, remainder):
@@ -224,7 +226,7 @@ class Induction:
         rest = remainder % self.modulus()
         if not rest and 'some is left' in self.invariants[self.exit].holding:
             return
-        call, r = self.new_call(), bv(remainder >> self.LOW, self.r.size())
+        call, r = self.new_call(), bv(remainder >> self.FIXED_BITS, self.r.size())
         self.length, self.units = self.after_turns(remainder, rest)
         self.make(self.exit, self.finish(rest),
                   lambda term: simple(z3.substitute(term, (self.r, r))))

@@ -32,10 +32,10 @@ class Blocks(Induction):
 class Hash(Blocks):
     """Messages whose length has these low bits, since some code comes before the blocks that needs
     to know where the last word begins."""
-    LOW = 3
+    FIXED_BITS = 3
 
     def enter(self, least, low, front=256):
-        self.low = low
+        self.fixed = low
         call, seed = self.new_call(), secret('seed')
         self.length, content = self.many(least), named('front', range(front))
         self.base = call.base('bytes', self.length)
@@ -69,7 +69,7 @@ class Write(Blocks):
     """Writes that complete a block. Here, GRAIN * q + r counts the bytes that are pending too, and
     before the first turn, all of these are yet to take: the units begin below zero."""
     NAME = '_write'
-    STABLE = frozenset({'sp', 'return', 'stream', 'last',
+    STABLE = frozenset({'sp', 'return', 'library', 'stream', 'last',
                         *(f'unused[{k}]' for k in range(FLAGS, STREAM))})
 
     def stable(self):
@@ -109,6 +109,7 @@ class Write(Blocks):
 
     def finish(self, rest):
         self.tail, address = named('rest', range(rest)), self.open()
+        # At the exit, at least one byte was taken, since all whole blocks of one or more were.
         content = [secret('last', 8), *self.tail]
         self.call.memory.add(Array('rest', address, -1, rest), content, -1)
         return some_lanes()
@@ -274,7 +275,7 @@ class Pad(Copy):
 class Unpad(Copy):
     """The words but the last one are copied, and then some bytes of that. The length counts the
     bytes of those words, so its low bits are 0."""
-    NAME, REFUSED, MORE, LOW = '_unpad', NONE, 8, 3
+    NAME, REFUSED, MORE, FIXED_BITS = '_unpad', NONE, 8, 3
 
     def pass_arrays(self, last):
         self.size, ends = simple(self.length + 8), named('end', range(-self.GRAIN - 8, 0))

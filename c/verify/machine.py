@@ -8,6 +8,8 @@ from terms import (Facts, Refused, Unknown, bv, const, is_public, secret, signed
 # Limits: the bytes of a call's stack, the instructions of a case, and the values of a number for
 # which a path is split.
 STACK_BYTES, STEPS, VALUES = 4096, 20000, 64
+# Where the loader puts the library: anywhere, at the start of a page.
+LOADED = sym('library')
 RETURN = object()
 # Conditions of both processors, by the flags of which one must be set, or none. Flags are z (zero),
 # s (sign), c (carry of a sum, borrow of a difference), and l (less: sign unlike overflow).
@@ -63,7 +65,7 @@ class Cpu:
         self.pc, self.undefined, self.enough = None, 0, {}
         self.sp = sym('sp')
         self.memory.add(Array('stack', self.sp, -STACK_BYTES, self.ABOVE, True))
-        self.facts.add(self.sp & 15 == self.ABOVE)
+        self.facts.add(self.sp & 15 == self.ABOVE, LOADED & 4095 == 0)
         self.r[self.SP] = self.sp
         self.enter()
         self.before = dict(self.r)
@@ -113,10 +115,13 @@ class Cpu:
             else:
                 yield cpu, pc
 
+    def meaning(self, i):
+        return self.TABLE.get(i.mnemonic)
+
     def next(self, pc, todo):
         """Runs the instruction at a place: the next place, or None at the return."""
         i = self.image.instruction(pc)
-        do = self.TABLE.get(i.mnemonic)
+        do = self.meaning(i)
         if do is None:
             raise unknown(i)
         self.pc = pc
@@ -164,7 +169,7 @@ class Cpu:
     # Memory
 
     def load(self, address, length):
-        number = const(address)
+        number = const(simple(address - LOADED))
         data = self.image.read(number, length) if number is not None else None
         if data:
             return bv(int.from_bytes(data, 'little'), 8 * length)

@@ -258,8 +258,8 @@ class Facts:
         return known[1]
 
     def same(self, a, b, path=()):
-        """Whether two terms are equal. If they differ at a random point, the answer is no, at no
-        cost; but a path may leave out that point."""
+        """Whether two terms are equal on a path. Without a path, the answer is no, at no cost, if
+        they differ at a random point. The facts may leave that point out, so some are missed."""
         if not path and self.point(a) != self.point(b):
             return False
         return z3.eq(a, b) or self.holds(path, a == b)

@@ -1,15 +1,17 @@
-"""The meaning of the x86-64 instructions that the library uses, by Intel's manual, volume 2."""
+"""The meaning of x86-64 instructions, by Intel's manual, volume 2."""
 import operator
 import z3
 from capstone import CS_ARCH_X86, CS_MODE_64
 from capstone import x86_const as X
-from machine import CONDITIONS, RETURN, Cpu, means, unknown
+from machine import CONDITIONS, LOADED, RETURN, Cpu, means, unknown
 from terms import (Refused, bv, choose, const, join, leading_zeros, part, secret, simple, sym, top,
                    widen)
 
 TABLE = {}
 # Instructions whose address must be a multiple of the operand's size.
 ALIGNED = ('movaps', 'movdqa', 'vmovaps', 'pxor', 'xorps', 'punpcklqdq', 'punpckhqdq', 'palignr')
+# Instructions that x86-64-v2 lacks, beside those that begin with v. It may run others in their place.
+NEWER = ('andn', 'lzcnt', 'mulx', 'sarx', 'shlx', 'shrx')
 SHIFTS = {'shl': operator.lshift, 'shr': z3.LShR, 'sar': operator.rshift}
 
 
@@ -50,6 +52,10 @@ class X86(Cpu):
     def enter(self):
         self.memory.put('stack', 0, sym('return'))
 
+    def meaning(self, i):
+        is_newer = i.mnemonic[0] == 'v' or i.mnemonic in NEWER
+        return None if is_newer and not self.image.is_v3 else super().meaning(i)
+
     def check_return(self):
         super().check_return()
         if not z3.is_true(simple(self.r['rsp'] == self.sp + 8)):
@@ -69,7 +75,7 @@ class X86(Cpu):
         a = bv(m.disp % 2**64)
         if m.base:
             name = i.reg_name(m.base)
-            a = a + (bv(i.address + i.size) if name == 'rip' else self.r[name])
+            a = a + (LOADED + (i.address + i.size) if name == 'rip' else self.r[name])
         if m.index:
             a = a + self.r[i.reg_name(m.index)] * m.scale
         return simple(a)
@@ -93,6 +99,8 @@ class X86(Cpu):
     def put(self, i, k, value):
         op, value = i.ops[k], simple(value)
         if op.type == X.X86_OP_MEM:
+            if value.size() != 8 * op.size:
+                raise unknown(i)
             return self.store(self.aligned_address(i, op), value)
         n, low, size = NAMES[i.reg_name(op.reg)]
         whole = self.r[n].size()
@@ -259,6 +267,7 @@ def push(c, i):
 
 @means(TABLE, 'pop')
 def pop(c, i):
+    check_size(i)
     value = c.load(c.r['rsp'], 8)
     c.r['rsp'] = simple(c.r['rsp'] + 8)
     c.put(i, 0, value)
