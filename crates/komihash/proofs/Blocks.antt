@@ -26,12 +26,12 @@ block_lanes-few_bytes v l xs lt =
 
 -- ---- the bytes
 
-pub after_blocks_few : (xs : List ℕ) → length xs < 64 → after_blocks xs ≡ xs
-after_blocks_few xs lt =
+pub after_blocks-few : (xs : List ℕ) → length xs < 64 → after_blocks xs ≡ xs
+after_blocks-few xs lt =
     let n : length xs - length xs % 64 ≡ 0 = omega arith in ap (λ k. drop k xs) n
 
-pub after_blocks_more : (xs : List ℕ) → 64 ≤ length xs → after_blocks xs ≡ after_blocks (drop 64 xs)
-after_blocks_more xs le =
+pub after_blocks-more : (xs : List ℕ) → 64 ≤ length xs → after_blocks xs ≡ after_blocks (drop 64 xs)
+after_blocks-more xs le =
     let whole = length (drop 64 xs) - length (drop 64 xs) % 64 in
     let n : length xs - length xs % 64 ≡ 64 + whole = omega (arith, length-drop 64 xs) in
     ap (λ k. drop k xs) n ∙ sym (drop-drop whole 64 xs)
@@ -61,15 +61,15 @@ completed v l xs bytes k full enough =
       lanes = rw (cut, whole_words-append block rest 8 size)
           (block_lanes-round v l (whole_words block) (whole_words rest)
           (omega (arith, length-whole_words block)));
-      left = rw cut (after_blocks_more (block ++ rest) (omega (arith, length-append block rest))
+      left = rw cut (after_blocks-more (block ++ rest) (omega (arith, length-append block rest))
           ∙ ap after_blocks (drop_at block rest 64 size));
     }
 
 -- the same of the first block of a message
-pub block_lanes_more : (v : ℕ) (l : Lanes) (xs : List ℕ) → 64 ≤ length xs
+pub block_lanes-more : (v : ℕ) (l : Lanes) (xs : List ℕ) → 64 ≤ length xs
     → block_lanes v l (whole_words xs)
     ≡ block_lanes v (block_round v l (whole_words (take 64 xs))) (whole_words (drop 64 xs))
-block_lanes_more v l xs le = (completed v l [] xs 64 refl le).lanes
+block_lanes-more v l xs le = (completed v l [] xs 64 refl le).lanes
 
 -- ---- the words after them, and the bytes after their last word
 
@@ -94,6 +94,6 @@ after_words-whole_words m =
     ∙ drop_at (whole_words front) (whole_words (after_blocks m)) _ refl)
 
 -- what absorbing one block needs, and what it needs that no block is left
-pub ruleset one_block = (block_lanes_more, after_blocks_more)
+pub ruleset one_block = (block_lanes-more, after_blocks-more)
 
-pub ruleset no_block = (after_blocks_few, length-after_blocks)
+pub ruleset no_block = (after_blocks-few, length-after_blocks)

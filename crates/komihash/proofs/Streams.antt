@@ -17,7 +17,7 @@ use Rattle.komihash.specs.Internals.{tail_end, final_word, padding_or_zero}
 use Rattle.komihash.specs.Stream.{State, IsState, HasAbsorbed, start, absorb, absorb_byte}
 use Rattle.komihash.specs.Stream.{answer, tail_of, Answered}
 use Rattle.komihash.specs.Words.{AreBytes}
-use Rattle.komihash.proofs.Blocks.{completed, block_lanes-few_bytes, after_blocks_few}
+use Rattle.komihash.proofs.Blocks.{completed, block_lanes-few_bytes, after_blocks-few}
 use Rattle.komihash.proofs.Blocks.{length-after_blocks, after_words-after_blocks}
 use Rattle.komihash.proofs.HashPaths.{komi_few, komi_long}
 use Rattle.komihash.proofs.HashWords.{AreWords-seed_pair, AreWords-block_lanes}
@@ -108,7 +108,7 @@ absorb-blocks v s (b ∷ bytes) few le =
             | inl lt ↦
                 let last : last_at f (suc n) ≡ 0 = omega arith in
                 let same = block_lanes-few_bytes v after.lanes bytes lt in
-                let all = after_blocks_few bytes lt in
+                let all = after_blocks-few bytes lt in
                 absorb-few v after bytes (omega arith) ∙ cc
             | inr more ↦
                 let last : last_at f (suc n) ≡ suc (last_at 0 n) = omega arith in
