@@ -1,4 +1,5 @@
-//! Tests, above all that the definitions give the hashes of komihash, which no contract says.
+//! Tests, above all that the definitions give the hashes of komihash, which no contract says. Tests
+//! that compare two calls, as contracts do, would catch a mistake of the compiler.
 
 mod generator;
 mod hash;
