@@ -169,10 +169,11 @@ class Cpu:
     # Memory
 
     def load(self, address, length):
-        number = const(simple(address - LOADED))
-        data = self.image.read(number, length) if number is not None else None
-        if data:
-            return bv(int.from_bytes(data, 'little'), 8 * length)
+        if 'library' in symbols(address):
+            number = const(simple(address - LOADED))
+            data = self.image.read(number, length) if number is not None else None
+            if data:
+                return bv(int.from_bytes(data, 'little'), 8 * length)
         return self.memory.load(self, address, length)
 
     def store(self, address, value):
