@@ -76,12 +76,14 @@ run_case 'the package of the library for C is made again from itself' unpack
 ) &
 told_by() { cat "$scratch/$*"; }
 
-part bash scripts/rules.sh && part python3 scripts/documents.py && part rt ci && {
+if part bash scripts/rules.sh && part python3 scripts/documents.py && part rt ci; then
     run_case 'each must-fail edit is refused' all_refused
     part bash scripts/attacks.sh
     part bash scripts/program.sh
     part bash scripts/compare_assembly.sh
-}
+else
+    echo 'FAILED: the parts that need these were not run'
+fi
 wait
 for name in "${package_parts[@]}"; do part told_by $name; done
 grep '^skipped: ' "$scratch/told"

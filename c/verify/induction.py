@@ -24,7 +24,7 @@ import collections
 import z3
 from calls import Call
 from forms import Arrival, Invariant, World
-from machine import Seen
+from machine import LOADED, Seen
 from memory import Array
 from terms import Refused, Unknown, bv, simple, sym, symbols
 
@@ -45,9 +45,9 @@ class Induction:
     NAME, UNIT, SIZE, GRAIN = '', 8, 8, 128
     # How many low bits of the length a case fixes, and the number that they are.
     FIXED_BITS, fixed = 0, 0
-    # What means the same at each arrival, beside q, r, and what the caller had in registers.
-    STABLE = frozenset({'sp', 'return', 'library', 'bytes', 'words', 'out', 'rand', 'room',
-                        'padding byte', *(f'end[{k}]' for k in range(-136, 0))})
+    # Which symbols mean the same at each arrival, beside those that each call has (`stable`).
+    STABLE = frozenset({'bytes', 'words', 'out', 'rand', 'room', 'padding byte',
+                        *(f'end[{k}]' for k in range(-136, 0))})
 
     def __init__(self, library, version, *case):
         self.library, self.version, self.case = library, version, case
@@ -74,8 +74,8 @@ class Induction:
         return self.call
 
     def stable(self):
-        callers = map(symbols, self.call.cpu.before.values())
-        return self.STABLE | symbols(self.r) | symbols(self.q) | frozenset().union(*callers)
+        terms = self.q, self.r, LOADED, sym('return'), *self.call.cpu.before.values()
+        return self.STABLE.union(*map(symbols, terms))
 
     def many(self, least=1, r=None):
         """The term GRAIN * q + r, which is the bits of q and r side by side. Unless r is given, it
@@ -83,9 +83,10 @@ class Induction:
         self.call.facts.add(z3.UGE(self.q, least))
         if r is not None:
             r = bv(r, 64 - self.q.size())
+        elif self.FIXED_BITS:
+            r = z3.Concat(self.r, bv(self.fixed, self.FIXED_BITS))
         else:
-            fixed = bv(self.fixed, self.FIXED_BITS) if self.FIXED_BITS else None
-            r = self.r if fixed is None else z3.Concat(self.r, fixed)
+            r = self.r
         return simple(z3.Concat(self.q, r))
 
     def start(self, least=1, sure=False, **more):

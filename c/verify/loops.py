@@ -69,8 +69,7 @@ class Write(Blocks):
     """Writes that complete a block. Here, GRAIN * q + r counts the bytes that are pending too, and
     before the first turn, all of these are yet to take: the units begin below zero."""
     NAME = '_write'
-    STABLE = frozenset({'sp', 'return', 'library', 'stream', 'last',
-                        *(f'unused[{k}]' for k in range(FLAGS, STREAM))})
+    STABLE = frozenset({'stream', 'last', *(f'unused[{k}]' for k in range(FLAGS, STREAM))})
 
     def stable(self):
         """The turns are those of any write, so q, the bytes and their length mean nothing there."""

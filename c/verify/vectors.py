@@ -2,7 +2,8 @@
 import multiprocessing
 import os
 import z3
-from definition import Numbers, Products, State, hash_from_lanes, komi, padded_words, start
+from calls import named, some_state
+from definition import Numbers, Products, hash_from_lanes, komi, padded_words, start
 from terms import Unknown, bv, const, secret
 
 
@@ -25,16 +26,14 @@ def check_streams(length):
     both definitions first take a block, and then have lanes again, and the bytes after it. So by
     induction over the blocks, all lengths are right if those below 128 are. Other cuts are too,
     since `absorb` takes blocks from the front of all bytes that it has."""
-    message = [secret(f'bytes[{k}]', 8) for k in range(length)]
+    message = named('bytes', range(length))
     for version in (4, 5):
         one, other = Products(), Products()
         if length < 64:
             seed = secret('seed')
             found, state = komi(one, version, seed, message), start(other, seed)
         else:
-            flags = secret('had_block', 8), secret('top_bit', 8)
-            state = State([secret(f's{k + 1}') for k in range(8)], [], *flags)
-            words = padded_words(version, message)
+            state, words = some_state(version, 0), padded_words(version, message)
             found = hash_from_lanes(one, version, state.lanes, words, state.had_block)
         for part in (message[:length // 2], message[length // 2:]):
             state = state.absorb(other, version, part)

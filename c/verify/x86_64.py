@@ -10,7 +10,8 @@ from terms import (Refused, bv, choose, const, join, leading_zeros, part, secret
 TABLE = {}
 # Instructions whose address must be a multiple of the operand's size.
 ALIGNED = ('movaps', 'movdqa', 'vmovaps', 'pxor', 'xorps', 'punpcklqdq', 'punpckhqdq', 'palignr')
-# Instructions that x86-64-v2 lacks, beside those that begin with v. It may run others in their place.
+# Instructions that x86-64-v2 lacks, beside those that begin with v. A processor may run others in
+# their place.
 NEWER = ('andn', 'lzcnt', 'mulx', 'sarx', 'shlx', 'shrx')
 SHIFTS = {'shl': operator.lshift, 'shr': z3.LShR, 'sar': operator.rshift}
 
