@@ -4,16 +4,14 @@ import operator
 import z3
 from capstone import CS_ARCH_ARM64, CS_MODE_ARM
 from capstone import arm64_const as A
-from machine import CONDITIONS, RETURN, Cpu, means, unknown
-from terms import Refused, bv, choose, join, leading_zeros, part, secret, simple, sym, top, widen
+from machine import CONDITIONS, Cpu, means, unknown
+from opcodes import is_known_arm64 as is_known
+from terms import bv, choose, join, leading_zeros, part, secret, simple, sym, top, widen
 
 TABLE = {}
 SIZES = {'x': 64, 'w': 32, 'q': 128, 'd': 64, 'v': 128}
 SHIFTS = {A.ARM64_SFT_LSL: operator.lshift, A.ARM64_SFT_LSR: z3.LShR,
           A.ARM64_SFT_ASR: operator.rshift}
-# Vector instructions, and the one arrangement of each whose meaning is known here.
-VECTORS = {**dict.fromkeys(('eor', 'orr', 'and', 'bic', 'mov', 'mvn', 'ext'), '.16b'),
-           **dict.fromkeys(('movi', 'zip1', 'zip2'), '.2d')}
 
 
 def register(name):
@@ -29,7 +27,11 @@ class Arm(Cpu):
     DECODER = CS_ARCH_ARM64, CS_MODE_ARM
     ARGS, RESULTS = [f'x{n}' for n in range(8)], ('x0', 'x1')
     SAVED = [*(f'x{n}' for n in range(19, 30)), 'sp']
-    SP, ABOVE, TABLE = 'sp', 0, TABLE
+    SP, ABOVE, RED_ZONE, TABLE = 'sp', 0, 0, TABLE
+    LEVELS, is_known = ('armv8-a',), staticmethod(is_known)
+    # The property of which features a file has marks for, those that are known (BTI, PAC), and the
+    # mark of the first.
+    MARKS, TOLD = (0xc0000000, 3, bytes.fromhex('5f2403d5')), ()
 
     def registers(self):
         words = {f'x{n}': secret(f'x{n} of the caller') for n in range(31)}
@@ -66,7 +68,13 @@ class Arm(Cpu):
         return simple(SHIFTS[op.shift.type](value, op.shift.value))
 
     def width(self, i, k=0):
-        return register(i.reg_name(i.ops[k].reg))[1]
+        return register(self.name(i, k))[1]
+
+    @staticmethod
+    def name(i, k):
+        if i.ops[k].type != A.ARM64_OP_REG:
+            raise unknown(i)
+        return i.reg_name(i.ops[k].reg)
 
     def both(self, i, k=1):
         """Operands k and k + 1; a number is as wide as the other."""
@@ -74,17 +82,24 @@ class Arm(Cpu):
         return a, self.get(i, k + 1, a.size())
 
     def put(self, i, k, value):
-        name, value = i.reg_name(i.ops[k].reg), simple(value)
+        name, value = self.name(i, k), simple(value)
         n, size = register(name)
-        if value.size() != size or name[0] == 'v' and VECTORS.get(i.mnemonic, '?') not in i.text:
+        if value.size() != size:
             raise unknown(i)
         if n is not None:
             self.r[n] = widen(value, self.r[n].size())
 
+    @staticmethod
+    def check_differ(i, operands, *more):
+        """Whether these registers are different ones, without which the outcome varies."""
+        names = [register(Arm.name(i, k))[0] for k in operands] + [*more]
+        if len({*names}) < len(names):
+            raise unknown(i)
+
     def address(self, i, k):
         """The address in operand k. A further operand is added to the base afterwards."""
         m, base = i.ops[k].mem, register(i.reg_name(i.ops[k].mem.base))[0]
-        if i.ops[k].ext or i.ops[k].shift.type:
+        if i.ops[k].type != A.ARM64_OP_MEM or i.ops[k].ext or i.ops[k].shift.type:
             raise unknown(i)
         if base == 'sp':
             self.check_aligned(self.r['sp'], 16)
@@ -95,6 +110,7 @@ class Arm(Cpu):
         if i.writeback or len(i.ops) > k + 1:
             if not i.writeback or len(i.ops) != k + 2 or m.disp or m.index:
                 raise unknown(i)
+            self.check_differ(i, [*range(k)], base)
             self.r[base] = simple(address + i.ops[k + 1].imm)
         return address
 
@@ -104,14 +120,29 @@ def compared(a, b):
     return {'z': a == b, 'c': z3.ULT(a, b), 's': top(a - b), 'l': a < b}
 
 
-def code(i):
+def bits(c, i):
+    """The bits of operand 1 that operands 2 and 3 say."""
+    return part(c.get(i, 1), i.ops[2].imm, i.ops[3].imm)
+
+
+def condition(c, i):
     """The condition that the text ends with."""
-    return i.text.split()[-1]
+    return c.known(c.cond(i.text.split()[-1]))
 
 
-TABLE.update({'nop': lambda c, i: None, 'b': lambda c, i: i.ops[0].imm,
-              'neg': lambda c, i: c.put(i, 0, -c.get(i, 1)),
-              'mvn': lambda c, i: c.put(i, 0, ~c.get(i, 1))})
+TABLE.update({
+    **dict.fromkeys(('nop', 'bti', 'hint'), lambda c, i: None),
+    'b': lambda c, i: i.ops[0].imm,
+    'neg': lambda c, i: c.put(i, 0, -c.get(i, 1)),
+    'mvn': lambda c, i: c.put(i, 0, ~c.get(i, 1)),
+    'clz': lambda c, i: c.put(i, 0, leading_zeros(c.get(i, 1))),
+    'csel': lambda c, i: c.put(i, 0, choose(condition(c, i), c.get(i, 1), c.get(i, 2))),
+    'cset': lambda c, i: c.put(i, 0, widen(choose(condition(c, i), bv(1), bv(0)), c.width(i))),
+    'ubfx': lambda c, i: c.put(i, 0, widen(bits(c, i), c.width(i))),
+    'ubfiz': lambda c, i: c.put(
+        i, 0, widen(part(c.get(i, 1), 0, i.ops[3].imm), c.width(i)) << i.ops[2].imm),
+    'ext': lambda c, i: c.put(
+        i, 0, part(join([c.get(i, 1), c.get(i, 2)]), 8 * i.ops[3].imm, 128))})
 
 
 @means(TABLE, 'add', 'sub', 'eor', 'orr', 'and', 'bic')
@@ -141,7 +172,7 @@ def test(c, i):
 @means(TABLE, 'ccmp')
 def compare_if(c, i):
     a, b = c.both(i, 0)
-    cond, yes = c.known(c.cond(code(i))), compared(a, b)
+    cond, yes = condition(c, i), compared(a, b)
     negative, zero, carry, overflow = (i.ops[2].imm >> k & 1 for k in (3, 2, 1, 0))
     no = {'z': zero, 's': negative, 'c': not carry, 'l': negative != overflow}
     c.flags = {k: z3.If(cond, yes[k], z3.BoolVal(bool(no[k]))) for k in yes}
@@ -167,27 +198,10 @@ def shift(c, i):
     c.put(i, 0, a << n if i.mnemonic == 'lsl' else z3.LShR(a, n))
 
 
-@means(TABLE, 'ubfiz')
-def insert_in_zeros(c, i):
-    a, low, width = c.get(i, 1), i.ops[2].imm, i.ops[3].imm
-    c.put(i, 0, widen(part(a, 0, width), a.size()) << low)
-
-
-@means(TABLE, 'ubfx')
-def extract(c, i):
-    a = c.get(i, 1)
-    c.put(i, 0, widen(part(a, i.ops[2].imm, i.ops[3].imm), a.size()))
-
-
 @means(TABLE, 'bfxil')
 def insert_low(c, i):
     a, width = c.get(i, 0), i.ops[3].imm
-    c.put(i, 0, join([part(c.get(i, 1), i.ops[2].imm, width), part(a, width, a.size() - width)]))
-
-
-@means(TABLE, 'clz')
-def count_zeros(c, i):
-    c.put(i, 0, leading_zeros(c.get(i, 1)))
+    c.put(i, 0, join([bits(c, i), part(a, width, a.size() - width)]))
 
 
 @means(TABLE, 'mul', 'umulh')
@@ -196,16 +210,6 @@ def multiply(c, i):
     if a.size() != 64:
         raise unknown(i)
     c.put(i, 0, c.multiply(a, b, (0 if i.mnemonic == 'mul' else 1,))[0])
-
-
-@means(TABLE, 'csel')
-def select(c, i):
-    c.put(i, 0, choose(c.known(c.cond(code(i))), c.get(i, 1), c.get(i, 2)))
-
-
-@means(TABLE, 'cset')
-def set_if(c, i):
-    c.put(i, 0, choose(c.known(c.cond(code(i))), bv(1, c.width(i)), bv(0, c.width(i))))
 
 
 def access(c, i):
@@ -217,6 +221,7 @@ def access(c, i):
 @means(TABLE, 'ldr', 'ldur', 'ldrb', 'ldurb', 'ldrh', 'ldurh', 'ldp')
 def load(c, i):
     number, size = access(c, i)
+    c.check_differ(i, range(number))
     address = c.address(i, number)
     values = [c.load(simple(address + size * k), size) for k in range(number)]
     for k, value in enumerate(values):
@@ -234,9 +239,15 @@ def store(c, i):
 
 @means(TABLE, 'ret')
 def give_back(c, i):
-    if i.ops or not z3.eq(c.r['x30'], sym('return')):
-        raise Refused('a return to another place than the caller')
-    return RETURN
+    if i.ops:
+        raise unknown(i)
+    return c.give_back(c.r['x30'])
+
+
+@means(TABLE, 'bl')
+def call(c, i):
+    c.r['x30'] = c.note_call(i)
+    return i.ops[0].imm
 
 
 @means(TABLE, *(f'b.{name}' for name in CONDITIONS))
@@ -253,8 +264,6 @@ def branch_on_bits(c, i):
 
 @means(TABLE, 'movi')
 def move_vector(c, i):
-    if i.ops[1].imm != 0:
-        raise unknown(i)
     c.put(i, 0, bv(0, c.width(i)))
 
 
@@ -262,8 +271,3 @@ def move_vector(c, i):
 def zip_words(c, i):
     low = 0 if i.mnemonic == 'zip1' else 64
     c.put(i, 0, join([part(c.get(i, k), low, 64) for k in (1, 2)]))
-
-
-@means(TABLE, 'ext')
-def extract_vector(c, i):
-    c.put(i, 0, part(join([c.get(i, 1), c.get(i, 2)]), 8 * i.ops[3].imm, 128))

@@ -1,11 +1,11 @@
-"""A call of a function: its arrays and arguments, and the layout of a stream in memory."""
+"""A call of a function: its arrays and arguments."""
 import z3
 from definition import Products, State, padding_byte
 from memory import Array
-from terms import Refused, Unknown, address, bv, choose, secret, simple, sym
+from terms import Unknown, address, bv, choose, secret, simple, sym
 
-# What `unpad` returns instead of a length; the bytes of a stream, and where its flags are.
-NONE, STREAM, FLAGS = bv(2**64 - 1), 144, 136
+# What `unpad` returns instead of a length.
+NONE = bv(2**64 - 1)
 
 
 class Call:
@@ -14,9 +14,13 @@ class Call:
 
     def __init__(self, library, version, name):
         self.library, self.version, self.name = library, version, f'komihash_v{version}{name}'
-        self.products = Products()
+        self.products, self.layout = Products(), library.layout(version)
         self.cpu = library.processor(library, self.products)
         self.facts, self.memory = self.cpu.facts, self.cpu.memory
+        # For header.py: how many facts don't come from the case, what it is passed, the state of
+        # its stream and how many bytes that counts, and the bytes of the last of its words.
+        self.known, self.args = len(self.facts.list), ()
+        self.state = self.count = self.last_word = None
 
     def base(self, name, size, apart_from=()):
         """Passes an array of `size` bytes, which is null only if it is empty, and after which
@@ -25,7 +29,8 @@ class Call:
         base, size = address(name), bv(size) if isinstance(size, int) else size
         self.facts.add(simple(z3.Or(size == 0, z3.ULT(size, -base))), z3.ULT(size, 2**63))
         for other, length in apart_from:
-            self.facts.add(z3.UGE(base - other, length), z3.UGE(other - base, size))
+            self.facts.add(z3.Or(size == 0, length == 0, z3.And(
+                z3.UGE(base - other, length), z3.UGE(other - base, size))))
         return base
 
     def array(self, name, size, content=(), high=None, writable=False, apart_from=()):
@@ -44,11 +49,18 @@ class Call:
         content = named('bytes', range(length))
         return self.array('bytes', length, content), content
 
-    def stream(self, state, writable=False):
-        base = self.array('stream', STREAM, high=STREAM, writable=writable)
+    def stream(self, state, writable=False, count=None):
+        size = self.layout.SIZE
+        base = self.array('stream', size, high=size, writable=writable)
         if state:
-            store_state(self.memory, state)
+            self.state = state
+            self.layout.store(self, state, count)
         return self.aligned(base)
+
+    def begin(self, args):
+        self.args = args
+        self.library.begin(self)
+        self.check_possible()
 
     def check_possible(self):
         """Whether there is such a call, without which nothing would be shown."""
@@ -57,7 +69,7 @@ class Call:
 
     def run(self, *args):
         """Runs the call. Yields the processor at each return, at which all products are made."""
-        self.check_possible()
+        self.begin(args)
         for end in self.cpu.call(self.name, *args):
             self.check_all_products(end)
             yield end
@@ -66,7 +78,8 @@ class Call:
         """Runs the call, which must have one path."""
         ends = list(self.run(*args))
         if len(ends) != 1:
-            raise Refused(f'{len(ends)} ways through the call, where one is needed')
+            ends[-1].refuse(f'{len(ends)} ways through the call, where one is needed; the last two '
+                            f'part at {ends[-1].parted:#x}')
         return ends[0]
 
     def check_products(self, end, wanted):
@@ -101,22 +114,6 @@ def widened(bit):
     return choose(bit == 1, bv(1, 8), bv(0, 8))
 
 
-def store_state(memory, state):
-    """Stores a state as `start` and `write` do: the pending bytes as eight words with zeros after
-    them, their number, the lanes as four pairs, each as their xor and the second, and the flags."""
-    s = state.lanes
-    for k, byte in enumerate(state.pending + [bv(0, 8)] * (64 - len(state.pending))):
-        memory.put('stream', k, byte)
-    memory.put('stream', 64, bv(len(state.pending)))
-    for k in range(4):
-        memory.put('stream', 72 + 16 * k, simple(s[(k + 3) % 4] ^ s[4 + (k + 2) % 4]))
-        memory.put('stream', 80 + 16 * k, s[4 + (k + 3) % 4])
-    memory.put('stream', FLAGS, state.had_block)
-    memory.put('stream', FLAGS + 1, state.top_bit)
-    for k in range(FLAGS + 2, STREAM):
-        memory.put('stream', k, secret(f'unused[{k}]', 8))
-
-
 def generator(call):
     """A generator in memory, and its pair."""
     pair = secret('s1'), secret('s2')
@@ -131,11 +128,13 @@ def padded_content(call, content, last):
     for 3, at least 3. If `last` is None, the last word is 0. Returns the bytes, the length of their
     message, and whether they have one."""
     if last is None:
-        return content[:-8] + [bv(0, 8)] * 8, 0, z3.BoolVal(len(content) == 8)
+        call.last_word = [bv(0, 8)] * 8
+        return content[:-8] + call.last_word, 0, z3.BoolVal(len(content) == 8)
     index, byte = last
     at = len(content) - 8 + index
     found = secret('padding byte', 8) if byte == 3 else bv(byte, 8)
     call.facts.add(z3.UGE(found, byte))
     content = content[:at] + [found] + [bv(0, 8)] * (7 - index)
+    call.last_word = content[-8:]
     fits = found == padding_byte(call.version, content[at - 1]) if at else z3.BoolVal(False)
     return content, at, fits

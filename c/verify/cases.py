@@ -1,19 +1,22 @@
-"""The cases of each function, which together are all calls that the header allows, and how a worker
-checks one of them."""
+"""The cases of each function, and how a worker checks one of them."""
 import collections
 import time
 import functions as f
+import header
 import loops
 import terms
 from aarch64 import Arm
 from image import Image
+from layout import Ours
+from machine import Aligned, Seen
 from terms import Refused, Unknown
 from x86_64 import X86
 
-PROCESSORS = {'EM_X86_64': X86, 'EM_AARCH64': Arm}
+# By the numbers that ELF has for them.
+PROCESSORS = {62: X86, 183: Arm}
 IMAGE = None
-# The row of a function: the definition's multiplications, which are only told; whether jumps may
-# depend on contents; and its cases by how they are checked.
+# The row of a function: the definition's multiplications for n bytes with f bytes pending, whether
+# jumps may depend on contents, and its cases by how they are checked.
 Function = collections.namedtuple('Function', 'multiplications by_contents cases')
 
 
@@ -25,13 +28,14 @@ def each(numbers):
 # all calls that are longer than the cases before it.
 FILLS = each(range(64))
 FUNCTIONS = {
-    '': Function('3+4(n/64)+(n%64)/16', False, {
+    '': Function('3 + 4*(n//64) + n%64//16', False, {
         f.hash_of: each(range(loops.Hash.GRAIN)),
         loops.Hash: each(range(2**loops.Hash.FIXED_BITS))}),
     '_start': Function('1', False, {f.start_of: [()]}),
-    '_write': Function('4((f+n)/64)', False, {
+    '_write': Function('4*((f+n)//64)', False, {
         f.write_within: [(p, n) for p in range(64) for n in range(64 - p)], loops.Write: FILLS}),
-    '_finish': Function('2+f/16', False, {f.finish: [(p, b) for p in range(64) for b in (0, 1)]}),
+    '_finish': Function('2 + f//16', False, {
+        f.finish: [(p, b) for p in range(64) for b in (0, 1)]}),
     '_save': Function('0', False, {f.save: FILLS}),
     '_resume': Function('0', True, {f.resume: each([None, *range(132)])}),
     '_rand_init': Function('4', False, {f.rand_init: [('_rand_init', 1, 4)]}),
@@ -39,7 +43,7 @@ FUNCTIONS = {
         f.rand_init: [('_rand_init_with_extra_seed', 2, 4)]}),
     '_rand_init_words': Function('0', False, {f.rand_init: [('_rand_init_words', 2, 0)]}),
     '_rand_next': Function('1', False, {f.rand_next: [()]}),
-    '_rand_fill': Function('(n+7)/8', False, {
+    '_rand_fill': Function('(n+7)//8', False, {
         f.rand_fill: each(range(loops.Fill.GRAIN)), loops.Fill: [()]}),
     '_pad': Function('0', False, {f.pad: each(range(loops.Pad.GRAIN)), loops.Pad: [()]}),
     '_unpad': Function('0', True, {
@@ -59,9 +63,55 @@ class Case(collections.namedtuple('Case', 'name check args')):
     def has_loop(self):
         return isinstance(self.check, type)
 
+    def version(self):
+        return int(self.name[len('komihash_v')])
+
     def run(self, image):
-        done = self.check(image, int(self.name[len('komihash_v')]), *self.args)
-        return (done.prove() if self.has_loop() else done).seen
+        """What was seen. If the code aligns its stack, each stack pointer modulo 64 is a case."""
+        try:
+            return self.run_once(image)
+        except Aligned:
+            seen = Seen()
+            for image.low in range(image.processor.ABOVE, 64, 16):
+                seen.include(self.run_once(image))
+            return seen
+        finally:
+            image.low = None
+
+    def run_once(self, image):
+        done = self.check(image, self.version(), *self.args)
+        if self.has_loop():
+            done.prove()
+            for n, count in done.counted:
+                self.check_products(count, n, 0)
+        else:
+            sizes = dict(zip(self.check.__code__.co_varnames[2:], self.args))
+            self.check_products(len(done.products.list), sizes.get('length') or 0,
+                                sizes.get('fill', 0))
+        return done.seen
+
+    def check_products(self, count, n, f):
+        """Whether the definition has so many products as its row says."""
+        if count != eval(row_of(self.name).multiplications, {'n': n, 'f': f}):
+            raise Refused(f'the definition has {count} products for {n} bytes and {f} pending')
+
+    def begin(self, image):
+        """Begins the call, or if there are calls of any length, one of these."""
+        begun = self.check(image, self.version(), *self.args)
+        return begun.start() if self.has_loop() else begun
+
+
+class AllCalls(Case):
+    """The question whether the cases of a function are all calls that the header allows."""
+
+    def __str__(self):
+        return f'{self.name}, all calls'
+
+    def has_loop(self):
+        return True
+
+    def run(self, image):
+        return header.check_all(image, self.args).seen
 
 
 # What a case gave: why it failed, or the instructions that ran and how deep the stack was; and how
@@ -73,15 +123,18 @@ def row_of(name):
     return FUNCTIONS[name[len('komihash_v4'):]]
 
 
-def cases_of(name):
-    return [Case(name, check, args)
-            for check, cases in row_of(name).cases.items() for args in cases]
+def cases_of(name, every=1):
+    """The cases of a function, with each so many-th of the writes that complete no block."""
+    cases = [Case(name, check, args)
+             for check, some in row_of(name).cases.items() for args in some]
+    some = [case for k, case in enumerate(cases)
+            if case.check is not f.write_within or k % every == 0]
+    return [AllCalls(name, None, cases), *some]
 
 
-def open_library(path):
-    """Begins a worker."""
+def open_library(content, level, layout=Ours, red_zone=False):
     global IMAGE
-    IMAGE = Image(path, PROCESSORS)
+    IMAGE = Image(content, PROCESSORS, level, NAMES, layout, red_zone)
     return IMAGE
 
 

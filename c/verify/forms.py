@@ -10,8 +10,7 @@ in the loop of a hash,
 Beside forms, some conditions hold, as that a turn of the loop is left."""
 import itertools
 import z3
-from calls import FLAGS
-from terms import simple, symbols
+from terms import join, part, simple, symbols
 
 # In a linear form, the factors of the units, of the base and of the length.
 FACTORS = list(itertools.product((0, 1, -1, 8, -8), (0, 1), (0, 1)))
@@ -46,20 +45,24 @@ class Arrival:
 
 
 def words_of(cpu):
-    """The registers, the words of the stack and of a stream, and the flags of a stream."""
-    found = {('r', n): term for n, term in cpu.r.items()}
+    """The words of registers, of both stacks and of a stream, and the flags of a stream."""
+    found = {(n, k): word for n, term in cpu.r.items() for k, word in enumerate(split(term))}
     known = cpu.memory.data
     for name, k in known:
-        size = size_of(name, k)
-        if name in ('stack', 'stream') and k % size == 0:
+        size = size_of(cpu, name, k)
+        if name in ('stack', 'shadow', 'stream') and k % size == 0:
             if all((name, k + j) in known for j in range(size)):
                 found[name, k] = cpu.memory.content(name, k, size)
     return found
 
 
-def size_of(name, offset):
+def split(term):
+    return [part(term, low, 64) for low in range(0, term.size(), 64)]
+
+
+def size_of(cpu, name, offset):
     """The bytes of a word in memory. The flags of a stream are single bytes."""
-    return 1 if name == 'stream' and offset >= FLAGS else 8
+    return 1 if name == 'stream' and offset >= cpu.image.layout.FLAGS else 8
 
 
 def form_of(facts, stable, first, second):
@@ -113,9 +116,11 @@ class Invariant:
     def make(self, cpu, world, change):
         """Puts a processor into any state that has the forms, of which each term is changed as the
         function says. Words without a form hold anything."""
+        words = {n: [] for n in cpu.r}
         for (name, k), form in self.forms.items():
-            if name == 'r':
-                cpu.r[k] = change(form(world)) if form else cpu.any(cpu.r[k].size())
+            word = change(form(world)) if form else cpu.any(8 * size_of(cpu, name, k))
+            if name in words:
+                words[name].append(word)
             else:
-                cpu.memory.put(name, k, change(form(world)) if form
-                               else cpu.any(8 * size_of(name, k)))
+                cpu.memory.put(name, k, word)
+        cpu.r.update((n, join(of_register)) for n, of_register in words.items())

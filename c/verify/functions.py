@@ -3,9 +3,9 @@ are in loops.py. Each check runs a call with symbols for all contents, asks whet
 and stores is what the definition says, and returns the processor at the end."""
 import z3
 from calls import NONE, Call, generator, named, padded_content, some_state
-from checks import accepted, check, check_bytes, check_generator, check_state, low_byte
+from checks import accepted, check, check_bytes, check_generator
 from definition import State, is_text, komi, next_pair, padded_words, start, words_of
-from terms import bv, bytes_of, join, secret, sym
+from terms import bv, bytes_of, join, part, secret, sym
 
 
 def hash_of(library, version, length):
@@ -24,7 +24,7 @@ def start_of(library, version):
     wanted = start(call.products, seed)
     args, result = call.cpu.struct_at(call.stream(None, writable=True))
     end = call.one(*args, seed)
-    check_state(end, wanted)
+    call.layout.check(end, wanted)
     if result is not None:
         check(end, 'address of the struct', end.result(), result)
     return end
@@ -38,7 +38,7 @@ def write_within(library, version, fill, length):
     address, message = call.message(length)
     wanted = state.absorb(call.products, version, message)
     end = call.one(stream, address, bv(length))
-    check_state(end, wanted)
+    call.layout.check(end, wanted)
     return end
 
 
@@ -76,9 +76,9 @@ def resume(library, version, length):
     stream = call.stream(None, writable=True)
     for end in call.run(stream, call.array('text', size, text), size):
         is_one = accepted(end, fits)
-        check(end, 'result', low_byte(end.result()), bv(int(is_one), 8))
+        check(end, 'result', part(end.result(), 0, 8), bv(int(is_one), 8))
         if is_one:
-            check_state(end, State(words_of(text[4:68]), text[68:], text[1], text[2]))
+            call.layout.check(end, State(words_of(text[4:68]), text[68:], text[1], text[2]))
         else:
             check_bytes(end, 'refused', 'stream', [])
     return end

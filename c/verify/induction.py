@@ -22,11 +22,11 @@ does r; in the third, each r is run by itself, so that the number of bytes after
 """
 import collections
 import z3
-from calls import Call
+from calls import Call, named
 from forms import Arrival, Invariant, World
 from machine import LOADED, Seen
 from memory import Array
-from terms import Refused, Unknown, bv, simple, sym, symbols
+from terms import Refused, Unknown, bv, put_for, simple, sym, symbols
 
 # To find the loop, these calls are run: with a huge q, and with a small one and a remainder.
 LONG, TURNS, REST = 2**20, 12, 40
@@ -41,17 +41,19 @@ class Induction:
     - again(): a call at the head, in any state, when `units` were taken
     - finish(rest): a call at the exit, in any state, when so many bytes are left
     - steps(cpu): how many steps were made since, after checking all that they make
-    - check_end(cpu): checks a return"""
-    NAME, UNIT, SIZE, GRAIN = '', 8, 8, 128
+    - check_end(cpu): checks a return
+    A step makes PRODUCTS, and FIRST ones come before the loop."""
+    NAME, UNIT, SIZE, GRAIN, PRODUCTS, FIRST = '', 8, 8, 128, 0, 0
     # How many low bits of the length a case fixes, and the number that they are.
     FIXED_BITS, fixed = 0, 0
     # Which symbols mean the same at each arrival, beside those that each call has (`stable`).
-    STABLE = frozenset({'bytes', 'words', 'out', 'rand', 'room', 'padding byte',
-                        *(f'end[{k}]' for k in range(-136, 0))})
+    STABLE = frozenset({'bytes', 'words', 'out', 'rand', 'room', 'padding byte'})
 
     def __init__(self, library, version, *case):
         self.library, self.version, self.case = library, version, case
         self.invariants, self.seen, self.head, self.exit = {}, Seen(), None, None
+        # How many products the definition has for some numbers of bytes, with none pending.
+        self.counted = []
         width = self.GRAIN.bit_length() - 1
         self.q, self.r = sym(f'q{width}', 64 - width), sym(f'r{width}', width - self.FIXED_BITS)
 
@@ -74,7 +76,8 @@ class Induction:
         return self.call
 
     def stable(self):
-        terms = self.q, self.r, LOADED, sym('return'), *self.call.cpu.before.values()
+        ends = named('end', range(-self.GRAIN - 8, 0))
+        terms = self.q, self.r, LOADED, sym('return'), *ends, *self.call.cpu.before.values()
         return self.STABLE.union(*map(symbols, terms))
 
     def many(self, least=1, r=None):
@@ -96,7 +99,7 @@ class Induction:
         cpu.r.update(zip(cpu.ARGS, args))
         if sure:
             cpu.facts.add(self.accepted())
-        self.call.check_possible()
+        self.call.begin(args)
         return cpu
 
     def accepted(self):
@@ -109,13 +112,13 @@ class Induction:
     def find_cuts(self):
         """The head is the first of the places to which a long call comes most often. The exit is
         the first place outside of the loop that a call with one turn or none comes to too."""
-        found = self.library.found
+        found = self.library.loops
         if (self.NAME, self.version) not in found:
-            few, many = self.way(1), self.way(TURNS)
+            (few, _), (many, refusal) = self.way(1), self.way(TURNS)
             often = collections.Counter(many)
             head = max(many, key=often.get)
             if often[head] < 2:
-                raise Unknown(f'{self.call.name}: no loop was found')
+                raise refusal or Unknown(f'{self.call.name}: no loop was found')
             last = len(many) - 1 - many[::-1].index(head)
             inside = set(many[many.index(head):last])
             exits = [pc for pc in many[last:] if pc not in inside and (head in few or pc in few)]
@@ -123,15 +126,16 @@ class Induction:
         return found[self.NAME, self.version]
 
     def way(self, q):
-        """The places to which an accepted call of GRAIN * q + REST bytes comes. What it does after
-        the loop is not checked here."""
+        """The places to which an accepted call of GRAIN * q + REST bytes comes, and why it ends if
+        it is refused, which doesn't matter after the loop."""
         cpu = self.start(1, True, front=self.GRAIN * (q + 1))
         cpu.facts.add(self.q == q, self.r == REST >> self.FIXED_BITS)
+        refusal = None
         try:
             list(cpu.run(self.library.functions[self.call.name]))
-        except Refused:
-            pass
-        return list(self.seen.order)
+        except Refused as refused:
+            refusal = refused
+        return list(self.seen.order), refusal
 
     def guess(self):
         """Guesses the invariant of the head from two arrivals of a long call, and how many bytes a
@@ -156,21 +160,25 @@ class Induction:
 
     def conditions(self, world):
         """Conditions by name, of which an invariant has some."""
-        left, rest = self.left(world), self.rest()
+        left = self.left(world)
         most = z3.LShR(world.length, self.UNIT.bit_length() - 1)
-        return {'not too much': z3.ULE(world.units, most),
-                'whole turns': left & (self.step - 1) == rest,
-                'some is left': left != 0,
-                'a turn is left': z3.UGE(left, self.step),
-                'the rest is left': left == rest}
+        found = {'not too much': z3.ULE(world.units, most),
+                 'some is left': left != 0,
+                 'a turn is left': z3.UGE(left, self.step)}
+        for modulus in self.moduli():
+            rest = self.rest(modulus)
+            found['whole turns', modulus] = left & (self.step - 1) == rest
+            found['the rest is left', modulus] = left == rest
+        return found
 
-    def rest(self):
+    def moduli(self):
+        """Powers of two, the length modulo one of which is left after the last turn: that of a
+        turn, or if single steps come before the turns, that of a step."""
+        return {min(self.step, self.GRAIN), self.SIZE}
+
+    def rest(self, modulus):
         """How many bytes are left after the last turn."""
-        return simple(self.length & (self.modulus() - 1))
-
-    def modulus(self):
-        """A power of two. The length modulo this is left after the last turn."""
-        return min(self.step, self.GRAIN)
+        return simple(self.length & (modulus - 1))
 
     def begin(self):
         """Runs calls from their first instruction. Returns whether the invariants hold then."""
@@ -216,21 +224,24 @@ class Induction:
             raise Refused('no turn leads out of the loop')
         if 'not too much' not in self.invariants[self.head].holding:
             raise Refused('a turn may begin after more bytes were taken than there are')
-        if not {'the rest is left', 'not too much'} <= self.invariants[self.exit].holding:
+        holding = self.invariants[self.exit].holding
+        known = [m for m in self.moduli() if ('the rest is left', m) in holding]
+        if not known or 'not too much' not in holding:
             raise Refused('after the last turn, more bytes or fewer are left than the rest')
         for remainder in range(self.fixed, self.GRAIN, 2**self.FIXED_BITS):
-            self.leave(remainder)
+            self.leave(remainder, remainder % known[0])
 
-    def leave(self, remainder):
+    def leave(self, remainder, rest):
         """From the exit to the return. What was taken follows from what is left. If the invariant
         says that some is left, calls with no rest end before, which `leave_early` judges."""
-        rest = remainder % self.modulus()
         if not rest and 'some is left' in self.invariants[self.exit].holding:
             return
         call, r = self.new_call(), bv(remainder >> self.FIXED_BITS, self.r.size())
         self.length, self.units = self.after_turns(remainder, rest)
-        self.make(self.exit, self.finish(rest),
-                  lambda term: simple(z3.substitute(term, (self.r, r))))
+        self.make(self.exit, self.finish(rest), lambda term: put_for(term, (self.r, r)))
+        for n in (remainder + self.GRAIN * q for q in (1, 2)):
+            self.counted.append((n, self.FIRST + (n - rest) // self.SIZE * self.PRODUCTS +
+                                 len(call.products.list)))
         for cpu, _ in call.cpu.run(self.exit):
             cpu.check_return()
             self.call.check_all_products(cpu)

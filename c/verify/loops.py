@@ -1,27 +1,33 @@
 """The five kinds of calls that have a loop over bytes, and are proved by induction."""
 import copy
 import z3
-from calls import (FLAGS, NONE, STREAM, generator, named, padded_content, some_lanes,
-                   some_state)
-from checks import accepted, check, check_bytes, check_generator, check_state
+from calls import NONE, generator, named, padded_content, some_lanes, some_state
+from checks import accepted, check, check_bytes, check_generator
 from definition import (TRUE, State, block_round, hash_from_pair, joined, lanes, next_pair,
                         padded_words, padding_byte, seed_pair, top_bit, words_of)
 from induction import Induction
+from layout import last_word
 from memory import Array
 from terms import bv, bytes_of, join, secret, simple, sym, symbols
 
 
-class Blocks(Induction):
-    """Calls that take blocks of 64 bytes. The words of the definition are the lanes."""
-    UNIT, SIZE, GRAIN = 1, 64, 64
+# A number of pending bytes for which writes are proved first: some of a block, so that the call has
+# all that it can have before its loop.
+SOME_FILL = 13
 
-    def follow(self, s, content, before=0):
-        """The lanes after each block; so many products come before."""
-        self.states, self.before = [s], before
+
+class Blocks(Induction):
+    """Calls that take blocks of 64 bytes. The words of the definition are the lanes and the last
+    word of the last block, by which version 4 pads a message that ends there."""
+    UNIT, SIZE, GRAIN, PRODUCTS = 1, 64, 64, 4
+
+    def follow(self, s, content, before=0, last=secret('last word')):
+        """The words after each block; so many products come before."""
+        self.states, self.before = [[*s, last]], before
         for k in range(0, len(content) - 63, 64):
             words = words_of(content[k:k + 64])
             s = block_round(self.call.products, self.version, s, words)
-            self.states.append(s)
+            self.states.append([*s, words[7]])
 
     def steps(self, cpu):
         blocks = max(len(cpu.halves) // 2 - self.before, 0) // 4
@@ -32,7 +38,7 @@ class Blocks(Induction):
 class Hash(Blocks):
     """Messages whose length has these low bits, since some code comes before the blocks that needs
     to know where the last word begins."""
-    FIXED_BITS = 3
+    FIXED_BITS, FIRST = 3, 1
 
     def enter(self, least, low, front=256):
         self.fixed = low
@@ -40,7 +46,7 @@ class Hash(Blocks):
         self.length, content = self.many(least), named('front', range(front))
         self.base = call.base('bytes', self.length)
         self.windows(self.base, content, named('end', range(-64, 0)))
-        self.follow(lanes(seed_pair(call.products, seed)), content, before=1)
+        self.follow(lanes(seed_pair(call.products, seed)), content, self.FIRST)
         return self.base, self.length, seed
 
     def again(self):
@@ -59,7 +65,7 @@ class Hash(Blocks):
         else:
             words = words_of([padding_byte(self.version, last[-1])])
         self.wanted = hash_from_pair(self.call.products, joined(TRUE, s), words)
-        return s
+        return [*s, *words_of([*named('earlier', range(8)), *last][64 - rest:72 - rest])]
 
     def check_end(self, cpu):
         check(cpu, 'hash', cpu.result(), self.wanted)
@@ -69,30 +75,35 @@ class Write(Blocks):
     """Writes that complete a block. Here, GRAIN * q + r counts the bytes that are pending too, and
     before the first turn, all of these are yet to take: the units begin below zero."""
     NAME = '_write'
-    STABLE = frozenset({'stream', 'last', *(f'unused[{k}]' for k in range(FLAGS, STREAM))})
+    STABLE = frozenset({'stream', 'last', 'count'})
 
     def stable(self):
         """The turns are those of any write, so q, the bytes and their length mean nothing there."""
         return super().stable() - symbols(self.q)
 
-    def rest(self):
+    def rest(self, modulus=64):
         return z3.ZeroExt(58, self.r)
 
     def enter(self, least, fill, front=256):
         call = self.new_call()
         self.length, content = simple(self.many(least) - fill), named('front', range(front))
         state = some_state(self.version, fill)
-        stream, self.base = call.stream(state, writable=True), call.base('bytes', self.length)
+        stream = call.stream(state, writable=True, count=self.count_before())
+        self.base = call.base('bytes', self.length)
         call.memory.add(Array('front', self.base, 0, front, limit=self.length), content)
         after = simple(self.base + self.length - self.rest())
         call.memory.add(Array('last', after, -1, 0), [secret('last', 8)], -1)
-        self.follow(state.lanes, state.pending + content)
+        self.follow(state.lanes, state.pending + content, last=last_word(state))
         self.units = bv(-fill % 2**64)
         return stream, self.base, self.length
+
+    def count_before(self):
+        return self.call.layout.count_before(self.call, self.length, self.rest())
 
     def open(self):
         """Any write, some bytes of which were taken. Returns the address of the next."""
         self.call.stream(None, writable=True)
+        self.count_before()
         self.base = self.call.base('bytes', self.length)
         return simple(self.base + self.units)
 
@@ -109,30 +120,31 @@ class Write(Blocks):
     def finish(self, rest):
         self.tail, address = named('rest', range(rest)), self.open()
         # At the exit, at least one byte was taken, since all whole blocks of one or more were.
-        content = [secret('last', 8), *self.tail]
-        self.call.memory.add(Array('rest', address, -1, rest), content, -1)
-        return some_lanes()
+        last = secret('last', 8)
+        self.call.memory.add(Array('rest', address, -1, rest), [last, *self.tail], -1)
+        return [*some_lanes(), *words_of([*named('earlier', range(7)), last])]
 
     def leave_early(self, cpu):
         """A write may return from the loop if it took all bytes."""
         world = self.arrival(cpu).world
         if not cpu.facts.holds(cpu.path, self.left(world) == 0):
             cpu.refuse('a return before the end')
-        self.check_stream(cpu, world.words, [])
+        self.check_stream(cpu, world.words[:8], [])
 
     def check_end(self, cpu):
         self.check_stream(cpu, some_lanes(), self.tail)
 
     def check_stream(self, cpu, s, rest):
-        check_state(cpu, State(s, rest, TRUE, top_bit(self.version, secret('last', 8))))
+        state = State(s, rest, TRUE, top_bit(self.version, secret('last', 8)))
+        self.call.layout.check(cpu, state)
 
     def prove(self):
         """The turns and the end are those of any write. They are proved once; another number of
         pending bytes needs only to begin with the same invariants. If it doesn't, it drops what
         doesn't hold, and proves the rest by itself."""
-        key, found = ('turns of writes', self.version), self.library.found
+        key, found = ('turns of writes', self.version, self.library.low), self.library.loops
         if key not in found:
-            found[key] = super(Write, Write(self.library, self.version, 13)).prove()
+            found[key] = super(Write, Write(self.library, self.version, SOME_FILL)).prove()
         shown = found[key]
         self.head, self.exit, self.step = shown.head, shown.exit, shown.step
         self.invariants = {pc: copy.copy(one) for pc, one in shown.invariants.items()}
@@ -145,7 +157,7 @@ class Write(Blocks):
 class Fill(Induction):
     """Fills of a generator. The words of the definition are its pair. What was written is checked
     at each arrival, and `out` then begins after it, so that it isn't written again."""
-    NAME = '_rand_fill'
+    NAME, PRODUCTS = '_rand_fill', 1
 
     def enter(self, least, front=512):
         call = self.new_call()

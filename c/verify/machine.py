@@ -32,6 +32,15 @@ def means(table, *names):
     return enter
 
 
+class Moved(Exception):
+    """The stack pointer moved by a number that the path does not fix. It has the number, and the
+    place after the instruction."""
+
+
+class Aligned(Exception):
+    """What lies where in the stack depends on the low bits of the stack pointer."""
+
+
 class Seen:
     """What the paths of one case met: instructions, also in the order in which they ran, bytes of
     stack, and symbols for contents on which a jump or an address depends."""
@@ -50,10 +59,11 @@ class Cpu:
     condition of the jump is added to its path. The ways together are all that can happen, since a
     way is left out only if the solver finds that its condition contradicts the path.
 
-    ABOVE is how many bytes a call has put on the stack. TABLE has the meaning of instructions by
-    their names: a function returns None to go on, an address to jump to, RETURN, or for a jump with
-    a condition, this and both addresses."""
-    NAME = DECODER = ARGS = RESULTS = SAVED = SP = ABOVE = TABLE = None
+    ABOVE is how many bytes a call has put on the stack, and RED_ZONE how many below the stack
+    pointer no signal handler writes. TABLE has the meaning of instructions by their names: a
+    function returns None to go on, an address to jump to, RETURN, or for a jump with a condition,
+    this and both addresses."""
+    NAME = DECODER = ARGS = RESULTS = SAVED = SP = ABOVE = RED_ZONE = TABLE = None
 
     def __init__(self, image, products):
         # All paths share these.
@@ -61,12 +71,19 @@ class Cpu:
         # Conditions that hold on this path, and which halves of products were made on it.
         self.path, self.halves = [], frozenset()
         self.memory, self.r, self.flags = Memory(), self.registers(), {}
-        # The last instruction, how many values are undefined, how many bytes arrays surely have.
-        self.pc, self.undefined, self.enough = None, 0, {}
+        # The last instruction, the one at which the path last forked, how many values are
+        # undefined, and how many bytes arrays surely have.
+        self.pc, self.parted, self.undefined, self.enough = None, None, 0, {}
         self.sp = sym('sp')
         self.memory.add(Array('stack', self.sp, -STACK_BYTES, self.ABOVE, True))
         self.facts.add(self.sp & 15 == self.ABOVE, LOADED & 4095 == 0)
+        if image.low is not None:
+            self.facts.add(self.sp & 63 == image.low)
+        self.red_zone = self.RED_ZONE if image.red_zone else 0
         self.r[self.SP] = self.sp
+        # The addresses to which calls must return, and a pointer to the last: no array has them.
+        self.r['ssp'] = bv(0)
+        self.memory.put('shadow', 0, sym('return'))
         self.enter()
         self.before = dict(self.r)
 
@@ -104,13 +121,17 @@ class Cpu:
         while todo:
             cpu, pc = todo.pop()
             while pc is not None and (pc not in stops or len(self.seen.order) == begin):
-                before = dict(cpu.r)
+                before = dict(cpu.r), cpu.flags, cpu.halves
                 try:
                     pc = cpu.next(pc, todo)
                 except Several as several:
-                    # The instruction is run again, for each value; it may have changed registers.
-                    cpu.r = before
+                    # The instruction is run again, for each value, and nothing may stay of this.
+                    cpu.r, cpu.flags, cpu.halves = before
                     todo += [(other, pc) for other in cpu.with_values(several.args[0])]
+                    break
+                except Moved as moved:
+                    moved_by, pc = moved.args
+                    todo += [(other.move_stack(pc), pc) for other in cpu.with_values(moved_by)]
                     break
             else:
                 yield cpu, pc
@@ -129,15 +150,19 @@ class Cpu:
         self.seen.order.append(pc)
         if len(self.seen.order) > STEPS:
             raise Refused(f'more than {STEPS} instructions')
+        self.stack_pointer = self.r[self.SP]
         try:
             went = do(self, i)
             if isinstance(went, tuple):
                 return self.branch(*went, todo)
+            after = None if went is RETURN else i.address + i.size if went is None else went
+            if self.r[self.SP] is not self.stack_pointer:
+                self.move_stack(after)
         except Refused as refused:
             self.refuse(refused)
-        if went is RETURN:
-            return None
-        return i.address + i.size if went is None else went
+        except (KeyError, IndexError):
+            raise unknown(i) from None
+        return after
 
     def branch(self, cond, yes, no, todo):
         """The place after a jump; if both are possible, the other is left to do."""
@@ -145,6 +170,7 @@ class Cpu:
         decided = self.facts.decide(self.path, cond)
         if decided is None:
             self.note_time(cond)
+            self.parted = self.pc
             other = self.copy()
             other.path = self.path + [simple(z3.Not(cond))]
             todo.append((other, no))
@@ -153,10 +179,13 @@ class Cpu:
 
     def with_values(self, term):
         """A copy for each value that a term can have here."""
+        if symbols(term) == {'sp'} and self.image.low is None:
+            raise Aligned
         self.note_time(term)
+        self.parted = self.pc
         values = self.facts.values(term, self.path, VALUES)
         if values is None:
-            raise Refused(f'a number with too many values: {term}')
+            self.refuse(f'a number with too many values: {term}')
         copies = [self.copy() for _ in values]
         for other, value in zip(copies, values):
             other.path = self.path + [term == value]
@@ -183,12 +212,41 @@ class Cpu:
         if not self.facts.holds(self.path, address & (size - 1) == 0):
             raise Refused(f'an address that is not aligned to {size} bytes: {address}')
 
+    def move_stack(self, after):
+        """Loses what now lies below the stack pointer and the red zone, where a signal handler may
+        write at any time. Returns the processor."""
+        moved = simple(self.r[self.SP] - self.sp)
+        offset = self.facts.unique(moved, self.path)
+        if offset is None:
+            raise Moved(moved, after)
+        self.r[self.SP] = simple(self.sp + offset)
+        self.memory.lose('stack', offset - self.red_zone)
+        return self
+
     def check_stack(self, name, offset):
+        """Judges an access by the stack pointer before the instruction, or the one after it."""
         if name == 'stack':
-            lowest = signed(simple(self.r[self.SP] - self.sp))
-            if lowest is None or offset < lowest:
+            both = (signed(simple(p - self.sp)) for p in (self.stack_pointer, self.r[self.SP]))
+            if all(k is None or offset < k - self.red_zone for k in both):
                 raise Refused('access below the stack pointer')
             self.seen.depth = max(self.seen.depth, self.ABOVE - offset)
+
+    # Calls within the library
+
+    def note_call(self, i):
+        """Notes where a call must return to, and returns this address."""
+        back = simple(LOADED + (i.address + i.size))
+        self.r['ssp'] = simple(self.r['ssp'] - 8)
+        self.memory.put('shadow', signed(self.r['ssp']), back)
+        return back
+
+    def give_back(self, to):
+        """A return, which must be that of the last call that has not returned."""
+        last = signed(self.r['ssp'])
+        if last is None or not z3.eq(to, self.memory.content('shadow', last, 8)):
+            raise Refused(f'a return to {to}, which is not the caller')
+        self.r['ssp'] = simple(self.r['ssp'] + 8)
+        return const(simple(to - LOADED)) if last else RETURN
 
     def has_room(self, array, size):
         """Whether an array with a limit has so many bytes. As what is found is remembered, whether

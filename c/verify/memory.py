@@ -90,6 +90,11 @@ class Memory:
         for k in range(size):
             self.data[name, offset + k] = value, k, size
 
+    def lose(self, name, end):
+        """Forgets the bytes of an array before an offset."""
+        for key in [key for key in self.data if key[0] == name and key[1] < end]:
+            del self.data[key]
+
     def written(self, name):
         """The offsets of the bytes of an array that are known."""
         return sorted(k for n, k in self.data if n == name)

@@ -143,6 +143,13 @@ def widen(term, width):
     return part(term, 0, width)
 
 
+def put_for(term, *pairs):
+    """A term with values in place of symbols: z3.substitute without its checks, which take long."""
+    of, to = ((z3.Ast * len(pairs))(*(pair[k].ast for pair in pairs)) for k in (0, 1))
+    ast = z3.Z3_substitute(term.ctx_ref(), term.as_ast(), len(pairs), of, to)
+    return simple(z3.z3._to_expr_ref(ast, term.ctx))
+
+
 def choose(cond, yes, no):
     return simple(z3.If(cond, yes, no))
 
@@ -252,8 +259,7 @@ class Facts:
         known = self.points.get(term.get_id())
         if known is None:
             names = symbols(term)
-            values = [const(simple(z3.substitute(term, *[at_point(k, n) for n in names])))
-                      for k in range(3)]
+            values = [const(put_for(term, *(at_point(k, n) for n in names))) for k in range(3)]
             known = self.points[term.get_id()] = term, tuple(values)
         return known[1]
 

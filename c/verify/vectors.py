@@ -7,8 +7,11 @@ from definition import Numbers, Products, hash_from_lanes, komi, padded_words, s
 from terms import Unknown, bv, const, secret
 
 
+HASHES = 95
+
+
 def check_hashes():
-    """Computes the hashes of vectors.tsv. Returns how many there are."""
+    """Computes the hashes of vectors.tsv."""
     path = os.path.join(os.path.dirname(os.path.abspath(__file__)), '..', 'vectors.tsv')
     with open(path) as file:
         rows = [line.rstrip('\n').split('\t') for line in file if line[0] != '#']
@@ -17,7 +20,8 @@ def check_hashes():
         found = const(komi(Numbers(), int(version), bv(int(seed, 16)), content))
         if found != int(wanted, 16):
             raise Unknown(f'the definition gives {found:x} and not {wanted} for {message}')
-    return len(rows)
+    if len(rows) != HASHES:
+        raise Unknown(f'vectors.tsv has {len(rows)} hashes, and not {HASHES}')
 
 
 def check_streams(length):
@@ -44,7 +48,8 @@ def check_streams(length):
 
 
 def check_definition(jobs):
-    print(f'the definition gives the {check_hashes()} hashes of vectors.tsv')
+    check_hashes()
+    print(f'the definition gives the {HASHES} hashes of vectors.tsv')
     with multiprocessing.Pool(jobs) as pool:
         pool.map(check_streams, range(128), chunksize=1)
     print('in the definition, streams answer the hash of any message, however it is cut')

@@ -3,34 +3,23 @@ import operator
 import z3
 from capstone import CS_ARCH_X86, CS_MODE_64
 from capstone import x86_const as X
-from machine import CONDITIONS, LOADED, RETURN, Cpu, means, unknown
-from terms import (Refused, bv, choose, const, join, leading_zeros, part, secret, simple, sym, top,
-                   widen)
+from machine import CONDITIONS, LOADED, Cpu, means, unknown
+from memory import Several
+from opcodes import KNOWN_X86, is_known
+from terms import (SYMBOLS, Refused, bv, choose, const, join, leading_zeros, part, secret, simple,
+                   sym, symbols, top, widen)
 
 TABLE = {}
-# Instructions whose address must be a multiple of the operand's size.
-ALIGNED = ('movaps', 'movdqa', 'vmovaps', 'pxor', 'xorps', 'punpcklqdq', 'punpckhqdq', 'palignr')
-# Instructions that x86-64-v2 lacks, beside those that begin with v. A processor may run others in
-# their place.
-NEWER = ('andn', 'lzcnt', 'mulx', 'sarx', 'shlx', 'shrx')
 SHIFTS = {'shl': operator.lshift, 'shr': z3.LShR, 'sar': operator.rshift}
 
 
 def registers():
     """Register, lowest bit and width by the name of a part."""
-    names = {}
-    for n in 'abcd':
-        whole = f'r{n}x'
-        names.update({whole: (whole, 0, 64), f'e{n}x': (whole, 0, 32), f'{n}x': (whole, 0, 16),
-                      f'{n}l': (whole, 0, 8), f'{n}h': (whole, 8, 8)})
-    for n in ('sp', 'bp', 'si', 'di'):
-        whole = f'r{n}'
-        names.update({whole: (whole, 0, 64), f'e{n}': (whole, 0, 32), n: (whole, 0, 16),
-                      f'{n}l': (whole, 0, 8)})
-    for n in range(8, 16):
-        whole = f'r{n}'
-        names.update({whole: (whole, 0, 64), f'{whole}d': (whole, 0, 32),
-                      f'{whole}w': (whole, 0, 16), f'{whole}b': (whole, 0, 8)})
+    names = {f'{n}h': (f'r{n}x', 8, 8) for n in 'abcd'}
+    for whole, *parts in [*((f'r{n}x', f'e{n}x', f'{n}x', f'{n}l') for n in 'abcd'),
+                          *((f'r{n}', f'e{n}', n, f'{n}l') for n in ('sp', 'bp', 'si', 'di')),
+                          *((f'r{n}', f'r{n}d', f'r{n}w', f'r{n}b') for n in range(8, 16))]:
+        names.update(zip((whole, *parts), ((whole, 0, width) for width in (64, 32, 16, 8))))
     for n in range(16):
         names.update({f'ymm{n}': (f'ymm{n}', 0, 256), f'xmm{n}': (f'ymm{n}', 0, 128)})
     return names
@@ -44,7 +33,11 @@ class X86(Cpu):
     DECODER = CS_ARCH_X86, CS_MODE_64
     ARGS, RESULTS = ('rdi', 'rsi', 'rdx', 'rcx', 'r8', 'r9'), ('rax', 'rdx')
     SAVED = 'rbx', 'rbp', 'r12', 'r13', 'r14', 'r15'
-    SP, ABOVE, TABLE = 'rsp', 8, TABLE
+    SP, ABOVE, RED_ZONE, TABLE = 'rsp', 8, 128, TABLE
+    LEVELS, is_known = tuple(KNOWN_X86), staticmethod(is_known)
+    # The property of which features a file has marks for, those that are known (IBT, SHSTK), and
+    # the mark of the first; and properties that only tell of a file.
+    MARKS, TOLD = (0xc0000002, 3, bytes.fromhex('f30f1efa')), (0xc0010001, 0xc0010002)
 
     def registers(self):
         return {name: secret(f'{name} of the caller', width)
@@ -52,10 +45,6 @@ class X86(Cpu):
 
     def enter(self):
         self.memory.put('stack', 0, sym('return'))
-
-    def meaning(self, i):
-        is_newer = i.mnemonic[0] == 'v' or i.mnemonic in NEWER
-        return None if is_newer and not self.image.is_v3 else super().meaning(i)
 
     def check_return(self):
         super().check_return()
@@ -67,13 +56,9 @@ class X86(Cpu):
         return [address], address
 
     def address(self, i, op):
-        m = op.mem
-        names = [i.reg_name(n) for n in (m.base, m.index) if n]
-        if any(name != 'rip' and NAMES[name][2] != 64 for name in names):
+        if op.type != X.X86_OP_MEM:
             raise unknown(i)
-        if m.segment and i.reg_name(m.segment) in ('fs', 'gs'):
-            raise unknown(i)
-        a = bv(m.disp % 2**64)
+        m, a = op.mem, bv(op.mem.disp % 2**64)
         if m.base:
             name = i.reg_name(m.base)
             a = a + (LOADED + (i.address + i.size) if name == 'rip' else self.r[name])
@@ -94,8 +79,14 @@ class X86(Cpu):
             return bv(op.imm % 2**(width or 64), width or 64)
         if op.type == X.X86_OP_MEM:
             return self.load(self.aligned_address(i, op), (width or 8 * op.size) // 8)
-        n, low, size = NAMES[i.reg_name(op.reg)]
+        n, low, size = self.register(i, op)
         return part(self.r[n], low, min(size, width or size))
+
+    @staticmethod
+    def register(i, op):
+        if op.type != X.X86_OP_REG:
+            raise unknown(i)
+        return NAMES[i.reg_name(op.reg)]
 
     def put(self, i, k, value):
         op, value = i.ops[k], simple(value)
@@ -103,7 +94,7 @@ class X86(Cpu):
             if value.size() != 8 * op.size:
                 raise unknown(i)
             return self.store(self.aligned_address(i, op), value)
-        n, low, size = NAMES[i.reg_name(op.reg)]
+        n, low, size = self.register(i, op)
         whole = self.r[n].size()
         if value.size() != size:
             raise unknown(i)
@@ -125,13 +116,22 @@ class X86(Cpu):
 
 
 TABLE.update({
-    'nop': lambda c, i: None,
+    **dict.fromkeys(('nop', 'endbr64'), lambda c, i: None),
     **dict.fromkeys(('mov', 'movabs', 'movups', 'movdqu', 'movaps', 'movdqa', 'vmovups', 'vmovdqu',
                      'vmovaps'), lambda c, i: c.put(i, 0, c.get(i, 1, 8 * i.ops[0].size))),
     'movzx': lambda c, i: c.put(i, 0, widen(c.get(i, 1), 8 * i.ops[0].size)),
     'lea': lambda c, i: c.put(i, 0, part(c.address(i, i.ops[1]), 0, 8 * i.ops[0].size)),
     'not': lambda c, i: c.put(i, 0, ~c.get(i, 0)),
-    'vbroadcastsd': lambda c, i: c.put(i, 0, join([c.get(i, 1, 64)] * 4))})
+    'vbroadcastsd': lambda c, i: c.put(i, 0, join([c.get(i, 1, 64)] * 4)),
+    **{f'set{code}': lambda c, i: c.put(i, 0, choose(condition(c, i, 3), bv(1, 8), bv(0, 8)))
+       for code in CONDITIONS},
+    **{f'cmov{code}': lambda c, i: c.put(i, 0, choose(condition(c, i, 4), c.get(i, 1), c.get(i, 0)))
+       for code in CONDITIONS}})
+
+
+def condition(c, i, start):
+    """The condition that the name ends with."""
+    return c.known(c.cond(i.mnemonic[start:]))
 
 
 @means(TABLE, 'xor', 'and', 'or', 'test', 'andn')
@@ -225,8 +225,10 @@ def bit_test(c, i):
 
 @means(TABLE, 'bsr')
 def highest_bit(c, i):
-    a = c.get(i, 1)
-    c.put(i, 0, z3.If(a == 0, c.any(a.size()), a.size() - 1 - leading_zeros(a)))
+    """If there is none, the whole register is undefined, also where its high half else is 0."""
+    a, (whole, _, _) = c.get(i, 1), c.register(i, i.ops[0])
+    found = widen(a.size() - 1 - leading_zeros(a), 64)
+    c.r[whole] = choose(a == 0, c.any(), found)
     c.flags = {'z': a == 0}
 
 
@@ -239,8 +241,6 @@ def count_zeros(c, i):
 
 @means(TABLE, 'mul')
 def multiply(c, i):
-    if i.ops[0].size != 8:
-        raise unknown(i)
     c.r['rax'], c.r['rdx'] = c.multiply(c.r['rax'], c.get(i, 0), (0, 1))
     c.flags = {}
 
@@ -252,41 +252,42 @@ def multiply_without_flags(c, i):
     c.put(i, 0, high)
 
 
-def check_size(i):
-    """Jumps and pushes must have no prefix by which they would take 16 bits."""
-    if i.prefix[2]:
-        raise unknown(i)
-
-
-@means(TABLE, 'push')
-def push(c, i):
-    check_size(i)
-    value = c.get(i, 0, 64)
+def push(c, i, value):
     c.r['rsp'] = simple(c.r['rsp'] - 8)
     c.store(c.r['rsp'], value)
 
 
-@means(TABLE, 'pop')
 def pop(c, i):
-    check_size(i)
     value = c.load(c.r['rsp'], 8)
     c.r['rsp'] = simple(c.r['rsp'] + 8)
-    c.put(i, 0, value)
+    return value
+
+
+TABLE.update({'push': lambda c, i: push(c, i, c.get(i, 0, 64)),
+              'pop': lambda c, i: c.put(i, 0, pop(c, i))})
+
+
+@means(TABLE, 'leave')
+def leave(c, i):
+    c.r['rsp'] = c.r['rbp']
+    c.r['rbp'] = pop(c, i)
 
 
 @means(TABLE, 'ret')
 def give_back(c, i):
-    check_size(i)
-    to = c.load(c.r['rsp'], 8)
-    c.r['rsp'] = simple(c.r['rsp'] + 8)
-    if i.ops or not z3.eq(to, sym('return')):
-        raise Refused(f'a return to {to}, which is not the caller')
-    return RETURN
+    if i.ops:
+        raise unknown(i)
+    return c.give_back(pop(c, i))
+
+
+@means(TABLE, 'call')
+def call(c, i):
+    push(c, i, c.note_call(i))
+    return jump(c, i)
 
 
 @means(TABLE, 'jmp')
 def jump(c, i):
-    check_size(i)
     if i.ops[0].type != X.X86_OP_IMM:
         raise Refused('a jump to no fixed place')
     return i.ops[0].imm
@@ -294,18 +295,7 @@ def jump(c, i):
 
 @means(TABLE, *(f'j{code}' for code in CONDITIONS))
 def branch(c, i):
-    check_size(i)
     return c.cond(i.mnemonic[1:]), i.ops[0].imm, i.address + i.size
-
-
-@means(TABLE, *(f'set{code}' for code in CONDITIONS))
-def set_if(c, i):
-    c.put(i, 0, choose(c.known(c.cond(i.mnemonic[3:])), bv(1, 8), bv(0, 8)))
-
-
-@means(TABLE, *(f'cmov{code}' for code in CONDITIONS))
-def move_if(c, i):
-    c.put(i, 0, choose(c.known(c.cond(i.mnemonic[4:])), c.get(i, 1), c.get(i, 0)))
 
 
 @means(TABLE, 'movq', 'vmovq')
@@ -315,30 +305,43 @@ def move_quad(c, i):
     c.put(i, 0, widen(value, 128) if to_vector else value)
 
 
-def sources(i):
-    """Both operands that a vector instruction reads: with three operands, not the first."""
-    return (1, 2) if i.mnemonic[0] == 'v' else (0, 1)
+def vector(c, i):
+    """A vector instruction, in its 128-bit halves or as a whole. Its sources are the last two
+    operands before its number, if it has one."""
+    bits, span, do = VECTORS[i.mnemonic.removeprefix('v')]
+    has_number = i.ops[-1].type == X.X86_OP_IMM
+    last = len(i.ops) - 1 - has_number
+    b = c.get(i, last)
+    a = c.get(i, last - 1) if i.ops[last - 1].type == X.X86_OP_REG else b
+    pieces = []
+    for low in range(0, b.size(), span):
+        halves = ([part(term, k, bits) for k in range(low, min(low + span, term.size()), bits)]
+                  for term in (a, b))
+        pieces += do(*halves, i.ops[-1].imm if has_number else 0)
+    c.put(i, 0, join(pieces))
 
 
-@means(TABLE, 'pxor', 'xorps', 'vpxor', 'vxorps')
-def xor_vectors(c, i):
-    a, b = (c.get(i, k, 8 * i.ops[0].size) for k in sources(i))
-    c.put(i, 0, a ^ b)
-
-
-@means(TABLE, 'punpcklqdq', 'punpckhqdq', 'vpunpcklqdq', 'vpunpckhqdq', 'vunpckhpd', 'vmovlhps')
-def unpack(c, i):
-    if i.ops[0].size != 16:
-        raise unknown(i)
-    low = 64 if 'ckh' in i.mnemonic else 0
-    c.put(i, 0, join([part(c.get(i, k, 128), low, 64) for k in sources(i)]))
-
-
-@means(TABLE, 'palignr')
-def align(c, i):
-    if i.ops[2].imm > 16:
-        raise unknown(i)
-    c.put(i, 0, part(join([c.get(i, 1), c.get(i, 0)]), 8 * i.ops[2].imm, 128))
+# For each, how many bits a piece and a half or the whole have, and how the pieces of its sources
+# and its number give those of its result.
+VECTORS = {
+    'paddq': (64, 128, lambda a, b, n: [x + y for x, y in zip(a, b)]),
+    'palignr': (8, 128, lambda a, b, n: (b + a)[n:n + 16]),
+    'pshufd': (32, 128, lambda a, b, n: [b[n >> 2 * k & 3] for k in range(4)]),
+    'shufps': (32, 128, lambda a, b, n: [(b if k > 1 else a)[n >> 2 * k & 3] for k in range(4)]),
+    **dict.fromkeys(('pxor', 'xorps'), (64, 128, lambda a, b, n: [x ^ y for x, y in zip(a, b)])),
+    **dict.fromkeys(('punpcklqdq', 'movlhps'), (64, 128, lambda a, b, n: [a[0], b[0]])),
+    **dict.fromkeys(('punpckhqdq', 'unpckhpd'), (64, 128, lambda a, b, n: [a[1], b[1]]))}
+# The processor checks the addresses of these, if no v comes before.
+ALIGNED = {'movaps', 'movdqa', 'vmovaps', *VECTORS}
+VECTORS['pextrq'] = 64, 128, lambda a, b, n: [b[n & 1]]
+TABLE.update({prefix + name: vector for prefix in ('', 'v') for name in VECTORS})
+VECTORS.update({
+    'extracti128': (128, 256, lambda a, b, n: [b[n & 1]]),
+    'inserti128': (128, 256, lambda a, b, n: [a[0], b[0]] if n & 1 else [b[0], a[1]]),
+    'blendps': (32, 256, lambda a, b, n: [(b if n >> k & 1 else a)[k] for k in range(len(a))]),
+    **dict.fromkeys(('permq', 'permpd'),
+                    (64, 256, lambda a, b, n: [b[n >> 2 * k & 3] for k in range(4)]))})
+TABLE.update({f'v{name}': vector for name in VECTORS})
 
 
 @means(TABLE, 'vzeroupper')
@@ -347,14 +350,16 @@ def zero_upper(c, i):
         c.r[f'ymm{n}'] = widen(part(c.r[f'ymm{n}'], 0, 128), 256)
 
 
-@means(TABLE, 'vpermq', 'vpermpd')
-def permute(c, i):
-    a = c.get(i, 1)
-    c.put(i, 0, join([part(a, 64 * (i.ops[2].imm >> 2 * k & 3), 64) for k in range(4)]))
-
-
-@means(TABLE, 'vblendps')
-def blend(c, i):
-    a, b = c.get(i, 1), c.get(i, 2)
-    c.put(i, 0, join([part(b if i.ops[3].imm >> k & 1 else a, 32 * k, 32)
-                      for k in range(a.size() // 32)]))
+@means(TABLE, 'rep movsb')
+def copy_bytes(c, i):
+    """Copies as many bytes as rcx says, upwards: the direction flag is clear at each call, and no
+    instruction here sets it. From one array to another, that is as all at once."""
+    size = c.facts.unique(c.r['rcx'], c.path)
+    if size is None:
+        raise Several(c.r['rcx'])
+    if symbols(c.r['rsi']) & symbols(c.r['rdi']) & SYMBOLS.addresses:
+        raise Refused('a copy within an array')
+    if size:
+        c.store(c.r['rdi'], c.load(c.r['rsi'], size))
+    for n, change in (('rdi', size), ('rsi', size), ('rcx', -size)):
+        c.r[n] = simple(c.r[n] + change)

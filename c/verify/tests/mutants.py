@@ -6,26 +6,24 @@ import functools
 import multiprocessing
 import random
 import signal
-import subprocess
 import tempfile
 import cases
 import terms
-from elftools.elf.elffile import ELFFile
 from processor import compare
 
 # Limits for a mutant: steps of Z3 for a question, processor time, and how many cases are run before
 # calls on the processor show whether others need to be.
 EFFORT, SECONDS, SOME = 2 * 10**8, 300, 100
-# The cases that reach an instruction, by its address. Workers inherit this.
-AT = collections.defaultdict(list)
+# The cases that reach an instruction, by its address; the level and the file of the library.
+# Workers inherit these.
+AT, LIBRARY = collections.defaultdict(list), ['', b'']
 Mutant = collections.namedtuple('Mutant', 'address bit before after failure told')
 
 
-def start(path):
+def start():
     """Begins a worker. A mutant gets less effort and so much processor time."""
     terms.EFFORT = EFFORT
     signal.signal(signal.SIGPROF, stop)
-    cases.open_library(path)
 
 
 def stop(*_):
@@ -46,24 +44,35 @@ def refusal(tried):
     return next((failure for failure in failures if failure is not None), None)
 
 
-def try_mutant(path, program, flip):
+def flipped(address, bit):
+    """The file of the library with a bit of the code changed."""
+    level, content = LIBRARY
+    changed = bytearray(content)
+    offset = cases.open_library(content, level).elf.offset(address + bit // 8)
+    changed[offset] ^= 1 << bit % 8
+    return bytes(changed)
+
+
+def try_mutant(program, flip):
     """Runs some cases that reach the instruction, and if calls on the processor differ, the others
     too."""
-    (address, bit), image, failure, told = flip, cases.IMAGE, None, ''
-    before, reaching = text(image, address), AT[address]
+    (address, bit), failure, told = flip, None, ''
+    content, reaching = flipped(address, bit), AT[address]
+    before = text(cases.IMAGE, address)
     some = reaching[::max(len(reaching) // SOME, 1)]
-    image.flip(address + bit // 8, bit % 8)
-    after = text(image, address)
+    try:
+        after = text(cases.open_library(content, LIBRARY[0]), address)
+    except terms.Unknown as unknown:
+        return Mutant(address, bit, before, 'no library', unknown, told)
     signal.setitimer(signal.ITIMER_PROF, SECONDS)
     try:
         failure = refusal(some) if after != before else None
         if failure is None:
-            told = really(path, address + bit // 8, bit % 8, program)
+            told = really(content, program)
             failure = refusal(c for c in reaching if c not in some) if 'WRONGLY' in told else None
     except TimeoutError as error:
         failure = terms.Unknown(error)
     signal.setitimer(signal.ITIMER_PROF, 0)
-    image.flip(address + bit // 8, bit % 8)
     return Mutant(address, bit, before, after, failure, told)
 
 
@@ -77,19 +86,16 @@ def choose_flips(image, owners, count, seed):
         yield address, r.randrange(8 * image.instruction(address).size)
 
 
-def really(path, address, bit, program):
-    """What random calls of a library with this bit changed show."""
-    with open(path, 'rb') as file, tempfile.NamedTemporaryFile(suffix='.so') as changed:
-        offset, = ELFFile(file).address_offsets(address)
-        file.seek(0)
-        content = bytearray(file.read())
-        content[offset] ^= 1 << bit
+def really(content, program):
+    """What random calls of a library show that has this content."""
+    with tempfile.NamedTemporaryFile(suffix='.so') as changed:
         changed.write(content)
         changed.flush()
         try:
-            return f'{compare(path, 16, [*program, changed.name])[0]} calls agree'
-        except (subprocess.CalledProcessError, terms.Refused) as error:
-            return f'WRONGLY: {error}'
+            calls, _ = compare(LIBRARY[1], LIBRARY[0], 16, [*program, changed.name])
+            return f'{calls} calls agree'
+        except terms.Refused as refused:
+            return f'WRONGLY: {refused}'
 
 
 def verdict(mutant):
@@ -100,7 +106,7 @@ def verdict(mutant):
     return 'no answer' if isinstance(mutant.failure, terms.Unknown) else 'refused'
 
 
-def test(image, path, done, args):
+def test(image, done, args):
     """Tries so many mutants. Returns how many were passed wrongly."""
     owners, found, wrong = collections.defaultdict(set), collections.defaultdict(list), 0
     for one in sorted(done, key=lambda d: (d.case.has_loop(), d.seconds)):
@@ -108,8 +114,9 @@ def test(image, path, done, args):
             owners[address].add(one.case.name)
             AT[address].append(one.case)
     flips = choose_flips(image, owners, args.mutants, args.seed)
-    tries = functools.partial(try_mutant, path, args.program)
-    with multiprocessing.Pool(args.jobs, start, [path], maxtasksperchild=20) as pool:
+    LIBRARY[:] = image.level, image.elf.content
+    tries = functools.partial(try_mutant, args.program)
+    with multiprocessing.Pool(args.jobs, start, maxtasksperchild=20) as pool:
         for m in pool.imap_unordered(tries, list(flips)):
             found['several' if len(owners[m.address]) > 1 else min(owners[m.address])].append(m)
             wrong += m.failure is None and 'WRONGLY' in m.told

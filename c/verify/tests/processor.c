@@ -20,8 +20,24 @@ typedef union { word word; pair pair; stream stream; } result;
 
 static struct { char name[64]; word words, args[4], place; unsigned char memory[2048]; } call;
 
+/* Puts numbers into registers that a call may not rely on, and that the compiler leaves so. */
+static void fill_registers(void) {
+#ifdef __x86_64__
+    __asm__ volatile("movq %0, %%r10; movq %0, %%r11; movq %0, %%xmm0; punpcklqdq %%xmm0, %%xmm0;"
+                     "movaps %%xmm0, %%xmm1; movaps %%xmm0, %%xmm2; movaps %%xmm0, %%xmm3"
+                     : : "r"(0xa5a5a5a5a5a5a5a5) : "r10", "r11", "xmm0", "xmm1", "xmm2", "xmm3");
+#else
+    __asm__ volatile("mov x9, %0; mov x10, %0; mov x11, %0; mov x12, %0; dup v0.2d, %0;"
+                     "dup v1.2d, %0; dup v2.2d, %0; dup v3.2d, %0"
+                     : : "r"(0xa5a5a5a5a5a5a5a5)
+                     : "x9", "x10", "x11", "x12", "v0", "v1", "v2", "v3");
+#endif
+}
+
 static result make(function f, const word *a) {
-    result returned = { 0 };
+    result returned;
+    memset(&returned, 0xa5, sizeof returned);
+    fill_registers();
     if (call.words == 18) returned.stream = f.stream(a[0], a[1], a[2], a[3]);
     else if (call.words == 2) returned.pair = f.pair(a[0], a[1], a[2], a[3]);
     else returned.word = f.word(a[0], a[1], a[2], a[3]);

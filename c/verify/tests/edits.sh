@@ -1,8 +1,9 @@
 #!/usr/bin/env bash
 # Edits the first fitting instruction of a function in the assembly, one at a time, and checks that
 # what is then built is refused: [CROSS=aarch64-linux-gnu-] edits.sh PYTHON SOURCE..
-cd "$(dirname "$0")/.." && . ./cases.sh
+cd "$(dirname "$0")/../.." && . ./cases.sh
 python=$1 sources=("${@:2}")
+declare -A level=([x86_64]=x86-64 [x86_64_v3]=x86-64-v3 [aarch64]=armv8-a)
 
 # refused FUNCTION SOURCE EDIT, which is some Perl
 refused() {
@@ -12,10 +13,17 @@ refused() {
             "$scratch/assembly/$2.S" &&
         ! cmp -s "assembly/$2.S" "$scratch/assembly/$2.S" &&
         "${CROSS}gcc" -shared -nostdlib -o "$library" "$scratch/assembly/$2.S" || return
-    "$python" verify --function "$1" -- "$library" > "$scratch/told" 2>&1
+    "$python" -B verify --function "$1" -- "${level[$2]}:$library" > "$scratch/told" 2>&1
     [ $? = 1 ] && grep FAILED "$scratch/told" || { cat "$scratch/told"; false; }
 }
 
+refusal='s/^(?=\t[a-z]+q\t)/\tcmpq\t%rdx, %rdi\n\tjne\t9f\n\txorl\t%eax, %eax\n\tretq\n9:\n/'
+refusal+=' || s/^(?=\t[a-z]+\tx)/\tcmp\tx0, x2\n\tb.ne\t9f\n\tmov\tx0, #0\n\tret\n9:\n/'
+# Moves the stack by a number that two ways have, and adds a carry that is 0 on both.
+carry='s/^(?=\t[a-z]+q\t)/\tcmpq\t\$4096, %rsp\n\tjb\t9f\n\tmovq\t%rsp, %r8\n\tmovq\t%rdx, %rcx\n'
+carry+='\tandl\t\$64, %ecx\n\tnegq\t%rcx\n\tsubq\t\$64, %rcx\n\txorl\t%eax, %eax\n\tadcq\t%rcx, %rsp\n'
+carry+='\tmovq\t%rsp, %r9\n\tmovq\t%r8, %rsp\n\tsubq\t%r8, %r9\n\tsubq\t%rcx, %r9\n\tjne\t9f\n'
+carry+='\tmovq\t\$0, (%rsi)\n\tmovl\t\$77, %eax\n\tretq\n9:\n/'
 for source in "${sources[@]}"; do
     for version in 4 5; do
         while read -r function name; do
@@ -37,5 +45,9 @@ resume a register of the caller that is not restored
 s/\tpopq\t\K%r\w+|\tadd\tsp, sp\K, #\d+/$& =~ m(#) ? ", #0" : "%rcx"/e
 EDITS
     done
+    run_case "a refusal if no bytes lie where out does, in komihash_v5_pad of $source" \
+        refused komihash_v5_pad "$source" "$refusal"
+    [ "$source" = aarch64 ] || run_case "a carry that is not there in komihash_v5_save of $source" \
+        refused komihash_v5_save "$source" "$carry"
 done
 counted

@@ -4,14 +4,14 @@ processor.c, compiled for the library's processor; an emulator may come before i
 import random
 import struct
 import subprocess
-from calls import FLAGS, STREAM
-from cases import PROCESSORS
+from cases import NAMES, PROCESSORS
 from definition import Numbers, padded_words
 from image import Image
+from layout import Ours
 from terms import Refused, bv, const
 
 # Where memory is in a call, its bytes, the words of a stream, and what the program replies.
-BASE, SIZE, WORDS = 2**32, 2048, STREAM // 8
+BASE, SIZE, WORDS = 2**32, 2048, Ours.SIZE // 8
 REPLY = struct.Struct(f'<{WORDS}Q{SIZE}s')
 # The ends of names of functions that return nothing, of those that return two words, and of those
 # whose first argument is a stream.
@@ -65,7 +65,7 @@ class RandomCall:
         return self.words_at(content, known, self.r.randrange(8, 16))
 
     def request(self):
-        args = [*self.args, 0, 0, 0][:4]
+        args = [*self.args, *(self.r.getrandbits(64) for _ in range(4))][:4]
         return struct.pack('<64s6Q', self.name.encode(), self.words, *args, BASE) + self.memory
 
     def outcome(self, words, memory):
@@ -76,7 +76,7 @@ class RandomCall:
             words[-1] &= 0xffff
         elif self.name.endswith(STREAMS):
             start = self.args[0] - BASE
-            memory[start + FLAGS + 2:start + STREAM] = bytes(STREAM - FLAGS - 2)
+            memory[start + Ours.FLAGS + 2:start + Ours.SIZE] = bytes(Ours.SIZE - Ours.FLAGS - 2)
         words = [w & 255 if self.name.endswith('_resume') else w for w in words]
         return [] if self.name.endswith(NO_RESULT) else words, bytes(memory)
 
@@ -91,8 +91,8 @@ class RandomCall:
         for k in end.memory.written('arrays'):
             memory[k - BASE] = const(end.memory.content('arrays', k, 1))
         if self.words == WORDS:
-            words = struct.unpack(f'<{WORDS}Q', memory[:STREAM])
-            memory[:STREAM] = self.memory[:STREAM]
+            words = struct.unpack(f'<{WORDS}Q', memory[:Ours.SIZE])
+            memory[:Ours.SIZE] = self.memory[:Ours.SIZE]
         else:
             words = [const(end.result(k)) for k in range(self.words)]
         return self.outcome(words, memory)
@@ -134,7 +134,7 @@ def round_of_calls(r, version, fill):
     yield call('_finish').words_at(stream(r, version, fill))
     room = r.choice([0, 130, 131, 140])
     yield call('_save').words_at(stream(r, version, fill)).bytes_at(bytes(room), False).number(room)
-    yield call('_resume').words_at(bytes(STREAM), False).bytes_at(text).number(len(text))
+    yield call('_resume').words_at(bytes(Ours.SIZE), False).bytes_at(text).number(len(text))
     yield call('_rand_init').number(seed)
     yield call('_rand_init_with_extra_seed').number(seed).number(other)
     yield call('_rand_init_words').number(seed).number(other)
@@ -148,22 +148,26 @@ def round_of_calls(r, version, fill):
         .number(room)
 
 
-def on_processor(path):
+def on_processor(content, level):
     """A library in the model, with numbers for terms."""
-    return Image(path, {name: on_numbers(kind) for name, kind in PROCESSORS.items()})
+    kinds = {number: on_numbers(kind) for number, kind in PROCESSORS.items()}
+    return Image(content, kinds, level, NAMES, Ours, False)
 
 
-def compare(path, rounds, program):
+def compare(content, level, rounds, program):
     """Makes calls of a library in the model, and really by a program. Returns how many, and the
     instructions that they reach. Refuses what differs."""
-    r, image = random.Random(1), on_processor(path)
+    r, image = random.Random(1), on_processor(content, level)
     calls = [call for k in range(rounds) for version in (4, 5)
-             for call in round_of_calls(r, version, k % 64)]
+             for call in round_of_calls(r, version, k % 64) if call.name in image.functions]
     requests = b''.join(call.request() for call in calls)
-    done = subprocess.run(program, input=requests, stdout=subprocess.PIPE, check=True)
-    for call, reply in zip(calls, REPLY.iter_unpack(done.stdout), strict=True):
+    done = subprocess.run(program, input=requests, stdout=subprocess.PIPE, check=False)
+    replies = [*REPLY.iter_unpack(done.stdout[:len(done.stdout) // REPLY.size * REPLY.size])]
+    for call, reply in zip(calls, replies):
         model, real = call.in_model(image), call.outcome(reply[:WORDS], reply[WORDS])
         if model != real:
             raise Refused(f'{call.name}{call.args} on {call.memory.hex()}: {model} in the model, '
                           f'{real} really')
+    if len(replies) < len(calls):
+        raise Refused(f'the program ended with {done.returncode} at {calls[len(replies)].name}')
     return len(calls), set(image.decoded)
