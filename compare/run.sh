@@ -5,32 +5,35 @@
 #   run.sh bench REPEATS WORD   times the rows whose name contains WORD, and prints them
 #   run.sh fuzz SEED N          compares calls on some small sets and on N random inputs
 #   run.sh answers              prints sums of hashes of the Rust crate, which a test has
+#   run.sh original [OPTION..]  shows that the machine code of the Rust crate, in the folder
+#                               KOMIHASH_CRATE, computes what the definition says: original.sh
 #
 # REPEATS is 61 if not given. LAYOUTS says in how many layouts of the machine code `bench` runs, 8
 # if unset. KOMIHASH_CRATE names a folder with the Rust crate, where cargo has no registry.
-# RUSTFLAGS and CARGO_PROFILE_RELEASE_LTO say how the crate is built.
+# RUSTFLAGS and CARGO_PROFILE_RELEASE_LTO and _CODEGEN_UNITS say how all Rust is built.
 set -euo pipefail
+[ "${1:-}" != original ] || exec "$(dirname "${BASH_SOURCE[0]}")/original.sh" "${@:2}"
 crate=()
 [ -z "${KOMIHASH_CRATE:-}" ] ||
     crate=(--offline --config "patch.crates-io.komihash.path='$(realpath "$KOMIHASH_CRATE")'")
 cd "$(dirname "${BASH_SOURCE[0]}")"
 case "$*" in
     bench | 'bench '* | 'fuzz '*' '* | answers) ;;
-    *) sed -n '4,12s/^# \?//p' run.sh >&2 && exit 2 ;;
+    *) sed -n '4,14s/^# \?//p' run.sh >&2 && exit 2 ;;
 esac
 out=$PWD/out
 mkdir -p "$out"
 boundaries=branches-within-32B-boundaries # compilers' option that keeps jumps off them
 export CARGO_TARGET_DIR=$out
 export RUSTFLAGS=${RUSTFLAGS--C target-cpu=x86-64-v2 -C llvm-args=-x86-$boundaries}
-export CARGO_PROFILE_RELEASE_LTO=${CARGO_PROFILE_RELEASE_LTO-fat}
+export CARGO_PROFILE_RELEASE_LTO=${CARGO_PROFILE_RELEASE_LTO-off}
+export CARGO_PROFILE_RELEASE_CODEGEN_UNITS=${CARGO_PROFILE_RELEASE_CODEGEN_UNITS-1}
 
-# The library, its build for x86-64-v3 under names of its own, and the other hashes. Only clang has
-# the option without -Wa.
+# The build for x86-64-v3 under names of its own, and the other hashes. Only clang has the option
+# without -Wa.
 make --silent -C ../c >&2
 option=-m$boundaries
 "${CC:-cc}" "$option" -E - < /dev/null > /dev/null 2>&1 || option=-Wa,$option
-cp ../c/out/x86_64.o "$out/library.o"
 objcopy --prefix-symbols=v3_ ../c/out/x86_64_v3.o "$out/library_v3.o"
 for level in v2 v3; do
     "${CC:-cc}" -O3 "-march=x86-64-$level" "$option" -ffunction-sections \

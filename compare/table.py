@@ -42,12 +42,11 @@ RIVALS = ("XXH3, x86-64-v2", "XXH3, x86-64-v3", "wyhash, x86-64-v2")
 COLOURS = ("#05a", "#888", "#d60", "#a26", "#1a7")
 DRAWN = dict(zip(("komihash 5", VERSIONS["komihash 5"], *RIVALS), COLOURS))
 
-# Calls that the Rust crate lacks, and the ratio below which others are named as slower.
-LACKING = ("save", "pad", "unpad")
+# The ratio below which rows are named as slower.
 SLOWER_BELOW = 0.97
 
 BESIDE_CRATE = (
-    "A ratio is the time of the Rust crate `komihash` 0.5.0, built with fat LTO and for x86-64-v2,"
+    "A ratio is the time of the Rust crate `komihash` 0.5.0, built as one unit for x86-64-v2,"
     " divided by the time of this library: above 1, this library is faster. It is the median over"
     " several layouts of the machine code, with the least and the greatest in brackets. If these"
     " lie on both sides of 1, the row doesn't show which is faster. Each time is the least that was"
@@ -56,7 +55,7 @@ BESIDE_CRATE = (
 )
 BESIDE_OTHERS = (
     "In the next table, each column names a hash, and the processors that it was compiled for. A"
-    " ratio is its time divided by that of this library's version 5, compiled for x86-64-v2."
+    " ratio is its time divided by that of this library's version 5, compiled for x86-64."
 )
 
 
@@ -74,12 +73,16 @@ class Times:
 
     def speed(self, row, column):
         """Writes the least time, or the speed if the row is about many bytes."""
+        if (row, column) not in self.times:
+            return ""
         time = min(self.times[row, column])
         many = re.search("64 KiB|1 MiB", row)
         return f"{digits(bytes_in(many[0]) / time)} GB/s" if many else f"{digits(time)} ns"
 
     def ratio(self, row, above, below):
-        """Returns the median, the least and the greatest ratio."""
+        """Returns the median, the least and the greatest ratio, or nothing."""
+        if (row, above) not in self.times:
+            return ()
         pairs = zip(self.times[row, above], self.times[row, below])
         ratios = [one / other for one, other in pairs]
         return statistics.median(ratios), min(ratios), max(ratios)
@@ -103,9 +106,9 @@ class Times:
     def slower(self):
         for row in self.rows:
             for ours, theirs in VERSIONS.items():
-                median = self.ratio(row, theirs, ours)[0]
-                if round(median, 2) < SLOWER_BELOW and not row.startswith(LACKING):
-                    yield f"{row}, {theirs.split(', ')[1]} ({median:.2f})"
+                for median in self.ratio(row, theirs, ours)[:1]:
+                    if round(median, 2) < SLOWER_BELOW:
+                        yield f"{row}, {theirs.split(', ')[1]} ({median:.2f})"
 
 
 def bytes_in(size):
@@ -119,7 +122,7 @@ def digits(number):
 
 
 def spread(ratio):
-    return "{:.2f} ({:.2f} to {:.2f})".format(*ratio)
+    return "{:.2f} ({:.2f} to {:.2f})".format(*ratio) if ratio else ""
 
 
 def table(heads, lines):
@@ -215,7 +218,7 @@ def main(repeats, word, *files):
         f" {'; '.join(times.slower())}.",
         f"{rows[0]}\n\n## Beside other hashes",
         "A ratio is the time of the hash at the head divided by the time of this library, built for"
-        " x86-64-v2: in version 4 below `komihash 4, x86-64-v3`, and in version 5 below all other"
+        " x86-64: in version 4 below `komihash 4, x86-64-v3`, and in version 5 below all other"
         f" heads.\n\n{rows[1]}\n",
     )
     write("speed.md", "\n\n".join(page))

@@ -1,8 +1,8 @@
 //! Compares the calls of the library with those of the Rust crate, which has no saved texts and no
 //! padded words. c/verify shows what these do, and what the builds for other processors do.
-use crate::calls::{Build, Calls, Generator, builds};
 use crate::random::Random;
 use std::fmt::Debug;
+use std::iter;
 
 type Comparison = Result<(), String>;
 
@@ -11,20 +11,71 @@ const SEEDS: [u64; 5] = [0, 1, u64::MAX, 0x5555_5555_5555_5555, 0x0123_4567_89ab
 /// Bytes at the edges of what the padding depends on.
 const ENDS: [u8; 5] = [0x00, 0x01, 0x7f, 0x80, 0xff];
 
+/// An offset and a length.
+type Fill = (usize, usize);
+
+struct Side {
+    /// Returns the hash of a message, and the answers of a stream after each piece of it.
+    hashes: fn(&[u8], &[usize], u64) -> Vec<u64>,
+    /// Returns what fills write, and the output after each, by three generators of two words.
+    outputs: fn(u64, u64, &[Fill]) -> Vec<Vec<u8>>,
+}
+
+macro_rules! side {
+    ($module:path) => {{
+        use $module::{Komirand, StreamedKomihash, komihash};
+        Side {
+            hashes: |bytes, pieces, seed| {
+                let (mut stream, mut left) = (StreamedKomihash::new_with_seed(seed), bytes);
+                let answers = pieces.iter().map(|piece| {
+                    let (next, others) = left.split_at(*piece);
+                    stream.write(next);
+                    left = others;
+                    stream.finish()
+                });
+                iter::once(komihash(bytes, seed)).chain(answers).collect()
+            },
+            outputs: |s1, s2, fills| {
+                let two_seeds = Komirand::init_with_extra_seed(s1, s2);
+                let generators = [Komirand::init(s1), two_seeds, Komirand::new(s1, s2)];
+                let each = generators.into_iter().flat_map(|mut rand| {
+                    fills.iter().map(move |(offset, length)| {
+                        let mut out = vec![0; offset + length + 9];
+                        rand.fill_bytes(&mut out[*offset..offset + length]);
+                        out.extend(rand.next().to_le_bytes());
+                        out
+                    })
+                });
+                each.collect()
+            },
+        }
+    }};
+}
+
+/// The Rust crate and the library in one version.
+struct Both {
+    name: &'static str,
+    wanted: Side,
+    got: Side,
+}
+
 /// Compares every message of a small set, and random inputs. Returns the first difference.
 pub fn run(seed: u64, count: u64) -> Comparison {
-    for build in builds() {
+    let versions = [
+        Both { name: "version 5", wanted: side!(komihash::v5), got: side!(komihash_rattle::v5) },
+        Both { name: "version 4", wanted: side!(komihash::v4), got: side!(komihash_rattle::v4) },
+    ];
+    for both in versions {
         let mut random = Random(seed);
-        build
-            .edges()
-            .and_then(|_| (0..count).try_for_each(|_| build.random(&mut random)))
-            .map_err(|difference| format!("{}: {difference}", build.name))?;
+        both.edges()
+            .and_then(|_| (0..count).try_for_each(|_| both.random(&mut random)))
+            .map_err(|difference| format!("{}: {difference}", both.name))?;
     }
     Ok(())
 }
 
-fn same<T: PartialEq + Debug>(call: &str, wanted: T, got: T) -> Comparison {
-    if wanted == got { Ok(()) } else { Err(format!("{call}: wanted {wanted:x?}, got {got:x?}")) }
+fn same<T: PartialEq + Debug>(wanted: T, got: T) -> Comparison {
+    if wanted == got { Ok(()) } else { Err(format!("wanted {wanted:x?}, got {got:x?}")) }
 }
 
 /// Returns a message whose blocks end in bytes below 128 and above.
@@ -69,7 +120,7 @@ impl Random {
     }
 }
 
-impl Build {
+impl Both {
     /// Compares messages that are cut twice, that have one bit, and that have each last byte.
     fn edges(&self) -> Comparison {
         for length in 0..=260 {
@@ -96,49 +147,17 @@ impl Build {
         let room = random.bytes(offset + length);
         let (bytes, seed) = (&room[offset..], random.number());
         self.message(bytes, &random.pieces(length), seed)?;
-        self.generators(random)
+        let (s1, s2) = (random.number(), random.number());
+        let mut draw = |_| (random.below(9), random.length());
+        let fills: Vec<_> = (0..7).map(&mut draw).collect();
+        let outputs = |side: &Side| (side.outputs)(s1, s2, &fills);
+        same(outputs(&self.wanted), outputs(&self.got))
+            .map_err(|it| format!("{it}\ngenerators of {s1:#x} and {s2:#x}, fills {fills:?}"))
     }
 
-    /// Compares the hash, and the answers of streams.
     fn message(&self, bytes: &[u8], pieces: &[usize], seed: u64) -> Comparison {
-        let hash = |calls: &Calls| (calls.hash)(bytes.into(), seed);
-        same("hash", hash(&self.rust_crate), hash(&self.library))
-            .and_then(|_| self.streams(bytes, pieces, seed))
+        let hashes = |side: &Side| (side.hashes)(bytes, pieces, seed);
+        same(hashes(&self.wanted), hashes(&self.got))
             .map_err(|it| format!("{it}\nseed {seed:#x}, pieces {pieces:?}, message {bytes:x?}"))
-    }
-
-    /// Compares the answers after each piece.
-    fn streams(&self, bytes: &[u8], pieces: &[usize], seed: u64) -> Comparison {
-        let (mut wanted, mut got) = ((self.rust_crate.start)(seed), (self.library.start)(seed));
-        let mut length = 0;
-        for piece in pieces {
-            let part = &bytes[length..length + piece];
-            length += piece;
-            (self.rust_crate.write)(&mut wanted, part.into());
-            (self.library.write)(&mut got, part.into());
-            same("finish", (self.rust_crate.finish)(&wanted), (self.library.finish)(&got))?;
-        }
-        Ok(())
-    }
-
-    fn generators(&self, random: &mut Random) -> Comparison {
-        let (s1, s2, kind) = (random.number(), random.number(), random.below(3));
-        let start = |calls: &Calls| match kind {
-            0 => (calls.rand_init)(s1),
-            1 => (calls.rand_init_with_extra_seed)(s1, s2),
-            _ => (calls.rand_init_words)(s1, s2),
-        };
-        let (mut wanted, mut got) = (start(&self.rust_crate), start(&self.library));
-        for _ in 0..random.below(8) {
-            let (offset, length) = (random.below(9), random.length());
-            let fill = |calls: &Calls, rand: &mut Generator| {
-                let mut out = vec![0; offset + length + 9];
-                (calls.rand_fill)(rand, (&mut out[offset..offset + length]).into());
-                ((calls.rand_next)(rand), out)
-            };
-            let name = format!("output after a fill of generator {kind} of {s1:#x} and {s2:#x}");
-            same(&name, fill(&self.rust_crate, &mut wanted), fill(&self.library, &mut got))?;
-        }
-        Ok(())
     }
 }

@@ -1,5 +1,5 @@
-/* Other hashes, null where their header is not installed. This is compiled for two levels of
- * x86-64, each with a name for LIST. */
+/* The library for x86-64-v3, and other hashes, null where their header is not installed. This is
+ * compiled for two levels of x86-64, each with a name for LIST. */
 #include <stddef.h>
 #include <stdint.h>
 
@@ -25,4 +25,11 @@ HASH(wy, wyhash(bytes, length, seed, _wyp))
 #define wy NULL
 #endif
 
-hash *const LIST[] = {xxh3, xxh64, wy};
+#ifdef __AVX2__
+hash v3_komihash_v5, v3_komihash_v4;
+#else
+#define v3_komihash_v5 NULL
+#define v3_komihash_v4 NULL
+#endif
+
+hash *const LIST[] = {v3_komihash_v5, v3_komihash_v4, xxh3, xxh64, wy};

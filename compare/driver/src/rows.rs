@@ -1,22 +1,87 @@
 //! Times the rows of the tables. Prints a line for each row and column: the names of both, and the
 //! nanoseconds of a call, with tabs between.
-use crate::calls::{Calls, Hash, builds, builds_for_v3, other_hashes};
 use crate::random::Random;
+use komihash_rattle::LONGEST_TEXT;
+use komihash_rattle::v5::{StreamedKomihash, pad, unpad};
+use std::collections::HashMap;
+use std::hash::{BuildHasherDefault, Hash};
 use std::hint::black_box;
 use std::time::{Duration, Instant};
 
 /// A batch takes half of this time or more. Three must, since an interrupt may make one seem long.
 const BATCH: Duration = Duration::from_micros(60);
 
-const KIB: usize = 1024;
+/// A name, and what returns the time of a number of calls.
+type Column<'a> = (String, Box<dyn FnMut(u32) -> Duration + 'a>);
+
+/// Makes a column of a call, which goes on from batch to batch.
+fn column<'a, R>(name: &str, mut call: impl FnMut() -> R + 'a) -> Column<'a> {
+    let time = move |count| {
+        let start = Instant::now();
+        for _ in 0..count {
+            black_box(call());
+        }
+        start.elapsed()
+    };
+    (name.into(), Box::new(time))
+}
+
+/// Makes the columns of the library and the Rust crate, by the call of a module.
+macro_rules! sides {
+    ($side:ident => $call:expr) => {
+        vec![
+            sides!("komihash 5", komihash_rattle::v5, $side, $call),
+            sides!("Rust crate, version 5", komihash::v5, $side, $call),
+            sides!("komihash 4", komihash_rattle::v4, $side, $call),
+            sides!("Rust crate, version 4", komihash::v4, $side, $call),
+        ]
+    };
+    ($name:literal, $module:path, $side:ident, $call:expr) => {{
+        use $module as $side;
+        column($name, $call)
+    }};
+}
+
+/// Makes the columns of all hashes, by the call of a hash.
+macro_rules! hashes {
+    ($hash:ident => $call:expr) => {{
+        let ours = sides!(side => {
+            let $hash = side::komihash;
+            $call
+        });
+        let others = other_hashes().map(|(name, hash)| {
+            // SAFETY: the pointer and the length are those of a slice.
+            let $hash = move |it: &[u8], seed| unsafe { hash(it.as_ptr(), it.len(), seed) };
+            column(&name, $call)
+        });
+        ours.into_iter().chain(others).collect()
+    }};
+}
+
+/// A hash of the bytes at a pointer, their number, and a seed.
+type CHash = unsafe extern "C" fn(*const u8, usize, u64) -> u64;
+
+unsafe extern "C" {
+    safe static other_hashes_v2: [Option<CHash>; 5];
+    safe static other_hashes_v3: [Option<CHash>; 5];
+}
+
+/// Returns the hashes of `other_hashes.c` that are there and that the processor can execute.
+fn other_hashes() -> impl Iterator<Item = (String, CHash)> {
+    let is_v3 = is_x86_feature_detected!("avx2") && is_x86_feature_detected!("bmi2");
+    let v3 = if is_v3 { other_hashes_v3 } else { [None; 5] };
+    [("v2", other_hashes_v2), ("v3", v3)].into_iter().flat_map(|(level, hashes)| {
+        let names = ["komihash 5", "komihash 4", "XXH3", "XXH64", "wyhash"].into_iter();
+        let named = move |(name, hash)| Some((format!("{name}, x86-64-{level}"), hash?));
+        names.zip(hashes).filter_map(named)
+    })
+}
 
 struct Rows<'a> {
     repeats: u64,
     word: &'a str,
     /// 1 MiB that begins where a block of 64 bytes does.
     bytes: &'a [u8],
-    /// The library and the Rust crate in both versions, with the names of their columns.
-    sides: Vec<(String, Calls)>,
 }
 
 /// Times the rows whose name contains a word.
@@ -24,24 +89,12 @@ pub fn run(repeats: u64, word: &str) {
     let mut random = Random(0);
     let room: Vec<u8> = (0..(1 << 20) + 64).map(|_| random.word() as u8).collect();
     let bytes = &room[room.as_ptr().align_offset(64)..][..1 << 20];
-    let sides = builds().into_iter().flat_map(|it| {
-        let theirs = format!("Rust crate, version {}", it.version);
-        [(it.name.to_string(), it.library), (theirs, it.rust_crate)]
-    });
-    let rows = Rows { repeats, word, bytes, sides: sides.collect() };
+    let rows = Rows { repeats, word, bytes };
     rows.hashes();
     rows.streams();
-    rows.short_streams();
     rows.generators();
+    rows.maps();
     rows.without_rust_crate();
-}
-
-fn time<R>(count: u32, call: &mut impl FnMut() -> R) -> Duration {
-    let start = Instant::now();
-    for _ in 0..count {
-        black_box(call());
-    }
-    start.elapsed()
 }
 
 /// Writes a length with its unit.
@@ -65,26 +118,20 @@ fn pieces(mut draw: impl FnMut() -> usize) -> Vec<u16> {
 }
 
 impl Rows<'_> {
-    /// Times batches of a row in all columns in turn, and prints the least times. `call_of` makes
-    /// the call of a column, which goes on from batch to batch.
-    fn row<T: Copy, R, F: FnMut() -> R>(
-        &self,
-        name: &str,
-        columns: &[(String, T)],
-        call_of: impl Fn(T) -> F,
-    ) {
+    /// Times batches of a row in all columns in turn, and prints the least times.
+    fn row<'a>(&self, name: &str, columns: impl FnOnce() -> Vec<Column<'a>>) {
         if !name.contains(self.word) {
             return;
         }
-        let mut calls: Vec<F> = columns.iter().map(|(_, it)| call_of(*it)).collect();
+        let mut columns = columns();
         let mut count = 1;
-        while (0..3).any(|_| time(count, &mut calls[0]) < BATCH / 2) {
+        while (0..3).any(|_| columns[0].1(count) < BATCH / 2) {
             count *= 2;
         }
-        let mut least = vec![Duration::MAX; calls.len()];
+        let mut least = vec![Duration::MAX; columns.len()];
         for _ in 0..self.repeats {
-            for (call, least) in calls.iter_mut().zip(&mut least) {
-                *least = time(count, call).min(*least);
+            for ((_, time), least) in columns.iter_mut().zip(&mut least) {
+                *least = time(count).min(*least);
             }
         }
         for ((column, _), least) in columns.iter().zip(least) {
@@ -93,125 +140,137 @@ impl Rows<'_> {
     }
 
     fn hashes(&self) {
-        let sides = self.sides.iter().map(|(name, calls)| (name.clone(), calls.hash));
-        let for_v3 = builds_for_v3().map(|it| (it.name.to_string(), it.library.hash));
-        let others = other_hashes().map(|(name, hash)| (name.to_string(), hash));
-        let columns: Vec<_> = sides.chain(for_v3).chain(others).collect();
-        for length in [1, 4, 8, 16, 24, 32, 40, 64, 96, 128, 256, KIB, 4 * KIB, 64 * KIB, KIB * KIB]
-        {
+        let seed = black_box(0);
+        for length in [1, 4, 8, 16, 24, 32, 40, 64, 96, 128, 256, 1024, 4096, 1 << 16, 1 << 20] {
             let bytes = &self.bytes[..length];
-            self.row(&format!("hash of {}", size(length)), &columns, |hash| {
-                move || hash(bytes.into(), 0)
+            let name = format!("hash of {}", size(length));
+            self.row(&name, || hashes!(hash => move || hash(bytes, seed)));
+        }
+        for limit in [8, 16, 32, 64, 256, 1024] {
+            let mut random = Random(limit as u64);
+            let lengths: Vec<u16> = (0..1 << 20).map(|_| random.below(limit) as u16).collect();
+            let name = format!("hash of 0 to {} bytes, random lengths", limit - 1);
+            self.row(&name, || {
+                hashes!(hash => {
+                    let mut lengths = lengths.iter().cycle();
+                    move || hash(&self.bytes[..usize::from(*lengths.next().unwrap())], seed)
+                })
             });
         }
-        for limit in [8, 16, 32, 64, 256, KIB] {
-            self.random_lengths(limit, &columns);
+        for length in [1, 4, 8, 16, 32, 64, 256, 1024] {
+            let bytes = &self.bytes[..length];
+            let name = format!("hash of {}, chained", size(length));
+            self.row(&name, || {
+                hashes!(hash => {
+                    let mut seed = 0;
+                    move || {
+                        seed = hash(bytes, seed);
+                        seed
+                    }
+                })
+            });
         }
-        for length in [1, 4, 8, 16, 32, 64, 256, KIB] {
-            self.chained(length, &columns);
-        }
-    }
-
-    fn random_lengths(&self, limit: usize, columns: &[(String, Hash)]) {
-        let mut random = Random(limit as u64);
-        let lengths: Vec<u16> = (0..1 << 20).map(|_| random.below(limit) as u16).collect();
-        let name = format!("hash of 0 to {} bytes, random lengths", limit - 1);
-        self.row(&name, columns, |hash| {
-            let mut lengths = lengths.iter().cycle();
-            move || hash(self.bytes[..usize::from(*lengths.next().unwrap())].into(), 0)
-        });
-    }
-
-    /// Times hashes each of which is the seed of the next.
-    fn chained(&self, length: usize, columns: &[(String, Hash)]) {
-        let bytes = &self.bytes[..length];
-        self.row(&format!("hash of {}, chained", size(length)), columns, |hash| {
-            let mut seed = 0;
-            move || {
-                seed = hash(bytes.into(), seed);
-                seed
-            }
-        });
     }
 
     fn streams(&self) {
         for piece in [1, 3, 8, 16, 40, 100, 1000, 4096] {
             let name = format!("64 KiB in pieces of {}", size(piece));
-            self.stream(&name, &[pieces(|| piece)]);
+            self.stream_row(&name, &[pieces(|| piece)]);
         }
         for greatest in [8, 32, 64, 300] {
             let mut random = Random(greatest as u64);
             let mut list = |_| pieces(|| random.below(greatest) + 1);
             let lists: Vec<_> = (0..64).map(&mut list).collect();
             let name = format!("64 KiB in pieces of 1 to {greatest} bytes, random lengths");
-            self.stream(&name, &lists);
+            self.stream_row(&name, &lists);
         }
-    }
-
-    fn short_streams(&self) {
         for length in [0, 5, 16, 40, 64, 100, 200] {
-            self.stream(&format!("stream of {length} bytes in one write"), &[vec![length]]);
+            self.stream_row(&format!("stream of {length} bytes in one write"), &[vec![length]]);
         }
         for pending in [0, 16, 63] {
-            self.row(&format!("finish with {pending} bytes pending"), &self.sides, |calls| {
-                let mut stream = (calls.start)(0);
-                (calls.write)(&mut stream, self.bytes[..64 + pending].into());
-                move || (calls.finish)(&stream)
+            self.row(&format!("finish with {pending} bytes pending"), || {
+                sides!(side => {
+                    let mut stream = side::StreamedKomihash::new();
+                    stream.write(&self.bytes[..64 + pending]);
+                    move || stream.finish()
+                })
             });
         }
     }
 
-    /// Times streams that take the lists of pieces in turn.
-    fn stream(&self, name: &str, lists: &[Vec<u16>]) {
-        self.row(name, &self.sides, |calls| {
-            let mut lists = lists.iter().cycle();
-            move || {
-                let mut stream = (calls.start)(0);
-                let mut left = self.bytes;
-                for piece in lists.next().unwrap() {
-                    let (next, others) = left.split_at(usize::from(*piece));
-                    (calls.write)(&mut stream, next.into());
-                    left = others;
+    fn stream_row(&self, name: &str, lists: &[Vec<u16>]) {
+        self.row(name, || {
+            sides!(side => {
+                let mut lists = lists.iter().cycle();
+                move || {
+                    let (mut stream, mut left) = (side::StreamedKomihash::new(), self.bytes);
+                    for piece in lists.next().unwrap() {
+                        let (next, others) = left.split_at(usize::from(*piece));
+                        stream.write(next);
+                        left = others;
+                    }
+                    stream.finish()
                 }
-                (calls.finish)(&stream)
-            }
+            })
         });
     }
 
     fn generators(&self) {
-        self.row("output of the generator", &self.sides, |calls| {
-            let mut rand = (calls.rand_init)(1);
-            move || (calls.rand_next)(&mut rand)
+        self.row("output of the generator", || {
+            sides!(side => {
+                let mut rand = side::Komirand::init(1);
+                move || rand.next()
+            })
         });
         for length in [7, 64, 4096] {
-            let name = format!("fill of {} by the generator", size(length));
-            self.row(&name, &self.sides, |calls| {
-                let (mut rand, mut out) = ((calls.rand_init)(1), vec![0; length]);
-                move || (calls.rand_fill)(&mut rand, (&mut out).into())
+            self.row(&format!("fill of {} by the generator", size(length)), || {
+                sides!(side => {
+                    let (mut rand, mut out) = (side::Komirand::init(1), vec![0; length]);
+                    move || rand.fill_bytes(&mut out)
+                })
             });
         }
     }
 
-    /// Times the calls that the Rust crate lacks: its side copies as many bytes.
+    /// Times lookups among 10,000 keys.
+    fn maps(&self) {
+        let mut random = Random(1);
+        let numbers: Vec<u64> = (0..10_000).map(|_| random.word()).collect();
+        let mut text = |_| format!("{:01$}", random.word() % 10_000, 4 + random.below(24));
+        let texts: Vec<String> = (0..10_000).map(&mut text).collect();
+        self.map_row("lookup in a HashMap by u64", &numbers);
+        self.map_row("lookup in a HashMap by String", &texts);
+    }
+
+    fn map_row<K: Hash + Eq>(&self, name: &str, keys: &[K]) {
+        self.row(name, || {
+            sides!(side => {
+                let pairs = keys.iter().map(|key| (key, ()));
+                let map: HashMap<_, _, BuildHasherDefault<side::KomiHasher>> = pairs.collect();
+                let mut keys = keys.iter().cycle();
+                move || map.contains_key(keys.next().unwrap())
+            })
+        });
+    }
+
+    /// Times the calls that the Rust crate lacks, in version 5.
     fn without_rust_crate(&self) {
-        self.row("save and resume with 63 bytes pending", &self.sides, |calls| {
-            let (mut stream, mut text) = ((calls.start)(0), [0; 131]);
-            (calls.write)(&mut stream, self.bytes[..127].into());
-            move || {
-                (calls.save)(&stream, (&mut text).into());
-                (calls.resume)(&mut stream, (&text).into())
-            }
+        self.row("save and resume with 63 bytes pending", || {
+            let (mut stream, mut text) = (StreamedKomihash::new(), [0; LONGEST_TEXT]);
+            stream.write(&self.bytes[..127]);
+            vec![column("komihash 5", move || {
+                let length = black_box(&stream).save(&mut text);
+                StreamedKomihash::resume(&text[..length])
+            })]
         });
         for length in [64, 1 << 10, 1 << 20] {
-            let bytes = &self.bytes[..length];
-            self.row(&format!("pad of {}", size(length)), &self.sides, |calls| {
-                let mut words = vec![0; length / 8 + 1];
-                move || (calls.pad)(bytes.into(), (&mut words).into())
+            let (mut words, mut out) = (vec![0; length / 8 + 1], vec![0; length + 8]);
+            self.row(&format!("pad of {}", size(length)), || {
+                vec![column("komihash 5", || pad(&self.bytes[..length], &mut words))]
             });
-            self.row(&format!("unpad to {}", size(length)), &self.sides, |calls| {
-                let (mut words, mut out) = (vec![0; length / 8 + 1], vec![0; length + 8]);
-                (calls.pad)(bytes.into(), (&mut words).into());
-                move || (calls.unpad)((&words).into(), (&mut out).into())
+            self.row(&format!("unpad to {}", size(length)), || {
+                pad(&self.bytes[..length], &mut words);
+                vec![column("komihash 5", || unpad(&words, &mut out))]
             });
         }
     }
