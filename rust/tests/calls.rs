@@ -1,0 +1,166 @@
+//! Calls each function, by rows of `vectors.tsv`, and for each cut of a message.
+use komihash_rattle::LONGEST_TEXT;
+use std::collections::HashMap;
+use std::hash::{BuildHasherDefault, Hash, Hasher};
+
+/// Returns the seeds, messages and hashes of a version.
+fn vectors(version: &str) -> Vec<(u64, Vec<u8>, u64)> {
+    let number = |digits: &str| u64::from_str_radix(digits, 16).unwrap();
+    let rows = include_str!("../../c/vectors.tsv").lines().map(|row| row.split('\t').collect());
+    let rows = rows.filter(|row: &Vec<&str>| row[0] == version);
+    let rows = rows.map(|row| {
+        let bytes = (0..row[2].len() / 2).map(|i| number(&row[2][2 * i..2 * i + 2]) as u8);
+        (number(row[1]), bytes.collect(), number(row[3]))
+    });
+    rows.collect()
+}
+
+macro_rules! tests {
+    ($version:ident, $number:literal, $outputs:expr) => {
+        mod $version {
+            use super::*;
+            use komihash_rattle::$version::*;
+
+            /// Saves a stream, and resumes it.
+            fn resumed(stream: &StreamedKomihash) -> StreamedKomihash {
+                let mut out = [0xa5; LONGEST_TEXT + 1];
+                let length = stream.save(&mut out);
+                assert!(out[length..].iter().all(|byte| *byte == 0xa5));
+                assert!(StreamedKomihash::resume(&out[..length - 1]).is_none());
+                StreamedKomihash::resume(&out[..length]).unwrap()
+            }
+
+            fn pads_and_unpads(message: &[u8]) {
+                let mut words = vec![7; message.len() / 8 + 2];
+                let count = pad(message, &mut words);
+                assert_eq!((count, words.pop()), (words.len(), Some(7)));
+                let mut out = vec![7; 8 * count + 1];
+                assert_eq!(unpad(&words, &mut out), Some(message.len()));
+                assert_eq!(out[..message.len()], *message);
+                words.push(0);
+                assert_eq!(unpad(&words, &mut [0; 400]), None);
+            }
+
+            #[test]
+            fn hashes_of_vectors() {
+                let vectors = vectors($number);
+                assert!(vectors.len() > 40);
+                for (seed, message, hash) in vectors {
+                    assert_eq!(komihash(&message, seed), hash);
+                    pads_and_unpads(&message);
+                    for cut in 0..=message.len() {
+                        let mut stream = StreamedKomihash::new_with_seed(seed);
+                        stream.write(&message[..cut]);
+                        assert_eq!(stream.finish(), komihash(&message[..cut], seed));
+                        let mut resumed = resumed(&stream);
+                        let mut copy = stream.clone();
+                        for stream in [&mut stream, &mut resumed, &mut copy] {
+                            stream.write(&message[cut..]);
+                            assert_eq!(stream.finish(), hash);
+                        }
+                    }
+                }
+            }
+
+            #[test]
+            fn outputs_of_generators() {
+                let (seed, extra_seed) = (0x0123456789abcdef, 0xfedcba9876543210);
+                const WORDS: Komirand = Komirand::new(0x0123456789abcdef, 0xfedcba9876543210);
+                let extra = Komirand::init_with_extra_seed(seed, extra_seed);
+                let outputs = [Komirand::init(seed), extra, WORDS].map(|mut it| it.next());
+                assert_eq!(outputs, $outputs);
+                for length in 0..40 {
+                    let (mut filled, mut bytes) = (WORDS, vec![0; length]);
+                    filled.fill_bytes(&mut bytes);
+                    let mut stepped = WORDS;
+                    let mut wanted = Vec::new();
+                    while wanted.len() < length {
+                        wanted.extend(stepped.next().to_le_bytes());
+                    }
+                    assert_eq!(bytes, wanted[..length]);
+                    assert_eq!(filled.next(), stepped.next());
+                }
+            }
+
+            #[test]
+            fn inlined_rust_does_what_the_assembly_does() {
+                let mut random = Komirand::new(1, 2);
+                let mut bytes = [[0; 8]; 2];
+                for shift in (0..64).cycle().take(100_000) {
+                    bytes.iter_mut().for_each(|it| random.fill_bytes(it));
+                    let [word, seed] = bytes.map(|it| u64::from_le_bytes(it) << shift >> shift);
+                    for word in [word, !word] {
+                        let hash = komihash(&word.to_le_bytes(), seed);
+                        let mut hashers = [KomiHasher::new(seed), KomiHasher::new(seed)];
+                        hashers[0].write_u64(word);
+                        hashers[1].write_usize(word as usize);
+                        assert_eq!(hashers.map(|it| it.finish()), [hash; 2]);
+                        let mut filled = [0; 16];
+                        Komirand::new(word, seed).fill_bytes(&mut filled);
+                        let mut stepped = Komirand::new(word, seed);
+                        let outputs = [stepped.next(), stepped.next()].map(u64::to_le_bytes);
+                        assert_eq!(filled[..], outputs.concat());
+                    }
+                }
+            }
+
+            #[test]
+            fn chains_of_hashers() {
+                let mut hasher = KomiHasher::default();
+                hasher.write(b"hello");
+                hasher.write(b"world");
+                assert_eq!(hasher.finish(), komihash(b"world", komihash(b"hello", 0)));
+                let mut map = HashMap::<String, u64, BuildHasherDefault<KomiHasher>>::default();
+                for i in 0..1000 {
+                    map.insert(i.to_string(), i);
+                    map.insert(i.to_string(), 2 * i);
+                }
+                assert!(map.len() == 1000 && (0..1000).all(|i| map[&i.to_string()] == 2 * i));
+                let (mut one, mut other) = (KomiHasher::new(1), KomiHasher::new(1));
+                (7u64, "port").hash(&mut one);
+                one.clone().write(b"more");
+                (7u64, "port").hash(&mut other);
+                assert_eq!(one.finish(), other.finish());
+            }
+
+            #[test]
+            fn types_are_send_and_sync() {
+                fn is<T: Send + Sync + Unpin + Clone>() {}
+                (is::<StreamedKomihash>(), is::<Komirand>(), is::<KomiHasher>());
+            }
+
+            #[test]
+            #[should_panic(expected = "no room")]
+            fn save_without_room() {
+                StreamedKomihash::new().save(&mut [0; LONGEST_TEXT - 1]);
+            }
+
+            #[test]
+            #[should_panic(expected = "no room")]
+            fn pad_without_room() {
+                pad(b"12345678", &mut [0; 1]);
+            }
+
+            #[test]
+            #[should_panic(expected = "no room")]
+            fn unpad_without_room() {
+                unpad(&[0], &mut [0; 7]);
+            }
+        }
+    };
+}
+
+tests!(v4, "4", [0xc501cc999ede619f, 0xc2b5bec11a25b26d, 0x889f87cc2b173f0c]);
+tests!(v5, "5", [0x19a95c363ccfdb39, 0xa668249f47348e9a, 0x786c77e49d6bb107]);
+
+#[test]
+fn the_root_has_version_5() {
+    let mut stream = komihash_rattle::StreamedKomihash::default();
+    stream.write(&[0x80]);
+    let hash = komihash_rattle::v5::komihash(&[0x80], 0);
+    assert_eq!((stream.finish(), komihash_rattle::komihash(&[0x80], 0)), (hash, hash));
+    assert_ne!(komihash_rattle::v4::komihash(&[0x80], 0), hash);
+    let mut text = [0; LONGEST_TEXT];
+    let length = stream.save(&mut text);
+    assert!(komihash_rattle::v4::StreamedKomihash::resume(&text[..length]).is_none());
+}
