@@ -15,9 +15,19 @@ cd "$(dirname "${BASH_SOURCE[0]}")/../crates/komihash_rattle"
 # - The attribute uwtable asks for unwind tables. It changes no instruction.
 # - The attribute noredzone keeps values out of the memory below the stack pointer, because Windows
 #   may overwrite it.
+# - The module flags ask for what IBT and SHSTK (x86-64) and BTI (ARM64) demand: a note, and at the
+#   start of each function that C calls an instruction that does nothing on other processors.
+# For x86-64, the option slp-threshold makes LLVM store new streams as vectors, which it does by
+# itself for newer processors. Without it, `start` takes 16% longer.
 mkdir "$scratch/bin" "$scratch/made"
 ln -s "$kit"/toolchain/bin/{ld.lld,llvm-ar} "$scratch/bin/"
 ln -s "$kit/toolchain/lib" "$scratch/"
+cat > "$scratch/flags" << 'END'
+!llvm.module.flags = !{!90, !91, !92}
+!90 = !{i32 8, !"cf-protection-branch", i32 1}
+!91 = !{i32 8, !"cf-protection-return", i32 1}
+!92 = !{i32 8, !"branch-target-enforcement", i32 1}
+END
 { echo '#!/bin/bash'; declare -p kit scratch; cat << 'END'; } > "$scratch/bin/clang"
 set -euo pipefail
 clang=$kit/toolchain/bin/clang
@@ -27,16 +37,18 @@ if [[ " $* " == *' module.bc '* ]]; then
         -o "$given"
     grep -qE "$null" "$given" || { echo 'no null pointer is replaced' >&2; exit 1; }
     sed -E "s/$null/= mul i64 \1, 0/; s/^(define .*)\{$/\1uwtable noredzone {/" \
-        "$given" > "$scratch/module.ll"
+        "$given" | cat - "$scratch/flags" > "$scratch/module.ll"
 fi
 set -- "${@/#module.bc/$scratch/module.ll}"
 words=("${@/#-c/-S}")
+! grep -q '"target-cpu"="x86-64"' "$scratch/module.ll" || words+=(-mllvm -slp-threshold=-2)
 "$clang" "${words[@]/module.o/$scratch/module.s}" -fno-addrsig -fno-verbose-asm
 exec "$clang" "$@"
 END
 chmod +x "$scratch/bin/clang"
 
-# Prints the assembly for a processor, which flags name, under a head that says what made it.
+# Prints the assembly for a processor, which flags name, under a head that says what made it, and
+# without the lines `.aeabi_`, which repeat the note, and which older assemblers refuse.
 assembly_for() {
     "$kit/bin/rattle" build --crate-name komihash_rattle src/lib.rt --crate-type staticlib \
         --extern "std=$kit/rlibs/std.rlib" -L "dependency=$kit/rlibs" \
@@ -62,13 +74,14 @@ $(sed -nE 's/^(commit|compiler) / * &/p' "$kit/WHAT")
 #define WINDOWS_ONLY(...)
 #endif
 END
-    sed -E '/^\t\.(file|ident)\t/d; s/^\t(\.(section|type|size)\t.*)/\tELF_ONLY(\1)/
+    sed -E '/^\t\.(file|ident|aeabi_[a-z]*)\t/d; s/^\t(\.(section|type|size)\t.*)/\tELF_ONLY(\1)/
+        /\.note\.gnu\.property/,/\.text$/s/^\t(\.(p2align|long|word|asciz)\t.*)/\tELF_ONLY(\1)/
         s/^\t\.globl\t(.*)/&\n\tWINDOWS_ONLY(.def \1; .scl 2; .type 32; .endef)/' "$scratch/module.s"
 }
 
 echo 'Proving and compiling the crate. If nothing is proved yet, this takes minutes.' >&2
 rt lib > "$scratch/log" 2>&1 || { tail -n 40 "$scratch/log" >&2; exit 1; }
-assembly_for --cpu x86-64-v2 > "$scratch/made/x86_64.S"
+assembly_for --cpu x86-64 > "$scratch/made/x86_64.S"
 assembly_for --cpu x86-64-v3 > "$scratch/made/x86_64_v3.S"
 assembly_for --target aarch64-unknown-linux-gnu > "$scratch/made/aarch64.S"
 mkdir -p "$folder"

@@ -1,5 +1,6 @@
 # Counts cases, for the scripts that source this file, in sh or bash. The last line of such a script
 # is 'N passed, M failed', with ', K skipped' if there are any.
+export LC_ALL=C
 passed=0 failed=0 skipped=0
 scratch=$(mktemp -d) && scratch=$(realpath "$scratch") || exit
 trap 'rm -rf "$scratch"' EXIT

@@ -54,23 +54,31 @@ complete() {
     "$NM" -P $flag "$1" | awk -v "kinds=$kinds" '$2 ~ kinds { print $1 }' | sort |
         diff "$scratch/declared" -
 }
+# Whether a library is marked for IBT and SHSTK, or for BTI: by a note, and in each function.
+marked() {
+    "${CROSS}readelf" -n "$1" | grep -E 'feature: (IBT, SHSTK|BTI)$' &&
+        "${CROSS}objdump" -d "$1" | grep -oE 'endbr64|bti.c' > "$scratch/marks" &&
+        test "$(wc -l < "$scratch/marks")" = "$(wc -l < "$scratch/declared")"
+}
 without_libraries() { ! "${CROSS}objdump" -p "$OUT/$dll" | grep 'DLL Name'; }
 
 # Compiles a program by $compiler, and runs it.
 runs() { $compiler "$@" -Wall -Wextra -Wpedantic -Werror -o "$program" && $RUN "$program"; }
 runs_by_package() {
     eval "runs \"\$@\" $(pkg-config --cflags --libs komihash_rattle)" &&
-        grep -F "$soname" "$program" > "$scratch/case"
+        "${CROSS}objdump" -p "$program" | grep -F "$soname" > "$scratch/case"
 }
 calls() {
     for number in 4 5; do
         runs -std=c11 -D "VERSION=$number" -I "$prefix/include" calls.c "$1" < vectors.tsv || return
     done
 }
-by_rustc() {
-    rustc --edition 2021 -D warnings -L "native=$lib" -l static=komihash_rattle \
-        examples/example.rs -o "$program" && "$program"
+on_oldest_processor() { RUN='qemu-x86_64 -cpu Opteron_G1' && calls "$archive"; }
+# Compiles calls that were written for the C original, with these options.
+original() {
+    runs "$@" -I "$prefix/include/komihash_rattle" original.c -x none "$archive" < vectors.tsv
 }
+by_python() { PYTHONPATH=examples python3 -B -W error calls.py < vectors.tsv; }
 
 # Compiles calls that ignore a result, and that pass no stream.
 careless() {
@@ -81,12 +89,44 @@ END
         grep -o '\[-W[^]=]*' | sort
 }
 
-# Runs hash_file, built by CMake in a folder with these definitions, on the message `a`.
-by_cmake() {
-    rm -rf "$scratch/cmake" && cmake -B "$scratch/cmake" -D "CMAKE_C_COMPILER=$CC" -S "$@" \
+# Builds a folder by CMake with these definitions, and installs what it made.
+cmake_installs() {
+    rm -rf "$scratch/cmake" "$scratch/by_cmake"
+    cmake -B "$scratch/cmake" -D "CMAKE_C_COMPILER=$CC" -S "$@" \
         ${CROSS:+-D "CMAKE_SYSTEM_NAME=$system" -D "CMAKE_SYSTEM_PROCESSOR=${machine%%-*}"} \
-        -D "CMAKE_RUNTIME_OUTPUT_DIRECTORY=$scratch/cmake" >&2 &&
-        cmake --build "$scratch/cmake" >&2 && printf a | $RUN "$scratch/cmake/hash_file$exe"
+        -D "CMAKE_INSTALL_PREFIX=$scratch/by_cmake" -D CMAKE_INSTALL_LIBDIR=lib >&2 &&
+        cmake --build "$scratch/cmake" >&2 && cmake --install "$scratch/cmake" >&2
+}
+by_cmake() { # Runs hash_file, as CMake installs it.
+    cmake_installs "$@" && export LD_LIBRARY_PATH="$scratch/by_cmake/lib:$LD_LIBRARY_PATH" &&
+        printf a | $RUN "$scratch/by_cmake/bin/hash_file$exe"
+}
+fetched_by_cmake() {
+    LD_LIBRARY_PATH=/none
+    by_cmake examples -D "PACKAGE=$scratch/komihash_rattle-$version.tar.gz"
+}
+files_of() { (cd "$1" && find . ! -type d ! -name '*-config-[!v]*' | sort); }
+installed_by_cmake() {
+    cmake_installs . && mv "$scratch/by_cmake" "$scratch/alone" || return
+    LD_LIBRARY_PATH="$scratch/alone/lib" WINEPATH="Z:$scratch/alone/bin"
+    files_of "$prefix" > "$scratch/files"
+    files_of "$scratch/alone" | diff "$scratch/files" - &&
+        prints $hash_of_a by_cmake examples -D "CMAKE_PREFIX_PATH=$scratch/alone"
+}
+exported_by_cmake() {
+    mkdir "$scratch/exported" && cat > "$scratch/exported/CMakeLists.txt" << END
+cmake_minimum_required(VERSION 3.14)
+project(exported C)
+add_subdirectory("$PWD" library)
+if(NOT komihash_rattle_VERSION VERSION_EQUAL $version)
+  message(SEND_ERROR "\${komihash_rattle_VERSION}")
+endif()
+add_library(exported STATIC "$PWD/examples/hash_file.c")
+target_link_libraries(exported PUBLIC komihash_rattle::static)
+install(TARGETS exported EXPORT exported)
+install(EXPORT exported DESTINATION lib)
+END
+    cmake_installs "$scratch/exported"
 }
 
 # Whether CMake finds the library for each VERSION:1 or RANGE:1, and not for those with 0, and links
@@ -106,9 +146,10 @@ foreach(request $*)
 endforeach()
 add_executable(hash_file "$PWD/examples/hash_file.c")
 target_link_libraries(hash_file komihash_rattle::static)
+install(TARGETS hash_file)
 END
     by_cmake "$scratch/requested" -D "CMAKE_PREFIX_PATH=$prefix" &&
-        "$NM" "$scratch/cmake/hash_file$exe" | grep 'T komihash_v5$'
+        "$NM" "$scratch/by_cmake/bin/hash_file$exe" | grep 'T komihash_v5$'
 }
 
 hash_file() { $RUN "$OUT/hash_file$exe" "$@"; }
@@ -119,16 +160,19 @@ ends() { # STATUS ARGUMENT..
     [ $? = "$status" ]
 }
 
+# Whether of what was installed only folders are left that other packages share.
+gone() { test -z "$(find "$1" ! -type d -o -name komihash_rattle)"; }
+
 # Installs by the variables of the environment, builds an example with that, and uninstalls it.
 staged() {
-    export DESTDIR="$scratch/staged" PREFIX='/a|"#\b' LIBDIR='/a|"#\b/lib/c' INCLUDEDIR=/d/include
+    export DESTDIR="$scratch/staged" PREFIX='/a|"#\b' LIBDIR='/a|"#\b/lib/c' includedir=/d/include
     export PKG_CONFIG_SYSROOT_DIR="$DESTDIR" PKG_CONFIG_PATH="$DESTDIR$LIBDIR/pkgconfig" DOCDIR=/e
     (umask 077 && build install) && test -f "$DESTDIR/e/LICENSE" &&
         test -z "$(find "$DESTDIR" ! -type l ! -perm 755 ! '(' -type f -perm 644 ')')" &&
         { ! command -v pkg-config || runs_by_package -std=c11 "$scratch/example.c"; } &&
-        build uninstall && test ! -e "$DESTDIR"
+        build uninstall && gone "$DESTDIR"
 }
-uninstalled() { build uninstall "PREFIX=$prefix" && test ! -e "$prefix"; }
+uninstalled() { build uninstall "PREFIX=$prefix" && gone "$prefix"; }
 
 run_case "programs for $machine run here, or in the emulator that RUN names" hash_file < /dev/null
 run_case 'the library is installed' build install "PREFIX=$prefix"
@@ -138,12 +182,15 @@ run_case 'the numbers in the header are those of its version' test "$version" = 
 grep -o 'komihash_v[a-z0-9_]*(' komihash_rattle.h | tr -d '(' | sort > "$scratch/declared"
 find "$prefix" -type f -name 'lib*' ! -name '*.dll' > "$scratch/libraries"
 while read -r file; do
-    run_case "${file#"$prefix/"} has the functions of the header alone" complete "$file"
+    name=${file#"$prefix/"}
+    run_case "$name has the functions of the header alone" complete "$file"
+    [ "$system" = Windows ] || run_case "$name is marked for IBT and SHSTK, or BTI" marked "$file"
 done < "$scratch/libraries"
 [ "$system" = Linux ] || run_case "$dll needs no other library" without_libraries
 
 hash=a53b9c6b9eb8afe9 hash_of_a=5117f5064cfd0faa
-vectors=$(grep ^4 vectors.tsv && grep ^5 vectors.tsv)
+vectors_of_5=$(grep ^5 vectors.tsv)
+vectors=$(grep ^4 vectors.tsv && echo "$vectors_of_5")
 sed -n '/^```c$/,/^```$/{/^```/!p;}' README.md > "$scratch/example.c"
 for compiler in "$CC" ${clang:+"$clang"}; do
     tool=${compiler%% *} name=${compiler%% -Q*}
@@ -151,6 +198,7 @@ for compiler in "$CC" ${clang:+"$clang"}; do
         { skip 'calls.c and the example in C' "$tool"; continue; }
     run_case "calls.c, by $name" prints "$vectors" calls "$archive"
     run_case "calls.c, by $name, shared library" prints "$vectors" calls "$linked"
+    run_case "the names of the C original, by $name" prints "$vectors_of_5" original -std=c99
     run_case "the example in C, by $name" prints $hash runs "$scratch/example.c" \
         -std=c11 -I "$prefix/include" "$archive"
     needs pkg-config "the example in C, by $name and pkg-config" \
@@ -160,14 +208,17 @@ if [ ! "$CROSS" ]; then
     for compiler in "$CXX" clang++; do
         needs "${compiler%% *}" "the example in C++, by $compiler" prints $hash \
             runs examples/example.cpp -std=c++17 -I "$prefix/include" "$archive"
+        needs "${compiler%% *}" "the names of the C original, by $compiler" \
+            prints "$vectors_of_5" original -x c++ -std=c++11
     done
     compiler='musl-gcc -static'
     needs musl-gcc 'calls.c with musl' prints "$vectors" calls "$archive"
-    needs rustc 'the example in Rust' prints $hash by_rustc
-    needs python3 'the example in Python' prints $hash python3 examples/example.py "$linked"
+    needs python3 'the module for Python' prints "$vectors_of_5" by_python
     run_case 'make bench' build bench
 fi
 compiler=$CC
+[ "${machine%%-*}$system" != x86_64Linux ] || needs qemu-x86_64 \
+    'calls.c on a processor of 2003' prints "$vectors" on_oldest_processor
 for target in s390x:big-endian i686:64-bit x86_64-linux-gnux32:64-bit \
     x86_64-pc-windows-msvc:MinGW-w64; do
     needs clang "the header refuses ${target%:*}" fails "${target#*:}" \
@@ -176,11 +227,16 @@ done
 run_case 'warnings for an ignored result and a null stream' \
     prints "$(printf '[-W%s\n' nonnull unused-result)" careless
 
-run_case 'the package' build dist "OUT=$scratch"
+if tar --version | grep GNU > "$scratch/case"; then
+    run_case 'the package' build dist "OUT=$scratch"
+    needs cmake 'hash_file, by CMake, with the package' prints $hash_of_a fetched_by_cmake
+else
+    skip 'the package, and CMake with it' 'GNU tar'
+fi
 needs cmake 'hash_file, by CMake, with the installed library' \
     prints $hash_of_a by_cmake examples -D "CMAKE_PREFIX_PATH=$prefix"
-needs cmake 'hash_file, by CMake, with the package' \
-    prints $hash_of_a by_cmake examples -D "PACKAGE=$scratch/komihash_rattle-$version.tar.gz"
+needs cmake 'the files that CMake installs, and hash_file with them' installed_by_cmake
+needs cmake 'a library that CMake exports, with the static one' exported_by_cmake
 needs cmake 'the versions that CMake may ask for, and the static library' requested 1:1 1.0:1 \
     "$version:1" "$version,EXACT:1" 1.0...2:1 '1...<2:1' "0.9...$version:1" \
     0.9:0 2:0 99.0:0 1.0,EXACT:0 "1.0...<$version:0" 2...3:0
@@ -199,6 +255,8 @@ run_case 'the paths of the environment' staged
 run_case 'an empty PREFIX' fails "not ''" build install PREFIX=
 run_case 'a relative PREFIX' fails "not 'here'" build install PREFIX=here
 run_case 'another processor' fails 'none for riscv64' build machine=riscv64-linux-gnu
+run_case '32-bit pointers' fails '64-bit pointers' build CFLAGS=-m32
+run_case 'an OUT with spaces' fails 'no spaces' build OUT='a b'
 run_case 'a missing compiler' fails "no C compiler 'no-compiler'" build CC=no-compiler
 run_case 'the library is uninstalled' uninstalled
 counted

@@ -48,9 +48,10 @@
 #error "komihash_rattle cannot be called by this compiler: use gcc or clang of MinGW-w64 for x86-64"
 #endif
 
-/* Marks of functions: the first argument is never null; the result says whether the call failed. */
+/* Marks of functions: the first argument is never null; the result says whether the call failed.
+ * The first begins by `__extension__`, because C89 has no bool. */
 #ifdef __GNUC__
-#define KOMIHASH_NONNULL __attribute__((nonnull(1)))
+#define KOMIHASH_NONNULL __extension__ __attribute__((nonnull(1)))
 #define KOMIHASH_CHECK_RESULT __attribute__((warn_unused_result))
 #else
 #define KOMIHASH_NONNULL

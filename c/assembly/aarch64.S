@@ -15,6 +15,18 @@
 #define ELF_ONLY(...) __VA_ARGS__
 #define WINDOWS_ONLY(...)
 #endif
+	ELF_ONLY(.section	.note.gnu.property,"a",@note)
+	ELF_ONLY(.p2align	3, 0x0)
+	ELF_ONLY(.word	4)
+	ELF_ONLY(.word	16)
+	ELF_ONLY(.word	5)
+	ELF_ONLY(.asciz	"GNU")
+	ELF_ONLY(.word	3221225472)
+	ELF_ONLY(.word	4)
+	ELF_ONLY(.word	1)
+	ELF_ONLY(.word	0)
+.Lsec_end0:
+	.text
 	ELF_ONLY(.section	".text.komihash::hash::hash_of_partial_word::<=4>","ax",@progbits)
 	.p2align	2
 	ELF_ONLY(.type	"komihash::hash::hash_of_partial_word::<=4>",@function)
@@ -130,61 +142,48 @@
 	ELF_ONLY(.size	"komihash::hash::hash_of_one_word::<=4>", .Lfunc_end1-"komihash::hash::hash_of_one_word::<=4>")
 	.cfi_endproc
 
-	ELF_ONLY(.section	".text.komihash::hash::hash_of_two_words::<=4>","ax",@progbits)
+	ELF_ONLY(.section	".text.komihash::hash::hash_of_16_bytes::<=4>","ax",@progbits)
 	.p2align	2
-	ELF_ONLY(.type	"komihash::hash::hash_of_two_words::<=4>",@function)
-"komihash::hash::hash_of_two_words::<=4>":
+	ELF_ONLY(.type	"komihash::hash::hash_of_16_bytes::<=4>",@function)
+"komihash::hash::hash_of_16_bytes::<=4>":
 	.cfi_startproc
-	add	x9, x0, x1
-	tst	x1, #0x7
-	ldurb	w8, [x9, #-1]
-	lsr	x8, x8, #7
-	add	x8, x8, #1
-	b.eq	.LBB2_2
-	ldur	x9, [x9, #-8]
-	lsl	x10, x1, #3
-	lsr	x9, x9, #1
-	and	x11, x10, #0x38
-	mvn	w10, w10
-	lsl	x8, x8, x11
-	lsr	x9, x9, x10
-	orr	x8, x8, x9
-.LBB2_2:
-	mov	x10, #4983
-	mov	x12, #2259
-	and	x9, x2, #0xaaaaaaaaaaaaaaaa
-	movk	x10, #14544, lsl #16
-	movk	x12, #34211, lsl #16
-	and	x11, x2, #0x5555555555555555
-	movk	x10, #8678, lsl #32
-	movk	x12, #27272, lsl #32
-	movk	x10, #17704, lsl #48
-	movk	x12, #9279, lsl #48
-	eor	x9, x9, x10
-	eor	x10, x11, x12
-	mul	x11, x10, x9
-	ldp	x12, x13, [x0]
-	umulh	x10, x10, x9
-	add	x9, x9, x10
-	eor	x10, x12, x11
-	eor	x10, x10, x9
-	eor	x11, x13, x9
-	mul	x12, x10, x11
-	umulh	x10, x10, x11
-	eor	x8, x8, x12
-	add	x9, x9, x10
-	eor	x8, x8, x9
-	umulh	x10, x8, x9
-	mul	x8, x8, x9
-	add	x9, x9, x10
-	eor	x8, x9, x8
-	umulh	x10, x8, x9
-	mul	x8, x8, x9
-	add	x9, x9, x10
-	eor	x0, x9, x8
+	mov	x8, #2259
+	mov	x9, #4983
+	and	x10, x1, #0x5555555555555555
+	movk	x8, #34211, lsl #16
+	movk	x9, #14544, lsl #16
+	and	x11, x1, #0xaaaaaaaaaaaaaaaa
+	movk	x8, #27272, lsl #32
+	movk	x9, #8678, lsl #32
+	movk	x8, #9279, lsl #48
+	movk	x9, #17704, lsl #48
+	eor	x8, x10, x8
+	eor	x9, x11, x9
+	mul	x10, x8, x9
+	ldp	x11, x12, [x0]
+	umulh	x8, x8, x9
+	add	x8, x9, x8
+	eor	x9, x11, x10
+	eor	x9, x9, x8
+	eor	x10, x12, x8
+	mul	x11, x9, x10
+	umulh	x9, x9, x10
+	lsr	x10, x12, #63
+	add	x10, x10, #1
+	add	x8, x8, x9
+	eor	x9, x10, x11
+	eor	x9, x9, x8
+	umulh	x10, x9, x8
+	mul	x9, x9, x8
+	add	x8, x8, x10
+	eor	x9, x8, x9
+	umulh	x10, x9, x8
+	mul	x9, x9, x8
+	add	x8, x8, x10
+	eor	x0, x8, x9
 	ret
 .Lfunc_end2:
-	ELF_ONLY(.size	"komihash::hash::hash_of_two_words::<=4>", .Lfunc_end2-"komihash::hash::hash_of_two_words::<=4>")
+	ELF_ONLY(.size	"komihash::hash::hash_of_16_bytes::<=4>", .Lfunc_end2-"komihash::hash::hash_of_16_bytes::<=4>")
 	.cfi_endproc
 
 	ELF_ONLY(.section	".text.komihash::hash::hash_of_words::<=4>","ax",@progbits)
@@ -1035,62 +1034,46 @@
 	ELF_ONLY(.size	"komihash::hash::hash_of_one_word::<=5>", .Lfunc_end7-"komihash::hash::hash_of_one_word::<=5>")
 	.cfi_endproc
 
-	ELF_ONLY(.section	".text.komihash::hash::hash_of_two_words::<=5>","ax",@progbits)
+	ELF_ONLY(.section	".text.komihash::hash::hash_of_16_bytes::<=5>","ax",@progbits)
 	.p2align	2
-	ELF_ONLY(.type	"komihash::hash::hash_of_two_words::<=5>",@function)
-"komihash::hash::hash_of_two_words::<=5>":
+	ELF_ONLY(.type	"komihash::hash::hash_of_16_bytes::<=5>",@function)
+"komihash::hash::hash_of_16_bytes::<=5>":
 	.cfi_startproc
-	tst	x1, #0x7
-	b.eq	.LBB8_2
-	add	x8, x0, x1
-	lsl	x9, x1, #3
-	mov	w11, #1
-	ldur	x8, [x8, #-8]
-	mvn	w10, w9
-	and	x9, x9, #0x38
-	lsr	x8, x8, #1
-	lsl	x9, x11, x9
-	lsr	x8, x8, x10
-	orr	x8, x9, x8
-	b	.LBB8_3
-.LBB8_2:
-	mov	w8, #1
-.LBB8_3:
-	mov	x10, #4983
-	mov	x12, #2259
-	and	x9, x2, #0xaaaaaaaaaaaaaaaa
-	movk	x10, #14544, lsl #16
-	movk	x12, #34211, lsl #16
-	and	x11, x2, #0x5555555555555555
-	movk	x10, #8678, lsl #32
-	movk	x12, #27272, lsl #32
-	movk	x10, #17704, lsl #48
-	movk	x12, #9279, lsl #48
-	eor	x9, x9, x10
-	eor	x10, x11, x12
-	mul	x11, x10, x9
-	ldp	x12, x13, [x0]
-	umulh	x10, x10, x9
-	add	x9, x9, x10
-	eor	x10, x12, x11
-	eor	x10, x10, x9
-	eor	x11, x13, x9
-	mul	x12, x10, x11
-	umulh	x10, x10, x11
-	eor	x8, x8, x12
-	add	x9, x9, x10
-	eor	x8, x8, x9
-	umulh	x10, x8, x9
-	mul	x8, x8, x9
-	add	x9, x9, x10
-	eor	x8, x9, x8
-	umulh	x10, x8, x9
-	mul	x8, x8, x9
-	add	x9, x9, x10
-	eor	x0, x9, x8
+	mov	x8, #2259
+	mov	x9, #4983
+	and	x10, x1, #0x5555555555555555
+	movk	x8, #34211, lsl #16
+	movk	x9, #14544, lsl #16
+	and	x11, x1, #0xaaaaaaaaaaaaaaaa
+	movk	x8, #27272, lsl #32
+	movk	x9, #8678, lsl #32
+	movk	x8, #9279, lsl #48
+	movk	x9, #17704, lsl #48
+	eor	x8, x10, x8
+	eor	x9, x11, x9
+	mul	x10, x8, x9
+	ldp	x11, x12, [x0]
+	umulh	x8, x8, x9
+	add	x8, x9, x8
+	eor	x9, x11, x10
+	eor	x9, x9, x8
+	eor	x10, x12, x8
+	umulh	x11, x9, x10
+	mul	x9, x9, x10
+	add	x8, x8, x11
+	eor	x9, x8, x9
+	eor	x9, x9, #0x1
+	umulh	x10, x9, x8
+	mul	x9, x9, x8
+	add	x8, x8, x10
+	eor	x9, x8, x9
+	umulh	x10, x9, x8
+	mul	x9, x9, x8
+	add	x8, x8, x10
+	eor	x0, x8, x9
 	ret
 .Lfunc_end8:
-	ELF_ONLY(.size	"komihash::hash::hash_of_two_words::<=5>", .Lfunc_end8-"komihash::hash::hash_of_two_words::<=5>")
+	ELF_ONLY(.size	"komihash::hash::hash_of_16_bytes::<=5>", .Lfunc_end8-"komihash::hash::hash_of_16_bytes::<=5>")
 	.cfi_endproc
 
 	ELF_ONLY(.section	".text.komihash::hash::hash_of_words::<=5>","ax",@progbits)
@@ -1828,6 +1811,7 @@
 	ELF_ONLY(.type	komihash_v4,@function)
 komihash_v4:
 	.cfi_startproc
+	hint	#34
 	cmp	x1, #7
 	b.hi	.LBB12_3
 	cbz	x1, .LBB12_7
@@ -1837,9 +1821,10 @@ komihash_v4:
 	b.hi	.LBB12_5
 	b	"komihash::hash::hash_of_one_word::<=4>"
 .LBB12_5:
-	cmp	x1, #23
-	b.hi	.LBB12_8
-	b	"komihash::hash::hash_of_two_words::<=4>"
+	cmp	x1, #16
+	b.ne	.LBB12_8
+	mov	x1, x2
+	b	"komihash::hash::hash_of_16_bytes::<=4>"
 .LBB12_7:
 	mov	x9, #2259
 	mov	x11, #4983
@@ -1883,6 +1868,7 @@ komihash_v4:
 	ELF_ONLY(.type	komihash_v4_finish,@function)
 komihash_v4_finish:
 	.cfi_startproc
+	hint	#34
 	ldrb	w9, [x0, #136]
 	ldp	x10, x11, [x0, #80]
 	ldr	x8, [x0, #96]
@@ -2000,6 +1986,7 @@ komihash_v4_finish:
 	ELF_ONLY(.type	komihash_v4_pad,@function)
 komihash_v4_pad:
 	.cfi_startproc
+	hint	#34
 	lsr	x8, x1, #3
 	cmp	x3, x8
 	b.ls	.LBB14_10
@@ -2107,6 +2094,7 @@ komihash_v4_pad:
 	ELF_ONLY(.type	komihash_v4_rand_fill,@function)
 komihash_v4_rand_fill:
 	.cfi_startproc
+	hint	#34
 	sub	sp, sp, #16
 	.cfi_def_cfa_offset 16
 	.cfi_remember_state
@@ -2179,6 +2167,7 @@ komihash_v4_rand_fill:
 	ELF_ONLY(.type	komihash_v4_rand_init,@function)
 komihash_v4_rand_init:
 	.cfi_startproc
+	hint	#34
 	umulh	x8, x0, x0
 	mov	x10, #-6148914691236517206
 	add	x11, x0, x10
@@ -2212,6 +2201,7 @@ komihash_v4_rand_init:
 	ELF_ONLY(.type	komihash_v4_rand_init_with_extra_seed,@function)
 komihash_v4_rand_init_with_extra_seed:
 	.cfi_startproc
+	hint	#34
 	umulh	x8, x1, x0
 	mov	x10, #-6148914691236517206
 	add	x11, x1, x10
@@ -2245,6 +2235,7 @@ komihash_v4_rand_init_with_extra_seed:
 	ELF_ONLY(.type	komihash_v4_rand_init_words,@function)
 komihash_v4_rand_init_words:
 	.cfi_startproc
+	hint	#34
 	ret
 .Lfunc_end18:
 	ELF_ONLY(.size	komihash_v4_rand_init_words, .Lfunc_end18-komihash_v4_rand_init_words)
@@ -2257,6 +2248,7 @@ komihash_v4_rand_init_words:
 	ELF_ONLY(.type	komihash_v4_rand_next,@function)
 komihash_v4_rand_next:
 	.cfi_startproc
+	hint	#34
 	ldp	x10, x11, [x0]
 	mov	x9, #-6148914691236517206
 	mov	x8, x0
@@ -2278,6 +2270,7 @@ komihash_v4_rand_next:
 	ELF_ONLY(.type	komihash_v4_resume,@function)
 komihash_v4_resume:
 	.cfi_startproc
+	hint	#34
 	subs	x9, x2, #68
 	b.lo	.LBB20_4
 	ldrb	w8, [x1]
@@ -2433,6 +2426,7 @@ komihash_v4_resume:
 	ELF_ONLY(.type	komihash_v4_save,@function)
 komihash_v4_save:
 	.cfi_startproc
+	hint	#34
 	cmp	x2, #131
 	b.hs	.LBB21_2
 	mov	x0, xzr
@@ -2555,6 +2549,7 @@ komihash_v4_save:
 	ELF_ONLY(.type	komihash_v4_start,@function)
 komihash_v4_start:
 	.cfi_startproc
+	hint	#34
 	mov	x9, #4983
 	mov	x10, #2259
 	and	x11, x0, #0xaaaaaaaaaaaaaaaa
@@ -2621,6 +2616,7 @@ komihash_v4_start:
 	ELF_ONLY(.type	komihash_v4_unpad,@function)
 komihash_v4_unpad:
 	.cfi_startproc
+	hint	#34
 	sub	sp, sp, #16
 	.cfi_def_cfa_offset 16
 	.cfi_remember_state
@@ -2747,6 +2743,7 @@ komihash_v4_unpad:
 	ELF_ONLY(.type	komihash_v4_write,@function)
 komihash_v4_write:
 	.cfi_startproc
+	hint	#34
 	ldr	x8, [x0, #64]
 	add	x9, x8, x2
 	cmp	x9, #63
@@ -2878,6 +2875,7 @@ komihash_v4_write:
 	ELF_ONLY(.type	komihash_v5,@function)
 komihash_v5:
 	.cfi_startproc
+	hint	#34
 	cmp	x1, #7
 	b.hi	.LBB25_3
 	cbz	x1, .LBB25_7
@@ -2887,9 +2885,10 @@ komihash_v5:
 	b.hi	.LBB25_5
 	b	"komihash::hash::hash_of_one_word::<=5>"
 .LBB25_5:
-	cmp	x1, #23
-	b.hi	.LBB25_8
-	b	"komihash::hash::hash_of_two_words::<=5>"
+	cmp	x1, #16
+	b.ne	.LBB25_8
+	mov	x1, x2
+	b	"komihash::hash::hash_of_16_bytes::<=5>"
 .LBB25_7:
 	mov	x9, #2259
 	mov	x11, #4983
@@ -2933,6 +2932,7 @@ komihash_v5:
 	ELF_ONLY(.type	komihash_v5_finish,@function)
 komihash_v5_finish:
 	.cfi_startproc
+	hint	#34
 	ldrb	w9, [x0, #136]
 	ldp	x10, x11, [x0, #80]
 	ldr	x8, [x0, #96]
@@ -3033,6 +3033,7 @@ komihash_v5_finish:
 	ELF_ONLY(.type	komihash_v5_pad,@function)
 komihash_v5_pad:
 	.cfi_startproc
+	hint	#34
 	lsr	x8, x1, #3
 	cmp	x3, x8
 	b.ls	.LBB27_10
@@ -3138,6 +3139,7 @@ komihash_v5_pad:
 	ELF_ONLY(.type	komihash_v5_rand_fill,@function)
 komihash_v5_rand_fill:
 	.cfi_startproc
+	hint	#34
 	sub	sp, sp, #16
 	.cfi_def_cfa_offset 16
 	.cfi_remember_state
@@ -3214,6 +3216,7 @@ komihash_v5_rand_fill:
 	ELF_ONLY(.type	komihash_v5_rand_init,@function)
 komihash_v5_rand_init:
 	.cfi_startproc
+	hint	#34
 	mul	x8, x0, x0
 	mov	x10, #-6148914691236517206
 	mov	x11, #6148914691236517205
@@ -3252,6 +3255,7 @@ komihash_v5_rand_init:
 	ELF_ONLY(.type	komihash_v5_rand_init_with_extra_seed,@function)
 komihash_v5_rand_init_with_extra_seed:
 	.cfi_startproc
+	hint	#34
 	mul	x8, x1, x0
 	mov	x10, #-6148914691236517206
 	mov	x11, #6148914691236517205
@@ -3290,6 +3294,7 @@ komihash_v5_rand_init_with_extra_seed:
 	ELF_ONLY(.type	komihash_v5_rand_init_words,@function)
 komihash_v5_rand_init_words:
 	.cfi_startproc
+	hint	#34
 	ret
 .Lfunc_end31:
 	ELF_ONLY(.size	komihash_v5_rand_init_words, .Lfunc_end31-komihash_v5_rand_init_words)
@@ -3302,6 +3307,7 @@ komihash_v5_rand_init_words:
 	ELF_ONLY(.type	komihash_v5_rand_next,@function)
 komihash_v5_rand_next:
 	.cfi_startproc
+	hint	#34
 	ldp	x10, x11, [x0]
 	mov	x9, #6148914691236517205
 	mov	x13, #-6148914691236517206
@@ -3325,6 +3331,7 @@ komihash_v5_rand_next:
 	ELF_ONLY(.type	komihash_v5_resume,@function)
 komihash_v5_resume:
 	.cfi_startproc
+	hint	#34
 	subs	x9, x2, #68
 	b.lo	.LBB33_4
 	ldrb	w8, [x1]
@@ -3475,6 +3482,7 @@ komihash_v5_resume:
 	ELF_ONLY(.type	komihash_v5_save,@function)
 komihash_v5_save:
 	.cfi_startproc
+	hint	#34
 	cmp	x2, #131
 	b.hs	.LBB34_2
 	mov	x0, xzr
@@ -3597,6 +3605,7 @@ komihash_v5_save:
 	ELF_ONLY(.type	komihash_v5_start,@function)
 komihash_v5_start:
 	.cfi_startproc
+	hint	#34
 	mov	x9, #4983
 	mov	x10, #2259
 	and	x11, x0, #0xaaaaaaaaaaaaaaaa
@@ -3663,6 +3672,7 @@ komihash_v5_start:
 	ELF_ONLY(.type	komihash_v5_unpad,@function)
 komihash_v5_unpad:
 	.cfi_startproc
+	hint	#34
 	cmp	x1, x3, lsr #3
 	b.hi	.LBB36_16
 	cbz	x1, .LBB36_16
@@ -3777,6 +3787,7 @@ komihash_v5_unpad:
 	ELF_ONLY(.type	komihash_v5_write,@function)
 komihash_v5_write:
 	.cfi_startproc
+	hint	#34
 	ldr	x8, [x0, #64]
 	add	x9, x8, x2
 	cmp	x9, #63

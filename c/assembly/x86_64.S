@@ -3,7 +3,7 @@
  *
  * `make assembly` made this file from the proved crate komihash_rattle. Do not edit it.
  * The flags are those of rt. A kit has its commit and its compiler in the file WHAT.
- * flags --cpu x86-64-v2
+ * flags --cpu x86-64
  * logic dac8208d650f15bf3e2dc313a14fa4c783a3acf887bdfab66e1714b038d9e11b
  * commit 2d87c71a1e03972d08576fcaddc081846f54381603d80e77896539d88ecc11ed
  * compiler 970e90428e02c6b2a320f31d9610155fb31288c7465b7ab1a35bca9f81bb221c
@@ -15,6 +15,17 @@
 #define ELF_ONLY(...) __VA_ARGS__
 #define WINDOWS_ONLY(...)
 #endif
+	ELF_ONLY(.section	.note.gnu.property,"a",@note)
+	ELF_ONLY(.p2align	3, 0x0)
+	ELF_ONLY(.long	4)
+	ELF_ONLY(.long	16)
+	ELF_ONLY(.long	5)
+	ELF_ONLY(.asciz	"GNU")
+	ELF_ONLY(.long	3221225474)
+	ELF_ONLY(.long	4)
+	ELF_ONLY(.long	3)
+	ELF_ONLY(.p2align	3, 0x0)
+	.text
 	ELF_ONLY(.section	".text.komihash::hash::hash_of_partial_word::<=4>","ax",@progbits)
 	.p2align	4
 	ELF_ONLY(.type	"komihash::hash::hash_of_partial_word::<=4>",@function)
@@ -118,39 +129,32 @@
 	ELF_ONLY(.size	"komihash::hash::hash_of_one_word::<=4>", .Lfunc_end1-"komihash::hash::hash_of_one_word::<=4>")
 	.cfi_endproc
 
-	ELF_ONLY(.section	".text.komihash::hash::hash_of_two_words::<=4>","ax",@progbits)
+	ELF_ONLY(.section	".text.komihash::hash::hash_of_16_bytes::<=4>","ax",@progbits)
 	.p2align	4
-	ELF_ONLY(.type	"komihash::hash::hash_of_two_words::<=4>",@function)
-"komihash::hash::hash_of_two_words::<=4>":
+	ELF_ONLY(.type	"komihash::hash::hash_of_16_bytes::<=4>",@function)
+"komihash::hash::hash_of_16_bytes::<=4>":
 	.cfi_startproc
-	movzbl	-1(%rdi,%rsi), %r8d
-	shrl	$7, %r8d
-	incq	%r8
-	testb	$7, %sil
-	je	.LBB2_2
-	movq	-8(%rdi,%rsi), %rax
-	shll	$3, %esi
-	movl	%esi, %ecx
-	shldq	%cl, %rax, %r8
-.LBB2_2:
-	movabsq	$-6148914691236517206, %rax
-	andq	%rdx, %rax
-	movabsq	$4983270260364809079, %rcx
-	xorq	%rax, %rcx
-	movabsq	$6148914691236517205, %rsi
-	andq	%rdx, %rsi
+	movabsq	$6148914691236517205, %rcx
+	andq	%rsi, %rcx
 	movabsq	$2611923443488327891, %rax
-	xorq	%rsi, %rax
+	xorq	%rcx, %rax
+	movabsq	$-6148914691236517206, %rdx
+	andq	%rsi, %rdx
+	movabsq	$4983270260364809079, %rcx
+	xorq	%rdx, %rcx
 	mulq	%rcx
 	addq	%rdx, %rcx
+	movq	8(%rdi), %rsi
 	xorq	(%rdi), %rax
 	xorq	%rcx, %rax
-	movq	8(%rdi), %rdx
+	movq	%rsi, %rdx
 	xorq	%rcx, %rdx
 	mulq	%rdx
 	addq	%rdx, %rcx
-	xorq	%rcx, %r8
-	xorq	%r8, %rax
+	shrq	$63, %rsi
+	incq	%rsi
+	xorq	%rcx, %rsi
+	xorq	%rsi, %rax
 	mulq	%rcx
 	addq	%rdx, %rcx
 	xorq	%rcx, %rax
@@ -159,7 +163,7 @@
 	xorq	%rcx, %rax
 	retq
 .Lfunc_end2:
-	ELF_ONLY(.size	"komihash::hash::hash_of_two_words::<=4>", .Lfunc_end2-"komihash::hash::hash_of_two_words::<=4>")
+	ELF_ONLY(.size	"komihash::hash::hash_of_16_bytes::<=4>", .Lfunc_end2-"komihash::hash::hash_of_16_bytes::<=4>")
 	.cfi_endproc
 
 	ELF_ONLY(.section	".text.komihash::hash::hash_of_words::<=4>","ax",@progbits)
@@ -1082,30 +1086,19 @@
 	ELF_ONLY(.size	"komihash::hash::hash_of_one_word::<=5>", .Lfunc_end7-"komihash::hash::hash_of_one_word::<=5>")
 	.cfi_endproc
 
-	ELF_ONLY(.section	".text.komihash::hash::hash_of_two_words::<=5>","ax",@progbits)
+	ELF_ONLY(.section	".text.komihash::hash::hash_of_16_bytes::<=5>","ax",@progbits)
 	.p2align	4
-	ELF_ONLY(.type	"komihash::hash::hash_of_two_words::<=5>",@function)
-"komihash::hash::hash_of_two_words::<=5>":
+	ELF_ONLY(.type	"komihash::hash::hash_of_16_bytes::<=5>",@function)
+"komihash::hash::hash_of_16_bytes::<=5>":
 	.cfi_startproc
-	testb	$7, %sil
-	je	.LBB8_1
-	movq	-8(%rdi,%rsi), %rax
-	shll	$3, %esi
-	movl	$1, %r8d
-	movl	%esi, %ecx
-	shldq	%cl, %rax, %r8
-	jmp	.LBB8_3
-.LBB8_1:
-	movl	$1, %r8d
-.LBB8_3:
-	movabsq	$-6148914691236517206, %rax
-	andq	%rdx, %rax
-	movabsq	$4983270260364809079, %rcx
-	xorq	%rax, %rcx
-	movabsq	$6148914691236517205, %rsi
-	andq	%rdx, %rsi
+	movabsq	$6148914691236517205, %rcx
+	andq	%rsi, %rcx
 	movabsq	$2611923443488327891, %rax
-	xorq	%rsi, %rax
+	xorq	%rcx, %rax
+	movabsq	$-6148914691236517206, %rdx
+	andq	%rsi, %rdx
+	movabsq	$4983270260364809079, %rcx
+	xorq	%rdx, %rcx
 	mulq	%rcx
 	addq	%rdx, %rcx
 	xorq	(%rdi), %rax
@@ -1114,8 +1107,8 @@
 	xorq	%rcx, %rdx
 	mulq	%rdx
 	addq	%rdx, %rcx
-	xorq	%rcx, %r8
-	xorq	%r8, %rax
+	xorq	%rcx, %rax
+	xorq	$1, %rax
 	mulq	%rcx
 	addq	%rdx, %rcx
 	xorq	%rcx, %rax
@@ -1124,7 +1117,7 @@
 	xorq	%rcx, %rax
 	retq
 .Lfunc_end8:
-	ELF_ONLY(.size	"komihash::hash::hash_of_two_words::<=5>", .Lfunc_end8-"komihash::hash::hash_of_two_words::<=5>")
+	ELF_ONLY(.size	"komihash::hash::hash_of_16_bytes::<=5>", .Lfunc_end8-"komihash::hash::hash_of_16_bytes::<=5>")
 	.cfi_endproc
 
 	ELF_ONLY(.section	".text.komihash::hash::hash_of_words::<=5>","ax",@progbits)
@@ -1944,6 +1937,7 @@
 	ELF_ONLY(.type	komihash_v4,@function)
 komihash_v4:
 	.cfi_startproc
+	endbr64
 	cmpq	$7, %rsi
 	ja	.LBB12_3
 	testq	%rsi, %rsi
@@ -1952,8 +1946,11 @@ komihash_v4:
 .LBB12_3:
 	cmpq	$15, %rsi
 	jbe	"komihash::hash::hash_of_one_word::<=4>"
-	cmpq	$23, %rsi
-	jbe	"komihash::hash::hash_of_two_words::<=4>"
+	cmpq	$16, %rsi
+	jne	.LBB12_5
+	movq	%rdx, %rsi
+	jmp	"komihash::hash::hash_of_16_bytes::<=4>"
+.LBB12_5:
 	cmpq	$63, %rsi
 	jbe	"komihash::hash::hash_of_words::<=4>"
 	jmp	"komihash::hash::hash_of_blocks::<=4>"
@@ -1987,6 +1984,7 @@ komihash_v4:
 	ELF_ONLY(.type	komihash_v4_finish,@function)
 komihash_v4_finish:
 	.cfi_startproc
+	endbr64
 	movq	80(%rdi), %rdx
 	movq	88(%rdi), %rcx
 	movq	96(%rdi), %rsi
@@ -2112,6 +2110,7 @@ komihash_v4_finish:
 	ELF_ONLY(.type	komihash_v4_pad,@function)
 komihash_v4_pad:
 	.cfi_startproc
+	endbr64
 	movq	%rsi, %rax
 	shrq	$3, %rax
 	cmpq	%rax, %rcx
@@ -2253,6 +2252,7 @@ komihash_v4_pad:
 	ELF_ONLY(.type	komihash_v4_rand_fill,@function)
 komihash_v4_rand_fill:
 	.cfi_startproc
+	endbr64
 	pushq	%r14
 	.cfi_def_cfa_offset 16
 	pushq	%rbx
@@ -2354,6 +2354,7 @@ komihash_v4_rand_fill:
 	ELF_ONLY(.type	komihash_v4_rand_init,@function)
 komihash_v4_rand_init:
 	.cfi_startproc
+	endbr64
 	movq	%rdi, %rax
 	mulq	%rdi
 	movq	%rdx, %rcx
@@ -2387,6 +2388,7 @@ komihash_v4_rand_init:
 	ELF_ONLY(.type	komihash_v4_rand_init_with_extra_seed,@function)
 komihash_v4_rand_init_with_extra_seed:
 	.cfi_startproc
+	endbr64
 	movq	%rsi, %rax
 	mulq	%rdi
 	movq	%rdx, %rcx
@@ -2420,6 +2422,7 @@ komihash_v4_rand_init_with_extra_seed:
 	ELF_ONLY(.type	komihash_v4_rand_init_words,@function)
 komihash_v4_rand_init_words:
 	.cfi_startproc
+	endbr64
 	movq	%rsi, %rdx
 	movq	%rdi, %rax
 	retq
@@ -2434,6 +2437,7 @@ komihash_v4_rand_init_words:
 	ELF_ONLY(.type	komihash_v4_rand_next,@function)
 komihash_v4_rand_next:
 	.cfi_startproc
+	endbr64
 	movq	8(%rdi), %rcx
 	movq	%rcx, %rax
 	mulq	(%rdi)
@@ -2455,6 +2459,7 @@ komihash_v4_rand_next:
 	ELF_ONLY(.type	komihash_v4_resume,@function)
 komihash_v4_resume:
 	.cfi_startproc
+	endbr64
 	cmpq	$68, %rdx
 	jb	.LBB20_5
 	cmpb	$4, (%rsi)
@@ -2665,6 +2670,7 @@ komihash_v4_resume:
 	ELF_ONLY(.type	komihash_v4_save,@function)
 komihash_v4_save:
 	.cfi_startproc
+	endbr64
 	cmpq	$131, %rdx
 	jae	.LBB21_2
 	xorl	%eax, %eax
@@ -2675,26 +2681,27 @@ komihash_v4_save:
 	movb	$4, (%rsi)
 	movw	%ax, 1(%rsi)
 	movb	%cl, 3(%rsi)
-	movdqu	120(%rdi), %xmm0
-	movdqu	72(%rdi), %xmm1
-	movdqu	104(%rdi), %xmm2
-	movdqu	88(%rdi), %xmm3
-	movq	128(%rdi), %rax
-	movq	112(%rdi), %rcx
-	movq	96(%rdi), %rdx
-	movq	80(%rdi), %r8
-	movdqa	%xmm1, %xmm4
-	punpckhqdq	%xmm3, %xmm1
+	movq	112(%rdi), %rax
+	movups	80(%rdi), %xmm0
+	movups	96(%rdi), %xmm1
+	movq	96(%rdi), %rcx
+	movq	80(%rdi), %rdx
+	movaps	%xmm0, %xmm2
+	unpckhpd	%xmm1, %xmm2
+	movlhps	%xmm1, %xmm0
+	xorps	%xmm2, %xmm0
+	movq	128(%rdi), %r8
+	movdqu	120(%rdi), %xmm1
+	movq	72(%rdi), %xmm2
+	movq	%rax, %xmm3
 	punpcklqdq	%xmm2, %xmm3
-	palignr	$8, %xmm2, %xmm4
-	pxor	%xmm0, %xmm4
-	pxor	%xmm3, %xmm1
-	movdqu	%xmm1, 4(%rsi)
-	movdqu	%xmm4, 20(%rsi)
-	movq	%rdx, 36(%rsi)
-	movq	%rcx, 44(%rsi)
-	movq	%rax, 52(%rsi)
-	movq	%r8, 60(%rsi)
+	pxor	%xmm1, %xmm3
+	movups	%xmm0, 4(%rsi)
+	movdqu	%xmm3, 20(%rsi)
+	movq	%rcx, 36(%rsi)
+	movq	%rax, 44(%rsi)
+	movq	%r8, 52(%rsi)
+	movq	%rdx, 60(%rsi)
 	movq	64(%rdi), %rdx
 	leaq	68(%rsi), %rcx
 	movq	%rdx, %rax
@@ -2746,9 +2753,9 @@ komihash_v4_save:
 	xorl	%r9d, %r9d
 	.p2align	4
 .LBB21_8:
-	movdqu	(%rdi,%r9,8), %xmm0
+	movups	(%rdi,%r9,8), %xmm0
 	movdqu	16(%rdi,%r9,8), %xmm1
-	movdqu	%xmm0, 68(%rsi,%r9,8)
+	movups	%xmm0, 68(%rsi,%r9,8)
 	movdqu	%xmm1, 84(%rsi,%r9,8)
 	addq	$4, %r9
 	cmpq	%r9, %r8
@@ -2793,9 +2800,12 @@ komihash_v4_save:
 	ELF_ONLY(.section	.rodata.cst16,"aM",@progbits,16)
 	.p2align	4, 0x0
 .LCPI22_0:
+	.quad	-3998401319710606252
+	.quad	4577018097722394903
+.LCPI22_1:
 	.quad	1376283091369227076
 	.quad	-4732044268327596948
-.LCPI22_1:
+.LCPI22_2:
 	.quad	1899778990314765756
 	.quad	-4563226453097033507
 	ELF_ONLY(.section	.text.komihash_v4_start,"ax",@progbits)
@@ -2805,41 +2815,41 @@ komihash_v4_save:
 	ELF_ONLY(.type	komihash_v4_start,@function)
 komihash_v4_start:
 	.cfi_startproc
+	endbr64
 	movabsq	$-6148914691236517206, %rax
 	andq	%rsi, %rax
-	movabsq	$4983270260364809079, %rcx
-	xorq	%rax, %rcx
-	movabsq	$6148914691236517205, %rdx
-	andq	%rsi, %rdx
+	movabsq	$4983270260364809079, %r8
+	xorq	%rax, %r8
+	movabsq	$6148914691236517205, %rcx
+	andq	%rsi, %rcx
 	movabsq	$2611923443488327891, %rax
-	xorq	%rdx, %rax
-	mulq	%rcx
-	addq	%rcx, %rdx
-	movabsq	$4577018097722394903, %rcx
-	movabsq	$-3998401319710606252, %rsi
-	xorq	%rax, %rsi
-	movq	%rax, %xmm0
 	xorq	%rcx, %rax
-	xorq	%rdx, %rcx
-	xorps	%xmm1, %xmm1
-	movups	%xmm1, 48(%rdi)
-	movups	%xmm1, 32(%rdi)
-	movups	%xmm1, 16(%rdi)
-	movups	%xmm1, (%rdi)
+	mulq	%r8
+	movq	%rax, %rcx
+	movq	%rdi, %rax
+	addq	%r8, %rdx
+	movabsq	$4577018097722394903, %rsi
+	xorq	%rcx, %rsi
+	xorps	%xmm0, %xmm0
+	movups	%xmm0, 48(%rdi)
+	movups	%xmm0, 32(%rdi)
+	movups	%xmm0, 16(%rdi)
+	movups	%xmm0, (%rdi)
 	movq	$0, 64(%rdi)
-	movq	%rsi, 72(%rdi)
-	movq	%rcx, 80(%rdi)
-	movq	%rax, 88(%rdi)
-	movq	%rdx, 96(%rdi)
+	movq	%rcx, %xmm0
 	movq	%rdx, %xmm1
 	punpcklqdq	%xmm1, %xmm0
 	movdqa	.LCPI22_0(%rip), %xmm1
 	pxor	%xmm0, %xmm1
-	pxor	.LCPI22_1(%rip), %xmm0
-	movdqu	%xmm0, 120(%rdi)
+	movdqu	%xmm1, 72(%rdi)
+	movq	%rsi, 88(%rdi)
+	movq	%rdx, 96(%rdi)
+	movdqa	.LCPI22_1(%rip), %xmm1
+	pxor	%xmm0, %xmm1
+	pxor	.LCPI22_2(%rip), %xmm0
 	movdqu	%xmm1, 104(%rdi)
+	movdqu	%xmm0, 120(%rdi)
 	movq	$0, 136(%rdi)
-	movq	%rdi, %rax
 	retq
 .Lfunc_end22:
 	ELF_ONLY(.size	komihash_v4_start, .Lfunc_end22-komihash_v4_start)
@@ -2852,6 +2862,7 @@ komihash_v4_start:
 	ELF_ONLY(.type	komihash_v4_unpad,@function)
 komihash_v4_unpad:
 	.cfi_startproc
+	endbr64
 	pushq	%r14
 	.cfi_def_cfa_offset 16
 	pushq	%rbx
@@ -3010,6 +3021,7 @@ komihash_v4_unpad:
 	ELF_ONLY(.type	komihash_v4_write,@function)
 komihash_v4_write:
 	.cfi_startproc
+	endbr64
 	movq	64(%rdi), %rax
 	leaq	(%rax,%rdx), %r8
 	cmpq	$63, %r8
@@ -3140,6 +3152,7 @@ komihash_v4_write:
 	ELF_ONLY(.type	komihash_v5,@function)
 komihash_v5:
 	.cfi_startproc
+	endbr64
 	cmpq	$7, %rsi
 	ja	.LBB25_3
 	testq	%rsi, %rsi
@@ -3148,8 +3161,11 @@ komihash_v5:
 .LBB25_3:
 	cmpq	$15, %rsi
 	jbe	"komihash::hash::hash_of_one_word::<=5>"
-	cmpq	$23, %rsi
-	jbe	"komihash::hash::hash_of_two_words::<=5>"
+	cmpq	$16, %rsi
+	jne	.LBB25_5
+	movq	%rdx, %rsi
+	jmp	"komihash::hash::hash_of_16_bytes::<=5>"
+.LBB25_5:
 	cmpq	$63, %rsi
 	jbe	"komihash::hash::hash_of_words::<=5>"
 	jmp	"komihash::hash::hash_of_blocks::<=5>"
@@ -3183,6 +3199,7 @@ komihash_v5:
 	ELF_ONLY(.type	komihash_v5_finish,@function)
 komihash_v5_finish:
 	.cfi_startproc
+	endbr64
 	movq	80(%rdi), %r8
 	movq	88(%rdi), %rdx
 	movq	96(%rdi), %rcx
@@ -3281,6 +3298,7 @@ komihash_v5_finish:
 	ELF_ONLY(.type	komihash_v5_pad,@function)
 komihash_v5_pad:
 	.cfi_startproc
+	endbr64
 	movq	%rsi, %rax
 	shrq	$3, %rax
 	cmpq	%rax, %rcx
@@ -3407,6 +3425,7 @@ komihash_v5_pad:
 	ELF_ONLY(.type	komihash_v5_rand_fill,@function)
 komihash_v5_rand_fill:
 	.cfi_startproc
+	endbr64
 	pushq	%r14
 	.cfi_def_cfa_offset 16
 	pushq	%rbx
@@ -3489,6 +3508,7 @@ komihash_v5_rand_fill:
 	ELF_ONLY(.type	komihash_v5_rand_init,@function)
 komihash_v5_rand_init:
 	.cfi_startproc
+	endbr64
 	movq	%rdi, %rax
 	mulq	%rdi
 	movq	%rdx, %rcx
@@ -3527,6 +3547,7 @@ komihash_v5_rand_init:
 	ELF_ONLY(.type	komihash_v5_rand_init_with_extra_seed,@function)
 komihash_v5_rand_init_with_extra_seed:
 	.cfi_startproc
+	endbr64
 	movq	%rsi, %rax
 	mulq	%rdi
 	movq	%rdx, %rcx
@@ -3565,6 +3586,7 @@ komihash_v5_rand_init_with_extra_seed:
 	ELF_ONLY(.type	komihash_v5_rand_init_words,@function)
 komihash_v5_rand_init_words:
 	.cfi_startproc
+	endbr64
 	movq	%rsi, %rdx
 	movq	%rdi, %rax
 	retq
@@ -3579,6 +3601,7 @@ komihash_v5_rand_init_words:
 	ELF_ONLY(.type	komihash_v5_rand_next,@function)
 komihash_v5_rand_next:
 	.cfi_startproc
+	endbr64
 	movq	8(%rdi), %rcx
 	movq	%rcx, %rax
 	mulq	(%rdi)
@@ -3602,6 +3625,7 @@ komihash_v5_rand_next:
 	ELF_ONLY(.type	komihash_v5_resume,@function)
 komihash_v5_resume:
 	.cfi_startproc
+	endbr64
 	cmpq	$68, %rdx
 	jb	.LBB33_5
 	cmpb	$5, (%rsi)
@@ -3807,6 +3831,7 @@ komihash_v5_resume:
 	ELF_ONLY(.type	komihash_v5_save,@function)
 komihash_v5_save:
 	.cfi_startproc
+	endbr64
 	cmpq	$131, %rdx
 	jae	.LBB34_2
 	xorl	%eax, %eax
@@ -3817,26 +3842,27 @@ komihash_v5_save:
 	movb	$5, (%rsi)
 	movw	%ax, 1(%rsi)
 	movb	%cl, 3(%rsi)
-	movdqu	120(%rdi), %xmm0
-	movdqu	72(%rdi), %xmm1
-	movdqu	104(%rdi), %xmm2
-	movdqu	88(%rdi), %xmm3
-	movq	128(%rdi), %rax
-	movq	112(%rdi), %rcx
-	movq	96(%rdi), %rdx
-	movq	80(%rdi), %r8
-	movdqa	%xmm1, %xmm4
-	punpckhqdq	%xmm3, %xmm1
+	movq	112(%rdi), %rax
+	movups	80(%rdi), %xmm0
+	movups	96(%rdi), %xmm1
+	movq	96(%rdi), %rcx
+	movq	80(%rdi), %rdx
+	movaps	%xmm0, %xmm2
+	unpckhpd	%xmm1, %xmm2
+	movlhps	%xmm1, %xmm0
+	xorps	%xmm2, %xmm0
+	movq	128(%rdi), %r8
+	movdqu	120(%rdi), %xmm1
+	movq	72(%rdi), %xmm2
+	movq	%rax, %xmm3
 	punpcklqdq	%xmm2, %xmm3
-	palignr	$8, %xmm2, %xmm4
-	pxor	%xmm0, %xmm4
-	pxor	%xmm3, %xmm1
-	movdqu	%xmm1, 4(%rsi)
-	movdqu	%xmm4, 20(%rsi)
-	movq	%rdx, 36(%rsi)
-	movq	%rcx, 44(%rsi)
-	movq	%rax, 52(%rsi)
-	movq	%r8, 60(%rsi)
+	pxor	%xmm1, %xmm3
+	movups	%xmm0, 4(%rsi)
+	movdqu	%xmm3, 20(%rsi)
+	movq	%rcx, 36(%rsi)
+	movq	%rax, 44(%rsi)
+	movq	%r8, 52(%rsi)
+	movq	%rdx, 60(%rsi)
 	movq	64(%rdi), %rdx
 	leaq	68(%rsi), %rcx
 	movq	%rdx, %rax
@@ -3888,9 +3914,9 @@ komihash_v5_save:
 	xorl	%r9d, %r9d
 	.p2align	4
 .LBB34_8:
-	movdqu	(%rdi,%r9,8), %xmm0
+	movups	(%rdi,%r9,8), %xmm0
 	movdqu	16(%rdi,%r9,8), %xmm1
-	movdqu	%xmm0, 68(%rsi,%r9,8)
+	movups	%xmm0, 68(%rsi,%r9,8)
 	movdqu	%xmm1, 84(%rsi,%r9,8)
 	addq	$4, %r9
 	cmpq	%r9, %r8
@@ -3935,9 +3961,12 @@ komihash_v5_save:
 	ELF_ONLY(.section	.rodata.cst16,"aM",@progbits,16)
 	.p2align	4, 0x0
 .LCPI35_0:
+	.quad	-3998401319710606252
+	.quad	4577018097722394903
+.LCPI35_1:
 	.quad	1376283091369227076
 	.quad	-4732044268327596948
-.LCPI35_1:
+.LCPI35_2:
 	.quad	1899778990314765756
 	.quad	-4563226453097033507
 	ELF_ONLY(.section	.text.komihash_v5_start,"ax",@progbits)
@@ -3947,41 +3976,41 @@ komihash_v5_save:
 	ELF_ONLY(.type	komihash_v5_start,@function)
 komihash_v5_start:
 	.cfi_startproc
+	endbr64
 	movabsq	$-6148914691236517206, %rax
 	andq	%rsi, %rax
-	movabsq	$4983270260364809079, %rcx
-	xorq	%rax, %rcx
-	movabsq	$6148914691236517205, %rdx
-	andq	%rsi, %rdx
+	movabsq	$4983270260364809079, %r8
+	xorq	%rax, %r8
+	movabsq	$6148914691236517205, %rcx
+	andq	%rsi, %rcx
 	movabsq	$2611923443488327891, %rax
-	xorq	%rdx, %rax
-	mulq	%rcx
-	addq	%rcx, %rdx
-	movabsq	$4577018097722394903, %rcx
-	movabsq	$-3998401319710606252, %rsi
-	xorq	%rax, %rsi
-	movq	%rax, %xmm0
 	xorq	%rcx, %rax
-	xorq	%rdx, %rcx
-	xorps	%xmm1, %xmm1
-	movups	%xmm1, 48(%rdi)
-	movups	%xmm1, 32(%rdi)
-	movups	%xmm1, 16(%rdi)
-	movups	%xmm1, (%rdi)
+	mulq	%r8
+	movq	%rax, %rcx
+	movq	%rdi, %rax
+	addq	%r8, %rdx
+	movabsq	$4577018097722394903, %rsi
+	xorq	%rcx, %rsi
+	xorps	%xmm0, %xmm0
+	movups	%xmm0, 48(%rdi)
+	movups	%xmm0, 32(%rdi)
+	movups	%xmm0, 16(%rdi)
+	movups	%xmm0, (%rdi)
 	movq	$0, 64(%rdi)
-	movq	%rsi, 72(%rdi)
-	movq	%rcx, 80(%rdi)
-	movq	%rax, 88(%rdi)
-	movq	%rdx, 96(%rdi)
+	movq	%rcx, %xmm0
 	movq	%rdx, %xmm1
 	punpcklqdq	%xmm1, %xmm0
 	movdqa	.LCPI35_0(%rip), %xmm1
 	pxor	%xmm0, %xmm1
-	pxor	.LCPI35_1(%rip), %xmm0
-	movdqu	%xmm0, 120(%rdi)
+	movdqu	%xmm1, 72(%rdi)
+	movq	%rsi, 88(%rdi)
+	movq	%rdx, 96(%rdi)
+	movdqa	.LCPI35_1(%rip), %xmm1
+	pxor	%xmm0, %xmm1
+	pxor	.LCPI35_2(%rip), %xmm0
 	movdqu	%xmm1, 104(%rdi)
+	movdqu	%xmm0, 120(%rdi)
 	movq	$0, 136(%rdi)
-	movq	%rdi, %rax
 	retq
 .Lfunc_end35:
 	ELF_ONLY(.size	komihash_v5_start, .Lfunc_end35-komihash_v5_start)
@@ -3994,6 +4023,7 @@ komihash_v5_start:
 	ELF_ONLY(.type	komihash_v5_unpad,@function)
 komihash_v5_unpad:
 	.cfi_startproc
+	endbr64
 	shrq	$3, %rcx
 	movq	$-1, %rax
 	cmpq	%rsi, %rcx
@@ -4144,6 +4174,7 @@ komihash_v5_unpad:
 	ELF_ONLY(.type	komihash_v5_write,@function)
 komihash_v5_write:
 	.cfi_startproc
+	endbr64
 	movq	64(%rdi), %rax
 	leaq	(%rax,%rdx), %r8
 	cmpq	$63, %r8

@@ -15,6 +15,17 @@
 #define ELF_ONLY(...) __VA_ARGS__
 #define WINDOWS_ONLY(...)
 #endif
+	ELF_ONLY(.section	.note.gnu.property,"a",@note)
+	ELF_ONLY(.p2align	3, 0x0)
+	ELF_ONLY(.long	4)
+	ELF_ONLY(.long	16)
+	ELF_ONLY(.long	5)
+	ELF_ONLY(.asciz	"GNU")
+	ELF_ONLY(.long	3221225474)
+	ELF_ONLY(.long	4)
+	ELF_ONLY(.long	3)
+	ELF_ONLY(.p2align	3, 0x0)
+	.text
 	ELF_ONLY(.section	".text.komihash::hash::hash_of_partial_word::<=4>","ax",@progbits)
 	.p2align	4
 	ELF_ONLY(.type	"komihash::hash::hash_of_partial_word::<=4>",@function)
@@ -116,48 +127,42 @@
 	ELF_ONLY(.size	"komihash::hash::hash_of_one_word::<=4>", .Lfunc_end1-"komihash::hash::hash_of_one_word::<=4>")
 	.cfi_endproc
 
-	ELF_ONLY(.section	".text.komihash::hash::hash_of_two_words::<=4>","ax",@progbits)
+	ELF_ONLY(.section	".text.komihash::hash::hash_of_16_bytes::<=4>","ax",@progbits)
 	.p2align	4
-	ELF_ONLY(.type	"komihash::hash::hash_of_two_words::<=4>",@function)
-"komihash::hash::hash_of_two_words::<=4>":
+	ELF_ONLY(.type	"komihash::hash::hash_of_16_bytes::<=4>",@function)
+"komihash::hash::hash_of_16_bytes::<=4>":
 	.cfi_startproc
-	movzbl	-1(%rdi,%rsi), %eax
-	shrl	$7, %eax
-	incq	%rax
-	testb	$7, %sil
-	je	.LBB2_2
-	movq	-8(%rdi,%rsi), %r8
-	shll	$3, %esi
-	movl	%esi, %ecx
-	shldq	%cl, %r8, %rax
-.LBB2_2:
-	movabsq	$-6148914691236517206, %rcx
-	andq	%rdx, %rcx
-	movabsq	$4983270260364809079, %rsi
-	xorq	%rcx, %rsi
-	movabsq	$6148914691236517205, %rcx
-	andq	%rdx, %rcx
+	movabsq	$6148914691236517205, %rax
+	andq	%rsi, %rax
 	movabsq	$2611923443488327891, %rdx
-	xorq	%rcx, %rdx
-	mulxq	%rsi, %rdx, %rcx
-	addq	%rsi, %rcx
-	xorq	(%rdi), %rdx
-	xorq	%rcx, %rdx
-	movq	8(%rdi), %rsi
-	xorq	%rcx, %rsi
-	mulxq	%rsi, %rdx, %rsi
 	xorq	%rax, %rdx
+	movabsq	$-6148914691236517206, %rax
+	andq	%rsi, %rax
+	movabsq	$4983270260364809079, %rcx
+	xorq	%rax, %rcx
+	mulxq	%rcx, %rdx, %rsi
 	addq	%rcx, %rsi
+	movq	8(%rdi), %rax
+	xorq	(%rdi), %rdx
 	xorq	%rsi, %rdx
-	mulxq	%rsi, %rdx, %rcx
-	addq	%rsi, %rcx
+	movq	%rax, %rcx
+	xorq	%rsi, %rcx
+	mulxq	%rcx, %rcx, %rdi
+	addq	%rsi, %rdi
+	shrq	$63, %rax
+	incq	%rax
+	xorq	%rcx, %rax
+	xorq	%rdi, %rax
+	movq	%rax, %rdx
+	mulxq	%rdi, %rdx, %rcx
+	addq	%rdi, %rcx
 	xorq	%rcx, %rdx
 	mulxq	%rcx, %rdx, %rax
 	addq	%rcx, %rax
 	xorq	%rdx, %rax
 	retq
 .Lfunc_end2:
-	ELF_ONLY(.size	"komihash::hash::hash_of_two_words::<=4>", .Lfunc_end2-"komihash::hash::hash_of_two_words::<=4>")
+	ELF_ONLY(.size	"komihash::hash::hash_of_16_bytes::<=4>", .Lfunc_end2-"komihash::hash::hash_of_16_bytes::<=4>")
 	.cfi_endproc
 
 	ELF_ONLY(.section	".text.komihash::hash::hash_of_words::<=4>","ax",@progbits)
@@ -1014,49 +1019,38 @@
 	ELF_ONLY(.size	"komihash::hash::hash_of_one_word::<=5>", .Lfunc_end7-"komihash::hash::hash_of_one_word::<=5>")
 	.cfi_endproc
 
-	ELF_ONLY(.section	".text.komihash::hash::hash_of_two_words::<=5>","ax",@progbits)
+	ELF_ONLY(.section	".text.komihash::hash::hash_of_16_bytes::<=5>","ax",@progbits)
 	.p2align	4
-	ELF_ONLY(.type	"komihash::hash::hash_of_two_words::<=5>",@function)
-"komihash::hash::hash_of_two_words::<=5>":
+	ELF_ONLY(.type	"komihash::hash::hash_of_16_bytes::<=5>",@function)
+"komihash::hash::hash_of_16_bytes::<=5>":
 	.cfi_startproc
-	testb	$7, %sil
-	je	.LBB8_1
-	movq	-8(%rdi,%rsi), %r8
-	shll	$3, %esi
-	movl	$1, %eax
-	movl	%esi, %ecx
-	shldq	%cl, %r8, %rax
-	jmp	.LBB8_3
-.LBB8_1:
-	movl	$1, %eax
-.LBB8_3:
-	movabsq	$-6148914691236517206, %rcx
-	andq	%rdx, %rcx
-	movabsq	$4983270260364809079, %rsi
-	xorq	%rcx, %rsi
-	movabsq	$6148914691236517205, %rcx
-	andq	%rdx, %rcx
+	movabsq	$6148914691236517205, %rax
+	andq	%rsi, %rax
 	movabsq	$2611923443488327891, %rdx
-	xorq	%rcx, %rdx
-	mulxq	%rsi, %rdx, %rcx
-	addq	%rsi, %rcx
-	xorq	(%rdi), %rdx
-	xorq	%rcx, %rdx
-	movq	8(%rdi), %rsi
-	xorq	%rcx, %rsi
-	mulxq	%rsi, %rdx, %rsi
 	xorq	%rax, %rdx
-	addq	%rcx, %rsi
-	xorq	%rsi, %rdx
-	mulxq	%rsi, %rdx, %rcx
-	addq	%rsi, %rcx
-	xorq	%rcx, %rdx
+	movabsq	$-6148914691236517206, %rax
+	andq	%rsi, %rax
+	movabsq	$4983270260364809079, %rcx
+	xorq	%rax, %rcx
 	mulxq	%rcx, %rdx, %rax
 	addq	%rcx, %rax
-	xorq	%rdx, %rax
+	xorq	(%rdi), %rdx
+	xorq	%rax, %rdx
+	movq	8(%rdi), %rcx
+	xorq	%rax, %rcx
+	mulxq	%rcx, %rdx, %rcx
+	addq	%rax, %rcx
+	xorq	%rcx, %rdx
+	xorq	$1, %rdx
+	mulxq	%rcx, %rdx, %rsi
+	addq	%rcx, %rsi
+	xorq	%rsi, %rdx
+	mulxq	%rsi, %rcx, %rax
+	addq	%rsi, %rax
+	xorq	%rcx, %rax
 	retq
 .Lfunc_end8:
-	ELF_ONLY(.size	"komihash::hash::hash_of_two_words::<=5>", .Lfunc_end8-"komihash::hash::hash_of_two_words::<=5>")
+	ELF_ONLY(.size	"komihash::hash::hash_of_16_bytes::<=5>", .Lfunc_end8-"komihash::hash::hash_of_16_bytes::<=5>")
 	.cfi_endproc
 
 	ELF_ONLY(.section	".text.komihash::hash::hash_of_words::<=5>","ax",@progbits)
@@ -1814,6 +1808,7 @@
 	ELF_ONLY(.type	komihash_v4,@function)
 komihash_v4:
 	.cfi_startproc
+	endbr64
 	cmpq	$7, %rsi
 	ja	.LBB12_3
 	testq	%rsi, %rsi
@@ -1822,8 +1817,11 @@ komihash_v4:
 .LBB12_3:
 	cmpq	$15, %rsi
 	jbe	"komihash::hash::hash_of_one_word::<=4>"
-	cmpq	$23, %rsi
-	jbe	"komihash::hash::hash_of_two_words::<=4>"
+	cmpq	$16, %rsi
+	jne	.LBB12_5
+	movq	%rdx, %rsi
+	jmp	"komihash::hash::hash_of_16_bytes::<=4>"
+.LBB12_5:
 	cmpq	$63, %rsi
 	jbe	"komihash::hash::hash_of_words::<=4>"
 	jmp	"komihash::hash::hash_of_blocks::<=4>"
@@ -1858,6 +1856,7 @@ komihash_v4:
 	ELF_ONLY(.type	komihash_v4_finish,@function)
 komihash_v4_finish:
 	.cfi_startproc
+	endbr64
 	movq	80(%rdi), %r8
 	movq	88(%rdi), %rcx
 	movq	96(%rdi), %rax
@@ -1968,6 +1967,7 @@ komihash_v4_finish:
 	ELF_ONLY(.type	komihash_v4_pad,@function)
 komihash_v4_pad:
 	.cfi_startproc
+	endbr64
 	movq	%rsi, %rax
 	shrq	$3, %rax
 	cmpq	%rax, %rcx
@@ -2145,6 +2145,7 @@ komihash_v4_pad:
 	ELF_ONLY(.type	komihash_v4_rand_fill,@function)
 komihash_v4_rand_fill:
 	.cfi_startproc
+	endbr64
 	pushq	%r15
 	.cfi_def_cfa_offset 16
 	pushq	%r14
@@ -2261,6 +2262,7 @@ komihash_v4_rand_fill:
 	ELF_ONLY(.type	komihash_v4_rand_init,@function)
 komihash_v4_rand_init:
 	.cfi_startproc
+	endbr64
 	movq	%rdi, %rdx
 	mulxq	%rdi, %rdx, %rcx
 	movabsq	$-6148914691236517206, %rsi
@@ -2292,6 +2294,7 @@ komihash_v4_rand_init:
 	ELF_ONLY(.type	komihash_v4_rand_init_with_extra_seed,@function)
 komihash_v4_rand_init_with_extra_seed:
 	.cfi_startproc
+	endbr64
 	movq	%rsi, %rdx
 	mulxq	%rdi, %rax, %rcx
 	movabsq	$-6148914691236517206, %rsi
@@ -2324,6 +2327,7 @@ komihash_v4_rand_init_with_extra_seed:
 	ELF_ONLY(.type	komihash_v4_rand_init_words,@function)
 komihash_v4_rand_init_words:
 	.cfi_startproc
+	endbr64
 	movq	%rsi, %rdx
 	movq	%rdi, %rax
 	retq
@@ -2338,6 +2342,7 @@ komihash_v4_rand_init_words:
 	ELF_ONLY(.type	komihash_v4_rand_next,@function)
 komihash_v4_rand_next:
 	.cfi_startproc
+	endbr64
 	movq	8(%rdi), %rdx
 	mulxq	(%rdi), %rax, %rcx
 	movabsq	$-6148914691236517206, %rsi
@@ -2358,6 +2363,7 @@ komihash_v4_rand_next:
 	ELF_ONLY(.type	komihash_v4_resume,@function)
 komihash_v4_resume:
 	.cfi_startproc
+	endbr64
 	cmpq	$68, %rdx
 	jb	.LBB20_5
 	cmpb	$4, (%rsi)
@@ -2535,6 +2541,7 @@ komihash_v4_resume:
 	ELF_ONLY(.type	komihash_v4_save,@function)
 komihash_v4_save:
 	.cfi_startproc
+	endbr64
 	cmpq	$131, %rdx
 	jae	.LBB21_2
 	xorl	%eax, %eax
@@ -2708,6 +2715,7 @@ komihash_v4_save:
 	ELF_ONLY(.type	komihash_v4_start,@function)
 komihash_v4_start:
 	.cfi_startproc
+	endbr64
 	movq	%rdi, %rax
 	movabsq	$-6148914691236517206, %rcx
 	andq	%rsi, %rcx
@@ -2752,6 +2760,7 @@ komihash_v4_start:
 	ELF_ONLY(.type	komihash_v4_unpad,@function)
 komihash_v4_unpad:
 	.cfi_startproc
+	endbr64
 	pushq	%r14
 	.cfi_def_cfa_offset 16
 	pushq	%rbx
@@ -2947,6 +2956,7 @@ komihash_v4_unpad:
 	ELF_ONLY(.type	komihash_v4_write,@function)
 komihash_v4_write:
 	.cfi_startproc
+	endbr64
 	movq	64(%rdi), %rax
 	leaq	(%rax,%rdx), %rcx
 	cmpq	$63, %rcx
@@ -3073,6 +3083,7 @@ komihash_v4_write:
 	ELF_ONLY(.type	komihash_v5,@function)
 komihash_v5:
 	.cfi_startproc
+	endbr64
 	cmpq	$7, %rsi
 	ja	.LBB25_3
 	testq	%rsi, %rsi
@@ -3081,8 +3092,11 @@ komihash_v5:
 .LBB25_3:
 	cmpq	$15, %rsi
 	jbe	"komihash::hash::hash_of_one_word::<=5>"
-	cmpq	$23, %rsi
-	jbe	"komihash::hash::hash_of_two_words::<=5>"
+	cmpq	$16, %rsi
+	jne	.LBB25_5
+	movq	%rdx, %rsi
+	jmp	"komihash::hash::hash_of_16_bytes::<=5>"
+.LBB25_5:
 	cmpq	$63, %rsi
 	jbe	"komihash::hash::hash_of_words::<=5>"
 	jmp	"komihash::hash::hash_of_blocks::<=5>"
@@ -3117,6 +3131,7 @@ komihash_v5:
 	ELF_ONLY(.type	komihash_v5_finish,@function)
 komihash_v5_finish:
 	.cfi_startproc
+	endbr64
 	movq	80(%rdi), %r8
 	movq	88(%rdi), %rcx
 	movq	96(%rdi), %rax
@@ -3212,6 +3227,7 @@ komihash_v5_finish:
 	ELF_ONLY(.type	komihash_v5_pad,@function)
 komihash_v5_pad:
 	.cfi_startproc
+	endbr64
 	movq	%rsi, %rax
 	shrq	$3, %rax
 	cmpq	%rax, %rcx
@@ -3374,6 +3390,7 @@ komihash_v5_pad:
 	ELF_ONLY(.type	komihash_v5_rand_fill,@function)
 komihash_v5_rand_fill:
 	.cfi_startproc
+	endbr64
 	pushq	%r15
 	.cfi_def_cfa_offset 16
 	pushq	%r14
@@ -3479,6 +3496,7 @@ komihash_v5_rand_fill:
 	ELF_ONLY(.type	komihash_v5_rand_init,@function)
 komihash_v5_rand_init:
 	.cfi_startproc
+	endbr64
 	movq	%rdi, %rdx
 	mulxq	%rdi, %rdx, %rax
 	xorq	%rax, %rdx
@@ -3515,6 +3533,7 @@ komihash_v5_rand_init:
 	ELF_ONLY(.type	komihash_v5_rand_init_with_extra_seed,@function)
 komihash_v5_rand_init_with_extra_seed:
 	.cfi_startproc
+	endbr64
 	movq	%rsi, %rdx
 	mulxq	%rdi, %rax, %r8
 	xorq	%r8, %rax
@@ -3552,6 +3571,7 @@ komihash_v5_rand_init_with_extra_seed:
 	ELF_ONLY(.type	komihash_v5_rand_init_words,@function)
 komihash_v5_rand_init_words:
 	.cfi_startproc
+	endbr64
 	movq	%rsi, %rdx
 	movq	%rdi, %rax
 	retq
@@ -3566,6 +3586,7 @@ komihash_v5_rand_init_words:
 	ELF_ONLY(.type	komihash_v5_rand_next,@function)
 komihash_v5_rand_next:
 	.cfi_startproc
+	endbr64
 	movq	8(%rdi), %rdx
 	mulxq	(%rdi), %rsi, %rcx
 	xorq	%rcx, %rsi
@@ -3588,6 +3609,7 @@ komihash_v5_rand_next:
 	ELF_ONLY(.type	komihash_v5_resume,@function)
 komihash_v5_resume:
 	.cfi_startproc
+	endbr64
 	cmpq	$68, %rdx
 	jb	.LBB33_5
 	cmpb	$5, (%rsi)
@@ -3753,6 +3775,7 @@ komihash_v5_resume:
 	ELF_ONLY(.type	komihash_v5_save,@function)
 komihash_v5_save:
 	.cfi_startproc
+	endbr64
 	cmpq	$131, %rdx
 	jae	.LBB34_2
 	xorl	%eax, %eax
@@ -3926,6 +3949,7 @@ komihash_v5_save:
 	ELF_ONLY(.type	komihash_v5_start,@function)
 komihash_v5_start:
 	.cfi_startproc
+	endbr64
 	movq	%rdi, %rax
 	movabsq	$-6148914691236517206, %rcx
 	andq	%rsi, %rcx
@@ -3970,6 +3994,7 @@ komihash_v5_start:
 	ELF_ONLY(.type	komihash_v5_unpad,@function)
 komihash_v5_unpad:
 	.cfi_startproc
+	endbr64
 	shrq	$3, %rcx
 	movq	$-1, %rax
 	cmpq	%rsi, %rcx
@@ -4157,6 +4182,7 @@ komihash_v5_unpad:
 	ELF_ONLY(.type	komihash_v5_write,@function)
 komihash_v5_write:
 	.cfi_startproc
+	endbr64
 	movq	64(%rdi), %rax
 	leaq	(%rax,%rdx), %rcx
 	cmpq	$63, %rcx
