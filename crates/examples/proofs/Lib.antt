@@ -1,1 +1,4 @@
 mod Prefixes
+mod StableNames
+mod Steps
+mod WithoutAnswer

@@ -7,6 +7,7 @@ ghost use Rattle.std.specs.Prelude.{◌≡◌, ◌+◌, ◌++◌, ◌∷◌, [],
 ghost use Rattle.komihash.specs.Calls.{AreAbsorbs, bytes_of_calls, run_products};
 ghost use Rattle.komihash.specs.Counts.{hash_products};
 ghost use Rattle.komihash.specs.Hash.{komi};
+ghost use Rattle.komihash.specs.Stream.{HasAbsorbed};
 ghost use Rattle.komihash.specs.declared.stream.Call.TheVariants.{Absorb, Answer};
 
 use komihash::stream::KomiStream;
@@ -86,6 +87,38 @@ pub fn of_two_widths<S: KomiStream>(a: u32, b: u64, seed: u64, tally: &mut Tally
     stream.absorb(&a.to_le_bytes(), tally);
     stream.absorb(&b.to_le_bytes(), tally);
     stream.answer(tally)
+}
+
+/// Writes two numbers.
+pub fn write_two(stream: &mut StreamedKomihash, a: u64, b: u64)
+    ensures { (seed : ℕ) (m : List ℕ) → HasAbsorbed 5 seed stream.old.state m
+        → HasAbsorbed 5 seed stream.new.state (m ++ to_le_bytes w64 a ++ to_le_bytes w64 b) }
+{
+    stream.write(&a.to_le_bytes());
+    stream.write(&b.to_le_bytes());
+}
+
+/// Writes four numbers.
+pub fn write_four(stream: &mut StreamedKomihash, a: u64, b: u64, c: u64, d: u64)
+    ensures { (seed : ℕ) (m : List ℕ) → HasAbsorbed 5 seed stream.old.state m
+        → HasAbsorbed 5 seed stream.new.state (m ++ to_le_bytes w64 a ++ to_le_bytes w64 b
+        ++ to_le_bytes w64 c ++ to_le_bytes w64 d) }
+{
+    stream.write(&a.to_le_bytes());
+    stream.write(&b.to_le_bytes());
+    stream.write(&c.to_le_bytes());
+    stream.write(&d.to_le_bytes());
+}
+
+/// Hashes what two helpers write.
+pub fn of_six(a: u64, b: u64, c: u64, d: u64, e: u64, f: u64) -> u64
+    ensures { result ≡ komi 5 0 (to_le_bytes w64 a ++ to_le_bytes w64 b ++ to_le_bytes w64 c
+        ++ to_le_bytes w64 d ++ to_le_bytes w64 e ++ to_le_bytes w64 f) }
+{
+    let mut stream = StreamedKomihash::new();
+    write_two(&mut stream, a, b);
+    write_four(&mut stream, c, d, e, f);
+    stream.finish()
 }
 
 /// Hashes two numbers, bytes of any length, and two more numbers.

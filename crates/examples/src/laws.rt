@@ -1,7 +1,10 @@
 //! The laws of the definitions, stated again, as `promises.rt` states the other promises.
 
-ghost use Rattle.std.specs.Prelude.{◌≡◌, ◌+◌, ◌%◌, ◌^◌, ◌<◌, ◌++◌, ◌∷◌, [], ℕ, List, length};
-ghost use Rattle.std.specs.Prelude.{bit_xor, slice_index, ◌≤◌};
+ghost use Rattle.std.specs.Int.{to_le_bytes, w64};
+ghost use Rattle.std.specs.List.{flat_map};
+ghost use Rattle.std.specs.Prelude.{◌≡◌, ◌+◌, ◌-◌, ◌*◌, ◌%◌, ◌^◌, ◌<◌, ◌≤◌, ◌++◌, ◌∷◌, []};
+ghost use Rattle.std.specs.Prelude.{ℕ, List, length, bit_xor, slice_index};
+ghost use Rattle.komihash.specs.Calls.{answers_after, bytes_of_calls};
 ghost use Rattle.komihash.specs.Generator.{next, after_steps, outputs, fill, after_fill};
 ghost use Rattle.komihash.specs.Hash.{komi};
 ghost use Rattle.komihash.specs.Hasher.{number_after};
@@ -10,6 +13,7 @@ ghost use Rattle.komihash.specs.Rounds.{constant, seed_words};
 ghost use Rattle.komihash.specs.Saved.{text, IsTextAfter};
 ghost use Rattle.komihash.specs.Stream.{State, IsState, HasAbsorbed, start, absorb, answer};
 ghost use Rattle.komihash.specs.Words.{AreBytes};
+ghost use Rattle.komihash.specs.declared.stream.Call.{Call};
 
 use komihash::laws;
 
@@ -17,6 +21,9 @@ use komihash::laws;
 pub fn of_messages()
     ensures seed_back { (seed : ℕ) → seed < 2 ^ 64 → bit_xor (bit_xor (seed_words seed).0
         (constant 1)) (bit_xor (seed_words seed).1 (constant 5)) ≡ seed }
+    ensures same_below_64 { (seed : ℕ) (m : List ℕ) → length m < 64
+        → slice_index m (length m - 1) < 128 → komi 4 seed m ≡ komi 5 seed m }
+    ensures same_below_64_empty { (seed : ℕ) → komi 4 seed [] ≡ komi 5 seed [] }
     ensures same_words { (v : ℕ) (x y : List ℕ) → AreBytes x → AreBytes y
         → padded_words v x ≡ padded_words v y → x ≡ y }
     ensures cut { (v : ℕ) (s : State) (x y : List ℕ)
@@ -26,19 +33,42 @@ pub fn of_messages()
     ensures empty_write { (v : ℕ) (s : State) → absorb v s [] ≡ s }
     ensures empty_link { (v number : ℕ) (writes : List (List ℕ))
         → number_after v number ([] ∷ writes) ≡ number_after v (komi v number []) writes }
+    ensures pending_remainder { (v seed : ℕ) (s : State) (m : List ℕ) → HasAbsorbed v seed s m
+        → length s.pending ≡ length m % 64 }
     ensures saved_once { (v w : ℕ) (s t : State) → IsState v s → IsState w t → text v s ≡ text w t
         → (v ≡ w) × (s ≡ t) }
 {
     laws::seed_back();
+    laws::same_below_64();
     laws::same_words();
     laws::cut();
     laws::joined();
     laws::empty_write();
+    laws::pending_remainder();
     laws::saved_once();
+}
+
+/// States the law of lists of calls that are joined. `run_of_calls` of `promises.rt` states the one
+/// of their cost.
+pub fn of_calls()
+    ensures answers { (f : List ℕ → ℕ) (m : List ℕ) (x y : List Call) → answers_after f m (x ++ y)
+        ≡ answers_after f m x ++ answers_after f (m ++ bytes_of_calls x) y }
+    ensures bytes { (x y : List Call)
+        → bytes_of_calls (x ++ y) ≡ bytes_of_calls x ++ bytes_of_calls y }
+{
+    laws::calls_cut();
 }
 
 /// States the laws of generators.
 pub fn of_generators()
+    ensures step { (v n : ℕ) (s : ℕ × ℕ)
+        → outputs v (n + 1) s ≡ outputs v n s ++ (next v (after_steps v n s)).0 ∷ [] }
+    ensures step_pair { (v n : ℕ) (s : ℕ × ℕ)
+        → after_steps v (n + 1) s ≡ next v (after_steps v n s) }
+    ensures fill_of_outputs { (v n : ℕ) (s : ℕ × ℕ) → fill v s (8 * n)
+        ≡ flat_map (λ output. to_le_bytes w64 output) (outputs v n s) }
+    ensures fill_of_outputs_pair { (v n : ℕ) (s : ℕ × ℕ)
+        → after_fill v s (8 * n) ≡ after_steps v n s }
     ensures fill_cut { (v : ℕ) (s : ℕ × ℕ) (x y : ℕ) → x % 8 ≡ 0
         → fill v s (x + y) ≡ fill v s x ++ fill v (after_fill v s x) y }
     ensures fill_cut_pair { (v : ℕ) (s : ℕ × ℕ) (x y : ℕ) → x % 8 ≡ 0
@@ -49,6 +79,8 @@ pub fn of_generators()
         ≡ after_fill v (after_steps v 4 (seed, seed)) n }
     ensures start { (v seed : ℕ) → length (fill v (seed, seed) 32) ≡ 32 }
 {
+    laws::step_by_step();
+    laws::fill_of_outputs();
     laws::fill_cut();
     laws::one_seed();
 }

@@ -2,8 +2,9 @@
 //! alone. If a contract no longer says what a promise needs, this file is no longer proved.
 
 ghost use Rattle.std.specs.Prelude.{◌≡◌, ◌+◌, ◌*◌, ◌/◌, ◌%◌, ◌≤◌, ◌↔◌, ◌⊎◌, ◌++◌, ◌∷◌, []};
-ghost use Rattle.std.specs.Prelude.{ℕ, List, length, take, drop, IfSome, IfNone, IsNone, IsSomeAnd};
-ghost use Rattle.komihash.specs.Calls.{AreAbsorbs, answers, answers_after, onward, bytes_of_calls};
+ghost use Rattle.std.specs.Prelude.{ℕ, List, length, take, drop, Contains};
+ghost use Rattle.std.specs.Prelude.{IfSome, IfNone, IsNone, IsSomeAnd};
+ghost use Rattle.komihash.specs.Calls.{answers, answers_after, onward, bytes_of_calls};
 ghost use Rattle.komihash.specs.Calls.{onward_products, onward_kept_bytes};
 ghost use Rattle.komihash.specs.Calls.{run_products, run_kept_bytes};
 ghost use Rattle.komihash.specs.Counts.{absorb_products, answer_products, absorb_kept_bytes};
@@ -242,6 +243,7 @@ pub fn restored<S: KomiStream>(bytes: &[u8]) -> Option<S>
 
 /// Runs calls on a new stream. Each answer is the hash of the bytes so far. If the last call alone
 /// is an answer, the products depend on the number of bytes alone, and not on the cuts.
+#[tactic(auto, using(crate::proofs::WithoutAnswer::without_answer))]
 pub fn run_of_calls<S: KomiStream>(
     seed: u64,
     calls: &[Call<'_>],
@@ -254,8 +256,9 @@ pub fn run_of_calls<S: KomiStream>(
     ensures rest { drop result out.new ≡ drop result out.old }
     ensures products { tally.new.products ≡ tally.old.products + run_products calls.now }
     ensures kept_bytes { tally.new.kept_bytes ≡ tally.old.kept_bytes + run_kept_bytes calls.now }
-    ensures digest { (pieces : List Call) → AreAbsorbs pieces → calls.now ≡ pieces ++ Answer ∷ []
-        → tally.new.products ≡ tally.old.products + (3 + 4 * (length (bytes_of_calls pieces) / 64)
+    ensures digest { (pieces : List Call) → ¬ Contains pieces Answer
+        → calls.now ≡ pieces ++ Answer ∷ [] → tally.new.products ≡ tally.old.products
+        + (3 + 4 * (length (bytes_of_calls pieces) / 64)
         + length (bytes_of_calls pieces) % 64 / 16) }
 {
     laws::cost_of_pieces();

@@ -1,7 +1,8 @@
 //! What the contracts of callers leave open: that a reader in memory, a list and a map give no
-//! error. The hash is that of the Rust crate `komihash` 0.5.0.
+//! error, and what the toolchain's `Hash` writes. The hash is that of the Rust crate `komihash`
+//! 0.5.0.
 
-use crate::hashed::{Point, put_and_get};
+use crate::hashed::{Point, hash_of, put_and_get};
 use crate::readers::digest_of_reader;
 use crate::stores::Journal;
 use std::alloc::{AllocError, AllocFailed};
@@ -29,6 +30,15 @@ fn a_journal_takes_entries(rt: HostRuntime) -> Result<(), AllocError> {
     journal.append(&MESSAGE[7..])?;
     assert_eq!(rt; journal.digest(), HASH);
     Ok(())
+}
+
+// The items are written one by one. The Rust crate, which takes all bytes of an array or a slice at
+// once, gives 5718353593097478880.
+#[test]
+fn an_array_is_hashed_item_by_item(rt: HostRuntime) {
+    let bytes = [1u8, 2, 3];
+    assert_eq!(rt; hash_of(&bytes), 10_855_883_765_187_448_465);
+    assert_eq!(rt; hash_of(&bytes.as_slice()), 10_855_883_765_187_448_465);
 }
 
 #[test]

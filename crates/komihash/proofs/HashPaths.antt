@@ -1,6 +1,6 @@
 -- The hash of a message: what its rounds make of the words, then its hash by its length, in a form
 -- for each path of `src/hash.rt`.
-use Rattle.std.proofs.Common.{◌≡◌, ℕ, zero, suc, ◌+◌, ◌*◌, ◌/◌, ◌%◌, ◌<◌, ◌≤◌, true, false}
+use Rattle.std.proofs.Common.{◌≡◌, ℕ, zero, suc, ◌+◌, ◌-◌, ◌*◌, ◌/◌, ◌%◌, ◌<◌, ◌≤◌, true, false}
 use Rattle.std.proofs.Common.{List, [], ◌∷◌, ◌++◌, length, take, drop, refl, arith, ◌∙◌}
 use native.Mathlib.Numerals.{unary_clauses}
 use Rattle.std.proofs.lemmas.List.{drop-drop}
@@ -14,6 +14,7 @@ use Rattle.komihash.specs.Words.{word_of}
 use Rattle.komihash.proofs.Blocks.{after_words-whole_words, length-after_blocks}
 use Rattle.komihash.specs.Padding.{padding_byte}
 use Rattle.komihash.proofs.PaddedWords.{padding_or_zero-some, padded_words-by_tail}
+use Rattle.komihash.proofs.PaddedWords.{final_word_whole}
 use Rattle.komihash.proofs.WholeWords.{length-whole_words, whole_words-few}
 
 -- a pair round takes two words that are followed by the final word
@@ -126,12 +127,25 @@ unfolding komi
 komi_empty v seed [] none = refl
 komi_empty v seed (b ∷ m) none = absurd (omega arith)
 
+-- ---- two versions: they pad with the same byte after a byte below 128
+
+padding_or_zero-same : (m : List ℕ) → slice_index m (length m - 1) < 128
+    → padding_or_zero 4 m ≡ padding_or_zero 5 m
+padding_or_zero-same [] low = refl
+padding_or_zero-same (b ∷ m) low = grind arith
+
+pub komi-same_below_64 : (seed : ℕ) (m : List ℕ) → length m < 64
+    → slice_index m (length m - 1) < 128 → komi 4 seed m ≡ komi 5 seed m
+komi-same_below_64 seed m few low =
+    rw (komi_few 4 seed m few, komi_few 5 seed m few, padding_or_zero-same m low) refl
+
 -- what the proofs of `src/hash.rt` need
 pub ruleset hash_laws = (
   komi_empty,
   komi_partial_word,
   komi_one_word,
   komi_two_words,
+  final_word_whole,
   komi_short,
   komi_long,
   komi_blocks,

@@ -9,9 +9,10 @@ use Rattle.komihash.proofs.Unpadding.{same_message}
 use Rattle.komihash.proofs.SavedTexts.{same_version, same_state, IsTextAfter-most}
 use Rattle.komihash.proofs.Streams.{absorb-append, absorb-nothing, answer-joined}
 use Rattle.komihash.proofs.Streams.{same_state_after, same_text_after}
+use Rattle.komihash.proofs.HashPaths.{komi-same_below_64}
 use Rattle.komihash.proofs.HashWords.{komi-lt}
 
-pub ruleset of_hashes = (komi-lt, fold-append)
+pub ruleset of_hashes = (komi-lt, komi-same_below_64, fold-append)
 
 pub ruleset of_streams = (
   absorb-append,

@@ -39,22 +39,22 @@ fn hash_of_one_word<const V: u8>(bytes: &[u8], seed: u64, tally: &mut Tally) -> 
     close(pair, read_word(bytes), final_word, tally)
 }
 
+// Apart from the function below, because keys often have 16 bytes.
 #[inline(never)]
-fn hash_of_two_words<const V: u8>(bytes: &[u8], seed: u64, tally: &mut Tally) -> u64
-    requires least { 16 ≤ length bytes.now }
-    requires most { length bytes.now < 24 }
+fn hash_of_16_bytes<const V: u8>(bytes: &[u8], seed: u64, tally: &mut Tally) -> u64
+    requires { length bytes.now ≡ 16 }
     ensures hash { result ≡ komi V seed bytes.now }
     ensures costs { Costs tally (hash_products (length bytes.now)) 0 }
 {
     let pair = seed_pair(seed, tally);
-    let final_word = final_word_by_branch(bytes, padding_byte::<V>(bytes));
     let pair = pair_round(pair, read_word(bytes), word_at(bytes, 8), tally);
-    close(pair, final_word, 0, tally)
+    close(pair, padding_byte::<V>(bytes), 0, tally)
 }
 
+// Shifts for the final word: where lengths vary, a processor can't guess a branch.
 #[inline(never)]
 fn hash_of_words<const V: u8>(bytes: &[u8], seed: u64, tally: &mut Tally) -> u64
-    requires least { 24 ≤ length bytes.now }
+    requires least { 16 < length bytes.now }
     requires most { length bytes.now < 64 }
     ensures hash { result ≡ komi V seed bytes.now }
     ensures costs { Costs tally (hash_products (length bytes.now)) 0 }
@@ -64,6 +64,7 @@ fn hash_of_words<const V: u8>(bytes: &[u8], seed: u64, tally: &mut Tally) -> u64
     hash_from_pair(pair, &bytes, last_whole_word(bytes), final_word, tally)
 }
 
+// Branches for the final word: long messages are often whole words, which a shift makes slower.
 #[inline(never)]
 fn hash_of_blocks<const V: u8>(bytes: &[u8], seed: u64, tally: &mut Tally) -> u64
     requires { 64 ≤ length bytes.now }
@@ -96,8 +97,8 @@ pub(crate) fn hash_message<const V: u8>(bytes: &[u8], seed: u64, tally: &mut Tal
         hash_of_partial_word::<V>(bytes, seed, tally)
     } else if bytes.len() < 16 {
         hash_of_one_word::<V>(bytes, seed, tally)
-    } else if bytes.len() < 24 {
-        hash_of_two_words::<V>(bytes, seed, tally)
+    } else if bytes.len() == 16 {
+        hash_of_16_bytes::<V>(bytes, seed, tally)
     } else if bytes.len() < 64 {
         hash_of_words::<V>(bytes, seed, tally)
     } else {

@@ -46,7 +46,7 @@ pub(crate) fn final_word_by_shift(bytes: &[u8], end: u64) -> u64
 }
 
 /// Returns the final word of eight or more bytes. If these are whole words, that is `end`, and
-/// nothing is read, which makes long messages faster.
+/// nothing is read.
 #[inline(always)]
 #[tactic(auto, using(crate::proofs::PaddedWords::final_word_whole))]
 pub(crate) fn final_word_by_branch(bytes: &[u8], end: u64) -> u64

@@ -150,6 +150,9 @@ fn answers_after_every_byte(rt: HostRuntime) {
     let mut out = [9; 200];
     let count = run::<Five>(0, &calls, &mut out, &mut Tally::new());
     assert_answers(&rt, count, &out, &answers);
+    assert_eq!(rt; out[63], BLOCK_HASH);
+    assert_eq!(rt; &out[79..94], [0; 15].as_slice());
+    assert_eq!(rt; out[94], 6);
 }
 
 // Saves a stream and resumes it.

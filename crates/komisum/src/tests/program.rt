@@ -1,22 +1,29 @@
 //! What arguments ask for, lines of inputs, what a fault leaves, and the lines on standard error.
 
-ghost use Rattle.std.specs.Prelude.{◌≡◌, ◌↔◌, ◌+◌, ◌^◌, ◌<◌, ◌≤◌};
-ghost use Rattle.std.specs.Prelude.{true, false, OnOk, IfSome};
-ghost use Rattle.std.specs.Io.KnownBytes.{Appends, IsAtEnd};
-ghost use Rattle.komisum.specs.Program.{hash_line};
-ghost use Rattle.komisum.specs.Watched.{AppendsPrefix, Takes};
+ghost use Rattle.std.specs.Prelude.{◌≡◌, ◌≢◌, ◌↔◌, ℕ, ◌+◌, ◌^◌, ◌<◌, ◌≤◌};
+ghost use Rattle.std.specs.Prelude.{⊤, true, false, List, length, take, map, string_bytes};
+ghost use Rattle.std.specs.Prelude.{OnOk, IfOk, IsErr, IsOkAnd, IfSome, MatchResult};
+ghost use Rattle.std.specs.Io.KnownBytes.{Appends, Consumes, IsAtEnd};
+ghost use Rattle.std.specs.IoError.{error_kind};
+ghost use Rattle.std.specs.Option.{ok_or};
+ghost use Rattle.std.specs.Process.{exit_status};
+ghost use Rattle.std.specs.Vec.Iter.{into_iter_items};
+ghost use Rattle.komisum.specs.Ending.{line_of, status_of};
+ghost use Rattle.komisum.specs.Program.{Shows, hash_line};
+ghost use Rattle.komisum.specs.Settings.{refusal_of, settings_of};
 
 use super::fakes::{Calls, ERRORS, FakeReader, FakeWriter};
 use super::{BLOCK_MESSAGE, HIGH_END, ZERO};
 use crate::digest::hex_line;
-use crate::ending::Ending::{self, Failed, Refused};
+use crate::ending::Ending::{self, Failed, Refused, Shown};
 use crate::ending::report;
 use crate::faults::{Fault, Refusal};
-use crate::program::show;
-use crate::settings::{Version, settings};
+use crate::program::{run, show};
+use crate::settings::{Version, settings, settings_from_args};
 use crate::watched::Watched;
 use komihash::v5;
-use std::io::{Read, Write};
+use std::env::Args;
+use std::io::{self, ErrorKind, Read, Write};
 use std::process::{Abort, ExitCode};
 
 #[test]
@@ -52,24 +59,74 @@ fn shown_as_promised<R: Read, W: Write>(
     requires reader { reader.old.failed ≡ false }
     requires writer { writer.old.failed ≡ false }
     ensures read { (result ≡ Err Fault.Read) ↔ (reader.new.failed ≡ true) }
-    ensures too_long { Takes R.remaining reader.old reader.new (λ taken.
-        (result ≡ Err Fault.TooLong) ↔ ((reader.new.failed ≡ false) × (2 ^ 40 < taken))) }
+    ensures too_long { IfSome (R.remaining reader.old.inner) (λ _. (bytes : List ℕ)
+        × Consumes (R.remaining reader.old.inner) (R.remaining reader.new.inner) bytes
+        × ((result ≡ Err Fault.TooLong)
+        ↔ ((reader.new.failed ≡ false) × (2 ^ 40 < length bytes)))) }
     ensures write { (result ≡ Err Fault.Write) ↔ (writer.new.failed ≡ true) }
     ensures all { OnOk result (IsAtEnd (R.remaining reader.new.inner)) }
     ensures all_before { result ≡ Err Fault.Write → IsAtEnd (R.remaining reader.new.inner) }
-    ensures bound { Takes R.remaining reader.old reader.new (λ taken. taken ≤ 2 ^ 40 + 4096) }
+    ensures bound { IfSome (R.remaining reader.old.inner) (λ _. (bytes : List ℕ)
+        × Consumes (R.remaining reader.old.inner) (R.remaining reader.new.inner) bytes
+        × (length bytes ≤ 2 ^ 40 + 4096)) }
     ensures read_bound { result ≡ Err Fault.Read
-        → Takes R.remaining reader.old reader.new (λ taken. taken ≤ 2 ^ 40) }
+        → IfSome (R.remaining reader.old.inner) (λ _. (bytes : List ℕ)
+        × Consumes (R.remaining reader.old.inner) (R.remaining reader.new.inner) bytes
+        × (length bytes ≤ 2 ^ 40)) }
     ensures line { OnOk result (IfSome (R.remaining reader.old.inner) (λ bytes.
         Appends (W.contents writer.old.inner) (W.contents writer.new.inner)
         (hash_line version seed bytes))) }
     ensures partial { result ≡ Err Fault.Write → IfSome (R.remaining reader.old.inner) (λ bytes.
-        AppendsPrefix (W.contents writer.old.inner) (W.contents writer.new.inner)
-        (hash_line version seed bytes)) }
+        (n : ℕ) × Appends (W.contents writer.old.inner) (W.contents writer.new.inner)
+        (take n (hash_line version seed bytes))) }
     ensures read_unwritten { result ≡ Err Fault.Read → writer.new ≡ writer.old }
     ensures too_long_unwritten { result ≡ Err Fault.TooLong → writer.new ≡ writer.old }
 {
     show(reader, writer, version, seed)
+}
+
+// Does what `run` does, and states again when it shows and when it refuses.
+fn ran_as_promised<R: Read, W: Write>(
+    asked: Result<(Version, u64), Refusal>,
+    input: &mut io::Result<Watched<R>>,
+    output: &mut Watched<W>,
+) -> Ending
+    requires input { IfOk input.old (λ reader. reader.failed ≡ false) }
+    requires output { output.old.failed ≡ false }
+    ensures shows { IfOk input.old (λ old. IsOkAnd input.new (λ new. MatchResult asked
+        (λ settings. Shows settings.0 settings.1 result R.remaining old new
+        W.contents output.old output.new)
+        (λ refusal. (result ≡ Ending.Refused refusal) × (new ≡ old)
+        × (output.new ≡ output.old)))) }
+    ensures begun { IfOk input.old (λ _. MatchResult asked
+        (λ _. (refusal : Refusal) → result ≢ Ending.Refused refusal) (λ _. ⊤)) }
+    ensures no_buffer { IsErr input.old → (result ≡ Ending.Refused Refusal.NoMemory)
+        × (input.new ≡ input.old) × (output.new ≡ output.old) }
+{
+    run(asked, input, output)
+}
+
+// Does what `settings_from_args` does, and states its promise again.
+fn asked_as_promised(given: io::Result<Args>) -> Result<(Version, u64), Refusal>
+    ensures { MatchResult given
+        (λ arguments. result
+        ≡ ok_or (settings_of (map string_bytes (into_iter_items arguments))) Refusal.Usage)
+        (λ error. result ≡ Err (refusal_of (error_kind error))) }
+{
+    settings_from_args(given)
+}
+
+// Does what `report` does, and states its promises again.
+fn reported_as_promised<W: Write>(errors: &mut Watched<W>, ending: &Ending) -> ExitCode
+    requires { errors.old.failed ≡ false }
+    ensures status { exit_status result ≡ status_of ending.now }
+    ensures line { errors.new.failed ≡ false → Appends (W.contents errors.old.inner)
+        (W.contents errors.new.inner) (line_of ending.now) }
+    ensures partial { (n : ℕ) × Appends (W.contents errors.old.inner)
+        (W.contents errors.new.inner) (take n (line_of ending.now)) }
+    ensures silent { ending.now ≡ Ending.Shown → errors.new ≡ errors.old }
+{
+    report(errors, ending)
 }
 
 // Calls `show` on fakes. Returns its result, the number of reads and the writer.
@@ -158,10 +215,34 @@ fn writes_and_flushes_that_fail(rt: HostRuntime) {
     }
 }
 
+// Runs the program on `ZERO`, or on an input that has no buffer. Returns how it ends, and the
+// writer.
+fn ran(asked: Result<(Version, u64), Refusal>, buffer: io::Result<()>) -> (Ending, FakeWriter) {
+    let mut input = buffer.map(|()| Watched::new(FakeReader::new(ZERO, Calls::endless(16))));
+    let mut output = Watched::new(FakeWriter::new(Calls::endless(17)));
+    let ending = ran_as_promised(asked, &mut input, &mut output);
+    (ending, output.into_inner())
+}
+
+#[test]
+fn runs_as_asked(rt: HostRuntime) {
+    let (ending, writer) = ran(Ok((Version::Five, 0)), Ok(()));
+    assert!(rt; matches!(ending, Shown));
+    assert_eq!(rt; writer.taken(), b"0000000000000000\n".as_slice());
+    let asked = asked_as_promised(Err(ErrorKind::InvalidInput.into()));
+    let (ending, writer) = ran(asked, Ok(()));
+    assert!(rt; matches!(ending, Refused(Refusal::Usage)) && writer.calls.made == 0);
+    let asked = asked_as_promised(Err(ErrorKind::OutOfMemory.into()));
+    let (ending, writer) = ran(asked, Ok(()));
+    assert!(rt; matches!(ending, Refused(Refusal::NoMemory)) && writer.calls.made == 0);
+    let (ending, writer) = ran(Ok((Version::Five, 0)), Err(ErrorKind::OutOfMemory.into()));
+    assert!(rt; matches!(ending, Refused(Refusal::NoMemory)) && writer.calls.made == 0);
+}
+
 // Compares the line of an ending on standard error, which is one write, and the status.
 fn reports(rt: &impl Abort, ending: Ending, line: &[u8], status: u8) {
     let mut errors = Watched::new(FakeWriter::new(Calls::endless(usize::MAX)));
-    assert!(rt; report(&mut errors, &ending) == ExitCode::from(status));
+    assert!(rt; reported_as_promised(&mut errors, &ending) == ExitCode::from(status));
     let errors = errors.into_inner();
     assert_eq!(rt; errors.taken(), line);
     assert_eq!(rt; errors.calls.made, 1);

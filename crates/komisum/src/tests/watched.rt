@@ -1,9 +1,28 @@
 //! Calls through a watched reader or writer return what the inner one returns.
 
+ghost use Rattle.std.specs.Prelude.{◌≡◌, false};
+
 use super::ZERO;
 use super::fakes::{Calls, ERRORS, FakeReader, FakeWriter};
 use crate::watched::Watched;
 use std::io::{Read, Result, Write};
+
+// Wraps a reader or a writer, and states again what the calls that call nothing promise.
+fn wrapped_as_promised<T: Drop>(inner: T) -> (bool, T)
+    ensures failed { result.0 ≡ false }
+    ensures inner { result.1 ≡ inner }
+{
+    let watched = Watched::new(inner);
+    (watched.failed(), watched.into_inner())
+}
+
+#[test]
+fn gives_back_what_it_wraps(rt: HostRuntime) {
+    assert_eq!(rt;
+        wrapped_as_promised(ZERO.as_slice()),
+        (false, ZERO.as_slice())
+    );
+}
 
 // Returns the number of the system's error.
 fn error_of(returned: Result<usize>) -> Option<i32> {

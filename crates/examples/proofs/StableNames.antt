@@ -1,0 +1,173 @@
+-- The names of `komihash` that the contracts and proofs of callers may cite, with their arguments,
+-- file by file, and then the records with their fields. The change that takes one away, or changes
+-- its arguments, fails here, and needs a new first number of the version.
+use Rattle.std.specs.Prelude.{ℕ, Bool, true, List, [], ◌∷◌, Option, ◌≡◌, ◌↔◌, ◌<◌, ◌+◌, ◌/◌}
+use Rattle.std.specs.Prelude.{length, take, drop}
+use Rattle.std.specs.Prelude.{IfSome, IfNone, IsSomeAnd, IsNone}
+use Rattle.examples.specs.Promises.{StartPromise, AbsorbPromise, AnswerPromise}
+use Rattle.examples.specs.Promises.{StorePromise, RestorePromise}
+use Rattle.komihash.specs.Borrows.{Mut}
+use Rattle.komihash.specs.Calls.{answers_after, answers, onward, bytes_of_calls, AreAbsorbs}
+use Rattle.komihash.specs.Calls.{products_of_answers, onward_products, onward_kept_bytes}
+use Rattle.komihash.specs.Calls.{run_products, run_kept_bytes}
+use Rattle.komihash.specs.Counts.{hash_products, answer_products, absorb_products}
+use Rattle.komihash.specs.Counts.{absorb_kept_bytes, Costs}
+use Rattle.komihash.specs.Generator.{next, after_steps, outputs, fill_steps, fill, after_fill}
+use Rattle.komihash.specs.Hash.{komi, hash_from_lanes, hash_from_pair}
+use Rattle.komihash.specs.Hasher.{number_after}
+use Rattle.komihash.specs.Padding.{pads_with_two, padding_after, padding_byte, padded_bytes}
+use Rattle.komihash.specs.Padding.{padded_words, ArePadded, Padded, Unpadded}
+use Rattle.komihash.specs.Rounds.{fraction_of_pi, constant, low, high, plus, mix, seed_words}
+use Rattle.komihash.specs.Rounds.{seed_pair, Lanes, in_order, lanes, places, block_round_by}
+use Rattle.komihash.specs.Rounds.{block_round, join, pair_round, mix_again, closing}
+use Rattle.komihash.specs.Saved.{lanes_at, pending_at, longest_text, flag_byte, head, text}
+use Rattle.komihash.specs.Saved.{IsText, IsTextAfter, Stored, Restored}
+use Rattle.komihash.specs.Stream.{State, start, absorb_byte, absorb, HasAbsorbed}
+use Rattle.komihash.specs.Stream.{end_after_blocks, tail_of, answer, IsState, StateOf}
+use Rattle.komihash.specs.Stream.{Started, Absorbed, Answered}
+use Rattle.komihash.specs.Words.{AreBytes, AreWords, word_of, words_of, all_bytes}
+use Rattle.komihash.specs.declared.stream.Call.{Call}
+use Rattle.komihash.specs.declared.tally.Tally.{Tally}
+
+words_and_bytes : (List ℕ → ℕ) × (List ℕ → List ℕ) × (List ℕ → List ℕ)
+words_and_bytes = (word_of, words_of, all_bytes)
+
+are_words : (List ℕ → Type 0) × (List ℕ → Type 0)
+are_words = (AreBytes, AreWords)
+
+padding : (ℕ → ℕ → Bool) × (Bool → ℕ) × (ℕ → List ℕ → ℕ) × (ℕ → List ℕ → List ℕ)
+padding = (pads_with_two, padding_after, padding_byte, padded_bytes)
+
+padded : (ℕ → List ℕ → List ℕ) × (ℕ → List ℕ → Type 0)
+padded = (padded_words, ArePadded)
+
+constants : List ℕ × (ℕ → ℕ) × (ℕ → ℕ) × (ℕ → ℕ) × (ℕ → ℕ → ℕ)
+constants = (fraction_of_pi, constant, low, high, plus)
+
+seeds : (ℕ → ℕ → ℕ → ℕ × ℕ) × (ℕ → ℕ × ℕ) × (ℕ → ℕ × ℕ) × (ℕ × ℕ → Lanes)
+seeds = (mix, seed_words, seed_pair, lanes)
+
+lanes_as_list : (Lanes → List ℕ) × (List ℕ → Lanes → List ℕ → Lanes)
+lanes_as_list = (in_order, block_round_by)
+
+blocks : (ℕ → List ℕ) × (ℕ → Lanes → List ℕ → Lanes) × (Bool → Lanes → ℕ × ℕ)
+blocks = (places, block_round, join)
+
+pairs : (ℕ × ℕ → ℕ → ℕ → ℕ × ℕ) × (ℕ × ℕ → ℕ) × (ℕ × ℕ → List ℕ → ℕ)
+pairs = (pair_round, mix_again, closing)
+
+hashes : (ℕ → ℕ → List ℕ → ℕ) × (ℕ → Lanes → Bool → List ℕ → ℕ) × (ℕ × ℕ → List ℕ → ℕ)
+hashes = (komi, hash_from_lanes, hash_from_pair)
+
+hasher : ℕ → ℕ → List (List ℕ) → ℕ
+hasher = number_after
+
+generator : (ℕ → ℕ × ℕ → ℕ × ℕ) × (ℕ → ℕ → ℕ × ℕ → ℕ × ℕ) × (ℕ → ℕ → ℕ × ℕ → List ℕ)
+generator = (next, after_steps, outputs)
+
+fills : (ℕ → ℕ) × (ℕ → ℕ × ℕ → ℕ → List ℕ) × (ℕ → ℕ × ℕ → ℕ → ℕ × ℕ)
+fills = (fill_steps, fill, after_fill)
+
+streams : (ℕ → State) × (ℕ → State → ℕ → State) × (ℕ → State → List ℕ → State)
+streams = (start, absorb_byte, absorb)
+
+ends : (Bool → Bool → ℕ) × (ℕ → List ℕ → Bool → Bool → List ℕ) × (ℕ → State → ℕ)
+ends = (end_after_blocks, tail_of, answer)
+
+texts : ℕ × ℕ × ℕ × (Bool → ℕ) × (ℕ → State → List ℕ) × (ℕ → State → List ℕ)
+texts = (lanes_at, pending_at, longest_text, flag_byte, head, text)
+
+after_a_message : (ℕ → ℕ → State → List ℕ → Type 0) × (ℕ → ℕ → List ℕ → List ℕ → Type 0)
+after_a_message = (HasAbsorbed, IsTextAfter)
+
+are_texts : ℕ → List ℕ → Type 0
+are_texts = IsText
+
+calls : ((List ℕ → ℕ) → List ℕ → List Call → List ℕ) × (ℕ → ℕ → List Call → List ℕ)
+calls = (answers_after, answers)
+
+further_calls : (ℕ → State → List Call → List ℕ) × (List Call → List ℕ) × (List Call → Type 0)
+further_calls = (onward, bytes_of_calls, AreAbsorbs)
+
+costs : (ℕ → ℕ) × (ℕ → ℕ) × (ℕ → ℕ → ℕ) × (ℕ → ℕ → ℕ)
+costs = (hash_products, answer_products, absorb_products, absorb_kept_bytes)
+
+costs_of_calls : (ℕ → List Call → ℕ) × (ℕ → List Call → ℕ) × (ℕ → List Call → ℕ)
+costs_of_calls = (products_of_answers, onward_products, onward_kept_bytes)
+
+costs_of_runs : (List Call → ℕ) × (List Call → ℕ)
+costs_of_runs = (run_products, run_kept_bytes)
+
+-- ---- records, by each of their fields
+
+lanes_record : Lanes → List ℕ
+lanes_record s = s.s1 ∷ s.s2 ∷ s.s3 ∷ s.s4 ∷ s.s5 ∷ s.s6 ∷ s.s7 ∷ s.s8 ∷ []
+
+state : (s : Lanes) (m : List ℕ) (had_block top_bit : Bool) → State
+state s m had_block top_bit =
+    record { lanes = s; pending = m; had_block = had_block; top_bit = top_bit }
+
+state_of : (v : ℕ) (s : StateOf v) → IsState v s.state
+state_of v s = s.is_state
+
+is_state : (v : ℕ) (s : State) → IsState v s
+    → AreWords (in_order s.lanes) × AreBytes s.pending × (length s.pending < 64)
+is_state v s is = (is.words, is.bytes, is.few)
+
+top_bit : (v : ℕ) (s : State) → IsState v s → s.top_bit ≡ true
+    → (s.had_block ≡ true) × (v ≡ 4)
+top_bit v s is set = (is.top_bit_block set, is.top_bit_version set)
+
+started : (v seed : ℕ) (s : State) → Started v seed s → StartPromise v seed s
+started v seed s is = record { state = is.state; message = is.message }
+
+absorbed : {A : Type 0} (v : ℕ) (view : A → State) (stream : Mut A) (bytes : List ℕ)
+    → Absorbed v view stream bytes → AbsorbPromise v view stream bytes
+absorbed v view stream bytes is = record { state = is.state; message = is.message }
+
+answered : (v : ℕ) (s : State) (n : ℕ) → Answered v s n → AnswerPromise v s n
+answered v s n is = record { state = is.answer; message = is.hash }
+
+stored : (v : ℕ) (s : State) (out : Mut (List ℕ)) (n : ℕ) → Stored v s out n
+    → StorePromise v s n out
+stored v s out n is = record {
+  count = is.length;
+  most = is.most;
+  saved = is.text;
+  message = is.message;
+  rest = is.rest;
+}
+
+restored : {A : Type 0} (v : ℕ) (view : A → State) (bytes : List ℕ) (result : Option A)
+    → Restored v view bytes result → RestorePromise A view v bytes result
+restored v view bytes result is = record {
+  saved = is.text;
+  most = is.most;
+  same = is.same;
+  message = is.message;
+  none = is.none;
+}
+
+padded_out : (v : ℕ) (bytes : List ℕ) (out : Mut (List ℕ)) (n : ℕ) → Padded v bytes out n
+    → (n ≡ length bytes / 8 + 1) × (take n out.exit.now ≡ padded_words v bytes)
+    × (drop n out.exit.now ≡ drop n out.entry.now)
+padded_out v bytes out n is = (is.count, is.padded, is.rest)
+
+unpadded : (v : ℕ) (words m : List ℕ) (out : Mut (List ℕ)) (result : Option ℕ)
+    → Unpadded v words out result
+    → IfSome result (λ n. padded_words v (take n out.exit.now) ≡ words)
+    × (AreBytes m → padded_words v m ≡ words → IsSomeAnd result (λ n. take n out.exit.now ≡ m))
+    × (IsNone result ↔ ¬ ArePadded v words)
+unpadded v words m out result is = (is.message, is.same m, is.none)
+
+unpadded_rest : (v : ℕ) (words : List ℕ) (out : Mut (List ℕ)) (result : Option ℕ)
+    → Unpadded v words out result
+    → IfSome result (λ n. drop n out.exit.now ≡ drop n out.entry.now)
+    × IfSome result (λ n. n / 8 + 1 ≡ length words)
+    × IfNone result (out.exit.now ≡ out.entry.now)
+unpadded_rest v words out result is = (is.rest, is.length, is.unchanged)
+
+raised : (tally : Mut Tally) (n k : ℕ) → Costs tally n k
+    → (tally.exit.now.products ≡ tally.entry.now.products + n)
+    × (tally.exit.now.kept_bytes ≡ tally.entry.now.kept_bytes + k)
+raised tally n k is = (is.products, is.kept_bytes)
