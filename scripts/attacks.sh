@@ -27,15 +27,15 @@ refused() {
     local kind name
     read -r _ kind name < <(cat "$1".*)
     echo "${told[$1]}"
-    sed -z 's/\n  / /g' <<< "${told[$1]}" | grep -E "^(\./)?(src|proofs)/$1\b" |
+    sed -z 's/\n  / /g' <<< "${told[$1]}" | grep -E "^(note: )?(\./)?(src|proofs)/$1\b" |
         grep -F "$kind:" | grep "\`[^\`]*\b$name\b"
 }
 
-# Errors in names hide those in methods, and both hide those in proofs, so what a check refuses is
-# taken out before the next.
+# Errors in names hide those in bounds, these hide those in methods, and all hide those in proofs,
+# so what a check refuses is taken out before the next.
 declare -A told
 attacks=$(printf '%s\n' *_* | sed 's/\..*//' | uniq)
-for errors_in in names methods proofs; do
+for errors_in in names bounds methods proofs; do
     output=$(check)
     for attack in $attacks; do
         ls "$above"/*/"$attack".* > "$scratch/case" 2>&1 || continue

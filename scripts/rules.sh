@@ -1,14 +1,17 @@
 #!/usr/bin/env bash
 # Checks by reading what no contract of `komihash` says: it counts the lines of code that match a
-# pattern, file by file, without lines that have a contract or the head of a function. A reader must
-# see what stands in such a line, a product that is made of sums or shifts, and what an alias hides.
+# pattern, file by file, without contracts and the heads of functions. A reader must see what stands
+# in such a line, a product that is made of sums or shifts, and what an alias hides.
 set -u
 cd "$(dirname "$0")/../crates/komihash/src" || exit 1
 . ../../../c/cases.sh
-code=$(find . -name '*.rt' ! -path '*/tests*' | LC_ALL=C sort | xargs grep '' |
-    sed 's|//.*||; s/\b8 \* //g' |
-    grep -vE '≡|\.(now|old)\b|: *(pub(\(crate\))? )?(ghost|fn|requires|ensures|#!?\[tactic) ')
-makers='Tally::new|(Hash|Hasher|Komihash|Komirand|Self)::|\b(restore|read_pending)\b'
+code=$(find . -name '*.rt' ! -path '*/tests*' | LC_ALL=C sort | xargs awk '
+    { sub("//.*", "") }
+    /^ *(pub(\(crate\))? )?(ghost|requires|ensures) / { clause = 1 }
+    clause { depth += gsub(/[{]/, "") - gsub(/[}]/, ""); clause = depth > 0; next }
+    !/^ *((pub(\(crate\))? )?fn |#!?\[tactic)/ { print FILENAME ":" $0 }' |
+    sed -E 's/(^|\.\.|[^.[:alnum:]_])8 \* /\1/g')
+makers='Tally>*::new|(Hash|Hasher|Komihash|Komirand|Self)(<[^:]*>)?>*::|\b(restore|read_pending)\b'
 makers+='|\b(komihash|init\w*|next|default|resume|\w*seed)\('
 
 # counted_lines PATTERN FILE:LINES..: whether just these files have lines that match, and so many.

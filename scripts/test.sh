@@ -1,11 +1,13 @@
 #!/usr/bin/env bash
 # Runs every proof and test: the rules for sources and documents, which take seconds, `rt ci`, and
 # the tests of the built program and of the library for C, whose assembly is made anew. That library
-# is tested as its package is unpacked, with nothing beside it. These tests need none of the other
-# parts, so they run beside them, on what those leave of the processors.
+# and the crate for Rust are tested as their packages are unpacked, with nothing beside them. These
+# tests need none of the other parts, so they run beside them, on what those leave of the
+# processors.
 #
 # The last line is 'N passed, M failed', the sum of all parts, with ', K skipped' if a tool is
-# missing; lines above it say which. With REQUIRE_ALL=1 in the environment, skipped is failed.
+# missing; lines above it say which. With REQUIRE_ALL=1 in the environment, skipped is failed, but
+# for the Rust crate, whose folder KOMIHASH_CRATE names.
 set -uo pipefail
 cd "$(dirname "$0")/.." || exit 1
 . c/cases.sh
@@ -32,17 +34,66 @@ unpack() {
         cmp "$scratch"/komihash_rattle-*.tar.gz "$scratch"/komihash_rattle-*/out/*.tar.gz
 }
 check_package() { make -C "$scratch"/komihash_rattle-*/ --no-print-directory check "$@"; }
-# Verifies the build that every processor can run, which `shared` names alone, and tests the check.
-verify_package() {
-    local python
+# The Python that can run c/verify.
+python_for_verify() {
     for python in python3 /usr/bin/python3; do
-        "$python" -c 'import capstone, elftools, z3' 2> /dev/null || continue
-        "$python" scripts/values.py && bash c/verify/edits.sh "$python" x86_64 &&
-            make -C "$scratch"/komihash_rattle-*/ --no-print-directory verify PYTHON="$python" \
-                MUTANTS=30 shared=libkomihash_rattle.so.1
-        return
+        "$python" -c 'import capstone, z3' 2> /dev/null && return
     done
-    skip 'the machine code of the library for C' 'Python with z3, capstone and pyelftools'
+    skip "$1" 'Python with z3 and capstone'
+    counted
+    false
+}
+# Verifies the build that every processor can run, which `shared` names alone, and tests the check
+# by flipping bits.
+verify_package() {
+    python_for_verify 'the machine code of the library for C' &&
+        make -C "$scratch"/komihash_rattle-*/ --no-print-directory verify PYTHON="$python" \
+            MUTANTS=30 shared=libkomihash_rattle.so.1
+}
+test_verify() {
+    local tests=c/verify/tests libraries=()
+    python_for_verify 'attacks on the check of the machine code' || return 0
+    for file in "$scratch"/komihash_rattle-*/out/{,*/,*/*/}*.so.1; do
+        case $file in
+            */x86-64-v3/*) libraries+=("x86-64-v3:$file") ;;
+            */aarch64*/*) libraries+=("armv8-a:$file") ;;
+            *) libraries+=("x86-64:$file") ;;
+        esac
+    done
+    scratch=$(mktemp -d -p "$scratch")
+    run_case 'the definition gives the values of a page' "$python" scripts/values.py
+    run_case 'edits of the assembly are refused' bash $tests/edits.sh "$python" x86_64
+    run_case 'only right forms of code are followed' bash $tests/forms.sh "$python"
+    run_case 'edits of files are refused' "$python" -B $tests/attacks.py "${libraries[@]}"
+    counted
+}
+# Verifies a build of the Rust crate, of which the writes that complete no block are tried in part.
+verify_original() {
+    if [ -z "${KOMIHASH_CRATE:-}" ]; then
+        skip 'the machine code of the Rust crate' 'folder KOMIHASH_CRATE'
+        counted
+    else
+        BUILDS=x86-64-v2:3 bash compare/run.sh original --every 40
+    fi
+}
+# Whether a program can have the library for C, or another version, beside the crate for Rust.
+own_symbols() {
+    ! nm "$CARGO_TARGET_DIR"/debug/libkomihash_rattle.rlib | grep ' [Tt] ' | grep -v komihash_rattle
+}
+# Packs the crate for Rust, and tests it as it is unpacked, also for the processor that runs here.
+check_crate() {
+    local folder=$scratch/crate
+    if ! command -v cargo; then
+        skip 'the crate for Rust' cargo
+    else
+        export CARGO_TARGET_DIR=$folder
+        run_case 'the crate for Rust is packed' cargo package --offline --allow-dirty --no-verify
+        cd "$folder/package" && tar -xzf *.crate && cd komihash_rattle-*/
+        run_case 'the crate for Rust' cargo test --offline
+        run_case 'the crate for Rust has symbols of its own' own_symbols
+        RUSTFLAGS='-C target-cpu=native' run_case 'the crate for Rust, for this processor' \
+            cargo test --offline --release --tests
+    fi
     counted
 }
 check_cross() { # PREFIX EMULATOR: with a cross compiler
@@ -66,8 +117,8 @@ all_refused() {
 export PATH="$PATH:/usr/lib/wine" WINEPREFIX="$scratch/wine" WINEDEBUG=-all
 export WINEDLLOVERRIDES='mscoree,mshtml='
 
-package_parts=(check_package 'check_cross x86_64-w64-mingw32- wine64'
-    'check_cross aarch64-linux-gnu- qemu-aarch64' verify_package)
+package_parts=(check_package check_crate 'check_cross x86_64-w64-mingw32- wine64'
+    'check_cross aarch64-linux-gnu- qemu-aarch64' verify_package test_verify verify_original)
 run_case 'the package of the library for C is made again from itself' unpack
 (
     renice -n 19 "$BASHPID" > /dev/null
@@ -85,6 +136,9 @@ else
     echo 'FAILED: the parts that need these were not run'
 fi
 wait
-for name in "${package_parts[@]}"; do part told_by $name; done
+for name in "${package_parts[@]}"; do
+    [ "$name${KOMIHASH_CRATE:-}" != verify_original ] || REQUIRE_ALL=
+    part told_by $name
+done
 grep '^skipped: ' "$scratch/told"
 counted
