@@ -1,5 +1,5 @@
 #!/usr/bin/env bash
-# Writes the assembly of the crate komihash_rattle into a folder: assembly.sh FOLDER. Needs the
+# Writes the assembly of the crate komihash_c into a folder: assembly.sh FOLDER. Needs the
 # Rattle kit, whose compiler proves the crate before it makes anything of it.
 set -euo pipefail
 folder=$(realpath -m "$1")
@@ -7,7 +7,7 @@ rt=$(command -v rt) || { echo 'assembly.sh: there is no rt, the Rattle kit' >&2;
 kit=$(dirname "$(dirname "$(readlink -f "$rt")")")
 scratch=$(mktemp -d)
 trap 'rm -rf "$scratch"' EXIT
-cd "$(dirname "${BASH_SOURCE[0]}")/../crates/komihash_rattle"
+cd "$(dirname "${BASH_SOURCE[0]}")/../crates/komihash_c"
 
 # The kit's toolchain, whose clang here edits the module that it gets, and also writes the assembly.
 # - The module adds 4096 to a null pointer, which takes instructions. The edit adds 0: where a
@@ -50,7 +50,7 @@ chmod +x "$scratch/bin/clang"
 # Prints the assembly for a processor, which flags name, under a head that says what made it, and
 # without the lines `.aeabi_`, which repeat the note, and which older assemblers refuse.
 assembly_for() {
-    "$kit/bin/rattle" build --crate-name komihash_rattle src/lib.rt --crate-type staticlib \
+    "$kit/bin/rattle" build --crate-name komihash_c src/lib.rt --crate-type staticlib \
         --extern "std=$kit/rlibs/std.rlib" -L "dependency=$kit/rlibs" \
         --extern komihash=../komihash/out/rlib/komihash.rlib -L dependency=../komihash/out/rlib \
         --antt-project "$kit/rattle/logic/antt-project.json" --logic-built "$kit/logic_built" \
@@ -60,7 +60,7 @@ assembly_for() {
 /* SPDX-License-Identifier: MIT
  * Copyright (c) 2026 the authors of komihash_rattle
  *
- * \`make assembly\` made this file from the proved crate komihash_rattle. Do not edit it.
+ * \`make assembly\` made this file from the proved crate komihash_c. Do not edit it.
  * The flags are those of rt. A kit has its commit and its compiler in the file WHAT.
  * flags $*
 $(sed -n 's/.*\.ident.*"rattle logic=\([0-9a-f]*\)".*/ * logic \1/p' "$scratch/module.s")

@@ -74,10 +74,10 @@ extern "C" {
 /* The room that `save` needs: the length of the longest saved text. */
 #define KOMIHASH_LONGEST_TEXT 131
 
-/* A stream of each version. Only `start` and `resume` make one: {0} is none. It may be copied by
- * assignment, and each copy then goes on by itself. Only the calls below change a stream: after any
- * other change, they may return wrong hashes and access memory outside of it. So store or send its
- * saved text and not the stream itself: `resume` checks the text. */
+/* A stream of each version. Only `start` and `resume` make one: `= {0}` doesn't. It may be copied
+ * by assignment, and each copy then goes on by itself. Only the calls below change a stream: after
+ * any other change, they may return wrong hashes and access memory outside of it. So store or send
+ * its saved text and not the stream itself: `resume` checks the text. */
 typedef struct { uint64_t state[18]; } komihash_v4_stream;
 typedef struct { uint64_t state[18]; } komihash_v5_stream;
 

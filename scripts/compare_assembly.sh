@@ -13,7 +13,7 @@ compiler_of() { sed -nE '1,/\*\// s/^ \* (commit|compiler) .*/&/p' "$1"; }
 # Whether the types of the header have the sizes that the crate proves: size TYPE FILE prints one.
 size() {
     sed -n "s/^const _: () = prove!(size_of::<$1>() == \(.*\));/\1/p" \
-        "../crates/komihash_rattle/src/$2.rt"
+        "../crates/komihash_c/src/$2.rt"
 }
 sizes() {
     for number in 4 5; do

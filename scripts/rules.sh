@@ -31,5 +31,5 @@ run_case 'whoever is passed a tally makes none, and calls nobody who makes one' 
     generator.rt:9 hasher.rt:2 stream/raw.rt:1 stream/saved.rt:1 stream/streamed.rt:7 \
     v4.rt:1 v5.rt:1
 run_case 'v4.rt and v5.rt of the library differ in the number alone' twins .
-run_case 'v4.rt and v5.rt of the library for C do so too' twins ../../komihash_rattle/src
+run_case 'v4.rt and v5.rt of the library for C do so too' twins ../../komihash_c/src
 counted

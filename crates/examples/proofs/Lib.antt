@@ -1,4 +1,2 @@
 mod Prefixes
-mod StableNames
 mod Steps
-mod WithoutAnswer

@@ -1,2 +1,1 @@
 pub mod Profiles
-pub mod Promises

@@ -1,16 +1,13 @@
-//! Callers of `komihash`, one file for each subject, and its promises as a caller proves them.
+//! Callers of `komihash`, one file for each subject.
 #![tactic(auto)]
 
-pub mod by_search;
 pub mod call_lists;
 pub mod checkpoints;
 pub mod costs;
 pub mod hashed;
 pub mod known;
-pub mod laws;
 pub mod lists;
 pub mod pieces;
-pub mod promises;
 pub mod random;
 pub mod readers;
 pub mod samples;

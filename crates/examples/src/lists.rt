@@ -1,4 +1,4 @@
-//! Lists, strings and records. A helper that writes a value has the contract of `write`.
+//! Numbers, lists, strings and records. A helper that writes a value has the contract of `write`.
 
 ghost use Rattle.std.specs.Prelude.{◌≡◌, ◌<◌, ◌^◌, ◌++◌, ℕ, List, length};
 ghost use Rattle.std.specs.Int.{to_le_bytes, w64};
@@ -8,6 +8,16 @@ ghost use Rattle.komihash.specs.Stream.{HasAbsorbed};
 ghost use Rattle.examples.specs.Profiles.{bytes_of_numbers, bytes_of_profile, bytes_of_text};
 
 use komihash::StreamedKomihash;
+
+/// Hashes two numbers.
+pub fn hash_of_two(left: u64, right: u64) -> u64
+    ensures { result ≡ komi 5 0 (to_le_bytes w64 left ++ to_le_bytes w64 right) }
+{
+    let mut stream = StreamedKomihash::new();
+    stream.write(&left.to_le_bytes());
+    stream.write(&right.to_le_bytes());
+    stream.finish()
+}
 
 /// Hashes a list of numbers, eight bytes each, the lowest first.
 pub fn hash_of_numbers(numbers: &[u64]) -> u64

@@ -4,8 +4,8 @@
 use Rattle.std.specs.Prelude.{ℕ, Bool, true, List, [], ◌∷◌, Option, ◌≡◌, ◌↔◌, ◌<◌, ◌+◌, ◌/◌}
 use Rattle.std.specs.Prelude.{length, take, drop}
 use Rattle.std.specs.Prelude.{IfSome, IfNone, IsSomeAnd, IsNone}
-use Rattle.examples.specs.Promises.{StartPromise, AbsorbPromise, AnswerPromise}
-use Rattle.examples.specs.Promises.{StorePromise, RestorePromise}
+use Rattle.promises.specs.Promises.{StartPromise, AbsorbPromise, AnswerPromise}
+use Rattle.promises.specs.Promises.{StorePromise, RestorePromise}
 use Rattle.komihash.specs.Borrows.{Mut}
 use Rattle.komihash.specs.Calls.{answers_after, answers, onward, bytes_of_calls, AreAbsorbs}
 use Rattle.komihash.specs.Calls.{products_of_answers, onward_products, onward_kept_bytes}

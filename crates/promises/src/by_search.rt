@@ -1,5 +1,4 @@
-//! Callers that write numbers, and need no proof of their own. If a change to a contract stops one
-//! of them from being proved, the contract says less to callers than before.
+//! Callers that write numbers, and need no proof of their own.
 
 ghost use Rattle.std.specs.Borrow.{Bor};
 ghost use Rattle.std.specs.Int.{to_le_bytes, w16, w32, w64};
@@ -13,16 +12,6 @@ ghost use Rattle.komihash.specs.declared.stream.Call.TheVariants.{Absorb, Answer
 use komihash::stream::KomiStream;
 use komihash::tally::Tally;
 use komihash::{StreamedKomihash, komihash, laws};
-
-/// Hashes two numbers.
-pub fn hash_of_two(left: u64, right: u64) -> u64
-    ensures { result ≡ komi 5 0 (to_le_bytes w64 left ++ to_le_bytes w64 right) }
-{
-    let mut stream = StreamedKomihash::new();
-    stream.write(&left.to_le_bytes());
-    stream.write(&right.to_le_bytes());
-    stream.finish()
-}
 
 /// Hashes four numbers.
 pub fn of_four(a: u64, b: u64, c: u64, d: u64) -> u64

@@ -1,4 +1,4 @@
-//! The laws of the definitions, stated again, as `promises.rt` states the other promises.
+//! The laws of the definitions.
 
 ghost use Rattle.std.specs.Int.{to_le_bytes, w64};
 ghost use Rattle.std.specs.List.{flat_map};
@@ -48,8 +48,8 @@ pub fn of_messages()
     laws::saved_once();
 }
 
-/// States the law of lists of calls that are joined. `run_of_calls` of `promises.rt` states the one
-/// of their cost.
+/// States the law of lists of calls that are joined. `calls::run_of_calls` states the one of their
+/// cost.
 pub fn of_calls()
     ensures answers { (f : List ℕ → ℕ) (m : List ℕ) (x y : List Call) → answers_after f m (x ++ y)
         ≡ answers_after f m x ++ answers_after f (m ++ bytes_of_calls x) y }

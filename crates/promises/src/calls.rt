@@ -1,5 +1,4 @@
-//! The promises of `komihash` in both versions, stated again and proved from its public contracts
-//! alone. If a contract no longer says what a promise needs, this file is no longer proved.
+//! The promises of the calls of both versions.
 
 ghost use Rattle.std.specs.Prelude.{◌≡◌, ◌+◌, ◌*◌, ◌/◌, ◌%◌, ◌≤◌, ◌↔◌, ◌⊎◌, ◌++◌, ◌∷◌, []};
 ghost use Rattle.std.specs.Prelude.{ℕ, List, length, take, drop, Contains};
@@ -15,8 +14,8 @@ ghost use Rattle.komihash.specs.Stream.{IsState, HasAbsorbed};
 ghost use Rattle.komihash.specs.Words.{AreBytes};
 ghost use Rattle.komihash.specs.declared.stream.Call.{Call};
 ghost use Rattle.komihash.specs.declared.stream.Call.TheVariants.{Answer};
-ghost use Rattle.examples.specs.Promises.{StartPromise, AbsorbPromise, AnswerPromise};
-ghost use Rattle.examples.specs.Promises.{StorePromise, RestorePromise};
+ghost use Rattle.promises.specs.Promises.{StartPromise, AbsorbPromise, AnswerPromise};
+ghost use Rattle.promises.specs.Promises.{StorePromise, RestorePromise};
 
 use komihash::stream::{Call, KomiStream, LONGEST_TEXT, run, run_on};
 use komihash::tally::Tally;

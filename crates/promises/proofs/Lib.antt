@@ -1,0 +1,2 @@
+mod StableNames
+mod WithoutAnswer

@@ -1,0 +1,7 @@
+//! The promises of `komihash`, proved by a caller from its public contracts alone. If a contract no
+//! longer says what a promise needs, this crate is no longer proved.
+#![tactic(auto)]
+
+pub mod by_search;
+pub mod calls;
+pub mod laws;
