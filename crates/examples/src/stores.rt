@@ -14,6 +14,7 @@ use std::alloc::{AllocError, Global};
 pub struct Journal {
     pub bytes: Vec<u8>,
     stream: StreamedKomihash,
+    // Takes no memory. The lemma shows that there is at most one proof of this.
     ghost known: { HasAbsorbed 5 0 stream.state bytes.items } by { HasAbsorbed-prop _ _ _ _ },
 }
 
