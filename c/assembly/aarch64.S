@@ -1,7 +1,7 @@
 /* SPDX-License-Identifier: MIT
  * Copyright (c) 2026 the authors of komihash_rattle
  *
- * `make assembly` made this file from the proved crate komihash_rattle. Do not edit it.
+ * `make assembly` made this file from the proved crate komihash_c. Do not edit it.
  * The flags are those of rt. A kit has its commit and its compiler in the file WHAT.
  * flags --target aarch64-unknown-linux-gnu
  * logic dac8208d650f15bf3e2dc313a14fa4c783a3acf887bdfab66e1714b038d9e11b
