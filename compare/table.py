@@ -15,7 +15,7 @@ import statistics
 import sys
 
 HERE = pathlib.Path(__file__).resolve().parent
-BOLD_BELOW = 0.97
+BOLD_BELOW = 0.97  # as the pages say
 
 
 def read(files):
@@ -82,7 +82,7 @@ def rewrite(name, pattern, make):
 
 
 def rewrite_pages(times, measured):
-    """Makes all tables and the picture anew. README's tables keep their rows."""
+    """Makes all tables and the picture anew. Tables keep their columns, and README's their rows."""
 
     def table_anew(match):
         heads, _, *lines = (line.strip("| ").split(" | ") for line in match[0].splitlines())
