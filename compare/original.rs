@@ -20,57 +20,37 @@ fn panic(_: &core::panic::PanicInfo) -> ! {
     loop {}
 }
 
+/// Exports functions, each by the end of its name, its arguments and result, and its body.
+macro_rules! functions {
+    ($name:literal: $($end:literal($($argument:ident: $of:ty),*) -> $result:ty = $body:expr;)*) => {
+        $(const _: () = {
+            #[export_name = concat!($name, $end)]
+            unsafe extern "C" fn function($($argument: $of),*) -> $result {
+                $body
+            }
+        };)*
+    };
+}
+
 macro_rules! export {
     ($name:literal, $version:ident, $size:literal) => {
         mod $version {
             use super::*;
-            use komihash::$version::{komihash, Komirand, StreamedKomihash};
+            use komihash::$version::{komihash, Komirand, StreamedKomihash as Stream};
 
-            const _: () = assert!(size_of::<StreamedKomihash>() == $size);
-
-            #[export_name = $name]
-            unsafe extern "C" fn hash(bytes: *const u8, length: usize, seed: u64) -> u64 {
-                komihash(from_raw_parts(bytes, length), seed)
-            }
-
-            #[export_name = concat!($name, "_start")]
-            extern "C" fn start(seed: u64) -> StreamedKomihash {
-                StreamedKomihash::new_with_seed(seed)
-            }
-
-            #[export_name = concat!($name, "_write")]
-            unsafe extern "C" fn write(s: &mut StreamedKomihash, bytes: *const u8, length: usize) {
-                s.write(from_raw_parts(bytes, length))
-            }
-
-            #[export_name = concat!($name, "_finish")]
-            extern "C" fn finish(s: &StreamedKomihash) -> u64 {
-                s.finish()
-            }
-
-            #[export_name = concat!($name, "_rand_init")]
-            extern "C" fn init(seed: u64) -> Komirand {
-                Komirand::init(seed)
-            }
-
-            #[export_name = concat!($name, "_rand_init_with_extra_seed")]
-            extern "C" fn init_with_extra_seed(s1: u64, s2: u64) -> Komirand {
-                Komirand::init_with_extra_seed(s1, s2)
-            }
-
-            #[export_name = concat!($name, "_rand_init_words")]
-            extern "C" fn new(s1: u64, s2: u64) -> Komirand {
-                Komirand::new(s1, s2)
-            }
-
-            #[export_name = concat!($name, "_rand_next")]
-            extern "C" fn next(r: &mut Komirand) -> u64 {
-                r.next()
-            }
-
-            #[export_name = concat!($name, "_rand_fill")]
-            unsafe extern "C" fn fill(r: &mut Komirand, out: *mut u8, length: usize) {
-                r.fill_bytes(from_raw_parts_mut(out, length))
+            const _: () = assert!(size_of::<Stream>() == $size);
+            functions! { $name:
+                ""(s: *const u8, n: usize, seed: u64) -> u64 = komihash(from_raw_parts(s, n), seed);
+                "_start"(seed: u64) -> Stream = Stream::new_with_seed(seed);
+                "_write"(to: &mut Stream, s: *const u8, n: usize) -> () = to.write(from_raw_parts(s, n));
+                "_finish"(stream: &Stream) -> u64 = stream.finish();
+                "_rand_init"(seed: u64) -> Komirand = Komirand::init(seed);
+                "_rand_init_with_extra_seed"(x: u64, y: u64) -> Komirand
+                    = Komirand::init_with_extra_seed(x, y);
+                "_rand_init_words"(x: u64, y: u64) -> Komirand = Komirand::new(x, y);
+                "_rand_next"(rand: &mut Komirand) -> u64 = rand.next();
+                "_rand_fill"(rand: &mut Komirand, out: *mut u8, n: usize) -> ()
+                    = rand.fill_bytes(from_raw_parts_mut(out, n));
             }
         }
     };

@@ -53,11 +53,19 @@ if [ "$1" != bench ]; then
     build_driver 1
     exec "$out/driver-1" "$@"
 fi
-files=()
-for layout in $(seq "${LAYOUTS:-8}"); do
+repeats=${2:-61} layouts=${LAYOUTS:-8} files=()
+for ((layout = 1; layout <= layouts; layout++)); do
     echo "Layout $layout" >&2
     build_driver "$layout"
-    "$out/driver-$layout" bench "${2:-61}" "${3:-}" > "$out/$layout.tsv"
+    "$out/driver-$layout" bench "$repeats" "${3:-}" > "$out/$layout.tsv"
     files+=("$out/$layout.tsv")
 done
-./table.py "${2:-61}" "${3:-}" "${files[@]}"
+
+# Where and when it was measured.
+cpu() { LC_ALL=C lscpu | sed -n "s/^$1: *//p"; }
+changes=$(git status --porcelain -- ../c driver run.sh)
+here="$(cpu 'Model name') (family $(cpu 'CPU family'), model $(cpu Model)), $(cpu 'CPU(s)') CPUs;"
+here+=" commit $(git rev-parse --short HEAD)${changes:+ and changes}, $(date -I);"
+here+=" $(rustc --version | cut -d ' ' -f -2); $("${CC:-cc}" --version | sed -n 1p);"
+here+=$(dpkg-query -Wf ' ${Package} ${Version};' libxxhash-dev libwyhash-dev 2> /dev/null || true)
+./table.py "$here $layouts layouts, $repeats repeats" "${3:-}" "${files[@]}"

@@ -1,10 +1,8 @@
 //! Compares the calls of the library with those of the Rust crate, which has no saved texts and no
 //! padded words. c/verify shows what these do, and what the builds for other processors do.
 use crate::random::Random;
-use std::fmt::Debug;
+use std::fmt::{Arguments, Debug};
 use std::iter;
-
-type Comparison = Result<(), String>;
 
 const SEEDS: [u64; 5] = [0, 1, u64::MAX, 0x5555_5555_5555_5555, 0x0123_4567_89ab_cdef];
 
@@ -59,23 +57,18 @@ struct Both {
     got: Side,
 }
 
-/// Compares every message of a small set, and random inputs. Returns the first difference.
-pub fn run(seed: u64, count: u64) -> Comparison {
+/// Compares every message of a small set, and random inputs. Panics at the first difference.
+pub fn run(seed: u64, count: u64) {
     let versions = [
         Both { name: "version 5", wanted: side!(komihash::v5), got: side!(komihash_rattle::v5) },
         Both { name: "version 4", wanted: side!(komihash::v4), got: side!(komihash_rattle::v4) },
     ];
     for both in versions {
         let mut random = Random(seed);
-        both.edges()
-            .and_then(|_| (0..count).try_for_each(|_| both.random(&mut random)))
-            .map_err(|difference| format!("{}: {difference}", both.name))?;
+        both.edges();
+        (0..count).for_each(|_| both.random(&mut random));
     }
-    Ok(())
-}
-
-fn same<T: PartialEq + Debug>(wanted: T, got: T) -> Comparison {
-    if wanted == got { Ok(()) } else { Err(format!("wanted {wanted:x?}, got {got:x?}")) }
+    println!("There is no difference.");
 }
 
 /// Returns a message whose blocks end in bytes below 128 and above.
@@ -121,43 +114,45 @@ impl Random {
 }
 
 impl Both {
+    fn compare<T: PartialEq + Debug>(&self, call: impl Fn(&Side) -> T, inputs: Arguments) {
+        let (wanted, got) = (call(&self.wanted), call(&self.got));
+        assert!(wanted == got, "{}: wanted {wanted:x?}, got {got:x?}\n{inputs}", self.name);
+    }
+
+    fn message(&self, bytes: &[u8], pieces: &[usize], seed: u64) {
+        let inputs = format_args!("seed {seed:#x}, pieces {pieces:?}, message {bytes:x?}");
+        self.compare(|side| (side.hashes)(bytes, pieces, seed), inputs);
+    }
+
     /// Compares messages that are cut twice, that have one bit, and that have each last byte.
-    fn edges(&self) -> Comparison {
+    fn edges(&self) {
         for length in 0..=260 {
             let bytes = pattern(length);
             let cuts = (0..=length).flat_map(|it| (0..=it).map(move |first| (first, it - first)));
             for (first, second) in cuts {
                 let pieces = [first, second, length - first - second];
-                self.message(&bytes, &pieces, SEEDS[second % 5])?;
+                self.message(&bytes, &pieces, SEEDS[second % 5]);
             }
             for bit in 0..8 * length {
                 let mut bytes = vec![0; length];
                 bytes[bit / 8] = 1 << (bit % 8);
-                self.message(&bytes, &[length], SEEDS[bit % 5])?;
+                self.message(&bytes, &[length], SEEDS[bit % 5]);
             }
             for last in 0..=255 {
-                self.message(&[&bytes[..], &[last]].concat(), &[length + 1], SEEDS[length % 5])?;
+                self.message(&[&bytes[..], &[last]].concat(), &[length + 1], SEEDS[length % 5]);
             }
         }
-        Ok(())
     }
 
-    fn random(&self, random: &mut Random) -> Comparison {
+    fn random(&self, random: &mut Random) {
         let (offset, length) = (random.below(64), random.length());
         let room = random.bytes(offset + length);
         let (bytes, seed) = (&room[offset..], random.number());
-        self.message(bytes, &random.pieces(length), seed)?;
+        self.message(bytes, &random.pieces(length), seed);
         let (s1, s2) = (random.number(), random.number());
         let mut draw = |_| (random.below(9), random.length());
         let fills: Vec<_> = (0..7).map(&mut draw).collect();
-        let outputs = |side: &Side| (side.outputs)(s1, s2, &fills);
-        same(outputs(&self.wanted), outputs(&self.got))
-            .map_err(|it| format!("{it}\ngenerators of {s1:#x} and {s2:#x}, fills {fills:?}"))
-    }
-
-    fn message(&self, bytes: &[u8], pieces: &[usize], seed: u64) -> Comparison {
-        let hashes = |side: &Side| (side.hashes)(bytes, pieces, seed);
-        same(hashes(&self.wanted), hashes(&self.got))
-            .map_err(|it| format!("{it}\nseed {seed:#x}, pieces {pieces:?}, message {bytes:x?}"))
+        let inputs = format_args!("generators of {s1:#x} and {s2:#x}, fills {fills:?}");
+        self.compare(|side| (side.outputs)(s1, s2, &fills), inputs);
     }
 }

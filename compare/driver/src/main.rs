@@ -10,10 +10,7 @@ fn main() {
     match arguments[..] {
         ["bench", repeats, word] => rows::run(number(repeats), word),
         ["answers"] => answers(),
-        ["fuzz", seed, count] => match fuzz::run(number(seed), number(count)) {
-            Ok(()) => println!("There is no difference."),
-            Err(difference) => panic!("{difference}"),
-        },
+        ["fuzz", seed, count] => fuzz::run(number(seed), number(count)),
         _ => panic!("usage: bench REPEATS WORD | answers | fuzz SEED N"),
     }
 }

@@ -26,10 +26,17 @@ fn column<'a, R>(name: &str, mut call: impl FnMut() -> R + 'a) -> Column<'a> {
     (name.into(), Box::new(time))
 }
 
-/// Makes the columns of the library and the Rust crate, by the call of a module.
+/// Times a row with columns of the library and the Rust crate, by the call of a module.
+macro_rules! row {
+    ($rows:expr, $name:expr, $side:ident => $call:expr) => {
+        $rows.row(&$name, || sides!($side => $call).into())
+    };
+}
+
+/// Makes the columns of the library and the Rust crate.
 macro_rules! sides {
     ($side:ident => $call:expr) => {
-        vec![
+        [
             sides!("komihash 5", komihash_rattle::v5, $side, $call),
             sides!("Rust crate, version 5", komihash::v5, $side, $call),
             sides!("komihash 4", komihash_rattle::v4, $side, $call),
@@ -42,20 +49,22 @@ macro_rules! sides {
     }};
 }
 
-/// Makes the columns of all hashes, by the call of a hash.
-macro_rules! hashes {
-    ($hash:ident => $call:expr) => {{
-        let ours = sides!(side => {
-            let $hash = side::komihash;
-            $call
-        });
-        let others = other_hashes().map(|(name, hash)| {
-            // SAFETY: the pointer and the length are those of a slice.
-            let $hash = move |it: &[u8], seed| unsafe { hash(it.as_ptr(), it.len(), seed) };
-            column(&name, $call)
-        });
-        ours.into_iter().chain(others).collect()
-    }};
+/// Times a row with columns of all hashes, by the call of a hash.
+macro_rules! hash_row {
+    ($rows:expr, $name:expr, $hash:ident => $call:expr) => {
+        $rows.row(&$name, || {
+            let ours = sides!(side => {
+                let $hash = side::komihash;
+                $call
+            });
+            let others = other_hashes().map(|(name, hash)| {
+                // SAFETY: the pointer and the length are those of a slice.
+                let $hash = move |it: &[u8], seed| unsafe { hash(it.as_ptr(), it.len(), seed) };
+                column(&name, $call)
+            });
+            ours.into_iter().chain(others).collect()
+        })
+    };
 }
 
 /// A hash of the bytes at a pointer, their number, and a seed.
@@ -143,39 +152,32 @@ impl Rows<'_> {
         let seed = black_box(0);
         for length in [1, 4, 8, 16, 24, 32, 40, 64, 96, 128, 256, 1024, 4096, 1 << 16, 1 << 20] {
             let bytes = &self.bytes[..length];
-            let name = format!("hash of {}", size(length));
-            self.row(&name, || hashes!(hash => move || hash(bytes, seed)));
+            hash_row!(self, format!("hash of {}", size(length)), hash => move || hash(bytes, seed));
         }
         for limit in [8, 16, 32, 64, 256, 1024] {
             let mut random = Random(limit as u64);
             let lengths: Vec<u16> = (0..1 << 20).map(|_| random.below(limit) as u16).collect();
             let name = format!("hash of 0 to {} bytes, random lengths", limit - 1);
-            self.row(&name, || {
-                hashes!(hash => {
-                    let mut lengths = lengths.iter().cycle();
-                    move || hash(&self.bytes[..usize::from(*lengths.next().unwrap())], seed)
-                })
+            hash_row!(self, name, hash => {
+                let mut lengths = lengths.iter().cycle();
+                move || hash(&self.bytes[..usize::from(*lengths.next().unwrap())], seed)
             });
         }
         for length in [1, 4, 8, 16, 32, 64, 256, 1024] {
             let bytes = &self.bytes[..length];
-            let name = format!("hash of {}, chained", size(length));
-            self.row(&name, || {
-                hashes!(hash => {
-                    let mut seed = 0;
-                    move || {
-                        seed = hash(bytes, seed);
-                        seed
-                    }
-                })
+            hash_row!(self, format!("hash of {}, chained", size(length)), hash => {
+                let mut seed = 0;
+                move || {
+                    seed = hash(bytes, seed);
+                    seed
+                }
             });
         }
     }
 
     fn streams(&self) {
         for piece in [1, 3, 8, 16, 40, 100, 1000, 4096] {
-            let name = format!("64 KiB in pieces of {}", size(piece));
-            self.stream_row(&name, &[pieces(|| piece)]);
+            self.stream_row(&format!("64 KiB in pieces of {}", size(piece)), &[pieces(|| piece)]);
         }
         for greatest in [8, 32, 64, 300] {
             let mut random = Random(greatest as u64);
@@ -188,46 +190,38 @@ impl Rows<'_> {
             self.stream_row(&format!("stream of {length} bytes in one write"), &[vec![length]]);
         }
         for pending in [0, 16, 63] {
-            self.row(&format!("finish with {pending} bytes pending"), || {
-                sides!(side => {
-                    let mut stream = side::StreamedKomihash::new();
-                    stream.write(&self.bytes[..64 + pending]);
-                    move || stream.finish()
-                })
+            row!(self, format!("finish with {pending} bytes pending"), side => {
+                let mut stream = side::StreamedKomihash::new();
+                stream.write(&self.bytes[..64 + pending]);
+                move || stream.finish()
             });
         }
     }
 
     fn stream_row(&self, name: &str, lists: &[Vec<u16>]) {
-        self.row(name, || {
-            sides!(side => {
-                let mut lists = lists.iter().cycle();
-                move || {
-                    let (mut stream, mut left) = (side::StreamedKomihash::new(), self.bytes);
-                    for piece in lists.next().unwrap() {
-                        let (next, others) = left.split_at(usize::from(*piece));
-                        stream.write(next);
-                        left = others;
-                    }
-                    stream.finish()
+        row!(self, name, side => {
+            let mut lists = lists.iter().cycle();
+            move || {
+                let (mut stream, mut left) = (side::StreamedKomihash::new(), self.bytes);
+                for piece in lists.next().unwrap() {
+                    let (next, others) = left.split_at(usize::from(*piece));
+                    stream.write(next);
+                    left = others;
                 }
-            })
+                stream.finish()
+            }
         });
     }
 
     fn generators(&self) {
-        self.row("output of the generator", || {
-            sides!(side => {
-                let mut rand = side::Komirand::init(1);
-                move || rand.next()
-            })
+        row!(self, "output of the generator", side => {
+            let mut rand = side::Komirand::init(1);
+            move || rand.next()
         });
         for length in [7, 64, 4096] {
-            self.row(&format!("fill of {} by the generator", size(length)), || {
-                sides!(side => {
-                    let (mut rand, mut out) = (side::Komirand::init(1), vec![0; length]);
-                    move || rand.fill_bytes(&mut out)
-                })
+            row!(self, format!("fill of {} by the generator", size(length)), side => {
+                let (mut rand, mut out) = (side::Komirand::init(1), vec![0; length]);
+                move || rand.fill_bytes(&mut out)
             });
         }
     }
@@ -243,13 +237,11 @@ impl Rows<'_> {
     }
 
     fn map_row<K: Hash + Eq>(&self, name: &str, keys: &[K]) {
-        self.row(name, || {
-            sides!(side => {
-                let pairs = keys.iter().map(|key| (key, ()));
-                let map: HashMap<_, _, BuildHasherDefault<side::KomiHasher>> = pairs.collect();
-                let mut keys = keys.iter().cycle();
-                move || map.contains_key(keys.next().unwrap())
-            })
+        row!(self, name, side => {
+            let pairs = keys.iter().map(|key| (key, ()));
+            let map: HashMap<_, _, BuildHasherDefault<side::KomiHasher>> = pairs.collect();
+            let mut keys = keys.iter().cycle();
+            move || map.contains_key(keys.next().unwrap())
         });
     }
 
