@@ -63,9 +63,9 @@ done
 
 # Where and when it was measured.
 cpu() { LC_ALL=C lscpu | sed -n "s/^$1: *//p"; }
-changes=$(git status --porcelain -- ../c driver run.sh)
+version=$(sed -n 's/^version = "\(.*\)"/\1/p' ../Cargo.toml)
 here="$(cpu 'Model name') (family $(cpu 'CPU family'), model $(cpu Model)), $(cpu 'CPU(s)') CPUs;"
-here+=" commit $(git rev-parse --short HEAD)${changes:+ and changes}, $(date -I);"
+here+=" library $version, $(date -I);"
 here+=" $(rustc --version | cut -d ' ' -f -2); $("${CC:-cc}" --version | sed -n 1p);"
 here+=$(dpkg-query -Wf ' ${Package} ${Version};' libxxhash-dev libwyhash-dev 2> /dev/null || true)
 ./table.py "$here $layouts layouts, $repeats repeats" "${3:-}" "${files[@]}"
