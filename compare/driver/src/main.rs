@@ -2,6 +2,7 @@
 mod fuzz;
 mod random;
 mod rows;
+mod values;
 
 fn main() {
     let arguments: Vec<String> = std::env::args().skip(1).collect();
@@ -10,11 +11,12 @@ fn main() {
     match arguments[..] {
         ["bench", repeats, word] => rows::run(number(repeats), word),
         ["answers"] => answers(),
+        ["values"] => values::print(),
         ["fuzz", seed, count] => match fuzz::run(number(seed), number(count)) {
             Ok(()) => println!("There is no difference."),
             Err(difference) => panic!("{difference}"),
         },
-        _ => panic!("usage: bench REPEATS WORD | answers | fuzz SEED N"),
+        _ => panic!("usage: bench REPEATS WORD | answers | values | fuzz SEED N"),
     }
 }
 
