@@ -1,7 +1,8 @@
 /* Calls every function of komihash_rattle.h in the version VERSION, which is 4 or 5. Reads rows as
- * in vectors.tsv, and rows about generators as in values.tsv. Prints those of its version, each with
- * the value that the library gives. If another function does what it must not, prints that and ends.
- * Each array that is passed ends at the end of a page, after which nothing can be accessed. */
+ * in vectors.tsv, and rows about generators as in values.tsv. Prints those of its version, each
+ * with the value that the library gives. If another function does what it must not, prints that
+ * and ends. Each array that is passed ends at the end of a page, after which nothing can be
+ * accessed. */
 #define _DEFAULT_SOURCE
 #include "komihash_rattle.h"
 #include <inttypes.h>

@@ -26,13 +26,6 @@ build() {
     $MAKE --no-print-directory "OUT=$OUT" "ASSEMBLY=$ASSEMBLY" "CROSS=$CROSS" "CC=$CC" "$@"
 }
 
-# A case that needs a tool: needs TOOL NAME COMMAND..
-needs() {
-    tool=$1
-    shift
-    if command -v "$tool" > "$scratch/case"; then run_case "$@"; else skip "$1" "$tool"; fi
-}
-
 # Whether a command prints a text. Lines end otherwise on Windows, and may be repeated.
 prints() {
     echo "$1" > "$scratch/text"
@@ -68,9 +61,11 @@ runs_by_package() {
     eval "runs \"\$@\" $(pkg-config --cflags --libs komihash_rattle)" &&
         "${CROSS}objdump" -p "$program" | grep -F "$soname" > "$scratch/case"
 }
+tab=$(printf '\t')
+rows() { grep -hE "^((new|init|init_with_extra_seed)$tab)?$1$tab" vectors.tsv values.tsv; }
 calls() {
     for number in 4 5; do
-        cat vectors.tsv values.tsv |
+        rows $number |
             runs -std=c11 -D "VERSION=$number" -I "$prefix/include" calls.c "$1" || return
     done
 }
@@ -80,6 +75,16 @@ original() {
     runs "$@" -I "$prefix/include/komihash_rattle" original.c -x none "$archive" < vectors.tsv
 }
 by_python() { PYTHONPATH=examples python3 -B -W error calls.py < vectors.tsv; }
+
+# Whether gdb finds its way from each instruction of the library to main.
+unwinds() {
+    for number in 4 5; do
+        $CC -g -D "VERSION=$number" -o "$program" calls.c "$archive" &&
+            rows $number | tail -n 13 > "$scratch/rows" &&
+            gdb -q -nx -batch -ex "set args < $scratch/rows > /dev/null" -x unwind.py "$program" ||
+            return
+    done
+}
 
 # Compiles calls that ignore a result, and that pass no stream.
 careless() {
@@ -191,10 +196,7 @@ done < "$scratch/libraries"
 
 hash=a53b9c6b9eb8afe9 hash_of_a=5117f5064cfd0faa
 vectors_of_5=$(grep ^5 vectors.tsv)
-tab=$(printf '\t')
-values=$(for number in 4 5; do
-    grep -hE "^((new|init|init_with_extra_seed)$tab)?$number$tab" vectors.tsv values.tsv
-done)
+values=$(rows 4 && rows 5)
 sed -n '/^```c$/,/^```$/{/^```/!p;}' README.md > "$scratch/example.c"
 for compiler in "$CC" ${clang:+"$clang"}; do
     tool=${compiler%% *} name=${compiler%% -Q*}
@@ -218,6 +220,7 @@ if [ ! "$CROSS" ]; then
     compiler='musl-gcc -static'
     needs musl-gcc 'calls.c with musl' prints "$values" calls "$archive"
     needs python3 'the module for Python' prints "$vectors_of_5" by_python
+    needs gdb 'gdb finds main from each instruction of the library' unwinds
     run_case 'make bench' build bench
 fi
 compiler=$CC
