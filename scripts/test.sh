@@ -121,9 +121,10 @@ else
     echo 'FAILED: the parts that need these were not run'
 fi
 wait
+told_by() { cat "$scratch/$*"; }
 for name in "${package_parts[@]}"; do
     [ "$name${KOMIHASH_CRATE:-}" != verify_original ] || REQUIRE_ALL=
-    part cat "$scratch/$name"
+    part told_by $name
 done
 grep '^skipped: ' "$scratch/told"
 counted
