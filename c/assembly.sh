@@ -79,10 +79,20 @@ END
         s/^\t\.globl\t(.*)/&\n\tWINDOWS_ONLY(.def \1; .scl 2; .type 32; .endef)/' "$scratch/module.s"
 }
 
+# Whether the types of the header have the sizes that the crate proves: size TYPE FILE prints one.
+size() { sed -n "s/^const _: () = prove!(size_of::<$1>() == \(.*\));/\1/p" "src/$2.rt"; }
+sizes() {
+    for number in 4 5; do
+        printf '_Static_assert(sizeof(komihash_v%s) == %s, "");\n' \
+            ${number}_stream "$(size Stream v$number)" ${number}_rand "$(size Rand rand)"
+    done | cat ../../c/komihash_rattle.h - | "${CC:-cc}" -x c -fsyntax-only -
+}
+
 echo 'Proving and compiling the crate. If nothing is proved yet, this takes minutes.' >&2
 rt lib > "$scratch/log" 2>&1 || { tail -n 40 "$scratch/log" >&2; exit 1; }
 assembly_for --cpu x86-64 > "$scratch/made/x86_64.S"
 assembly_for --cpu x86-64-v3 > "$scratch/made/x86_64_v3.S"
 assembly_for --target aarch64-unknown-linux-gnu > "$scratch/made/aarch64.S"
+sizes
 mkdir -p "$folder"
 cp "$scratch"/made/*.S "$folder/"

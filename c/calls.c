@@ -1,7 +1,8 @@
 /* Calls every function of komihash_rattle.h in the version VERSION, which is 4 or 5. Reads rows as
- * in vectors.tsv, and prints the ones of its version, each with the hash that the library gives. If
- * another function does what it must not, prints that and ends. Each array that is passed ends at
- * the end of a page, after which nothing can be accessed. */
+ * in vectors.tsv, and rows about generators as in values.tsv. Prints those of its version, each
+ * with the value that the library gives. If another function does what it must not, prints that
+ * and ends. Each array that is passed ends at the end of a page, after which nothing can be
+ * accessed. */
 #define _DEFAULT_SOURCE
 #include "komihash_rattle.h"
 #include <inttypes.h>
@@ -61,23 +62,37 @@ static void pad_and_unpad(const uint8_t *bytes, size_t length) {
     CHECK(memcmp(copy, bytes, length) == 0);
 }
 
-/* Compares the first outputs of generators with those of the Rust crate, and what a fill writes
- * with the outputs of a copy. */
-static void generators(void) {
-    const uint64_t seed = 0x0123456789abcdef, extra_seed = 0xfedcba9876543210;
-    const bool v4 = VERSION == 4;
-    Rand rand = KOMIHASH(_rand_init)(seed), copy = rand;
-    Rand extra = KOMIHASH(_rand_init_with_extra_seed)(seed, extra_seed);
-    Rand words = KOMIHASH(_rand_init_words)(seed, extra_seed);
+/* Compares what a fill writes with the outputs of a copy. */
+static void fill_and_step(void) {
+    Rand rand = KOMIHASH(_rand_init)(1), copy = rand;
     uint64_t outputs[2] = {KOMIHASH(_rand_next)(&copy)};
     outputs[1] = KOMIHASH(_rand_next)(&copy);
-    CHECK(outputs[0] == (v4 ? 0xc501cc999ede619f : 0x19a95c363ccfdb39));
-    CHECK(KOMIHASH(_rand_next)(&extra) == (v4 ? 0xc2b5bec11a25b26d : 0xa668249f47348e9a));
-    CHECK(KOMIHASH(_rand_next)(&words) == (v4 ? 0x889f87cc2b173f0c : 0x786c77e49d6bb107));
     KOMIHASH(_rand_fill)(&rand, NULL, 0);
     KOMIHASH(_rand_fill)(&rand, out_end - 11, 11);
     CHECK(memcmp(out_end - 11, outputs, 11) == 0);
     CHECK(KOMIHASH(_rand_next)(&rand) == KOMIHASH(_rand_next)(&copy));
+}
+
+/* Prints a row of `new`, `init` or `init_with_extra_seed`. */
+static void print_fills(const char *row) {
+    const char *value = strrchr(row, '\t') + 1;
+    const bool is_new = row[0] == 'n', has_two = is_new || row[4] == '_';
+    char *at = strchr(row, '\t') + 2;
+    const uint64_t x = strtoull(at, &at, 16), y = has_two ? strtoull(at, &at, 16) : x;
+    Rand rand = is_new    ? KOMIHASH(_rand_init_words)(x, y)
+                : has_two ? KOMIHASH(_rand_init_with_extra_seed)(x, y)
+                          : KOMIHASH(_rand_init)(x);
+    printf("%.*s", (int)(value - row), row);
+    while (at + 1 != value) {
+        const size_t length = strtoul(at, &at, 10);
+        const uint64_t output = length == 8 ? KOMIHASH(_rand_next)(&rand) : 0;
+        const uint8_t *bytes = length == 8 ? (const uint8_t *)&output : out_end - length;
+        if (length != 8)
+            KOMIHASH(_rand_fill)(&rand, out_end - length, length);
+        for (size_t i = 0; i < length; i++)
+            printf("%02x", bytes[i]);
+    }
+    puts("");
 }
 
 static void print_row(const char *row) {
@@ -98,8 +113,10 @@ int main(void) {
     message_end = end_of_memory();
     out_end = end_of_memory();
     copy_end = end_of_memory();
-    generators();
+    fill_and_step();
     while (fgets(row, sizeof row, stdin) != NULL)
         if (row[0] == '0' + VERSION)
             print_row(row);
+        else if (strchr("in", row[0]) && strchr(row, '\t')[1] == '0' + VERSION)
+            print_fills(row);
 }

@@ -25,6 +25,13 @@ skip() {
     echo "skipped: $1, since there is no $2"
 }
 
+# A case that needs a tool: needs TOOL NAME COMMAND..
+needs() {
+    tool=$1
+    shift
+    if command -v "$tool" > "$scratch/case"; then run_case "$@"; else skip "$1" "$tool"; fi
+}
+
 counted() {
     echo "$passed passed, $failed failed$([ "$skipped" = 0 ] || echo ", $skipped skipped")"
     [ "$failed" = 0 ]

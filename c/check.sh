@@ -26,13 +26,6 @@ build() {
     $MAKE --no-print-directory "OUT=$OUT" "ASSEMBLY=$ASSEMBLY" "CROSS=$CROSS" "CC=$CC" "$@"
 }
 
-# A case that needs a tool: needs TOOL NAME COMMAND..
-needs() {
-    tool=$1
-    shift
-    if command -v "$tool" > "$scratch/case"; then run_case "$@"; else skip "$1" "$tool"; fi
-}
-
 # Whether a command prints a text. Lines end otherwise on Windows, and may be repeated.
 prints() {
     echo "$1" > "$scratch/text"
@@ -68,9 +61,12 @@ runs_by_package() {
     eval "runs \"\$@\" $(pkg-config --cflags --libs komihash_rattle)" &&
         "${CROSS}objdump" -p "$program" | grep -F "$soname" > "$scratch/case"
 }
+tab=$(printf '\t')
+rows() { grep -hE "^((new|init|init_with_extra_seed)$tab)?$1$tab" vectors.tsv values.tsv; }
 calls() {
     for number in 4 5; do
-        runs -std=c11 -D "VERSION=$number" -I "$prefix/include" calls.c "$1" < vectors.tsv || return
+        rows $number |
+            runs -std=c11 -D "VERSION=$number" -I "$prefix/include" calls.c "$1" || return
     done
 }
 on_oldest_processor() { RUN='qemu-x86_64 -cpu Opteron_G1' && calls "$archive"; }
@@ -79,6 +75,16 @@ original() {
     runs "$@" -I "$prefix/include/komihash_rattle" original.c -x none "$archive" < vectors.tsv
 }
 by_python() { PYTHONPATH=examples python3 -B -W error calls.py < vectors.tsv; }
+
+# Whether gdb finds its way from each instruction of the library to main.
+unwinds() {
+    for number in 4 5; do
+        $CC -g -D "VERSION=$number" -o "$program" calls.c "$archive" &&
+            rows $number | tail -n 13 > "$scratch/rows" &&
+            gdb -q -nx -batch -ex "set args < $scratch/rows > /dev/null" -x unwind.py "$program" ||
+            return
+    done
+}
 
 # Compiles calls that ignore a result, and that pass no stream.
 careless() {
@@ -190,14 +196,14 @@ done < "$scratch/libraries"
 
 hash=a53b9c6b9eb8afe9 hash_of_a=5117f5064cfd0faa
 vectors_of_5=$(grep ^5 vectors.tsv)
-vectors=$(grep ^4 vectors.tsv && echo "$vectors_of_5")
+values=$(rows 4 && rows 5)
 sed -n '/^```c$/,/^```$/{/^```/!p;}' README.md > "$scratch/example.c"
 for compiler in "$CC" ${clang:+"$clang"}; do
     tool=${compiler%% *} name=${compiler%% -Q*}
     command -v "$tool" > "$scratch/case" ||
         { skip 'calls.c and the example in C' "$tool"; continue; }
-    run_case "calls.c, by $name" prints "$vectors" calls "$archive"
-    run_case "calls.c, by $name, shared library" prints "$vectors" calls "$linked"
+    run_case "calls.c, by $name" prints "$values" calls "$archive"
+    run_case "calls.c, by $name, shared library" prints "$values" calls "$linked"
     run_case "the names of the C original, by $name" prints "$vectors_of_5" original -std=c99
     run_case "the example in C, by $name" prints $hash runs "$scratch/example.c" \
         -std=c11 -I "$prefix/include" "$archive"
@@ -212,13 +218,14 @@ if [ ! "$CROSS" ]; then
             prints "$vectors_of_5" original -x c++ -std=c++11
     done
     compiler='musl-gcc -static'
-    needs musl-gcc 'calls.c with musl' prints "$vectors" calls "$archive"
+    needs musl-gcc 'calls.c with musl' prints "$values" calls "$archive"
     needs python3 'the module for Python' prints "$vectors_of_5" by_python
+    needs gdb 'gdb finds main from each instruction of the library' unwinds
     run_case 'make bench' build bench
 fi
 compiler=$CC
 [ "${machine%%-*}$system" != x86_64Linux ] || needs qemu-x86_64 \
-    'calls.c on a processor of 2003' prints "$vectors" on_oldest_processor
+    'calls.c on a processor of 2003' prints "$values" on_oldest_processor
 for target in s390x:big-endian i686:64-bit x86_64-linux-gnux32:64-bit \
     x86_64-pc-windows-msvc:MinGW-w64; do
     needs clang "the header refuses ${target%:*}" fails "${target#*:}" \

@@ -35,10 +35,6 @@ for build in ${BUILDS:-x86-64-v2:3 x86-64-v2:s x86-64-v3:3 x86-64-v3:s}; do
 done
 echo "komihash $(field version) by $(rustc --version)"
 calls=('' _start _write _finish _rand_{init{,_with_extra_seed,_words},next,fill})
-for python in ${PYTHON:-python3 /usr/bin/python3}; do
-    "$python" -c 'import capstone, z3' 2> /dev/null || continue
-    exec "$python" -B ../c/verify --crate --some --red-zone --function "${calls[@]/#/komihash_v4}" \
-        "${calls[@]/#/komihash_v5}" "$@" -- "${libraries[@]}"
-done
-echo 'no python3 has z3 and capstone' >&2
-exit 2
+python=$(sh ../c/verify/find_python.sh)
+exec "$python" -B ../c/verify --crate --some --red-zone --function "${calls[@]/#/komihash_v4}" \
+    "${calls[@]/#/komihash_v5}" "$@" -- "${libraries[@]}"

@@ -5,6 +5,7 @@
 #   run.sh bench REPEATS WORD   times the rows whose name contains WORD, and prints them
 #   run.sh fuzz SEED N          compares calls on some small sets and on N random inputs
 #   run.sh answers              prints sums of hashes of the Rust crate, which a test has
+#   run.sh values < TABLE       prints ../c/vectors.tsv or ../c/values.tsv anew, by the Rust crate
 #   run.sh original [OPTION..]  shows that the machine code of the Rust crate, in the folder
 #                               KOMIHASH_CRATE, computes what the definition says: original.sh
 #
@@ -18,8 +19,8 @@ crate=()
     crate=(--offline --config "patch.crates-io.komihash.path='$(realpath "$KOMIHASH_CRATE")'")
 cd "$(dirname "${BASH_SOURCE[0]}")"
 case "$*" in
-    bench | 'bench '* | 'fuzz '*' '* | answers) ;;
-    *) sed -n '4,14s/^# \?//p' run.sh >&2 && exit 2 ;;
+    bench | 'bench '* | 'fuzz '*' '* | answers | values) ;;
+    *) sed -n '4,15s/^# \?//p' run.sh >&2 && exit 2 ;;
 esac
 out=$PWD/out
 mkdir -p "$out"

@@ -1,20 +1,31 @@
 #!/usr/bin/env bash
-# Checks that no other crate can raise a tally, or hash in a version 3. Each attack is a module of a
-# crate above `komihash` (.rt.txt), one with the handwritten proof of its function (.proof.txt), or
-# a file of that crate's proofs (.antt.txt). It must be refused with the kind of error in the first
-# line of its first file, which must be about the name beside it. `control` and `lemma` must be
-# accepted.
+# Checks that no other crate can raise a tally, or hash in a version 3. Each attack in attacks/ is a
+# module of a crate above `komihash`, or a file of that crate's proofs. It must be refused with the
+# kind of error in its first line, which must be about the name after that; `control` and `lemma`
+# must be accepted. `tally_raised_by_hand` has the handwritten proof of `Tally::raise`, but where
+# this uses the key of tallies, it says that nothing changes.
 set -u
 cd "$(dirname "$0")/attacks" || exit 1
 . ../../c/cases.sh
 
 above=$scratch/crates/above
-mkdir -p "$above"/{src,proofs/tally_raised_by_hand/raised}
+by_hand=proofs/tally_raised_by_hand/raised
+mkdir -p "$above"/{src,$by_hand}
 cp -r ../../crates/komihash "$scratch/crates"
 printf 'komihash:\nabove: komihash\n' > "$scratch/crates.txt"
-for file in *.rt.txt; do cp "$file" "$above/src/${file%.txt}"; done
-for file in *.antt.txt; do cp "$file" "$above/proofs/${file%.txt}"; done
-cp tally_raised_by_hand.proof.txt "$above/proofs/tally_raised_by_hand/raised/Proof.antt"
+split() { # FILE FOLDER ENDING
+    awk -v "folder=$above/$2" -v "ending=$3" '
+        /^(\/\/|--) [a-z_]+: / { file = folder "/" substr($2, 1, length($2) - 1) "." ending }
+        { print > file }' "$1"
+}
+split modules.rt.txt src rt
+split proofs.antt.txt proofs antt
+sed -Ez '
+    s/Rattle\.komihash([.a-z]*)\.tally\.Tally\.raise/Rattle.above\1.tally_raised_by_hand.raised/g
+    s/raise_spec/raised_spec/g
+    s/use Rattle\.komihash\.proofs\.TallyProofs[^\n]*/use base.Logic.{id⊢}/
+    s/\(tally_changed [^$]*\) \$/(id⊢ 𝓤 _) $/' \
+    ../../crates/komihash/proofs/tally/Tally/raise/Proof.antt > "$above/$by_hand/Proof.antt"
 
 # Checks the crate, whose modules are the files that are there.
 check() {
@@ -23,28 +34,26 @@ check() {
     ls proofs | sed -n 's/^\(.*\)\.antt$/mod \1/p' > Lib.antt
     mv lib.rt src && mv Lib.antt proofs && rt check 2>&1
 }
-refused() {
-    local kind name
-    read -r _ kind name < <(cat "$1".*)
+refused() { # ATTACK KIND NAME
     echo "${told[$1]}"
     sed -z 's/\n  / /g' <<< "${told[$1]}" | grep -E "^(note: )?(\./)?(src|proofs)/$1\b" |
-        grep -F "$kind:" | grep "\`[^\`]*\b$name\b"
+        grep -F "$2:" | grep "\`[^\`]*\b$3\b"
 }
 
 # Errors in names hide those in bounds, these hide those in methods, and all hide those in proofs,
 # so what a check refuses is taken out before the next.
 declare -A told
-attacks=$(printf '%s\n' *_* | sed 's/\..*//' | uniq)
+attacks=$(sed -nE 's/^(\/\/|--) ([a-z_]+): (\S+) (\S+)$/\2 \3 \4/p' *)
 for errors_in in names bounds methods proofs; do
     output=$(check)
-    for attack in $attacks; do
+    while read -r attack kind name; do
         ls "$above"/*/"$attack".* > "$scratch/case" 2>&1 || continue
         told[$attack]=$output
-        ! refused "$attack" > "$scratch/case" || rm -rf "$above"/*/"$attack"{,.*}
-    done
+        ! refused "$attack" "$kind" "$name" > "$scratch/case" || rm -rf "$above"/*/"$attack"{,.*}
+    done <<< "$attacks"
 done
-for attack in $attacks; do
-    run_case "$attack is refused" refused "$attack"
-done
+while read -r attack kind name; do
+    run_case "$attack is refused" refused "$attack" "$kind" "$name"
+done <<< "$attacks"
 run_case 'the controls are accepted' check
 counted

@@ -27,41 +27,35 @@ part() {
     [ "$failed" = "$before" ] || { echo "FAILED: $*"; false; }
 }
 
+# Whether a tool is missing. The part that needs it then ends in the line that it is skipped: lacks
+# NAME TOOL..
+lacks() {
+    ! type "${@:2}" > "$scratch/case" 2>&1 && skip "$1" "$2${3:+ or no $3}" && { counted; true; }
+}
+
 # Unpacks the package of the library for C, and makes it again from what was unpacked.
 unpack() {
     make -C c dist "OUT=$scratch" && tar -xzf "$scratch"/komihash_rattle-*.tar.gz -C "$scratch" &&
-        make -C "$scratch"/komihash_rattle-*/ dist &&
-        cmp "$scratch"/komihash_rattle-*.tar.gz "$scratch"/komihash_rattle-*/out/*.tar.gz
+        in_package dist && cmp "$scratch"/komihash_rattle-*.tar.gz "$scratch"/*/out/*.tar.gz
 }
-check_package() { make -C "$scratch"/komihash_rattle-*/ --no-print-directory check "$@"; }
-# The Python that can run c/verify.
-python_for_verify() {
-    for python in python3 /usr/bin/python3; do
-        "$python" -c 'import capstone, z3' 2> /dev/null && return
-    done
-    skip "$1" 'Python with z3 and capstone'
-    counted
-    false
+in_package() { make -C "$package"/komihash_rattle-*/ --no-print-directory "$@"; }
+check_package() { in_package check; }
+check_cross() { # PREFIX EMULATOR: with a cross compiler
+    lacks "the library for C, for ${1%-}" "$1gcc" "$2" || in_package check "CROSS=$1" "RUN=$2"
 }
 # Verifies the build that every processor can run, which `shared` names alone, and tests the check
 # by flipping bits.
 verify_package() {
-    python_for_verify 'the machine code of the library for C' &&
-        make -C "$scratch"/komihash_rattle-*/ --no-print-directory verify PYTHON="$python" \
-            MUTANTS=30 shared=libkomihash_rattle.so.1
+    lacks 'the machine code of the library for C' "$python" ||
+        in_package verify MUTANTS=30 shared=libkomihash_rattle.so.1
 }
 test_verify() {
-    local tests=c/verify/tests libraries=()
-    python_for_verify 'attacks on the check of the machine code' || return 0
-    for file in "$scratch"/komihash_rattle-*/out/{,*/,*/*/}*.so.1; do
-        case $file in
-            */x86-64-v3/*) libraries+=("x86-64-v3:$file") ;;
-            */aarch64*/*) libraries+=("armv8-a:$file") ;;
-            *) libraries+=("x86-64:$file") ;;
-        esac
-    done
-    scratch=$(mktemp -d -p "$scratch")
-    run_case 'the definition gives the values of a page' "$python" scripts/values.py
+    local tests=c/verify/tests name=libkomihash_rattle.so.1 out libraries
+    lacks 'attacks on the check of the machine code' "$python" && return
+    out=$(echo "$package"/komihash_rattle-*/out)
+    libraries=("x86-64:$out/$name" "x86-64-v3:$out/glibc-hwcaps/x86-64-v3/$name")
+    [ ! -d "$out/aarch64-linux-gnu" ] || libraries+=("armv8-a:$out/aarch64-linux-gnu/$name")
+    run_case 'the definition gives the values of c/values.tsv' "$python" -B scripts/values.py
     run_case 'edits of the assembly are refused' bash $tests/edits.sh "$python" x86_64
     run_case 'only right forms of code are followed' bash $tests/forms.sh "$python"
     run_case 'edits of files are refused' "$python" -B $tests/attacks.py "${libraries[@]}"
@@ -69,11 +63,13 @@ test_verify() {
 }
 # Verifies a build of the Rust crate, of which the writes that complete no block are tried in part.
 verify_original() {
+    local name='the machine code of the Rust crate'
     if [ -z "${KOMIHASH_CRATE:-}" ]; then
-        skip 'the machine code of the Rust crate' 'folder KOMIHASH_CRATE'
+        skip "$name" 'folder KOMIHASH_CRATE'
         counted
     else
-        BUILDS=x86-64-v2:3 bash compare/run.sh original --every 40
+        lacks "$name" rustc "$python" ||
+            BUILDS=x86-64-v2:3 bash compare/run.sh original --every 40
     fi
 }
 # Whether a program can have the library for C, or another version, beside the crate for Rust.
@@ -82,27 +78,15 @@ own_symbols() {
 }
 # Packs the crate for Rust, and tests it as it is unpacked, also for the processor that runs here.
 check_crate() {
-    local folder=$scratch/crate
-    if ! command -v cargo; then
-        skip 'the crate for Rust' cargo
-    else
-        export CARGO_TARGET_DIR=$folder
-        run_case 'the crate for Rust is packed' cargo package --offline --allow-dirty --no-verify
-        cd "$folder/package" && tar -xzf *.crate && cd komihash_rattle-*/
-        run_case 'the crate for Rust' cargo test --offline
-        run_case 'the crate for Rust has symbols of its own' own_symbols
-        RUSTFLAGS='-C target-cpu=native' run_case 'the crate for Rust, for this processor' \
-            cargo test --offline --release --tests
-    fi
+    lacks 'the crate for Rust' cargo && return
+    export CARGO_TARGET_DIR=$scratch/crate
+    run_case 'the crate for Rust is packed' cargo package --offline --allow-dirty --no-verify
+    cd "$CARGO_TARGET_DIR/package" && tar -xzf *.crate && cd komihash_rattle-*/
+    run_case 'the crate for Rust' cargo test --offline
+    run_case 'the crate for Rust has symbols of its own' own_symbols
+    RUSTFLAGS='-C target-cpu=native' run_case 'the crate for Rust, for this processor' \
+        cargo test --offline --release --tests
     counted
-}
-check_cross() { # PREFIX EMULATOR: with a cross compiler
-    if type "$1gcc" "$2"; then
-        check_package "CROSS=$1" "RUN=$2"
-    else
-        skip "the library for C, for ${1%-}" "${1}gcc or no $2"
-        counted
-    fi
 }
 
 # An edit that can't be applied counts for nothing in `rt ci`, which prints a line for each edit
@@ -116,6 +100,8 @@ all_refused() {
 # Debian keeps wine64 outside of PATH.
 export PATH="$PATH:/usr/lib/wine" WINEPREFIX="$scratch/wine" WINEDEBUG=-all
 export WINEDLLOVERRIDES='mscoree,mshtml='
+python=$(sh c/verify/find_python.sh) || python='python3 with z3 and capstone'
+package=$scratch
 
 package_parts=(check_package check_crate 'check_cross x86_64-w64-mingw32- wine64'
     'check_cross aarch64-linux-gnu- qemu-aarch64' verify_package test_verify verify_original)
@@ -123,19 +109,19 @@ run_case 'the package of the library for C is made again from itself' unpack
 (
     renice -n 19 "$BASHPID" > /dev/null
     passed=0 failed=0
-    for name in "${package_parts[@]}"; do ($name) > "$scratch/$name" 2>&1; done
+    for name in "${package_parts[@]}"; do
+        (scratch=$(mktemp -d -p "$scratch") && $name) > "$scratch/$name" 2>&1
+    done
 ) &
-told_by() { cat "$scratch/$*"; }
 
 if part bash scripts/rules.sh && part python3 scripts/documents.py && part rt ci; then
     run_case 'each must-fail edit is refused' all_refused
-    part bash scripts/attacks.sh
-    part bash scripts/program.sh
-    part bash scripts/compare_assembly.sh
+    for name in attacks program compare_assembly wasm; do part bash scripts/$name.sh; done
 else
     echo 'FAILED: the parts that need these were not run'
 fi
 wait
+told_by() { cat "$scratch/$*"; }
 for name in "${package_parts[@]}"; do
     [ "$name${KOMIHASH_CRATE:-}" != verify_original ] || REQUIRE_ALL=
     part told_by $name

@@ -2,6 +2,7 @@
 mod fuzz;
 mod random;
 mod rows;
+mod values;
 
 fn main() {
     let arguments: Vec<String> = std::env::args().skip(1).collect();
@@ -10,8 +11,9 @@ fn main() {
     match arguments[..] {
         ["bench", repeats, word] => rows::run(number(repeats), word),
         ["answers"] => answers(),
+        ["values"] => values::print(),
         ["fuzz", seed, count] => fuzz::run(number(seed), number(count)),
-        _ => panic!("usage: bench REPEATS WORD | answers | fuzz SEED N"),
+        _ => panic!("usage: bench REPEATS WORD | answers | values | fuzz SEED N"),
     }
 }
 
