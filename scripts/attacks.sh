@@ -2,8 +2,9 @@
 # Checks that no other crate can raise a tally, or hash in a version 3. Each attack in attacks/ is a
 # module of a crate above `komihash`, or a file of that crate's proofs. It must be refused with the
 # kind of error in its first line, which must be about the name after that; `control` and `lemma`
-# must be accepted. `tally_raised_by_hand` has the handwritten proof of `Tally::raise`, but where
-# this uses the key of tallies, it says that nothing changes.
+# must be accepted. Names that are private are unknown if the kit has built `komihash` before.
+# `tally_raised_by_hand` has the handwritten proof of `Tally::raise`, but where this uses the key of
+# tallies, it says that nothing changes.
 set -u
 cd "$(dirname "$0")/attacks" || exit 1
 . ../../c/cases.sh
@@ -37,7 +38,7 @@ check() {
 refused() { # ATTACK KIND NAME
     echo "${told[$1]}"
     sed -z 's/\n  / /g' <<< "${told[$1]}" | grep -E "^(note: )?(\./)?(src|proofs)/$1\b" |
-        grep -F "$2:" | grep "\`[^\`]*\b$3\b"
+        grep -E "$2:" | grep "\`[^\`]*\b$3\b"
 }
 
 # Errors in names hide those in bounds, these hide those in methods, and all hide those in proofs,
