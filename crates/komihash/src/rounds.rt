@@ -1,13 +1,11 @@
 //! The steps of the hash from the seed to the pair that is left after the blocks: seeding, lanes,
 //! block rounds, joining.
 //!
-//! Only `places` and `pads_with_two` depend on the version. Streams keep the latter of their last
-//! block.
+//! Of these, only `places` depends on the version.
 
 ghost use Rattle.std.specs.Prelude.{◌≡◌, ◌+◌, ◌*◌, ◌/◌, ◌%◌, ◌<◌, ◌≤◌, All, length, bit_xor};
 ghost use Rattle.std.proofs.Common.{refl};
 ghost use Rattle.komihash.specs.Counts.{Costs};
-ghost use Rattle.komihash.specs.Padding.{pads_with_two};
 ghost use Rattle.komihash.specs.Rounds.{low, high, plus, seed_words, mix, seed_pair, lanes, places};
 ghost use Rattle.komihash.specs.Rounds.{Lanes, in_order, block_round_by, block_round, join};
 ghost use Rattle.komihash.specs.Internals.{xor_again, pair_of};
@@ -169,14 +167,6 @@ pub(crate) fn places<const V: u8>() -> [usize; 8]
     } else {
         [0, 4, 1, 5, 2, 6, 3, 7]
     }
-}
-
-/// Returns whether the padding byte after `byte` is 2: in version 4, if its top bit is set.
-#[inline(always)]
-pub(crate) fn pads_with_two<const V: u8>(byte: u8) -> bool
-    ensures { result ≡ pads_with_two V byte }
-{
-    V == 4 && byte >= 128
 }
 
 /// Absorbs a block of eight words, multiplied as the table `places` says.

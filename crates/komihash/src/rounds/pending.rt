@@ -11,9 +11,8 @@ ghost use Rattle.komihash.specs.Padding.{padding_byte};
 ghost use Rattle.komihash.specs.Internals.{pending_bytes, ArePending, StoresBut};
 ghost use Rattle.komihash.specs.Internals.{stored_words, whole_words, final_word};
 
-use super::pads_with_two;
 use super::words::WholeWords;
-use crate::padding::padding_after;
+use crate::padding::{padding_after, pads_with_two};
 use crate::tally::Tally;
 use crate::utils::{read_partial_word, read_word, word_at, write_first_bytes};
 use std::marker::Model;
