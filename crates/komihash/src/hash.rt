@@ -1,6 +1,9 @@
 //! The hash of a whole message, which is read without a copy.
 //!
-//! Each range of lengths has a function of its own, so that short messages take few jumps.
+//! Each range of lengths has a function of its own, so that short messages take few jumps. For the
+//! final word, those of fewer than 64 bytes shift, because a processor can't guess a branch where
+//! lengths vary. `hash_of_blocks` branches, because long messages are often whole words, for which a
+//! shift is slower.
 
 #![tactic(auto, using(crate::proofs::HashPaths::hash_laws))]
 
@@ -51,7 +54,6 @@ fn hash_of_16_bytes<const V: u8>(bytes: &[u8], seed: u64, tally: &mut Tally) -> 
     close(pair, padding_byte::<V>(bytes), 0, tally)
 }
 
-// Shifts for the final word: where lengths vary, a processor can't guess a branch.
 #[inline(never)]
 fn hash_of_words<const V: u8>(bytes: &[u8], seed: u64, tally: &mut Tally) -> u64
     requires least { 16 < length bytes.now }
@@ -64,7 +66,6 @@ fn hash_of_words<const V: u8>(bytes: &[u8], seed: u64, tally: &mut Tally) -> u64
     hash_from_pair(pair, &bytes, last_whole_word(bytes), final_word, tally)
 }
 
-// Branches for the final word: long messages are often whole words, which a shift makes slower.
 #[inline(never)]
 fn hash_of_blocks<const V: u8>(bytes: &[u8], seed: u64, tally: &mut Tally) -> u64
     requires { 64 ≤ length bytes.now }
