@@ -4,12 +4,19 @@
 ghost use Rattle.std.specs.Prelude.{◌≡◌, ◌+◌, ◌*◌, ◌/◌, ◌^◌, ◌<◌, ◌≤◌, ◌↔◌, IsTrue};
 ghost use Rattle.std.specs.Prelude.{IfSome, IfNone, length, take, slice_index};
 ghost use Rattle.komihash.specs.Padding.{ArePadded, Padded, Unpadded, padded_words};
-ghost use Rattle.komihash.specs.Padding.{padding_after, padding_byte};
+ghost use Rattle.komihash.specs.Padding.{pads_with_two, padding_after, padding_byte};
 ghost use Rattle.komihash.specs.Internals.{final_word};
 ghost use Rattle.komihash.specs.Words.{all_bytes};
 
-use crate::rounds::pads_with_two;
 use crate::utils::{read_partial_word, read_whole_words, word_at, write_first_bytes};
+
+/// Returns whether the padding byte after `byte` is 2: in version 4, if its top bit is set.
+#[inline(always)]
+pub(crate) fn pads_with_two<const V: u8>(byte: u8) -> bool
+    ensures { result ≡ pads_with_two V byte }
+{
+    V == 4 && byte >= 128
+}
 
 /// Returns the padding byte: 2 after a last byte for which `pads_with_two` holds, otherwise 1.
 #[inline(always)]

@@ -1,15 +1,12 @@
-//! The steps of the hash from the seed to the pair that is left after the blocks: seeding, lanes,
-//! block rounds, joining.
-//!
-//! Only `places` and `pads_with_two` depend on the version. Streams keep the latter of their last
-//! block.
+//! The steps of the hash: seeding, lanes, block rounds, joining, pair rounds, closing. Only `places`
+//! depends on the version.
 
-ghost use Rattle.std.specs.Prelude.{◌≡◌, ◌+◌, ◌*◌, ◌/◌, ◌%◌, ◌<◌, ◌≤◌, All, length, bit_xor};
+ghost use Rattle.std.specs.Prelude.{◌≡◌, ◌+◌, ◌*◌, ◌/◌, ◌%◌, ◌<◌, ◌≤◌, [], ◌∷◌, All, length, bit_xor};
 ghost use Rattle.std.proofs.Common.{refl};
 ghost use Rattle.komihash.specs.Counts.{Costs};
-ghost use Rattle.komihash.specs.Padding.{pads_with_two};
 ghost use Rattle.komihash.specs.Rounds.{low, high, plus, seed_words, mix, seed_pair, lanes, places};
 ghost use Rattle.komihash.specs.Rounds.{Lanes, in_order, block_round_by, block_round, join};
+ghost use Rattle.komihash.specs.Rounds.{pair_round, mix_again, closing};
 ghost use Rattle.komihash.specs.Internals.{xor_again, pair_of};
 ghost use Rattle.komihash.specs.Internals.{whole_words, block_lanes, after_blocks};
 
@@ -18,7 +15,6 @@ use crate::utils::{multiply128, word_at};
 use std::marker::Model;
 
 pub(crate) mod pending;
-pub(crate) mod tail;
 pub(crate) mod words;
 
 // The hash's eight constants: the first 512 bits of the fractional part of π.
@@ -171,14 +167,6 @@ pub(crate) fn places<const V: u8>() -> [usize; 8]
     }
 }
 
-/// Returns whether the padding byte after `byte` is 2: in version 4, if its top bit is set.
-#[inline(always)]
-pub(crate) fn pads_with_two<const V: u8>(byte: u8) -> bool
-    ensures { result ≡ pads_with_two V byte }
-{
-    V == 4 && byte >= 128
-}
-
 /// Absorbs a block of eight words, multiplied as the table `places` says.
 #[inline(always)]
 #[tactic(auto, unfolding(crate::specs::Rounds::block_round_by), using(crate::proofs::Xor::reorder))]
@@ -282,4 +270,37 @@ pub(crate) fn join(lanes: &Lanes, had_block: bool) -> Pair
     } else {
         Pair(e4 ^ low1 ^ e1, e1)
     }
+}
+
+#[inline(always)]
+#[tactic(auto, using(crate::proofs::Xor::xor_late))]
+pub(crate) fn pair_round(pair: Pair, w0: u64, w1: u64, tally: &mut Tally) -> Pair
+    ensures pair { pair_of result ≡ pair_round (pair_of pair) w0 w1 }
+    ensures costs { Costs tally 1 0 }
+{
+    let Pair(low, e) = pair;
+    mix((w0 ^ low) ^ e, w1 ^ e, e, tally)
+}
+
+// Returns the hash from the pair of the closing's first mix.
+#[inline(always)]
+fn mix_again(pair: Pair, tally: &mut Tally) -> u64
+    ensures hash { result ≡ mix_again (pair_of pair) }
+    ensures costs { Costs tally 1 0 }
+{
+    let Pair(low, e) = pair;
+    let Pair(low, e) = mix(e ^ low, e, e, tally);
+    e ^ low
+}
+
+/// Returns the hash from a pair and the two words that are left, or the one that is left and 0.
+#[inline(always)]
+#[tactic(auto, using(crate::proofs::Xor::factors))]
+pub(crate) fn close(pair: Pair, first: u64, second: u64, tally: &mut Tally) -> u64
+    ensures hash { result ≡ closing (pair_of pair) (first ∷ second ∷ []) }
+    ensures alone { second ≡ 0 → result ≡ closing (pair_of pair) (first ∷ []) }
+    ensures costs { Costs tally 2 0 }
+{
+    let Pair(low, e) = pair;
+    mix_again(mix((low ^ first) ^ e, e ^ second, e, tally), tally)
 }

@@ -11,9 +11,8 @@ ghost use Rattle.komihash.specs.Padding.{padding_byte};
 ghost use Rattle.komihash.specs.Internals.{pending_bytes, ArePending, StoresBut};
 ghost use Rattle.komihash.specs.Internals.{stored_words, whole_words, final_word};
 
-use super::pads_with_two;
 use super::words::WholeWords;
-use crate::padding::padding_after;
+use crate::padding::{padding_after, pads_with_two};
 use crate::tally::Tally;
 use crate::utils::{read_partial_word, read_word, word_at, write_first_bytes};
 use std::marker::Model;
@@ -162,11 +161,15 @@ fn append_long(words: &mut [u64; 8], len: usize, bytes: &[u8])
     }
 }
 
-// Appends bytes after the first `len` pending ones, and counts them as kept. With LONG there are at
-// least 64, and only those that complete the block are appended. Only this function puts bytes into
-// the words.
+// Appends as many of the bytes as the block has room for after the first `len`, and counts them as
+// kept: with LONG some of at least 64, otherwise all. Only this function puts bytes into the words.
 #[inline(always)]
-fn append_bytes<const LONG: bool>(words: &mut [u64; 8], len: usize, bytes: &[u8], tally: &mut Tally)
+fn append_to_block<const LONG: bool>(
+    words: &mut [u64; 8],
+    len: usize,
+    bytes: &[u8],
+    tally: &mut Tally,
+)
     requires pending { ArePending words.old len }
     requires long { IsTrue LONG → 64 ≤ length bytes.now }
     requires room { LONG ≡ false → len + length bytes.now ≤ 64 }
@@ -215,7 +218,7 @@ impl Pending {
         ensures bytes { self.new ≡ self.old ++ bytes.now }
         ensures costs { Costs tally 0 (length bytes.now) }
     {
-        append_bytes::<false>(&mut self.words, self.len, bytes, tally);
+        append_to_block::<false>(&mut self.words, self.len, bytes, tally);
         self.len += bytes.len();
     }
 
@@ -229,7 +232,7 @@ impl Pending {
         ensures costs { Costs tally 0 (length bytes.now) }
     {
         if !bytes.is_empty() {
-            append_bytes::<false>(&mut self.words, 0, bytes, tally);
+            append_to_block::<false>(&mut self.words, 0, bytes, tally);
             self.len = bytes.len();
         }
     }
@@ -245,9 +248,9 @@ impl Pending {
     {
         let len = self.len;
         if bytes.len() < 64 {
-            append_bytes::<false>(&mut self.words, len, &bytes[..64 - len], tally);
+            append_to_block::<false>(&mut self.words, len, &bytes[..64 - len], tally);
         } else {
-            append_bytes::<true>(&mut self.words, len, bytes, tally);
+            append_to_block::<true>(&mut self.words, len, bytes, tally);
         }
         let block = self.words;
         self.words = [0; 8];

@@ -1,4 +1,5 @@
-//! A stream whose type does not name its version, which is how C keeps one.
+//! The stream that `StreamedKomihash` and the library for C share. Its type does not name the version,
+//! because no generic type can be in an interface for C.
 
 ghost use Rattle.std.specs.Prelude.{◌≡◌, ◌+◌, ◌<◌, ◌≤◌, ℕ, List, IfSome, length, take, drop};
 ghost use Rattle.komihash.specs.Counts.{Costs, absorb_products, answer_products, absorb_kept_bytes};
@@ -6,19 +7,17 @@ ghost use Rattle.komihash.specs.Saved.{text, IsTextAfter, Restored};
 ghost use Rattle.komihash.specs.Stream.{State, IsState, HasAbsorbed, absorb};
 ghost use Rattle.komihash.specs.Stream.{Started, Absorbed, Answered};
 
-use super::{LONGEST_TEXT, saved};
-use crate::padding::padding_after;
+use super::saved::{self, LONGEST_TEXT};
+use crate::hash::hash_from_pair;
+use crate::padding::{padding_after, pads_with_two};
 use crate::rounds::pending::Pending;
-use crate::rounds::tail::{close, hash_from_pair};
-use crate::rounds::{
-    Lanes, absorb_blocks, block_round, join, lanes_of, pads_with_two, places, seed_pair,
-};
+use crate::rounds::{Lanes, absorb_blocks, block_round, close, join, lanes_of, places, seed_pair};
 use crate::tally::Tally;
 use crate::version::{IsVersion, Versions};
 use std::marker::Model;
 
-/// A stream as C keeps it: its type does not name its version, so each call does. Rust callers use
-/// `StreamedKomihash`. The calls do what those of `KomiStream` do.
+/// A stream of either version, which each call names. The calls do what those of `KomiStream` do.
+/// Rust callers use `StreamedKomihash`, whose type names the version.
 #[derive(Drop)]
 #[repr(C)]
 pub struct RawStream {

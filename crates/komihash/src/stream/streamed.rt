@@ -63,7 +63,7 @@ where
     pub fn write(&mut self, bytes: &[u8])
         ensures { Absorbed V (λ stream. stream.state) self bytes.now }
     {
-        self.raw.absorb::<V>(bytes, &mut Tally::new());
+        self.absorb(bytes, &mut Tally::new());
     }
 
     /// Returns the hash of all bytes so far. The stream is unchanged, and may absorb more.
@@ -71,7 +71,7 @@ where
     pub fn finish(&self) -> u64
         ensures { Answered V self.now.state result }
     {
-        self.raw.answer::<V>(&mut Tally::new())
+        self.answer(&mut Tally::new())
     }
 
     /// Writes the saved text of the stream to the front of `out`, whose rest is unchanged. Returns

@@ -6,8 +6,7 @@ ghost use Rattle.komihash.specs.Hash.{komi};
 use super::messages::{
     BLOCK_HASH, EMPTY_HASH, HIGH_END, LANES, SIX, SIX_IN_FIVE, SIX_IN_FOUR, ZERO, pattern,
 };
-use crate::rounds::tail::pair_round;
-use crate::rounds::{in_order, lanes_of, seed_pair, seed_words};
+use crate::rounds::{in_order, lanes_of, pair_round, seed_pair, seed_words};
 use crate::tally::Tally;
 use crate::{v4, v5};
 use std::hash::Hasher;
