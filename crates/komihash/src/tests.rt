@@ -1,5 +1,5 @@
-//! Tests, above all that the definitions give the hashes of komihash, which no contract says. Tests
-//! that compare two calls, as contracts do, would catch a mistake of the compiler.
+//! Tests, above all that the definitions give the hashes of komihash, which no contract says. Those
+//! that compare two calls try on the compiled code what is proved of the source.
 
 mod generator;
 mod hash;

@@ -2,7 +2,7 @@
 use Rattle.std.specs.Prelude.{ℕ, List, [], ◌++◌, codes, Ok, Err}
 use Rattle.std.specs.declared.result.Result.{Result}
 use Rattle.komisum.specs.declared.faults.Fault.{Fault}
-use Rattle.komisum.specs.declared.faults.Refusal.TheVariants.{NoMemory, Usage}
+use Rattle.komisum.specs.declared.ending.Refusal.TheVariants.{NoMemory, Usage}
 use Rattle.komisum.specs.Faults.{fault_text}
 use Rattle.komisum.specs.declared.ending.Ending.{Ending}
 use Rattle.komisum.specs.declared.ending.Ending.TheVariants.{Shown, Failed, Refused}

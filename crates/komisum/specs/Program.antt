@@ -11,7 +11,7 @@ use Rattle.komisum.specs.Watched.{AppendsPrefix, Takes}
 use Rattle.komisum.specs.declared.ending.Ending.{Ending}
 use Rattle.komisum.specs.declared.ending.Ending.TheVariants.{Shown, Failed, Refused}
 use Rattle.komisum.specs.declared.faults.Fault.TheVariants.{Read, TooLong, Write}
-use Rattle.komisum.specs.declared.faults.Refusal.{Refusal}
+use Rattle.komisum.specs.declared.ending.Refusal.{Refusal}
 use Rattle.komisum.specs.declared.settings.Version.{Version}
 use Rattle.komisum.specs.declared.watched.Watched.{Watched}
 

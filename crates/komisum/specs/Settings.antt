@@ -13,8 +13,8 @@ use Rattle.std.specs.IoError.{error_kind}
 use Rattle.std.specs.Option.{ok_or, option_zip}
 use Rattle.std.specs.Str.Parse.{digits_value}
 use Rattle.std.specs.Vec.Iter.{into_iter_items}
-use Rattle.komisum.specs.declared.faults.Refusal.{Refusal}
-use Rattle.komisum.specs.declared.faults.Refusal.TheVariants.{NoMemory, Usage}
+use Rattle.komisum.specs.declared.ending.Refusal.{Refusal}
+use Rattle.komisum.specs.declared.ending.Refusal.TheVariants.{NoMemory, Usage}
 use Rattle.komisum.specs.declared.settings.Version.{Version}
 use Rattle.komisum.specs.declared.settings.Version.TheVariants.{Four, Five}
 

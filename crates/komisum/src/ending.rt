@@ -6,10 +6,20 @@ ghost use Rattle.std.specs.Process.{exit_status};
 ghost use Rattle.komisum.specs.Ending.{line_of, status_of};
 ghost use Rattle.komisum.specs.Watched.{AppendsPrefix};
 
-use crate::faults::{Fault, Refusal};
+use crate::faults::Fault;
 use crate::watched::{Watched, write_whole};
 use std::io::Write;
 use std::process::ExitCode;
+
+/// Why the program did not begin to read.
+#[derive(Drop)]
+pub enum Refusal {
+    /// The arguments or the input's buffer could not be allocated.
+    NoMemory,
+    /// There are arguments, but not exactly a version and a seed. All errors in place of the
+    /// arguments count as this, but for `OutOfMemory`.
+    Usage,
+}
 
 /// How the program ends.
 #[derive(Drop)]

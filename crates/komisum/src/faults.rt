@@ -1,4 +1,4 @@
-//! Why the program ends without its line: faults while it runs, and refusals before it reads.
+//! Why the program could not write its line.
 
 ghost use Rattle.std.specs.Prelude.{◌≡◌};
 ghost use Rattle.komisum.specs.Faults.{fault_text};
@@ -25,14 +25,4 @@ impl Fault {
             Fault::Write => "write failed",
         }
     }
-}
-
-/// Why the program did not begin to read.
-#[derive(Drop)]
-pub enum Refusal {
-    /// The arguments or the input's buffer could not be allocated.
-    NoMemory,
-    /// There are arguments, but not exactly a version and a seed. All errors in place of the
-    /// arguments count as this, but for `OutOfMemory`.
-    Usage,
 }

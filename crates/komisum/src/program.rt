@@ -5,8 +5,8 @@ ghost use Rattle.komisum.specs.Ending.{ending_of};
 ghost use Rattle.komisum.specs.Program.{EndsAsAsked, Shows};
 
 use crate::digest::{digest, hex_line};
-use crate::ending::Ending;
-use crate::faults::{Fault, Refusal};
+use crate::ending::{Ending, Refusal};
+use crate::faults::Fault;
 use crate::settings::Version;
 use crate::watched::{Watched, write_whole};
 use komihash::{v4, v5};

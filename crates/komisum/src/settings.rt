@@ -3,7 +3,7 @@
 ghost use Rattle.std.specs.Prelude.{◌≡◌, map};
 ghost use Rattle.komisum.specs.Settings.{seed_of, settings_of, settings_or_refusal, version_of};
 
-use crate::faults::Refusal;
+use crate::ending::Refusal;
 use std::env::{Args, FillError};
 use std::io::ErrorKind;
 use std::rt::Env;

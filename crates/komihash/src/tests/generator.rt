@@ -15,17 +15,18 @@ fn generator<const V: u8>(number: usize) -> Komirand<V> {
     }
 }
 
-// Returns the next 13 outputs of one of the generators.
-fn outputs<const V: u8>(number: usize) -> [u64; 13] {
+// Returns the output of one of the generators at an index, counted from 0.
+fn output<const V: u8>(number: usize, at: usize) -> u64 {
     let mut generator = generator::<V>(number);
-    let mut outputs = [0; 13];
-    for i in 0..13usize {
-        outputs[i] = generator.next();
+    for _ in 0..at {
+        generator.next();
     }
-    outputs
+    generator.next()
 }
 
-// Each row is a generator, the index of an output, and the output in version 4 and in version 5.
+// Each row is a generator, the index of an output, and the output in version 4 and in version 5. The
+// last two are those of the Rust crate after a million steps, which show a rule that is wrong for
+// few pairs.
 #[test]
 fn gives_known_outputs(rt: HostRuntime) {
     let rows = [
@@ -39,31 +40,13 @@ fn gives_known_outputs(rt: HostRuntime) {
         (4, 0, 0xaaaa_aaab_aaaa_aaab, 0x5555_5555_5555_5556),
         (5, 0, 0xaaaa_aaaa_aaaa_aaa6, 0x5555_5555_5555_5554),
         (6, 0, 0xa0b0_1c26_bba9_307a, 0x0d2f_8edd_6aff_b42b),
+        (2, 999_999, 0xd864_1b99_fd61_fdf6, 0x0c40_3f97_7488_cfec),
+        (3, 999_999, 0xa35e_8642_c530_6b36, 0x4aae_21f4_ebd7_5fea),
     ];
     for (number, at, four, five) in rows {
-        assert!(rt; at < 13);
-        let given = [outputs::<4>(number)[at], outputs::<5>(number)[at]];
+        let given = [output::<4>(number, at), output::<5>(number, at)];
         assert_eq!(rt; given, [four, five], "generator {number}");
     }
-}
-
-// Returns the millionth output of one of the generators.
-fn millionth<const V: u8>(number: usize) -> u64 {
-    let mut generator = generator::<V>(number);
-    for _ in 1..1_000_000u32 {
-        generator.next();
-    }
-    generator.next()
-}
-
-// The outputs are those of the Rust crate. Each depends on all before it, so a rule that is wrong
-// for few pairs shows.
-#[test]
-fn gives_known_outputs_after_long_runs(rt: HostRuntime) {
-    assert_eq!(rt; millionth::<4>(2), 0xd864_1b99_fd61_fdf6);
-    assert_eq!(rt; millionth::<5>(2), 0x0c40_3f97_7488_cfec);
-    assert_eq!(rt; millionth::<4>(3), 0xa35e_8642_c530_6b36);
-    assert_eq!(rt; millionth::<5>(3), 0x4aae_21f4_ebd7_5fea);
 }
 
 // Makes fills in turn. Compares all their bytes, and the next output with the first unused one.
@@ -72,23 +55,23 @@ fn assert_fills<const V: u8>(rt: &impl Abort, number: usize, sizes: &[usize], wa
     let mut bytes = [0xee; 96];
     let (mut end, mut used) = (0, 0);
     for size in sizes {
-        assert!(rt; end <= 96 && *size <= 96 - end && used < 13);
+        assert!(rt; end <= 96 && *size <= 96 - end && used <= 12);
         generator.fill_bytes(&mut bytes[end..end + size]);
         end += size;
         used += size.div_ceil(8);
     }
-    assert!(rt; end <= 96 && used < 13);
+    assert!(rt; end <= 96);
     assert_eq!(rt; bytes[..end], *wanted, "{sizes:?}");
-    assert_eq!(rt; generator.next(), outputs::<V>(number)[used], "{sizes:?}");
+    assert_eq!(rt; generator.next(), output::<V>(number, used), "{sizes:?}");
 }
 
 // Compares fills of every length with outputs, and two fills of 8 bytes with one of 16.
 fn assert_fills_every_length<const V: u8>(rt: &impl Abort) {
     for number in 0..4usize {
-        let outputs = outputs::<V>(number);
+        let mut generator = generator::<V>(number);
         let mut bytes = [0; 96];
         for i in 0..12usize {
-            bytes[8 * i..8 * i + 8].copy_from_slice(&outputs[i].to_le_bytes());
+            bytes[8 * i..8 * i + 8].copy_from_slice(&generator.next().to_le_bytes());
         }
         for n in 0..96usize {
             assert_fills::<V>(rt, number, &[n], &bytes[..n]);

@@ -3,7 +3,7 @@
 ghost use Rattle.std.specs.Prelude.{◌<◌, ◌≤◌};
 
 use super::fakes::{Calls, ERRORS, FakeReader};
-use super::{BLOCK_MESSAGE, ZERO};
+use super::{SIX_IN_FIVE, ZERO};
 use crate::digest::digest;
 use crate::faults::Fault;
 use crate::watched::Watched;
@@ -28,9 +28,9 @@ fn digested(bytes: &[u8], calls: Calls, most: u32, size: usize) -> (Result<u64, 
 const ROWS: [(&[u8], u32, usize, Option<u64>); 7] = [
     (ZERO, 16, 96, Some(0)),
     (ZERO, 15, 96, None),
-    (BLOCK_MESSAGE, 95, 96, Some(6)),
-    (BLOCK_MESSAGE, 94, 96, None),
-    (BLOCK_MESSAGE, 95, 1, Some(6)),
+    (SIX_IN_FIVE, 95, 96, Some(6)),
+    (SIX_IN_FIVE, 94, 96, None),
+    (SIX_IN_FIVE, 95, 1, Some(6)),
     (b"", 0, 96, Some(0xb7683ea7430132b4)),
     (b"a", 0, 96, None),
 ];
@@ -54,7 +54,7 @@ fn nothing_is_read_after_a_fault(rt: HostRuntime) {
         let (result, reads) = digested(ZERO, Calls::stopping(8, 2, Some(error)), 16, 96);
         assert!(rt; matches!(result, Err(Fault::Read)) && reads == 2);
     }
-    let (result, reads) = digested(BLOCK_MESSAGE, Calls::endless(7), 20, 96);
+    let (result, reads) = digested(SIX_IN_FIVE, Calls::endless(7), 20, 96);
     assert!(rt; matches!(result, Err(Fault::TooLong)) && reads == 3);
 }
 
@@ -80,7 +80,7 @@ fn of_resumed_streams(bytes: &[u8], size: usize) -> Option<u64>
 fn saving_changes_nothing(rt: HostRuntime) {
     for size in [1, 7, 63, 64, 95] {
         let calls = Calls::endless(96);
-        let hash = digested(BLOCK_MESSAGE, calls, 95, size).0.ok();
-        assert!(rt; hash == Some(6) && of_resumed_streams(BLOCK_MESSAGE, size) == hash);
+        let hash = digested(SIX_IN_FIVE, calls, 95, size).0.ok();
+        assert!(rt; hash == Some(6) && of_resumed_streams(SIX_IN_FIVE, size) == hash);
     }
 }

@@ -13,17 +13,17 @@ ghost use Rattle.komisum.specs.Program.{Shows, hash_line};
 ghost use Rattle.komisum.specs.Settings.{refusal_of, settings_of};
 
 use super::fakes::{Calls, ERRORS, FakeReader, FakeWriter};
-use super::{BLOCK_MESSAGE, HIGH_END, ZERO};
+use super::{HIGH_END, SIX_IN_FIVE, ZERO};
 use crate::digest::hex_line;
-use crate::ending::Ending::{self, Failed, Refused, Shown};
-use crate::ending::report;
-use crate::faults::{Fault, Refusal};
+use crate::ending::Ending::{self, Failed, Refused};
+use crate::ending::{Refusal, report};
+use crate::faults::Fault;
 use crate::program::{run, show};
 use crate::settings::{Version, settings, settings_from_args};
 use crate::watched::Watched;
 use komihash::v5;
 use std::env::Args;
-use std::io::{self, ErrorKind, Read, Write};
+use std::io::{self, Read, Write};
 use std::process::{Abort, ExitCode};
 
 #[test]
@@ -159,7 +159,7 @@ fn lines(rt: HostRuntime) {
     shows(&rt, ZERO, Version::Five, 0, b"0000000000000000\n");
     shows(&rt, b"", Version::Five, 0, b"b7683ea7430132b4\n");
     shows(&rt, b"", Version::Five, u64::MAX, b"4bcc041f3f885859\n");
-    shows(&rt, BLOCK_MESSAGE, Version::Five, 0, b"0000000000000006\n");
+    shows(&rt, SIX_IN_FIVE, Version::Five, 0, b"0000000000000006\n");
     shows(&rt, HIGH_END, Version::Four, 0, b"0000000000000007\n");
     let zeros = [0; 5000];
     for length in [63, 4096, 4097, 5000] {
@@ -175,7 +175,7 @@ fn reads_that_fail(rt: HostRuntime) {
         for call in 1..=16usize {
             let calls = Calls::stopping(7, call, Some(error));
             let (result, reads, writer) = shown(
-                BLOCK_MESSAGE,
+                SIX_IN_FIVE,
                 calls,
                 Calls::endless(17),
                 Version::Five,
@@ -213,30 +213,6 @@ fn writes_and_flushes_that_fail(rt: HostRuntime) {
         fails(&rt, ZERO, Calls::stopping(17, 2, Some(error)), &line);
         fails(&rt, b"", Calls::stopping(5, 2, Some(error)), b"b7683");
     }
-}
-
-// Runs the program on `ZERO`, or on an input that has no buffer. Returns how it ends, and the
-// writer.
-fn ran(asked: Result<(Version, u64), Refusal>, buffer: io::Result<()>) -> (Ending, FakeWriter) {
-    let mut input = buffer.map(|()| Watched::new(FakeReader::new(ZERO, Calls::endless(16))));
-    let mut output = Watched::new(FakeWriter::new(Calls::endless(17)));
-    let ending = ran_as_promised(asked, &mut input, &mut output);
-    (ending, output.into_inner())
-}
-
-#[test]
-fn runs_as_asked(rt: HostRuntime) {
-    let (ending, writer) = ran(Ok((Version::Five, 0)), Ok(()));
-    assert!(rt; matches!(ending, Shown));
-    assert_eq!(rt; writer.taken(), b"0000000000000000\n".as_slice());
-    let asked = asked_as_promised(Err(ErrorKind::InvalidInput.into()));
-    let (ending, writer) = ran(asked, Ok(()));
-    assert!(rt; matches!(ending, Refused(Refusal::Usage)) && writer.calls.made == 0);
-    let asked = asked_as_promised(Err(ErrorKind::OutOfMemory.into()));
-    let (ending, writer) = ran(asked, Ok(()));
-    assert!(rt; matches!(ending, Refused(Refusal::NoMemory)) && writer.calls.made == 0);
-    let (ending, writer) = ran(Ok((Version::Five, 0)), Err(ErrorKind::OutOfMemory.into()));
-    assert!(rt; matches!(ending, Refused(Refusal::NoMemory)) && writer.calls.made == 0);
 }
 
 // Compares the line of an ending on standard error, which is one write, and the status.

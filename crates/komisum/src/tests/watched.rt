@@ -16,14 +16,6 @@ fn wrapped_as_promised<T: Drop>(inner: T) -> (bool, T)
     (watched.failed(), watched.into_inner())
 }
 
-#[test]
-fn gives_back_what_it_wraps(rt: HostRuntime) {
-    assert_eq!(rt;
-        wrapped_as_promised(ZERO.as_slice()),
-        (false, ZERO.as_slice())
-    );
-}
-
 // Returns the number of the system's error.
 fn error_of(returned: Result<usize>) -> Option<i32> {
     returned.err()?.raw_os_error()
