@@ -1,15 +1,14 @@
 -- The generator: its steps in two parts, each of its outputs, and the bytes of outputs that fill a
 -- buffer, in two parts and output by output.
 use Rattle.std.proofs.Common.{◌≡◌, ℕ, zero, suc, ◌+◌, ◌-◌, ◌*◌, ◌%◌, ◌<◌, ◌≤◌, List, ◌∷◌, ◌++◌}
-use Rattle.std.proofs.Common.{length, take, refl, ap, arith, ◌∙◌, zero-add, suc-add}
-use Rattle.std.proofs.lemmas.List.{length-take-le, take_all}
+use Rattle.std.proofs.Common.{length, take, refl, ap, arith, ◌∙◌, zero-add, suc-add, length-take-le}
+use Rattle.std.proofs.Common.{take_all, w64, slice_index}
 use Rattle.std.proofs.lemmas.List.Concat.{flat_map-append}
 use Rattle.std.proofs.Math.Seq.{take-append-add}
 use Rattle.std.proofs.lemmas.Slice.{take-put_mid}
 use borrow.Rule.Slice.PartMut.{put_mid}
-use Rattle.std.specs.Int.{to_le_bytes, w64}
+use Rattle.std.specs.Int.{to_le_bytes}
 use Rattle.std.specs.List.{flat_map}
-use Rattle.std.specs.Prelude.{slice_index}
 use Rattle.komihash.specs.Generator.{next, after_steps, outputs, fill_steps, fill, after_fill}
 use Rattle.komihash.specs.Words.{all_bytes}
 use Rattle.komihash.proofs.AllBytes.{length-all_bytes}

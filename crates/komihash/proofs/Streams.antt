@@ -1,22 +1,21 @@
 -- Streams. The definition absorbs byte by byte, and the code in blocks: both lead to one state. It
 -- stays a state of its version, and a new stream that absorbed a message answers its hash.
-use Rattle.std.proofs.Common.{◌≡◌, ℕ, ◌+◌, ◌-◌, ◌%◌, ◌<◌, ◌≤◌, Bool, true, false, nat_lt}
-use Rattle.std.proofs.Common.{List, [], ◌∷◌, ◌++◌, length, drop, refl, ap, arith, ◌∙◌, sym}
-use Rattle.std.proofs.Common.{inl, inr, if◌then◌else◌, append_assoc, append-nil, length-append}
-use Rattle.std.proofs.Common.{length-drop, get_or-drop}
+use Rattle.std.proofs.Common.{◌≡◌, ℕ, ◌+◌, ◌-◌, ◌%◌, ◌<◌, ◌≤◌, Bool, true, false, nat_lt, List, []}
+use Rattle.std.proofs.Common.{◌∷◌, ◌++◌, length, drop, refl, ap, arith, ◌∙◌, sym, inl, inr}
+use Rattle.std.proofs.Common.{if◌then◌else◌, append_assoc, append-nil, length-append, length-drop}
+use Rattle.std.proofs.Common.{get_or-drop, slice_index}
 use Rattle.std.proofs.lemmas.Bool.{false≢true, cases_lt}
 use Rattle.std.proofs.lemmas.Bool.Decides.{nat_tests}
 use Rattle.std.proofs.lemmas.Grind.{elements}
 use Rattle.std.proofs.lemmas.List.{drop_all}
-use Rattle.std.specs.Prelude.{slice_index}
 use Rattle.komihash.specs.Hash.{komi, hash_from_pair}
 use Rattle.komihash.specs.Padding.{pads_with_two, padding_after, padding_byte}
 use Rattle.komihash.specs.Rounds.{block_round, join, closing}
 use Rattle.komihash.specs.Saved.{text, IsTextAfter}
-use Rattle.komihash.specs.Internals.{stored_words, whole_words, block_lanes, after_blocks}
-use Rattle.komihash.specs.Internals.{tail_end, final_word, padding_or_zero}
-use Rattle.komihash.specs.Stream.{State, IsState, HasAbsorbed, start, absorb, absorb_byte}
-use Rattle.komihash.specs.Stream.{answer, tail_of, Answered}
+use Rattle.komihash.specs.Internals.{stored_words, whole_words, block_lanes, after_blocks, tail_end}
+use Rattle.komihash.specs.Internals.{final_word, padding_or_zero}
+use Rattle.komihash.specs.Stream.{State, IsState, HasAbsorbed, start, absorb, absorb_byte, answer}
+use Rattle.komihash.specs.Stream.{tail_of, Answered}
 use Rattle.komihash.specs.Words.{AreBytes}
 use Rattle.komihash.proofs.Blocks.{completed, block_lanes-few_bytes, after_blocks-few}
 use Rattle.komihash.proofs.Blocks.{length-after_blocks, after_words-after_blocks}

@@ -2,17 +2,15 @@
 -- the message is empty, and zeros. So the padding byte is the last byte that is not 0.
 use Rattle.std.proofs.Common.{◌≡◌, ℕ, zero, suc, ◌+◌, ◌-◌, ◌*◌, ◌/◌, ◌%◌, ◌^◌, ◌<◌, ◌≤◌, List, []}
 use Rattle.std.proofs.Common.{◌∷◌, ◌++◌, length, take, drop, get_or, replicate, refl, ap, arith}
-use Rattle.std.proofs.Common.{◌∙◌, sym, w64, inl, inr}
-use Rattle.std.proofs.Math.Pow.{pow_mono}
+use Rattle.std.proofs.Common.{◌∙◌, sym, w64, inl, inr, pow_mono, drop-drop, drop_at, length-append}
+use Rattle.std.proofs.Common.{length-drop, length-take-le, take-append-drop, take_all, pow-add}
+use Rattle.std.proofs.Common.{pow_pos, slice_index}
 use Rattle.std.proofs.lemmas.Bool.{cases_lt}
 use Rattle.std.proofs.lemmas.Grind.{elements}
-use Rattle.std.proofs.lemmas.List.{drop-drop, drop_at, length-append}
-use Rattle.std.proofs.lemmas.List.{length-drop, length-replicate, length-take-le, take-append-drop}
-use Rattle.std.proofs.lemmas.List.{take_all, get_or_past}
-use Rattle.std.proofs.lemmas.Nat.{pow-add, pow_pos, shr_below, shr_le, le-div}
+use Rattle.std.proofs.lemmas.List.{length-replicate, get_or_past}
+use Rattle.std.proofs.lemmas.Nat.{shr_below, shr_le, le-div}
 use Rattle.std.proofs.lemmas.Simd.{Each1-from_get_or}
 use Rattle.std.specs.Int.{to_le_bytes}
-use Rattle.std.specs.Prelude.{slice_index}
 use Rattle.komihash.specs.Internals.{padding_or_zero}
 use Rattle.komihash.specs.Padding.{ArePadded, pads_with_two, padding_after, padded_words}
 use Rattle.komihash.specs.Padding.{padding_byte, padded_bytes}

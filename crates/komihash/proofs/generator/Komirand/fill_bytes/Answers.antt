@@ -1,7 +1,6 @@
 -- `fill_more` adds an output to those that the buffer has: its eight bytes, or at the end fewer.
-use Rattle.std.proofs.Common.{◌≡◌, ◌+◌, ◌-◌, ◌*◌, ◌/◌, ◌∙◌, length, take, drop, arith}
-use Rattle.std.proofs.Common.{rules, sym}
-use Rattle.std.proofs.lemmas.List.{take_all}
+use Rattle.std.proofs.Common.{◌≡◌, ◌+◌, ◌-◌, ◌*◌, ◌/◌, ◌∙◌, length, take, drop, arith, rules, sym}
+use Rattle.std.proofs.Common.{take_all}
 use Rattle.std.proofs.lemmas.Slice.{overwrites}
 use Rattle.komihash.proofs.GeneratorFills.{fill_more}
 use Rattle.komihash.proofs.generator.Komirand.fill_bytes.Goals as goal
