@@ -46,16 +46,13 @@ same_end (x ∷ xs) (y ∷ ys) a b j k some_a some_b is =
 all_zeros : (xs : List ℕ) → word_of xs ≡ 0 → xs ≡ replicate (length xs) 0
 all_zeros [] is = refl
 all_zeros (x ∷ xs) is =
-    let first : x ≡ 0 = omega arith in
-    let others = all_zeros xs (omega arith) in cc
+    let others = all_zeros xs (omega arith) in grind arith
 
 one_byte : (xs : List ℕ) (k : ℕ) → length xs ≡ suc k → word_of xs < 256
     → xs ≡ word_of xs ∷ replicate k 0
 one_byte [] k size small = absurd (omega arith)
 one_byte (x ∷ xs) k size small =
-    let first : x ≡ x + 256 * word_of xs = omega arith in
-    let count : length xs ≡ k = omega arith in
-    let others = all_zeros xs (omega arith) in cc
+    let others = all_zeros xs (omega arith) in grind arith
 
 -- ---- the bytes of padded words
 
