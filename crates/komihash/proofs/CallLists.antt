@@ -116,17 +116,15 @@ pub call_first : (v : ℕ) (s next : State) (call : Call) (calls : List Call)
     → length s.pending < 64 → next ≡ absorb v s (bytes_of_calls (call ∷ []))
     → CallFirst v s next call calls
 call_first v s next (Absorb bytes) calls few is =
-    let bytes_alone = append-nil bytes.now in
-    let pending : length next.pending ≡ (length s.pending + length bytes.now) % 64 =
-    rw (is, bytes_alone) (pending-absorb v s bytes.now few) in
     let size = length-append bytes.now (bytes_of_calls calls) in
-    let rest = costs-modulo (length s.pending + length bytes.now) (length next.pending) calls
-    (omega arith) in
-    record {
+    let pending = pending-absorb v s bytes.now few in
+    let rest = costs-modulo (length s.pending + length bytes.now)
+    (length (absorb v s bytes.now).pending) calls (omega arith) in
+    rw (is, append-nil bytes.now) record {
       answers = answers_after-same (λ m. answer v (absorb v s m)) _ bytes.now [] calls
-          (λ x. rw (is, bytes_alone) (ap (answer v) (absorb-append v s bytes.now x)));
-      state = rw (is, bytes_alone) (absorb-append v s bytes.now (bytes_of_calls calls));
-      products = rw bytes_alone (omega arith);
+          (λ x. ap (answer v) (absorb-append v s bytes.now x));
+      state = absorb-append v s bytes.now (bytes_of_calls calls);
+      products = rw (append-nil bytes.now) (omega arith);
       kept_bytes = omega arith;
     }
 call_first v s next Answer calls few is =
