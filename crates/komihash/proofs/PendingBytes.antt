@@ -75,8 +75,7 @@ module _ {ws : List ℕ} {len : ℕ} (are : ArePending ws len) where
         omega (arith, length-append pending front, length-take {A = ℕ}) in
         let cut : pending ++ bytes ≡ (pending ++ front) ++ rest =
         rw (append_assoc, take-append-drop) refl in
-        is ∙ ap (stored_words 8) cut ∙ stored_words-append 8 0 (pending ++ front) rest size
-        ∙ append-nil _ ∙ ap (λ n. stored_words (n / 8) (pending ++ front)) (sym size)
+        rw (is, cut, size, stored_words-append 8 0 (pending ++ front) rest size) (append-nil _)
 
   -- the word at a place
   pub get_or_pending : (i : ℕ) → i < 8 → get_or ws i 0 ≡ stored_word pending i
