@@ -56,10 +56,6 @@ one_byte (x ∷ xs) k size small =
 
 -- ---- the bytes of padded words
 
-padding_or_zero-lt : (v : ℕ) (m : List ℕ) → padding_or_zero v m < 256
-padding_or_zero-lt v [] = omega arith
-padding_or_zero-lt v (b ∷ m) = grind arith
-
 padding_or_zero-above : (v : ℕ) (m : List ℕ) → 0 < padding_or_zero v m
     → (0 < length m) × (padding_or_zero v m ≡ padding_byte v m)
 padding_or_zero-above v [] above = absurd (omega arith)
@@ -82,8 +78,7 @@ bytes_of_padded v (b ∷ m) are is =
     let end = padding_byte v xs in
     let whole : length (padded_bytes v xs) % 8 ≡ 0 =
     omega (arith, length-append xs (end ∷ zeros), length-replicate {A = ℕ}) in
-    let are_padded = AreBytes-append xs (end ∷ zeros) are
-    (AreBytes-end end _ (padding_or_zero-lt v xs)) in
+    let are_padded = AreBytes-append xs (end ∷ zeros) are (AreBytes-end end _ (grind arith)) in
     ap all_bytes (sym is ∙ words_of-whole _ (padded_bytes v xs) (omega arith))
     ∙ all_bytes-whole_words (padded_bytes v xs) are_padded whole
 
