@@ -29,9 +29,7 @@ padded_words-by_tail v (b ∷ m) =
     let size : length (end ∷ zeros) ≡ 8 - n % 8 = omega (arith, length-replicate {A = ℕ}) in
     words_of-whole (n / 8 + 1) (xs ++ end ∷ zeros) (omega (arith, length-append xs (end ∷ zeros)))
     ∙ stored_words-last (n / 8) xs (end ∷ zeros) refl (omega arith)
-    ∙ ap (λ w. whole_words xs ++ w ∷ [])
-    (ap word_of (sym (append_assoc (after_words xs) (end ∷ []) zeros))
-    ∙ word_of-zeros (after_words xs ++ end ∷ []) (7 - n % 8))
+    ∙ rw (← append_assoc (after_words xs) (end ∷ []) zeros, word_of-zeros) refl
 
 -- the final word of at least eight bytes, as it is read with the last eight
 pub final_word_many : (xs : List ℕ) (end : ℕ) → ((k : ℕ) → Fits w8 (get_or xs k 0))
