@@ -4,7 +4,7 @@ use Rattle.std.proofs.Common.{◌≡◌, ℕ, zero, suc, ◌+◌, ◌-◌, ◌*�
 use Rattle.std.proofs.Common.{◌∷◌, ◌++◌, length, take, drop, get_or, replicate, refl, ap, arith}
 use Rattle.std.proofs.Common.{◌∙◌, sym, w64, inl, inr, pow_mono, drop-drop, drop_at, length-append}
 use Rattle.std.proofs.Common.{length-drop, length-take-le, take-append-drop, take_all, pow-add}
-use Rattle.std.proofs.Common.{pow_pos, slice_index}
+use Rattle.std.proofs.Common.{pow_pos, slice_index, Fits}
 use Rattle.std.proofs.lemmas.Bool.{cases_lt}
 use Rattle.std.proofs.lemmas.Grind.{elements}
 use Rattle.std.proofs.lemmas.List.{length-replicate, get_or_past}
@@ -92,7 +92,7 @@ same_message v x y are_x are_y same =
 
 -- ---- the highest byte of the last word that is not 0, which can only be the padding byte
 
-module _ (v : ℕ) (ws : List ℕ) (fit : (k : ℕ) → get_or ws k 0 < 2 ^ 64) where
+module _ (v : ℕ) (ws : List ℕ) (fit : (k : ℕ) → Fits w64 (get_or ws k 0)) where
   abbrev last : ℕ
   last = get_or ws (length ws - 1) 0
 
@@ -106,7 +106,7 @@ module _ (v : ℕ) (ws : List ℕ) (fit : (k : ℕ) → get_or ws k 0 < 2 ^ 64) 
       let eight = take_all 8 from (omega (arith, length-drop (8 * i) bytes, length-all_bytes ws)) in
       let word : word_of from ≡ last =
       ap word_of (sym eight ∙ take-all_bytes ws i 8 (omega arith) (omega arith))
-      ∙ omega (arith, fit i) in
+      ∙ omega (arith, (fit i).fits) in
       rw (← drop-drop r (8 * i) bytes, ← word)
       (word_of-drop r from (AreBytes-drop (8 * i) bytes (AreBytes-all_bytes ws)))
 
@@ -161,7 +161,7 @@ module _ (v : ℕ) (ws : List ℕ) (fit : (k : ℕ) → get_or ws k 0 < 2 ^ 64) 
         padded_words-some v message (omega (arith, length-message))
         ∙ ap words_of (rw is at (sym split))
         ∙ words_of-whole (length ws) (all_bytes ws) (length-all_bytes ws)
-        ∙ stored_words-all_bytes ws (Each1-from_get_or _ ws 0 (λ k _. fit k))
+        ∙ stored_words-all_bytes ws (Each1-from_get_or _ ws 0 (λ k _. (fit k).fits))
 
     pub one_place : ArePadded v ws → (0 < size) × (last / 2 ^ (8 * r) ≡ padding_byte v message)
     one_place (m, are, is) =
