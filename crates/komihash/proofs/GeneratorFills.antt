@@ -1,7 +1,7 @@
 -- The generator: its steps in two parts, each of its outputs, and the bytes of outputs that fill a
 -- buffer, in two parts.
-use Rattle.std.proofs.Common.{◌≡◌, ℕ, zero, suc, ◌+◌, ◌-◌, ◌*◌, ◌%◌, ◌<◌, ◌≤◌, List, ◌∷◌, ◌++◌}
-use Rattle.std.proofs.Common.{length, take, refl, ap, arith, ◌∙◌, zero-add, suc-add, length-take-le}
+use Rattle.std.proofs.Common.{◌≡◌, ℕ, zero, suc, ◌+◌, ◌*◌, ◌%◌, ◌<◌, ◌∷◌, ◌++◌}
+use Rattle.std.proofs.Common.{length, refl, ap, arith, ◌∙◌, zero-add, suc-add, length-take-le}
 use Rattle.std.proofs.Common.{take_all, sym, w64, slice_index}
 use Rattle.std.proofs.lemmas.List.Concat.{flat_map-append}
 use Rattle.std.proofs.Math.Seq.{take-append-add}

@@ -1,6 +1,6 @@
 -- The padded words of a message are its whole words, and the word that ends them.
 use Rattle.std.proofs.Common.{◌≡◌, ℕ, ◌+◌, ◌-◌, ◌*◌, ◌/◌, ◌%◌, ◌^◌, ◌<◌, ◌≤◌, Fits, w8, List, []}
-use Rattle.std.proofs.Common.{◌∷◌, ◌++◌, length, take, drop, get_or, replicate, refl, ap, arith}
+use Rattle.std.proofs.Common.{◌∷◌, ◌++◌, length, take, drop, get_or, replicate, refl, arith}
 use Rattle.std.proofs.Common.{◌∙◌, sym, append_assoc, length-append, length-drop, shr-shr, bit_or}
 use Rattle.std.proofs.lemmas.List.{drop_all, length-replicate}
 use Rattle.komihash.specs.Padding.{padded_words, padding_byte}

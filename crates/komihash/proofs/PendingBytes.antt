@@ -1,6 +1,6 @@
 -- Pending bytes, and the eight words that store them.
 use Rattle.std.proofs.Common.{◌≡◌, ℕ, ◌+◌, ◌*◌, ◌<◌, ◌≤◌, List, [], ◌∷◌, ◌++◌, Fits, length, take}
-use Rattle.std.proofs.Common.{drop, get_or, set, refl, ap, arith, ◌∙◌, w8, ◌-◌, ◌/◌, ◌%◌, ◌^◌, sym}
+use Rattle.std.proofs.Common.{drop, get_or, set, refl, ap, arith, ◌∙◌, w8, ◌-◌, ◌/◌, ◌%◌, ◌^◌}
 use Rattle.std.proofs.Common.{inl, inr, length-append, length-drop, length-take, take-take}
 use Rattle.std.proofs.Common.{append_assoc, append-nil, take-append-drop, bit_or}
 use Rattle.std.proofs.lemmas.Bool.{cases_eq, cases_lt}

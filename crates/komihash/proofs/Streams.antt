@@ -10,7 +10,7 @@ use Rattle.std.proofs.lemmas.Grind.{elements}
 use Rattle.std.proofs.lemmas.List.{drop_all}
 use Rattle.komihash.specs.Hash.{komi, hash_from_pair}
 use Rattle.komihash.specs.Padding.{pads_with_two, padding_after, padding_byte}
-use Rattle.komihash.specs.Rounds.{block_round, join, closing}
+use Rattle.komihash.specs.Rounds.{join, closing}
 use Rattle.komihash.specs.Saved.{text, IsTextAfter}
 use Rattle.komihash.specs.Internals.{stored_words, whole_words, block_lanes, after_blocks, tail_end}
 use Rattle.komihash.specs.Internals.{final_word, padding_or_zero}

@@ -1,6 +1,5 @@
 -- Each turn covers eight more bytes of the buffer; fewer than eight may be left after the loop.
-use Rattle.std.proofs.Common.{◌≡◌, ◌+◌, ◌-◌, ◌/◌, ◌∙◌, length, arith, rules, sym, take_all}
-use Rattle.komihash.specs.Generator.{outputs}
+use Rattle.std.proofs.Common.{◌≡◌, ◌+◌, ◌/◌, ◌∙◌, length, arith, rules, sym, take_all}
 use Rattle.komihash.proofs.AllBytes.{Covers-more}
 use Rattle.komihash.proofs.GeneratorFills.{next_output}
 use Rattle.komihash.proofs.generator.Komirand.fill_bytes.Goals as goal
@@ -27,10 +26,10 @@ returns-then-has_remainder g c =
     let is = rw done at c.words.invariant in
     let (word, pair, size) =
     next_output g.row.V (n / 8) ((n + 7) / 8) c.args.self.now _ (omega arith) is.pair in
-    let all = Covers-more _ _ _ _ (n / 8) _ _ n is.bytes
-    (rw (c.next-output.ensures.output, word) at c.write_partial_word.ensures) size
-    (search (rules, arith)) (search (rules, arith)) (omega arith) (omega arith) in
+    let bytes = rw (c.next-output.ensures.output, word) at c.write_partial_word.ensures in
     record {
-      bytes = sym (take_all n _ (search (rules, arith))) ∙ all.front;
+      bytes = sym (take_all n _ (search (rules, arith)))
+          ∙ (Covers-more _ _ _ _ (n / 8) _ _ n is.bytes bytes size (search (rules, arith))
+          (search (rules, arith)) (omega arith) (omega arith)).front;
       pair = rw last (c.next-output.ensures.pair ∙ pair);
     }
