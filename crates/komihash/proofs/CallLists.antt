@@ -1,9 +1,7 @@
 -- Lists of calls on a stream: how many bytes are pending after a write, what calls answer, the
 -- bytes and the costs of calls, and what the first call of a list leaves to the others.
 use Rattle.std.proofs.Common.{◌≡◌, ℕ, ◌+◌, ◌%◌, ◌<◌, List, [], ◌∷◌, ◌++◌, length, refl, ap, arith}
-use Rattle.std.proofs.Common.{sym, inl, inr, ◌∙◌}
-use Rattle.std.proofs.lemmas.List.{append_assoc, append-nil, length-append}
-use Rattle.std.proofs.lemmas.Bool.{cases_lt}
+use Rattle.std.proofs.Common.{sym, ◌∙◌, append_assoc, append-nil, length-append}
 use Rattle.komihash.specs.Calls.{answers_after, onward, bytes_of_calls, AreAbsorbs, run_products}
 use Rattle.komihash.specs.Calls.{products_of_answers, onward_products, onward_kept_bytes}
 use Rattle.komihash.specs.Counts.{answer_products, hash_products}
@@ -12,20 +10,16 @@ use Rattle.komihash.specs.Stream.{State, HasAbsorbed, start, absorb, answer}
 use Rattle.komihash.specs.declared.stream.Call.{Call}
 use Rattle.komihash.specs.declared.stream.Call.TheVariants.{Absorb, Answer}
 use Rattle.komihash.proofs.Blocks.{length-after_blocks}
-use Rattle.komihash.proofs.Streams.{absorb-append, absorb-nothing, absorb-few, absorb-blocks}
-use Rattle.komihash.proofs.Streams.{answer-joined}
+use Rattle.komihash.proofs.Streams.{absorb-append, absorb-nothing, absorb-blocks, answer-joined}
 
 -- ---- how many bytes are pending
 
 pub pending-absorb : (v : ℕ) (s : State) (bytes : List ℕ) → length s.pending < 64
     → length (absorb v s bytes).pending ≡ (length s.pending + length bytes) % 64
 pending-absorb v s bytes few =
-    let size = length-append s.pending bytes in
-    let left = length-after_blocks (s.pending ++ bytes) in
-    elim (cases_lt (length s.pending + length bytes) 64) [
-      | inl lt ↦ rw (absorb-few v s bytes lt) (omega arith)
-      | inr le ↦ rw (absorb-blocks v s bytes few le) (omega arith)
-    ]
+    let all = s.pending ++ bytes in
+    rw (absorb-blocks v s bytes few)
+    (omega (arith, length-after_blocks all, length-append s.pending bytes))
 
 -- after a message
 pub HasAbsorbed-pending : (v seed : ℕ) (s : State) (m : List ℕ) → HasAbsorbed v seed s m
@@ -122,17 +116,15 @@ pub call_first : (v : ℕ) (s next : State) (call : Call) (calls : List Call)
     → length s.pending < 64 → next ≡ absorb v s (bytes_of_calls (call ∷ []))
     → CallFirst v s next call calls
 call_first v s next (Absorb bytes) calls few is =
-    let bytes_alone = append-nil bytes.now in
-    let pending : length next.pending ≡ (length s.pending + length bytes.now) % 64 =
-    rw (is, bytes_alone) (pending-absorb v s bytes.now few) in
     let size = length-append bytes.now (bytes_of_calls calls) in
-    let rest = costs-modulo (length s.pending + length bytes.now) (length next.pending) calls
-    (omega arith) in
-    record {
+    let pending = pending-absorb v s bytes.now few in
+    let rest = costs-modulo (length s.pending + length bytes.now)
+    (length (absorb v s bytes.now).pending) calls (omega arith) in
+    rw (is, append-nil bytes.now) record {
       answers = answers_after-same (λ m. answer v (absorb v s m)) _ bytes.now [] calls
-          (λ x. rw (is, bytes_alone) (ap (answer v) (absorb-append v s bytes.now x)));
-      state = rw (is, bytes_alone) (absorb-append v s bytes.now (bytes_of_calls calls));
-      products = rw bytes_alone (omega arith);
+          (λ x. ap (answer v) (absorb-append v s bytes.now x));
+      state = absorb-append v s bytes.now (bytes_of_calls calls);
+      products = rw (append-nil bytes.now) (omega arith);
       kept_bytes = omega arith;
     }
 call_first v s next Answer calls few is =

@@ -1,15 +1,12 @@
 -- The generator: its steps in two parts, each of its outputs, and the bytes of outputs that fill a
--- buffer, in two parts and output by output.
-use Rattle.std.proofs.Common.{◌≡◌, ℕ, zero, suc, ◌+◌, ◌-◌, ◌*◌, ◌%◌, ◌<◌, ◌≤◌, List, ◌∷◌, ◌++◌}
-use Rattle.std.proofs.Common.{length, take, refl, ap, arith, ◌∙◌, zero-add, suc-add}
-use Rattle.std.proofs.lemmas.List.{length-take-le, take_all}
+-- buffer, in two parts.
+use Rattle.std.proofs.Common.{◌≡◌, ℕ, zero, suc, ◌+◌, ◌*◌, ◌%◌, ◌<◌, ◌∷◌, ◌++◌}
+use Rattle.std.proofs.Common.{length, refl, ap, arith, ◌∙◌, zero-add, suc-add, length-take-le}
+use Rattle.std.proofs.Common.{take_all, sym, w64, slice_index}
 use Rattle.std.proofs.lemmas.List.Concat.{flat_map-append}
 use Rattle.std.proofs.Math.Seq.{take-append-add}
-use Rattle.std.proofs.lemmas.Slice.{take-put_mid}
-use borrow.Rule.Slice.PartMut.{put_mid}
-use Rattle.std.specs.Int.{to_le_bytes, w64}
+use Rattle.std.specs.Int.{to_le_bytes}
 use Rattle.std.specs.List.{flat_map}
-use Rattle.std.specs.Prelude.{slice_index}
 use Rattle.komihash.specs.Generator.{next, after_steps, outputs, fill_steps, fill, after_fill}
 use Rattle.komihash.specs.Words.{all_bytes}
 use Rattle.komihash.proofs.AllBytes.{length-all_bytes}
@@ -41,6 +38,14 @@ unfolding after_steps outputs
 output-at v zero k s lt = absurd (omega arith)
 output-at v (suc n) zero s lt = refl
 output-at v (suc n) (suc k) s lt = output-at v n k (next v s) (omega arith)
+
+-- output k, from the pair before it
+pub next_output : (v k n : ℕ) (s now : ℕ × ℕ) → k < n → now ≡ after_steps v k s
+    → ((next v now).0 ≡ slice_index (outputs v n s) k) × (next v now ≡ after_steps v (k + 1) s)
+    × (k < length (outputs v n s))
+unfolding after_steps
+next_output v k n s now lt is =
+    rw is (sym (output-at v n k s lt), sym (after_steps-add v k 1 s), rw (length-outputs v n s) lt)
 
 length-bytes : (v n : ℕ) (s : ℕ × ℕ) → length (all_bytes (outputs v n s)) ≡ 8 * n
 length-bytes v n s = length-all_bytes (outputs v n s) ∙ ap (λ k. 8 * k) (length-outputs v n s)
@@ -81,19 +86,3 @@ fill-add v x y s whole =
       take_all x front (omega arith),
     )
     (rw size at (take-append-add front (all_bytes (outputs v (fill_steps y) now)) y))
-
--- ---- a buffer that is filled output by output
-
--- k bytes of the next output are put after the first `at` bytes, and end at n
-pub fill_more : (v at k n : ℕ) (s now : ℕ × ℕ) (out new : List ℕ) → at % 8 ≡ 0 → 0 < k → k ≤ 8
-    → at + k ≡ n → n ≤ length out → now ≡ after_fill v s at → take at out ≡ fill v s at
-    → new ≡ take k (to_le_bytes w64 (next v now).0)
-    → (take n (put_mid at (n - at) out new) ≡ fill v s n) × (next v now ≡ after_fill v s n)
-unfolding outputs after_steps
-fill_more v at k n s now out new whole some most end room is so_far bytes =
-    let one : fill_steps k ≡ 1 = omega arith in
-    let size = ap length bytes ∙ length-take-le k (to_le_bytes w64 (next v now).0) most in (
-      take-put_mid at (n - at) out new n (omega arith) (omega arith)
-          ∙ rw (← end, fill-add v at k s whole, ← is, one, so_far, bytes) refl,
-      rw (← end, after_fill-add v at k s whole, ← is, one) refl,
-    )

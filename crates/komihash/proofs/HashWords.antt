@@ -1,8 +1,7 @@
 -- Lanes and hashes are words: each is a sum modulo 2 ^ 64, or one xored with the low half of a
 -- product.
-use Rattle.std.proofs.Common.{ℕ, ◌^◌, ◌<◌, Bool, true, List, [], ◌∷◌, arith}
+use Rattle.std.proofs.Common.{ℕ, ◌^◌, ◌<◌, Bool, true, List, [], ◌∷◌, arith, bit_xor}
 use Rattle.std.proofs.lemmas.Nat.{xor_lt}
-use Rattle.std.specs.Prelude.{bit_xor}
 use Rattle.komihash.specs.Hash.{komi, hash_from_pair, hash_from_lanes}
 use Rattle.komihash.specs.Padding.{padded_words}
 use Rattle.komihash.specs.Rounds.{Lanes, low, plus, mix, seed_pair, lanes, block_round}

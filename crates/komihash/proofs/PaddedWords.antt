@@ -1,11 +1,8 @@
 -- The padded words of a message are its whole words, and the word that ends them.
 use Rattle.std.proofs.Common.{◌≡◌, ℕ, ◌+◌, ◌-◌, ◌*◌, ◌/◌, ◌%◌, ◌^◌, ◌<◌, ◌≤◌, Fits, w8, List, []}
-use Rattle.std.proofs.Common.{◌∷◌, ◌++◌, length, take, drop, get_or, replicate, refl, ap, arith}
-use Rattle.std.proofs.Common.{◌∙◌, sym}
-use Rattle.std.proofs.lemmas.List.{append_assoc, drop_all, length-append, length-drop}
-use Rattle.std.proofs.lemmas.List.{length-replicate}
-use Rattle.std.proofs.lemmas.Nat.{shr-shr}
-use Rattle.std.specs.Prelude.{bit_or}
+use Rattle.std.proofs.Common.{◌∷◌, ◌++◌, length, take, drop, get_or, replicate, refl, arith}
+use Rattle.std.proofs.Common.{◌∙◌, sym, append_assoc, length-append, length-drop, shr-shr, bit_or}
+use Rattle.std.proofs.lemmas.List.{drop_all, length-replicate}
 use Rattle.komihash.specs.Padding.{padded_words, padding_byte}
 use Rattle.komihash.specs.Words.{word_of}
 use Rattle.komihash.specs.Internals.{stored_words, whole_words, after_words, final_word}
@@ -32,9 +29,7 @@ padded_words-by_tail v (b ∷ m) =
     let size : length (end ∷ zeros) ≡ 8 - n % 8 = omega (arith, length-replicate {A = ℕ}) in
     words_of-whole (n / 8 + 1) (xs ++ end ∷ zeros) (omega (arith, length-append xs (end ∷ zeros)))
     ∙ stored_words-last (n / 8) xs (end ∷ zeros) refl (omega arith)
-    ∙ ap (λ w. whole_words xs ++ w ∷ [])
-    (ap word_of (sym (append_assoc (after_words xs) (end ∷ []) zeros))
-    ∙ word_of-zeros (after_words xs ++ end ∷ []) (7 - n % 8))
+    ∙ rw (← append_assoc (after_words xs) (end ∷ []) zeros, word_of-zeros) refl
 
 -- the final word of at least eight bytes, as it is read with the last eight
 pub final_word_many : (xs : List ℕ) (end : ℕ) → ((k : ℕ) → Fits w8 (get_or xs k 0))

@@ -1,12 +1,11 @@
 -- Pending bytes, and the eight words that store them.
-use Rattle.std.proofs.Common.{◌≡◌, ℕ, ◌+◌, ◌*◌, ◌<◌, ◌≤◌, List, [], ◌∷◌, ◌++◌, Fits}
-use Rattle.std.proofs.Common.{length, take, drop, get_or, set, refl, ap, arith, ◌∙◌, w8}
-use Rattle.std.proofs.Common.{◌-◌, ◌/◌, ◌%◌, ◌^◌, sym, inl, inr, length-append, length-drop}
-use Rattle.std.proofs.Common.{length-take, take-take}
+use Rattle.std.proofs.Common.{◌≡◌, ℕ, ◌+◌, ◌*◌, ◌<◌, ◌≤◌, List, [], ◌∷◌, ◌++◌, Fits, length, take}
+use Rattle.std.proofs.Common.{drop, get_or, set, refl, ap, arith, ◌∙◌, w8, ◌-◌, ◌/◌, ◌%◌, ◌^◌}
+use Rattle.std.proofs.Common.{inl, inr, length-append, length-drop, length-take, take-take}
+use Rattle.std.proofs.Common.{append_assoc, append-nil, take-append-drop, bit_or}
 use Rattle.std.proofs.lemmas.Bool.{cases_eq, cases_lt}
 use Rattle.std.proofs.lemmas.Grind.{elements}
-use Rattle.std.proofs.lemmas.List.{append_assoc, append-nil, drop_all, drop-append-le}
-use Rattle.std.proofs.lemmas.List.{take-append-drop, take-append-le}
+use Rattle.std.proofs.lemmas.List.{drop_all, drop-append-le, take-append-le}
 use Rattle.std.proofs.Math.Seq.{drop-append-add}
 use Rattle.komihash.specs.Internals.{stored_words, pending_bytes, ArePending, StoresBut}
 use Rattle.komihash.specs.Internals.{whole_words, stored_word}
@@ -17,7 +16,6 @@ use Rattle.komihash.proofs.WholeWords.{stored_words-append}
 use Rattle.komihash.proofs.Lists.{take-append}
 use Rattle.komihash.proofs.WordOf.{AreBytes-append, AreBytes-take, AreBytes-drop, AreBytes-typed}
 use Rattle.komihash.proofs.WordOf.{word_of-join}
-use Rattle.std.specs.Prelude.{bit_or}
 
 -- ---- words that are stored one by one, some of them out of order or more than once
 
@@ -77,8 +75,7 @@ module _ {ws : List ℕ} {len : ℕ} (are : ArePending ws len) where
         omega (arith, length-append pending front, length-take {A = ℕ}) in
         let cut : pending ++ bytes ≡ (pending ++ front) ++ rest =
         rw (append_assoc, take-append-drop) refl in
-        is ∙ ap (stored_words 8) cut ∙ stored_words-append 8 0 (pending ++ front) rest size
-        ∙ append-nil _ ∙ ap (λ n. stored_words (n / 8) (pending ++ front)) (sym size)
+        rw (is, cut, size, stored_words-append 8 0 (pending ++ front) rest size) (append-nil _)
 
   -- the word at a place
   pub get_or_pending : (i : ℕ) → i < 8 → get_or ws i 0 ≡ stored_word pending i

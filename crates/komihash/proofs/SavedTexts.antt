@@ -1,21 +1,18 @@
 -- Saved texts: how their parts are put together, how the state is read back from one, which bytes
 -- are one, and what the calls that save and resume say.
-use Rattle.std.proofs.Common.{◌≡◌, ℕ, ◌+◌, ◌-◌, ◌/◌, ◌≤◌, ◌↔◌, List, []}
-use Rattle.std.proofs.Common.{◌∷◌, ◌++◌, length, take, drop, get_or, refl, ap, arith, ◌∙◌, sym}
-use Rattle.std.proofs.Common.{subst, Fits, w8, Some}
+use Rattle.std.proofs.Common.{◌≡◌, ℕ, ◌+◌, ◌-◌, ◌/◌, ◌≤◌, ◌↔◌, List, [], ◌∷◌, ◌++◌, length, take}
+use Rattle.std.proofs.Common.{drop, get_or, refl, ap, arith, ◌∙◌, sym, subst, Fits, w8, Some}
+use Rattle.std.proofs.Common.{length-drop, length-take-le, drop-drop, take-append-drop, take_at}
+use Rattle.std.proofs.Common.{drop_at, take_all, slice_index, ◌==◌}
 use Rattle.std.proofs.lemmas.Bool.Decides.{nat_tests}
-use Rattle.std.proofs.lemmas.List.{length-drop, length-take-le}
-use Rattle.std.proofs.lemmas.List.{drop-drop, take-append-drop, take_at, drop_at, take_all}
 use Rattle.std.proofs.lemmas.Slice.{take-put_mid, drop-put_mid}
 use borrow.Rule.Slice.PartMut.{put_mid}
-use Rattle.std.specs.Prelude.{slice_index, ◌==◌}
 use Rattle.komihash.specs.Rounds.{Lanes, in_order}
-use Rattle.komihash.specs.Saved.{lanes_at, pending_at, longest_text, text}
-use Rattle.komihash.specs.Saved.{IsText, IsTextAfter, Restored}
+use Rattle.komihash.specs.Saved.{lanes_at, pending_at, longest_text, text, IsText, IsTextAfter}
+use Rattle.komihash.specs.Saved.{Restored}
 use Rattle.komihash.specs.Stream.{State, IsState, HasAbsorbed}
-use Rattle.komihash.specs.Internals.{IsHead, stored_words, whole_words}
+use Rattle.komihash.specs.Internals.{IsHead, stored_words, whole_words, xor_again}
 use Rattle.komihash.specs.Words.{AreBytes, AreWords, all_bytes}
-use Rattle.komihash.specs.Internals.{xor_again}
 use Rattle.komihash.proofs.WholeWords.{length-whole_words}
 use Rattle.komihash.proofs.AllBytes.{length-all_bytes, stored_words-all_bytes}
 use Rattle.komihash.proofs.AllBytes.{all_bytes-whole_words, AreWords-stored_words}

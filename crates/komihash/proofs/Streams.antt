@@ -1,21 +1,21 @@
 -- Streams. The definition absorbs byte by byte, and the code in blocks: both lead to one state. It
 -- stays a state of its version, and a new stream that absorbed a message answers its hash.
-use Rattle.std.proofs.Common.{◌≡◌, ℕ, suc, ◌+◌, ◌-◌, ◌%◌, ◌<◌, ◌≤◌, Bool, true, false}
-use Rattle.std.proofs.Common.{List, [], ◌∷◌, ◌++◌, length, drop, refl, ap, arith, ◌∙◌, sym}
-use Rattle.std.proofs.Common.{inl, inr}
+use Rattle.std.proofs.Common.{◌≡◌, ℕ, ◌+◌, ◌-◌, ◌%◌, ◌<◌, ◌≤◌, Bool, true, false, nat_lt, List, []}
+use Rattle.std.proofs.Common.{◌∷◌, ◌++◌, length, drop, refl, ap, arith, ◌∙◌, sym, inl, inr}
+use Rattle.std.proofs.Common.{if◌then◌else◌, append_assoc, append-nil, length-append, length-drop}
+use Rattle.std.proofs.Common.{get_or-drop, slice_index}
 use Rattle.std.proofs.lemmas.Bool.{false≢true, cases_lt}
 use Rattle.std.proofs.lemmas.Bool.Decides.{nat_tests}
-use Rattle.std.proofs.lemmas.List.{append_assoc, append-nil, length-append, length-drop}
-use Rattle.std.proofs.lemmas.List.{get_or-drop, drop_all}
-use Rattle.std.specs.Prelude.{slice_index}
+use Rattle.std.proofs.lemmas.Grind.{elements}
+use Rattle.std.proofs.lemmas.List.{drop_all}
 use Rattle.komihash.specs.Hash.{komi, hash_from_pair}
 use Rattle.komihash.specs.Padding.{pads_with_two, padding_after, padding_byte}
-use Rattle.komihash.specs.Rounds.{block_round, join, closing}
+use Rattle.komihash.specs.Rounds.{join, closing}
 use Rattle.komihash.specs.Saved.{text, IsTextAfter}
-use Rattle.komihash.specs.Internals.{stored_words, whole_words, block_lanes, after_blocks}
-use Rattle.komihash.specs.Internals.{tail_end, final_word, padding_or_zero}
-use Rattle.komihash.specs.Stream.{State, IsState, HasAbsorbed, start, absorb, absorb_byte}
-use Rattle.komihash.specs.Stream.{answer, tail_of, Answered}
+use Rattle.komihash.specs.Internals.{stored_words, whole_words, block_lanes, after_blocks, tail_end}
+use Rattle.komihash.specs.Internals.{final_word, padding_or_zero}
+use Rattle.komihash.specs.Stream.{State, IsState, HasAbsorbed, start, absorb, absorb_byte, answer}
+use Rattle.komihash.specs.Stream.{tail_of, Answered}
 use Rattle.komihash.specs.Words.{AreBytes}
 use Rattle.komihash.proofs.Blocks.{completed, block_lanes-few_bytes, after_blocks-few}
 use Rattle.komihash.proofs.Blocks.{length-after_blocks, after_words-after_blocks}
@@ -38,83 +38,63 @@ unfolding absorb
 absorb-append v s [] y = refl
 absorb-append v s (b ∷ x) y = absorb-append v (absorb_byte v s b) x y
 
--- the state after a byte that fills no block
-abbrev byte_state : State → ℕ → State
-byte_state s b = record s { pending = s.pending ++ b ∷ [] }
+-- the state after bytes, by the blocks that they complete
+abbrev pub blocks_state : ℕ → State → List ℕ → State
+blocks_state v s bytes =
+    let all = s.pending ++ bytes in
+    let few = nat_lt (length all) 64 in
+    let last = slice_index all (length all - length all % 64 - 1) in
+    record {
+      lanes = block_lanes v s.lanes (whole_words all);
+      pending = after_blocks all;
+      had_block = if few then s.had_block else true;
+      top_bit = if few then s.top_bit else pads_with_two v last;
+    }
 
-absorb-byte : (v : ℕ) (s : State) (b : ℕ) (bytes : List ℕ) → length s.pending < 63
-    → absorb v s (b ∷ bytes) ≡ absorb v (byte_state s b) bytes
-unfolding absorb
-absorb-byte v s b bytes few = grind (arith, nat_tests, length-append s.pending (b ∷ []))
+blocks_state-few : (v : ℕ) (s : State) (bytes : List ℕ) → length s.pending + length bytes < 64
+    → blocks_state v s bytes ≡ record s { pending = s.pending ++ bytes }
+blocks_state-few v s bytes few =
+    let size = length-append s.pending bytes in
+    let none = block_lanes-few_bytes v s.lanes (s.pending ++ bytes) (omega arith) in
+    let all = after_blocks-few (s.pending ++ bytes) (omega arith) in
+    grind (arith, nat_tests)
 
--- the state after a byte that fills a block
-abbrev block_state : ℕ → State → ℕ → State
-block_state v s b = record {
-  lanes = block_round v s.lanes (whole_words (s.pending ++ b ∷ []));
-  pending = [];
-  had_block = true;
-  top_bit = pads_with_two v b;
-}
+-- a byte that completes no block, and one that does
+absorb_byte-few : (v : ℕ) (s : State) (b : ℕ) → length s.pending < 63
+    → absorb_byte v s b ≡ record s { pending = s.pending ++ b ∷ [] }
+absorb_byte-few v s b few = grind (arith, nat_tests, length-append s.pending (b ∷ []))
 
-absorb-block : (v : ℕ) (s : State) (b : ℕ) (bytes : List ℕ) → length s.pending ≡ 63
-    → absorb v s (b ∷ bytes) ≡ absorb v (block_state v s b) bytes
-unfolding absorb
-absorb-block v s b bytes full =
+absorb_byte-full : (v : ℕ) (s : State) (b : ℕ) (bytes : List ℕ) → length s.pending ≡ 63
+    → ((absorb_byte v s b).pending ≡ [])
+    × (blocks_state v (absorb_byte v s b) bytes ≡ blocks_state v s (b ∷ bytes))
+absorb_byte-full v s b bytes full =
     let all = s.pending ++ b ∷ [] in
     let size : length all ≡ 64 = omega (arith, length-append s.pending (b ∷ [])) in
+    let on = completed v s.lanes s.pending (b ∷ bytes) 1 (omega arith) (omega arith) in
     rw (size, words_of-whole 8 all size)
+    (refl, grind (arith, nat_tests, elements, on.lanes, on.left))
+
+pub absorb-blocks : (v : ℕ) (s : State) (bytes : List ℕ) → length s.pending < 64
+    → absorb v s bytes ≡ blocks_state v s bytes
+unfolding absorb
+absorb-blocks v s [] few = rw (blocks_state-few v s [] (omega arith), append-nil) refl
+absorb-blocks v s (b ∷ bytes) few =
+    let size = length-append s.pending (b ∷ []) in
+    let next = absorb_byte v s b in
+    elim (cases_lt (length s.pending) 63) [
+      | inl lt ↦
+          let is = absorb_byte-few v s b lt in
+          absorb-blocks v next bytes (rw is (omega arith)) ∙ rw (is, append_assoc) refl
+      | inr ge ↦
+          let (none, same) = absorb_byte-full v s b bytes (omega arith) in
+          absorb-blocks v next bytes (rw none (omega arith)) ∙ same
+    ]
 
 -- bytes that fill no block
 pub absorb-few : (v : ℕ) (s : State) (bytes : List ℕ) → length s.pending + length bytes < 64
     → absorb v s bytes ≡ record s { pending = s.pending ++ bytes }
-absorb-few v s [] few = rw (absorb-nothing, append-nil)
-absorb-few v s (b ∷ bytes) few =
-    let size = length-append s.pending (b ∷ []) in
-    absorb-byte v s b bytes (omega arith) ∙ absorb-few v (byte_state s b) bytes (omega arith)
-    ∙ rw append_assoc
-
--- the index, in n bytes that follow f pending ones, of the last byte of the last block
-abbrev last_at : ℕ → ℕ → ℕ
-last_at f n = n - (f + n) % 64 - 1
-
--- the state after bytes that fill at least one block
-abbrev pub blocks_state : ℕ → State → List ℕ → State
-blocks_state v s bytes = record {
-  lanes = block_lanes v s.lanes (whole_words (s.pending ++ bytes));
-  pending = after_blocks (s.pending ++ bytes);
-  had_block = true;
-  top_bit = pads_with_two v (slice_index bytes (last_at (length s.pending) (length bytes)));
-}
-
-pub absorb-blocks : (v : ℕ) (s : State) (bytes : List ℕ) → length s.pending < 64
-    → 64 ≤ length s.pending + length bytes → absorb v s bytes ≡ blocks_state v s bytes
-absorb-blocks v s [] few le = absurd (omega arith)
-absorb-blocks v s (b ∷ bytes) few le =
-    let size = length-append s.pending (b ∷ []) in
-    let f = length s.pending in
-    let n = length bytes in
-    elim (cases_lt f 63) [
-      | inl lt ↦
-          let all = s.pending ++ b ∷ [] in
-          let last : last_at f (suc n) ≡ suc (last_at (length all) n) = omega arith in
-          absorb-byte v s b bytes lt
-          ∙ absorb-blocks v (byte_state s b) bytes (omega arith) (omega arith)
-          ∙ rw (append_assoc, last) refl
-      | inr ge ↦
-          let full : f + 1 ≡ 64 = omega arith in
-          let after = block_state v s b in
-          let on = completed v s.lanes s.pending (b ∷ bytes) 1 full (omega arith) in
-          absorb-block v s b bytes (omega arith) ∙ elim (cases_lt n 64) [
-            | inl lt ↦
-                let last : last_at f (suc n) ≡ 0 = omega arith in
-                let same = block_lanes-few_bytes v after.lanes bytes lt in
-                let all = after_blocks-few bytes lt in
-                absorb-few v after bytes (omega arith) ∙ cc
-            | inr more ↦
-                let last : last_at f (suc n) ≡ suc (last_at 0 n) = omega arith in
-                absorb-blocks v after bytes (omega arith) (omega arith) ∙ cc
-          ]
-    ]
+absorb-few v s bytes few =
+    absorb-blocks v s bytes (omega arith) ∙ blocks_state-few v s bytes few
 
 -- ---- it stays a state
 
@@ -129,14 +109,14 @@ pub IsState-absorb : (v : ℕ) (s : State) (bytes : List ℕ) → IsState v s �
     → IsState v (absorb v s bytes)
 IsState-absorb v s bytes is are =
     let all = s.pending ++ bytes in
-    let are_all = AreBytes-append s.pending bytes is.bytes are in
-    elim (cases_lt (length s.pending + length bytes) 64) [
-      | inl lt ↦ rw (absorb-few v s bytes lt) (search (arith, length-append s.pending bytes))
-      | inr le ↦
-          let left = length-after_blocks all in
-          rw (absorb-blocks v s bytes is.few le)
-          (search (arith, AreWords-block_lanes, AreBytes-drop, pads_with_two-version))
-    ]
+    rw (absorb-blocks v s bytes is.few) record {
+      words = AreWords-block_lanes v s.lanes (whole_words all) is.words;
+      bytes = AreBytes-drop (length all - length all % 64) all
+          (AreBytes-append s.pending bytes is.bytes are);
+      few = omega (arith, length-after_blocks all);
+      top_bit_block = grind (arith, nat_tests, is.top_bit_block);
+      top_bit_version = grind (arith, nat_tests, is.top_bit_version, pads_with_two-version);
+    }
 
 -- what the proof of a write needs
 pub ruleset more_absorbed = (absorb-append, absorb-few, IsState-absorb, AreBytes-typed)
@@ -201,13 +181,12 @@ answer-joined v seed m =
           rw (absorb-few v (start seed) m (omega arith))
           (answer-by_pair v (record (start seed) { pending = m }) ∙ cc)
       | inr le ↦
-          let n = length m - length m % 64 in
           let words = after_words-after_blocks m in
-          let last : last_at 0 (length m) ≡ n - 1 = omega arith in
-          let end = tail_end-drop v n m (omega arith) (omega arith) in
+          let end = tail_end-drop v (length m - length m % 64) m (omega arith) (omega arith) in
           let hash = komi_long v seed m le in
-          rw (absorb-blocks v (start seed) m (omega arith) (omega arith))
-          (answer-by_pair v (blocks_state v (start seed) m) ∙ cc)
+          let some : nat_lt (length m) 64 ≡ false = grind (arith, nat_tests) in
+          rw (absorb-blocks v (start seed) m (omega arith))
+          (answer-by_pair v (blocks_state v (start seed) m) ∙ rw some (cc))
     ]
 
 -- ---- what its calls say

@@ -2,17 +2,15 @@
 -- the message is empty, and zeros. So the padding byte is the last byte that is not 0.
 use Rattle.std.proofs.Common.{◌≡◌, ℕ, zero, suc, ◌+◌, ◌-◌, ◌*◌, ◌/◌, ◌%◌, ◌^◌, ◌<◌, ◌≤◌, List, []}
 use Rattle.std.proofs.Common.{◌∷◌, ◌++◌, length, take, drop, get_or, replicate, refl, ap, arith}
-use Rattle.std.proofs.Common.{◌∙◌, sym, w64, inl, inr}
-use Rattle.std.proofs.Math.Pow.{pow_mono}
+use Rattle.std.proofs.Common.{◌∙◌, sym, w64, inl, inr, pow_mono, drop-drop, drop_at, length-append}
+use Rattle.std.proofs.Common.{length-drop, length-take-le, take-append-drop, take_all, pow-add}
+use Rattle.std.proofs.Common.{pow_pos, slice_index, Fits}
 use Rattle.std.proofs.lemmas.Bool.{cases_lt}
 use Rattle.std.proofs.lemmas.Grind.{elements}
-use Rattle.std.proofs.lemmas.List.{drop-drop, drop_at, length-append}
-use Rattle.std.proofs.lemmas.List.{length-drop, length-replicate, length-take-le, take-append-drop}
-use Rattle.std.proofs.lemmas.List.{take_all, get_or_past}
-use Rattle.std.proofs.lemmas.Nat.{pow-add, pow_pos, shr_below, shr_le, le-div}
+use Rattle.std.proofs.lemmas.List.{length-replicate, get_or_past}
+use Rattle.std.proofs.lemmas.Nat.{shr_below, shr_le, le-div}
 use Rattle.std.proofs.lemmas.Simd.{Each1-from_get_or}
 use Rattle.std.specs.Int.{to_le_bytes}
-use Rattle.std.specs.Prelude.{slice_index}
 use Rattle.komihash.specs.Internals.{padding_or_zero}
 use Rattle.komihash.specs.Padding.{ArePadded, pads_with_two, padding_after, padded_words}
 use Rattle.komihash.specs.Padding.{padding_byte, padded_bytes}
@@ -48,22 +46,15 @@ same_end (x ∷ xs) (y ∷ ys) a b j k some_a some_b is =
 all_zeros : (xs : List ℕ) → word_of xs ≡ 0 → xs ≡ replicate (length xs) 0
 all_zeros [] is = refl
 all_zeros (x ∷ xs) is =
-    let first : x ≡ 0 = omega arith in
-    let others = all_zeros xs (omega arith) in cc
+    let others = all_zeros xs (omega arith) in grind arith
 
 one_byte : (xs : List ℕ) (k : ℕ) → length xs ≡ suc k → word_of xs < 256
     → xs ≡ word_of xs ∷ replicate k 0
 one_byte [] k size small = absurd (omega arith)
 one_byte (x ∷ xs) k size small =
-    let first : x ≡ x + 256 * word_of xs = omega arith in
-    let count : length xs ≡ k = omega arith in
-    let others = all_zeros xs (omega arith) in cc
+    let others = all_zeros xs (omega arith) in grind arith
 
 -- ---- the bytes of padded words
-
-padding_or_zero-lt : (v : ℕ) (m : List ℕ) → padding_or_zero v m < 256
-padding_or_zero-lt v [] = omega arith
-padding_or_zero-lt v (b ∷ m) = grind arith
 
 padding_or_zero-above : (v : ℕ) (m : List ℕ) → 0 < padding_or_zero v m
     → (0 < length m) × (padding_or_zero v m ≡ padding_byte v m)
@@ -87,8 +78,7 @@ bytes_of_padded v (b ∷ m) are is =
     let end = padding_byte v xs in
     let whole : length (padded_bytes v xs) % 8 ≡ 0 =
     omega (arith, length-append xs (end ∷ zeros), length-replicate {A = ℕ}) in
-    let are_padded = AreBytes-append xs (end ∷ zeros) are
-    (AreBytes-end end _ (padding_or_zero-lt v xs)) in
+    let are_padded = AreBytes-append xs (end ∷ zeros) are (AreBytes-end end _ (grind arith)) in
     ap all_bytes (sym is ∙ words_of-whole _ (padded_bytes v xs) (omega arith))
     ∙ all_bytes-whole_words (padded_bytes v xs) are_padded whole
 
@@ -102,7 +92,7 @@ same_message v x y are_x are_y same =
 
 -- ---- the highest byte of the last word that is not 0, which can only be the padding byte
 
-module _ (v : ℕ) (ws : List ℕ) (fit : (k : ℕ) → get_or ws k 0 < 2 ^ 64) where
+module _ (v : ℕ) (ws : List ℕ) (fit : (k : ℕ) → Fits w64 (get_or ws k 0)) where
   abbrev last : ℕ
   last = get_or ws (length ws - 1) 0
 
@@ -116,7 +106,7 @@ module _ (v : ℕ) (ws : List ℕ) (fit : (k : ℕ) → get_or ws k 0 < 2 ^ 64) 
       let eight = take_all 8 from (omega (arith, length-drop (8 * i) bytes, length-all_bytes ws)) in
       let word : word_of from ≡ last =
       ap word_of (sym eight ∙ take-all_bytes ws i 8 (omega arith) (omega arith))
-      ∙ omega (arith, fit i) in
+      ∙ omega (arith, (fit i).fits) in
       rw (← drop-drop r (8 * i) bytes, ← word)
       (word_of-drop r from (AreBytes-drop (8 * i) bytes (AreBytes-all_bytes ws)))
 
@@ -171,7 +161,7 @@ module _ (v : ℕ) (ws : List ℕ) (fit : (k : ℕ) → get_or ws k 0 < 2 ^ 64) 
         padded_words-some v message (omega (arith, length-message))
         ∙ ap words_of (rw is at (sym split))
         ∙ words_of-whole (length ws) (all_bytes ws) (length-all_bytes ws)
-        ∙ stored_words-all_bytes ws (Each1-from_get_or _ ws 0 (λ k _. fit k))
+        ∙ stored_words-all_bytes ws (Each1-from_get_or _ ws 0 (λ k _. (fit k).fits))
 
     pub one_place : ArePadded v ws → (0 < size) × (last / 2 ^ (8 * r) ≡ padding_byte v message)
     one_place (m, are, is) =

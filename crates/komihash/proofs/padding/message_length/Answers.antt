@@ -7,26 +7,25 @@ use Rattle.komihash.proofs.padding.message_length.Goals as goal
 
 pub returns-else-is_one_word-clause-none : goal.returns-else-is_one_word-clause-none
 returns-else-is_one_word-clause-none g c p =
-    c.if-is_one_word.false
-    (padded_zero g.row.V _ (λ k. (c.type_inv.words k).fits) p c.if-is_zero.true)
+    c.if-is_one_word.false (padded_zero g.row.V _ c.type_inv.words p c.if-is_zero.true)
 
 pub returns-then-is_without_bytes-clause-none : goal.returns-then-is_without_bytes-clause-none
 returns-then-is_without_bytes-clause-none g c p =
     let place = c.highest_place-place in
-    let found = one_place g.row.V _ (λ k. (c.type_inv.words k).fits) place.result
-    place.ensures.place (omega arith) place.ensures.some place.ensures.last p in
+    let found = one_place g.row.V _ c.type_inv.words place.result place.ensures.place
+    (omega arith) place.ensures.some place.ensures.last p in
     omega (arith, found.0)
 
 pub returns-then-is_padding_byte-clause-message : goal.returns-then-is_padding_byte-clause-message
 returns-then-is_padding_byte-clause-message g c =
     let place = c.highest_place-place in
-    unpadded g.row.V _ (λ k. (c.type_inv.words k).fits) place.result place.ensures.place
-    (omega arith) place.ensures.some place.ensures.last (omega arith)
+    unpadded g.row.V _ c.type_inv.words place.result place.ensures.place (omega arith)
+    place.ensures.some place.ensures.last (omega arith)
     (c.is_padding_byte.ensures.0 c.if-is_padding_byte.true)
 
 pub returns-else-is_padding_byte-clause-none : goal.returns-else-is_padding_byte-clause-none
 returns-else-is_padding_byte-clause-none g c p =
     let place = c.highest_place-place in
-    let found = one_place g.row.V _ (λ k. (c.type_inv.words k).fits) place.result
-    place.ensures.place (omega arith) place.ensures.some place.ensures.last p in
+    let found = one_place g.row.V _ c.type_inv.words place.result place.ensures.place
+    (omega arith) place.ensures.some place.ensures.last p in
     iff_false c.is_padding_byte.ensures c.if-is_padding_byte.false found.1

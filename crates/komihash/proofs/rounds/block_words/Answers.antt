@@ -1,6 +1,5 @@
 -- A block of 64 bytes has eight whole words.
-use Rattle.std.proofs.Common.{◌≡◌, ◌/◌, length, arith}
-use Rattle.std.proofs.lemmas.List.{drop-drop}
+use Rattle.std.proofs.Common.{◌≡◌, ◌/◌, length, arith, drop-drop}
 use Rattle.komihash.specs.Internals.{stored_words}
 use Rattle.komihash.proofs.rounds.block_words.Goals as goal
 

@@ -1,9 +1,7 @@
 -- Each turn of the loop stores the next whole word.
-use Rattle.std.proofs.Common.{◌≡◌, ◌/◌, ◌∙◌, length, arith}
+use Rattle.std.proofs.Common.{◌≡◌, ◌/◌, ◌∙◌, length, arith, take_all}
 use Rattle.std.proofs.lemmas.Grind.{common_steps}
-use Rattle.std.proofs.lemmas.List.{take_all}
-use Rattle.komihash.proofs.WholeWords.{length-stored_words, get_or-stored_words}
-use Rattle.komihash.proofs.WholeWords.{length-whole_words}
+use Rattle.komihash.proofs.WholeWords.{length-stored_words, get_or-stored_words, length-whole_words}
 use Rattle.komihash.proofs.utils.read_whole_words.Goals as goal
 
 pub whole-preserved : goal.whole-preserved

@@ -1,33 +1,35 @@
--- `fill_more` adds an output to those that the buffer has: its eight bytes, or at the end fewer.
-use Rattle.std.proofs.Common.{◌≡◌, ◌+◌, ◌-◌, ◌*◌, ◌/◌, ◌∙◌, length, take, drop, arith}
-use Rattle.std.proofs.Common.{rules, sym}
-use Rattle.std.proofs.lemmas.List.{take_all}
-use Rattle.std.proofs.lemmas.Slice.{overwrites}
-use Rattle.komihash.proofs.GeneratorFills.{fill_more}
+-- Each turn covers eight more bytes of the buffer; fewer than eight may be left after the loop.
+use Rattle.std.proofs.Common.{◌≡◌, ◌+◌, ◌/◌, ◌∙◌, length, arith, rules, sym, take_all}
+use Rattle.komihash.proofs.AllBytes.{Covers-more}
+use Rattle.komihash.proofs.GeneratorFills.{next_output}
 use Rattle.komihash.proofs.generator.Komirand.fill_bytes.Goals as goal
 
 pub words-preserved : goal.words-preserved
 words-preserved g c =
-    let at = 8 * c.words.i in
-    let is = c.words.invariant in
-    let word = rw c.next-word.ensures.output at c.write_word.ensures in
-    let (bytes, pair) =
-    fill_more g.row.V at 8 (at + 8) _ _ c.words.buffer _ (omega arith) (omega arith) (omega arith)
-    (omega arith) (omega arith) is.pair is.bytes word in
-    let next : 8 * (c.words.i + 1) ≡ at + 8 = omega arith in
-    rw next record { bytes = bytes; pair = c.next-word.ensures.pair ∙ pair }
+    let i = c.words.i in
+    let steps = (length c.args.buffer.now + 7) / 8 in
+    let (word, pair, size) =
+    next_output g.row.V i steps c.args.self.now _ (omega arith) c.words.invariant.pair in
+    record {
+      bytes = Covers-more _ _ _ _ i 8 _ _ c.words.invariant.bytes
+          (rw (c.next-word.ensures.output, word) at c.write_word.ensures) size (omega arith)
+          (omega arith) (omega arith) (omega arith);
+      pair = c.next-word.ensures.pair ∙ pair;
+    }
 
 pub returns-then-has_remainder : goal.returns-then-has_remainder
 returns-then-has_remainder g c =
-    let n = length c.words.buffer in
-    let same : length c.args.buffer.now ≡ n = omega arith in
-    let at = 8 * (n / 8) in
+    let n = length c.args.buffer.now in
+    let same : length c.words.buffer ≡ n = omega arith in
     let done : c.words.i ≡ n / 8 = omega arith in
+    let last : (n + 7) / 8 ≡ n / 8 + 1 = omega arith in
     let is = rw done at c.words.invariant in
-    let size : length (take (n - at) (drop at c.words.buffer)) ≡ n - at = search (rules, arith) in
-    let word = rw (c.next-output.ensures.output, same, size) at c.write_partial_word.ensures in
-    let (bytes, pair) =
-    fill_more g.row.V at (n - at) n _ _ c.words.buffer _ (omega arith) (omega arith) (omega arith)
-    (omega arith) (omega arith) is.pair is.bytes word in
-    let all = take_all n _ (search (rules, overwrites)) in
-    rw same record { bytes = sym all ∙ bytes; pair = c.next-output.ensures.pair ∙ pair }
+    let (word, pair, size) =
+    next_output g.row.V (n / 8) ((n + 7) / 8) c.args.self.now _ (omega arith) is.pair in
+    let bytes = rw (c.next-output.ensures.output, word) at c.write_partial_word.ensures in
+    record {
+      bytes = sym (take_all n _ (search (rules, arith)))
+          ∙ (Covers-more _ _ _ _ (n / 8) _ _ n is.bytes bytes size (search (rules, arith))
+          (search (rules, arith)) (omega arith) (omega arith)).front;
+      pair = rw last (c.next-output.ensures.pair ∙ pair);
+    }

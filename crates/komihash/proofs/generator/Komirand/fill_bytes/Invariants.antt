@@ -1,10 +1,13 @@
--- The words so far fill the front of the buffer.
-use Rattle.std.proofs.Common.{◌≡◌, ◌*◌, take}
-use Rattle.komihash.specs.Generator.{fill, after_fill}
+-- The outputs so far fill the front of the buffer.
+use Rattle.std.proofs.Common.{◌≡◌, ◌*◌, length}
+use Rattle.komihash.specs.Generator.{after_steps, outputs, fill_steps}
+use Rattle.komihash.specs.Words.{all_bytes}
+use Rattle.komihash.proofs.Lists.{Covers}
 use Rattle.komihash.proofs.generator.Komirand.fill_bytes.Given as goal
 
 abbrev pub invariant-words : goal.invariant-words
 invariant-words g l = record {
-  bytes : take (8 * l.i) l.buffer ≡ fill g.row.V l.fn.self (8 * l.i);
-  pair : l.self ≡ after_fill g.row.V l.fn.self (8 * l.i);
+  bytes : Covers (8 * l.i) l.buffer
+      (all_bytes (outputs g.row.V (fill_steps (length l.fn.buffer)) l.fn.self)) l.fn.buffer;
+  pair : l.self ≡ after_steps g.row.V l.i l.fn.self;
 }

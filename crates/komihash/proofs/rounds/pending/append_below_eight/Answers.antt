@@ -1,7 +1,7 @@
--- What does not fit in the partial word goes into the next one, which is 0.
-use Rattle.std.proofs.Common.{◌≡◌, ℕ, zero, suc, ◌+◌, ◌-◌, ◌*◌, ◌/◌, ◌%◌, ◌^◌, ◌<◌}
-use Rattle.std.proofs.Common.{length, drop, refl, ap, arith, ◌∙◌, sym, inl, inr, w64, take_all}
-use Rattle.std.proofs.Common.{length-drop}
+-- What does not fit in the partial word goes into the next one, which is 0. If all bytes fit, no
+-- other word changes. The two cases stay apart, because the code takes word 0 after word 7.
+use Rattle.std.proofs.Common.{◌≡◌, ℕ, zero, suc, ◌+◌, ◌-◌, ◌*◌, ◌/◌, ◌%◌, ◌^◌, ◌<◌, length, drop}
+use Rattle.std.proofs.Common.{refl, ap, arith, ◌∙◌, sym, inl, inr, w64, take_all, length-drop}
 use Rattle.std.proofs.lemmas.Bool.{cases_lt}
 use Rattle.std.proofs.lemmas.List.{drop_all, set-get_or}
 use Rattle.std.proofs.lemmas.Nat.{or_shifted, shr_below, le_or_l}

@@ -1,6 +1,5 @@
 -- The pending bytes are all bytes after the lanes.
-use Rattle.std.proofs.Common.{length, drop, ◌-◌, arith}
-use Rattle.std.proofs.lemmas.List.{length-drop, take_all}
+use Rattle.std.proofs.Common.{length, drop, ◌-◌, arith, length-drop, take_all}
 use Rattle.komihash.specs.Saved.{pending_at}
 use Rattle.komihash.proofs.stream.saved.read_pending.Goals as goal
 

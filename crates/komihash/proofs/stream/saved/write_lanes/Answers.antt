@@ -1,6 +1,5 @@
 -- The lanes follow the first four bytes.
-use Rattle.std.proofs.Common.{arith}
-use Rattle.std.proofs.lemmas.List.{take_all}
+use Rattle.std.proofs.Common.{arith, take_all}
 use Rattle.komihash.specs.Rounds.{in_order}
 use Rattle.komihash.specs.Saved.{lanes_at, pending_at}
 use Rattle.komihash.specs.Words.{all_bytes}

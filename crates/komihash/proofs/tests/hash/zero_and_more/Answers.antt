@@ -1,6 +1,5 @@
 -- With e at 0, the closing with one word multiplies by 0 twice.
-use Rattle.std.proofs.Common.{◌≡◌, ℕ, ◌*◌, [], ◌∷◌, ◌∙◌, refl, arith}
-use Rattle.std.specs.Prelude.{bit_xor}
+use Rattle.std.proofs.Common.{◌≡◌, ℕ, ◌*◌, [], ◌∷◌, ◌∙◌, refl, arith, bit_xor}
 use Rattle.komihash.specs.Rounds.{closing, mix}
 use Rattle.komihash.proofs.HashPaths.{komi_two_words}
 use Rattle.komihash.proofs.tests.hash.zero_and_more.Goals as goal
