@@ -62,7 +62,7 @@ def split(term):
 
 def size_of(cpu, name, offset):
     """The bytes of a word in memory. The flags of a stream are single bytes."""
-    return 1 if name == 'stream' and offset >= cpu.image.layout.FLAGS else 8
+    return 1 if name == 'stream' and offset >= cpu.library.layout.FLAGS else 8
 
 
 def form_of(facts, stable, first, second):

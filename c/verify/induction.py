@@ -107,23 +107,20 @@ class Induction:
 
     def run(self, cpu, pc=None):
         """The arrivals and the returns."""
-        return cpu.run(pc or self.library.functions[self.call.name], (self.head, self.exit))
+        return cpu.run(pc or self.library.image.functions[self.call.name], (self.head, self.exit))
 
     def find_cuts(self):
         """The head is the first of the places to which a long call comes most often. The exit is
         the first place outside of the loop that a call with one turn or none comes to too."""
-        found = self.library.loops
-        if (self.NAME, self.version) not in found:
-            (few, _), (many, refusal) = self.way(1), self.way(TURNS)
-            often = collections.Counter(many)
-            head = max(many, key=often.get)
-            if often[head] < 2:
-                raise refusal or Unknown(f'{self.call.name}: no loop was found')
-            last = len(many) - 1 - many[::-1].index(head)
-            inside = set(many[many.index(head):last])
-            exits = [pc for pc in many[last:] if pc not in inside and (head in few or pc in few)]
-            found[self.NAME, self.version] = head, exits[0]
-        return found[self.NAME, self.version]
+        (few, _), (many, refusal) = self.way(1), self.way(TURNS)
+        often = collections.Counter(many)
+        head = max(many, key=often.get)
+        if often[head] < 2:
+            raise refusal or Unknown(f'{self.call.name}: no loop was found')
+        last = len(many) - 1 - many[::-1].index(head)
+        inside = set(many[many.index(head):last])
+        return head, next(pc for pc in many[last:]
+                          if pc not in inside and (head in few or pc in few))
 
     def way(self, q):
         """The places to which an accepted call of GRAIN * q + REST bytes comes, and why it ends if
@@ -132,7 +129,7 @@ class Induction:
         cpu.facts.add(self.q == q, self.r == REST >> self.FIXED_BITS)
         refusal = None
         try:
-            list(cpu.run(self.library.functions[self.call.name]))
+            list(self.run(cpu))
         except Refused as refused:
             refusal = refused
         return list(self.seen.order), refusal

@@ -1,5 +1,6 @@
 """The five kinds of calls that have a loop over bytes, and are proved by induction."""
 import copy
+import functools
 import z3
 from calls import NONE, generator, named, padded_content, some_lanes, some_state
 from checks import accepted, check, check_bytes, check_generator
@@ -142,16 +143,19 @@ class Write(Blocks):
         """The turns and the end are those of any write. They are proved once; another number of
         pending bytes needs only to begin with the same invariants. If it doesn't, it drops what
         doesn't hold, and proves the rest by itself."""
-        key, found = ('turns of writes', self.version, self.library.low), self.library.loops
-        if key not in found:
-            found[key] = super(Write, Write(self.library, self.version, SOME_FILL)).prove()
-        shown = found[key]
+        shown = proved_write(self.library, self.version)
         self.head, self.exit, self.step = shown.head, shown.exit, shown.step
         self.invariants = {pc: copy.copy(one) for pc, one in shown.invariants.items()}
         if not self.begin():
             self.settle()
         self.seen.include(shown.seen)
         return self
+
+
+@functools.lru_cache(maxsize=None)
+def proved_write(library, version):
+    """The writes with some number of pending bytes, proved."""
+    return Induction.prove(Write(library, version, SOME_FILL))
 
 
 class Fill(Induction):

@@ -65,9 +65,10 @@ class Cpu:
     this and both addresses."""
     NAME = DECODER = ARGS = RESULTS = SAVED = SP = ABOVE = RED_ZONE = TABLE = None
 
-    def __init__(self, image, products):
+    def __init__(self, library, products):
         # All paths share these.
-        self.image, self.products, self.facts, self.seen = image, products, Facts(), Seen()
+        self.library, self.image, self.products = library, library.image, products
+        self.facts, self.seen = Facts(), Seen()
         # Conditions that hold on this path, and which halves of products were made on it.
         self.path, self.halves = [], frozenset()
         self.memory, self.r, self.flags = Memory(), self.registers(), {}
@@ -77,9 +78,9 @@ class Cpu:
         self.sp = sym('sp')
         self.memory.add(Array('stack', self.sp, -STACK_BYTES, self.ABOVE, True))
         self.facts.add(self.sp & 15 == self.ABOVE, LOADED & 4095 == 0)
-        if image.low is not None:
-            self.facts.add(self.sp & 63 == image.low)
-        self.red_zone = self.RED_ZONE if image.red_zone else 0
+        if library.alignment is not None:
+            self.facts.add(self.sp & 63 == library.alignment)
+        self.red_zone = self.RED_ZONE if library.red_zone else 0
         self.r[self.SP] = self.sp
         # The addresses to which calls must return, and a pointer to the last: no array has them.
         self.r['ssp'] = bv(0)
@@ -179,7 +180,7 @@ class Cpu:
 
     def with_values(self, term):
         """A copy for each value that a term can have here."""
-        if symbols(term) == {'sp'} and self.image.low is None:
+        if symbols(term) == {'sp'} and self.library.alignment is None:
             raise Aligned
         self.note_time(term)
         self.parted = self.pc
