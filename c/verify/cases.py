@@ -9,7 +9,7 @@ from aarch64 import Arm
 from calls import Library
 from image import Image
 from layout import Ours
-from machine import Aligned, Seen
+from machine import DependsOnAlignment, Seen
 from terms import Refused, Unknown
 from x86_64 import X86
 
@@ -71,7 +71,7 @@ class Case(collections.namedtuple('Case', 'name check args')):
         """What was seen. If the code aligns its stack, each stack pointer modulo 64 is a case."""
         try:
             return self.run_once(library)
-        except Aligned:
+        except DependsOnAlignment:
             seen = Seen()
             for alignment in range(library.image.processor.ABOVE, 64, 16):
                 seen.include(self.run_once(library._replace(alignment=alignment)))

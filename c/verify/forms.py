@@ -118,7 +118,7 @@ class Invariant:
         function says. Words without a form hold anything."""
         words = {n: [] for n in cpu.r}
         for (name, k), form in self.forms.items():
-            word = change(form(world)) if form else cpu.any(8 * size_of(cpu, name, k))
+            word = change(form(world)) if form else cpu.fresh(8 * size_of(cpu, name, k))
             if name in words:
                 words[name].append(word)
             else:

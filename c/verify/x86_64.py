@@ -3,8 +3,8 @@ import operator
 import z3
 from capstone import CS_ARCH_X86, CS_MODE_64
 from capstone import x86_const as X
-from machine import CONDITIONS, LOADED, Cpu, means, unknown
-from memory import Several
+from machine import CONDITIONS, LOADED, Cpu, compared, means, unknown
+from memory import MustSplit
 from opcodes import KNOWN_X86, is_known
 from terms import (SYMBOLS, Refused, bv, choose, const, join, leading_zeros, part, secret, simple,
                    sym, symbols, top, widen)
@@ -43,7 +43,7 @@ class X86(Cpu):
         return {name: secret(f'{name} of the caller', width)
                 for name, (whole, _, width) in NAMES.items() if name == whole}
 
-    def enter(self):
+    def put_return(self):
         self.memory.put('stack', 0, sym('return'))
 
     def check_return(self):
@@ -56,8 +56,6 @@ class X86(Cpu):
         return [address], address
 
     def address(self, i, op):
-        if op.type != X.X86_OP_MEM:
-            raise unknown(i)
         m, a = op.mem, bv(op.mem.disp % 2**64)
         if m.base:
             name = i.reg_name(m.base)
@@ -79,14 +77,8 @@ class X86(Cpu):
             return bv(op.imm % 2**(width or 64), width or 64)
         if op.type == X.X86_OP_MEM:
             return self.load(self.aligned_address(i, op), (width or 8 * op.size) // 8)
-        n, low, size = self.register(i, op)
+        n, low, size = NAMES[i.reg_name(op.reg)]
         return part(self.r[n], low, min(size, width or size))
-
-    @staticmethod
-    def register(i, op):
-        if op.type != X.X86_OP_REG:
-            raise unknown(i)
-        return NAMES[i.reg_name(op.reg)]
 
     def put(self, i, k, value):
         op, value = i.ops[k], simple(value)
@@ -94,7 +86,7 @@ class X86(Cpu):
             if value.size() != 8 * op.size:
                 raise unknown(i)
             return self.store(self.aligned_address(i, op), value)
-        n, low, size = self.register(i, op)
+        n, low, size = NAMES[i.reg_name(op.reg)]
         whole = self.r[n].size()
         if value.size() != size:
             raise unknown(i)
@@ -110,10 +102,6 @@ class X86(Cpu):
     def both(self, i, first=0):
         return [self.get(i, k, 8 * i.ops[0].size) for k in (first, first + 1)]
 
-    def set_flags(self, result, **flags):
-        """Zero and sign by the result, the others as given; without these they are not defined."""
-        self.flags = {'z': result == 0, 's': top(result), **flags}
-
 
 TABLE.update({
     **dict.fromkeys(('nop', 'endbr64'), lambda c, i: None),
@@ -123,15 +111,15 @@ TABLE.update({
     'lea': lambda c, i: c.put(i, 0, part(c.address(i, i.ops[1]), 0, 8 * i.ops[0].size)),
     'not': lambda c, i: c.put(i, 0, ~c.get(i, 0)),
     'vbroadcastsd': lambda c, i: c.put(i, 0, join([c.get(i, 1, 64)] * 4)),
-    **{f'set{code}': lambda c, i: c.put(i, 0, choose(condition(c, i, 3), bv(1, 8), bv(0, 8)))
-       for code in CONDITIONS},
-    **{f'cmov{code}': lambda c, i: c.put(i, 0, choose(condition(c, i, 4), c.get(i, 1), c.get(i, 0)))
-       for code in CONDITIONS}})
-
-
-def condition(c, i, start):
-    """The condition that the name ends with."""
-    return c.known(c.cond(i.mnemonic[start:]))
+    **{f'set{code}': lambda c, i: c.put(i, 0, choose(
+        c.selector(i.mnemonic[3:]), bv(1, 8), bv(0, 8))) for code in CONDITIONS},
+    **{f'cmov{code}': lambda c, i: c.put(i, 0, choose(
+        c.selector(i.mnemonic[4:]), c.get(i, 1), c.get(i, 0))) for code in CONDITIONS},
+    **{f'j{code}': lambda c, i: (c.condition(i.mnemonic[1:]), i.ops[0].imm) for code in CONDITIONS},
+    'jmp': lambda c, i: i.ops[0].imm,
+    'push': lambda c, i: push(c, c.get(i, 0, 64)),
+    'pop': lambda c, i: c.put(i, 0, pop(c)),
+    'ret': lambda c, i: c.give_back(pop(c))})
 
 
 @means(TABLE, 'xor', 'and', 'or', 'test', 'andn')
@@ -155,10 +143,9 @@ def add(c, i):
 @means(TABLE, 'sub', 'cmp')
 def subtract(c, i):
     a, b = c.both(i)
-    result = simple(a - b)
     if i.mnemonic == 'sub':
-        c.put(i, 0, result)
-    c.set_flags(result, c=z3.ULT(a, b), l=a < b, z=a == b)
+        c.put(i, 0, a - b)
+    c.flags = compared(a, b)
 
 
 @means(TABLE, 'inc', 'dec')
@@ -226,9 +213,9 @@ def bit_test(c, i):
 @means(TABLE, 'bsr')
 def highest_bit(c, i):
     """If there is none, the whole register is undefined, also where its high half else is 0."""
-    a, (whole, _, _) = c.get(i, 1), c.register(i, i.ops[0])
+    a, (whole, _, _) = c.get(i, 1), NAMES[i.reg_name(i.ops[0].reg)]
     found = widen(a.size() - 1 - leading_zeros(a), 64)
-    c.r[whole] = choose(a == 0, c.any(), found)
+    c.r[whole] = choose(a == 0, c.fresh(), found)
     c.flags = {'z': a == 0}
 
 
@@ -252,50 +239,27 @@ def multiply_without_flags(c, i):
     c.put(i, 0, high)
 
 
-def push(c, i, value):
+def push(c, value):
     c.r['rsp'] = simple(c.r['rsp'] - 8)
     c.store(c.r['rsp'], value)
 
 
-def pop(c, i):
+def pop(c):
     value = c.load(c.r['rsp'], 8)
     c.r['rsp'] = simple(c.r['rsp'] + 8)
     return value
 
 
-TABLE.update({'push': lambda c, i: push(c, i, c.get(i, 0, 64)),
-              'pop': lambda c, i: c.put(i, 0, pop(c, i))})
-
-
 @means(TABLE, 'leave')
 def leave(c, i):
     c.r['rsp'] = c.r['rbp']
-    c.r['rbp'] = pop(c, i)
-
-
-@means(TABLE, 'ret')
-def give_back(c, i):
-    if i.ops:
-        raise unknown(i)
-    return c.give_back(pop(c, i))
+    c.r['rbp'] = pop(c)
 
 
 @means(TABLE, 'call')
 def call(c, i):
-    push(c, i, c.note_call(i))
-    return jump(c, i)
-
-
-@means(TABLE, 'jmp')
-def jump(c, i):
-    if i.ops[0].type != X.X86_OP_IMM:
-        raise Refused('a jump to no fixed place')
+    push(c, c.note_call(i))
     return i.ops[0].imm
-
-
-@means(TABLE, *(f'j{code}' for code in CONDITIONS))
-def branch(c, i):
-    return c.cond(i.mnemonic[1:]), i.ops[0].imm, i.address + i.size
 
 
 @means(TABLE, 'movq', 'vmovq')
@@ -356,7 +320,7 @@ def copy_bytes(c, i):
     instruction here sets it. From one array to another, that is as all at once."""
     size = c.facts.unique(c.r['rcx'], c.path)
     if size is None:
-        raise Several(c.r['rcx'])
+        raise MustSplit(c.r['rcx'])
     if symbols(c.r['rsi']) & symbols(c.r['rdi']) & SYMBOLS.addresses:
         raise Refused('a copy within an array')
     if size:
