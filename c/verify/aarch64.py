@@ -6,7 +6,7 @@ from capstone import CS_ARCH_ARM64, CS_MODE_ARM
 from capstone import arm64_const as A
 from machine import CONDITIONS, Cpu, compared, means, unknown
 from opcodes import is_known_arm64 as is_known
-from terms import bv, choose, join, leading_zeros, part, secret, simple, sym, top, widen
+from terms import bv, choose, join, leading_zeros, part, resize, secret, simple, sym
 
 TABLE = {}
 SIZES = {'x': 64, 'w': 32, 'q': 128, 'd': 64, 'v': 128}
@@ -78,7 +78,7 @@ class Arm(Cpu):
         if value.size() != size:
             raise unknown(i)
         if n is not None:
-            self.r[n] = widen(value, self.r[n].size())
+            self.r[n] = resize(value, self.r[n].size())
 
     @staticmethod
     def check_differ(i, operands, *more):
@@ -122,10 +122,10 @@ TABLE.update({
     'movi': lambda c, i: c.put(i, 0, bv(0, c.width(i))),
     'clz': lambda c, i: c.put(i, 0, leading_zeros(c.get(i, 1))),
     'csel': lambda c, i: c.put(i, 0, choose(selector(c, i), c.get(i, 1), c.get(i, 2))),
-    'cset': lambda c, i: c.put(i, 0, widen(choose(selector(c, i), bv(1), bv(0)), c.width(i))),
-    'ubfx': lambda c, i: c.put(i, 0, widen(bits(c, i), c.width(i))),
+    'cset': lambda c, i: c.put(i, 0, resize(choose(selector(c, i), bv(1), bv(0)), c.width(i))),
+    'ubfx': lambda c, i: c.put(i, 0, resize(bits(c, i), c.width(i))),
     'ubfiz': lambda c, i: c.put(
-        i, 0, widen(part(c.get(i, 1), 0, i.ops[3].imm), c.width(i)) << i.ops[2].imm),
+        i, 0, resize(part(c.get(i, 1), 0, i.ops[3].imm), c.width(i)) << i.ops[2].imm),
     'ext': lambda c, i: c.put(
         i, 0, part(join([c.get(i, 1), c.get(i, 2)]), 8 * i.ops[3].imm, 128))})
 
@@ -151,7 +151,7 @@ def test(c, i):
     result = simple(a & b)
     if i.mnemonic == 'ands':
         c.put(i, 0, result)
-    c.set_flags(result, c=z3.BoolVal(True), l=top(result))
+    c.set_flags(result, c=z3.BoolVal(True), l=result < 0)
 
 
 @means(TABLE, 'ccmp')
@@ -208,7 +208,7 @@ def load(c, i):
     address = c.address(i, number)
     values = [c.load(simple(address + size * k), size) for k in range(number)]
     for k, value in enumerate(values):
-        c.put(i, k, widen(value, c.width(i)))
+        c.put(i, k, resize(value, c.width(i)))
 
 
 @means(TABLE, 'str', 'stur', 'strb', 'sturb', 'strh', 'sturh', 'stp')

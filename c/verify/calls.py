@@ -27,7 +27,7 @@ class Call:
         self.facts, self.memory = self.cpu.facts, self.cpu.memory
         # For header.py: how many facts don't come from the case, what it is passed, the state of
         # its stream and how many bytes that counts, and the bytes of the last of its words.
-        self.known, self.args = len(self.facts.list), ()
+        self.first_fact, self.args = len(self.facts.list), ()
         self.state = self.count = self.last_word = None
 
     def base(self, name, size, apart_from=()):
@@ -112,13 +112,13 @@ def some_lanes():
 def some_state(version, fill, had_block=None):
     """Any state with this number of pending bytes, and this flag or any."""
     if had_block is None:
-        had_block = widened(sym('had_block', 1))
-    top_bit = widened(secret('top bit', 1)) if version == 4 else bv(0, 8)
+        had_block = flag_byte(sym('had_block', 1))
+    top_bit = flag_byte(secret('top bit', 1)) if version == 4 else bv(0, 8)
     top_bit = simple(top_bit & had_block)
     return State(some_lanes(), named('pending', range(fill)), had_block, top_bit)
 
 
-def widened(bit):
+def flag_byte(bit):
     return choose(bit == 1, bv(1, 8), bv(0, 8))
 
 

@@ -18,7 +18,7 @@ FRAMES, STACK, RELRO, PROPERTY = 0x6474e550, 0x6474e551, 0x6474e552, 0x6474e553
 # DT_HASH, DT_STRSZ, DT_SYMENT, DT_SONAME, DT_SYMBOLIC, DT_BIND_NOW, DT_AARCH64_BTI_PLT. Of flags,
 # only these bits are allowed: symbolic, bind now; now, never unload.
 STRINGS, SYMBOLS, HASHES, FLAGS, FLAGS_1 = 5, 6, 0x6ffffef5, 30, 0x6ffffffb
-KNOWN = {STRINGS, SYMBOLS, HASHES, FLAGS, FLAGS_1, 4, 10, 11, 14, 16, 24, 0x70000001}
+ALLOWED = {STRINGS, SYMBOLS, HASHES, FLAGS, FLAGS_1, 4, 10, 11, 14, 16, 24, 0x70000001}
 BITS = {FLAGS: 2 | 8, FLAGS_1: 1 | 8}
 # Symbols: their bindings (global and weak), type, visibilities (default and protected), and where
 # numbers of sections end. Notes of GNU: the identifier of the build, and properties.
@@ -117,7 +117,7 @@ class Elf:
             if not tag:
                 need({STRINGS, SYMBOLS, HASHES} <= set(table), 'there is no DT_GNU_HASH')
                 return table
-            need(tag in KNOWN and not value & ~BITS.get(tag, value),
+            need(tag in ALLOWED and not value & ~BITS.get(tag, value),
                  f'the loader would do more than load it: {tag:#x} is {value:#x}')
             need(tag not in table, f'the dynamic table has {tag:#x} twice')
             table[tag] = value

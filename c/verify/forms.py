@@ -46,7 +46,8 @@ class Arrival:
 
 def words_of(cpu):
     """The words of registers, of both stacks and of a stream, and the flags of a stream."""
-    found = {(n, k): word for n, term in cpu.r.items() for k, word in enumerate(split(term))}
+    found = {(n, low // 64): part(term, low, 64)
+             for n, term in cpu.r.items() for low in range(0, term.size(), 64)}
     known = cpu.memory.data
     for name, k in known:
         size = size_of(cpu, name, k)
@@ -54,10 +55,6 @@ def words_of(cpu):
             if all((name, k + j) in known for j in range(size)):
                 found[name, k] = cpu.memory.content(name, k, size)
     return found
-
-
-def split(term):
-    return [part(term, low, 64) for low in range(0, term.size(), 64)]
 
 
 def size_of(cpu, name, offset):
@@ -113,7 +110,7 @@ class Invariant:
             for word, form in forms.items() if form})
         return {word: form if word in true else None for word, form in forms.items()}
 
-    def make(self, cpu, world, change):
+    def assume(self, cpu, world, change):
         """Puts a processor into any state that has the forms, of which each term is changed as the
         function says. Words without a form hold anything."""
         words = {n: [] for n in cpu.r}

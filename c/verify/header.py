@@ -118,7 +118,7 @@ def condition(call, wanted):
     found = {}
     for term, value in pairs:
         witness(found, simple(term), value)
-    holds = z3.And(*call.facts.list[call.known:], *(term == value for term, value in pairs))
+    holds = z3.And(*call.facts.list[call.first_fact:], *(term == value for term, value in pairs))
     return simple(z3.substitute(holds, *found.items()))
 
 

@@ -3,7 +3,7 @@ import copy
 import z3
 from memory import Array, Memory, MustSplit
 from terms import (Facts, Refused, Unknown, bv, const, is_public, secret, signed, simple, sym,
-                   symbols, top)
+                   symbols)
 
 # Limits: the bytes of a call's stack, the instructions of a case, and the values of a number for
 # which a path is split.
@@ -26,7 +26,7 @@ def unknown(i):
 
 def compared(a, b):
     """The flags of a - b."""
-    return {'z': a == b, 's': top(a - b), 'c': z3.ULT(a, b), 'l': a < b}
+    return {'z': a == b, 's': a - b < 0, 'c': z3.ULT(a, b), 'l': a < b}
 
 
 def means(table, *names):
@@ -264,7 +264,7 @@ class Cpu:
 
     def set_flags(self, result, **flags):
         """Zero and sign by the result, the others as given; without these they are not defined."""
-        self.flags = {'z': result == 0, 's': top(result), **flags}
+        self.flags = {'z': result == 0, 's': result < 0, **flags}
 
     def condition(self, name):
         """A condition by its name."""

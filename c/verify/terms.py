@@ -136,7 +136,7 @@ def bytes_of(term):
     return [part(term, low, 8) for low in range(0, term.size(), 8)]
 
 
-def widen(term, width):
+def resize(term, width):
     """A term of this width, by zeros or by taking its low bits."""
     if term.size() < width:
         return simple(z3.ZeroExt(width - term.size(), term))
@@ -152,11 +152,6 @@ def put_for(term, *pairs):
 
 def choose(cond, yes, no):
     return simple(z3.If(cond, yes, no))
-
-
-def top(term):
-    """Whether the highest bit is set."""
-    return z3.Extract(term.size() - 1, term.size() - 1, term) == 1
 
 
 def leading_zeros(term):

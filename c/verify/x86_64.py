@@ -6,8 +6,8 @@ from capstone import x86_const as X
 from machine import CONDITIONS, LOADED, Cpu, compared, means, unknown
 from memory import MustSplit
 from opcodes import KNOWN_X86, is_known
-from terms import (SYMBOLS, Refused, bv, choose, const, join, leading_zeros, part, secret, simple,
-                   sym, symbols, top, widen)
+from terms import (SYMBOLS, Refused, bv, choose, const, join, leading_zeros, part, resize, secret,
+                   simple, sym, symbols)
 
 TABLE = {}
 SHIFTS = {'shl': operator.lshift, 'shr': z3.LShR, 'sar': operator.rshift}
@@ -92,7 +92,7 @@ class X86(Cpu):
             raise unknown(i)
         # These clear what is above them in the register; others keep it.
         if size == 32 or size == 128 and i.mnemonic[0] == 'v':
-            value = widen(value, whole)
+            value = resize(value, whole)
         elif size < whole:
             below = [part(self.r[n], 0, low)] if low else []
             above = part(self.r[n], low + size, whole - low - size)
@@ -107,7 +107,7 @@ TABLE.update({
     **dict.fromkeys(('nop', 'endbr64'), lambda c, i: None),
     **dict.fromkeys(('mov', 'movabs', 'movups', 'movdqu', 'movaps', 'movdqa', 'vmovups', 'vmovdqu',
                      'vmovaps'), lambda c, i: c.put(i, 0, c.get(i, 1, 8 * i.ops[0].size))),
-    'movzx': lambda c, i: c.put(i, 0, widen(c.get(i, 1), 8 * i.ops[0].size)),
+    'movzx': lambda c, i: c.put(i, 0, resize(c.get(i, 1), 8 * i.ops[0].size)),
     'lea': lambda c, i: c.put(i, 0, part(c.address(i, i.ops[1]), 0, 8 * i.ops[0].size)),
     'not': lambda c, i: c.put(i, 0, ~c.get(i, 0)),
     'vbroadcastsd': lambda c, i: c.put(i, 0, join([c.get(i, 1, 64)] * 4)),
@@ -128,7 +128,7 @@ def logic(c, i):
     result = simple({'xor': a ^ b, 'or': a | b, 'andn': ~a & b}.get(i.mnemonic, a & b))
     if i.mnemonic != 'test':
         c.put(i, 0, result)
-    c.set_flags(result, c=z3.BoolVal(False), l=top(result))
+    c.set_flags(result, c=z3.BoolVal(False), l=result < 0)
 
 
 @means(TABLE, 'add', 'adc')
@@ -165,7 +165,7 @@ def negate(c, i):
 def count(c, i, k, width):
     """The count of a shift, modulo the width, or modulo 32 if the word is narrower."""
     n = c.get(i, k, 8) if len(i.ops) > k else bv(1, 8)
-    n = simple(widen(n, width) & (63 if width == 64 else 31))
+    n = simple(resize(n, width) & (63 if width == 64 else 31))
     if const(n) is None and width < 32 or const(n) is not None and const(n) >= width:
         raise unknown(i)
     return n
@@ -214,7 +214,7 @@ def bit_test(c, i):
 def highest_bit(c, i):
     """If there is none, the whole register is undefined, also where its high half else is 0."""
     a, (whole, _, _) = c.get(i, 1), NAMES[i.reg_name(i.ops[0].reg)]
-    found = widen(a.size() - 1 - leading_zeros(a), 64)
+    found = resize(a.size() - 1 - leading_zeros(a), 64)
     c.r[whole] = choose(a == 0, c.fresh(), found)
     c.flags = {'z': a == 0}
 
@@ -223,7 +223,7 @@ def highest_bit(c, i):
 def count_zeros(c, i):
     a = c.get(i, 1)
     c.put(i, 0, leading_zeros(a))
-    c.flags = {'z': top(a), 'c': a == 0}
+    c.flags = {'z': a < 0, 'c': a == 0}
 
 
 @means(TABLE, 'mul')
@@ -266,7 +266,7 @@ def call(c, i):
 def move_quad(c, i):
     value = c.get(i, 1, 64)
     to_vector = i.ops[0].type == X.X86_OP_REG and i.ops[0].size == 16
-    c.put(i, 0, widen(value, 128) if to_vector else value)
+    c.put(i, 0, resize(value, 128) if to_vector else value)
 
 
 def vector(c, i):
@@ -311,7 +311,7 @@ TABLE.update({f'v{name}': vector for name in VECTORS})
 @means(TABLE, 'vzeroupper')
 def zero_upper(c, i):
     for n in range(16):
-        c.r[f'ymm{n}'] = widen(part(c.r[f'ymm{n}'], 0, 128), 256)
+        c.r[f'ymm{n}'] = resize(part(c.r[f'ymm{n}'], 0, 128), 256)
 
 
 @means(TABLE, 'rep movsb')
