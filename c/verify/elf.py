@@ -1,7 +1,10 @@
 """The file of a shared library, as a loader reads it: which bytes it maps where, and which address
 it finds for a name. Section headers say nothing here, since no loader reads them. What would make a
 loader do more than map, look up names and protect pages is refused, and so is what two loaders may
-take in different ways."""
+take in different ways.
+
+All of it is trusted: if a loader maps other bytes, or finds another address, then what runs is not
+what was checked."""
 import collections
 import struct
 from terms import Unknown

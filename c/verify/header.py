@@ -1,4 +1,8 @@
-"""The calls that the header allows, and whether the cases of a function are all of these."""
+"""The calls that the header allows, and whether the cases of a function are all of these.
+
+Trusted is that `allowed` and `any_state` leave out no call that the header allows: they have its
+first comment in formulas, and read its prototypes. `witness` needs no trust, because the conditions
+of a case are asked of whatever it chooses."""
 import itertools
 import os
 import re

@@ -1,4 +1,7 @@
-"""A shared library as it is loaded: its functions, its constants, and its decoded instructions."""
+"""A shared library as it is loaded: its functions, its constants, and its decoded instructions.
+
+All of it is trusted: only code that nobody can write is decoded, only encodings that opcodes.py has
+get a meaning, and the marks that a file asks for are there."""
 from capstone import Cs
 from elf import EXECUTE, READ, Elf, need
 from terms import Unknown
