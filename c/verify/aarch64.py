@@ -4,9 +4,9 @@ import operator
 import z3
 from capstone import CS_ARCH_ARM64, CS_MODE_ARM
 from capstone import arm64_const as A
-from machine import CONDITIONS, Cpu, means, unknown
+from machine import CONDITIONS, Cpu, compared, means, unknown
 from opcodes import is_known_arm64 as is_known
-from terms import bv, choose, join, leading_zeros, part, secret, simple, sym, top, widen
+from terms import bv, choose, join, leading_zeros, part, resize, secret, simple, sym
 
 TABLE = {}
 SIZES = {'x': 64, 'w': 32, 'q': 128, 'd': 64, 'v': 128}
@@ -37,7 +37,7 @@ class Arm(Cpu):
         words = {f'x{n}': secret(f'x{n} of the caller') for n in range(31)}
         return {**words, **{f'v{n}': secret(f'v{n} of the caller', 128) for n in range(32)}}
 
-    def enter(self):
+    def put_return(self):
         self.r['x30'] = sym('return')
 
     def check_return(self):
@@ -56,25 +56,16 @@ class Arm(Cpu):
         op = i.ops[k]
         if op.type == A.ARM64_OP_IMM:
             value = bv(op.imm % 2**width, width)
-        elif op.type == A.ARM64_OP_REG:
+        else:
             n, size = register(i.reg_name(op.reg))
             value = bv(0, size) if n is None else part(self.r[n], 0, size)
-        else:
-            raise unknown(i)
-        if op.ext:
-            raise unknown(i)
         if not op.shift.type:
             return value
         return simple(SHIFTS[op.shift.type](value, op.shift.value))
 
-    def width(self, i, k=0):
-        return register(self.name(i, k))[1]
-
     @staticmethod
-    def name(i, k):
-        if i.ops[k].type != A.ARM64_OP_REG:
-            raise unknown(i)
-        return i.reg_name(i.ops[k].reg)
+    def width(i):
+        return register(i.reg_name(i.ops[0].reg))[1]
 
     def both(self, i, k=1):
         """Operands k and k + 1; a number is as wide as the other."""
@@ -82,42 +73,32 @@ class Arm(Cpu):
         return a, self.get(i, k + 1, a.size())
 
     def put(self, i, k, value):
-        name, value = self.name(i, k), simple(value)
-        n, size = register(name)
+        value = simple(value)
+        n, size = register(i.reg_name(i.ops[k].reg))
         if value.size() != size:
             raise unknown(i)
         if n is not None:
-            self.r[n] = widen(value, self.r[n].size())
+            self.r[n] = resize(value, self.r[n].size())
 
     @staticmethod
     def check_differ(i, operands, *more):
         """Whether these registers are different ones, without which the outcome varies."""
-        names = [register(Arm.name(i, k))[0] for k in operands] + [*more]
+        names = [register(i.reg_name(i.ops[k].reg))[0] for k in operands] + [*more]
         if len({*names}) < len(names):
             raise unknown(i)
 
     def address(self, i, k):
         """The address in operand k. A further operand is added to the base afterwards."""
         m, base = i.ops[k].mem, register(i.reg_name(i.ops[k].mem.base))[0]
-        if i.ops[k].type != A.ARM64_OP_MEM or i.ops[k].ext or i.ops[k].shift.type:
-            raise unknown(i)
+        start = self.r[base]
         if base == 'sp':
-            self.check_aligned(self.r['sp'], 16)
-        if m.index and register(i.reg_name(m.index))[1] != 64:
-            raise unknown(i)
-        index = self.r[register(i.reg_name(m.index))[0]] if m.index else 0
-        address = simple(self.r[base] + index + m.disp)
+            self.check_aligned(start, 16)
         if i.writeback or len(i.ops) > k + 1:
-            if not i.writeback or len(i.ops) != k + 2 or m.disp or m.index:
-                raise unknown(i)
             self.check_differ(i, [*range(k)], base)
-            self.r[base] = simple(address + i.ops[k + 1].imm)
-        return address
-
-
-def compared(a, b):
-    """Flags of a - b."""
-    return {'z': a == b, 'c': z3.ULT(a, b), 's': top(a - b), 'l': a < b}
+            self.r[base] = simple(start + i.ops[k + 1].imm)
+            return start
+        index = self.r[register(i.reg_name(m.index))[0]] if m.index else 0
+        return simple(start + index + m.disp)
 
 
 def bits(c, i):
@@ -125,22 +106,26 @@ def bits(c, i):
     return part(c.get(i, 1), i.ops[2].imm, i.ops[3].imm)
 
 
-def condition(c, i):
+def selector(c, i):
     """The condition that the text ends with."""
-    return c.known(c.cond(i.text.split()[-1]))
+    return c.selector(i.text.split()[-1])
 
 
 TABLE.update({
     **dict.fromkeys(('nop', 'bti', 'hint'), lambda c, i: None),
     'b': lambda c, i: i.ops[0].imm,
+    **{f'b.{name}': lambda c, i: (c.condition(i.mnemonic[2:]), i.ops[0].imm)
+       for name in CONDITIONS},
+    'ret': lambda c, i: c.give_back(c.r['x30']),
     'neg': lambda c, i: c.put(i, 0, -c.get(i, 1)),
     'mvn': lambda c, i: c.put(i, 0, ~c.get(i, 1)),
+    'movi': lambda c, i: c.put(i, 0, bv(0, c.width(i))),
     'clz': lambda c, i: c.put(i, 0, leading_zeros(c.get(i, 1))),
-    'csel': lambda c, i: c.put(i, 0, choose(condition(c, i), c.get(i, 1), c.get(i, 2))),
-    'cset': lambda c, i: c.put(i, 0, widen(choose(condition(c, i), bv(1), bv(0)), c.width(i))),
-    'ubfx': lambda c, i: c.put(i, 0, widen(bits(c, i), c.width(i))),
+    'csel': lambda c, i: c.put(i, 0, choose(selector(c, i), c.get(i, 1), c.get(i, 2))),
+    'cset': lambda c, i: c.put(i, 0, resize(choose(selector(c, i), bv(1), bv(0)), c.width(i))),
+    'ubfx': lambda c, i: c.put(i, 0, resize(bits(c, i), c.width(i))),
     'ubfiz': lambda c, i: c.put(
-        i, 0, widen(part(c.get(i, 1), 0, i.ops[3].imm), c.width(i)) << i.ops[2].imm),
+        i, 0, resize(part(c.get(i, 1), 0, i.ops[3].imm), c.width(i)) << i.ops[2].imm),
     'ext': lambda c, i: c.put(
         i, 0, part(join([c.get(i, 1), c.get(i, 2)]), 8 * i.ops[3].imm, 128))})
 
@@ -166,13 +151,13 @@ def test(c, i):
     result = simple(a & b)
     if i.mnemonic == 'ands':
         c.put(i, 0, result)
-    c.flags = {'z': result == 0, 's': top(result), 'c': z3.BoolVal(True), 'l': top(result)}
+    c.set_flags(result, c=z3.BoolVal(True), l=result < 0)
 
 
 @means(TABLE, 'ccmp')
 def compare_if(c, i):
     a, b = c.both(i, 0)
-    cond, yes = condition(c, i), compared(a, b)
+    cond, yes = selector(c, i), compared(a, b)
     negative, zero, carry, overflow = (i.ops[2].imm >> k & 1 for k in (3, 2, 1, 0))
     no = {'z': zero, 's': negative, 'c': not carry, 'l': negative != overflow}
     c.flags = {k: z3.If(cond, yes[k], z3.BoolVal(bool(no[k]))) for k in yes}
@@ -207,8 +192,6 @@ def insert_low(c, i):
 @means(TABLE, 'mul', 'umulh')
 def multiply(c, i):
     a, b = c.both(i)
-    if a.size() != 64:
-        raise unknown(i)
     c.put(i, 0, c.multiply(a, b, (0 if i.mnemonic == 'mul' else 1,))[0])
 
 
@@ -225,7 +208,7 @@ def load(c, i):
     address = c.address(i, number)
     values = [c.load(simple(address + size * k), size) for k in range(number)]
     for k, value in enumerate(values):
-        c.put(i, k, widen(value, c.width(i)))
+        c.put(i, k, resize(value, c.width(i)))
 
 
 @means(TABLE, 'str', 'stur', 'strb', 'sturb', 'strh', 'sturh', 'stp')
@@ -237,34 +220,17 @@ def store(c, i):
         c.store(simple(address + size * k), part(value, 0, 8 * size))
 
 
-@means(TABLE, 'ret')
-def give_back(c, i):
-    if i.ops:
-        raise unknown(i)
-    return c.give_back(c.r['x30'])
-
-
 @means(TABLE, 'bl')
 def call(c, i):
     c.r['x30'] = c.note_call(i)
     return i.ops[0].imm
 
 
-@means(TABLE, *(f'b.{name}' for name in CONDITIONS))
-def branch(c, i):
-    return c.cond(i.mnemonic[2:]), i.ops[0].imm, i.address + i.size
-
-
 @means(TABLE, 'cbz', 'cbnz', 'tbz', 'tbnz')
 def branch_on_bits(c, i):
     a = c.get(i, 0)
     zero = a == 0 if i.mnemonic[0] == 'c' else part(a, i.ops[1].imm, 1) == 0
-    return z3.Not(zero) if 'n' in i.mnemonic else zero, i.ops[-1].imm, i.address + i.size
-
-
-@means(TABLE, 'movi')
-def move_vector(c, i):
-    c.put(i, 0, bv(0, c.width(i)))
+    return z3.Not(zero) if 'n' in i.mnemonic else zero, i.ops[-1].imm
 
 
 @means(TABLE, 'zip1', 'zip2')

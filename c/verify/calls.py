@@ -1,4 +1,5 @@
 """A call of a function: its arrays and arguments."""
+import collections
 import z3
 from definition import Products, State, padding_byte
 from memory import Array
@@ -8,6 +9,13 @@ from terms import Unknown, address, bv, choose, secret, simple, sym
 NONE = bv(2**64 - 1)
 
 
+class Library(collections.namedtuple('Library', 'image layout red_zone alignment before',
+                                     defaults=(None, lambda call: None))):
+    """The image of a library, and how its functions are called: how streams lie in memory, whether
+    functions may use the red zone, and the stack pointer modulo 64, if a case is about one. `before`
+    is told of each call before its first instruction."""
+
+
 class Call:
     """A call of a function, of which nothing has run: its arrays, what is known of its arguments,
     and the products that the definition makes for it."""
@@ -15,11 +23,11 @@ class Call:
     def __init__(self, library, version, name):
         self.library, self.version, self.name = library, version, f'komihash_v{version}{name}'
         self.products, self.layout = Products(), library.layout(version)
-        self.cpu = library.processor(library, self.products)
+        self.cpu = library.image.processor(library, self.products)
         self.facts, self.memory = self.cpu.facts, self.cpu.memory
         # For header.py: how many facts don't come from the case, what it is passed, the state of
         # its stream and how many bytes that counts, and the bytes of the last of its words.
-        self.known, self.args = len(self.facts.list), ()
+        self.first_fact, self.args = len(self.facts.list), ()
         self.state = self.count = self.last_word = None
 
     def base(self, name, size, apart_from=()):
@@ -59,7 +67,7 @@ class Call:
 
     def begin(self, args):
         self.args = args
-        self.library.begin(self)
+        self.library.before(self)
         self.check_possible()
 
     def check_possible(self):
@@ -104,13 +112,13 @@ def some_lanes():
 def some_state(version, fill, had_block=None):
     """Any state with this number of pending bytes, and this flag or any."""
     if had_block is None:
-        had_block = widened(sym('had_block', 1))
-    top_bit = widened(secret('top bit', 1)) if version == 4 else bv(0, 8)
+        had_block = flag_byte(sym('had_block', 1))
+    top_bit = flag_byte(secret('top bit', 1)) if version == 4 else bv(0, 8)
     top_bit = simple(top_bit & had_block)
     return State(some_lanes(), named('pending', range(fill)), had_block, top_bit)
 
 
-def widened(bit):
+def flag_byte(bit):
     return choose(bit == 1, bv(1, 8), bv(0, 8))
 
 

@@ -6,15 +6,16 @@ import header
 import loops
 import terms
 from aarch64 import Arm
+from calls import Library
 from image import Image
 from layout import Ours
-from machine import Aligned, Seen
+from machine import DependsOnAlignment, Seen
 from terms import Refused, Unknown
 from x86_64 import X86
 
 # By the numbers that ELF has for them.
 PROCESSORS = {62: X86, 183: Arm}
-IMAGE = None
+LIBRARY = None
 # The row of a function: the definition's multiplications for n bytes with f bytes pending, whether
 # jumps may depend on contents, and its cases by how they are checked.
 Function = collections.namedtuple('Function', 'multiplications by_contents cases')
@@ -66,20 +67,18 @@ class Case(collections.namedtuple('Case', 'name check args')):
     def version(self):
         return int(self.name[len('komihash_v')])
 
-    def run(self, image):
+    def run(self, library):
         """What was seen. If the code aligns its stack, each stack pointer modulo 64 is a case."""
         try:
-            return self.run_once(image)
-        except Aligned:
+            return self.run_once(library)
+        except DependsOnAlignment:
             seen = Seen()
-            for image.low in range(image.processor.ABOVE, 64, 16):
-                seen.include(self.run_once(image))
+            for alignment in range(library.image.processor.ABOVE, 64, 16):
+                seen.include(self.run_once(library._replace(alignment=alignment)))
             return seen
-        finally:
-            image.low = None
 
-    def run_once(self, image):
-        done = self.check(image, self.version(), *self.args)
+    def run_once(self, library):
+        done = self.check(library, self.version(), *self.args)
         if self.has_loop():
             done.prove()
             for n, count in done.counted:
@@ -95,9 +94,9 @@ class Case(collections.namedtuple('Case', 'name check args')):
         if count != eval(row_of(self.name).multiplications, {'n': n, 'f': f}):
             raise Refused(f'the definition has {count} products for {n} bytes and {f} pending')
 
-    def begin(self, image):
+    def begin(self, library):
         """Begins the call, or if there are calls of any length, one of these."""
-        begun = self.check(image, self.version(), *self.args)
+        begun = self.check(library, self.version(), *self.args)
         return begun.start() if self.has_loop() else begun
 
 
@@ -110,8 +109,8 @@ class AllCalls(Case):
     def has_loop(self):
         return True
 
-    def run(self, image):
-        return header.check_all(image, self.args).seen
+    def run(self, library):
+        return header.check_all(library, self.args).seen
 
 
 # What a case gave: why it failed, or the instructions that ran and how deep the stack was; and how
@@ -133,9 +132,10 @@ def cases_of(name, every=1):
 
 
 def open_library(content, level, layout=Ours, red_zone=False):
-    global IMAGE
-    IMAGE = Image(content, PROCESSORS, level, NAMES, layout, red_zone)
-    return IMAGE
+    """Reads the library that `run_case` checks, also in workers that begin after this."""
+    global LIBRARY
+    LIBRARY = Library(Image(content, PROCESSORS, level, NAMES), layout, red_zone)
+    return LIBRARY.image
 
 
 def run_case(case):
@@ -144,7 +144,7 @@ def run_case(case):
     terms.COUNTS.update(asked=0, second=0)
     begin, ran, depth, failure = time.time(), frozenset(), 0, None
     try:
-        seen = case.run(IMAGE)
+        seen = case.run(LIBRARY)
         ran, depth = frozenset(seen.ran), seen.depth
         if seen.by_contents and not row_of(case.name).by_contents:
             failure = f'a jump or an address depends on {sorted(seen.by_contents)[0]}'

@@ -80,12 +80,8 @@ def words_of(content):
     return [join(content[k:k + 8]) for k in range(0, len(content), 8)]
 
 
-def pads_with_two(version, last):
-    return z3.And(version == 4, last < 0)
-
-
 def top_bit(version, last):
-    return choose(pads_with_two(version, last), TRUE, FALSE)
+    return choose(z3.And(version == 4, last < 0), TRUE, FALSE)
 
 
 def padding_byte(version, last):

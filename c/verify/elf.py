@@ -1,7 +1,10 @@
 """The file of a shared library, as a loader reads it: which bytes it maps where, and which address
 it finds for a name. Section headers say nothing here, since no loader reads them. What would make a
 loader do more than map, look up names and protect pages is refused, and so is what two loaders may
-take in different ways."""
+take in different ways.
+
+All of it is trusted: if a loader maps other bytes, or finds another address, then what runs is not
+what was checked."""
 import collections
 import struct
 from terms import Unknown
@@ -18,7 +21,7 @@ FRAMES, STACK, RELRO, PROPERTY = 0x6474e550, 0x6474e551, 0x6474e552, 0x6474e553
 # DT_HASH, DT_STRSZ, DT_SYMENT, DT_SONAME, DT_SYMBOLIC, DT_BIND_NOW, DT_AARCH64_BTI_PLT. Of flags,
 # only these bits are allowed: symbolic, bind now; now, never unload.
 STRINGS, SYMBOLS, HASHES, FLAGS, FLAGS_1 = 5, 6, 0x6ffffef5, 30, 0x6ffffffb
-KNOWN = {STRINGS, SYMBOLS, HASHES, FLAGS, FLAGS_1, 4, 10, 11, 14, 16, 24, 0x70000001}
+ALLOWED = {STRINGS, SYMBOLS, HASHES, FLAGS, FLAGS_1, 4, 10, 11, 14, 16, 24, 0x70000001}
 BITS = {FLAGS: 2 | 8, FLAGS_1: 1 | 8}
 # Symbols: their bindings (global and weak), type, visibilities (default and protected), and where
 # numbers of sections end. Notes of GNU: the identifier of the build, and properties.
@@ -117,7 +120,7 @@ class Elf:
             if not tag:
                 need({STRINGS, SYMBOLS, HASHES} <= set(table), 'there is no DT_GNU_HASH')
                 return table
-            need(tag in KNOWN and not value & ~BITS.get(tag, value),
+            need(tag in ALLOWED and not value & ~BITS.get(tag, value),
                  f'the loader would do more than load it: {tag:#x} is {value:#x}')
             need(tag not in table, f'the dynamic table has {tag:#x} twice')
             table[tag] = value

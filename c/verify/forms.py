@@ -46,7 +46,8 @@ class Arrival:
 
 def words_of(cpu):
     """The words of registers, of both stacks and of a stream, and the flags of a stream."""
-    found = {(n, k): word for n, term in cpu.r.items() for k, word in enumerate(split(term))}
+    found = {(n, low // 64): part(term, low, 64)
+             for n, term in cpu.r.items() for low in range(0, term.size(), 64)}
     known = cpu.memory.data
     for name, k in known:
         size = size_of(cpu, name, k)
@@ -56,13 +57,9 @@ def words_of(cpu):
     return found
 
 
-def split(term):
-    return [part(term, low, 64) for low in range(0, term.size(), 64)]
-
-
 def size_of(cpu, name, offset):
     """The bytes of a word in memory. The flags of a stream are single bytes."""
-    return 1 if name == 'stream' and offset >= cpu.image.layout.FLAGS else 8
+    return 1 if name == 'stream' and offset >= cpu.library.layout.FLAGS else 8
 
 
 def form_of(facts, stable, first, second):
@@ -113,12 +110,12 @@ class Invariant:
             for word, form in forms.items() if form})
         return {word: form if word in true else None for word, form in forms.items()}
 
-    def make(self, cpu, world, change):
+    def assume(self, cpu, world, change):
         """Puts a processor into any state that has the forms, of which each term is changed as the
         function says. Words without a form hold anything."""
         words = {n: [] for n in cpu.r}
         for (name, k), form in self.forms.items():
-            word = change(form(world)) if form else cpu.any(8 * size_of(cpu, name, k))
+            word = change(form(world)) if form else cpu.fresh(8 * size_of(cpu, name, k))
             if name in words:
                 words[name].append(word)
             else:

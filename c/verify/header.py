@@ -1,4 +1,8 @@
-"""The calls that the header allows, and whether the cases of a function are all of these."""
+"""The calls that the header allows, and whether the cases of a function are all of these.
+
+Trusted is that `allowed` and `any_state` leave out no call that the header allows: they have its
+first comment in formulas, and read its prototypes. `witness` needs no trust, because the conditions
+of a case are asked of whatever it chooses."""
 import itertools
 import os
 import re
@@ -72,20 +76,14 @@ class Begun(Exception):
     """A call of a case, before its first instruction."""
 
 
-class Beginnings:
-    """Stands for a library whose calls begin, and don't run."""
-
-    def __init__(self, image):
-        self.processor, self.functions, self.layout = image.processor, image.functions, image.layout
-        self.red_zone, self.low = False, None
-
-    def begin(self, call):
-        raise Begun(call)
+def stop(call):
+    raise Begun(call)
 
 
-def beginning(image, case):
+def beginning(library, case):
+    """The call of a case, which doesn't run."""
     try:
-        case.begin(Beginnings(image))
+        case.begin(library._replace(before=stop))
     except Begun as begun:
         return begun.args[0]
 
@@ -124,14 +122,14 @@ def condition(call, wanted):
     found = {}
     for term, value in pairs:
         witness(found, simple(term), value)
-    holds = z3.And(*call.facts.list[call.known:], *(term == value for term, value in pairs))
+    holds = z3.And(*call.facts.list[call.first_fact:], *(term == value for term, value in pairs))
     return simple(z3.substitute(holds, *found.items()))
 
 
-def check_all(image, cases):
+def check_all(library, cases):
     """Whether the cases of a function are all calls that the header allows. Each number of pending
     bytes is asked by itself. Returns the processor before one of the calls."""
-    calls, facts = [beginning(image, case) for case in cases], Facts()
+    calls, facts = [beginning(library, case) for case in cases], Facts()
     wanted, conditions = allowed(calls[0])
     groups = {None: calls}
     if calls[0].state:

@@ -1,4 +1,7 @@
-"""A shared library as it is loaded: its functions, its constants, and its decoded instructions."""
+"""A shared library as it is loaded: its functions, its constants, and its decoded instructions.
+
+All of it is trusted: only code that nobody can write is decoded, only encodings that opcodes.py has
+get a meaning, and the marks that a file asks for are there."""
 from capstone import Cs
 from elf import EXECUTE, READ, Elf, need
 from terms import Unknown
@@ -7,11 +10,10 @@ LONGEST = 15
 
 
 class Image:
-    """A library for a level of a processor, whose processors run no newer instructions; how streams
-    lie in memory; and whether functions may use the red zone."""
+    """A library for a level of a processor, whose processors run no newer instructions."""
 
-    def __init__(self, content, processors, level, names, layout, red_zone):
-        self.elf, self.level, self.layout, self.red_zone = Elf(content), level, layout, red_zone
+    def __init__(self, content, processors, level, names):
+        self.elf, self.level = Elf(content), level
         need(self.elf.machine in processors, 'this is no library for x86-64 or ARM64')
         self.processor = processors[self.elf.machine]
         need(level in self.processor.LEVELS, f'{self.processor.NAME} has no level {level}')
@@ -19,9 +21,6 @@ class Image:
         self.check_marks()
         self.decoder, self.decoded = Cs(*self.processor.DECODER), {}
         self.decoder.detail = True
-        # What was shown of the loops in this code: their cuts, and the turns of writes. And the
-        # stack pointer modulo 64, if a case is about one.
-        self.loops, self.low = {}, None
 
     def check_marks(self):
         """A library may ask the processor to check where jumps go only if each function begins
@@ -33,9 +32,6 @@ class Image:
             for name, address in self.functions.items() if found == kind and bits & 1 else ():
                 need(self.elf.at(address, len(mark), EXECUTE) == mark,
                      f'the file asks for marks where jumps may go, and {name} has none')
-
-    def begin(self, call):
-        """Nothing is to do before a call runs."""
 
     def read(self, address, length):
         """Constants of the library, or None."""

@@ -37,9 +37,9 @@ class Induction:
     SIZE bytes. A kind has these methods. The first two begin a call, and set `base` and `length`
     (of its bytes) and `states` (the definition's words after each of its next steps). The third
     sets `base`, for the length that is set already, and what `check_end` compares.
-    - enter(least, ...): a call before its first instruction; returns its arguments
-    - again(): a call at the head, in any state, when `units` were taken
-    - finish(rest): a call at the exit, in any state, when so many bytes are left
+    - at_start(least, ...): a call before its first instruction; returns its arguments
+    - at_head(): a call at the head, in any state, when `units` were taken
+    - at_exit(rest): a call at the exit, in any state, when so many bytes are left
     - steps(cpu): how many steps were made since, after checking all that they make
     - check_end(cpu): checks a return
     A step makes PRODUCTS, and FIRST ones come before the loop."""
@@ -80,7 +80,7 @@ class Induction:
         terms = self.q, self.r, LOADED, sym('return'), *ends, *self.call.cpu.before.values()
         return self.STABLE.union(*map(symbols, terms))
 
-    def many(self, least=1, r=None):
+    def long_length(self, least=1, r=None):
         """The term GRAIN * q + r, which is the bits of q and r side by side. Unless r is given, it
         is any number that has the low bits of this case."""
         self.call.facts.add(z3.UGE(self.q, least))
@@ -95,7 +95,7 @@ class Induction:
     def start(self, least=1, sure=False, **more):
         """A call before its first instruction. With `sure`, only those that are accepted."""
         self.units = bv(0)
-        args, cpu = self.enter(least, *self.case, **more), self.call.cpu
+        args, cpu = self.at_start(least, *self.case, **more), self.call.cpu
         cpu.r.update(zip(cpu.ARGS, args))
         if sure:
             cpu.facts.add(self.accepted())
@@ -107,32 +107,29 @@ class Induction:
 
     def run(self, cpu, pc=None):
         """The arrivals and the returns."""
-        return cpu.run(pc or self.library.functions[self.call.name], (self.head, self.exit))
+        return cpu.run(pc or self.library.image.functions[self.call.name], (self.head, self.exit))
 
     def find_cuts(self):
         """The head is the first of the places to which a long call comes most often. The exit is
         the first place outside of the loop that a call with one turn or none comes to too."""
-        found = self.library.loops
-        if (self.NAME, self.version) not in found:
-            (few, _), (many, refusal) = self.way(1), self.way(TURNS)
-            often = collections.Counter(many)
-            head = max(many, key=often.get)
-            if often[head] < 2:
-                raise refusal or Unknown(f'{self.call.name}: no loop was found')
-            last = len(many) - 1 - many[::-1].index(head)
-            inside = set(many[many.index(head):last])
-            exits = [pc for pc in many[last:] if pc not in inside and (head in few or pc in few)]
-            found[self.NAME, self.version] = head, exits[0]
-        return found[self.NAME, self.version]
+        (few, _), (many, refusal) = self.places(1), self.places(TURNS)
+        often = collections.Counter(many)
+        head = max(many, key=often.get)
+        if often[head] < 2:
+            raise refusal or Unknown(f'{self.call.name}: no loop was found')
+        last = len(many) - 1 - many[::-1].index(head)
+        inside = set(many[many.index(head):last])
+        return head, next(pc for pc in many[last:]
+                          if pc not in inside and (head in few or pc in few))
 
-    def way(self, q):
+    def places(self, q):
         """The places to which an accepted call of GRAIN * q + REST bytes comes, and why it ends if
         it is refused, which doesn't matter after the loop."""
         cpu = self.start(1, True, front=self.GRAIN * (q + 1))
         cpu.facts.add(self.q == q, self.r == REST >> self.FIXED_BITS)
         refusal = None
         try:
-            list(cpu.run(self.library.functions[self.call.name]))
+            list(self.run(cpu))
         except Refused as refused:
             refusal = refused
         return list(self.seen.order), refusal
@@ -187,7 +184,7 @@ class Induction:
     def turn(self):
         """Runs one turn from any state at the head. Returns whether the invariants hold then."""
         self.units, call = sym('units'), self.new_call()
-        self.make(self.head, self.again())
+        self.assume(self.head, self.at_head())
         return self.arrive_all(self.run(call.cpu, self.head), turned=True)
 
     def arrive_all(self, arrivals, turned=False):
@@ -210,12 +207,12 @@ class Induction:
         """Judges a return that comes before the exit."""
         cpu.refuse('a return before the end')
 
-    def make(self, pc, words, change=lambda term: term):
+    def assume(self, pc, words, change=lambda term: term):
         """Puts the call into any state that has the invariant of this place."""
         world, invariant = World(words, self.units, self.base, self.length), self.invariants[pc]
         conditions = self.conditions(world)
         self.call.facts.add(*(conditions[k] for k in invariant.holding))
-        invariant.make(self.call.cpu, world, change)
+        invariant.assume(self.call.cpu, world, change)
         self.call.check_possible()
 
     def end(self):
@@ -229,16 +226,16 @@ class Induction:
         if not known or 'not too much' not in holding:
             raise Refused('after the last turn, more bytes or fewer are left than the rest')
         for remainder in range(self.fixed, self.GRAIN, 2**self.FIXED_BITS):
-            self.leave(remainder, remainder % known[0])
+            self.end_with(remainder, remainder % known[0])
 
-    def leave(self, remainder, rest):
+    def end_with(self, remainder, rest):
         """From the exit to the return. What was taken follows from what is left. If the invariant
         says that some is left, calls with no rest end before, which `leave_early` judges."""
         if not rest and 'some is left' in self.invariants[self.exit].holding:
             return
         call, r = self.new_call(), bv(remainder >> self.FIXED_BITS, self.r.size())
         self.length, self.units = self.after_turns(remainder, rest)
-        self.make(self.exit, self.finish(rest), lambda term: put_for(term, (self.r, r)))
+        self.assume(self.exit, self.at_exit(rest), lambda term: put_for(term, (self.r, r)))
         for n in (remainder + self.GRAIN * q for q in (1, 2)):
             self.counted.append((n, self.FIRST + (n - rest) // self.SIZE * self.PRODUCTS +
                                  len(call.products.list)))
@@ -249,8 +246,8 @@ class Induction:
 
     def after_turns(self, remainder, rest):
         """The length, and the units that were taken when the last turn ends."""
-        taken = z3.LShR(self.many(1, remainder - rest), self.UNIT.bit_length() - 1)
-        return self.many(1, remainder), simple(taken)
+        taken = z3.LShR(self.long_length(1, remainder - rest), self.UNIT.bit_length() - 1)
+        return self.long_length(1, remainder), simple(taken)
 
     def windows(self, base, front, end, more=0):
         """Passes the last of the bytes, and those from `base` on; `more` follow the length. A byte

@@ -1,7 +1,10 @@
 """How a stream lies in memory: by the layout of this library, or of the Rust crate `komihash`. A
 layout says which memory stands for a state of the definition. If `start` leaves such memory, and
 `write` and `finish` do on all such memory what the definition does, then so does any sequence of
-them. So a wrong layout can refuse right code, but pass no wrong code."""
+them.
+
+Trusted is that `store` passes all memory that `check` accepts for a state. That the layout is the
+library's needs no trust: with another one, right code is refused, but no wrong code passes."""
 import z3
 from checks import check
 from definition import FALSE, TRUE, words_of

@@ -1,5 +1,6 @@
 """The five kinds of calls that have a loop over bytes, and are proved by induction."""
 import copy
+import functools
 import z3
 from calls import NONE, generator, named, padded_content, some_lanes, some_state
 from checks import accepted, check, check_bytes, check_generator
@@ -40,23 +41,23 @@ class Hash(Blocks):
     to know where the last word begins."""
     FIXED_BITS, FIRST = 3, 1
 
-    def enter(self, least, low, front=256):
+    def at_start(self, least, low, front=256):
         self.fixed = low
         call, seed = self.new_call(), secret('seed')
-        self.length, content = self.many(least), named('front', range(front))
+        self.length, content = self.long_length(least), named('front', range(front))
         self.base = call.base('bytes', self.length)
         self.windows(self.base, content, named('end', range(-64, 0)))
         self.follow(lanes(seed_pair(call.products, seed)), content, self.FIRST)
         return self.base, self.length, seed
 
-    def again(self):
-        self.length, content = self.many(), named('turn', range(self.step))
+    def at_head(self):
+        self.length, content = self.long_length(), named('turn', range(self.step))
         self.base = self.call.base('bytes', self.length)
         self.windows(simple(self.base + self.units), content, named('end', range(-64, 0)))
         self.follow(some_lanes(), content)
         return self.states[0]
 
-    def finish(self, rest):
+    def at_exit(self, rest):
         self.base = self.call.base('bytes', self.length)
         s, last = some_lanes(), named('end', range(-64, 0))
         self.windows(self.base, [], last)
@@ -84,9 +85,9 @@ class Write(Blocks):
     def rest(self, modulus=64):
         return z3.ZeroExt(58, self.r)
 
-    def enter(self, least, fill, front=256):
+    def at_start(self, least, fill, front=256):
         call = self.new_call()
-        self.length, content = simple(self.many(least) - fill), named('front', range(front))
+        self.length, content = simple(self.long_length(least) - fill), named('front', range(front))
         state = some_state(self.version, fill)
         stream = call.stream(state, writable=True, count=self.count_before())
         self.base = call.base('bytes', self.length)
@@ -107,7 +108,7 @@ class Write(Blocks):
         self.base = self.call.base('bytes', self.length)
         return simple(self.base + self.units)
 
-    def again(self):
+    def at_head(self):
         self.length, content = sym('length'), named('turn', range(self.step))
         address, limit = self.open(), simple(self.length - self.units)
         self.call.memory.add(Array('front', address, 0, self.step, limit=limit), content)
@@ -117,7 +118,7 @@ class Write(Blocks):
     def after_turns(self, remainder, rest):
         return simple(sym('units') + remainder), sym('units')
 
-    def finish(self, rest):
+    def at_exit(self, rest):
         self.tail, address = named('rest', range(rest)), self.open()
         # At the exit, at least one byte was taken, since all whole blocks of one or more were.
         last = secret('last', 8)
@@ -142,10 +143,7 @@ class Write(Blocks):
         """The turns and the end are those of any write. They are proved once; another number of
         pending bytes needs only to begin with the same invariants. If it doesn't, it drops what
         doesn't hold, and proves the rest by itself."""
-        key, found = ('turns of writes', self.version, self.library.low), self.library.loops
-        if key not in found:
-            found[key] = super(Write, Write(self.library, self.version, SOME_FILL)).prove()
-        shown = found[key]
+        shown = proved_write(self.library, self.version)
         self.head, self.exit, self.step = shown.head, shown.exit, shown.step
         self.invariants = {pc: copy.copy(one) for pc, one in shown.invariants.items()}
         if not self.begin():
@@ -154,14 +152,20 @@ class Write(Blocks):
         return self
 
 
+@functools.lru_cache(maxsize=None)
+def proved_write(library, version):
+    """The writes with some number of pending bytes, proved."""
+    return Induction.prove(Write(library, version, SOME_FILL))
+
+
 class Fill(Induction):
     """Fills of a generator. The words of the definition are its pair. What was written is checked
     at each arrival, and `out` then begins after it, so that it isn't written again."""
     NAME, PRODUCTS = '_rand_fill', 1
 
-    def enter(self, least, front=512):
+    def at_start(self, least, front=512):
         call = self.new_call()
-        self.length = self.many(least)
+        self.length = self.long_length(least)
         address, pair = generator(call)
         self.base = call.base('out', self.length)
         self.follow(pair, front // 8)
@@ -181,11 +185,11 @@ class Fill(Induction):
         check_bytes(cpu, 'bytes', 'out', self.outputs[:8 * steps])
         return steps
 
-    def again(self):
-        self.length = self.many()
+    def at_head(self):
+        self.length = self.long_length()
         return self.go_on(self.step)
 
-    def finish(self, rest):
+    def at_exit(self, rest):
         self.size = rest
         return self.go_on(rest)
 
@@ -222,19 +226,19 @@ class Copy(Induction):
         check_bytes(cpu, 'bytes', 'out', self.content[:8 * words])
         return words
 
-    def enter(self, least, *case, front=512):
+    def at_start(self, least, *case, front=512):
         self.new_call()
-        self.length = self.many(least)
+        self.length = self.long_length(least)
         self.open(named('front', range(front)), self.pass_arrays(*case), front)
         return self.args()
 
-    def again(self):
-        self.length = self.many()
+    def at_head(self):
+        self.length = self.long_length()
         self.open(named('turn', range(self.step)), self.pass_arrays(*self.case), self.step)
         self.call.facts.add(self.accepted())
         return []
 
-    def finish(self, rest):
+    def at_exit(self, rest):
         last = self.pass_arrays(*self.case)
         # After the rest, at most the last word is written, or what it has of the message.
         self.open([], last, rest + 8)

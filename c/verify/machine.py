@@ -1,9 +1,9 @@
 """What both processors share: registers, memory, products, and the paths through the code."""
 import copy
 import z3
-from memory import Array, Memory, Several
-from terms import (Facts, Refused, Unknown, bv, const, is_public, secret, signed, simple,
-                   sym, symbols)
+from memory import Array, Memory, MustSplit
+from terms import (Facts, Refused, Unknown, bv, const, is_public, secret, signed, simple, sym,
+                   symbols)
 
 # Limits: the bytes of a call's stack, the instructions of a case, and the values of a number for
 # which a path is split.
@@ -24,6 +24,11 @@ def unknown(i):
     return Unknown(f'{i.address:#x}: no meaning is known of: {i.mnemonic} {i.text}')
 
 
+def compared(a, b):
+    """The flags of a - b."""
+    return {'z': a == b, 's': a - b < 0, 'c': z3.ULT(a, b), 'l': a < b}
+
+
 def means(table, *names):
     """Enters a function into a table of instructions."""
     def enter(do):
@@ -32,12 +37,7 @@ def means(table, *names):
     return enter
 
 
-class Moved(Exception):
-    """The stack pointer moved by a number that the path does not fix. It has the number, and the
-    place after the instruction."""
-
-
-class Aligned(Exception):
+class DependsOnAlignment(Exception):
     """What lies where in the stack depends on the low bits of the stack pointer."""
 
 
@@ -62,12 +62,13 @@ class Cpu:
     ABOVE is how many bytes a call has put on the stack, and RED_ZONE how many below the stack
     pointer no signal handler writes. TABLE has the meaning of instructions by their names: a
     function returns None to go on, an address to jump to, RETURN, or for a jump with a condition,
-    this and both addresses."""
+    this and the address."""
     NAME = DECODER = ARGS = RESULTS = SAVED = SP = ABOVE = RED_ZONE = TABLE = None
 
-    def __init__(self, image, products):
+    def __init__(self, library, products):
         # All paths share these.
-        self.image, self.products, self.facts, self.seen = image, products, Facts(), Seen()
+        self.library, self.image, self.products = library, library.image, products
+        self.facts, self.seen = Facts(), Seen()
         # Conditions that hold on this path, and which halves of products were made on it.
         self.path, self.halves = [], frozenset()
         self.memory, self.r, self.flags = Memory(), self.registers(), {}
@@ -77,14 +78,14 @@ class Cpu:
         self.sp = sym('sp')
         self.memory.add(Array('stack', self.sp, -STACK_BYTES, self.ABOVE, True))
         self.facts.add(self.sp & 15 == self.ABOVE, LOADED & 4095 == 0)
-        if image.low is not None:
-            self.facts.add(self.sp & 63 == image.low)
-        self.red_zone = self.RED_ZONE if image.red_zone else 0
+        if library.alignment is not None:
+            self.facts.add(self.sp & 63 == library.alignment)
+        self.red_zone = self.RED_ZONE if library.red_zone else 0
         self.r[self.SP] = self.sp
         # The addresses to which calls must return, and a pointer to the last: no array has them.
         self.r['ssp'] = bv(0)
         self.memory.put('shadow', 0, sym('return'))
-        self.enter()
+        self.put_return()
         self.before = dict(self.r)
 
     def copy(self):
@@ -124,27 +125,17 @@ class Cpu:
                 before = dict(cpu.r), cpu.flags, cpu.halves
                 try:
                     pc = cpu.next(pc, todo)
-                except Several as several:
-                    # The instruction is run again, for each value, and nothing may stay of this.
+                except MustSplit as split:
+                    # Nothing may stay of what the instruction did, since it is run again.
                     cpu.r, cpu.flags, cpu.halves = before
-                    todo += [(other, pc) for other in cpu.with_values(several.args[0])]
-                    break
-                except Moved as moved:
-                    moved_by, pc = moved.args
-                    todo += [(other.move_stack(pc), pc) for other in cpu.with_values(moved_by)]
+                    todo += [(other, pc) for other in cpu.with_values(split.args[0])]
                     break
             else:
                 yield cpu, pc
 
-    def meaning(self, i):
-        return self.TABLE.get(i.mnemonic)
-
     def next(self, pc, todo):
         """Runs the instruction at a place: the next place, or None at the return."""
         i = self.image.instruction(pc)
-        do = self.meaning(i)
-        if do is None:
-            raise unknown(i)
         self.pc = pc
         self.seen.ran.add(pc)
         self.seen.order.append(pc)
@@ -152,17 +143,16 @@ class Cpu:
             raise Refused(f'more than {STEPS} instructions')
         self.stack_pointer = self.r[self.SP]
         try:
-            went = do(self, i)
-            if isinstance(went, tuple):
-                return self.branch(*went, todo)
-            after = None if went is RETURN else i.address + i.size if went is None else went
+            went = self.TABLE[i.mnemonic](self, i)
             if self.r[self.SP] is not self.stack_pointer:
-                self.move_stack(after)
+                self.move_stack()
+            if isinstance(went, tuple):
+                return self.branch(*went, i.address + i.size, todo)
+            return None if went is RETURN else i.address + i.size if went is None else went
         except Refused as refused:
             self.refuse(refused)
         except (KeyError, IndexError):
             raise unknown(i) from None
-        return after
 
     def branch(self, cond, yes, no, todo):
         """The place after a jump; if both are possible, the other is left to do."""
@@ -179,8 +169,8 @@ class Cpu:
 
     def with_values(self, term):
         """A copy for each value that a term can have here."""
-        if symbols(term) == {'sp'} and self.image.low is None:
-            raise Aligned
+        if symbols(term) == {'sp'} and self.library.alignment is None:
+            raise DependsOnAlignment
         self.note_time(term)
         self.parted = self.pc
         values = self.facts.values(term, self.path, VALUES)
@@ -212,16 +202,15 @@ class Cpu:
         if not self.facts.holds(self.path, address & (size - 1) == 0):
             raise Refused(f'an address that is not aligned to {size} bytes: {address}')
 
-    def move_stack(self, after):
+    def move_stack(self):
         """Loses what now lies below the stack pointer and the red zone, where a signal handler may
-        write at any time. Returns the processor."""
+        write at any time."""
         moved = simple(self.r[self.SP] - self.sp)
         offset = self.facts.unique(moved, self.path)
         if offset is None:
-            raise Moved(moved, after)
+            raise MustSplit(moved)
         self.r[self.SP] = simple(self.sp + offset)
         self.memory.lose('stack', offset - self.red_zone)
-        return self
 
     def check_stack(self, name, offset):
         """Judges an access by the stack pointer before the instruction, or the one after it."""
@@ -268,12 +257,16 @@ class Cpu:
         self.halves |= {(k, half) for half in halves}
         return [self.products.list[k][2 + half] for half in halves]
 
-    def any(self, width=64):
-        """A value that is not defined."""
+    def fresh(self, width=64):
+        """A symbol of its own, for a value that is not defined."""
         self.undefined += 1
         return secret(f'undefined {self.undefined} of {width}', width)
 
-    def cond(self, name):
+    def set_flags(self, result, **flags):
+        """Zero and sign by the result, the others as given; without these they are not defined."""
+        self.flags = {'z': result == 0, 's': result < 0, **flags}
+
+    def condition(self, name):
         """A condition by its name."""
         some = z3.Or(*map(self.flag, CONDITIONS[name]))
         return z3.Not(some) if name in NONE else some
@@ -283,13 +276,13 @@ class Cpu:
             raise Refused(f'flag {name} is read, and is not defined')
         return self.flags[name]
 
-    def known(self, cond):
-        """The condition, or if it doesn't depend on contents, what it is here: then the path is
-        split, so that lengths and addresses are chosen as by a jump."""
-        cond = simple(cond)
+    def selector(self, name):
+        """The condition by which an instruction selects a value. If it doesn't depend on contents,
+        the path is split, so that lengths and addresses are selected as by a jump."""
+        cond = simple(self.condition(name))
         if not is_public(cond):
             return cond
         decided = self.facts.decide(self.path, cond)
         if decided is None:
-            raise Several(z3.If(cond, bv(1), bv(0)))
+            raise MustSplit(z3.If(cond, bv(1), bv(0)))
         return z3.BoolVal(decided)

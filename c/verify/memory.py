@@ -2,8 +2,9 @@
 from terms import SYMBOLS, Refused, join, linear, part, signed, simple, symbols
 
 
-class Several(Exception):
-    """A number that the path does not fix. The path is then split, one way for each value."""
+class MustSplit(Exception):
+    """A number that the path does not fix. The path is then split, one way for each value, and the
+    instruction is run again on each."""
 
 
 class Array:
@@ -50,7 +51,7 @@ class Memory:
                 if offset is not None and self.fits(cpu, array, offset, length, write):
                     return array.name, offset
         if len(near) == 1 and offset is None:
-            raise Several(difference)
+            raise MustSplit(difference)
         raise Refused(f'{"write" if write else "read"} of {length} bytes at {address}, which is '
                       'in no array that is passed')
 

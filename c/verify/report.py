@@ -1,4 +1,7 @@
-"""Checks libraries, and tells what was shown of them."""
+"""Checks libraries, and tells what was shown of them.
+
+Trusted is that each case of each function is run, that each failure counts, and that nothing is
+claimed after an error. The order of the cases, the table and the times need no trust."""
 import argparse
 import collections
 import hashlib

@@ -25,39 +25,23 @@ class Unknown(Exception):
 class Symbols:
     """The symbols by name. Secret are those that stand for contents, and not for lengths or
     addresses. What `of` finds is remembered for each part of a term, by the number that Z3 gives
-    it; the terms are kept, so that Z3 doesn't give their numbers to others."""
+    it, with the term, so that Z3 doesn't give its number to others."""
 
     def __init__(self):
-        self.term, self.secret, self.found, self.kept = {}, set(), {}, []
+        self.term, self.secret, self.found = {}, set(), {}
         self.addresses = {'sp'}
 
     def of(self, term):
-        """The names of the symbols in a term. It calls the C interface of Z3, which is faster."""
-        context, todo = term.ctx_ref(), [term.as_ast()]
-        if z3.Z3_get_ast_id(context, todo[0]) not in self.found:
-            self.kept.append(term)
-        while todo:
-            key = z3.Z3_get_ast_id(context, todo[-1])
-            if key not in self.found:
-                app = z3.Z3_to_app(context, todo[-1])
-                parts = [z3.Z3_get_app_arg(context, app, k)
-                         for k in range(z3.Z3_get_app_num_args(context, app))]
-                keys = [z3.Z3_get_ast_id(context, p) for p in parts]
-                left = [p for p, k in zip(parts, keys) if k not in self.found]
-                if left:
-                    todo += left
-                    continue
-                self.found[key] = frozenset().union(*(self.found[k] for k in keys)) \
-                    if parts else self.of_leaf(context, app)
-            todo.pop()
-        return self.found[z3.Z3_get_ast_id(context, term.as_ast())]
-
-    def of_leaf(self, context, app):
-        declaration = z3.Z3_get_app_decl(context, app)
-        if z3.Z3_get_decl_kind(context, declaration) != z3.Z3_OP_UNINTERPRETED:
-            return frozenset()
-        return frozenset([z3.Z3_get_symbol_string(
-            context, z3.Z3_get_decl_name(context, declaration))])
+        """The names of the symbols in a term."""
+        key = term.get_id()
+        if key not in self.found:
+            if term.children():
+                names = frozenset().union(*map(self.of, term.children()))
+            else:
+                names = frozenset([str(term)] if z3.is_const(term) and
+                                  term.decl().kind() == z3.Z3_OP_UNINTERPRETED else [])
+            self.found[key] = names, term
+        return self.found[key][0]
 
 
 SYMBOLS = Symbols()
@@ -136,7 +120,7 @@ def bytes_of(term):
     return [part(term, low, 8) for low in range(0, term.size(), 8)]
 
 
-def widen(term, width):
+def resize(term, width):
     """A term of this width, by zeros or by taking its low bits."""
     if term.size() < width:
         return simple(z3.ZeroExt(width - term.size(), term))
@@ -152,11 +136,6 @@ def put_for(term, *pairs):
 
 def choose(cond, yes, no):
     return simple(z3.If(cond, yes, no))
-
-
-def top(term):
-    """Whether the highest bit is set."""
-    return z3.Extract(term.size() - 1, term.size() - 1, term) == 1
 
 
 def leading_zeros(term):

@@ -3,11 +3,11 @@ import operator
 import z3
 from capstone import CS_ARCH_X86, CS_MODE_64
 from capstone import x86_const as X
-from machine import CONDITIONS, LOADED, Cpu, means, unknown
-from memory import Several
+from machine import CONDITIONS, LOADED, Cpu, compared, means, unknown
+from memory import MustSplit
 from opcodes import KNOWN_X86, is_known
-from terms import (SYMBOLS, Refused, bv, choose, const, join, leading_zeros, part, secret, simple,
-                   sym, symbols, top, widen)
+from terms import (SYMBOLS, Refused, bv, choose, const, join, leading_zeros, part, resize, secret,
+                   simple, sym, symbols)
 
 TABLE = {}
 SHIFTS = {'shl': operator.lshift, 'shr': z3.LShR, 'sar': operator.rshift}
@@ -43,7 +43,7 @@ class X86(Cpu):
         return {name: secret(f'{name} of the caller', width)
                 for name, (whole, _, width) in NAMES.items() if name == whole}
 
-    def enter(self):
+    def put_return(self):
         self.memory.put('stack', 0, sym('return'))
 
     def check_return(self):
@@ -56,8 +56,6 @@ class X86(Cpu):
         return [address], address
 
     def address(self, i, op):
-        if op.type != X.X86_OP_MEM:
-            raise unknown(i)
         m, a = op.mem, bv(op.mem.disp % 2**64)
         if m.base:
             name = i.reg_name(m.base)
@@ -79,14 +77,8 @@ class X86(Cpu):
             return bv(op.imm % 2**(width or 64), width or 64)
         if op.type == X.X86_OP_MEM:
             return self.load(self.aligned_address(i, op), (width or 8 * op.size) // 8)
-        n, low, size = self.register(i, op)
+        n, low, size = NAMES[i.reg_name(op.reg)]
         return part(self.r[n], low, min(size, width or size))
-
-    @staticmethod
-    def register(i, op):
-        if op.type != X.X86_OP_REG:
-            raise unknown(i)
-        return NAMES[i.reg_name(op.reg)]
 
     def put(self, i, k, value):
         op, value = i.ops[k], simple(value)
@@ -94,13 +86,13 @@ class X86(Cpu):
             if value.size() != 8 * op.size:
                 raise unknown(i)
             return self.store(self.aligned_address(i, op), value)
-        n, low, size = self.register(i, op)
+        n, low, size = NAMES[i.reg_name(op.reg)]
         whole = self.r[n].size()
         if value.size() != size:
             raise unknown(i)
         # These clear what is above them in the register; others keep it.
         if size == 32 or size == 128 and i.mnemonic[0] == 'v':
-            value = widen(value, whole)
+            value = resize(value, whole)
         elif size < whole:
             below = [part(self.r[n], 0, low)] if low else []
             above = part(self.r[n], low + size, whole - low - size)
@@ -110,28 +102,24 @@ class X86(Cpu):
     def both(self, i, first=0):
         return [self.get(i, k, 8 * i.ops[0].size) for k in (first, first + 1)]
 
-    def set_flags(self, result, **flags):
-        """Zero and sign by the result, the others as given; without these they are not defined."""
-        self.flags = {'z': result == 0, 's': top(result), **flags}
-
 
 TABLE.update({
     **dict.fromkeys(('nop', 'endbr64'), lambda c, i: None),
     **dict.fromkeys(('mov', 'movabs', 'movups', 'movdqu', 'movaps', 'movdqa', 'vmovups', 'vmovdqu',
                      'vmovaps'), lambda c, i: c.put(i, 0, c.get(i, 1, 8 * i.ops[0].size))),
-    'movzx': lambda c, i: c.put(i, 0, widen(c.get(i, 1), 8 * i.ops[0].size)),
+    'movzx': lambda c, i: c.put(i, 0, resize(c.get(i, 1), 8 * i.ops[0].size)),
     'lea': lambda c, i: c.put(i, 0, part(c.address(i, i.ops[1]), 0, 8 * i.ops[0].size)),
     'not': lambda c, i: c.put(i, 0, ~c.get(i, 0)),
     'vbroadcastsd': lambda c, i: c.put(i, 0, join([c.get(i, 1, 64)] * 4)),
-    **{f'set{code}': lambda c, i: c.put(i, 0, choose(condition(c, i, 3), bv(1, 8), bv(0, 8)))
-       for code in CONDITIONS},
-    **{f'cmov{code}': lambda c, i: c.put(i, 0, choose(condition(c, i, 4), c.get(i, 1), c.get(i, 0)))
-       for code in CONDITIONS}})
-
-
-def condition(c, i, start):
-    """The condition that the name ends with."""
-    return c.known(c.cond(i.mnemonic[start:]))
+    **{f'set{code}': lambda c, i: c.put(i, 0, choose(
+        c.selector(i.mnemonic[3:]), bv(1, 8), bv(0, 8))) for code in CONDITIONS},
+    **{f'cmov{code}': lambda c, i: c.put(i, 0, choose(
+        c.selector(i.mnemonic[4:]), c.get(i, 1), c.get(i, 0))) for code in CONDITIONS},
+    **{f'j{code}': lambda c, i: (c.condition(i.mnemonic[1:]), i.ops[0].imm) for code in CONDITIONS},
+    'jmp': lambda c, i: i.ops[0].imm,
+    'push': lambda c, i: push(c, c.get(i, 0, 64)),
+    'pop': lambda c, i: c.put(i, 0, pop(c)),
+    'ret': lambda c, i: c.give_back(pop(c))})
 
 
 @means(TABLE, 'xor', 'and', 'or', 'test', 'andn')
@@ -140,7 +128,7 @@ def logic(c, i):
     result = simple({'xor': a ^ b, 'or': a | b, 'andn': ~a & b}.get(i.mnemonic, a & b))
     if i.mnemonic != 'test':
         c.put(i, 0, result)
-    c.set_flags(result, c=z3.BoolVal(False), l=top(result))
+    c.set_flags(result, c=z3.BoolVal(False), l=result < 0)
 
 
 @means(TABLE, 'add', 'adc')
@@ -155,10 +143,9 @@ def add(c, i):
 @means(TABLE, 'sub', 'cmp')
 def subtract(c, i):
     a, b = c.both(i)
-    result = simple(a - b)
     if i.mnemonic == 'sub':
-        c.put(i, 0, result)
-    c.set_flags(result, c=z3.ULT(a, b), l=a < b, z=a == b)
+        c.put(i, 0, a - b)
+    c.flags = compared(a, b)
 
 
 @means(TABLE, 'inc', 'dec')
@@ -178,7 +165,7 @@ def negate(c, i):
 def count(c, i, k, width):
     """The count of a shift, modulo the width, or modulo 32 if the word is narrower."""
     n = c.get(i, k, 8) if len(i.ops) > k else bv(1, 8)
-    n = simple(widen(n, width) & (63 if width == 64 else 31))
+    n = simple(resize(n, width) & (63 if width == 64 else 31))
     if const(n) is None and width < 32 or const(n) is not None and const(n) >= width:
         raise unknown(i)
     return n
@@ -226,9 +213,9 @@ def bit_test(c, i):
 @means(TABLE, 'bsr')
 def highest_bit(c, i):
     """If there is none, the whole register is undefined, also where its high half else is 0."""
-    a, (whole, _, _) = c.get(i, 1), c.register(i, i.ops[0])
-    found = widen(a.size() - 1 - leading_zeros(a), 64)
-    c.r[whole] = choose(a == 0, c.any(), found)
+    a, (whole, _, _) = c.get(i, 1), NAMES[i.reg_name(i.ops[0].reg)]
+    found = resize(a.size() - 1 - leading_zeros(a), 64)
+    c.r[whole] = choose(a == 0, c.fresh(), found)
     c.flags = {'z': a == 0}
 
 
@@ -236,7 +223,7 @@ def highest_bit(c, i):
 def count_zeros(c, i):
     a = c.get(i, 1)
     c.put(i, 0, leading_zeros(a))
-    c.flags = {'z': top(a), 'c': a == 0}
+    c.flags = {'z': a < 0, 'c': a == 0}
 
 
 @means(TABLE, 'mul')
@@ -252,57 +239,34 @@ def multiply_without_flags(c, i):
     c.put(i, 0, high)
 
 
-def push(c, i, value):
+def push(c, value):
     c.r['rsp'] = simple(c.r['rsp'] - 8)
     c.store(c.r['rsp'], value)
 
 
-def pop(c, i):
+def pop(c):
     value = c.load(c.r['rsp'], 8)
     c.r['rsp'] = simple(c.r['rsp'] + 8)
     return value
 
 
-TABLE.update({'push': lambda c, i: push(c, i, c.get(i, 0, 64)),
-              'pop': lambda c, i: c.put(i, 0, pop(c, i))})
-
-
 @means(TABLE, 'leave')
 def leave(c, i):
     c.r['rsp'] = c.r['rbp']
-    c.r['rbp'] = pop(c, i)
-
-
-@means(TABLE, 'ret')
-def give_back(c, i):
-    if i.ops:
-        raise unknown(i)
-    return c.give_back(pop(c, i))
+    c.r['rbp'] = pop(c)
 
 
 @means(TABLE, 'call')
 def call(c, i):
-    push(c, i, c.note_call(i))
-    return jump(c, i)
-
-
-@means(TABLE, 'jmp')
-def jump(c, i):
-    if i.ops[0].type != X.X86_OP_IMM:
-        raise Refused('a jump to no fixed place')
+    push(c, c.note_call(i))
     return i.ops[0].imm
-
-
-@means(TABLE, *(f'j{code}' for code in CONDITIONS))
-def branch(c, i):
-    return c.cond(i.mnemonic[1:]), i.ops[0].imm, i.address + i.size
 
 
 @means(TABLE, 'movq', 'vmovq')
 def move_quad(c, i):
     value = c.get(i, 1, 64)
     to_vector = i.ops[0].type == X.X86_OP_REG and i.ops[0].size == 16
-    c.put(i, 0, widen(value, 128) if to_vector else value)
+    c.put(i, 0, resize(value, 128) if to_vector else value)
 
 
 def vector(c, i):
@@ -347,7 +311,7 @@ TABLE.update({f'v{name}': vector for name in VECTORS})
 @means(TABLE, 'vzeroupper')
 def zero_upper(c, i):
     for n in range(16):
-        c.r[f'ymm{n}'] = widen(part(c.r[f'ymm{n}'], 0, 128), 256)
+        c.r[f'ymm{n}'] = resize(part(c.r[f'ymm{n}'], 0, 128), 256)
 
 
 @means(TABLE, 'rep movsb')
@@ -356,7 +320,7 @@ def copy_bytes(c, i):
     instruction here sets it. From one array to another, that is as all at once."""
     size = c.facts.unique(c.r['rcx'], c.path)
     if size is None:
-        raise Several(c.r['rcx'])
+        raise MustSplit(c.r['rcx'])
     if symbols(c.r['rsi']) & symbols(c.r['rdi']) & SYMBOLS.addresses:
         raise Refused('a copy within an array')
     if size:

@@ -58,7 +58,7 @@ def try_mutant(program, flip):
     too."""
     (address, bit), failure, told = flip, None, ''
     content, reaching = flipped(address, bit), AT[address]
-    before = text(cases.IMAGE, address)
+    before = text(cases.LIBRARY.image, address)
     some = reaching[::max(len(reaching) // SOME, 1)]
     try:
         after = text(cases.open_library(content, LIBRARY[0]), address)

@@ -4,6 +4,7 @@ processor.c, compiled for the library's processor; an emulator may come before i
 import random
 import struct
 import subprocess
+from calls import Library
 from cases import NAMES, PROCESSORS
 from definition import Numbers, padded_words
 from image import Image
@@ -80,8 +81,8 @@ class RandomCall:
         words = [w & 255 if self.name.endswith('_resume') else w for w in words]
         return [] if self.name.endswith(NO_RESULT) else words, bytes(memory)
 
-    def in_model(self, image):
-        cpu, args = image.processor(image, None), [bv(arg) for arg in self.args]
+    def in_model(self, library):
+        cpu, args = library.image.processor(library, None), [bv(arg) for arg in self.args]
         for k in self.known:
             cpu.memory.put('arrays', BASE + k, bv(self.memory[k], 8))
         if self.words == WORDS:
@@ -151,23 +152,24 @@ def round_of_calls(r, version, fill):
 def on_processor(content, level):
     """A library in the model, with numbers for terms."""
     kinds = {number: on_numbers(kind) for number, kind in PROCESSORS.items()}
-    return Image(content, kinds, level, NAMES, Ours, False)
+    return Library(Image(content, kinds, level, NAMES), Ours, False)
 
 
 def compare(content, level, rounds, program):
     """Makes calls of a library in the model, and really by a program. Returns how many, and the
     instructions that they reach. Refuses what differs."""
-    r, image = random.Random(1), on_processor(content, level)
+    r, library = random.Random(1), on_processor(content, level)
     calls = [call for k in range(rounds) for version in (4, 5)
-             for call in round_of_calls(r, version, k % 64) if call.name in image.functions]
+             for call in round_of_calls(r, version, k % 64)
+             if call.name in library.image.functions]
     requests = b''.join(call.request() for call in calls)
     done = subprocess.run(program, input=requests, stdout=subprocess.PIPE, check=False)
     replies = [*REPLY.iter_unpack(done.stdout[:len(done.stdout) // REPLY.size * REPLY.size])]
     for call, reply in zip(calls, replies):
-        model, real = call.in_model(image), call.outcome(reply[:WORDS], reply[WORDS])
+        model, real = call.in_model(library), call.outcome(reply[:WORDS], reply[WORDS])
         if model != real:
             raise Refused(f'{call.name}{call.args} on {call.memory.hex()}: {model} in the model, '
                           f'{real} really')
     if len(replies) < len(calls):
         raise Refused(f'the program ended with {done.returncode} at {calls[len(replies)].name}')
-    return len(calls), set(image.decoded)
+    return len(calls), set(library.image.decoded)
