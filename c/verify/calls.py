@@ -12,8 +12,8 @@ NONE = bv(2**64 - 1)
 class Library(collections.namedtuple('Library', 'image layout red_zone alignment before',
                                      defaults=(None, lambda call: None))):
     """The image of a library, and how its functions are called: how streams lie in memory, whether
-    functions may use the red zone, and the stack pointer modulo 64, if a case is about one. `before`
-    is told of each call before its first instruction."""
+    functions may use the red zone, and the stack pointer modulo 64, if a case is about one.
+    `before` is told of each call before its first instruction."""
 
 
 class Call:

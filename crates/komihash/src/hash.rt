@@ -2,9 +2,9 @@
 //! ends, serves streams too.
 //!
 //! Each range of lengths has a function of its own, so that short messages take few jumps. For the
-//! final word, `hash_of_one_word` and `hash_of_words` shift, because a processor can't guess a branch
-//! where lengths vary. `hash_of_blocks` branches, because long messages are often whole words, for
-//! which a shift is slower.
+//! final word, `hash_of_one_word` and `hash_of_words` shift, because a processor can't guess a
+//! branch where lengths vary. `hash_of_blocks` branches, because long messages are often whole
+//! words, for which a shift is slower.
 
 #![tactic(auto, using(crate::proofs::HashPaths::hash_laws))]
 

@@ -29,9 +29,9 @@ pub fn seed_back()
         (bit_xor (seed_words seed).1 (constant 5)) ≡ seed }
 {}
 
-/// Proves that both versions give a message the same hash if it has fewer than 64 bytes and the last
-/// is below 128; of the empty message, `slice_index` gives 0. Those who go on from one version to
-/// the other and keep hashes of text need it.
+/// Proves that both versions give a message the same hash if it has fewer than 64 bytes and the
+/// last is below 128; of the empty message, `slice_index` gives 0. Those who go on from one version
+/// to the other and keep hashes of text need it.
 pub fn same_below_64()
     ensures { (seed : ℕ) (m : List ℕ) → length m < 64 → slice_index m (length m - 1) < 128 →
         komi 4 seed m ≡ komi 5 seed m }

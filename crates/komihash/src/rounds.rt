@@ -1,7 +1,9 @@
-//! The steps of the hash: seeding, lanes, block rounds, joining, pair rounds, closing. Only `places`
-//! depends on the version.
+//! The steps of the hash: seeding, lanes, block rounds, joining, pair rounds, closing.
+//!
+//! Only `places` depends on the version.
 
-ghost use Rattle.std.specs.Prelude.{◌≡◌, ◌+◌, ◌*◌, ◌/◌, ◌%◌, ◌<◌, ◌≤◌, [], ◌∷◌, All, length, bit_xor};
+ghost use Rattle.std.specs.Prelude.{◌≡◌, ◌+◌, ◌*◌, ◌/◌, ◌%◌, ◌<◌, ◌≤◌, [], ◌∷◌};
+ghost use Rattle.std.specs.Prelude.{All, length, bit_xor};
 ghost use Rattle.std.proofs.Common.{refl};
 ghost use Rattle.komihash.specs.Counts.{Costs};
 ghost use Rattle.komihash.specs.Rounds.{low, high, plus, seed_words, mix, seed_pair, lanes, places};

@@ -1,5 +1,5 @@
-//! The stream that `StreamedKomihash` and the library for C share. Its type does not name the version,
-//! because no generic type can be in an interface for C.
+//! The stream that `StreamedKomihash` and the library for C share. Its type does not name the
+//! version, because no generic type can be in an interface for C.
 
 ghost use Rattle.std.specs.Prelude.{◌≡◌, ◌+◌, ◌<◌, ◌≤◌, ℕ, List, IfSome, length, take, drop};
 ghost use Rattle.komihash.specs.Counts.{Costs, absorb_products, answer_products, absorb_kept_bytes};

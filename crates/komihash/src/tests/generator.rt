@@ -24,9 +24,9 @@ fn output<const V: u8>(number: usize, at: usize) -> u64 {
     generator.next()
 }
 
-// Each row is a generator, the index of an output, and the output in version 4 and in version 5. The
-// last two are those of the Rust crate after a million steps, which show a rule that is wrong for
-// few pairs.
+// Each row is a generator, the index of an output, and the output in version 4 and in version 5.
+// The last two are those of the Rust crate after a million steps, which show a rule that is wrong
+// for few pairs.
 #[test]
 fn gives_known_outputs(rt: HostRuntime) {
     let rows = [
