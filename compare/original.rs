@@ -42,8 +42,8 @@ macro_rules! export {
             functions! { $name:
                 ""(s: *const u8, n: usize, seed: u64) -> u64 = komihash(from_raw_parts(s, n), seed);
                 "_start"(seed: u64) -> Stream = Stream::new_with_seed(seed);
-                "_write"(to: &mut Stream, s: *const u8, n: usize) -> () =
-                    to.write(from_raw_parts(s, n));
+                "_write"(to: &mut Stream, s: *const u8, n: usize) -> ()
+                    = to.write(from_raw_parts(s, n));
                 "_finish"(stream: &Stream) -> u64 = stream.finish();
                 "_rand_init"(seed: u64) -> Komirand = Komirand::init(seed);
                 "_rand_init_with_extra_seed"(x: u64, y: u64) -> Komirand
