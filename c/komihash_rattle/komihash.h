@@ -2,7 +2,7 @@
  * Copyright (c) 2026 the authors of komihash_rattle
  *
  * The names of komihash.h, the C original, for sources that were written for it. The hashes are
- * those of version 5, and the outputs of `komirand` those of version 5.34 and later. What differs:
+ * meant to be those of version 5, and the outputs of `komirand` those since 5.34. What differs:
  * - Link with libkomihash_rattle: the calls are not inlined.
  * - A stream has other members. There is neither KOMIHASH_VER_STR nor KOMIHASH_BUFSIZE.
  * komihash_rattle.h says what callers must see to.

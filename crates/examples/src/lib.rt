@@ -7,6 +7,7 @@ pub mod costs;
 pub mod hashed;
 pub mod known;
 pub mod lists;
+pub mod numbers;
 pub mod pieces;
 pub mod random;
 pub mod readers;

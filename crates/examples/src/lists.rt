@@ -1,4 +1,4 @@
-//! Numbers, lists, strings and records. A helper that writes a value has the contract of `write`.
+//! Lists, strings and records. A helper that writes a value has the contract of `write`.
 
 ghost use Rattle.std.specs.Prelude.{◌≡◌, ◌<◌, ◌^◌, ◌++◌, ℕ, List, length};
 ghost use Rattle.std.specs.Int.{to_le_bytes, w64};
@@ -8,27 +8,6 @@ ghost use Rattle.komihash.specs.Stream.{HasAbsorbed};
 ghost use Rattle.examples.specs.Profiles.{bytes_of_numbers, bytes_of_profile, bytes_of_text};
 
 use komihash::StreamedKomihash;
-
-/// Hashes two numbers.
-pub fn hash_of_two(left: u64, right: u64) -> u64
-    ensures { result ≡ komi 5 0 (to_le_bytes w64 left ++ to_le_bytes w64 right) }
-{
-    let mut stream = StreamedKomihash::new();
-    stream.write(&left.to_le_bytes());
-    stream.write(&right.to_le_bytes());
-    stream.finish()
-}
-
-/// Hashes a list of numbers, eight bytes each, the lowest first.
-pub fn hash_of_numbers(numbers: &[u64]) -> u64
-    ensures { result ≡ komi 5 0 (flat_map (λ number. to_le_bytes w64 number) numbers.now) }
-{
-    let mut stream = StreamedKomihash::new();
-    for number in numbers {
-        stream.write(&number.to_le_bytes());
-    }
-    stream.finish()
-}
 
 /// A record whose fields have any length.
 #[derive(Clone, Copy)]

@@ -16,7 +16,7 @@ answers_after f m (Answer ∷ calls) = f m ∷ answers_after f m calls
 abbrev pub answers : ℕ → ℕ → List Call → List ℕ
 answers v seed calls = answers_after (komi v seed) [] calls
 
--- the answers of a stream in state s
+-- the answers of a stream that goes on from state s
 abbrev pub onward : ℕ → State → List Call → List ℕ
 onward v s calls = answers_after (λ m. answer v (absorb v s m)) [] calls
 

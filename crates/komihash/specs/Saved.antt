@@ -50,17 +50,17 @@ pub record Stored (v : ℕ) (now : State) (out : Mut (List ℕ)) (result : ℕ) 
       → IsTextAfter v seed m (take result out.exit.now)
   pub rest : drop result out.exit.now ≡ drop result out.entry.now
 
--- a call returns the stream whose text the bytes are, where `state` gives its state, or None if
+-- a call returns the stream whose text the bytes are, where `view` gives its state, or None if
 -- they are the text of no state
-pub record Restored {A : Type 0} (v : ℕ) (state : A → State) (bytes : List ℕ) (result : Option A)
+pub record Restored {A : Type 0} (v : ℕ) (view : A → State) (bytes : List ℕ) (result : Option A)
     : Type 0 where
   -- the text of a state gives that state
   pub same : (s : State) → IsState v s → text v s ≡ bytes
-      → IsSomeAnd result (λ stream. state stream ≡ s)
+      → IsSomeAnd result (λ stream. view stream ≡ s)
   -- so a text after a message gives a stream that has absorbed it
   pub message : (seed : ℕ) (m : List ℕ) → IsTextAfter v seed m bytes
-      → IsSomeAnd result (λ stream. HasAbsorbed v seed (state stream) m)
+      → IsSomeAnd result (λ stream. HasAbsorbed v seed (view stream) m)
   -- nothing else gives a stream
   pub most : IfSome result (λ _. length bytes ≤ longest_text)
-  pub text : IfSome result (λ stream. text v (state stream) ≡ bytes)
+  pub text : IfSome result (λ stream. text v (view stream) ≡ bytes)
   pub none : IsNone result ↔ ¬ IsText v bytes

@@ -15,10 +15,10 @@ ghost use Rattle.komihash.specs.Hash.{hash_from_pair, komi};
 ghost use Rattle.komihash.specs.Internals.{pair_of};
 
 use crate::padding::{final_word_by_branch, final_word_by_shift, padding_byte};
-use crate::rounds::words::WholeWords;
+use crate::rounds::words::{WholeWords, last_whole_word};
 use crate::rounds::{Pair, absorb_blocks, close, join, lanes_of, pair_round, seed_pair};
 use crate::tally::Tally;
-use crate::utils::{last_whole_word, read_partial_word, read_word, word_at};
+use crate::utils::{read_partial_word, read_word, word_at};
 
 // Returns the pair after a round on the two words from index `at`. The remaining words hash the
 // same from it. This is stated and proved here once, for three calls.
@@ -110,7 +110,7 @@ fn hash_of_one_word<const V: u8>(bytes: &[u8], seed: u64, tally: &mut Tally) -> 
     close(pair, read_word(bytes), final_word, tally)
 }
 
-// Apart from the function below, because keys often have 16 bytes.
+// This function is apart from the next one, because keys often have 16 bytes.
 #[inline(never)]
 fn hash_of_16_bytes<const V: u8>(bytes: &[u8], seed: u64, tally: &mut Tally) -> u64
     requires { length bytes.now ≡ 16 }

@@ -28,16 +28,6 @@ pub(crate) fn word_at(bytes: &[u8], at: usize) -> u64
     read_word(&bytes[at..])
 }
 
-/// Returns the last whole word of at least eight bytes.
-#[inline(always)]
-#[tactic(auto, using(crate::proofs::WholeWords::read_words))]
-pub(crate) fn last_whole_word(bytes: &[u8]) -> u64
-    requires { 8 ≤ length bytes.now }
-    ensures { result ≡ slice_index (whole_words bytes.now) (length bytes.now / 8 - 1) }
-{
-    word_at(bytes, 8 * (bytes.len() / 8 - 1))
-}
-
 #[inline(always)]
 fn half_word_at(bytes: &[u8], at: usize) -> u64
     requires { at + 4 ≤ length bytes.now }

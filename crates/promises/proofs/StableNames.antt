@@ -139,7 +139,7 @@ stored v s out n is = record {
 }
 
 restored : {A : Type 0} (v : ℕ) (view : A → State) (bytes : List ℕ) (result : Option A)
-    → Restored v view bytes result → RestorePromise A view v bytes result
+    → Restored v view bytes result → RestorePromise v view bytes result
 restored v view bytes result is = record {
   saved = is.text;
   most = is.most;

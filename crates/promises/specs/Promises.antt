@@ -35,13 +35,13 @@ pub record StorePromise (v : ℕ) (s : State) (n : ℕ) (out : Mut (List ℕ)) :
   pub rest : drop n out.exit.now ≡ drop n out.entry.now
 
 -- the result is the stream whose saved text the bytes are, or none if they are the text of none
-pub record RestorePromise (A : Type 0) (state : A → State) (v : ℕ) (bytes : List ℕ)
+pub record RestorePromise {A : Type 0} (v : ℕ) (view : A → State) (bytes : List ℕ)
     (result : Option A) : Type 0 where
-  pub saved : IfSome result (λ stream. text v (state stream) ≡ bytes)
+  pub saved : IfSome result (λ stream. text v (view stream) ≡ bytes)
   pub most : IfSome result (λ _. length bytes ≤ longest_text)
   pub same :
-      (s : State) → IsState v s → text v s ≡ bytes → IsSomeAnd result (λ stream. state stream ≡ s)
+      (s : State) → IsState v s → text v s ≡ bytes → IsSomeAnd result (λ stream. view stream ≡ s)
   pub message :
       (seed : ℕ) (m : List ℕ) → IsTextAfter v seed m bytes
-      → IsSomeAnd result (λ stream. HasAbsorbed v seed (state stream) m)
+      → IsSomeAnd result (λ stream. HasAbsorbed v seed (view stream) m)
   pub none : IsNone result ↔ ¬ IsText v bytes

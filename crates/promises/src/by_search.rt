@@ -1,4 +1,4 @@
-//! Callers that write numbers, and need no proof of their own.
+//! Callers that need no proof of their own, because the search finds it.
 
 ghost use Rattle.std.specs.Borrow.{Bor};
 ghost use Rattle.std.specs.Int.{to_le_bytes, w16, w32, w64};
@@ -13,7 +13,7 @@ use komihash::stream::KomiStream;
 use komihash::tally::Tally;
 use komihash::{StreamedKomihash, komihash, laws};
 
-/// Hashes four numbers.
+/// Four writes in a row.
 pub fn of_four(a: u64, b: u64, c: u64, d: u64) -> u64
     ensures { result ≡ komi 5 0 (to_le_bytes w64 a ++ to_le_bytes w64 b ++ to_le_bytes w64 c
         ++ to_le_bytes w64 d) }
@@ -26,7 +26,7 @@ pub fn of_four(a: u64, b: u64, c: u64, d: u64) -> u64
     stream.finish()
 }
 
-/// Hashes eight numbers of 16 bits.
+/// Eight writes in a row.
 pub fn of_eight(a: u16, b: u16, c: u16, d: u16, e: u16, f: u16, g: u16, h: u16) -> u64
     ensures { result ≡ komi 5 0 (to_le_bytes w16 a ++ to_le_bytes w16 b ++ to_le_bytes w16 c
         ++ to_le_bytes w16 d ++ to_le_bytes w16 e ++ to_le_bytes w16 f ++ to_le_bytes w16 g
@@ -44,7 +44,7 @@ pub fn of_eight(a: u16, b: u16, c: u16, d: u16, e: u16, f: u16, g: u16, h: u16) 
     stream.finish()
 }
 
-/// Hashes three numbers of 32 bits.
+/// Writes of another width.
 pub fn of_three(a: u32, b: u32, c: u32) -> u64
     ensures { result ≡ komi 5 0 (to_le_bytes w32 a ++ to_le_bytes w32 b ++ to_le_bytes w32 c) }
 {
@@ -55,7 +55,7 @@ pub fn of_three(a: u32, b: u32, c: u32) -> u64
     stream.finish()
 }
 
-/// Hashes numbers of three widths.
+/// Writes of three widths, one of a single byte.
 pub fn of_three_widths(a: u64, b: u16, c: u8) -> u64
     ensures { result ≡ komi 5 0 (to_le_bytes w64 a ++ to_le_bytes w16 b ++ c ∷ []) }
 {
@@ -66,7 +66,7 @@ pub fn of_three_widths(a: u64, b: u16, c: u8) -> u64
     stream.finish()
 }
 
-/// Hashes a number of 32 bits and one of 64, in either version.
+/// Two writes in either version, with their cost.
 pub fn of_two_widths<S: KomiStream>(a: u32, b: u64, seed: u64, tally: &mut Tally) -> u64
     ensures hash { result ≡ komi S.VERSION seed (to_le_bytes w32 a ++ to_le_bytes w64 b) }
     ensures cost { tally.new.products ≡ tally.old.products + 3 }
@@ -78,7 +78,7 @@ pub fn of_two_widths<S: KomiStream>(a: u32, b: u64, seed: u64, tally: &mut Tally
     stream.answer(tally)
 }
 
-/// Writes two numbers.
+/// A helper of two writes, after any message.
 pub fn write_two(stream: &mut StreamedKomihash, a: u64, b: u64)
     ensures { (seed : ℕ) (m : List ℕ) → HasAbsorbed 5 seed stream.old.state m
         → HasAbsorbed 5 seed stream.new.state (m ++ to_le_bytes w64 a ++ to_le_bytes w64 b) }
@@ -87,7 +87,7 @@ pub fn write_two(stream: &mut StreamedKomihash, a: u64, b: u64)
     stream.write(&b.to_le_bytes());
 }
 
-/// Writes four numbers.
+/// A helper of four writes, after any message.
 pub fn write_four(stream: &mut StreamedKomihash, a: u64, b: u64, c: u64, d: u64)
     ensures { (seed : ℕ) (m : List ℕ) → HasAbsorbed 5 seed stream.old.state m
         → HasAbsorbed 5 seed stream.new.state (m ++ to_le_bytes w64 a ++ to_le_bytes w64 b
@@ -99,7 +99,7 @@ pub fn write_four(stream: &mut StreamedKomihash, a: u64, b: u64, c: u64, d: u64)
     stream.write(&d.to_le_bytes());
 }
 
-/// Hashes what two helpers write.
+/// Two helpers in a row.
 pub fn of_six(a: u64, b: u64, c: u64, d: u64, e: u64, f: u64) -> u64
     ensures { result ≡ komi 5 0 (to_le_bytes w64 a ++ to_le_bytes w64 b ++ to_le_bytes w64 c
         ++ to_le_bytes w64 d ++ to_le_bytes w64 e ++ to_le_bytes w64 f) }
@@ -110,7 +110,7 @@ pub fn of_six(a: u64, b: u64, c: u64, d: u64, e: u64, f: u64) -> u64
     stream.finish()
 }
 
-/// Hashes two numbers, bytes of any length, and two more numbers.
+/// Numbers before and after bytes of any length.
 pub fn around_bytes(a: u64, b: u32, bytes: &[u8], c: u64, d: u32) -> u64
     ensures { result ≡ komi 5 0 (to_le_bytes w64 a ++ to_le_bytes w32 b ++ bytes.now
         ++ to_le_bytes w64 c ++ to_le_bytes w32 d) }
@@ -124,7 +124,7 @@ pub fn around_bytes(a: u64, b: u32, bytes: &[u8], c: u64, d: u32) -> u64
     stream.finish()
 }
 
-/// Hashes the hashes of two messages.
+/// Writes of hashes.
 pub fn of_hashes(left: &[u8], right: &[u8]) -> u64
     ensures { result ≡ komi 5 0
         (to_le_bytes w64 (komi 5 0 left.now) ++ to_le_bytes w64 (komi 5 0 right.now)) }

@@ -42,7 +42,7 @@ pub trait Promises: KomiStream {
 
     /// Returns the stream of a saved text, and accepts nothing else.
     fn resumed(bytes: &[u8]) -> Option<Self>
-        ensures { RestorePromise _ Self.state Self.VERSION bytes.now result };
+        ensures { RestorePromise Self.VERSION Self.state bytes.now result };
 
     /// Returns the hash of a message twice. The second is counted, and copies no byte.
     fn hashed(bytes: &[u8], seed: u64, tally: &mut Tally) -> (u64, u64)
@@ -235,7 +235,7 @@ pub fn stored<S: KomiStream>(stream: &S, out: &mut [u8]) -> usize
 
 /// Returns the stream of a saved text, and accepts nothing else.
 pub fn restored<S: KomiStream>(bytes: &[u8]) -> Option<S>
-    ensures { RestorePromise _ S.state S.VERSION bytes.now result }
+    ensures { RestorePromise S.VERSION S.state bytes.now result }
 {
     S::restore(bytes)
 }

@@ -61,6 +61,8 @@ pub fn of_calls()
 
 /// States the laws of generators.
 pub fn of_generators()
+    ensures no_step { (v : ℕ) (s : ℕ × ℕ) → after_steps v 0 s ≡ s }
+    ensures no_output { (v : ℕ) (s : ℕ × ℕ) → outputs v 0 s ≡ [] }
     ensures step { (v n : ℕ) (s : ℕ × ℕ)
         → outputs v (n + 1) s ≡ outputs v n s ++ (next v (after_steps v n s)).0 ∷ [] }
     ensures step_pair { (v n : ℕ) (s : ℕ × ℕ)

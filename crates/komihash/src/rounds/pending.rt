@@ -131,7 +131,7 @@ fn append_eight_or_more(words: &mut [u64; 8], len: usize, bytes: &[u8])
     let end = len + bytes.len();
     let has_remainder = end < 64;
     if has_remainder {
-        // By 8 last: LLVM would read seven bytes in three pieces if this shift came first.
+        // The shift by 8 comes last, because LLVM would otherwise read seven bytes in three pieces.
         words[end / 8] = word_at(bytes, bytes.len() - 8) >> (56 - 8 * (end % 8)) >> 8;
     }
 }
@@ -238,7 +238,7 @@ impl Pending {
     }
 
     /// Returns the words of the block that the first of the bytes complete, counts these bytes as
-    /// kept, and stores none then.
+    /// kept, and leaves no byte pending.
     #[inline(always)]
     pub(crate) fn complete(&mut self, bytes: &[u8], tally: &mut Tally) -> [u64; 8]
         requires { 64 ≤ length self.old + length bytes.now }

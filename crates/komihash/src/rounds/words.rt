@@ -2,11 +2,20 @@
 
 #![tactic(auto, using(crate::proofs::WholeWords::read_words))]
 
-ghost use Rattle.std.specs.Prelude.{◌≡◌, ℕ, ◌%◌, ◌<◌, ◌≤◌, ◌↔◌, IsTrue};
+ghost use Rattle.std.specs.Prelude.{◌≡◌, ℕ, ◌-◌, ◌/◌, ◌%◌, ◌<◌, ◌≤◌, ◌↔◌, IsTrue};
 ghost use Rattle.std.specs.Prelude.{List, length, slice_index};
 ghost use Rattle.komihash.specs.Internals.{whole_words};
 
 use crate::utils::word_at;
+
+/// Returns the last whole word of at least eight bytes.
+#[inline(always)]
+pub(crate) fn last_whole_word(bytes: &[u8]) -> u64
+    requires { 8 ≤ length bytes.now }
+    ensures { result ≡ slice_index (whole_words bytes.now) (length bytes.now / 8 - 1) }
+{
+    word_at(bytes, 8 * (bytes.len() / 8 - 1))
+}
 
 /// Whole words, wherever they lie: in a message's bytes, or in the words of a stream.
 pub(crate) trait WholeWords {

@@ -21,7 +21,7 @@ use std::marker::Model;
 #[derive(Drop)]
 #[repr(C)]
 pub struct RawStream {
-    // First, so that the address of its words is that of the stream, and takes no register.
+    // This field is first, so that its words have the stream's address, which takes no register.
     pending: Pending,
     lanes: Lanes,
     // Whether a block was absorbed.
@@ -108,7 +108,7 @@ impl RawStream {
             lanes = self.lanes;
         } else {
             let block = self.pending.complete(bytes, tally);
-            // Not before `complete`, which needs the registers itself.
+            // The lanes are read after `complete`, which needs the registers itself.
             lanes = self.lanes;
             block_round(&mut lanes, &block, places::<V>(), tally);
             (_, rest) = bytes.split_at(64 - pending_len);
