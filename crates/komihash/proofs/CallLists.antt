@@ -29,7 +29,7 @@ HasAbsorbed-pending v seed s m is =
     let pending = pending-absorb v (start seed) m (omega arith) in
     rw is (omega arith)
 
--- what the proof of `absorb_costs` of `src/tests/tally.rt` needs
+-- what the proof of `absorb_costs` of `src/tests/calls.rt` needs
 pub ruleset costs = (pending-absorb)
 
 -- ---- answers

@@ -1,8 +1,10 @@
 //! Tests of the program, and the messages that they hash. Values were worked out from the rules.
 
 mod digest;
+mod ending;
 mod fakes;
 mod program;
+mod settings;
 mod watched;
 
 /// The hash is 0 with seed 0, in both versions.

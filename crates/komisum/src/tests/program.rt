@@ -1,52 +1,22 @@
-//! What arguments ask for, lines of inputs, what a fault leaves, and the lines on standard error.
+//! Lines of inputs, and what a fault leaves.
 
 ghost use Rattle.std.specs.Prelude.{◌≡◌, ◌≢◌, ◌↔◌, ℕ, ◌+◌, ◌^◌, ◌<◌, ◌≤◌};
-ghost use Rattle.std.specs.Prelude.{⊤, true, false, List, length, take, map, string_bytes};
+ghost use Rattle.std.specs.Prelude.{⊤, true, false, List, length, take};
 ghost use Rattle.std.specs.Prelude.{OnOk, IfOk, IsErr, IsOkAnd, IfSome, MatchResult};
 ghost use Rattle.std.specs.Io.KnownBytes.{Appends, Consumes, IsAtEnd};
-ghost use Rattle.std.specs.IoError.{error_kind};
-ghost use Rattle.std.specs.Option.{ok_or};
-ghost use Rattle.std.specs.Process.{exit_status};
-ghost use Rattle.std.specs.Vec.Iter.{into_iter_items};
-ghost use Rattle.komisum.specs.Ending.{line_of, status_of};
 ghost use Rattle.komisum.specs.Program.{Shows, hash_line};
-ghost use Rattle.komisum.specs.Settings.{refusal_of, settings_of};
 
 use super::fakes::{Calls, ERRORS, FakeReader, FakeWriter};
 use super::{HIGH_END, SIX_IN_FIVE, ZERO};
 use crate::digest::hex_line;
-use crate::ending::Ending::{self, Failed, Refused};
-use crate::ending::{Refusal, report};
+use crate::ending::{Ending, Refusal};
 use crate::faults::Fault;
 use crate::program::{run, show};
-use crate::settings::{Version, settings, settings_from_args};
+use crate::settings::Version;
 use crate::watched::Watched;
 use komihash::v5;
-use std::env::Args;
 use std::io::{self, Read, Write};
-use std::process::{Abort, ExitCode};
-
-#[test]
-fn accepted_arguments(rt: HostRuntime) {
-    assert!(rt; matches!(settings(&[]), Some((Version::Five, 0))));
-    assert!(rt; matches!(settings(&["4", "0"]), Some((Version::Four, 0))));
-    let zeros = settings(&["4", "0000000000000001"]);
-    assert!(rt; matches!(zeros, Some((Version::Four, 1))));
-    let greatest = settings(&["5", "ffffffffffffffff"]);
-    assert!(rt; matches!(greatest, Some((Version::Five, 0xffffffffffffffff))));
-}
-
-#[test]
-fn refused_arguments(rt: HostRuntime) {
-    assert!(rt; settings(&["5"]).is_none());
-    assert!(rt; settings(&["5", "0", "0"]).is_none());
-    for version in ["", "6", "55"] {
-        assert!(rt; settings(&[version, "0"]).is_none(), "version {version}");
-    }
-    for seed in ["", "FF", "g", "-1", "0x1", " 1", "00000000000000000"] {
-        assert!(rt; settings(&["5", seed]).is_none(), "seed {seed}");
-    }
-}
+use std::process::Abort;
 
 // Does what `show` does, and states its promises again: a clause of `Shows` that gets weaker leaves
 // one of these unproved.
@@ -104,29 +74,6 @@ fn ran_as_promised<R: Read, W: Write>(
         × (input.new ≡ input.old) × (output.new ≡ output.old) }
 {
     run(asked, input, output)
-}
-
-// Does what `settings_from_args` does, and states its promise again.
-fn asked_as_promised(given: io::Result<Args>) -> Result<(Version, u64), Refusal>
-    ensures { MatchResult given
-        (λ arguments. result
-        ≡ ok_or (settings_of (map string_bytes (into_iter_items arguments))) Refusal.Usage)
-        (λ error. result ≡ Err (refusal_of (error_kind error))) }
-{
-    settings_from_args(given)
-}
-
-// Does what `report` does, and states its promises again.
-fn reported_as_promised<W: Write>(errors: &mut Watched<W>, ending: &Ending) -> ExitCode
-    requires { errors.old.failed ≡ false }
-    ensures status { exit_status result ≡ status_of ending.now }
-    ensures line { errors.new.failed ≡ false → Appends (W.contents errors.old.inner)
-        (W.contents errors.new.inner) (line_of ending.now) }
-    ensures partial { (n : ℕ) × Appends (W.contents errors.old.inner)
-        (W.contents errors.new.inner) (take n (line_of ending.now)) }
-    ensures silent { ending.now ≡ Ending.Shown → errors.new ≡ errors.old }
-{
-    report(errors, ending)
 }
 
 // Calls `show` on fakes. Returns its result, the number of reads and the writer.
@@ -213,26 +160,4 @@ fn writes_and_flushes_that_fail(rt: HostRuntime) {
         fails(&rt, ZERO, Calls::stopping(17, 2, Some(error)), &line);
         fails(&rt, b"", Calls::stopping(5, 2, Some(error)), b"b7683");
     }
-}
-
-// Compares the line of an ending on standard error, which is one write, and the status.
-fn reports(rt: &impl Abort, ending: Ending, line: &[u8], status: u8) {
-    let mut errors = Watched::new(FakeWriter::new(Calls::endless(usize::MAX)));
-    assert!(rt; reported_as_promised(&mut errors, &ending) == ExitCode::from(status));
-    let errors = errors.into_inner();
-    assert_eq!(rt; errors.taken(), line);
-    assert_eq!(rt; errors.calls.made, 1);
-}
-
-#[test]
-fn messages(rt: HostRuntime) {
-    assert_eq!(rt; Fault::Read.text(), "read failed");
-    assert_eq!(rt; Fault::TooLong.text(), "too long");
-    assert_eq!(rt; Fault::Write.text(), "write failed");
-    reports(&rt, Failed(Fault::Read), b"komisum: read failed\n", 1);
-    reports(&rt, Failed(Fault::TooLong), b"komisum: too long\n", 1);
-    reports(&rt, Failed(Fault::Write), b"komisum: write failed\n", 1);
-    reports(&rt, Refused(Refusal::NoMemory), b"komisum: no memory\n", 1);
-    let usage = b"komisum: usage: komisum [4|5 SEED]\n";
-    reports(&rt, Refused(Refusal::Usage), usage, 2);
 }

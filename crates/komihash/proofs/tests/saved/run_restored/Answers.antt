@@ -3,7 +3,7 @@ use Rattle.std.proofs.Common.{[], ◌+◌, drop, get_or, arith}
 use Rattle.std.proofs.lemmas.List.{drop_more}
 use Rattle.komihash.specs.declared.stream.Call.TheVariants.{Absorb}
 use Rattle.komihash.proofs.CallLists.{call_first}
-use Rattle.komihash.proofs.tests.tally.run_restored.Goals as goal
+use Rattle.komihash.proofs.tests.saved.run_restored.Goals as goal
 
 pub loop-call-preserved : goal.loop-call-preserved
 loop-call-preserved g c =

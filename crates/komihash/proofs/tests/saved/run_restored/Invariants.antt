@@ -1,7 +1,7 @@
 -- What the calls so far and those that are left cost is what one run costs.
 use Rattle.std.proofs.Common.{◌≡◌, ◌+◌, drop, length}
 use Rattle.komihash.specs.Calls.{onward_products, onward_kept_bytes, run_products, run_kept_bytes}
-use Rattle.komihash.proofs.tests.tally.run_restored.Given as goal
+use Rattle.komihash.proofs.tests.saved.run_restored.Given as goal
 
 abbrev pub invariant-loop-call : goal.invariant-loop-call
 invariant-loop-call g l =

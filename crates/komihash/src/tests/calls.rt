@@ -1,13 +1,14 @@
-//! Runs of calls, and what calls cost. No program can read a tally, so the counts are clauses of
-//! functions here. Where they are parameters, it is proved at each call that they are right.
+//! Calls in one run (`run`), and what calls cost. `saved.rt` has the test of `run_on`.
+//!
+//! No program can read a tally, so the counts are clauses of functions here and there. Where they
+//! are parameters, it is proved at each call that they are right.
 
 ghost use Rattle.std.specs.Prelude.{◌≡◌, ◌+◌, ◌%◌, ◌≤◌, length};
 ghost use Rattle.komihash.specs.Calls.{run_products, run_kept_bytes};
 ghost use Rattle.komihash.specs.Counts.{Costs, hash_products, absorb_kept_bytes};
 
-use super::messages::{BLOCK_HASH, EMPTY_HASH, LANES, SIX_IN_FIVE, SIX_IN_FOUR, ZERO};
-use super::saved::{assert_text, lanes_after_block};
-use crate::stream::{Call, KomiStream, LONGEST_TEXT, run, run_on};
+use super::messages::{BLOCK_HASH, EMPTY_HASH, SIX_IN_FIVE, SIX_IN_FOUR, ZERO};
+use crate::stream::{Call, KomiStream, run};
 use crate::tally::Tally;
 use crate::v4::StreamedKomihash as Four;
 use crate::v5::StreamedKomihash as Five;
@@ -68,8 +69,8 @@ fn calls_cost_what_they_say(_rt: HostRuntime) {
     absorbs_cost::<Five>();
 }
 
-// Returns an Absorb of 1, 63, 0 and 31 bytes, with an Answer before and after each.
-fn at_cuts() -> [Call<'static>; 9]
+/// Returns an Absorb of 1, 63, 0 and 31 bytes, with an Answer before and after each.
+pub(crate) fn at_cuts() -> [Call<'static>; 9]
     ensures products { run_products result ≡ 16 }
     ensures kept_bytes { run_kept_bytes result ≡ 95 }
 {
@@ -80,11 +81,17 @@ fn at_cuts() -> [Call<'static>; 9]
     [ask, one, ask, block, ask, none, ask, last, ask]
 }
 
-// The answers to `at_cuts` in version 5 with seed 0.
-const CUT_ANSWERS: [u64; 5] = [EMPTY_HASH, 0xfd45_482d_180d_0441, BLOCK_HASH, BLOCK_HASH, 6];
+/// The answers to `at_cuts` in version 5 with seed 0.
+pub(crate) const CUT_ANSWERS: [u64; 5] = [
+    EMPTY_HASH,
+    0xfd45_482d_180d_0441,
+    BLOCK_HASH,
+    BLOCK_HASH,
+    6,
+];
 
-// Returns an Absorb of each byte of `SIX_IN_FIVE`, and one Answer at the end.
-fn byte_by_byte() -> [Call<'static>; 96]
+/// Returns an Absorb of each byte of `SIX_IN_FIVE`, and one Answer at the end.
+pub(crate) fn byte_by_byte() -> [Call<'static>; 96]
     ensures products { run_products result ≡ 8 }
     ensures kept_bytes { run_kept_bytes result ≡ 95 }
 {
@@ -95,8 +102,8 @@ fn byte_by_byte() -> [Call<'static>; 96]
     calls
 }
 
-// Compares the answers that calls wrote into words 9. The others are still 9.
-fn assert_answers(rt: &impl Abort, count: usize, out: &[u64; 200], answers: &[u64]) {
+/// Compares the answers that calls wrote into words 9. The others are still 9.
+pub(crate) fn assert_answers(rt: &impl Abort, count: usize, out: &[u64; 200], answers: &[u64]) {
     assert!(rt; answers.len() <= 200);
     let mut wanted = [9; 200];
     wanted[..answers.len()].copy_from_slice(answers);
@@ -153,82 +160,4 @@ fn answers_after_every_byte(rt: HostRuntime) {
     assert_eq!(rt; out[63], BLOCK_HASH);
     assert_eq!(rt; &out[79..94], [0; 15].as_slice());
     assert_eq!(rt; out[94], 6);
-}
-
-// Saves a stream and resumes it.
-fn store_and_restore<S: KomiStream>(rt: &impl Abort, stream: &mut S)
-    ensures { S.state stream.new ≡ S.state stream.old }
-{
-    let mut text = [0; LONGEST_TEXT];
-    let end = stream.store(&mut text);
-    *stream = S::restore(&text[..end]).expect(rt, "a stream");
-}
-
-// Makes calls on a new stream of seed 0, each in its own run, and saves and resumes the stream
-// after each. They cost what one run does. Compares the answers, and returns the stream.
-fn run_restored<S: KomiStream, const PRODUCTS: usize, const KEPT_BYTES: usize>(
-    rt: &impl Abort,
-    calls: &[Call<'_>],
-    answers: &[u64],
-    tally: &mut Tally,
-) -> S
-    requires products { run_products calls.now ≡ PRODUCTS }
-    requires kept_bytes { run_kept_bytes calls.now ≡ KEPT_BYTES }
-    ensures costs { Costs tally PRODUCTS KEPT_BYTES }
-{
-    let mut out = [9; 200];
-    let mut count = 0;
-    let mut stream = S::start(0, tally);
-    for call in calls {
-        assert!(rt; count < 200);
-        count += run_on(&mut stream, &[*call], &mut out[count..], tally);
-        store_and_restore(rt, &mut stream);
-    }
-    assert_answers(rt, count, &out, answers);
-    stream
-}
-
-// Starts a stream, makes no calls on it, and saves it.
-fn start_costs(rt: &impl Abort, tally: &mut Tally)
-    ensures costs { Costs tally 1 0 }
-{
-    let (mut stream, mut out) = (Five::start(0, tally), [9; 2]);
-    assert_eq!(rt; run_on(&mut stream, &[], &mut out, tally), 0);
-    assert_eq!(rt; out, [9; 2]);
-    let mut text = [0xee; 140];
-    let length = stream.store(&mut text);
-    assert_text(rt, &text, length, [&[5, 0, 0, 0], &LANES, &[]]);
-}
-
-// Resumes a stream from a text that has no pending bytes.
-#[tactic(auto, using(crate::proofs::SavedTexts::stored))]
-fn restore_none_pending<S: KomiStream>(rt: &impl Abort, text: &[u8; 68]) -> S
-    ensures { length (S.state result).pending ≡ 0 }
-{
-    S::restore(text).expect(rt, "a stream")
-}
-
-// Makes an Answer on a resumed stream.
-fn restored_answer_costs(rt: &impl Abort, tally: &mut Tally)
-    ensures costs { Costs tally 2 0 }
-{
-    let (mut text, mut out) = ([0; 68], [9; 200]);
-    text[..4].copy_from_slice(&[4, 1, 1, 0]);
-    text[67] = 0x80;
-    let mut stream = restore_none_pending::<Four>(rt, &text);
-    let count = run_on(&mut stream, &[Call::Answer], &mut out, tally);
-    assert_answers(rt, count, &out, &[0xc000_0000_0000_0003]);
-}
-
-#[test]
-fn saving_and_resuming_changes_nothing(rt: HostRuntime) {
-    let tally = &mut Tally::new();
-    let stream = run_restored::<Five, 16, 95>(&rt, &at_cuts(), &CUT_ANSWERS, tally);
-    let (mut text, lanes) = ([0xee; 140], lanes_after_block());
-    let length = stream.store(&mut text);
-    let parts: [&[u8]; 3] = [&[5, 1, 0, 31], &lanes, &SIX_IN_FIVE[64..]];
-    assert_text(&rt, &text, length, parts);
-    run_restored::<Five, 8, 95>(&rt, &byte_by_byte(), &[6], tally);
-    start_costs(&rt, tally);
-    restored_answer_costs(&rt, tally);
 }

@@ -1,7 +1,7 @@
 -- the calls from the index on absorb the bytes from it on, and then answer
 use Rattle.std.proofs.Common.{◌≡◌, ◌+◌, drop, length}
 use Rattle.komihash.specs.Calls.{bytes_of_calls, products_of_answers, onward_kept_bytes}
-use Rattle.komihash.proofs.tests.tally.byte_by_byte.Given as goal
+use Rattle.komihash.proofs.tests.calls.byte_by_byte.Given as goal
 
 abbrev pub invariant-loop-i : goal.invariant-loop-i
 invariant-loop-i l =
