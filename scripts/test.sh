@@ -1,5 +1,5 @@
 #!/usr/bin/env bash
-# Runs every proof and test: the rules for sources and documents, which take seconds, `rt ci`, and
+# Runs every proof and test: the rules for sources and copies, which take seconds, `rt ci`, and
 # the tests of the built program and of the library for C, whose assembly is made anew. That library
 # and the crate for Rust are tested as their packages are unpacked, with nothing beside them. These
 # tests need none of the other parts, so they run beside them, on what those leave of the
@@ -114,7 +114,7 @@ run_case 'the package of the library for C is made again from itself' unpack
     done
 ) &
 
-if part bash scripts/rules.sh && part python3 scripts/documents.py && part rt ci; then
+if part bash scripts/rules.sh && part python3 scripts/copies.py && part rt ci; then
     run_case 'each must-fail edit is refused' all_refused
     for name in attacks program compare_assembly wasm; do part bash scripts/$name.sh; done
 else

@@ -1,0 +1,52 @@
+#!/usr/bin/env python3
+"""Checks that what stands in two places is the same: each block of Rattle in README and CALLING is
+a part of a file of crates/examples, what is copied from the repository has its licence, the crate
+for Rust has the version of the library for C, also in the files that lock versions, and each link
+of a page leads to a file that is there, and to a heading of it."""
+
+import re
+from pathlib import Path
+
+ROOT = Path(__file__).resolve().parent.parent
+CODE = re.compile(r"^```(?:rust|antt)\n(.*?)^```", re.DOTALL | re.MULTILINE)
+FENCED = re.compile(r"^```.*?^```", re.DOTALL | re.MULTILINE)
+LINK = re.compile(r"\]\((?!https?:)([^)]*)\)")
+
+
+def leads_somewhere(page, link):
+    """Whether the file is there, and if a heading is named, has it, as GitHub names headings."""
+    file, _, anchor = link.partition("#")
+    target = page.parent / file if file else page
+    if not anchor or not target.exists():
+        return target.exists()
+    heads = re.findall("^#+ (.*)", FENCED.sub("", target.read_text("utf-8")), re.MULTILINE)
+    return anchor in [re.sub(r"[^\w -]", "", head.lower()).replace(" ", "-") for head in heads]
+
+
+readme, calling = ((ROOT / page).read_text("utf-8") for page in ("README.md", "CALLING.md"))
+kinds = ("src/*.rt", "specs/*.antt", "proofs/**/*.antt")
+files = [file for kind in kinds for file in (ROOT / "crates/examples").glob(kind)]
+examples = [file.read_text("utf-8") for file in files]
+
+checks = []
+for folder in ("c", "crates/komihash"):
+    licences = ((ROOT / path / "LICENSE").read_text("utf-8") for path in (".", folder))
+    checks.append((f"the licence in {folder}", len(set(licences)) == 1))
+header = (ROOT / "c/komihash_rattle.h").read_text("utf-8")
+version = re.search('RATTLE_VERSION (".*")', header)[1]
+for path in ("Cargo.toml", "Cargo.lock", "compare/driver/Cargo.lock"):
+    named = f'\nname = "komihash_rattle"\nversion = {version}\n'
+    checks.append((f"the version in {path}", named in (ROOT / path).read_text("utf-8")))
+checks.append(("README and CALLING have blocks", all(map(CODE.search, (readme, calling)))))
+for code in CODE.findall(readme + calling):
+    checks.append((f"the block `{code.splitlines()[0]}`", any(code in text for text in examples)))
+checks.append(("README and CALLING have links", all(map(LINK.search, (readme, calling)))))
+names = [page.relative_to(ROOT) for page in ROOT.rglob("*.md")]
+for name in sorted(name for name in names if "out" not in name.parts):
+    for link in LINK.findall((ROOT / name).read_text("utf-8")):
+        checks.append((f"{name} links to {link}", leads_somewhere(ROOT / name, link)))
+for name, holds in checks:
+    print("ok:" if holds else "FAILED:", name)
+failed = sum(not holds for _, holds in checks)
+print(f"{len(checks) - failed} passed, {failed} failed")
+raise SystemExit(failed > 0)
