@@ -1,13 +1,10 @@
-#!/usr/bin/env python3
-"""Compares the definition that c/verify has with c/values.tsv, which explains its rows."""
+"""Compares the definition with values.tsv, which explains its rows."""
 import functools
 import sys
 from pathlib import Path
-
+VERIFY = Path(__file__).resolve().parent.parent
+sys.path.append(str(VERIFY))
 import z3
-
-C = Path(__file__).resolve().parent.parent / 'c'
-sys.path.append(str(C / 'verify'))
 from definition import Numbers, State, is_text, komi, next_pair, padded_words, start, words_of
 from terms import bv, bytes_of, const, simple
 
@@ -76,10 +73,11 @@ CALLS = {
         functools.partial(komihash, version), writes, seed)}
 
 if __name__ == '__main__':
-    rows = [row.split('\t') for row in (C / 'values.tsv').read_text().splitlines() if row[0] != '#']
+    lines = (VERIFY.parent / 'values.tsv').read_text().splitlines()
+    rows = [line.split('\t') for line in lines if line[0] != '#']
     for name, version, *given, wanted in rows:
         if (found := CALLS[name](int(version), *given)) != wanted:
             sys.exit(f'FAILED: the definition gives {found} for {name} {version} {given}')
     if {(name, version) for name, version, *_ in rows} != {(c, v) for c in CALLS for v in '45'}:
-        sys.exit('FAILED: c/values.tsv has not all calls in both versions')
-    print(f'the definition gives the {len(rows)} values of c/values.tsv')
+        sys.exit('FAILED: values.tsv has not all calls in both versions')
+    print(f'the definition gives the {len(rows)} values of values.tsv')
