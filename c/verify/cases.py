@@ -7,6 +7,7 @@ import loops
 import terms
 from aarch64 import Arm
 from calls import Library
+from definition import VERSIONS
 from image import Image
 from layout import Ours
 from machine import DependsOnAlignment, Seen
@@ -52,7 +53,7 @@ FUNCTIONS = {
                                for last in f.LAST_BYTES)],
         loops.Unpad: each(f.LAST_BYTES)}),
 }
-NAMES = [f'komihash_v{version}{suffix}' for version in (4, 5) for suffix in FUNCTIONS]
+NAMES = [f'komihash_v{version}{suffix}' for version in VERSIONS for suffix in FUNCTIONS]
 
 
 class Case(collections.namedtuple('Case', 'name check args')):

@@ -4,6 +4,7 @@ import functools
 import z3
 from terms import Refused, bv, choose, const, join, secret, simple
 
+VERSIONS = (4, 5)
 PI = [0x243f6a8885a308d3, 0x13198a2e03707344, 0xa4093822299f31d0, 0x082efa98ec4e6c89,
       0x452821e638d01377, 0xbe5466cf34e90c6c, 0xc0ac29b7c97c50dd, 0x3f84d5b5b5470917]
 PLACES = {4: [0, 1, 2, 3, 4, 5, 6, 7], 5: [0, 4, 1, 5, 2, 6, 3, 7]}

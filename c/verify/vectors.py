@@ -3,7 +3,7 @@ import multiprocessing
 import os
 import z3
 from calls import named, some_state
-from definition import Numbers, Products, hash_from_lanes, komi, padded_words, start
+from definition import VERSIONS, Numbers, Products, hash_from_lanes, komi, padded_words, start
 from terms import Unknown, bv, const, secret
 
 
@@ -31,7 +31,7 @@ def check_streams(length):
     induction over the blocks, all lengths are right if those below 128 are. Other cuts are too,
     since `absorb` takes blocks from the front of all bytes that it has."""
     message = named('bytes', range(length))
-    for version in (4, 5):
+    for version in VERSIONS:
         one, other = Products(), Products()
         if length < 64:
             seed = secret('seed')

@@ -6,7 +6,7 @@ import struct
 import subprocess
 from calls import Library
 from cases import NAMES, PROCESSORS
-from definition import Numbers, padded_words
+from definition import VERSIONS, Numbers, padded_words
 from image import Image
 from layout import Ours
 from terms import Refused, bv, const
@@ -159,7 +159,7 @@ def compare(content, level, rounds, program):
     """Makes calls of a library in the model, and really by a program. Returns how many, and the
     instructions that they reach. Refuses what differs."""
     r, library = random.Random(1), on_processor(content, level)
-    calls = [call for k in range(rounds) for version in (4, 5)
+    calls = [call for k in range(rounds) for version in VERSIONS
              for call in round_of_calls(r, version, k % 64)
              if call.name in library.image.functions]
     requests = b''.join(call.request() for call in calls)

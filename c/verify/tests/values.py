@@ -5,7 +5,8 @@ from pathlib import Path
 VERIFY = Path(__file__).resolve().parent.parent
 sys.path.append(str(VERIFY))
 import z3
-from definition import Numbers, State, is_text, komi, next_pair, padded_words, start, words_of
+from definition import (VERSIONS, Numbers, State, is_text, komi, next_pair, padded_words, start,
+                        words_of)
 from terms import bv, bytes_of, const, simple
 
 PRODUCTS = Numbers()
@@ -78,6 +79,7 @@ if __name__ == '__main__':
     for name, version, *given, wanted in rows:
         if (found := CALLS[name](int(version), *given)) != wanted:
             sys.exit(f'FAILED: the definition gives {found} for {name} {version} {given}')
-    if {(name, version) for name, version, *_ in rows} != {(c, v) for c in CALLS for v in '45'}:
+    needed = {(name, str(version)) for name in CALLS for version in VERSIONS}
+    if {(name, version) for name, version, *_ in rows} != needed:
         sys.exit('FAILED: values.tsv has not all calls in both versions')
     print(f'the definition gives the {len(rows)} values of values.tsv')
