@@ -203,8 +203,11 @@ class Facts:
         text = '(set-logic QF_BV)\n' + solver.to_smt2()
         command = [SECOND, '--lang=smt2', '--tlimit=600000']
         done = subprocess.run(command, input=text, capture_output=True, text=True)
-        if done.stdout.strip() != answer:
-            raise Refused(f'Z3 answers {answer}, {SECOND} {done.stdout.strip() or done.stderr}')
+        second = done.stdout.strip()
+        if second not in ('sat', 'unsat'):
+            raise Unknown(f'{SECOND} does not answer: {second or done.stderr.strip()}')
+        if second != answer:
+            raise Refused(f'Z3 answers {answer}, {SECOND} {second}')
         COUNTS['second'] += 1
 
     def decide(self, path, cond):
