@@ -27,7 +27,7 @@ body:
     ret
 .section .note.GNU-stack, "", @progbits
 END
-    cc -shared -nostdlib -o "$scratch/form.so" "$scratch/form.s" || return
+    "${CC:-cc}" -shared -nostdlib -o "$scratch/form.so" "$scratch/form.s" || return
     "$python" -B verify --some $1 --jobs 1 --function komihash_v5_rand_next -- \
         "x86-64:$scratch/form.so" 2>&1 |
         tee "$scratch/told"
