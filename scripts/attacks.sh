@@ -1,10 +1,9 @@
 #!/usr/bin/env bash
 # Checks that no other crate can raise a tally, or hash in a version 3. Each attack in attacks/ is a
 # module of a crate above `komihash`, or a file of that crate's proofs. It must be refused with the
-# kind of error in its first line, which must be about the name after that; `control` and `lemma`
-# must be accepted. Names that are private are unknown if the kit has built `komihash` before.
-# `tally_raised_by_hand` has the handwritten proof of `Tally::raise`, but where this uses the key of
-# tallies, it says that nothing changes.
+# error that its first line says; `control` and `lemma` must be accepted. Names that are private are
+# unknown if the kit has built `komihash` before. `tally_raised_by_hand` has the handwritten proof of
+# `Tally::raise`, but where this uses the key of tallies, it says that nothing changes.
 set -u
 cd "$(dirname "$0")/attacks" || exit 1
 . ../../c/cases.sh
@@ -17,7 +16,7 @@ printf 'komihash:\nabove: komihash\n' > "$scratch/crates.txt"
 split() { # FILE FOLDER ENDING
     awk -v "folder=$above/$2" -v "ending=$3" '
         /^(\/\/|--) [a-z_]+: / { file = folder "/" substr($2, 1, length($2) - 1) "." ending }
-        { print > file }' "$1"
+        file { print > file }' "$1"
 }
 split modules.rt.txt src rt
 split proofs.antt.txt proofs antt
