@@ -90,7 +90,7 @@ check_crate() {
 }
 
 # An edit that can't be applied counts for nothing in `rt ci`, which prints a line for each edit
-# that is refused, or in some versions their number.
+# that it tries in this run, and only the number of all where it kept earlier results.
 all_refused() {
     local edits=(crates/*/must-fail/*.edit)
     [ "$(grep -c '\.edit: refused' "$scratch/told")" = ${#edits[@]} ] ||
