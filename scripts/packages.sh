@@ -1,0 +1,82 @@
+#!/usr/bin/env bash
+# Tests the library for C and the crate for Rust as their packages are unpacked, with nothing beside
+# them. Also verifies the machine code of this library and of the Rust crate, and tests that check.
+set -uo pipefail
+cd "$(dirname "$0")/.." || exit 1
+. scripts/parts.sh
+
+# Whether a tool is missing. The part that needs it then ends in the line that it is skipped: lacks
+# NAME TOOL..
+lacks() {
+    ! type "${@:2}" > "$scratch/case" 2>&1 && skip "$1" "$2${3:+ or no $3}" && { counted; true; }
+}
+
+# Unpacks the package of the library for C, and makes it again from what was unpacked.
+unpack() {
+    make -C c dist "OUT=$scratch" && tar -xzf "$scratch"/komihash_rattle-*.tar.gz -C "$scratch" &&
+        in_package dist && cmp "$scratch"/komihash_rattle-*.tar.gz "$scratch"/*/out/*.tar.gz
+}
+in_package() { make -C "$scratch"/komihash_rattle-*/ --no-print-directory "$@"; }
+check_package() { in_package check; }
+check_cross() { # PREFIX EMULATOR: with a cross compiler
+    lacks "the library for C, for ${1%-}" "$1gcc" "$2" || in_package check "CROSS=$1" "RUN=$2"
+}
+# Verifies the build that every processor can run, and tests the check by flipping bits.
+verify_package() {
+    lacks 'the machine code of the library for C' "$python" ||
+        in_package verify LEVEL=x86-64 MUTANTS=30
+}
+test_verify() {
+    local tests=c/verify/tests name=libkomihash_rattle.so.1 out libraries
+    lacks 'attacks on the check of the machine code' "$python" && return
+    out=$(echo "$scratch"/komihash_rattle-*/out)
+    libraries=("x86-64:$out/$name" "x86-64-v3:$out/glibc-hwcaps/x86-64-v3/$name")
+    [ ! -d "$out/aarch64-linux-gnu" ] || libraries+=("armv8-a:$out/aarch64-linux-gnu/$name")
+    run_case 'the definition gives the values of values.tsv' "$python" -B $tests/values.py
+    run_case 'edits of the assembly are refused' bash $tests/edits.sh "$python" x86_64
+    run_case 'only right forms of code are followed' bash $tests/forms.sh "$python"
+    run_case 'edits of files are refused' "$python" -B $tests/attacks.py "${libraries[@]}"
+    counted
+}
+# Verifies a build of the Rust crate, of which the writes that complete no block are tried in part.
+verify_original() {
+    local name='the machine code of the Rust crate'
+    if [ -z "${KOMIHASH_CRATE:-}" ]; then
+        skip "$name (optional)" 'folder KOMIHASH_CRATE'
+        counted
+    else
+        lacks "$name" rustc "$python" ||
+            BUILDS=x86-64-v2:3 bash compare/run.sh original --every 40
+    fi
+}
+# Whether a program can have the library for C, or another version, beside the crate for Rust.
+own_symbols() {
+    ! nm "$CARGO_TARGET_DIR"/debug/libkomihash_rattle.rlib | grep ' [Tt] ' | grep -v komihash_rattle
+}
+# Packs the crate for Rust, and tests it as it is unpacked, also for the processor that runs here.
+check_crate() {
+    lacks 'the crate for Rust' cargo && return
+    export CARGO_TARGET_DIR=$scratch/crate
+    run_case 'the crate for Rust is packed' cargo package --offline --allow-dirty --no-verify
+    cd "$CARGO_TARGET_DIR/package" && tar -xzf *.crate && cd komihash_rattle-*/
+    run_case 'the crate for Rust' cargo test --offline
+    run_case 'the crate for Rust has symbols of its own' own_symbols
+    RUSTFLAGS='-C target-cpu=native' run_case 'the crate for Rust, for this processor' \
+        cargo test --offline --release --tests
+    counted
+}
+
+# Debian keeps wine64 outside of PATH.
+export PATH="$PATH:/usr/lib/wine" WINEPREFIX="$scratch/wine" WINEDEBUG=-all
+export WINEDLLOVERRIDES='mscoree,mshtml='
+python=$(sh c/verify/find_python.sh) || python='python3 with z3 and capstone'
+
+run_case 'the package of the library for C is made again from itself' unpack
+part check_package
+part check_crate
+part check_cross x86_64-w64-mingw32- wine64
+part check_cross aarch64-linux-gnu- qemu-aarch64
+part verify_package
+part test_verify
+part verify_original
+counted
