@@ -2,8 +2,8 @@
 # Checks that no other crate can raise a tally, or hash in a version 3. Each attack in attacks/ is a
 # module of a crate above `komihash`, or a file of that crate's proofs. It must be refused with the
 # error that its first line says; `control` and `lemma` must be accepted. Names that are private are
-# unknown if the kit has built `komihash` before. `tally_raised_by_hand` has the handwritten proof of
-# `Tally::raise`, but where this uses the key of tallies, it says that nothing changes.
+# unknown if the kit has built `komihash` before. `tally_raised_by_hand` has the handwritten proof
+# of `Tally::raise`, but where this uses the key of tallies, it says that nothing changes.
 set -u
 cd "$(dirname "$0")/attacks" || exit 1
 . ../../c/cases.sh
