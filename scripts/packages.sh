@@ -36,6 +36,12 @@ test_verify() {
     run_case 'edits of the assembly are refused' bash $tests/edits.sh "$python" x86_64
     run_case 'only right forms of code are followed' bash $tests/forms.sh "$python"
     run_case 'edits of files are refused' "$python" -B $tests/attacks.py "${libraries[@]}"
+    if grep -qw avx2 /proc/cpuinfo; then
+        run_case 'random instructions do in the model what they do on the processor' \
+            "$python" -B $tests/instructions.py x86-64-v3 "${CC:-cc}" "$out/processor"
+    else
+        skip 'random instructions (optional)' 'processor with AVX2'
+    fi
     counted
 }
 # Verifies a build of the Rust crate, of which the writes that complete no block are tried in part.

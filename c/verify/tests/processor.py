@@ -9,7 +9,7 @@ from cases import NAMES, PROCESSORS
 from definition import VERSIONS, Numbers, padded_words
 from image import Image
 from layout import Ours
-from terms import Refused, bv, const
+from terms import Refused, Unknown, bv, const
 
 # Where memory is in a call, its bytes, the words of a stream, and what the program replies.
 BASE, SIZE, WORDS = 2**32, 2048, Ours.SIZE // 8
@@ -24,6 +24,8 @@ def on_numbers(kind):
     """A processor that multiplies, and has memory at fixed addresses."""
     class OnNumbers(kind):
         def multiply(self, a, b, halves):
+            if None in (const(a), const(b)):
+                raise Unknown('a product of what is no number')
             product = Numbers().new(a, b)
             return [product[half] for half in halves]
 

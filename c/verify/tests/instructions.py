@@ -1,0 +1,202 @@
+"""Compares single instructions with the processor: random encodings that opcodes.py allows are run
+in the model and really, on random registers, flags and memory, and must do the same. Jumps, and
+what moves the stack pointer, are left to the calls of processor.py.
+
+instructions.py LEVEL COMPILER PROGRAM.., where the level is x86-64-v3 or armv8-a, and the program
+is processor.c."""
+import collections
+import os
+import random
+import re
+import struct
+import subprocess
+import sys
+import tempfile
+sys.path.append(os.path.dirname(os.path.dirname(os.path.abspath(__file__))))
+import z3
+from capstone import Cs
+from calls import Library
+from cases import PROCESSORS
+from layout import Ours
+from memory import MustSplit
+from opcodes import KNOWN_ARM64, KNOWN_X86, MAP_OF_VEX, PREFIX_OF_VEX
+from processor import BASE, REPLY, SIZE, WORDS, on_numbers
+from terms import Refused, Unknown, bv, const, simple
+
+# How many encodings are tried, and how many of each name are compared.
+TRIES, OF_EACH_NAME = 5000, 40
+# The first register points to POINTER. Before the index SAVED, memory is what instructions access.
+# From there on it has the registers: eight words, eight vectors of 32 bytes, and the flags.
+POINTER, SAVED = BASE + 256, 512
+FLAGS_AT = SAVED + 8 * 8 + 8 * 32
+X86, ARM = PROCESSORS.values()
+WORDS_OF = {X86: 'rdi rax rcx rdx rsi r8 r9 r10'.split(), ARM: [f'x{k}' for k in range(8)]}
+VECTORS_OF = {X86: [f'ymm{k}' for k in range(8)], ARM: [f'v{k}' for k in range(8)]}
+# The bits of zero, sign, carry and overflow.
+BITS = {X86: (6, 7, 0, 11), ARM: (30, 31, 29, 28)}
+ENCODINGS = sorted(set().union(*KNOWN_X86['x86-64-v3'].values()))
+PATTERNS = sorted(set('|'.join(known.pattern for known in KNOWN_ARM64.values()).split('|')))
+
+
+def places(kind):
+    """The registers, each with its index in memory."""
+    words, vectors = WORDS_OF[kind], VECTORS_OF[kind]
+    return [(name, SAVED + 8 * k) for k, name in enumerate(words)], \
+        [(name, SAVED + 64 + 32 * k) for k, name in enumerate(vectors)]
+
+
+def x86_code(r):
+    """Bytes with a random encoding of x86-64, in the notation of opcodes.py."""
+    head, _, opcode = r.choice(ENCODINGS).rpartition(':')
+    opcode, _, reg = opcode.partition('/')
+    prefix, wide = re.sub('[vL.W]', '', head), 'W' in head
+    if head.startswith('v'):
+        table = next(k for k in (2, 3, 1) if opcode.startswith(MAP_OF_VEX[k]))
+        third = 15 if '.' in head else r.randrange(8, 16)
+        last = wide << 7 | third << 3 | ('L' in head) << 2 | PREFIX_OF_VEX.index(prefix)
+        code, opcode = bytes([0xc4, 0xe0 | table, last]), opcode[len(MAP_OF_VEX[table]):]
+    else:
+        rex = 0x40 | (wide or r.randrange(2)) << 3 | r.choice([0, 1, 4])
+        code = bytes.fromhex(prefix) + bytes([rex])
+    number = bytearray.fromhex(opcode.rstrip('+'))
+    number[-1] |= r.randrange(8) if opcode.endswith('+') else 0
+    # Registers, or memory at the first of them and a byte.
+    operands = r.choice([0xc0, 0x47]) | (int(reg) if reg else r.randrange(8)) << 3 | r.randrange(8)
+    return code + number + bytes([operands, *r.randbytes(10)])
+
+
+def random_code(r, kind):
+    """Bytes that may be an instruction."""
+    if kind is X86:
+        return x86_code(r)
+    bits = ''.join(r.choice('01') if bit == '.' else bit for bit in r.choice(PATTERNS))
+    return int(bits, 2).to_bytes(4, 'little')
+
+
+def flags_in(kind, memory):
+    """The flags as the model has them: on ARM64, carry means that nothing was borrowed."""
+    number = int.from_bytes(memory[FLAGS_AT:FLAGS_AT + 8], 'little')
+    zero, sign, carry, overflow = (bool(number >> bit & 1) for bit in BITS[kind])
+    return {'z': zero, 's': sign, 'c': carry == (kind is X86), 'l': sign != overflow}
+
+
+def with_memory(kind):
+    """A processor that reads nothing but the memory before SAVED."""
+    class WithMemory(on_numbers(kind)):
+        def load(self, address, length):
+            at = const(address)
+            if at is None or not BASE <= at <= BASE + SAVED - length:
+                raise Refused('another address')
+            return super().load(address, length)
+    return WithMemory
+
+
+def in_model(kind, i, memory):
+    """The processor after an instruction."""
+    cpu, (words, vectors) = with_memory(kind)(Library(None, Ours, False), None), places(kind)
+    for k in range(SAVED if '[' in i.text else 0):
+        cpu.memory.put('arrays', BASE + k, bv(memory[k], 8))
+    for name, at in words + vectors:
+        size = cpu.r[name].size()
+        cpu.r[name] = bv(int.from_bytes(memory[at:at + size // 8], 'little'), size)
+    cpu.r[words[0][0]] = bv(POINTER)
+    cpu.flags = {name: z3.BoolVal(flag) for name, flag in flags_in(kind, memory).items()}
+    before, cpu.stack_pointer = dict(cpu.r), cpu.r[cpu.SP]
+    went = cpu.TABLE[i.mnemonic](cpu, i)
+    others = set(cpu.r) - {name for name, _ in words + vectors}
+    if went is not None or any(cpu.r[name] is not before[name] for name in others):
+        raise Refused('a jump, or another register')
+    return cpu
+
+
+def chosen(r, kind, level):
+    """Instructions, the memory before each, and the model after it."""
+    decoder, count = Cs(*kind.DECODER), collections.Counter()
+    decoder.detail = True
+    for _ in range(TRIES):
+        i = next(decoder.disasm(random_code(r, kind), BASE), None)
+        if i is None or not kind.is_known(i, level) or count[i.mnemonic] == OF_EACH_NAME:
+            continue
+        i.ops, i.text = i.operands, i.op_str
+        flags = sum(r.randrange(2) << bit for bit in BITS[kind])
+        memory = r.randbytes(FLAGS_AT) + flags.to_bytes(8, 'little') + bytes(SIZE - FLAGS_AT - 8)
+        try:
+            cpu = in_model(kind, i, memory)
+        except (KeyError, IndexError, MustSplit, Refused, Unknown, z3.Z3Exception):
+            continue
+        if all(0 <= k - BASE < SAVED for k in cpu.memory.written('arrays')):
+            count[i.mnemonic] += 1
+            yield i, memory, cpu
+    print(f'{len(count)} names, and never', *sorted(set(kind.TABLE) - set(count)))
+
+
+def function(kind, number, code):
+    """A function that loads the registers, runs an instruction, and saves them."""
+    (first, *words), vectors = places(kind)
+    code = '.byte ' + ', '.join(map(hex, code))
+    if kind is X86:
+        load = ['mov %rdi, %r11', f'push {FLAGS_AT - 256}(%rdi)', 'popf']
+        load += [f'mov {at - 256}(%rdi), %{name}' for name, at in words]
+        load += [f'vmovdqu {at - 256}(%rdi), %{name}' for name, at in vectors]
+        save = [f'mov %{name}, {at - 256}(%r11)' for name, at in [first, *words]]
+        save += [f'vmovdqu %{name}, {at - 256}(%r11)' for name, at in vectors]
+        save += ['pushf', f'pop {FLAGS_AT - 256}(%r11)']
+    else:
+        load = ['mov x9, x0', f'ldr x1, [x0, {FLAGS_AT - 256}]', 'msr nzcv, x1']
+        load += [f'ldr {name}, [x0, {at - 256}]' for name, at in words]
+        load += [f'ldr q{name[1:]}, [x0, {at - 256}]' for name, at in vectors]
+        save = [f'str {name}, [x9, {at - 256}]' for name, at in [first, *words]]
+        save += [f'str q{name[1:]}, [x9, {at - 256}]' for name, at in vectors]
+        save += ['mrs x1, nzcv', f'str x1, [x9, {FLAGS_AT - 256}]']
+    return '\n'.join([f'.globl i{number}', f'i{number}:', *load, code, *save, 'ret', ''])
+
+
+def differences(kind, cpu, memory):
+    """What differs after an instruction: the model, and the memory that the processor left."""
+    words, vectors = places(kind)
+    found = [(name, simple(cpu.r[name]), at) for name, at in words + vectors]
+    found += [(f'byte {k - BASE}', cpu.memory.content('arrays', k, 1), k - BASE)
+              for k in cpu.memory.written('arrays')]
+    for name, term, at in found:
+        real = int.from_bytes(memory[at:at + term.size() // 8], 'little')
+        if const(term) not in (None, real):
+            yield f'{name}: {const(term):#x} in the model, {real:#x} really'
+    for name, real in flags_in(kind, memory).items():
+        flag = simple(cpu.flags.get(name, z3.Bool('undefined')))
+        if z3.is_true(flag) != real and (z3.is_true(flag) or z3.is_false(flag)):
+            yield f'flag {name}: {flag} in the model, {real} really'
+
+
+def replies_of(kind, found, compiler, program):
+    """What the processor leaves of each memory."""
+    with tempfile.TemporaryDirectory() as folder:
+        source, library = f'{folder}/instructions.s', f'{folder}/instructions.so'
+        with open(source, 'w') as file:
+            file.write('.section .note.GNU-stack, "", %progbits\n.text\n')
+            file.writelines(function(kind, k, i.bytes) for k, (i, _, _) in enumerate(found))
+        subprocess.run([compiler, '-shared', '-nostdlib', '-o', library, source], check=True)
+        requests = b''.join(
+            struct.pack('<64s6Q', f'i{k}'.encode(), 1, POINTER, 0, 0, 0, BASE) + memory
+            for k, (_, memory, _) in enumerate(found))
+        done = subprocess.run([*program, library], input=requests, stdout=subprocess.PIPE)
+    whole = len(done.stdout) // REPLY.size * REPLY.size
+    return [reply[WORDS] for reply in REPLY.iter_unpack(done.stdout[:whole])]
+
+
+def main(level, compiler, *program):
+    kind = next(kind for kind in PROCESSORS.values() if level in kind.LEVELS)
+    found = list(chosen(random.Random(1), kind, level))
+    replies, failed = replies_of(kind, found, compiler, program), 0
+    for (i, _, cpu), memory in zip(found, replies):
+        for what in differences(kind, cpu, memory):
+            failed += 1
+            print(f'FAILED: {i.mnemonic} {i.text} ({i.bytes.hex()}): {what}')
+    if len(replies) < len(found):
+        failed += 1
+        print(f'FAILED: the program ended at {found[len(replies)][0].mnemonic}')
+    print(f'{len(replies)} instructions do in the model what they do really, but for {failed}')
+    return failed > 0 or not found
+
+
+if __name__ == '__main__':
+    sys.exit(main(*sys.argv[1:]))
