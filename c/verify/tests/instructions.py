@@ -8,7 +8,6 @@ import collections
 import os
 import random
 import re
-import struct
 import subprocess
 import sys
 import tempfile
@@ -20,7 +19,7 @@ from cases import PROCESSORS
 from layout import Ours
 from memory import MustSplit
 from opcodes import KNOWN_ARM64, KNOWN_X86, MAP_OF_VEX, PREFIX_OF_VEX
-from processor import BASE, REPLY, SIZE, WORDS, on_numbers
+from processor import BASE, SIZE, on_numbers, replies_to, request
 from terms import Refused, Unknown, bv, const, simple
 
 # How many encodings are tried, and how many of each name are compared.
@@ -175,12 +174,9 @@ def replies_of(kind, found, compiler, program):
             file.write('.section .note.GNU-stack, "", %progbits\n.text\n')
             file.writelines(function(kind, k, i.bytes) for k, (i, _, _) in enumerate(found))
         subprocess.run([compiler, '-shared', '-nostdlib', '-o', library, source], check=True)
-        requests = b''.join(
-            struct.pack('<64s6Q', f'i{k}'.encode(), 1, POINTER, 0, 0, 0, BASE) + memory
-            for k, (_, memory, _) in enumerate(found))
-        done = subprocess.run([*program, library], input=requests, stdout=subprocess.PIPE)
-    whole = len(done.stdout) // REPLY.size * REPLY.size
-    return [reply[WORDS] for reply in REPLY.iter_unpack(done.stdout[:whole])]
+        requests = [request(f'i{k}', 1, (POINTER, 0, 0, 0), memory)
+                    for k, (_, memory, _) in enumerate(found)]
+        return [memory for _, memory in replies_to(requests, [*program, library])[0]]
 
 
 def main(level, compiler, *program):

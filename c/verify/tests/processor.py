@@ -41,6 +41,19 @@ def on_numbers(kind):
     return OnNumbers
 
 
+def request(name, words, args, memory):
+    """A call for the program, with four arguments, and the memory before it."""
+    return struct.pack('<64s6Q', name.encode(), words, *args, BASE) + memory
+
+
+def replies_to(requests, program):
+    """The words and the memory after each call, up to one that ends the program, and its status."""
+    done = subprocess.run(program, input=b''.join(requests), stdout=subprocess.PIPE, check=False)
+    whole = len(done.stdout) // REPLY.size * REPLY.size
+    replies = [(words, memory) for *words, memory in REPLY.iter_unpack(done.stdout[:whole])]
+    return replies, done.returncode
+
+
 class RandomCall:
     """A call with numbers and arrays as arguments. The arrays lie in memory, with gaps between."""
 
@@ -69,7 +82,7 @@ class RandomCall:
 
     def request(self):
         args = [*self.args, *(self.r.getrandbits(64) for _ in range(4))][:4]
-        return struct.pack('<64s6Q', self.name.encode(), self.words, *args, BASE) + self.memory
+        return request(self.name, self.words, args, self.memory)
 
     def outcome(self, words, memory):
         """What counts of an outcome: `resume` returns a byte, two calls return nothing, and six
@@ -164,14 +177,12 @@ def compare(content, level, rounds, program):
     calls = [call for k in range(rounds) for version in VERSIONS
              for call in round_of_calls(r, version, k % 64)
              if call.name in library.image.functions]
-    requests = b''.join(call.request() for call in calls)
-    done = subprocess.run(program, input=requests, stdout=subprocess.PIPE, check=False)
-    replies = [*REPLY.iter_unpack(done.stdout[:len(done.stdout) // REPLY.size * REPLY.size])]
+    replies, status = replies_to((call.request() for call in calls), program)
     for call, reply in zip(calls, replies):
-        model, real = call.in_model(library), call.outcome(reply[:WORDS], reply[WORDS])
+        model, real = call.in_model(library), call.outcome(*reply)
         if model != real:
             raise Refused(f'{call.name}{call.args} on {call.memory.hex()}: {model} in the model, '
                           f'{real} really')
     if len(replies) < len(calls):
-        raise Refused(f'the program ended with {done.returncode} at {calls[len(replies)].name}')
+        raise Refused(f'the program ended with {status} at {calls[len(replies)].name}')
     return len(calls), set(library.image.decoded)
