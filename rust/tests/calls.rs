@@ -1,10 +1,12 @@
 //! Calls each function, by rows of `vectors.tsv` and `values.tsv`, and for each cut of a message.
-use komihash_rattle::LONGEST_TEXT;
+use komihash_rattle::stream::{Call, KomiStream, LONGEST_TEXT, run, run_on};
 use std::collections::HashMap;
 use std::hash::{BuildHasherDefault, Hash, Hasher};
+use std::panic::{catch_unwind, set_hook, take_hook};
+use std::sync::Mutex;
 
-const VECTORS: &str = include_str!("../../c/vectors.tsv");
-const VALUES: &str = include_str!("../../c/values.tsv");
+const VECTORS: &str = include_str!("vectors.tsv");
+const VALUES: &str = include_str!("values.tsv");
 
 /// Returns the rows of a table that have a version in a column.
 fn rows(table: &'static str, column: usize, version: &'static str) -> Vec<Vec<&'static str>> {
@@ -106,25 +108,24 @@ macro_rules! tests {
             }
 
             #[test]
-            fn inlined_rust_does_what_the_assembly_does() {
-                let mut random = Komirand::new(1, 2);
-                let mut bytes = [[0; 8]; 2];
-                for shift in (0..64).cycle().take(100_000) {
-                    bytes.iter_mut().for_each(|it| random.fill_bytes(it));
-                    let [word, seed] = bytes.map(|it| u64::from_le_bytes(it) << shift >> shift);
-                    for word in [word, !word] {
-                        let hash = komihash(&word.to_le_bytes(), seed);
-                        let mut hashers = [KomiHasher::new(seed), KomiHasher::new(seed)];
-                        hashers[0].write_u64(word);
-                        hashers[1].write_usize(word as usize);
-                        assert_eq!(hashers.map(|it| it.finish()), [hash; 2]);
-                        let mut filled = [0; 16];
-                        Komirand::new(word, seed).fill_bytes(&mut filled);
-                        let mut stepped = Komirand::new(word, seed);
-                        let outputs = [stepped.next(), stepped.next()].map(u64::to_le_bytes);
-                        assert_eq!(filled[..], outputs.concat());
-                    }
-                }
+            fn lists_of_calls() {
+                let message: Vec<u8> = (0..200).collect();
+                let calls = [
+                    Call::Answer,
+                    Call::Absorb(&message[..70]),
+                    Call::Absorb(&message[70..71]),
+                    Call::Answer,
+                ];
+                let mut out = [7; 5];
+                assert_eq!(run::<StreamedKomihash>(9, &calls, &mut out), 2);
+                assert_eq!(out[..2], [komihash(b"", 9), komihash(&message[..71], 9)]);
+                assert_eq!(out[2..], [7; 3]);
+                let mut stream = StreamedKomihash::start(9);
+                stream.absorb(&message[..64]);
+                assert_eq!(run_on(&mut stream, &calls[2..], &mut out), 1);
+                let wanted = [&message[..64], &message[70..71]].concat();
+                assert_eq!((out[0], stream.answer()), (komihash(&wanted, 9), out[0]));
+                assert_eq!(StreamedKomihash::VERSION.to_string(), $number);
             }
 
             #[test]
@@ -147,30 +148,37 @@ macro_rules! tests {
             }
 
             #[test]
-            fn types_are_send_and_sync() {
-                fn is<T: Send + Sync + Unpin + Clone>() {}
+            fn types_have_the_traits_that_users_expect() {
+                fn is<T: Send + Sync + Unpin + Clone + std::fmt::Debug>() {}
                 (is::<StreamedKomihash>(), is::<Komirand>(), is::<KomiHasher>());
             }
 
             #[test]
-            #[should_panic(expected = "no room")]
-            fn save_without_room() {
-                StreamedKomihash::new().save(&mut [0; LONGEST_TEXT - 1]);
-            }
-
-            #[test]
-            #[should_panic(expected = "no room")]
-            fn pad_without_room() {
-                pad(b"12345678", &mut [0; 1]);
-            }
-
-            #[test]
-            #[should_panic(expected = "no room")]
-            fn unpad_without_room() {
-                unpad(&[0], &mut [0; 7]);
+            fn too_little_room_is_reported_at_the_caller() {
+                panics_here(line!(), || _ = StreamedKomihash::new().save(&mut [0; 130]));
+                panics_here(line!(), || _ = StreamedKomihash::new().store(&mut [0; 130]));
+                panics_here(line!(), || _ = pad(b"12345678", &mut [0; 1]));
+                panics_here(line!(), || _ = unpad(&[0], &mut [0; 7]));
+                panics_here(line!(), || _ = run::<StreamedKomihash>(0, &[Call::Answer], &mut []));
             }
         }
     };
+}
+
+/// Whether a call panics, and reports this line of this file.
+fn panics_here(line: u32, call: fn()) {
+    static HOOK: Mutex<()> = Mutex::new(());
+    static REPORTED: Mutex<Option<(String, u32)>> = Mutex::new(None);
+    let _one_by_one = HOOK.lock().unwrap();
+    let hook = take_hook();
+    set_hook(Box::new(|info| {
+        let place = info.location().unwrap();
+        *REPORTED.lock().unwrap() = Some((place.file().to_string(), place.line()));
+    }));
+    let panicked = catch_unwind(call).is_err();
+    set_hook(hook);
+    assert!(panicked);
+    assert_eq!(REPORTED.lock().unwrap().take(), Some((file!().to_string(), line)));
 }
 
 tests!(v4, "4");

@@ -7,12 +7,15 @@ use Rattle.std.proofs.lemmas.Bool.{cases_eq, cases_lt}
 use Rattle.std.proofs.lemmas.Grind.{elements}
 use Rattle.std.proofs.lemmas.List.{drop_all, drop-append-le, take-append-le}
 use Rattle.std.proofs.Math.Seq.{drop-append-add}
+use Rattle.std.specs.Prelude.{slice_index}
+use Rattle.std.specs.Simd.{first_chunks}
+use borrow.Rule.Slice.PartMut.{put_mid}
 use Rattle.komihash.specs.Internals.{stored_words, pending_bytes, ArePending, StoresBut}
-use Rattle.komihash.specs.Internals.{whole_words, stored_word}
+use Rattle.komihash.specs.Internals.{whole_words, stored_word, chunk_word}
 use Rattle.komihash.specs.Words.{AreBytes, word_of}
 use Rattle.komihash.proofs.AllBytes.{AreBytes-all_bytes, bytes-stored_words}
 use Rattle.komihash.proofs.WholeWords.{length-stored_words, get_or-stored_words, read_words}
-use Rattle.komihash.proofs.WholeWords.{stored_words-append}
+use Rattle.komihash.proofs.WholeWords.{stored_words-append, word_of-chunk}
 use Rattle.komihash.proofs.Lists.{take-append}
 use Rattle.komihash.proofs.WordOf.{AreBytes-append, AreBytes-take, AreBytes-drop, AreBytes-typed}
 use Rattle.komihash.proofs.WordOf.{word_of-join}
@@ -35,6 +38,32 @@ all_stored but none =
 pub word_after : (xs bytes : List ℕ) (at from : ℕ) → length xs + from ≡ 8 * at
     → word_of (take 8 (drop from bytes)) ≡ stored_word (xs ++ bytes) at
 word_after xs bytes at from place = rw (← place, drop-append-add xs bytes from) refl
+
+-- the words of all chunks of the bytes from `from` on, which are put after others
+pub words_stored : (xs bytes piece out : List ℕ) (chunks : List (List ℕ)) (from n end : ℕ)
+    → chunks ≡ first_chunks 8 (length piece / 8) piece → piece ≡ drop from bytes
+    → {ws : List ℕ} {at gap_end : ℕ} → StoresBut ws (xs ++ bytes) at gap_end
+    → (length xs + from ≡ 8 * at) × (length chunks ≡ length piece / 8)
+    × (length chunks ≡ n) × (length out ≡ n) × (end ≡ at + n) × (end ≤ 8)
+    → ((k : ℕ) → k < length chunks → slice_index out k ≡ chunk_word chunks k)
+    → StoresBut (put_mid at n ws out) (xs ++ bytes) end gap_end
+words_stored xs bytes piece out chunks from n end is tail {ws} {at} but places are =
+    let (place, count, few, size, ends, most) = places in
+    record {
+      size = grind (arith, elements, but.size);
+      words = λ k lt after. elim (cases_lt k at) [
+        | inl less ↦ grind (arith, elements, but.words k lt)
+        | inr least ↦ elim (cases_lt (k - at) n) [
+          | inl inside ↦
+              let read : chunk_word chunks (k - at) ≡ word_of (take 8 (drop (8 * (k - at)) piece)) =
+              rw is (word_of-chunk (length piece / 8) (k - at) piece (omega arith) (omega arith)) in
+              let there : length xs + (from + 8 * (k - at)) ≡ 8 * k = omega arith in
+              let stored = word_after xs bytes k (from + 8 * (k - at)) there in
+              grind (arith, elements, are (k - at) (omega arith), read, tail, stored)
+          | inr beyond ↦ grind (arith, elements, but.words k lt, after)
+        ]
+      ];
+    }
 
 -- ---- the pending bytes, which are the first of those that words store
 

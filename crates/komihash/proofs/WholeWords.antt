@@ -3,6 +3,8 @@ use Rattle.std.proofs.Common.{◌≡◌, ℕ, zero, suc, ◌+◌, ◌*◌, ◌/�
 use Rattle.std.proofs.Common.{length, take, drop, get_or, refl, ap, arith, zero-add, suc-add}
 use Rattle.std.proofs.lemmas.List.{length-append, length-drop, drop-drop, take-append-le}
 use Rattle.std.proofs.lemmas.List.{drop-append-le, drop_all, take_all}
+use Rattle.std.specs.Int.{from_le_bytes, w64}
+use Rattle.std.specs.Simd.{first_chunks}
 use Rattle.komihash.specs.Internals.{stored_words, whole_words}
 use Rattle.komihash.specs.Words.{word_of, words_of}
 
@@ -28,8 +30,25 @@ pub whole_words-few : (xs : List ℕ) → length xs < 8 → whole_words xs ≡ [
 unfolding stored_words
 whole_words-few xs lt = let none : length xs / 8 ≡ 0 = omega arith in rw none refl
 
+-- a chunk of eight bytes, and its word
+word_of-eight : (xs : List ℕ) → 8 ≤ length xs → from_le_bytes w64 (take 8 xs) ≡ word_of (take 8 xs)
+word_of-eight (a ∷ b ∷ c ∷ d ∷ e ∷ f ∷ g ∷ h ∷ xs) le = omega arith
+word_of-eight xs le = absurd (omega arith)
+
+pub word_of-chunk : (n i : ℕ) (xs : List ℕ) → i < n → 8 * n ≤ length xs
+    → from_le_bytes w64 (get_or (first_chunks 8 n xs) i []) ≡ word_of (take 8 (drop (8 * i) xs))
+word_of-chunk zero i xs lt le = absurd (omega arith)
+word_of-chunk (suc n) zero xs lt le = word_of-eight xs (omega arith)
+word_of-chunk (suc n) (suc i) xs lt le =
+    let next : 8 + 8 * i ≡ 8 * suc i = omega arith in
+    rw (
+      word_of-chunk n i (drop 8 xs) (omega arith) (omega (arith, length-drop 8 xs)),
+      drop-drop (8 * i) 8 xs,
+      next,
+    ) refl
+
 -- what proofs that read whole words one by one need
-pub ruleset read_words = (length-stored_words, get_or-stored_words)
+pub ruleset read_words = (length-stored_words, get_or-stored_words, word_of-chunk)
 
 -- a cut after whole words, and more words after it
 stored_words-cut : (n k : ℕ) (xs ys : List ℕ) → 8 * n ≤ length xs

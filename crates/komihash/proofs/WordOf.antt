@@ -145,15 +145,3 @@ pub word_of-few : (xs : List ℕ) → length xs < 4
     → get_or xs 0 0 + get_or xs 1 0 * 2 ^ 8 + get_or xs 2 0 * 2 ^ 16 ≡ word_of xs
 word_of-few (w ∷ x ∷ y ∷ z ∷ xs) lt = absurd (omega arith)
 word_of-few xs lt = omega arith
-
--- the two words of sixteen bytes, as a vector of bytes becomes a vector of words
-pub two_words : (xs : List ℕ) → AreBytes xs → let n = number_l 256 (take 16 xs) in
-    (n % 2 ^ 64 ≡ word_of (take 8 xs)) × (n / 2 ^ 64 % 2 ^ 64 ≡ word_of (take 8 (drop 8 xs)))
-two_words xs are =
-    let two = take 16 xs in
-    let each = Each1-from_get_or (λ x. x < 256) two 0 (λ k _. AreBytes-take 16 xs are k) in (
-      get_or_wider 256 8 (2 ^ 64) 2 two 0 refl each (omega arith)
-          ∙ ap word_of (take-take 8 16 xs (omega arith)),
-      get_or_wider 256 8 (2 ^ 64) 2 two 1 refl each (omega arith)
-          ∙ ap word_of (ap (take 8) (drop-take 8 8 xs) ∙ take-take 8 8 (drop 8 xs) (omega arith)),
-    )

@@ -1,6 +1,7 @@
 -- How the code reads and stores what the other definitions speak of. An auditor may skip this file:
 -- no public contract cites it. Private contracts do, and lemmas prove that both say the same.
 use Rattle.std.specs.Prelude.{ℕ, zero, suc, Bool, ◌≡◌, ◌-◌, ◌*◌, ◌/◌, ◌%◌, ◌<◌, ◌≤◌, bit_xor}
+use Rattle.std.specs.Int.{from_le_bytes, w64}
 use Rattle.std.specs.Int.Bits.{xor_assoc, xor_self, xor_zero_l}
 use Rattle.std.proofs.Common.{ap, ◌∙◌, sym}
 use Rattle.std.specs.Prelude.{List, [], ◌∷◌, ◌++◌, length, take, drop, get_or, slice_index}
@@ -20,6 +21,10 @@ stored_words (suc n) bytes = word_of (take 8 bytes) ∷ stored_words n (drop 8 b
 -- the words of each eight bytes, without the fewer than eight at the end
 abbrev pub whole_words : List ℕ → List ℕ
 whole_words bytes = stored_words (length bytes / 8) bytes
+
+-- the word at an index of chunks of eight bytes
+abbrev pub chunk_word : List (List ℕ) → ℕ → ℕ
+chunk_word chunks k = from_le_bytes w64 (get_or chunks k [])
 
 -- the bytes after the last whole word
 abbrev pub after_words : List ℕ → List ℕ

@@ -7,13 +7,24 @@ use crate::tally::Tally;
 use crate::utils::{multiply128, write_partial_word, write_word};
 use std::marker::Model;
 
-/// A pseudorandom generator of version V, which contracts see as a pair of words. It is not
-/// cryptographic.
+/// A pseudorandom generator of version V, which is not cryptographic.
 ///
+/// Contracts see a generator as its pair of words. <!-- Rattle -->
 /// A step multiplies the words, and replaces them by sums and exclusive ors of the second word, the
-/// halves of the product, and constants of alternating bits. Its output is the new first word.
-/// `next` of `specs/Generator.antt` has the rule of each version, with the constants of the
-/// original. In one version, the same pair always gives the same outputs.
+/// halves of the product, and constants of alternating bits. Its output is the new first word. In
+/// one version, the same pair always gives the same outputs.
+/// `next` of `specs/Generator.antt` has the rule of each version. <!-- Rattle -->
+// Rust: ///
+// Rust: /// ```
+// Rust: /// use komihash_rattle::Komirand;
+// Rust: /// let mut generator = Komirand::init(1);
+// Rust: /// let (first, second) = (generator.next(), generator.next());
+// Rust: /// let mut bytes = [0; 11];
+// Rust: /// Komirand::init_with_extra_seed(1, 1).fill_bytes(&mut bytes);
+// Rust: /// assert_eq!(bytes[..8], first.to_le_bytes());
+// Rust: /// assert_eq!(bytes[8..], second.to_le_bytes()[..3]);
+// Rust: /// ```
+// Rust: #[repr(C)]
 #[derive(Drop)]
 pub struct Komirand<const V: u8> {
     s1: u64,
@@ -31,7 +42,15 @@ impl<const V: u8> Komirand<V> {
     ///
     /// Any words are allowed. The first outputs of small ones are simple patterns: in version 5
     /// `new(0, 0)` outputs 0x5555555555555555 first. `init` takes four steps to get past them.
+    // Rust: ///
+    // Rust: /// ```
+    // Rust: /// use komihash_rattle::Komirand;
+    // Rust: /// const START: Komirand = Komirand::new(1, 2);
+    // Rust: /// let mut generator = START;
+    // Rust: /// assert_ne!(generator.next(), generator.next());
+    // Rust: /// ```
     #[inline]
+    // Rust instead: pub const fn new(s1: u64, s2: u64) -> Self
     pub fn new(s1: u64, s2: u64) -> Self
         ensures { result ≡ (s1, s2) }
     {
@@ -39,7 +58,7 @@ impl<const V: u8> Komirand<V> {
     }
 
     /// Returns the generator that has the seed as both words, after four steps, as the Rust
-    /// crate does.
+    /// crate `komihash` does.
     #[inline]
     pub fn init(seed: u64) -> Self
         ensures { result ≡ after_steps V 4 (seed, seed) }
@@ -61,6 +80,7 @@ impl<const V: u8> Komirand<V> {
         generator
     }
 
+    // Rattle alone.
     /// Returns the words, from which `new` makes the same generator, as the library for C does.
     #[doc(hidden)]
     #[inline(always)]
@@ -71,6 +91,7 @@ impl<const V: u8> Komirand<V> {
     }
 
     /// Takes one step, and returns its output.
+    // Rust: #[allow(clippy::should_implement_trait)]
     #[inline]
     #[tactic(auto, unfolding(crate::specs::Generator::next))]
     pub fn next(&mut self) -> u64

@@ -151,7 +151,7 @@ fn hash_of_blocks<const V: u8>(bytes: &[u8], seed: u64, tally: &mut Tally) -> u6
     hash_from_pair(pair, &rest, last_whole_word(rest), final_word, tally)
 }
 
-/// Returns the hash of a message with a seed in version V, and counts its products in the tally.
+/// Returns the hash of a message with a seed in version V.
 ///
 /// The tests of the length are inlined into the caller, and vanish where it knows the length.
 #[inline(always)]

@@ -8,11 +8,20 @@ use crate::tally::Tally;
 use std::hash::Hasher;
 use std::marker::Model;
 
-/// A hasher of version V, which contracts see as one number. Each write replaces it by the hash of
-/// the bytes written, with the number as the seed.
+/// A hasher of version V, which has one number. Each write replaces it by the hash of the bytes
+/// written, with the number as the seed.
 ///
 /// So writes are not joined: the number after two writes is not the hash of all their bytes. A
 /// write of no bytes replaces the number too.
+// Rust: ///
+// Rust: /// ```
+// Rust: /// use komihash_rattle::KomiHasher;
+// Rust: /// use std::collections::HashMap;
+// Rust: /// use std::hash::BuildHasherDefault;
+// Rust: /// let mut ports = HashMap::<&str, u16, BuildHasherDefault<KomiHasher>>::default();
+// Rust: /// ports.insert("https", 443);
+// Rust: /// assert_eq!(ports["https"], 443);
+// Rust: /// ```
 #[derive(Drop)]
 pub struct KomiHasher<const V: u8> {
     number: u64,
@@ -26,6 +35,14 @@ impl<const V: u8> Model for KomiHasher<V> {
 
 impl<const V: u8> KomiHasher<V> {
     /// Returns the hasher of a number, which is the seed of its first write.
+    // Rust: ///
+    // Rust: /// ```
+    // Rust: /// use komihash_rattle::{KomiHasher, komihash};
+    // Rust: /// use std::hash::Hasher;
+    // Rust: /// let mut hasher = KomiHasher::new(7);
+    // Rust: /// hasher.write(b"port");
+    // Rust: /// assert_eq!(hasher.finish(), komihash(b"port", 7));
+    // Rust: /// ```
     #[inline]
     pub fn new(seed: u64) -> Self
         ensures { result ≡ seed }

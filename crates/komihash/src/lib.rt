@@ -1,3 +1,4 @@
+// Rattle alone.
 //! Komihash, a fast hash of 64 bits that is not cryptographic, in its versions 4 and 5.
 //!
 //! ```rust
@@ -11,7 +12,13 @@
 //!
 //! In one version, `komihash` and streams give the same bytes and seed the same hash, however the
 //! bytes were cut. It is proved to be the hash that the definitions in `specs/` give.
+
 #![tactic(auto)]
+// Rust: #![doc = include_str!("../README.md")]
+// Rust: #![no_std]
+// Rust: #![forbid(unsafe_code)]
+// Rust: #![warn(missing_docs)]
+// Rust: #![allow(private_bounds, clippy::int_plus_one, clippy::manual_is_multiple_of)]
 
 pub use v5::{KomiHasher, Komirand, StreamedKomihash, komihash};
 

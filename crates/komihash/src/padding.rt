@@ -8,7 +8,7 @@ ghost use Rattle.komihash.specs.Padding.{pads_with_two, padding_after, padding_b
 ghost use Rattle.komihash.specs.Internals.{final_word};
 ghost use Rattle.komihash.specs.Words.{all_bytes};
 
-use crate::utils::{read_partial_word, read_whole_words, word_at, write_first_bytes};
+use crate::utils::{last_word, read_partial_word, read_whole_words, write_first_bytes};
 
 /// Returns whether the padding byte after `byte` is 2: in version 4, if its top bit is set.
 #[inline(always)]
@@ -47,7 +47,7 @@ pub(crate) fn final_word_by_shift(bytes: &[u8], end: u64) -> u64
     requires end { end < 4 }
     ensures { result ≡ final_word bytes.now end }
 {
-    let eight = word_at(bytes, bytes.len() - 8);
+    let eight = last_word(bytes);
     let shift = 8 * (bytes.len() % 8);
     (eight >> 1) >> (63 - shift) | end << shift
 }

@@ -13,19 +13,39 @@ ghost use Rattle.komihash.specs.Stream.{Started, Absorbed, Answered};
 use crate::tally::Tally;
 pub use saved::LONGEST_TEXT;
 
-#[doc(hidden)]
-pub mod raw;
+// Rust: mod raw;
 mod saved;
 pub(crate) mod streamed;
 
+// Rattle alone.
+#[doc(hidden)]
+pub mod raw;
+
 /// A stream of either version, for generic code.
 ///
-/// `start`, `absorb` and `answer` also count their cost in a tally that the caller passes: products
-/// of two words, and bytes that are copied into the stream. The methods have other names than those
-/// of `StreamedKomihash`, so that the name alone tells which of the two a call means.
-///
-/// What a call promises is a record, such as `Absorbed`, in `specs/Stream.antt` or
-/// `specs/Saved.antt`.
+/// The methods have other names than those of `StreamedKomihash`, so that the name alone tells which
+/// of the two a call means.
+///  <!-- Rattle -->
+/// `start`, `absorb` and `answer` also count their cost in a tally <!-- Rattle -->
+/// that the caller passes: products of two words, and bytes that <!-- Rattle -->
+/// are copied into the stream. What a call promises is a record, <!-- Rattle -->
+/// such as `Absorbed`, in `specs/Stream.antt` or `specs/Saved.antt`. <!-- Rattle -->
+// Rust: ///
+// Rust: /// ```
+// Rust: /// use komihash_rattle::stream::KomiStream;
+// Rust: /// use komihash_rattle::{v4, v5};
+// Rust: /// fn hash_of_pieces<S: KomiStream>(pieces: &[&[u8]]) -> u64 {
+// Rust: ///     let mut stream = S::start(0);
+// Rust: ///     for piece in pieces {
+// Rust: ///         stream.absorb(piece);
+// Rust: ///     }
+// Rust: ///     stream.answer()
+// Rust: /// }
+// Rust: /// let four = hash_of_pieces::<v4::StreamedKomihash>(&[b"p", b"ort"]);
+// Rust: /// assert_eq!(four, v4::komihash(b"port", 0));
+// Rust: /// let five = hash_of_pieces::<v5::StreamedKomihash>(&[b"p", b"ort"]);
+// Rust: /// assert_eq!(five, v5::komihash(b"port", 0));
+// Rust: /// ```
 pub trait KomiStream: Sized + Drop {
     /// The version: 4 or 5.
     const VERSION: u8;
@@ -35,21 +55,23 @@ pub trait KomiStream: Sized + Drop {
     /// The state that a stream is in.
     ghost state: { Self → State };
 
-    /// Returns the new stream of a seed. Counts one product.
+    /// Returns the new stream of a seed.
+    /// Counts one product. <!-- Rattle -->
     fn start(seed: u64, tally: &mut Tally) -> Self
         ensures started { Started VERSION seed (state result) }
         ensures costs { Costs tally 1 0 };
 
-    /// Absorbs bytes. Counts four products for each block of 64 bytes that they complete, and the
-    /// bytes that are copied.
+    /// Absorbs bytes.
+    /// Counts four products for each block of 64 bytes that they complete, <!-- Rattle -->
+    /// and the bytes that are copied. <!-- Rattle -->
     fn absorb(&mut self, bytes: &[u8], tally: &mut Tally)
         ensures absorbed { Absorbed VERSION state self bytes.now }
         ensures costs { Costs tally
             (absorb_products (length (state self.old).pending) (length bytes.now))
             (absorb_kept_bytes (length (state self.old).pending) (length bytes.now)) };
 
-    /// Returns the hash of all bytes so far. The stream is unchanged. Counts two products, and one
-    /// for each 16 pending bytes.
+    /// Returns the hash of all bytes so far. The stream is unchanged.
+    /// Counts two products, and one for each 16 pending bytes. <!-- Rattle -->
     fn answer(&self, tally: &mut Tally) -> u64
         ensures answered { Answered VERSION (state self.now) result }
         ensures costs { Costs tally (answer_products (length (state self.now).pending)) 0 };
@@ -58,6 +80,10 @@ pub trait KomiStream: Sized + Drop {
     /// the text's length in bytes.
     ///
     /// `out` needs room for `LONGEST_TEXT` bytes, whatever is pending.
+    // Rust: ///
+    // Rust: /// # Panics
+    // Rust: ///
+    // Rust: /// If `out` is shorter.
     fn store(&self, out: &mut [u8]) -> usize
         requires { LONGEST_TEXT ≤ length out.old }
         ensures { Stored VERSION (state self.now) out result };
@@ -84,11 +110,16 @@ pub enum Call<'a> {
 }
 
 /// Makes calls on a stream, in order, writes the answers to the front of `out`, whose rest is
-/// unchanged, and returns how many there are. Counts what the calls cost.
+/// unchanged, and returns how many there are.
+/// Counts what the calls cost. <!-- Rattle -->
 ///
 /// `out` needs room for one `u64` for each call. Afterwards the stream has absorbed all bytes of
 /// the calls. If it began from a seed and had absorbed a message before, each answer is the hash of
 /// that message and the bytes since, joined.
+// Rust: ///
+// Rust: /// # Panics
+// Rust: ///
+// Rust: /// If `out` is shorter.
 pub fn run_on<S: KomiStream>(
     stream: &mut S,
     calls: &[Call<'_>],
@@ -120,10 +151,24 @@ pub fn run_on<S: KomiStream>(
 }
 
 /// Makes calls on a new stream of a seed, in order, writes the answers to the front of `out`, whose
-/// rest is unchanged, and returns how many there are. Counts what the stream and the calls cost.
+/// rest is unchanged, and returns how many there are.
+/// Counts what the stream and the calls cost. <!-- Rattle -->
 ///
 /// `out` needs room for one `u64` for each call. Each answer is the hash of all bytes that the
 /// calls before it absorb, joined.
+// Rust: ///
+// Rust: /// # Panics
+// Rust: ///
+// Rust: /// If `out` is shorter.
+// Rust: ///
+// Rust: /// ```
+// Rust: /// use komihash_rattle::stream::{Call, run};
+// Rust: /// use komihash_rattle::{StreamedKomihash, komihash};
+// Rust: /// let calls = [Call::Absorb(b"po"), Call::Answer, Call::Absorb(b"rt"), Call::Answer];
+// Rust: /// let mut answers = [0; 4];
+// Rust: /// assert_eq!(run::<StreamedKomihash>(7, &calls, &mut answers), 2);
+// Rust: /// assert_eq!(answers[..2], [komihash(b"po", 7), komihash(b"port", 7)]);
+// Rust: /// ```
 pub fn run<S: KomiStream>(
     seed: u64,
     calls: &[Call<'_>],

@@ -15,9 +15,10 @@ pub(crate) fn read_word(bytes: &[u8]) -> u64
     requires { 8 ≤ length bytes.now }
     ensures { result ≡ word_of (take 8 bytes.now) }
 {
-    u64::from_le_bytes([
-        bytes[0], bytes[1], bytes[2], bytes[3], bytes[4], bytes[5], bytes[6], bytes[7],
-    ])
+    let Some(word) = bytes.first_chunk::<8>() else {
+        unreachable!()
+    };
+    u64::from_le_bytes(*word)
 }
 
 #[inline(always)]
@@ -26,6 +27,18 @@ pub(crate) fn word_at(bytes: &[u8], at: usize) -> u64
     ensures { result ≡ word_of (take 8 (drop at bytes.now)) }
 {
     read_word(&bytes[at..])
+}
+
+/// Returns the word of the last eight bytes.
+#[inline(always)]
+pub(crate) fn last_word(bytes: &[u8]) -> u64
+    requires { 8 ≤ length bytes.now }
+    ensures { result ≡ word_of (take 8 (drop (length bytes.now - 8) bytes.now)) }
+{
+    let Some(word) = bytes.last_chunk::<8>() else {
+        unreachable!()
+    };
+    u64::from_le_bytes(*word)
 }
 
 #[inline(always)]
@@ -66,7 +79,8 @@ pub(crate) fn read_partial_word(bytes: &[u8], end: u64) -> u64
 
 /// Fills `out`, of eight bytes, with the bytes of a word.
 ///
-/// Assigns an array, which is one store. Rattle's `copy_from_slice` also compares addresses.
+/// Assigns an array, which is one store.
+/// Rattle's `copy_from_slice` also compares addresses. <!-- Rattle -->
 #[inline(always)]
 pub(crate) fn write_word(word: u64, out: &mut [u8])
     requires { length out.old ≡ 8 }
@@ -98,6 +112,7 @@ pub(crate) fn write_partial_word(word: u64, out: &mut [u8])
 }
 
 /// Writes the whole words of `bytes` to the front of `out`.
+// Rust: #[allow(clippy::needless_range_loop)]
 #[inline(always)]
 #[tactic(auto, using(crate::proofs::WholeWords::read_words))]
 pub(crate) fn read_whole_words(bytes: &[u8], out: &mut [u64])
@@ -128,8 +143,8 @@ pub(crate) fn write_first_bytes(words: &[u64], count: usize, out: &mut [u8])
     }
 }
 
-/// Returns the low and the high half of the product of two words, and counts the product. No other
-/// code of this crate multiplies two words.
+/// Returns the low and the high half of the product of two words. No other code of this crate
+/// multiplies two words.
 #[inline(always)]
 pub(crate) fn multiply128(x: u64, y: u64, tally: &mut Tally) -> (u64, u64)
     ensures low { result.0 ≡ low (x * y) }

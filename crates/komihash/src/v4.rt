@@ -21,7 +21,13 @@ pub type KomiHasher = hasher::KomiHasher<4>;
 /// The pseudorandom generator of version 4.
 pub type Komirand = generator::Komirand<4>;
 
-/// Returns the hash of a message of any length with any seed, as `specs/Hash.antt` defines it.
+/// Returns the hash of a message of any length with any seed.
+/// It is `komi` of `specs/Hash.antt`. <!-- Rattle -->
+// Rust: ///
+// Rust: /// ```
+// Rust: /// use komihash_rattle::v4::komihash;
+// Rust: /// assert_eq!(komihash(b"", 0), 0xb7683ea7430132b4);
+// Rust: /// ```
 #[inline]
 pub fn komihash(bytes: &[u8], seed: u64) -> u64
     ensures { result ≡ komi 4 seed bytes.now }
@@ -29,6 +35,7 @@ pub fn komihash(bytes: &[u8], seed: u64) -> u64
     hash::hash_message::<4>(bytes, seed, &mut Tally::new())
 }
 
+// Rattle alone.
 /// Returns the hash of a message with a seed, and counts its cost in a tally.
 ///
 /// A message of n bytes takes `3 + 4 * (n / 64) + (n % 64) / 16` multiplications of two words, by
@@ -46,6 +53,19 @@ pub fn komihash_counted(bytes: &[u8], seed: u64, tally: &mut Tally) -> u64
 ///
 /// They are the bytes of the message, its padding byte, and zeros, eight bytes per word, the lowest
 /// byte first. The empty message has the one word 0. The rest of `out` is unchanged.
+// Rust: ///
+// Rust: /// # Panics
+// Rust: ///
+// Rust: /// If `out` is shorter.
+// Rust: ///
+// Rust: /// ```
+// Rust: /// use komihash_rattle::v4::{pad, unpad};
+// Rust: /// let (mut words, mut message) = ([0; 1], [0; 8]);
+// Rust: /// assert_eq!(pad(b"abc", &mut words), 1);
+// Rust: /// assert_eq!(words, [0x01636261]);
+// Rust: /// assert_eq!(unpad(&words, &mut message), Some(3));
+// Rust: /// assert_eq!(message[..3], *b"abc");
+// Rust: /// ```
 #[inline]
 pub fn pad(bytes: &[u8], out: &mut [u64]) -> usize
     requires { length bytes.now / 8 + 1 ≤ length out.old }
@@ -58,6 +78,11 @@ pub fn pad(bytes: &[u8], out: &mut [u64]) -> usize
 /// and returns its length in bytes. `out` needs room for eight bytes for each word.
 ///
 /// Returns `None`, with all of `out` unchanged, if no message has these words in this version.
+// Rust: /// [`pad`] has an example.
+// Rust: ///
+// Rust: /// # Panics
+// Rust: ///
+// Rust: /// If `out` is shorter.
 #[inline]
 pub fn unpad(words: &[u64], out: &mut [u8]) -> Option<usize>
     requires { 8 * length words.now ≤ length out.old }

@@ -3,20 +3,19 @@
 #![tactic(auto, using(crate::proofs::PendingBytes::pending_laws))]
 
 ghost use Rattle.std.specs.Prelude.{◌≡◌, ℕ, ◌+◌, ◌-◌, ◌*◌, ◌/◌, ◌%◌, ◌<◌, ◌≤◌};
-ghost use Rattle.std.specs.Prelude.{List, [], ◌++◌, length, take, drop, slice_index};
+ghost use Rattle.std.specs.Prelude.{List, [], ◌++◌, length, take, drop, set, slice_index};
 ghost use Rattle.std.specs.Prelude.{IsTrue, false, if◌then◌else◌};
 ghost use Rattle.std.proofs.Common.{sym};
 ghost use Rattle.komihash.specs.Counts.{Costs};
 ghost use Rattle.komihash.specs.Padding.{padding_byte};
 ghost use Rattle.komihash.specs.Internals.{pending_bytes, ArePending, StoresBut};
-ghost use Rattle.komihash.specs.Internals.{stored_words, whole_words, final_word};
+ghost use Rattle.komihash.specs.Internals.{stored_words, whole_words, final_word, chunk_word};
 
 use super::words::WholeWords;
 use crate::padding::{padding_after, pads_with_two};
 use crate::tally::Tally;
-use crate::utils::{read_partial_word, read_word, word_at, write_first_bytes};
+use crate::utils::{last_word, read_partial_word, read_word, word_at, write_first_bytes};
 use std::marker::Model;
-use std::simd::{u8x16, u64x2};
 
 /// Fewer than 64 bytes, stored in eight words, with zeros after the last byte.
 #[derive(Drop)]
@@ -44,6 +43,16 @@ impl Model for Pending {
     } };
 }
 
+// Returns the index of the word that has the byte after the first `len`. The remainder tells the
+// compiler that there is such a word.
+#[inline(always)]
+fn word_index(len: usize) -> usize
+    requires { len < 64 }
+    ensures { result ≡ len / 8 }
+{
+    len / 8 % 8
+}
+
 // Appends fewer than eight bytes. What does not fit in the partial word is 0 if all fit.
 #[inline(always)]
 fn append_below_eight(words: &mut [u64; 8], len: usize, bytes: &[u8])
@@ -54,7 +63,7 @@ fn append_below_eight(words: &mut [u64; 8], len: usize, bytes: &[u8])
 {
     let word = read_partial_word(bytes, 0);
     let bits = 8 * (len % 8);
-    words[len / 8] |= word << bits;
+    words[word_index(len)] |= word << bits;
     // The rotation has what the shift keeps, in its place, and below that, from the lowest byte on,
     // what the shift drops. The difference is therefore what goes to the front of the next word.
     words[(len / 8 + 1) % 8] |= word.rotate_left(bits as u32) - (word << bits);
@@ -69,25 +78,44 @@ fn append_within_word(words: &mut [u64; 8], len: usize, bytes: &[u8])
         → (gap ≤ len / 8 + 1) × (gap_end < 8 → len + length bytes.now ≤ 8 * gap_end)
         → StoresBut words.new (pending_bytes words.old len ++ bytes.now) gap gap_end }
 {
-    words[len / 8] |= read_word(bytes) << (8 * (len % 8));
+    words[word_index(len)] |= read_word(bytes) << (8 * (len % 8));
 }
 
-// Stores two whole words, of the sixteen bytes from `from` on, at index `at`. If the words below
-// `at` are stored, then so are those below `at + 2`: the two continue the others, or overlap them.
+// Stores two of the words that `chunks` have, from index `at` on.
 #[inline(always)]
-fn store_two_words(words: &mut [u64; 8], at: usize, bytes: &[u8], from: usize)
-    requires place { at < 7 }
-    requires within { from + 16 ≤ length bytes.now }
-    ensures { (xs : List ℕ) (n gap_end : ℕ) → StoresBut words.old (xs ++ bytes.now) at gap_end
-        → (length xs + from ≡ 8 * at) × (n ≤ at + 2)
-        → StoresBut words.new (xs ++ bytes.now) n gap_end }
+fn store_two_words(words: &mut [u64], chunks: &[[u8; 8]], at: usize)
+    requires size { length words.old ≡ length chunks.now }
+    requires within { at + 2 ≤ length chunks.now }
+    ensures { words.new ≡ set (set words.old at (chunk_word chunks.now at)) (at + 1)
+        (chunk_word chunks.now (at + 1)) }
 {
-    let two = u64x2::from_le_bytes(u8x16::from_slice(&bytes[from..]));
-    two.copy_to_slice(&mut words[at..]);
+    let first = u64::from_le_bytes(chunks[at]);
+    let second = u64::from_le_bytes(chunks[at + 1]);
+    words[at] = first;
+    words[at + 1] = second;
 }
 
-// Appends the bytes of eight or more that belong to whole words. Some complete the partial word,
-// and the words after it are stored two at a time, from both ends.
+// Stores the two to seven words that `chunks` have, two at a time from both ends.
+#[inline(always)]
+fn store_words(words: &mut [u64], chunks: &[[u8; 8]])
+    requires size { length words.old ≡ length chunks.now }
+    requires least { 2 ≤ length chunks.now }
+    requires most { length chunks.now ≤ 7 }
+    ensures size { length words.new ≡ length chunks.now }
+    ensures words { (k : ℕ) → k < length chunks.now
+        → slice_index words.new k ≡ chunk_word chunks.now k }
+{
+    let count = chunks.len();
+    store_two_words(words, chunks, 0);
+    let has_four = count >= 4;
+    if has_four {
+        store_two_words(words, chunks, 2);
+        store_two_words(words, chunks, count - 4);
+    }
+    store_two_words(words, chunks, count - 2);
+}
+
+// Appends the bytes of eight or more that belong to whole words. Some complete the partial word.
 #[inline(always)]
 fn append_whole_words(words: &mut [u64; 8], len: usize, bytes: &[u8])
     requires pending { ArePending words.old len }
@@ -97,24 +125,18 @@ fn append_whole_words(words: &mut [u64; 8], len: usize, bytes: &[u8])
         ((len + length bytes.now) / 8) ((len + length bytes.now) / 8 + 1) }
 {
     append_within_word(words, len, bytes);
-    let at = len / 8;
+    let next = word_index(len) + 1;
     let over = len % 8;
-    // How many words are whole with the bytes, from the partial word on.
-    let whole = (over + bytes.len()) / 8;
-    let has_two_more = whole >= 3;
+    // The words after the partial word that are whole with the bytes.
+    let (chunks, _) = bytes[8 - over..].as_chunks::<8>();
+    let has_two_more = chunks.len() >= 2;
     if has_two_more {
-        store_two_words(words, at + 1, bytes, 8 - over);
-        let has_four_more = whole >= 5;
-        if has_four_more {
-            store_two_words(words, at + 3, bytes, 24 - over);
-            store_two_words(words, at + whole - 4, bytes, 8 * whole - 32 - over);
-        }
-        store_two_words(words, at + whole - 2, bytes, 8 * whole - 16 - over);
+        store_words(&mut words[next..next + chunks.len()], chunks);
     } else {
-        let has_one_more = whole == 2 || len + bytes.len() < 64;
-        if has_one_more {
+        let has_next = chunks.len() == 1 || len + bytes.len() < 64;
+        if has_next {
             // If only the partial word is whole, the bytes that are left take this word's place.
-            words[at + 1] = word_at(bytes, (8 - over).min(bytes.len() - 8));
+            words[next] = word_at(bytes, (8 - over).min(bytes.len() - 8));
         }
     }
 }
@@ -132,60 +154,27 @@ fn append_eight_or_more(words: &mut [u64; 8], len: usize, bytes: &[u8])
     let has_remainder = end < 64;
     if has_remainder {
         // The shift by 8 comes last, because LLVM would otherwise read seven bytes in three pieces.
-        words[end / 8] = word_at(bytes, bytes.len() - 8) >> (56 - 8 * (end % 8)) >> 8;
+        words[word_index(end)] = last_word(bytes) >> (56 - 8 * (end % 8)) >> 8;
     }
 }
 
-// Completes the block with the first of at least 64 bytes. The words after the partial word are
-// stored two at a time, and some of them up to four times, so that one test serves any number.
+// Appends bytes, at most as many as the block has room for after the first `len`. Only this function
+// puts bytes into the words.
 #[inline(always)]
-fn append_long(words: &mut [u64; 8], len: usize, bytes: &[u8])
+fn append_to_block(words: &mut [u64; 8], len: usize, bytes: &[u8], tally: &mut Tally)
     requires pending { ArePending words.old len }
-    requires at_least_64 { 64 ≤ length bytes.now }
-    ensures { words.new ≡ stored_words 8 (pending_bytes words.old len ++ bytes.now) }
-{
-    append_within_word(words, len, bytes);
-    let at = len / 8;
-    let has_two_more = at < 6;
-    if has_two_more {
-        let second = (at + 3).min(6);
-        let third = (at + 5).min(6);
-        store_two_words(words, at + 1, bytes, 8 * (at + 1) - len);
-        store_two_words(words, second, bytes, 8 * second - len);
-        store_two_words(words, third, bytes, 8 * third - len);
-        store_two_words(words, 6, bytes, 48 - len);
-    } else {
-        let next = word_at(bytes, 8 - len % 8);
-        let has_one_more = at == 6;
-        words[7] = if has_one_more { next } else { words[7] };
-    }
-}
-
-// Appends as many of the bytes as the block has room for after the first `len`, and counts them as
-// kept: with LONG some of at least 64, otherwise all. Only this function puts bytes into the words.
-#[inline(always)]
-fn append_to_block<const LONG: bool>(
-    words: &mut [u64; 8],
-    len: usize,
-    bytes: &[u8],
-    tally: &mut Tally,
-)
-    requires pending { ArePending words.old len }
-    requires long { IsTrue LONG → 64 ≤ length bytes.now }
-    requires room { LONG ≡ false → len + length bytes.now ≤ 64 }
+    requires room { len + length bytes.now ≤ 64 }
     ensures block { 64 ≤ len + length bytes.now
-        → words.new ≡ whole_words (pending_bytes words.old len ++ take (64 - len) bytes.now) }
+        → words.new ≡ whole_words (pending_bytes words.old len ++ bytes.now) }
     ensures bytes { len + length bytes.now < 64
         → pending_bytes words.new (len + length bytes.now)
         ≡ pending_bytes words.old len ++ bytes.now }
     ensures pending { len + length bytes.now < 64
         → ArePending words.new (len + length bytes.now) }
-    ensures costs { Costs tally 0 (if LONG then 64 - len else length bytes.now) }
+    ensures costs { Costs tally 0 (length bytes.now) }
 {
-    tally.raise(0, bytes.len().min(64 - len));
-    if LONG {
-        append_long(words, len, bytes);
-    } else if bytes.len() < 8 {
+    tally.raise(0, bytes.len());
+    if bytes.len() < 8 {
         append_below_eight(words, len, bytes);
     } else {
         append_eight_or_more(words, len, bytes);
@@ -211,19 +200,19 @@ impl Pending {
         self.len
     }
 
-    /// Appends bytes that do not complete a block, and counts them as kept.
+    /// Appends bytes that do not complete a block.
     #[inline(always)]
     pub(crate) fn append(&mut self, bytes: &[u8], tally: &mut Tally)
         requires { length self.old + length bytes.now < 64 }
         ensures bytes { self.new ≡ self.old ++ bytes.now }
         ensures costs { Costs tally 0 (length bytes.now) }
     {
-        append_to_block::<false>(&mut self.words, self.len, bytes, tally);
+        append_to_block(&mut self.words, self.len, bytes, tally);
         self.len += bytes.len();
     }
 
-    /// Appends bytes if none are pending, and counts them as kept. Does what `append` does, but the
-    /// compiler knows that the length was 0.
+    /// Appends bytes if none are pending. Does what `append` does, but the compiler knows that the
+    /// length was 0.
     #[inline(always)]
     pub(crate) fn append_to_none(&mut self, bytes: &[u8], tally: &mut Tally)
         requires none { self.old ≡ [] }
@@ -232,26 +221,20 @@ impl Pending {
         ensures costs { Costs tally 0 (length bytes.now) }
     {
         if !bytes.is_empty() {
-            append_to_block::<false>(&mut self.words, 0, bytes, tally);
+            append_to_block(&mut self.words, 0, bytes, tally);
             self.len = bytes.len();
         }
     }
 
-    /// Returns the words of the block that the first of the bytes complete, counts these bytes as
-    /// kept, and leaves no byte pending.
+    /// Returns the words of the block that the bytes complete, and leaves no byte pending.
     #[inline(always)]
     pub(crate) fn complete(&mut self, bytes: &[u8], tally: &mut Tally) -> [u64; 8]
-        requires { 64 ≤ length self.old + length bytes.now }
-        ensures block { result ≡ whole_words (self.old ++ take (64 - length self.old) bytes.now) }
+        requires { length self.old + length bytes.now ≡ 64 }
+        ensures block { result ≡ whole_words (self.old ++ bytes.now) }
         ensures none { self.new ≡ [] }
-        ensures costs { Costs tally 0 (64 - length self.old) }
+        ensures costs { Costs tally 0 (length bytes.now) }
     {
-        let len = self.len;
-        if bytes.len() < 64 {
-            append_to_block::<false>(&mut self.words, len, &bytes[..64 - len], tally);
-        } else {
-            append_to_block::<true>(&mut self.words, len, bytes, tally);
-        }
+        append_to_block(&mut self.words, self.len, bytes, tally);
         let block = self.words;
         self.words = [0; 8];
         self.len = 0;
@@ -274,12 +257,11 @@ impl Pending {
         requires { 0 < length self.now }
         ensures { result ≡ final_word self.now (padding_byte V self.now) }
     {
-        let whole = self.len / 8;
         let over = self.len % 8;
-        let word = self.words[whole];
+        let word = self.words[word_index(self.len)];
         let is_whole = over == 0;
         let last_byte = if is_whole {
-            (self.words[whole - 1] >> 56 & 0xff) as u8
+            (self.words[(self.len / 8 + 7) % 8] >> 56 & 0xff) as u8
         } else {
             (word >> (8 * over - 8) & 0xff) as u8
         };

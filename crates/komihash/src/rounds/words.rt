@@ -6,15 +6,14 @@ ghost use Rattle.std.specs.Prelude.{◌≡◌, ℕ, ◌-◌, ◌/◌, ◌%◌, �
 ghost use Rattle.std.specs.Prelude.{List, length, slice_index};
 ghost use Rattle.komihash.specs.Internals.{whole_words};
 
-use crate::utils::word_at;
-
 /// Returns the last whole word of at least eight bytes.
 #[inline(always)]
 pub(crate) fn last_whole_word(bytes: &[u8]) -> u64
     requires { 8 ≤ length bytes.now }
     ensures { result ≡ slice_index (whole_words bytes.now) (length bytes.now / 8 - 1) }
 {
-    word_at(bytes, 8 * (bytes.len() / 8 - 1))
+    let (words, _) = bytes.as_chunks::<8>();
+    u64::from_le_bytes(words[words.len() - 1])
 }
 
 /// Whole words, wherever they lie: in a message's bytes, or in the words of a stream.
@@ -44,7 +43,7 @@ impl WholeWords for &[u8] {
 
     #[inline(always)]
     fn holds(&self, count: usize) -> bool {
-        8 * count <= self.len()
+        self.len() / 8 >= count
     }
 
     #[inline(always)]
@@ -54,6 +53,7 @@ impl WholeWords for &[u8] {
 
     #[inline(always)]
     fn word(&self, at: usize) -> u64 {
-        word_at(self, 8 * at)
+        let (words, _) = self.as_chunks::<8>();
+        u64::from_le_bytes(words[at])
     }
 }

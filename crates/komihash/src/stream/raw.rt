@@ -49,7 +49,7 @@ impl Model for RawStream {
 }
 
 impl RawStream {
-    /// Returns the new stream of a seed, at the cost of one product.
+    /// Returns the new stream of a seed.
     #[inline(always)]
     #[tactic(auto, unfolding(crate::specs::Stream::HasAbsorbed, crate::specs::Stream::absorb))]
     pub fn start<const V: u8>(seed: u64, tally: &mut Tally) -> RawStream
@@ -67,7 +67,7 @@ impl RawStream {
         }
     }
 
-    /// Absorbs any number of bytes, and counts what this costs.
+    /// Absorbs any number of bytes.
     #[inline(always)]
     #[tactic(auto, unfolding(crate::specs::Stream::HasAbsorbed), using(crate::proofs::Streams::more_absorbed))]
     pub fn absorb<const V: u8>(&mut self, bytes: &[u8], tally: &mut Tally)
@@ -99,7 +99,8 @@ impl RawStream {
     {
         let pending_len = self.pending.len();
         let blocks_end = bytes.len() - (pending_len + bytes.len()) % 64;
-        self.top_bit = pads_with_two::<V>(bytes[blocks_end - 1]);
+        // Version 5 reads no byte for it.
+        self.top_bit = V == 4 && pads_with_two::<V>(bytes[blocks_end - 1]);
         self.had_block = true;
         let mut lanes;
         let mut rest = bytes;
@@ -107,18 +108,19 @@ impl RawStream {
         if none_pending {
             lanes = self.lanes;
         } else {
-            let block = self.pending.complete(bytes, tally);
+            let (front, after) = bytes.split_at(64 - pending_len);
+            rest = after;
+            let block = self.pending.complete(front, tally);
             // The lanes are read after `complete`, which needs the registers itself.
             lanes = self.lanes;
             block_round(&mut lanes, &block, places::<V>(), tally);
-            (_, rest) = bytes.split_at(64 - pending_len);
         }
         let left = absorb_blocks::<V>(&mut lanes, rest, tally);
         self.lanes = lanes;
         self.pending.append_to_none(left, tally);
     }
 
-    /// Returns the hash of all bytes so far, and counts what this costs. The stream is unchanged.
+    /// Returns the hash of all bytes so far. The stream is unchanged.
     #[inline(always)]
     #[tactic(auto, using(crate::proofs::WholeWords::read_words))]
     pub fn answer<const V: u8>(&self, tally: &mut Tally) -> u64

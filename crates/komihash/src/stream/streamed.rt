@@ -17,6 +17,19 @@ use std::marker::Model;
 /// Pieces of a multiple of 64 bytes are best: as long as all are, none is copied. Otherwise a write
 /// copies into the stream the bytes that continue a partial block, and those that begin a new one:
 /// at most 63 of each.
+// Rust: ///
+// Rust: /// ```
+// Rust: /// use komihash_rattle::stream::LONGEST_TEXT;
+// Rust: /// use komihash_rattle::{StreamedKomihash, komihash};
+// Rust: /// let mut stream = StreamedKomihash::new_with_seed(7);
+// Rust: /// stream.write(b"p");
+// Rust: /// let mut text = [0; LONGEST_TEXT];
+// Rust: /// let length = stream.save(&mut text);
+// Rust: /// let mut stream = StreamedKomihash::resume(&text[..length]).unwrap();
+// Rust: /// stream.write(b"ort");
+// Rust: /// assert_eq!(stream.finish(), komihash(b"port", 7));
+// Rust: /// ```
+// Rust: #[repr(transparent)]
 #[derive(Drop)]
 pub struct StreamedKomihash<const V: u8>
 where
@@ -78,7 +91,11 @@ where
     /// the text's length in bytes: 68, and one for each pending byte.
     ///
     /// `out` needs room for `LONGEST_TEXT` bytes, whatever is pending. `resume` makes the same
-    /// stream from the text, also in another process.
+    /// stream from the text, also in another process. The text has the pending bytes as they are.
+    // Rust: ///
+    // Rust: /// # Panics
+    // Rust: ///
+    // Rust: /// If `out` is shorter.
     #[inline(always)]
     pub fn save(&self, out: &mut [u8]) -> usize
         requires { LONGEST_TEXT ≤ length out.old }
@@ -88,8 +105,8 @@ where
     }
 
     /// Returns the stream that has these bytes as its saved text, or `None` if no stream of this
-    /// version has. Damage that leaves them the text of a stream goes unnoticed. The format is
-    /// `text` in `specs/Saved.antt`.
+    /// version has. Damage that leaves them the text of a stream goes unnoticed.
+    /// The format is `text` in `specs/Saved.antt`. <!-- Rattle -->
     #[inline(always)]
     pub fn resume(bytes: &[u8]) -> Option<Self>
         ensures { Restored V (λ stream. stream.state) bytes.now result }

@@ -41,7 +41,7 @@ returns c =
     let left = c.read_partial_word-word.result * 2 ^ (8 * over) % 2 ^ 64 in
     let rest : c.rotate_left.result - left ≡ word_of (drop fit bytes) =
     grind (arith, parts, word, word_of-drop fit bytes are) in
-    rw rest (elim (cases_lt fit (length bytes)) [
+    rw (c.word_index.ensures, rest) (elim (cases_lt fit (length bytes)) [
       | inl more ↦
           let zero = zero_after c.requires.pending at (omega arith) (omega arith) in
           let whole = take_all 8 (drop fit bytes) (omega (arith, length-drop fit bytes)) in

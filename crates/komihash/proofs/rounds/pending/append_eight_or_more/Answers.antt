@@ -18,8 +18,8 @@ returns-then-has_remainder c =
     (omega arith) (omega arith) (omega arith) in
     let whole = take_all 8 (drop from bytes) (omega (arith, length-drop from bytes)) in
     let word = last ∙ ap word_of (sym whole) ∙ word_after xs bytes (end / 8) from (omega arith) in
-    all_stored (put_word c.append_whole_words.ensures (end / 8) (end / 8 + 1) _ (omega arith)
-    (λ _. rw (c.word_at.ensures, shr-shr) word)) (omega arith)
+    rw c.word_index.ensures (all_stored (put_word c.append_whole_words.ensures (end / 8)
+    (end / 8 + 1) _ (omega arith) (λ _. rw (c.last_word.ensures, shr-shr) word)) (omega arith))
 
 pub returns-else-has_remainder : goal.returns-else-has_remainder
 returns-else-has_remainder c = all_stored c.append_whole_words.ensures (omega arith)

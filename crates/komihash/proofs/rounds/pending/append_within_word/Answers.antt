@@ -5,5 +5,5 @@ use Rattle.komihash.proofs.rounds.pending.append_within_word.Goals as goal
 
 pub returns : goal.returns
 returns c gap gap_end =
-    partial_stored c.requires.pending c.args.bytes.now _ gap gap_end
-    (AreBytes-typed c.args.bytes.now c.type_inv.bytes) c.read_word.ensures
+    rw c.word_index.ensures (partial_stored c.requires.pending c.args.bytes.now _ gap gap_end
+    (AreBytes-typed c.args.bytes.now c.type_inv.bytes) c.read_word.ensures)

@@ -1,0 +1,91 @@
+//! The pseudorandom generator of both versions.
+
+use crate::utils::{multiply128, write_partial_word, write_word};
+
+/// A pseudorandom generator of version V, which is not cryptographic.
+///
+/// A step multiplies the words, and replaces them by sums and exclusive ors of the second word, the
+/// halves of the product, and constants of alternating bits. Its output is the new first word. In
+/// one version, the same pair always gives the same outputs.
+///
+/// ```
+/// use komihash_rattle::Komirand;
+/// let mut generator = Komirand::init(1);
+/// let (first, second) = (generator.next(), generator.next());
+/// let mut bytes = [0; 11];
+/// Komirand::init_with_extra_seed(1, 1).fill_bytes(&mut bytes);
+/// assert_eq!(bytes[..8], first.to_le_bytes());
+/// assert_eq!(bytes[8..], second.to_le_bytes()[..3]);
+/// ```
+#[repr(C)]
+#[derive(Clone, Debug)]
+pub struct Komirand<const V: u8> {
+    s1: u64,
+    s2: u64,
+}
+
+impl<const V: u8> Komirand<V> {
+    /// Returns the generator of a pair of words, without a step.
+    ///
+    /// Any words are allowed. The first outputs of small ones are simple patterns: in version 5
+    /// `new(0, 0)` outputs 0x5555555555555555 first. `init` takes four steps to get past them.
+    ///
+    /// ```
+    /// use komihash_rattle::Komirand;
+    /// const START: Komirand = Komirand::new(1, 2);
+    /// let mut generator = START;
+    /// assert_ne!(generator.next(), generator.next());
+    /// ```
+    #[inline]
+    pub const fn new(s1: u64, s2: u64) -> Self {
+        Komirand { s1, s2 }
+    }
+
+    /// Returns the generator that has the seed as both words, after four steps, as the Rust
+    /// crate `komihash` does.
+    #[inline]
+    pub fn init(seed: u64) -> Self {
+        Komirand::init_with_extra_seed(seed, seed)
+    }
+
+    /// Returns the generator of two seeds after four steps.
+    #[inline]
+    pub fn init_with_extra_seed(s1: u64, s2: u64) -> Self {
+        let mut generator = Komirand::new(s1, s2);
+        generator.next();
+        generator.next();
+        generator.next();
+        generator.next();
+        generator
+    }
+
+    /// Takes one step, and returns its output.
+    #[allow(clippy::should_implement_trait)]
+    #[inline]
+    pub fn next(&mut self) -> u64 {
+        let (low, high) = multiply128(self.s1, self.s2);
+        let sum = self.s2.wrapping_add(high);
+        let s2 = sum.wrapping_add(0xaaaa_aaaa_aaaa_aaaa);
+        self.s1 = if V == 4 { low ^ s2 } else { (low ^ high).wrapping_add(0x5555_5555_5555_5555) };
+        self.s2 = s2;
+        self.s1
+    }
+
+    /// Fills the buffer with the bytes of the next outputs, the lowest byte of each first.
+    ///
+    /// Takes one step for each eight bytes, and one more for a remainder, which gets the lowest
+    /// bytes of its output; its other bytes are dropped. Takes no step if the buffer is empty.
+    #[inline]
+    pub fn fill_bytes(&mut self, buffer: &mut [u8]) {
+        let whole = buffer.len() / 8;
+        for i in 0..whole {
+            let word = self.next();
+            write_word(word, &mut buffer[8 * i..8 * i + 8]);
+        }
+        let has_remainder = buffer.len() % 8 > 0;
+        if has_remainder {
+            let output = self.next();
+            write_partial_word(output, &mut buffer[8 * whole..]);
+        }
+    }
+}

@@ -1,0 +1,18 @@
+#![doc = include_str!("../README.md")]
+#![no_std]
+#![forbid(unsafe_code)]
+#![warn(missing_docs)]
+#![allow(private_bounds, clippy::int_plus_one, clippy::manual_is_multiple_of)]
+
+pub use v5::{KomiHasher, Komirand, StreamedKomihash, komihash};
+
+mod generator;
+mod hash;
+mod hasher;
+mod padding;
+mod rounds;
+pub mod stream;
+mod utils;
+pub mod v4;
+pub mod v5;
+mod version;

@@ -1,0 +1,114 @@
+//! The padding of a message: its padding byte, its final word, its padded words, and the message
+//! whose padded words are given.
+
+use crate::utils::{last_word, read_partial_word, read_whole_words, write_first_bytes};
+
+/// Returns whether the padding byte after `byte` is 2: in version 4, if its top bit is set.
+#[inline(always)]
+pub(crate) fn pads_with_two<const V: u8>(byte: u8) -> bool {
+    V == 4 && byte >= 128
+}
+
+/// Returns the padding byte: 2 after a last byte for which `pads_with_two` holds, otherwise 1.
+#[inline(always)]
+pub(crate) fn padding_after(top_bit: bool) -> u64 {
+    1 + u64::from(top_bit)
+}
+
+/// Returns the padding byte of a message that isn't empty.
+#[inline(always)]
+pub(crate) fn padding_byte<const V: u8>(message: &[u8]) -> u64 {
+    padding_after(pads_with_two::<V>(message[message.len() - 1]))
+}
+
+/// Returns the final word of eight or more bytes: the bytes after the last whole word, and `end`.
+///
+/// Reads the last eight bytes, and shifts out those of the last whole word. If no byte comes after
+/// that word, the shift is by 64, which `>>` doesn't allow. So there are two.
+#[inline(always)]
+pub(crate) fn final_word_by_shift(bytes: &[u8], end: u64) -> u64 {
+    let eight = last_word(bytes);
+    let shift = 8 * (bytes.len() % 8);
+    (eight >> 1) >> (63 - shift) | end << shift
+}
+
+/// Returns the final word of eight or more bytes. If these are whole words, that is `end`, and
+/// nothing is read.
+#[inline(always)]
+pub(crate) fn final_word_by_branch(bytes: &[u8], end: u64) -> u64 {
+    if bytes.len() % 8 == 0 {
+        return end;
+    }
+    final_word_by_shift(bytes, end)
+}
+
+/// Writes the padded words of a message in version V to the front of `out`, and returns how many
+/// they are.
+#[inline(always)]
+pub(crate) fn pad<const V: u8>(bytes: &[u8], out: &mut [u64]) -> usize {
+    let whole = bytes.len() / 8;
+    let has_whole_word = whole > 0;
+    let final_word = if has_whole_word {
+        final_word_by_shift(bytes, padding_byte::<V>(bytes))
+    } else if bytes.is_empty() {
+        0
+    } else {
+        read_partial_word(bytes, padding_byte::<V>(bytes))
+    };
+    read_whole_words(bytes, out);
+    out[whole] = final_word;
+    whole + 1
+}
+
+// Returns the index of a word's highest byte that is not 0, counted from the lowest byte.
+#[inline(always)]
+fn highest_place(word: u64) -> usize {
+    (word.ilog2() / 8) as usize
+}
+
+// Returns the byte at index `at` of words, the lowest byte of each word first.
+#[inline(always)]
+fn byte_at(words: &[u64], at: usize) -> u8 {
+    words[at / 8].to_le_bytes()[at % 8]
+}
+
+// Returns whether `byte` is the padding byte of the first `count` bytes of words.
+#[inline(always)]
+fn is_padding_byte<const V: u8>(byte: u64, words: &[u64], count: usize) -> bool {
+    byte == padding_after(pads_with_two::<V>(byte_at(words, count - 1)))
+}
+
+// Returns the length in bytes of the message that has these padded words in version V, or `None`
+// if no message has them.
+//
+// The padding byte can only be the last word's highest byte that is not 0. The byte before it
+// decides whether it is.
+#[inline(always)]
+fn message_length<const V: u8>(words: &[u64]) -> Option<usize> {
+    let count = words.len();
+    if count == 0 {
+        return None;
+    }
+    let last = words[count - 1];
+    let is_zero = last == 0;
+    if is_zero {
+        let is_one_word = count == 1;
+        return if is_one_word { Some(0) } else { None };
+    }
+    let place = highest_place(last);
+    let length = 8 * (count - 1) + place;
+    let is_without_bytes = length == 0;
+    if is_without_bytes {
+        return None;
+    }
+    if is_padding_byte::<V>(last >> (8 * place), words, length) { Some(length) } else { None }
+}
+
+/// Writes the message that has these padded words in version V to the front of `out`, and returns
+/// its length in bytes. Returns `None`, with `out` unchanged, if no message has these words.
+#[inline(always)]
+pub(crate) fn unpad<const V: u8>(words: &[u64], out: &mut [u8]) -> Option<usize> {
+    let count = message_length::<V>(words)?;
+    write_first_bytes(words, count, out);
+    Some(count)
+}

@@ -1,0 +1,191 @@
+//! The steps of the hash: seeding, lanes, block rounds, joining, pair rounds, closing.
+//!
+//! Only `places` depends on the version.
+
+use crate::utils::{multiply128, word_at};
+
+pub(crate) mod pending;
+pub(crate) mod words;
+
+// The hash's eight constants: the first 512 bits of the fractional part of π.
+const C1: u64 = 0x243f_6a88_85a3_08d3;
+
+const C2: u64 = 0x1319_8a2e_0370_7344;
+
+const C3: u64 = 0xa409_3822_299f_31d0;
+
+const C4: u64 = 0x082e_fa98_ec4e_6c89;
+
+const C5: u64 = 0x4528_21e6_38d0_1377;
+
+const C6: u64 = 0xbe54_66cf_34e9_0c6c;
+
+const C7: u64 = 0xc0ac_29b7_c97c_50dd;
+
+const C8: u64 = 0x3f84_d5b5_b547_0917;
+
+/// A pair (a, e) as the code stores it: a xor e, and e. After a `mix`, a xor e is the low half of
+/// the product. The word a itself is computed only for a factor, and as the hash.
+#[derive(Clone, Copy, Debug)]
+#[repr(C)]
+pub(crate) struct Pair(u64, u64);
+
+/// The eight lanes as the code stores them: four pairs in a ring, one for each product of a block.
+///
+/// s5 to s8 are the words e of the pairs. s1 to s4 are the low halves, each xor the word e of the
+/// pair before it. The fourth pair is the one before the first, so it stands there.
+#[derive(Clone, Copy, Debug)]
+#[repr(C)]
+pub(crate) struct Lanes {
+    fourth: Pair,
+    first: Pair,
+    second: Pair,
+    third: Pair,
+}
+
+/// Mixes the product of `x` and `y` into the word `e`, and returns the pair.
+#[inline(always)]
+pub(crate) fn mix(x: u64, y: u64, e: u64) -> Pair {
+    let (low, high) = multiply128(x, y);
+    Pair(low, e.wrapping_add(high))
+}
+
+#[inline(always)]
+pub(crate) fn seed_words(seed: u64) -> (u64, u64) {
+    (C1 ^ (seed & 0x5555_5555_5555_5555), C5 ^ (seed & 0xaaaa_aaaa_aaaa_aaaa))
+}
+
+/// Returns the pair that a hash with the seed begins with.
+#[inline(always)]
+pub(crate) fn seed_pair(seed: u64) -> Pair {
+    let (a, e) = seed_words(seed);
+    mix(a, e, e)
+}
+
+#[inline(always)]
+pub(crate) fn lanes_of(pair: Pair) -> Lanes {
+    let Pair(low, e) = pair;
+    Lanes {
+        fourth: Pair((C4 ^ C7) ^ low, C8 ^ e),
+        first: Pair(C8 ^ low, e),
+        second: Pair(C2 ^ low, C6 ^ e),
+        third: Pair((C3 ^ C6) ^ low, C7 ^ e),
+    }
+}
+
+/// Returns the lanes in their order, s1 first.
+#[inline(always)]
+pub(crate) fn in_order(lanes: &Lanes) -> [u64; 8] {
+    let (Pair(low4, e4), Pair(low1, e1)) = (lanes.fourth, lanes.first);
+    let (Pair(low2, e2), Pair(low3, e3)) = (lanes.second, lanes.third);
+    [e4 ^ low1, e1 ^ low2, e2 ^ low3, e3 ^ low4, e1, e2, e3, e4]
+}
+
+/// Returns the lanes from their words in that order.
+#[inline(always)]
+pub(crate) fn from_order(lanes: &[u64; 8]) -> Lanes {
+    let [s1, s2, s3, s4, s5, s6, s7, s8] = *lanes;
+    Lanes {
+        fourth: Pair(s7 ^ s4, s8),
+        first: Pair(s8 ^ s1, s5),
+        second: Pair(s5 ^ s2, s6),
+        third: Pair(s6 ^ s3, s7),
+    }
+}
+
+/// Returns which words of a block are multiplied with each other: two indices for each product.
+#[inline(always)]
+pub(crate) fn places<const V: u8>() -> [usize; 8] {
+    if V == 4 { [0, 1, 2, 3, 4, 5, 6, 7] } else { [0, 4, 1, 5, 2, 6, 3, 7] }
+}
+
+/// Absorbs a block of eight words, multiplied as the table `places` says.
+#[inline(always)]
+pub(crate) fn block_round(lanes: &mut Lanes, words: &[u64; 8], places: [usize; 8]) {
+    let (Pair(low4, e4), Pair(low1, e1)) = (lanes.fourth, lanes.first);
+    let (Pair(low2, e2), Pair(low3, e3)) = (lanes.second, lanes.third);
+    let [p0, p1, p2, p3, p4, p5, p6, p7] = places;
+    // These factors are made before the first product, so that no word e is needed after its own
+    // sum. Each takes the low half of a product first, which is ready before the sum that follows.
+    // In this order of products a block takes the fewest instructions.
+    let x2 = (words[p2] ^ low2) ^ e1;
+    let x3 = (words[p4] ^ low3) ^ e2;
+    let x1 = (words[p0] ^ low1) ^ e4;
+    let x4 = (words[p6] ^ low4) ^ e3;
+    lanes.second = mix(words[p3] ^ e2, x2, e2);
+    lanes.third = mix(words[p5] ^ e3, x3, e3);
+    lanes.first = mix(words[p1] ^ e1, x1, e1);
+    lanes.fourth = mix(words[p7] ^ e4, x4, e4);
+}
+
+#[inline(always)]
+fn block_words(block: &[u8; 64]) -> [u64; 8] {
+    [
+        word_at(block, 0),
+        word_at(block, 8),
+        word_at(block, 16),
+        word_at(block, 24),
+        word_at(block, 32),
+        word_at(block, 40),
+        word_at(block, 48),
+        word_at(block, 56),
+    ]
+}
+
+// Absorbs the first block, and returns the bytes after it. Absorbing these then gives the same
+// lanes and the same remainder as absorbing all of `bytes` at once.
+#[inline(always)]
+fn absorb_block<'a, const V: u8>(lanes: &mut Lanes, bytes: &'a [u8]) -> &'a [u8] {
+    let Some((block, rest)) = bytes.split_first_chunk::<64>() else { unreachable!() };
+    let words = block_words(block);
+    block_round(lanes, &words, places::<V>());
+    rest
+}
+
+/// Absorbs each whole block of the bytes, and returns the bytes after them, fewer than 64.
+#[inline(always)]
+pub(crate) fn absorb_blocks<'a, const V: u8>(lanes: &mut Lanes, bytes: &'a [u8]) -> &'a [u8] {
+    let mut rest = bytes;
+    if rest.len() / 64 % 2 == 1 {
+        rest = absorb_block::<V>(lanes, rest);
+    }
+    while rest.len() >= 128 {
+        let after = absorb_block::<V>(lanes, rest);
+        rest = absorb_block::<V>(lanes, after);
+    }
+    rest
+}
+
+/// Returns the pair of the lanes: s1 to s4 xored and s5 to s8 xored if a block was absorbed,
+/// otherwise s1 and s5.
+#[inline(always)]
+pub(crate) fn join(lanes: &Lanes, had_block: bool) -> Pair {
+    let (Pair(low4, e4), Pair(low1, e1)) = (lanes.fourth, lanes.first);
+    let (Pair(low2, e2), Pair(low3, e3)) = (lanes.second, lanes.third);
+    if had_block {
+        Pair(low1 ^ low2 ^ low3 ^ low4, e1 ^ e2 ^ e3 ^ e4)
+    } else {
+        Pair(e4 ^ low1 ^ e1, e1)
+    }
+}
+
+#[inline(always)]
+pub(crate) fn pair_round(pair: Pair, w0: u64, w1: u64) -> Pair {
+    let Pair(low, e) = pair;
+    mix((w0 ^ low) ^ e, w1 ^ e, e)
+}
+
+// Returns the hash from the pair of the closing's first mix.
+#[inline(always)]
+fn mix_again(pair: Pair) -> u64 {
+    let Pair(low, e) = pair;
+    let Pair(low, e) = mix(e ^ low, e, e);
+    e ^ low
+}
+
+/// Returns the hash from a pair and the two words that are left, or the one that is left and 0.
+#[inline(always)]
+pub(crate) fn close(pair: Pair, first: u64, second: u64) -> u64 {
+    let Pair(low, e) = pair;
+    mix_again(mix((low ^ first) ^ e, e ^ second, e))
+}

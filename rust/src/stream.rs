@@ -1,0 +1,117 @@
+//! The trait of streams, and runs of calls on one.
+
+pub use saved::LONGEST_TEXT;
+
+mod raw;
+mod saved;
+pub(crate) mod streamed;
+
+/// A stream of either version, for generic code.
+///
+/// The methods have other names than those of `StreamedKomihash`, so that the name alone tells which
+/// of the two a call means.
+///
+/// ```
+/// use komihash_rattle::stream::KomiStream;
+/// use komihash_rattle::{v4, v5};
+/// fn hash_of_pieces<S: KomiStream>(pieces: &[&[u8]]) -> u64 {
+///     let mut stream = S::start(0);
+///     for piece in pieces {
+///         stream.absorb(piece);
+///     }
+///     stream.answer()
+/// }
+/// let four = hash_of_pieces::<v4::StreamedKomihash>(&[b"p", b"ort"]);
+/// assert_eq!(four, v4::komihash(b"port", 0));
+/// let five = hash_of_pieces::<v5::StreamedKomihash>(&[b"p", b"ort"]);
+/// assert_eq!(five, v5::komihash(b"port", 0));
+/// ```
+pub trait KomiStream: Sized {
+    /// The version: 4 or 5.
+    const VERSION: u8;
+
+    /// Returns the new stream of a seed.
+    fn start(seed: u64) -> Self;
+
+    /// Absorbs bytes.
+    fn absorb(&mut self, bytes: &[u8]);
+
+    /// Returns the hash of all bytes so far. The stream is unchanged.
+    fn answer(&self) -> u64;
+
+    /// Writes the saved text of the stream to the front of `out`, whose rest is unchanged. Returns
+    /// the text's length in bytes.
+    ///
+    /// `out` needs room for `LONGEST_TEXT` bytes, whatever is pending.
+    ///
+    /// # Panics
+    ///
+    /// If `out` is shorter.
+    #[track_caller]
+    fn store(&self, out: &mut [u8]) -> usize;
+
+    /// Returns the stream that has these bytes as its saved text, or `None` if no stream of this
+    /// version has. Damage that leaves them the text of a stream goes unnoticed.
+    fn restore(bytes: &[u8]) -> Option<Self>;
+}
+
+/// One call on a stream, for `run_on` and `run`.
+#[derive(Clone, Copy, Debug)]
+pub enum Call<'a> {
+    /// Absorbs these bytes.
+    Absorb(&'a [u8]),
+
+    /// Answers the hash of all bytes so far.
+    Answer,
+}
+
+/// Makes calls on a stream, in order, writes the answers to the front of `out`, whose rest is
+/// unchanged, and returns how many there are.
+///
+/// `out` needs room for one `u64` for each call. Afterwards the stream has absorbed all bytes of
+/// the calls. If it began from a seed and had absorbed a message before, each answer is the hash of
+/// that message and the bytes since, joined.
+///
+/// # Panics
+///
+/// If `out` is shorter.
+#[track_caller]
+pub fn run_on<S: KomiStream>(stream: &mut S, calls: &[Call<'_>], out: &mut [u64]) -> usize {
+    assert!(calls.len() <= out.len(), "`out` is too short");
+    let mut count = 0;
+    for call in calls {
+        match *call {
+            Call::Absorb(bytes) => stream.absorb(bytes),
+            Call::Answer => {
+                out[count] = stream.answer();
+                count += 1;
+            }
+        }
+    }
+    count
+}
+
+/// Makes calls on a new stream of a seed, in order, writes the answers to the front of `out`, whose
+/// rest is unchanged, and returns how many there are.
+///
+/// `out` needs room for one `u64` for each call. Each answer is the hash of all bytes that the
+/// calls before it absorb, joined.
+///
+/// # Panics
+///
+/// If `out` is shorter.
+///
+/// ```
+/// use komihash_rattle::stream::{Call, run};
+/// use komihash_rattle::{StreamedKomihash, komihash};
+/// let calls = [Call::Absorb(b"po"), Call::Answer, Call::Absorb(b"rt"), Call::Answer];
+/// let mut answers = [0; 4];
+/// assert_eq!(run::<StreamedKomihash>(7, &calls, &mut answers), 2);
+/// assert_eq!(answers[..2], [komihash(b"po", 7), komihash(b"port", 7)]);
+/// ```
+#[track_caller]
+pub fn run<S: KomiStream>(seed: u64, calls: &[Call<'_>], out: &mut [u64]) -> usize {
+    assert!(calls.len() <= out.len(), "`out` is too short");
+    let mut stream = S::start(seed);
+    run_on(&mut stream, calls, out)
+}

@@ -1,0 +1,128 @@
+//! The stream of both versions.
+
+use super::raw::RawStream;
+use super::{KomiStream, LONGEST_TEXT};
+use crate::version::{IsVersion, Versions};
+
+/// A stream of version V: it takes a message in pieces, and returns the hash of all bytes so far at
+/// any time.
+///
+/// The hash is that of `komihash`, however the bytes are cut. There is no limit to their number.
+/// Pieces of a multiple of 64 bytes are best: as long as all are, none is copied. Otherwise a write
+/// copies into the stream the bytes that continue a partial block, and those that begin a new one:
+/// at most 63 of each.
+///
+/// ```
+/// use komihash_rattle::stream::LONGEST_TEXT;
+/// use komihash_rattle::{StreamedKomihash, komihash};
+/// let mut stream = StreamedKomihash::new_with_seed(7);
+/// stream.write(b"p");
+/// let mut text = [0; LONGEST_TEXT];
+/// let length = stream.save(&mut text);
+/// let mut stream = StreamedKomihash::resume(&text[..length]).unwrap();
+/// stream.write(b"ort");
+/// assert_eq!(stream.finish(), komihash(b"port", 7));
+/// ```
+#[repr(transparent)]
+#[derive(Clone, Debug)]
+pub struct StreamedKomihash<const V: u8>
+where
+    Versions: IsVersion<V>,
+{
+    raw: RawStream,
+}
+
+impl<const V: u8> StreamedKomihash<V>
+where
+    Versions: IsVersion<V>,
+{
+    /// Returns the new stream of seed 0.
+    #[inline]
+    pub fn new() -> Self {
+        StreamedKomihash::new_with_seed(0)
+    }
+
+    /// Returns the new stream of a seed.
+    #[inline]
+    pub fn new_with_seed(seed: u64) -> StreamedKomihash<V> {
+        StreamedKomihash::start(seed)
+    }
+
+    /// Absorbs any number of bytes.
+    #[inline(always)]
+    pub fn write(&mut self, bytes: &[u8]) {
+        self.absorb(bytes);
+    }
+
+    /// Returns the hash of all bytes so far. The stream is unchanged, and may absorb more.
+    #[inline]
+    pub fn finish(&self) -> u64 {
+        self.answer()
+    }
+
+    /// Writes the saved text of the stream to the front of `out`, whose rest is unchanged. Returns
+    /// the text's length in bytes: 68, and one for each pending byte.
+    ///
+    /// `out` needs room for `LONGEST_TEXT` bytes, whatever is pending. `resume` makes the same
+    /// stream from the text, also in another process. The text has the pending bytes as they are.
+    ///
+    /// # Panics
+    ///
+    /// If `out` is shorter.
+    #[inline(always)]
+    #[track_caller]
+    pub fn save(&self, out: &mut [u8]) -> usize {
+        assert!(LONGEST_TEXT <= out.len(), "`out` is too short");
+        self.store(out)
+    }
+
+    /// Returns the stream that has these bytes as its saved text, or `None` if no stream of this
+    /// version has. Damage that leaves them the text of a stream goes unnoticed.
+    #[inline(always)]
+    pub fn resume(bytes: &[u8]) -> Option<Self> {
+        StreamedKomihash::restore(bytes)
+    }
+}
+
+impl<const V: u8> Default for StreamedKomihash<V>
+where
+    Versions: IsVersion<V>,
+{
+    /// Returns the new stream of seed 0.
+    #[inline]
+    fn default() -> Self {
+        StreamedKomihash::new()
+    }
+}
+
+impl<const V: u8> KomiStream for StreamedKomihash<V>
+where
+    Versions: IsVersion<V>,
+{
+    const VERSION: u8 = V;
+
+    #[inline(always)]
+    fn start(seed: u64) -> Self {
+        StreamedKomihash { raw: RawStream::start::<V>(seed) }
+    }
+
+    #[inline(always)]
+    fn absorb(&mut self, bytes: &[u8]) {
+        self.raw.absorb::<V>(bytes);
+    }
+
+    #[inline(always)]
+    fn answer(&self) -> u64 {
+        self.raw.answer::<V>()
+    }
+
+    #[inline(always)]
+    fn store(&self, out: &mut [u8]) -> usize {
+        self.raw.store::<V>(out)
+    }
+
+    #[inline(always)]
+    fn restore(bytes: &[u8]) -> Option<Self> {
+        Some(StreamedKomihash { raw: RawStream::restore::<V>(bytes)? })
+    }
+}
