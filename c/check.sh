@@ -76,10 +76,12 @@ original() {
 }
 by_python() { PYTHONPATH=examples python3 -B -W error calls.py < vectors.tsv; }
 
-# Whether gdb finds its way from each instruction of the library to main.
-unwinds() {
-    for number in 4 5; do
-        $CC -g -D "VERSION=$number" -o "$program" calls.c "$archive" &&
+# Whether gdb finds its way from each instruction of these versions in a library to main.
+unwinds() { # LIBRARY NUMBER..
+    library=$1
+    shift
+    for number; do
+        $CC -g -D "VERSION=$number" -o "$program" calls.c "$library" &&
             rows $number | tail -n 13 > "$scratch/rows" &&
             gdb -q -nx -batch -ex "set args < $scratch/rows > /dev/null" -x unwind.py "$program" ||
             return
@@ -220,7 +222,9 @@ if [ ! "$CROSS" ]; then
     compiler='musl-gcc -static'
     needs musl-gcc 'calls.c with musl' prints "$values" calls "$archive"
     needs python3 'the module for Python' prints "$vectors_of_5" by_python
-    needs gdb 'gdb finds main from each instruction of the library' unwinds
+    needs gdb 'gdb finds main from each instruction of the library' unwinds "$archive" 4 5
+    needs gdb 'gdb finds main where the library has lines of source code' \
+        unwinds "$ASSEMBLY/${machine%%-*}.S" 5
     run_case 'make bench' build bench
 fi
 compiler=$CC
