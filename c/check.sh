@@ -206,7 +206,10 @@ for compiler in "$CC" ${clang:+"$clang"}; do
         { skip 'calls.c and the example in C' "$tool"; continue; }
     run_case "calls.c, by $name" prints "$values" calls "$archive"
     run_case "calls.c, by $name, shared library" prints "$values" calls "$linked"
-    run_case "the names of the C original, by $name" prints "$vectors_of_5" original -std=c99
+    for standard in c89 gnu89 c99; do
+        run_case "the names of the C original in $standard, by $name" \
+            prints "$vectors_of_5" original "-std=$standard"
+    done
     run_case "the example in C, by $name" prints $hash runs "$scratch/example.c" \
         -std=c11 -I "$prefix/include" "$archive"
     needs pkg-config "the example in C, by $name and pkg-config" \
