@@ -54,6 +54,10 @@ marked() {
         test "$(wc -l < "$scratch/marks")" = "$(wc -l < "$scratch/declared")"
 }
 without_libraries() { ! "${CROSS}objdump" -p "$OUT/$dll" | grep 'DLL Name'; }
+same_elsewhere() {
+    build all "OUT=$scratch/here" && build all "OUT=$scratch/elsewhere" || return
+    for file in $shared; do cmp "$scratch/here/$file" "$scratch/elsewhere/$file" || return; done
+}
 
 # Compiles a program by $compiler, and runs it.
 runs() { $compiler "$@" -Wall -Wextra -Wpedantic -Werror -o "$program" && $RUN "$program"; }
@@ -195,6 +199,7 @@ while read -r file; do
     [ "$system" = Windows ] || run_case "$name is marked for IBT and SHSTK, or BTI" marked "$file"
 done < "$scratch/libraries"
 [ "$system" = Linux ] || run_case "$dll needs no other library" without_libraries
+run_case 'shared libraries are the same in whichever folder they are built' same_elsewhere
 
 hash=a53b9c6b9eb8afe9 hash_of_a=5117f5064cfd0faa
 vectors_of_5=$(grep ^5 vectors.tsv)
