@@ -276,6 +276,7 @@ run_case 'a relative PREFIX' fails "not 'here'" build install PREFIX=here
 run_case 'another processor' fails 'none for riscv64' build machine=riscv64-linux-gnu
 run_case '32-bit pointers' fails '64-bit pointers' build CFLAGS=-m32
 run_case 'an OUT with spaces' fails 'no spaces' build OUT='a b'
-run_case 'a missing compiler' fails "no C compiler 'no-compiler'" build CC=no-compiler
+run_case 'a missing compiler' fails "'none -dumpmachine' names no machine" build CC=none
+run_case 'a compiler other than gcc and clang' fails 'CC must be gcc or clang' build CC=true
 run_case 'the library is uninstalled' uninstalled
 counted
