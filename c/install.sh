@@ -35,7 +35,13 @@ each_file() {
 install_file() {
     target=${DESTDIR-}$3
     mkdir -p "${target%/*}"
-    if [ "$1" = link ]; then ln -sf "$2" "$target"; else install -m "$1" "$2" "$target"; fi
+    rm -f "$target" # Programs may be using the old file, so it is not overwritten.
+    if [ "$1" = link ]; then
+        ln -s "$2" "$target"
+    else
+        cp "$2" "$target"
+        chmod "$1" "$target"
+    fi
 }
 
 # Removes a file, and its folder if that is empty and has the name of this library.
