@@ -1,0 +1,56 @@
+#!/usr/bin/env python3
+"""Tests what erase.py makes of sources that were written to mislead it."""
+import sys
+from pathlib import Path
+
+sys.dont_write_bytecode = True
+sys.path.insert(0, str(Path(__file__).resolve().parent.parent))
+from erase import erase  # noqa: E402
+
+TEST = '#[track_caller]\npub fn f(out: &mut [u8]) {\nassert!(8 <= out.len(), "`out` is too short"); }'
+# What is erased in each way of writing it, and Rust that is left.
+LEFT = {
+    'fn f()\n    ensures { x ≡ "}" }\n{ g("{") }': 'fn f() { g("{") }',
+    'fn f() { g("// }"); } // ensures { x }': 'fn f() { g("// }"); } // ensures { x }',
+    "fn f() -> char\n    ensures { c ≡ '{' }\n{ '{' }": "fn f() -> char { '{' }",
+    'pub fn f(out: &mut [u8])\n    requires { 8 ≤ length out.old }\n{ }': TEST,
+    'pub(crate) fn f(out: &mut [u8])\n    requires { 8 ≤ length out.old }\n{ }':
+        'pub(crate) fn f(out: &mut [u8]) { }',
+    'fn f(x: u8, tally: &mut Tally) { g(x, tally); }': 'fn f(x: u8) { g(x); }',
+    'fn f() { g(&mut Tally::new()) }': 'fn f() { g() }',
+    '/// Is ghost.\nghost f = { a { b } c };\nfn f() {}': 'fn f() {}',
+    '// Rust instead: const N: u8 = 2;\nconst N: u8 = 1;\nconst M: u8 = 1;':
+        'const N: u8 = 2;\nconst M: u8 = 1;',
+    '// Rattle alone.\nfn f() {}\nfn g() {}\n\nfn h() {}': 'fn h() {}',
+    'fn f() {} /// x <!-- Rattle -->': 'fn f() {} /// x <!-- Rattle -->',
+}
+REFUSED = [
+    '#[cfg(test)]\nfn f() {}', '#[cfg(unix)]\nmod tests;', '#[derive(Drop, Hash)]\nstruct S;',
+    '#[unsafe(no_mangle)]\nfn f() {}', 'fn f() { unsafe { g() } }', 'fn f() { println!(rt; "") }',
+    'fn f(tally: u64) { g(tally) }', 'fn f() { let tally = 5; g(1, tally) }',
+    'fn f(tally: &mut Tally) { tally.raise(1, 0); g() }', 'fn f() { h(&mut Tally::new(), 1) }',
+    'struct S { tally: Tally }', 'fn f() { r#"{"#; }', 'fn f() { /* { */ }', 'fn f() { g("a\nb") }',
+    'ghost f = { a };fn f() { ghost() }', 'ghost f = { a }', 'ghost f = { a ', 'trait Model {}',
+    'const _: () = prove!(1 == 1);', 'fn f() { x ≡ y }', 'macro_rules! m { () => {} }',
+    'pub fn f(out: &mut [u8])\n    requires { length out.old ≤ 8 }\n{ }',
+    'pub fn f(out: &mut [u8])\n    requires { 8 ≤ length out.old × x }\n{ }',
+    'pub fn f(x: u8)\n    requires { x ≤ 8 }\n{ }',
+    'pub trait T {\n    fn f(out: &mut [u8])\n        requires { 8 ≤ length out.old }\n    { }\n}',
+    'impl T for S {\n    fn f(out: &mut [u8])\n        requires { 8 ≤ length out.old }\n    { }\n}',
+    'fn f()\n    requires { x', 'fn f() { std::mem::swap(a, b) }', 'pub trait T: Drop {}',
+]
+
+
+def words(source):
+    try:
+        return erase(source + '\n').split()
+    except SystemExit as refusal:
+        return f'refused: {refusal}'
+
+
+failed = [source for source, left in LEFT.items() if words(source) != left.split()]
+failed += [source for source in REFUSED if not isinstance(words(source), str)]
+for source in failed:
+    print(f'FAILED: {source!r} gives {words(source)}')
+print(f'{len(LEFT) + len(REFUSED) - len(failed)} passed, {len(failed)} failed')
+sys.exit(bool(failed))
