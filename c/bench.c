@@ -1,14 +1,20 @@
-/* Prints how long calls of version 5 take, and of other hashes. The method is that of
- * compare/README.md in the repository: batches take turns, the fastest counts, and no list of
- * random lengths is met again. All functions are called by pointers, so none is inlined. */
+/* Prints how long calls of version 5 take, and of other hashes: `bench [REPEATS [WORD]]` times the
+ * rows whose name contains WORD. The method is that of compare/README.md in the repository: batches
+ * take turns, the fastest counts, and no list of random lengths is met again. All functions are
+ * called by pointers, so none is inlined. */
 #define _POSIX_C_SOURCE 200809L
 #include "other_hashes.h"
 #include <komihash_rattle.h>
 #include <stdbool.h>
 #include <stdio.h>
+#include <stdlib.h>
+#include <string.h>
 #include <time.h>
 
-enum { SIDES = 4, BATCHES = 100, CALLS = 4096, MEBIBYTE = 1 << 20 };
+enum { SIDES = 4, CALLS = 4096, MEBIBYTE = 1 << 20 };
+
+static int repeats = 100;
+static const char *word = "";
 
 static unsigned char message[MEBIBYTE];
 static size_t lengths[CALLS];
@@ -51,33 +57,46 @@ static double time_of(hash *call, size_t calls) {
 }
 
 /* Prints a row, for calls of a length or of random lengths below it. */
-static void row(const char *name, hash *const volatile sides[], bool random, size_t length) {
-    const size_t calls = length < MEBIBYTE ? CALLS : 4;
+static void row(const char *call, hash *const volatile sides[], bool random, size_t length) {
+    const size_t calls = length <= 256 ? CALLS : 4 + MEBIBYTE / length;
+    const int unit = (length >= 1 << 10) + (length >= MEBIBYTE);
+    char name[80];
     double least[SIDES];
-    for (int batch = 0; batch < BATCHES; batch++)
+    if (random)
+        snprintf(name, sizeof name, "%s of 0 to %zu bytes, random lengths", call, length - 1);
+    else
+        snprintf(name, sizeof name, "%s of %zu %s", call, length >> 10 * unit,
+            (const char *[]){"bytes", "KiB", "MiB"}[unit]);
+    if (!strstr(name, word))
+        return;
+    for (int batch = 0; batch < repeats; batch++)
         for (int i = 0; i < SIDES; i++) {
             for (size_t j = 0; j < calls; j++)
                 lengths[j] = random ? split_mix_64() % length : length;
             const double time = sides[i] ? time_of(sides[i], calls) : 0;
             least[i] = batch == 0 || time < least[i] ? time : least[i];
         }
-    printf("%s%8zu bytes", name, length);
+    printf("%-40s", name);
     for (int i = 0; i < SIDES; i++)
-        printf(sides[i] ? "%11.1f" : "          -", least[i]);
+        printf(sides[i] ? "%11.2f" : "          -", least[i]);
     printf("\n");
 }
 
-int main(void) {
+int main(int count, char *arguments[]) {
+    if (count > 1)
+        repeats = atoi(arguments[1]);
+    if (count > 2)
+        word = arguments[2];
     stream = komihash_v5_start(0);
 #ifdef XXH_INLINE_ALL
     XXH3_64bits_reset(&xxh3_stream);
     XXH64_reset(&xxh64_stream, 0);
 #endif
-    printf("nanoseconds for a call               komihash       XXH3      XXH64     wyhash\n");
-    for (int i = 0; i < 6; i++)
-        row("hash                ", hashes, false, (size_t[]){8, 16, 64, 256, 1024, MEBIBYTE}[i]);
+    printf("nanoseconds for a call                     komihash       XXH3      XXH64     wyhash\n");
     for (size_t limit = 16; limit <= 256; limit *= 4)
-        row("hash, random, below ", hashes, true, limit);
+        row("hash", hashes, true, limit);
+    for (size_t length = 4; length <= MEBIBYTE; length *= 2)
+        row("hash", hashes, false, length);
     for (size_t limit = 16; limit <= 256; limit *= 4)
-        row("write, random, below", writes, true, limit);
+        row("writes", writes, true, limit);
 }

@@ -34,7 +34,7 @@ for folder in ("c", "crates/komihash"):
     checks.append((f"the licence in {folder}", len(set(licences)) == 1))
 header = (ROOT / "c/komihash_rattle.h").read_text("utf-8")
 version = re.search('RATTLE_VERSION (".*")', header)[1]
-for path in ("Cargo.toml", "Cargo.lock", "compare/driver/Cargo.lock"):
+for path in ("Cargo.toml", "Cargo.lock"):
     named = f'\nname = "komihash_rattle"\nversion = {version}\n'
     checks.append((f"the version in {path}", named in (ROOT / path).read_text("utf-8")))
 checks.append(("README and CALLING have blocks", all(map(CODE.search, (readme, calling)))))

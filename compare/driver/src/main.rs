@@ -9,11 +9,11 @@ fn main() {
     let arguments: Vec<&str> = arguments.iter().map(String::as_str).collect();
     let number = |text: &str| text.parse().expect("a number");
     match arguments[..] {
-        ["bench", repeats, word] => rows::run(number(repeats), word),
         ["answers"] => answers(),
         ["values"] => values::print(),
         ["fuzz", seed, count] => fuzz::run(number(seed), number(count)),
-        _ => panic!("usage: bench REPEATS WORD | answers | values | fuzz SEED N"),
+        [repeats, word] => rows::run(number(repeats), word),
+        _ => panic!("usage: REPEATS WORD | answers | values | fuzz SEED N"),
     }
 }
 
