@@ -45,8 +45,9 @@ build() {
         plain | fat)
             [ "$1" = plain ] || export CARGO_PROFILE_RELEASE_LTO=fat
             export CARGO_TARGET_DIR=$here/out/$1 LINK_TO=$here/out/$1
-            touch driver/src/main.rs
-            (cd driver && cargo rustc -q --release "${options[@]}" -- -Clinker="$here/run.sh") ;;
+            touch driver/src/bin/speed.rs
+            (cd driver && cargo rustc -q --release --bin speed "${options[@]}" -- \
+                -Clinker="$here/run.sh") ;;
         *)
             make --silent -C ../c >&2
             archive=../c/out/libkomihash_rattle${1#x86-64}.a
@@ -59,9 +60,8 @@ build() {
 }
 
 if [ "$1" != bench ]; then
-    export LAYOUTS=1
-    (build plain)
-    exec out/plain-1 "$@"
+    export CARGO_TARGET_DIR=$here/out/plain
+    cd driver && exec cargo run -q --release --bin check "${options[@]}" -- "$@"
 fi
 repeats=${2:-201} files=()
 for build in ${BUILDS:-plain fat x86-64 x86-64-v3}; do

@@ -1,6 +1,9 @@
 //! Times the rows of the tables, and prints them as one, with tabs between the columns.
-use crate::random::Random;
+#[path = "../random.rs"]
+mod random;
+
 use komihash_rattle::v5::{StreamedKomihash, pad, unpad};
+use random::Random;
 use std::arch::asm;
 use std::collections::HashMap;
 use std::hash::{BuildHasherDefault, Hash};
@@ -14,18 +17,29 @@ const BATCH: Duration = Duration::from_micros(60);
 /// How many random numbers a list has.
 const MANY: usize = 1 << 20;
 
-/// Returns the time of a number of calls.
-type Column<'a> = Box<dyn FnMut(u32) -> Duration + 'a>;
+/// A call whose state goes on from batch to batch, and begins where a line of the cache does.
+#[repr(align(64))]
+struct Call<F>(F);
 
-/// Makes a column of a call, which goes on from batch to batch.
-fn column<'a, R>(mut call: impl FnMut() -> R + 'a) -> Column<'a> {
-    Box::new(move |count| {
+trait Column {
+    /// Returns the time of a number of calls.
+    fn time(&mut self, count: u32) -> Duration;
+}
+
+impl<R, F: FnMut() -> R> Column for Call<F> {
+    #[inline(never)]
+    fn time(&mut self, count: u32) -> Duration {
         let start = Instant::now();
         for _ in 0..count {
-            black_box(call());
+            black_box((self.0)());
         }
         start.elapsed()
-    })
+    }
+}
+
+/// Makes a column of a call.
+fn column<'a, R>(call: impl FnMut() -> R + 'a) -> Box<dyn Column + 'a> {
+    Box::new(Call(call))
 }
 
 /// Times a row in all columns, by the call of a module.
@@ -110,19 +124,21 @@ fn in_turn(list: &[u32]) -> impl FnMut() -> usize {
 }
 
 struct Rows<'a> {
-    repeats: u64,
+    repeats: usize,
     word: &'a str,
     /// More than 1 MiB, which begins where a block of 64 bytes does.
     bytes: &'a [u8],
 }
 
-/// Times the rows whose name contains a word.
-pub fn run(repeats: u64, word: &str) {
+/// Takes the number of repeats and a word, and times the rows whose name contains it.
+fn main() {
+    let [repeats, word] = [1, 2].map(|at| std::env::args().nth(at).expect("REPEATS WORD"));
+    let repeats = repeats.parse().expect("a number");
     println!("nanoseconds for a call\tkomihash_rattle 5\tkomihash 5\tkomihash_rattle 4\tkomihash 4");
     let mut random = Random(0);
     let room: Vec<u8> = (0..(1 << 20) + (1 << 13)).map(|_| random.word() as u8).collect();
     let bytes = &room[room.as_ptr().align_offset(64)..];
-    let rows = Rows { repeats, word, bytes };
+    let rows = Rows { repeats, word: &word, bytes };
     let below = || [8, 16, 64, 256].map(|limit| Lengths::random(0..limit));
     let long = [256, 1 << 10, 1 << 12, 1 << 16, 1 << 20].map(Lengths::one);
     below().into_iter().chain((1..=128).map(Lengths::one)).chain(long).for_each(|it| rows.hash(&it));
@@ -139,20 +155,23 @@ pub fn run(repeats: u64, word: &str) {
 }
 
 impl Rows<'_> {
-    /// Times batches of a row in all columns in turn, and prints the least times.
-    fn row<'a>(&self, name: &str, columns: impl FnOnce() -> Vec<Column<'a>>) {
+    /// Times batches of a row in all columns in turn, and prints the least times. All columns have
+    /// made as many calls, since the first one that reads a part of a list waits for memory.
+    fn row<'a>(&self, name: &str, columns: impl FnOnce() -> Vec<Box<dyn Column + 'a>>) {
         if !name.contains(self.word) {
             return;
         }
         let mut columns = columns();
+        let mut least_batch = |count| columns.iter_mut().map(|it| it.time(count)).min();
         let mut count = 1;
-        while (0..3).any(|_| columns[0](count) < BATCH / 2) {
+        while (0..3).any(|_| least_batch(count) < Some(BATCH / 2)) {
             count *= 2;
         }
         let mut least = vec![Duration::MAX; columns.len()];
-        for _ in 0..self.repeats {
-            for (time, least) in columns.iter_mut().zip(&mut least) {
-                *least = time(count).min(*least);
+        for repeat in 0..self.repeats {
+            for turn in repeat..repeat + columns.len() {
+                let at = turn % columns.len();
+                least[at] = columns[at].time(count).min(least[at]);
             }
         }
         print!("{name}");

@@ -1,7 +1,7 @@
 //! The library for C beside the Rust crate: see ../README.md.
 mod fuzz;
+#[path = "../../random.rs"]
 mod random;
-mod rows;
 mod values;
 
 fn main() {
@@ -12,8 +12,7 @@ fn main() {
         ["answers"] => answers(),
         ["values"] => values::print(),
         ["fuzz", seed, count] => fuzz::run(number(seed), number(count)),
-        [repeats, word] => rows::run(number(repeats), word),
-        _ => panic!("usage: REPEATS WORD | answers | values | fuzz SEED N"),
+        _ => panic!("usage: answers | values | fuzz SEED N"),
     }
 }
 
