@@ -134,24 +134,29 @@ struct Rows<'a> {
 fn main() {
     let [repeats, word] = [1, 2].map(|at| std::env::args().nth(at).expect("REPEATS WORD"));
     let repeats = repeats.parse().expect("a number");
-    println!("nanoseconds for a call\tkomihash_rattle 5\tkomihash 5\tkomihash_rattle 4\tkomihash 4");
+    println!(
+        "nanoseconds for a call\tkomihash_rattle 5\tkomihash 5\tkomihash_rattle 4\tkomihash 4"
+    );
     let mut random = Random(0);
     let room: Vec<u8> = (0..(1 << 20) + (1 << 13)).map(|_| random.word() as u8).collect();
     let bytes = &room[room.as_ptr().align_offset(64)..];
     let rows = Rows { repeats, word: &word, bytes };
-    let below = || [8, 16, 64, 256].map(|limit| Lengths::random(0..limit));
-    let long = [256, 1 << 10, 1 << 12, 1 << 16, 1 << 20].map(Lengths::one);
-    below().into_iter().chain((1..=128).map(Lengths::one)).chain(long).for_each(|it| rows.hash(&it));
-    below().into_iter().chain((1..=64).map(Lengths::one)).for_each(|it| rows.one_write(&it));
-    let pieces = [8, 64, 300].map(|greatest| Lengths::random(1..greatest + 1));
-    let equal = [1, 3, 8, 16, 32, 40, 100, 250, 1 << 10].map(Lengths::one);
-    pieces.into_iter().chain(equal).for_each(|it| rows.writes(&it));
-    [0, 16, 40, 63].into_iter().for_each(|pending| rows.finish(pending));
+    let below = [16, 64, 256].map(|limit| Lengths::random(0..limit));
+    below.iter().for_each(|it| rows.hash(it));
+    below.iter().for_each(|it| rows.hash_with_0(it));
+    let long = [256, 1 << 10, 1 << 12, 1 << 16, 1 << 20];
+    (1..=128).chain(long).for_each(|it| rows.hash(&Lengths::one(it)));
+    below.iter().for_each(|it| rows.one_write(it));
+    (1..=64).for_each(|it| rows.one_write(&Lengths::one(it)));
+    [8, 64, 300].iter().for_each(|it| rows.writes(&Lengths::random(1..it + 1)));
+    let pieces = [1, 3, 8, 16, 32, 40, 100, 250, 1 << 10];
+    pieces.iter().for_each(|it| rows.writes(&Lengths::one(*it)));
+    [0, 16, 40, 63].iter().for_each(|it| rows.finish(*it));
     rows.maps();
     rows.output();
-    below().into_iter().chain([Lengths::one(1 << 12)]).for_each(|it| rows.fill(&it));
+    below.iter().for_each(|it| rows.fill(it));
     rows.saved();
-    [64, 1 << 10, 1 << 20].map(Lengths::one).iter().for_each(|it| rows.padded(it));
+    [64, 1 << 10, 1 << 20].iter().for_each(|it| rows.padded(&Lengths::one(*it)));
 }
 
 impl Rows<'_> {
@@ -185,6 +190,14 @@ impl Rows<'_> {
         row!(self, format!("hash of {}", lengths.name), side => {
             let mut message = lengths.messages(self.bytes, 1);
             move || side::komihash(message(), hide(0))
+        });
+    }
+
+    /// Times hashes with a seed that the compiler knows, as in most programs.
+    fn hash_with_0(&self, lengths: &Lengths) {
+        row!(self, format!("hash with seed 0 of {}", lengths.name), side => {
+            let mut message = lengths.messages(self.bytes, 1);
+            move || side::komihash(message(), 0)
         });
     }
 

@@ -1,8 +1,11 @@
-//! The library for C beside the Rust crate: see ../README.md.
+//! Compares the crate with the original, or prints what the original computes: see ../run.sh.
+mod calls;
 mod fuzz;
 #[path = "../../random.rs"]
 mod random;
-mod values;
+
+use calls::{Calls, calls};
+use std::io;
 
 fn main() {
     let arguments: Vec<String> = std::env::args().skip(1).collect();
@@ -10,13 +13,13 @@ fn main() {
     let number = |text: &str| text.parse().expect("a number");
     match arguments[..] {
         ["answers"] => answers(),
-        ["values"] => values::print(),
+        ["values"] => values([calls!(komihash::v4), calls!(komihash::v5)]),
         ["fuzz", seed, count] => fuzz::run(number(seed), number(count)),
         _ => panic!("usage: answers | values | fuzz SEED N"),
     }
 }
 
-/// Prints the sums of `crates/komihash/src/tests/hash.rt` in versions 4 and 5, by the Rust crate.
+/// Prints the sums of `crates/komihash/src/tests/hash.rt` in versions 4 and 5, by the original.
 fn answers() {
     let message = fuzz::pattern(300);
     for seed in [0, u64::MAX, 0x1d5c_8e2b_60f3_97a4] {
@@ -25,5 +28,23 @@ fn answers() {
             hashes.fold(0u64, |sum, hash| sum.rotate_left(1) ^ hash)
         });
         println!("{seed:#x}: {:#018x}, {:#018x}", sums[0], sums[1]);
+    }
+}
+
+/// Prints the rows of c/vectors.tsv or c/values.tsv, which are read from standard input, each with
+/// the value that the original gives. Comments and rows of calls that it lacks stay as they are.
+fn values([v4, v5]: [Calls; 2]) {
+    for row in io::stdin().lines() {
+        let row = row.expect("a row");
+        let of = |version| if version == "4" { v4 } else { v5 };
+        let value = match row.split('\t').collect::<Vec<_>>()[..] {
+            [version @ ("4" | "5"), seed, message, _] => of(version)("komihash", &[seed, message]),
+            [call, version, ref given @ .., _] => of(version)(call, given),
+            _ => None,
+        };
+        match (value, row.rsplit_once('\t')) {
+            (Some(value), Some((given, _))) => println!("{given}\t{value}"),
+            _ => println!("{row}"),
+        }
     }
 }
