@@ -3,35 +3,56 @@
  * take turns, the fastest counts, and no list of random lengths is met again. All functions are
  * called by pointers, so none is inlined. */
 #define _POSIX_C_SOURCE 200809L
-#include "other_hashes.h"
 #include <komihash_rattle.h>
 #include <stdbool.h>
+#include <stdint.h>
 #include <stdio.h>
 #include <stdlib.h>
 #include <string.h>
 #include <time.h>
 
-enum { SIDES = 4, CALLS = 4096, MEBIBYTE = 1 << 20 };
+/* Hashes, and writes to streams in the form of hashes. Those of other libraries are null where
+ * their headers are not installed. */
+typedef uint64_t hash(const void *bytes, size_t length, uint64_t seed);
 
-static int repeats = 100;
-static const char *word = "";
+#define HASH(name, call) \
+    static uint64_t name(const void *bytes, size_t length, uint64_t seed) { return call; }
 
-static unsigned char message[MEBIBYTE];
-static size_t lengths[CALLS];
-static volatile uint64_t kept;
-
-/* Writes to streams, in the form of hashes. */
 static komihash_v5_stream stream;
 HASH(komihash_write, (komihash_v5_write(&stream, bytes, length), seed))
-#ifdef XXH_INLINE_ALL
+
+#if __has_include(<xxhash.h>)
+#define XXH_INLINE_ALL
+#include <xxhash.h>
+HASH(xxh3, XXH3_64bits_withSeed(bytes, length, seed))
+HASH(xxh64, XXH64(bytes, length, seed))
 static XXH3_state_t xxh3_stream;
 static XXH64_state_t xxh64_stream;
 HASH(xxh3_write, (XXH3_64bits_update(&xxh3_stream, bytes, length), seed))
 HASH(xxh64_write, (XXH64_update(&xxh64_stream, bytes, length), seed))
 #else
+#define xxh3 NULL
+#define xxh64 NULL
 #define xxh3_write NULL
 #define xxh64_write NULL
 #endif
+
+#if __has_include(<wyhash/wyhash.h>)
+#include <wyhash/wyhash.h>
+HASH(wy, wyhash(bytes, length, seed, _wyp))
+#else
+#define wy NULL
+#endif
+
+enum { SIDES = 4, CALLS = 4096, MEBIBYTE = 1 << 20 };
+
+static int repeats = 100;
+static const char *word = "";
+static const size_t singles[] = {4, 8, 16, 32, 64, 128, 256, 1 << 10, 1 << 12, 1 << 16, MEBIBYTE};
+
+static unsigned char message[MEBIBYTE];
+static size_t lengths[CALLS];
+static volatile uint64_t kept;
 
 static hash *const volatile hashes[SIDES] = {komihash_v5, xxh3, xxh64, wy};
 static hash *const volatile writes[SIDES] = {komihash_write, xxh3_write, xxh64_write, NULL};
@@ -92,11 +113,11 @@ int main(int count, char *arguments[]) {
     XXH3_64bits_reset(&xxh3_stream);
     XXH64_reset(&xxh64_stream, 0);
 #endif
-    printf("nanoseconds for a call                     komihash       XXH3      XXH64     wyhash\n");
+    printf("%-40s   komihash       XXH3      XXH64     wyhash\n", "nanoseconds for a call");
     for (size_t limit = 16; limit <= 256; limit *= 4)
         row("hash", hashes, true, limit);
-    for (size_t length = 4; length <= MEBIBYTE; length *= 2)
-        row("hash", hashes, false, length);
+    for (int i = 0; i < 11; i++)
+        row("hash", hashes, false, singles[i]);
     for (size_t limit = 16; limit <= 256; limit *= 4)
         row("writes", writes, true, limit);
 }

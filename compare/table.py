@@ -1,11 +1,11 @@
 #!/usr/bin/env python3
-"""Makes the tables of the times that the drivers printed.
+"""Makes tables of the times that the drivers printed.
 
     table.py CIRCUMSTANCES WORD BUILD-LAYOUT.txt ..
 
 Each file has the times of a build in a layout of the machine code. If WORD is empty, makes the
-picture, and the part between `<!-- speed -->` and `<!-- /speed -->` of each page, anew. Otherwise
-prints tables of what was timed.
+picture, and what stands between `<!-- speed -->` and `<!-- /speed -->` in the pages, anew.
+Otherwise prints the tables.
 """
 
 import collections
@@ -17,8 +17,8 @@ import sys
 
 HERE = pathlib.Path(__file__).resolve().parent
 
-# Each column of a table has a head, and names a build and a hash whose time is shown, or by whose
-# time that of another is divided.
+# A column has a head, and the build and name of a hash whose time it shows, or by whose time it
+# divides that of another one.
 RUST = {
     "komihash_rattle": ("plain komihash_rattle 5",),
     "plain": ("plain komihash_rattle 5", "plain komihash 5"),
@@ -27,12 +27,15 @@ RUST = {
     "version 4, fat LTO": ("fat komihash_rattle 4", "fat komihash 4"),
 }
 C = {
-    f"{hash}, {build}": tuple(f"{build} {it}" for it in dict.fromkeys(("komihash", hash)))
+    f"{name}, {build}": tuple(f"{build} {it}" for it in dict.fromkeys(("komihash", name)))
     for build in ("x86-64", "x86-64-v3")
-    for hash in ("komihash", "XXH3", "wyhash")
+    for name in ("komihash", "XXH3", "wyhash")
 }
 
-# The calls that are timed at each length up to a greatest one, with a row for each.
+# The lines of the picture, in its order.
+LINES = [*RUST["plain"], "x86-64 XXH3", "x86-64 wyhash", "x86-64-v3 XXH3"]
+
+# Rows that stand for many, which have a length each.
 EACH = {
     f"{call} of each length of 1 to {count} bytes": [
         f"{call} of {length} byte{'s' * (length > 1)}" for length in range(1, count + 1)
@@ -41,29 +44,17 @@ EACH = {
 }
 
 # The rows of the short tables.
+HASHES = [f"hash of 0 to {greatest} bytes, random lengths" for greatest in (15, 63, 255)]
+SHORT_C = [*HASHES, "hash of 16 bytes", "hash of 1 KiB", "hash of 1 MiB"]
 SHORT_RUST = [
-    "hash of 0 to 15 bytes, random lengths",
-    "hash of 0 to 63 bytes, random lengths",
-    "hash of 0 to 255 bytes, random lengths",
+    *HASHES,
     "hash of each length of 1 to 128 bytes",
     "hash of 1 MiB",
     "new, write and finish of 0 to 63 bytes, random lengths",
     "new, write and finish of each length of 1 to 64 bytes",
-    "writes of 1 to 8 bytes, random lengths",
-    "writes of 1 to 64 bytes, random lengths",
-    "writes of 1 to 300 bytes, random lengths",
-    "lookup in a map by u64",
-    "lookup in a map by u32",
-    "lookup in a map by text of 8 to 40 bytes",
+    *(f"writes of 1 to {greatest} bytes, random lengths" for greatest in (8, 64, 300)),
+    *(f"lookup in a map by {key}" for key in ("u64", "u32", "text of 8 to 40 bytes")),
     "output of the generator",
-]
-SHORT_C = [
-    "hash of 0 to 15 bytes, random lengths",
-    "hash of 0 to 63 bytes, random lengths",
-    "hash of 0 to 255 bytes, random lengths",
-    "hash of 16 bytes",
-    "hash of 1 KiB",
-    "hash of 1 MiB",
 ]
 
 
@@ -94,7 +85,7 @@ def speed(row, times):
 
 
 def ratios(times, row, ours, other):
-    """Returns the ratio in each layout, or of a call at each length, the median over the layouts."""
+    """Returns the ratio in each layout, or the median over the layouts at each length."""
     if row in EACH:
         return [statistics.median(ratios(times, one, ours, other)) for one in EACH[row]]
     return [above / below for above, below in zip(times[row][other], times[row][ours])]
@@ -109,74 +100,69 @@ def cell(times, row, keys):
     """Writes a time, or the median, the least and the greatest ratio, if these were timed."""
     if any(key not in times[one] for one in EACH.get(row, [row]) for key in keys):
         return ""
-    if len(keys) > 1:
-        these = ratios(times, row, *keys)
-        return f"{bold(statistics.median(these))} ({min(these):.2f} to {max(these):.2f})"
-    return "" if row in EACH else speed(row, times[row][keys[0]])
+    if len(keys) == 1:
+        return "" if row in EACH else speed(row, times[row][keys[0]])
+    these = ratios(times, row, *keys)
+    return f"{bold(statistics.median(these))} ({min(these):.2f} to {max(these):.2f})"
 
 
-def markdown(heads, *lines):
+def markdown(heads, lines):
     lines = [heads, ["---", *["---:"] * (len(heads) - 1)], *lines]
     return "\n".join(f"| {' | '.join(line)} |" for line in lines)
 
 
 def table(times, columns, rows):
-    """Returns a table of the rows that were timed, without columns that are empty."""
+    """Returns a table of the rows that were timed."""
     lines = [[row, *(cell(times, row, keys) for keys in columns.values())] for row in rows]
-    lines = [["Call", *columns], *(line for line in lines if any(line[1:]))]
-    timed = [column for column in zip(*lines) if any(column[1:])]
-    return markdown(*zip(*timed)) if timed else ""
+    return markdown(["Call", *columns], [line for line in lines if any(line[1:])])
 
 
 def grids(times):
-    """Returns tables with the ratio at each single length."""
-    for call, rows in EACH.items():
+    """Returns tables with the ratio at each length."""
+    for row in EACH:
         for head in ("plain", "fat LTO"):
-            these = [bold(statistics.median(ratios(times, row, *RUST[head]))) for row in rows]
-            lines = [[f"+ {at}", *these[at : at + 16]] for at in range(0, len(these), 16)]
-            yield f"{call}, {head}:"
-            yield markdown(["bytes", *map(str, range(1, 17))], *lines)
+            each = [bold(ratio) for ratio in ratios(times, row, *RUST[head])]
+            lines = [[f"+ {at}", *each[at : at + 16]] for at in range(0, len(each), 16)]
+            yield f"### {row.capitalize()}, {head}\n\n" + markdown(["bytes", *map(str, range(1, 17))], lines)
 
 
 def points(times, key):
     """Returns the points of a line in the picture, whose scales are logarithmic."""
-    for row, by_key in times.items():
-        if key in by_key and re.fullmatch(r"hash of \d+ (bytes|KiB|MiB)", row):
-            x, y = math.log2(bytes_in(row)), math.log2(bytes_in(row) / min(by_key[key]))
+    for row in times:
+        if key in times[row] and re.fullmatch(r"hash of \d+ (bytes|KiB|MiB)", row):
+            x, y = math.log2(bytes_in(row)), math.log2(bytes_in(row) / min(times[row][key]))
             if x >= 2 and x == int(x):
                 yield f"{36 * x:.0f},{310 - 45 * y:.0f}"
 
 
-def rewrite(name, pattern, make):
-    """Replaces each match in a file by what a function makes of it."""
-    path = HERE / name
-    path.write_text(re.sub(pattern, make, path.read_text("utf-8"), flags=re.DOTALL), "utf-8")
-
-
-def rewrite_pages(times, rows, measured):
-    in_rust, in_c = table(times, RUST, SHORT_RUST), table(times, C, SHORT_C)
-    every = [table(times, columns, rows) for columns in (RUST, C)]
-    pages = {
-        "speed.md": ["## In Rust", every[0], *grids(times), "## In C", every[1]],
-        "../README.md": [in_rust, in_c],
-        "../rust/README.md": [in_rust],
-    }
-    for page, parts in pages.items():
-        part = "\n\n".join(["<!-- speed -->", *parts, measured, "<!-- /speed -->"])
-        rewrite(page, "<!-- speed -->.*<!-- /speed -->", lambda _: part)
-    line = r'points="[^"]*"([^>]*>\n<text[^>]*>)(.*?)<'
-    rewrite("speed.svg", line, lambda it: f'points="{" ".join(points(times, it[2]))}"{it[1]}{it[2]}<')
+def rewrite(name, pattern, parts):
+    """Replaces each match in a file by the next part."""
+    path, parts = HERE / name, iter(parts)
+    text = re.sub(pattern, lambda _: next(parts), path.read_text("utf-8"), flags=re.DOTALL)
+    path.write_text(text, "utf-8")
 
 
 def main(circumstances, word, *files):
     times, measured = read(files), f"Measured on {circumstances}."
+    if word:
+        rows = [*times, *EACH]
+        print(table(times, RUST, rows), table(times, C, rows), measured, sep="\n\n")
+        return
     singles = {one: row for row, ones in EACH.items() for one in ones}
     rows = list(dict.fromkeys(singles.get(row, row) for row in times))
-    if word:
-        every = [*times, *EACH]
-        print(*(table(times, columns, every) for columns in (RUST, C)), measured, sep="\n\n")
-    else:
-        rewrite_pages(times, rows, measured)
+    short = table(times, RUST, SHORT_RUST)
+    pages = {
+        "speed.md": [
+            *("## Beside the original in Rust", table(times, RUST, rows), *grids(times)),
+            *("## Beside other hashes in C", table(times, C, [*times])),
+        ],
+        "../README.md": [short, table(times, C, SHORT_C)],
+        "../rust/README.md": [short],
+    }
+    for page, tables in pages.items():
+        part = "\n\n".join(["<!-- speed -->", *tables, measured, "<!-- /speed -->"])
+        rewrite(page, "<!-- speed -->.*<!-- /speed -->", [part])
+    rewrite("speed.svg", 'points="[^"]*"', [f'points="{" ".join(points(times, it))}"' for it in LINES])
 
 
 main(*sys.argv[1:])
