@@ -123,7 +123,8 @@ def grids(times):
         for head in ("plain", "fat LTO"):
             each = [bold(ratio) for ratio in ratios(times, row, *RUST[head])]
             lines = [[f"+ {at}", *each[at : at + 16]] for at in range(0, len(each), 16)]
-            yield f"### {row.capitalize()}, {head}\n\n" + markdown(["bytes", *map(str, range(1, 17))], lines)
+            yield f"### {row.capitalize()}, {head}"
+            yield markdown(["bytes", *map(str, range(1, 17))], lines)
 
 
 def points(times, key):
@@ -162,7 +163,8 @@ def main(circumstances, word, *files):
     for page, tables in pages.items():
         part = "\n\n".join(["<!-- speed -->", *tables, measured, "<!-- /speed -->"])
         rewrite(page, "<!-- speed -->.*<!-- /speed -->", [part])
-    rewrite("speed.svg", 'points="[^"]*"', [f'points="{" ".join(points(times, it))}"' for it in LINES])
+    lines = [f'points="{" ".join(points(times, key))}"' for key in LINES]
+    rewrite("speed.svg", 'points="[^"]*"', lines)
 
 
 main(*sys.argv[1:])

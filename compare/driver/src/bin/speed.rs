@@ -17,29 +17,23 @@ const BATCH: Duration = Duration::from_micros(60);
 /// How many random numbers a list has.
 const MANY: usize = 1 << 20;
 
-/// A call whose state goes on from batch to batch, and begins where a line of the cache does.
+/// Returns the time of a number of calls.
+type Column<'a> = Box<dyn FnMut(u32) -> Duration + 'a>;
+
+/// Lets the state of a call begin where a line of the cache does.
 #[repr(align(64))]
-struct Call<F>(F);
+struct Aligned<F>(F);
 
-trait Column {
-    /// Returns the time of a number of calls.
-    fn time(&mut self, count: u32) -> Duration;
-}
-
-impl<R, F: FnMut() -> R> Column for Call<F> {
-    #[inline(never)]
-    fn time(&mut self, count: u32) -> Duration {
-        let start = Instant::now();
+/// Makes a column of a call, whose state goes on from batch to batch.
+fn column<'a, R>(call: impl FnMut() -> R + 'a) -> Column<'a> {
+    let mut aligned = Aligned(call);
+    Box::new(move |count| {
+        let (Aligned(call), start) = (&mut aligned, Instant::now());
         for _ in 0..count {
-            black_box((self.0)());
+            black_box(call());
         }
         start.elapsed()
-    }
-}
-
-/// Makes a column of a call.
-fn column<'a, R>(call: impl FnMut() -> R + 'a) -> Box<dyn Column + 'a> {
-    Box::new(Call(call))
+    })
 }
 
 /// Times a row in all columns, by the call of a module.
@@ -134,40 +128,28 @@ struct Rows<'a> {
 fn main() {
     let [repeats, word] = [1, 2].map(|at| std::env::args().nth(at).expect("REPEATS WORD"));
     let repeats = repeats.parse().expect("a number");
-    println!(
-        "nanoseconds for a call\tkomihash_rattle 5\tkomihash 5\tkomihash_rattle 4\tkomihash 4"
-    );
+    println!("nanoseconds\tkomihash_rattle 5\tkomihash 5\tkomihash_rattle 4\tkomihash 4");
     let mut random = Random(0);
     let room: Vec<u8> = (0..(1 << 20) + (1 << 13)).map(|_| random.word() as u8).collect();
     let bytes = &room[room.as_ptr().align_offset(64)..];
     let rows = Rows { repeats, word: &word, bytes };
     let below = [16, 64, 256].map(|limit| Lengths::random(0..limit));
-    below.iter().for_each(|it| rows.hash(it));
-    below.iter().for_each(|it| rows.hash_with_0(it));
-    let long = [256, 1 << 10, 1 << 12, 1 << 16, 1 << 20];
-    (1..=128).chain(long).for_each(|it| rows.hash(&Lengths::one(it)));
-    below.iter().for_each(|it| rows.one_write(it));
-    (1..=64).for_each(|it| rows.one_write(&Lengths::one(it)));
-    [8, 64, 300].iter().for_each(|it| rows.writes(&Lengths::random(1..it + 1)));
-    let pieces = [1, 3, 8, 16, 32, 40, 100, 250, 1 << 10];
-    pieces.iter().for_each(|it| rows.writes(&Lengths::one(*it)));
-    [0, 16, 40, 63].iter().for_each(|it| rows.finish(*it));
+    rows.hashes(&below);
+    rows.streams(&below);
     rows.maps();
-    rows.output();
-    below.iter().for_each(|it| rows.fill(it));
-    rows.saved();
-    [64, 1 << 10, 1 << 20].iter().for_each(|it| rows.padded(&Lengths::one(*it)));
+    rows.generators(&below);
+    rows.without_original();
 }
 
 impl Rows<'_> {
     /// Times batches of a row in all columns in turn, and prints the least times. All columns have
     /// made as many calls, since the first one that reads a part of a list waits for memory.
-    fn row<'a>(&self, name: &str, columns: impl FnOnce() -> Vec<Box<dyn Column + 'a>>) {
+    fn row<'a>(&self, name: &str, columns: impl FnOnce() -> Vec<Column<'a>>) {
         if !name.contains(self.word) {
             return;
         }
         let mut columns = columns();
-        let mut least_batch = |count| columns.iter_mut().map(|it| it.time(count)).min();
+        let mut least_batch = |count| columns.iter_mut().map(|it| it(count)).min();
         let mut count = 1;
         while (0..3).any(|_| least_batch(count) < Some(BATCH / 2)) {
             count *= 2;
@@ -176,7 +158,7 @@ impl Rows<'_> {
         for repeat in 0..self.repeats {
             for turn in repeat..repeat + columns.len() {
                 let at = turn % columns.len();
-                least[at] = columns[at].time(count).min(least[at]);
+                least[at] = columns[at](count).min(least[at]);
             }
         }
         print!("{name}");
@@ -186,46 +168,51 @@ impl Rows<'_> {
         println!();
     }
 
-    fn hash(&self, lengths: &Lengths) {
-        row!(self, format!("hash of {}", lengths.name), side => {
-            let mut message = lengths.messages(self.bytes, 1);
-            move || side::komihash(message(), hide(0))
-        });
+    fn hashes(&self, below: &[Lengths]) {
+        let long = [256, 1 << 10, 1 << 12, 1 << 16, 1 << 20];
+        let single: Vec<_> = (1..=128).chain(long).map(Lengths::one).collect();
+        for lengths in below.iter().chain(&single) {
+            row!(self, format!("hash of {}", lengths.name), side => {
+                let mut message = lengths.messages(self.bytes, 1);
+                move || side::komihash(message(), hide(0))
+            });
+        }
+        for lengths in below {
+            row!(self, format!("hash with seed 0 of {}", lengths.name), side => {
+                let mut message = lengths.messages(self.bytes, 1);
+                move || side::komihash(message(), 0)
+            });
+        }
     }
 
-    /// Times hashes with a seed that the compiler knows, as in most programs.
-    fn hash_with_0(&self, lengths: &Lengths) {
-        row!(self, format!("hash with seed 0 of {}", lengths.name), side => {
-            let mut message = lengths.messages(self.bytes, 1);
-            move || side::komihash(message(), 0)
-        });
-    }
-
-    fn one_write(&self, lengths: &Lengths) {
-        row!(self, format!("new, write and finish of {}", lengths.name), side => {
-            let mut message = lengths.messages(self.bytes, 1);
-            move || {
+    fn streams(&self, below: &[Lengths]) {
+        let single: Vec<_> = (1..=64).map(Lengths::one).collect();
+        for lengths in below.iter().chain(&single) {
+            row!(self, format!("new, write and finish of {}", lengths.name), side => {
+                let mut message = lengths.messages(self.bytes, 1);
+                move || {
+                    let mut stream = side::StreamedKomihash::new();
+                    stream.write(message());
+                    stream.finish()
+                }
+            });
+        }
+        let random = [8, 64, 300].map(|greatest| Lengths::random(1..greatest + 1));
+        let single = [1, 3, 8, 16, 32, 40, 100, 250, 1 << 10].map(Lengths::one);
+        for lengths in random.iter().chain(&single) {
+            row!(self, format!("writes of {}", lengths.name), side => {
+                let mut message = lengths.messages(self.bytes, 1 << 12);
                 let mut stream = side::StreamedKomihash::new();
-                stream.write(message());
-                stream.finish()
-            }
-        });
-    }
-
-    fn writes(&self, lengths: &Lengths) {
-        row!(self, format!("writes of {}", lengths.name), side => {
-            let mut message = lengths.messages(self.bytes, 1 << 12);
-            let mut stream = side::StreamedKomihash::new();
-            move || stream.write(message())
-        });
-    }
-
-    fn finish(&self, pending: usize) {
-        row!(self, format!("finish with {pending} bytes pending"), side => {
-            let mut stream = side::StreamedKomihash::new();
-            stream.write(&self.bytes[..64 + pending]);
-            move || hide(&stream).finish()
-        });
+                move || stream.write(message())
+            });
+        }
+        for pending in [0, 16, 40, 63] {
+            row!(self, format!("finish with {pending} bytes pending"), side => {
+                let mut stream = side::StreamedKomihash::new();
+                stream.write(&self.bytes[..64 + pending]);
+                move || hide(&stream).finish()
+            });
+        }
     }
 
     fn maps(&self) {
@@ -233,7 +220,7 @@ impl Rows<'_> {
         let mut draw = || random.word();
         self.map("u64", &mut draw);
         self.map("u32", || draw() as u32);
-        self.map("16 bytes", || [draw(), draw()].map(u64::to_le_bytes));
+        self.map("16 bytes", || [0; 16].map(|_: u8| draw() as u8));
         for (least, greatest) in [(4, 12), (8, 40)] {
             let mut text = || {
                 let length = least + draw() % (greatest - least + 1);
@@ -255,23 +242,22 @@ impl Rows<'_> {
         });
     }
 
-    fn output(&self) {
+    fn generators(&self, below: &[Lengths]) {
         row!(self, "output of the generator", side => {
             let mut rand = side::Komirand::init(1);
             move || rand.next()
         });
-    }
-
-    fn fill(&self, lengths: &Lengths) {
-        row!(self, format!("fill of {}", lengths.name), side => {
-            let (mut rand, mut out) = (side::Komirand::init(1), vec![0; 1 << 12]);
-            let mut length = in_turn(&lengths.list);
-            move || rand.fill_bytes(&mut out[..length()])
-        });
+        for lengths in below {
+            row!(self, format!("fill of {}", lengths.name), side => {
+                let (mut rand, mut out) = (side::Komirand::init(1), [0; 256]);
+                let mut length = in_turn(&lengths.list);
+                move || rand.fill_bytes(&mut out[..length()])
+            });
+        }
     }
 
     /// Times the calls that the original lacks, in version 5.
-    fn saved(&self) {
+    fn without_original(&self) {
         self.row("save and resume with 63 bytes pending", || {
             let (mut stream, mut text) = (StreamedKomihash::new(), [0; 131]);
             stream.write(&self.bytes[..127]);
@@ -280,17 +266,14 @@ impl Rows<'_> {
                 StreamedKomihash::resume(&text[..length])
             })]
         });
-    }
-
-    fn padded(&self, lengths: &Lengths) {
-        let length = lengths.list[0] as usize;
-        let (mut words, mut out) = (vec![0; length / 8 + 1], vec![0; length + 8]);
-        self.row(&format!("pad of {}", lengths.name), || {
-            vec![column(|| pad(hide(&self.bytes[..length]), &mut words))]
-        });
-        self.row(&format!("unpad to {}", lengths.name), || {
-            pad(&self.bytes[..length], &mut words);
-            vec![column(|| unpad(hide(&words[..]), &mut out))]
-        });
+        for length in [64, 1 << 10, 1 << 20] {
+            let (bytes, name) = (&self.bytes[..length], Lengths::one(length).name);
+            let (mut words, mut out) = (vec![0; length / 8 + 1], vec![0; length + 8]);
+            self.row(&format!("pad of {name}"), || vec![column(|| pad(hide(bytes), &mut words))]);
+            pad(bytes, &mut words);
+            self.row(&format!("unpad to {name}"), || {
+                vec![column(|| unpad(hide(&words[..]), &mut out))]
+            });
+        }
     }
 }

@@ -1,39 +1,32 @@
-//! Compares calls of the crate with those of the original, which lacks saved texts and padded words.
+//! Compares calls of the crate with those of the original, which lacks saved texts and padding.
 use crate::calls::{Calls, calls, hexadecimal};
 use crate::random::Random;
 
 const SEEDS: [u64; 5] = [0, 1, u64::MAX, 0x5555_5555_5555_5555, 0x0123_4567_89ab_cdef];
 
-/// Bytes at the edges of what the padding depends on.
-const ENDS: [u8; 5] = [0x00, 0x01, 0x7f, 0x80, 0xff];
-
 /// The original and the crate in one version.
 struct Both(&'static str, Calls, Calls);
 
-/// Compares every message of a small set, and random inputs. Panics at the first difference.
+/// Compares random calls, and all lengths of a short message in two pieces.
 pub fn run(seed: u64, count: u64) {
     let v4 = Both("4", calls!(komihash::v4), calls!(komihash_rattle::v4));
     let v5 = Both("5", calls!(komihash::v5), calls!(komihash_rattle::v5));
     for both in [v4, v5] {
         let mut random = Random(seed);
-        both.edges();
         (0..count).for_each(|_| both.random(&mut random));
+        for length in 0..=200 {
+            let message = hexadecimal(&random.bytes(length));
+            let pieces = (0..=length).map(|it| message.split_at(2 * it));
+            pieces.for_each(|(head, end)| both.compare("stream", &["0"], &[head, end]));
+        }
     }
     println!("There is no difference.");
 }
 
-/// Returns a message whose blocks end in bytes below 128 and above.
-pub fn pattern(length: usize) -> Vec<u8> {
-    (0..length).map(|i| (7 * i + 3) as u8).collect()
-}
-
 impl Random {
-    /// Draws a length, mostly next to a multiple of 8, 16, 32 or 64.
     fn length(&mut self) -> usize {
-        let unit = self.one_of(&[8, 16, 32, 64]);
-        let next = (unit * self.below(640 / unit) + self.below(3)).saturating_sub(1);
-        let (short, long) = (self.below(20), self.below(3000));
-        self.one_of(&[short, long, next, next, next, next])
+        let limit = self.one_of(&[20, 70, 140, 3000]);
+        self.below(limit)
     }
 
     fn number(&mut self) -> String {
@@ -42,13 +35,7 @@ impl Random {
     }
 
     fn bytes(&mut self, length: usize) -> Vec<u8> {
-        let are_ends = self.below(4) == 0;
-        let mut byte = |_| if are_ends { self.one_of(&ENDS) } else { self.word() as u8 };
-        let mut bytes: Vec<u8> = (0..length).map(&mut byte).collect();
-        if let Some(last) = bytes.last_mut().filter(|_| self.below(3) == 0) {
-            *last = self.one_of(&ENDS);
-        }
-        bytes
+        (0..length).map(|_| self.word() as u8).collect()
     }
 
     /// Cuts bytes into pieces, of which some may be empty.
@@ -66,6 +53,7 @@ impl Random {
 }
 
 impl Both {
+    /// Compares a call. Panics with its row if the values differ.
     fn compare<T: AsRef<str>>(&self, call: &str, first: &[&str], others: &[T]) {
         let others = others.iter().map(AsRef::as_ref);
         let given: Vec<&str> = first.iter().copied().chain(others).collect();
@@ -74,31 +62,9 @@ impl Both {
         assert!(wanted == got, "{row}\t{wanted}, not {got}");
     }
 
-    /// Compares messages that are cut twice, that have one bit, and that have each last byte.
-    fn edges(&self) {
-        for length in 0..=130 {
-            let message = hexadecimal(&pattern(length));
-            let seed = format!("{:x}", SEEDS[length % 5]);
-            for (second, first) in
-                (0..=length).flat_map(|it| (0..=it).map(move |first| (it, first)))
-            {
-                let (start, end) = message.split_at(2 * second);
-                self.compare("stream", &[&seed], &[&start[..2 * first], &start[2 * first..], end]);
-            }
-            for bit in 0..8 * length {
-                let mut bytes = vec![0; length];
-                bytes[bit / 8] = 1 << (bit % 8);
-                self.compare("komihash", &[&seed], &[hexadecimal(&bytes)]);
-            }
-            for last in 0..=255 {
-                self.compare("komihash", &[&seed], &[format!("{message}{last:02x}")]);
-            }
-        }
-    }
-
     fn random(&self, random: &mut Random) {
         let length = random.length();
-        let (bytes, seed) = (random.bytes(length), random.number());
+        let (bytes, seed, other) = (random.bytes(length), random.number(), random.number());
         let pieces = random.pieces(&bytes);
         self.compare("komihash", &[&seed], &[hexadecimal(&bytes)]);
         self.compare("hash_one", &[], &[hexadecimal(&bytes)]);
@@ -106,7 +72,6 @@ impl Both {
         self.compare("hasher", &[&seed], &pieces);
         self.compare("order", &[], &pieces);
         let lengths: Vec<_> = (0..7).map(|_| random.length().to_string()).collect();
-        let other = random.number();
         self.compare("init", &[&seed], &lengths);
         self.compare("init_with_extra_seed", &[&seed, &other], &lengths);
         self.compare("new", &[&seed, &other], &lengths);

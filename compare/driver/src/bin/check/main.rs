@@ -21,7 +21,7 @@ fn main() {
 
 /// Prints the sums of `crates/komihash/src/tests/hash.rt` in versions 4 and 5, by the original.
 fn answers() {
-    let message = fuzz::pattern(300);
+    let message: Vec<u8> = (0..300).map(|i| (7 * i + 3) as u8).collect();
     for seed in [0, u64::MAX, 0x1d5c_8e2b_60f3_97a4] {
         let sums = [komihash::v4::komihash, komihash::v5::komihash].map(|hash| {
             let hashes = (0..=300).map(|length| hash(&message[..length], seed));
