@@ -154,8 +154,8 @@ def main(circumstances, word, *files):
     short = table(times, RUST, SHORT_RUST)
     pages = {
         "speed.md": [
-            *("## Beside the original in Rust", table(times, RUST, rows), *grids(times)),
-            *("## Beside other hashes in C", table(times, C, [*times])),
+            *("## Beside the Rust crate", table(times, RUST, rows), *grids(times)),
+            *("## Beside other hashes", table(times, C, [*times])),
         ],
         "../README.md": [short, table(times, C, SHORT_C)],
         "../rust/README.md": [short],
