@@ -9,6 +9,7 @@ use std::collections::HashMap;
 use std::hash::{BuildHasherDefault, Hash};
 use std::hint::black_box;
 use std::ops::Range;
+use std::sync::atomic::{AtomicUsize, Ordering::Relaxed};
 use std::time::{Duration, Instant};
 
 /// A batch takes half of this time or more. Three must, since an interrupt may make one seem long.
@@ -108,9 +109,11 @@ fn random(range: Range<usize>) -> Vec<u32> {
     (0..MANY).map(|_| (range.start + random.below(range.len())) as u32).collect()
 }
 
-/// Returns what returns the numbers of a list in turn.
+/// Returns what returns the numbers of a list in turn. Each begins elsewhere: caches and the branch
+/// predictor know what another column has just met.
 fn in_turn(list: &[u32]) -> impl FnMut() -> usize {
-    let mut turn = 0;
+    static START: AtomicUsize = AtomicUsize::new(0);
+    let mut turn = START.fetch_add(MANY / 4, Relaxed);
     move || {
         turn += 1;
         list[turn & (list.len() - 1)] as usize
@@ -142,23 +145,20 @@ fn main() {
 }
 
 impl Rows<'_> {
-    /// Times batches of a row in all columns in turn, and prints the least times. All columns have
-    /// made as many calls, since the first one that reads a part of a list waits for memory.
+    /// Times batches of a row in all columns in turn, and prints the least times.
     fn row<'a>(&self, name: &str, columns: impl FnOnce() -> Vec<Column<'a>>) {
         if !name.contains(self.word) {
             return;
         }
         let mut columns = columns();
-        let mut least_batch = |count| columns.iter_mut().map(|it| it(count)).min();
         let mut count = 1;
-        while (0..3).any(|_| least_batch(count) < Some(BATCH / 2)) {
+        while (0..3).any(|_| columns.iter_mut().any(|time| time(count) < BATCH / 2)) {
             count *= 2;
         }
         let mut least = vec![Duration::MAX; columns.len()];
-        for repeat in 0..self.repeats {
-            for turn in repeat..repeat + columns.len() {
-                let at = turn % columns.len();
-                least[at] = columns[at](count).min(least[at]);
+        for _ in 0..self.repeats {
+            for (time, least) in columns.iter_mut().zip(&mut least) {
+                *least = time(count).min(*least);
             }
         }
         print!("{name}");
