@@ -139,6 +139,7 @@ fn main() {
     let below = [16, 64, 256].map(|limit| Lengths::random(0..limit));
     rows.hashes(&below);
     rows.streams(&below);
+    rows.long_streams();
     rows.maps();
     rows.generators(&below);
     rows.without_original();
@@ -197,6 +198,9 @@ impl Rows<'_> {
                 }
             });
         }
+    }
+
+    fn long_streams(&self) {
         let random = [8, 64, 300].map(|greatest| Lengths::random(1..greatest + 1));
         let single = [1, 3, 8, 16, 32, 40, 100, 250, 1 << 10].map(Lengths::one);
         for lengths in random.iter().chain(&single) {
