@@ -28,10 +28,9 @@ LINES = (r'ghost use [^;]*;', r'#!?\[tactic\(.*\)\]', r'tally\.raise\([^;]*\);',
 TALLY = r'(?:tally(?:: &mut Tally)?|&mut Tally::new\(\))'
 SPELLED = {'#[derive(Drop)]': '#[derive(Clone, Debug)]', 'use std::': 'use core::',
            '#[derive(Clone, Copy)]': '#[derive(Clone, Copy, Debug)]',
-           'pub trait KomiStream: Sized + Drop': 'pub trait KomiStream: Sized',
-           '#[inline(never)]': '#[inline]'}  # so that a caller's knowledge of a length serves too
+           'pub trait KomiStream: Sized + Drop': 'pub trait KomiStream: Sized'}
 ATTRIBUTES = re.compile(r'#!?\[(.*)\]'), re.compile(
-    r'inline|inline\(always\)|repr\((C|transparent)\)|track_caller|no_std|'
+    r'inline|inline\((always|never)\)|repr\((C|transparent)\)|track_caller|no_std|'
     r'derive\(Clone, (Copy, )?Debug\)|forbid\(unsafe_code\)|warn\(missing_docs\)|'
     r'allow\([\w:, ]+\)|doc = include_str!\(‹.\d+›\)')
 MACROS = re.compile(r'(\w+)!(?!=)'), re.compile('assert|unreachable|include_str')

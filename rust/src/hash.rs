@@ -82,7 +82,7 @@ fn hash_of_words<const V: u8>(bytes: &[u8], seed: u64) -> u64 {
     hash_from_pair(pair, &bytes, last_whole_word(bytes), final_word)
 }
 
-#[inline]
+#[inline(never)]
 fn hash_of_blocks<const V: u8>(bytes: &[u8], seed: u64) -> u64 {
     let pair = seed_pair(seed);
     let final_word = final_word_by_branch(bytes, padding_byte::<V>(bytes));

@@ -53,7 +53,7 @@ impl RawStream {
 
     // Absorbs bytes that complete a block or more. Copies those that complete the partial block, if
     // there is one, and those after the last block.
-    #[inline]
+    #[inline(never)]
     fn complete_blocks<const V: u8>(&mut self, bytes: &[u8]) {
         let pending_len = self.pending.len();
         let blocks_end = bytes.len() - (pending_len + bytes.len()) % 64;
