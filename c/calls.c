@@ -62,11 +62,19 @@ static void pad_and_unpad(const uint8_t *bytes, size_t length) {
     CHECK(memcmp(copy, bytes, length) == 0);
 }
 
+/* Stores the next output, lowest byte first. */
+static void step(Rand *rand, uint8_t *out) {
+    uint64_t output = KOMIHASH(_rand_next)(rand);
+    for (int i = 0; i < 8; i++, output >>= 8)
+        out[i] = (uint8_t)output;
+}
+
 /* Compares what a fill writes with the outputs of a copy. */
 static void fill_and_step(void) {
     Rand rand = KOMIHASH(_rand_init)(1), copy = rand;
-    uint64_t outputs[2] = {KOMIHASH(_rand_next)(&copy)};
-    outputs[1] = KOMIHASH(_rand_next)(&copy);
+    uint8_t outputs[16];
+    step(&copy, outputs);
+    step(&copy, outputs + 8);
     KOMIHASH(_rand_fill)(&rand, NULL, 0);
     KOMIHASH(_rand_fill)(&rand, out_end - 11, 11);
     CHECK(memcmp(out_end - 11, outputs, 11) == 0);
@@ -85,10 +93,11 @@ static void print_fills(const char *row) {
     printf("%.*s", (int)(value - row), row);
     while (at + 1 != value) {
         const size_t length = strtoul(at, &at, 10);
-        const uint64_t output = length == 8 ? KOMIHASH(_rand_next)(&rand) : 0;
-        const uint8_t *bytes = length == 8 ? (const uint8_t *)&output : out_end - length;
-        if (length != 8)
-            KOMIHASH(_rand_fill)(&rand, out_end - length, length);
+        uint8_t *bytes = out_end - length;
+        if (length == 8)
+            step(&rand, bytes);
+        else
+            KOMIHASH(_rand_fill)(&rand, bytes, length);
         for (size_t i = 0; i < length; i++)
             printf("%02x", bytes[i]);
     }
