@@ -13,12 +13,16 @@ program=$scratch/program$exe
 machine=$($CC -dumpmachine)
 clang=clang
 [ ! "$CROSS" ] || clang="clang --target=$machine -Qunused-arguments"
-if [ "$system" = Windows ]; then
+case $system in
+Windows)
     linked="$lib/libkomihash_rattle.dll.a" soname=$dll
     clang="$clang -L$(dirname "$($CC -print-libgcc-file-name)")" # which old versions don't find
-fi
+    ;;
+Darwin) linked="$lib/$dylib" soname=$dylib ;;
+esac
 case $CC in *clang*) clang= ;; esac
 export LD_LIBRARY_PATH="$lib" WINEPATH="Z:$prefix/bin" PKG_CONFIG_PATH="$lib/pkgconfig"
+export DYLD_LIBRARY_PATH="$lib"
 unset MAKEFLAGS PREFIX BINDIR LIBDIR INCLUDEDIR DOCDIR DESTDIR
 
 # Runs make with what this script was given, but not with the paths that its caller may have set.
@@ -40,11 +44,14 @@ fails() {
     ! "$@" > "$scratch/printed" 2>&1 && grep "$text" "$scratch/printed"
 }
 
-# Whether a library has just the functions of the header, and needs nothing else.
+# Whether a library has just the functions of the header, and needs nothing else. For some
+# processors, rustc makes calls of libc, or uses a table that the linker makes.
 complete() {
     case ${1##*/} in *.dll.a) kinds=T ;; *) kinds='[TU]' ;; esac
     case ${1##*/} in *.a) flag= ;; *) flag=-D ;; esac
-    "$NM" -P $flag "$1" | awk -v "kinds=$kinds" '$2 ~ kinds { print $1 }' | sort |
+    case $from$machine in rust[!x]*) other='^(mem(cpy|set)|_GLOBAL_O)[^ ]* U' ;; *) other=^$ ;; esac
+    "$NM" -P $flag "$1" | grep -vE "$other" |
+        awk -v "kinds=$kinds" '$2 ~ kinds { print $1 }' | sort |
         diff "$scratch/declared" -
 }
 # Whether a library is marked for IBT and SHSTK, or for BTI: by a note, and in each function.
@@ -104,7 +111,7 @@ END
 # Builds a folder by CMake with these definitions, and installs what it made.
 cmake_installs() {
     rm -rf "$scratch/cmake" "$scratch/by_cmake"
-    cmake -B "$scratch/cmake" -D "CMAKE_C_COMPILER=$CC" -S "$@" \
+    cmake -B "$scratch/cmake" -D "CMAKE_C_COMPILER=$CC" -S "$@" -D "KOMIHASH_RATTLE_FROM=$FROM" \
         ${CROSS:+-D "CMAKE_SYSTEM_NAME=$system" -D "CMAKE_SYSTEM_PROCESSOR=${machine%%-*}"} \
         -D "CMAKE_INSTALL_PREFIX=$scratch/by_cmake" -D CMAKE_INSTALL_LIBDIR=lib >&2 &&
         cmake --build "$scratch/cmake" >&2 && cmake --install "$scratch/cmake" >&2
@@ -196,9 +203,10 @@ find "$prefix" -type f -name 'lib*' ! -name '*.dll' > "$scratch/libraries"
 while read -r file; do
     name=${file#"$prefix/"}
     run_case "$name has the functions of the header alone" complete "$file"
-    [ "$system" = Windows ] || run_case "$name is marked for IBT and SHSTK, or BTI" marked "$file"
+    [ "$from$system" != assemblyLinux ] ||
+        run_case "$name is marked for IBT and SHSTK, or BTI" marked "$file"
 done < "$scratch/libraries"
-[ "$system" = Linux ] || run_case "$dll needs no other library" without_libraries
+[ "$system" != Windows ] || run_case "$dll needs no other library" without_libraries
 run_case 'shared libraries are the same in whichever folder they are built' same_elsewhere
 
 hash=a53b9c6b9eb8afe9 hash_of_a=5117f5064cfd0faa
@@ -238,8 +246,7 @@ fi
 compiler=$CC
 [ "${machine%%-*}$system" != x86_64Linux ] || needs qemu-x86_64 \
     'calls.c on a processor of 2003' prints "$values" on_oldest_processor
-for target in s390x:big-endian i686:64-bit x86_64-linux-gnux32:64-bit \
-    x86_64-pc-windows-msvc:MinGW-w64; do
+for target in aarch64_be:big-endian x86_64-linux-gnux32:64-bit x86_64-pc-windows-msvc:MinGW-w64; do
     needs clang "the header refuses ${target%:*}" fails "${target#*:}" \
         clang "--target=${target%:*}" -x c -ffreestanding -fsyntax-only komihash_rattle.h
 done
@@ -273,8 +280,12 @@ run_case 'hash_file, a full output' \
 run_case 'the paths of the environment' staged
 run_case 'an empty PREFIX' fails "not ''" build install PREFIX=
 run_case 'a relative PREFIX' fails "not 'here'" build install PREFIX=here
-run_case 'another processor' fails 'none for riscv64' build machine=riscv64-linux-gnu
-run_case '32-bit pointers' fails '64-bit pointers' build CFLAGS=-m32
+for missing in "no-rustc:there is no Rust compiler 'no-rustc'" \
+    "true:'true' has no core library for sun4-unknown-linux-gnu"; do
+    run_case "another processor, and ${missing#*:}" fails "^komihash_.*${missing#*:}" \
+        build machine=sun4-linux "RUSTC=${missing%%:*}" "OUT=$scratch/none"
+done
+[ "$from" != assembly ] || run_case '32-bit pointers' fails '64-bit pointers' build CFLAGS=-m32
 run_case 'an OUT with spaces' fails 'no spaces' build OUT='a b'
 run_case 'a missing compiler' fails "'none -dumpmachine' names no machine" build CC=none
 run_case 'a compiler other than gcc and clang' fails 'CC must be gcc or clang' build CC=true

@@ -29,8 +29,11 @@ each_file() {
     for file in $shared; do
         case $file in *.dll) folder=$bindir ;; *) folder=$libdir ;; esac
         "$1" 755 "$OUT/$file" "$folder/$file"
+        case $file in
+        *.dylib) "$1" link "$file" "$libdir/${file%%.*}.dylib" ;;
+        lib*.so.*) "$1" link "$file" "$libdir/${file%.*}" ;;
+        esac
     done
-    [ "$system" = Windows ] || "$1" link "$soname" "$libdir/${soname%.*}"
 }
 install_file() {
     target=${DESTDIR-}$3

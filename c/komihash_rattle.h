@@ -12,8 +12,8 @@
  *   stream may add up to more.
  * - A pointer may be null only if the length or room after it is 0. `stream` and `rand` are never
  *   null.
- * - A pointer to words, a stream or a generator is aligned to eight bytes. One to bytes needs no
- *   alignment.
+ * - A pointer to words, a stream or a generator is aligned to eight bytes, or on 32-bit x86 to four.
+ *   One to bytes needs no alignment.
  * - What a call writes must not overlap anything else that the call is passed.
  * - If threads share a stream or a generator and one of them changes it, they need a lock. If a
  *   signal handler shares one, the signal must be blocked.
@@ -31,11 +31,14 @@
 #include <stddef.h>
 #include <stdint.h>
 
+/* The assembly for these processors is for one kind of memory alone. */
+#if defined(__x86_64__) || defined(__aarch64__)
 #if defined(__BYTE_ORDER__) && __BYTE_ORDER__ != __ORDER_LITTLE_ENDIAN__
-#error "komihash_rattle has no big-endian build: use komihash.h, the C original, there"
+#error "komihash_rattle has no big-endian build for ARM64: use komihash.h, the C original, there"
 #endif
 #if UINTPTR_MAX != UINT64_MAX
 #error "komihash_rattle needs 64-bit pointers: use -m64 on x86-64, and -mabi=lp64 on ARM64"
+#endif
 #endif
 
 /* The calling convention of all functions. Windows has one of its own, so pointers to them name it

@@ -4,11 +4,12 @@
 'a53b9c6b9eb8afe9'
 """
 import copy
+import sys
 from ctypes import CFUNCTYPE, POINTER, PYFUNCTYPE, PyDLL, Structure, create_string_buffer, pythonapi
 from ctypes import c_bool, c_size_t, c_uint64, c_void_p, py_object
 from threading import RLock
 
-_library = PyDLL("libkomihash_rattle.so.1")
+_library = PyDLL("libkomihash_rattle." + ("1.dylib" if sys.platform == "darwin" else "so.1"))
 # The second kind lets other threads run during a call, which pays from this many bytes on.
 _MANY, _KINDS = 2048, (PYFUNCTYPE, CFUNCTYPE)
 

@@ -1,0 +1,101 @@
+//! The functions of komihash_rattle.h, by the crate for Rust. Each `unsafe` here rests on the first
+//! comment of that header, which says what callers see to.
+#![no_std]
+#![allow(improper_ctypes_definitions)] // Callers see streams and generators as arrays of words.
+use core::mem::{align_of, size_of};
+use core::slice::{from_raw_parts, from_raw_parts_mut};
+
+// No call panics, but tests of lengths may stay in the code.
+#[panic_handler]
+fn panic(_: &core::panic::PanicInfo) -> ! {
+    loop {}
+}
+
+/// Returns what a pointer and the number after it stand for. If the number is 0, the pointer may be
+/// null, which no slice can be.
+unsafe fn array<'a, T>(pointer: *const T, count: usize) -> &'a [T] {
+    if count == 0 {
+        return &[];
+    }
+    from_raw_parts(pointer, count)
+}
+
+/// Returns the same, to be written.
+unsafe fn array_mut<'a, T>(pointer: *mut T, count: usize) -> &'a mut [T] {
+    if count == 0 {
+        return &mut [];
+    }
+    from_raw_parts_mut(pointer, count)
+}
+
+/// Exports functions, each by the end of its name, its arguments and result, and its body.
+macro_rules! functions {
+    ($convention:literal, $name:literal:
+        $($end:literal($($argument:ident: $of:ty),*) -> $result:ty = $body:expr;)*) => {
+        $(const _: () = {
+            #[export_name = concat!($name, $end)]
+            unsafe extern $convention fn function($($argument: $of),*) -> $result {
+                $body
+            }
+        };)*
+    };
+}
+
+macro_rules! export {
+    ($convention:literal: $($name:literal $version:ident)*) => {
+        $(mod $version {
+            use super::*;
+            use komihash_rattle::stream::LONGEST_TEXT;
+            use komihash_rattle::$version::{komihash, pad, unpad, Komirand, StreamedKomihash};
+
+            // The types of the header, which have eighteen words and two.
+            const _: () = assert!(size_of::<StreamedKomihash>() <= 144);
+            const _: () = assert!(align_of::<StreamedKomihash>() <= align_of::<u64>());
+            const _: () = assert!(size_of::<Komirand>() == 16);
+
+            functions! { $convention, $name:
+                ""(bytes: *const u8, length: usize, seed: u64) -> u64
+                    = komihash(array(bytes, length), seed);
+                "_start"(seed: u64) -> StreamedKomihash = StreamedKomihash::new_with_seed(seed);
+                "_write"(stream: &mut StreamedKomihash, bytes: *const u8, length: usize) -> ()
+                    = stream.write(array(bytes, length));
+                "_finish"(stream: &StreamedKomihash) -> u64 = stream.finish();
+                "_save"(stream: &StreamedKomihash, out: *mut u8, room: usize) -> usize
+                    = if room < LONGEST_TEXT { 0 } else { stream.save(array_mut(out, room)) };
+                "_resume"(stream: *mut StreamedKomihash, text: *const u8, length: usize) -> bool
+                    = match StreamedKomihash::resume(array(text, length)) {
+                        Some(resumed) => {
+                            stream.write(resumed);
+                            true
+                        }
+                        None => false,
+                    };
+                "_rand_init"(seed: u64) -> Komirand = Komirand::init(seed);
+                "_rand_init_with_extra_seed"(seed: u64, extra_seed: u64) -> Komirand
+                    = Komirand::init_with_extra_seed(seed, extra_seed);
+                "_rand_init_words"(s1: u64, s2: u64) -> Komirand = Komirand::new(s1, s2);
+                "_rand_next"(rand: &mut Komirand) -> u64 = rand.next();
+                "_rand_fill"(rand: &mut Komirand, out: *mut u8, length: usize) -> ()
+                    = rand.fill_bytes(array_mut(out, length));
+                "_pad"(bytes: *const u8, length: usize, out: *mut u64, room: usize) -> usize
+                    = if room <= length / 8 {
+                        0
+                    } else {
+                        pad(array(bytes, length), array_mut(out, room))
+                    };
+                "_unpad"(words: *const u64, length: usize, out: *mut u8, room: usize) -> usize
+                    = if length > room / 8 {
+                        usize::MAX
+                    } else {
+                        unpad(array(words, length), array_mut(out, room)).unwrap_or(usize::MAX)
+                    };
+            }
+        })*
+    };
+}
+
+// The header's calling convention, which is not the one of Windows.
+#[cfg(windows)]
+export!("sysv64": "komihash_v4" v4 "komihash_v5" v5);
+#[cfg(not(windows))]
+export!("C": "komihash_v4" v4 "komihash_v5" v5);

@@ -1,0 +1,36 @@
+#!/bin/sh
+# Compiles the crate for Rust, with the names of the header: from_rust.sh MACHINE FILE [OPTION..].
+# MACHINE is what C compilers print for -dumpmachine. FILE gets an object, or if it ends in .wasm a
+# module. The options are for rustc. The environment may have RUSTC, also with options, and
+# RUST_TARGET, what rustc calls the machine.
+set -eu
+unset MAKEFLAGS MFLAGS # whose job server is closed here
+rustc=${RUSTC:-rustc} machine=$1 file=$2
+shift 2
+here=$(dirname "$0")
+crate=$here/rust
+[ -d "$crate" ] || crate=$here/../rust
+target=${RUST_TARGET:-$(echo "$machine" | sed -E 's/^arm64/aarch64/; s/^i[345]86/i686/
+    s/^riscv64/&gc/; s/-([a-z]*-)?linux/-unknown-linux/; s/-linux$/&-gnu/
+    s/-w64-mingw32$/-pc-windows-gnu/; s/(-darwin|bsd)[0-9.]*$/\1/')}
+
+fail() { echo "komihash_rattle for $machine is built from Rust, and $1" >&2; exit 1; }
+command -v "${rustc%% *}" > /dev/null || fail "there is no Rust compiler '$rustc'"
+libraries=$($rustc --target "$target" --print target-libdir 2> /dev/null) &&
+    ls "$libraries"/libcore[-.]* > /dev/null 2>&1 ||
+    fail "'$rustc' has no core library for $target, which RUST_TARGET may name in another way"
+
+scratch=$(mktemp -d)
+trap 'rm -rf "$scratch"' EXIT
+case $file in
+*.wasm) kind=cdylib files=link=$file ;;
+*) kind=staticlib files=link=$scratch/all.a,obj=$file ;;
+esac
+compile() {
+    $rustc --target "$target" --cap-lints allow -C opt-level=3 -C codegen-units=1 -C panic=abort \
+        -C force-unwind-tables=yes "$@"
+}
+compile "$@" --edition "$(sed -n 's/^edition = "\(.*\)"/\1/p' "$crate/Cargo.toml")" \
+    --crate-name komihash_rattle --crate-type rlib --out-dir "$scratch" "$crate/src/lib.rs"
+compile "$@" --edition 2021 -C lto=fat --crate-type "$kind" --emit "$files" -L "$scratch" \
+    --extern komihash_rattle "$here/exports.rs"
