@@ -8,7 +8,9 @@ cd "$(dirname "$0")/.." || exit 1
 # Whether a tool is missing. The part that needs it then ends in the line that it is skipped: lacks
 # NAME TOOL..
 lacks() {
-    ! type "${@:2}" > "$scratch/case" 2>&1 && skip "$1" "$2${3:+ or no $3}" && { counted; true; }
+    local tools
+    printf -v tools ' or no %s' "${@:2}"
+    ! type "${@:2}" > "$scratch/case" 2>&1 && skip "$1" "${tools# or no }" && { counted; true; }
 }
 
 # Unpacks the package of the library for C, and makes it again from what was unpacked.
@@ -21,6 +23,36 @@ check_package() { in_package check; }
 check_cross() { # PREFIX EMULATOR: with a cross compiler
     lacks "the library for C, for ${1%-}" "$1gcc" "$2" || in_package check "CROSS=$1" "RUN=$2"
 }
+
+# The library for C from Rust: by the user's compiler, and for other processors by Debian's, with a
+# core library that is made here.
+check_from_rust() {
+    lacks 'the library for C, from Rust' rustc || in_package check FROM=rust
+}
+debian=(/usr/bin/rustc /usr/lib/rustlib/src/rust/x.py)
+compiler_for() { # TARGET
+    bash scripts/sysroot.sh "$1" "$scratch/$1" >&2 && echo "/usr/bin/rustc --sysroot $scratch/$1"
+}
+check_cross_from_rust() { # PREFIX TARGET [EMULATOR]
+    local compiler
+    lacks "the library for C, for ${1%-}" "$1gcc" "${debian[@]}" "${@:3}" ||
+        { compiler=$(compiler_for "$2") &&
+            in_package check "CROSS=$1" "RUN=${3:-}" "RUSTC=$compiler"; }
+}
+check_macos() {
+    lacks 'the library for C, for macOS' clang lld "${debian[@]}" && return
+    run_case 'the library for C links for macOS, with the names of the header' names_for_macos
+    counted
+}
+names_for_macos() {
+    local compiler library=$scratch/macos/libkomihash_rattle.1.dylib
+    local linker='clang --target=arm64-apple-darwin23 -mmacosx-version-min=11 -fuse-ld=lld'
+    compiler=$(compiler_for aarch64-apple-darwin) && in_package "OUT=${library%/*}" "$library" \
+        "RUSTC=$compiler" "CC=$linker" LDFLAGS=-nostdlib &&
+        diff <(grep -oE 'komihash_v\w+\(' c/komihash_rattle.h | tr -d '(' | sort) \
+            <(grep -aoE '\b_komihash_v\w+' "$library" | cut -c2- | sort -u)
+}
+
 # Verifies the build that every processor can run, and tests the check by flipping bits.
 verify_package() {
     lacks 'the machine code of the library for C' "$python" ||
@@ -82,6 +114,10 @@ part check_package
 part check_crate
 part check_cross x86_64-w64-mingw32- wine64
 part check_cross aarch64-linux-gnu- qemu-aarch64
+part check_from_rust
+part check_cross_from_rust s390x-linux-gnu- s390x-unknown-linux-gnu qemu-s390x
+part check_cross_from_rust i686-linux-gnu- i686-unknown-linux-gnu
+part check_macos
 part verify_package
 part test_verify
 part verify_original
