@@ -39,6 +39,18 @@ check_cross_from_rust() { # PREFIX TARGET [EMULATOR]
         { compiler=$(compiler_for "$2") &&
             in_package check "CROSS=$1" "RUN=${3:-}" "RUSTC=$compiler"; }
 }
+check_web() {
+    lacks 'the library for WebAssembly' node wasm-ld "${debian[@]}" && return
+    run_case 'the library for WebAssembly gives the hashes of vectors.tsv' hashes_of_web
+    counted
+}
+hashes_of_web() {
+    local compiler module=$scratch/web/komihash_rattle.wasm
+    compiler=$(compiler_for wasm32-unknown-unknown) &&
+        in_package wasm "OUT=${module%/*}" "RUSTC=$compiler -C linker=wasm-ld" &&
+        node c/examples/vectors.mjs "$module" < c/vectors.tsv |
+        diff <(grep -v '^#' c/vectors.tsv) -
+}
 check_macos() {
     lacks 'the library for C, for macOS' clang lld "${debian[@]}" && return
     run_case 'the library for C links for macOS, with the names of the header' names_for_macos
@@ -117,6 +129,7 @@ part check_cross aarch64-linux-gnu- qemu-aarch64
 part check_from_rust
 part check_cross_from_rust s390x-linux-gnu- s390x-unknown-linux-gnu qemu-s390x
 part check_cross_from_rust i686-linux-gnu- i686-unknown-linux-gnu
+part check_web
 part check_macos
 part verify_package
 part test_verify

@@ -23,7 +23,7 @@ TMPDIR=$scratch nice -n 19 bash scripts/packages.sh > "$scratch/packages" 2>&1 &
 pid=$!
 if part bash scripts/rules.sh && part python3 scripts/copies.py && part rt ci; then
     run_case 'each must-fail edit is refused' all_refused
-    for name in attacks program compare_assembly wasm; do part bash scripts/$name.sh; done
+    for name in attacks program compare_assembly; do part bash scripts/$name.sh; done
 else
     echo 'FAILED: the parts that need these were not run'
 fi
