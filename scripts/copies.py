@@ -1,8 +1,8 @@
 #!/usr/bin/env python3
 """Checks that what stands in two places is the same: each block of Rattle in README and CALLING is
 a part of a file of crates/examples, what is copied from the repository has its licence, the crate
-for Rust has the version of the library for C, also in the files that lock versions, and each link
-of a page leads to a file that is there, and to a heading of it."""
+for Rust has the tables of the library for C, and each link of a page leads to a file that is there,
+and to a heading of it."""
 
 import re
 from pathlib import Path
@@ -29,14 +29,12 @@ files = [file for kind in kinds for file in (ROOT / "crates/examples").glob(kind
 examples = [file.read_text("utf-8") for file in files]
 
 checks = []
-for folder in ("c", "crates/komihash"):
+for folder in ("c", "crates/komihash", "rust"):
     licences = ((ROOT / path / "LICENSE").read_text("utf-8") for path in (".", folder))
     checks.append((f"the licence in {folder}", len(set(licences)) == 1))
-header = (ROOT / "c/komihash_rattle.h").read_text("utf-8")
-version = re.search('RATTLE_VERSION (".*")', header)[1]
-for path in ("Cargo.toml", "Cargo.lock"):
-    named = f'\nname = "komihash_rattle"\nversion = {version}\n'
-    checks.append((f"the version in {path}", named in (ROOT / path).read_text("utf-8")))
+for name in ("vectors.tsv", "values.tsv"):
+    tables = {(ROOT / folder / name).read_text("utf-8") for folder in ("c", "rust/tests")}
+    checks.append((f"rust/tests/{name}", len(tables) == 1))
 checks.append(("README and CALLING have blocks", all(map(CODE.search, (readme, calling)))))
 for code in CODE.findall(readme + calling):
     checks.append((f"the block `{code.splitlines()[0]}`", any(code in text for text in examples)))

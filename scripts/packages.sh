@@ -99,20 +99,25 @@ verify_original() {
             BUILDS=x86-64-v2:3 bash compare/run.sh original --every 40
     fi
 }
-# Whether a program can have the library for C, or another version, beside the crate for Rust.
-own_symbols() {
-    ! nm "$CARGO_TARGET_DIR"/debug/libkomihash_rattle.rlib | grep ' [Tt] ' | grep -v komihash_rattle
+# Whether the crate for Rust is what the script makes of the source.
+erased() {
+    python3 -B rust/erase.py crates/komihash/src "$scratch/erased" &&
+        diff -r "$scratch/erased" rust/src
 }
 # Packs the crate for Rust, and tests it as it is unpacked, also for the processor that runs here.
 check_crate() {
-    lacks 'the crate for Rust' cargo && return
+    lacks 'the crate for Rust' cargo rustfmt python3 && return
+    run_case 'erase.py is not misled' python3 -B rust/tests/erase.py
+    run_case 'rust/src is erased from the source' erased
     export CARGO_TARGET_DIR=$scratch/crate
-    run_case 'the crate for Rust is packed' cargo package --offline --allow-dirty --no-verify
-    cd "$CARGO_TARGET_DIR/package" && tar -xzf *.crate && cd komihash_rattle-*/
-    run_case 'the crate for Rust' cargo test --offline
-    run_case 'the crate for Rust has symbols of its own' own_symbols
+    run_case 'the crate for Rust is packed' \
+        cargo package --manifest-path rust/Cargo.toml --offline --allow-dirty --no-verify
+    cd "$CARGO_TARGET_DIR/package" && tar -xzf *.crate && cd komihash_rattle-*/ || return
+    run_case 'the crate for Rust, with debug assertions' cargo test --offline
     RUSTFLAGS='-C target-cpu=native' run_case 'the crate for Rust, for this processor' \
         cargo test --offline --release --tests
+    needs cargo-clippy 'the crate for Rust, by clippy (optional)' \
+        cargo clippy --offline --all-targets -- -D warnings
     counted
 }
 
