@@ -89,11 +89,14 @@ pub record Absorbed {A : Type 0} (v : ℕ) (view : A → State) (stream : Mut A)
   -- the message is then longer by these bytes
   pub message : (seed : ℕ) (m : List ℕ) → HasAbsorbed v seed (view stream.entry.now) m
       → HasAbsorbed v seed (view stream.exit.now) (m ++ bytes)
-  -- the same in two more forms, by which the search finds proofs for callers that write numbers
+  -- the same in three more forms, by which the search finds proofs for callers that write numbers
   pub joined : (seed : ℕ) (m all : List ℕ) → HasAbsorbed v seed (view stream.entry.now) m
       → m ++ bytes ≡ all → HasAbsorbed v seed (view stream.exit.now) all
   pub in_parts : (seed : ℕ) (m x : List ℕ) → HasAbsorbed v seed (view stream.entry.now) (m ++ x)
       → HasAbsorbed v seed (view stream.exit.now) (m ++ (x ++ bytes))
+  pub parts_joined : (seed : ℕ) (m x all : List ℕ)
+      → HasAbsorbed v seed (view stream.entry.now) (m ++ x) → x ++ bytes ≡ all
+      → HasAbsorbed v seed (view stream.exit.now) (m ++ all)
 
 -- a stream answers: with the hash of the message that it has absorbed, if there is one
 pub record Answered (v : ℕ) (now : State) (result : ℕ) : Type 0 where

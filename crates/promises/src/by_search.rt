@@ -1,13 +1,15 @@
-//! Callers that need no proof of their own, because the search finds it.
+//! Callers whose proofs the search finds. Those with a loop state what it keeps.
 
 ghost use Rattle.std.specs.Borrow.{Bor};
 ghost use Rattle.std.specs.Int.{to_le_bytes, w16, w32, w64};
+ghost use Rattle.std.specs.List.{flat_map};
 ghost use Rattle.std.specs.Prelude.{◌≡◌, ◌+◌, ◌++◌, ◌∷◌, [], ℕ, List, length};
 ghost use Rattle.komihash.specs.Calls.{AreAbsorbs, bytes_of_calls, run_products};
 ghost use Rattle.komihash.specs.Counts.{hash_products};
 ghost use Rattle.komihash.specs.Hash.{komi};
 ghost use Rattle.komihash.specs.Stream.{HasAbsorbed};
 ghost use Rattle.komihash.specs.declared.stream.Call.TheVariants.{Absorb, Answer};
+ghost use Rattle.promises.specs.Entries.{bytes_of_entry};
 
 use komihash::stream::KomiStream;
 use komihash::tally::Tally;
@@ -97,6 +99,60 @@ pub fn write_four(stream: &mut StreamedKomihash, a: u64, b: u64, c: u64, d: u64)
     stream.write(&b.to_le_bytes());
     stream.write(&c.to_le_bytes());
     stream.write(&d.to_le_bytes());
+}
+
+/// A helper that promises its numbers as one list.
+pub fn write_short_key(stream: &mut StreamedKomihash, key: u16, value: u64)
+    ensures { (seed : ℕ) (m : List ℕ) → HasAbsorbed 5 seed stream.old.state m
+        → HasAbsorbed 5 seed stream.new.state
+        (m ++ (to_le_bytes w16 key ++ to_le_bytes w64 value)) }
+{
+    stream.write(&key.to_le_bytes());
+    stream.write(&value.to_le_bytes());
+}
+
+/// The same, with a wider number.
+pub fn write_key(stream: &mut StreamedKomihash, key: u32, value: u64)
+    ensures { (seed : ℕ) (m : List ℕ) → HasAbsorbed 5 seed stream.old.state m
+        → HasAbsorbed 5 seed stream.new.state
+        (m ++ (to_le_bytes w32 key ++ to_le_bytes w64 value)) }
+{
+    stream.write(&key.to_le_bytes());
+    stream.write(&value.to_le_bytes());
+}
+
+/// The same, with a name for the list.
+#[tactic(auto, unfolding(crate::specs::Entries::bytes_of_entry))]
+pub fn write_entry(stream: &mut StreamedKomihash, entry: (u64, u64))
+    ensures { (seed : ℕ) (m : List ℕ) → HasAbsorbed 5 seed stream.old.state m
+        → HasAbsorbed 5 seed stream.new.state (m ++ bytes_of_entry entry) }
+{
+    stream.write(&entry.0.to_le_bytes());
+    stream.write(&entry.1.to_le_bytes());
+}
+
+/// A loop that calls the helper.
+pub fn of_entries(entries: &[(u64, u64)]) -> u64
+    ensures { result ≡ komi 5 0 (flat_map bytes_of_entry entries.now) }
+{
+    let mut stream = StreamedKomihash::new();
+    for entry in entries {
+        write_entry(&mut stream, *entry);
+    }
+    stream.finish()
+}
+
+/// A loop that writes both numbers.
+pub fn of_pairs(pairs: &[(u64, u64)]) -> u64
+    ensures { result ≡ komi 5 0
+        (flat_map (λ pair. to_le_bytes w64 pair.0 ++ to_le_bytes w64 pair.1) pairs.now) }
+{
+    let mut stream = StreamedKomihash::new();
+    for pair in pairs {
+        stream.write(&pair.0.to_le_bytes());
+        stream.write(&pair.1.to_le_bytes());
+    }
+    stream.finish()
 }
 
 /// Two helpers in a row.
