@@ -2,9 +2,10 @@
 
 ghost use Rattle.std.specs.Prelude.{◌≡◌, IfOk, fold};
 ghost use Rattle.std.specs.Hash.{le_bytes};
+ghost use Rattle.std.specs.Int.{to_le_bytes, w64};
 ghost use Rattle.komihash.specs.Hash.{komi};
 
-use komihash::KomiHasher;
+use komihash::{KomiHasher, laws};
 use std::alloc::{AllocFailed, Global};
 use std::collections::HashMap;
 use std::hash::{BuildHasher, Hash, Hasher};
@@ -16,6 +17,14 @@ pub fn hash_of<T: Hash>(value: &T) -> u64
     let mut hasher = KomiHasher::default();
     value.hash(&mut hasher);
     hasher.finish()
+}
+
+/// Hashes a number, which is the hash of its eight bytes.
+pub fn hash_of_number(number: u64) -> u64
+    ensures { result ≡ komi 5 0 (to_le_bytes w64 number) }
+{
+    laws::bytes_of_integers();
+    hash_of(&number)
 }
 
 /// A point. Its derived `Hash` writes each number once.

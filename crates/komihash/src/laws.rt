@@ -1,9 +1,10 @@
-//! Laws of the definitions in `specs/`. Each function changes nothing: its contract states a law,
-//! which is proved for all messages, seeds and versions. A function that needs a law calls it.
+//! Laws of the definitions that contracts cite. Each function changes nothing: its contract states a
+//! law, which is proved for all messages, seeds and versions. A function that needs a law calls it.
 
 #![tactic(auto, using(crate::proofs::LawLemmas::laws))]
 
-ghost use Rattle.std.specs.Int.{to_le_bytes, w64};
+ghost use Rattle.std.specs.Hash.{le_bytes};
+ghost use Rattle.std.specs.Int.{to_le_bytes, w8, w16, w32, w64};
 ghost use Rattle.std.specs.List.{flat_map};
 ghost use Rattle.std.specs.Prelude.{◌≡◌, ℕ, ◌+◌, ◌-◌, ◌*◌, ◌%◌, ◌^◌, ◌<◌, bit_xor};
 ghost use Rattle.std.specs.Prelude.{List, [], ◌∷◌, ◌++◌, length, slice_index};
@@ -65,6 +66,15 @@ pub fn empty_write()
     ensures stream { (v : ℕ) (s : State) → absorb v s [] ≡ s }
     ensures chain { (v number : ℕ) (writes : List (List ℕ)) →
         number_after v number ([] ∷ writes) ≡ number_after v (komi v number []) writes }
+{}
+
+/// Proves that integers write the bytes of `to_le_bytes` to a hasher, which the standard library
+/// states by `le_bytes`. Those who hash integers by a `KomiHasher` need it.
+pub fn bytes_of_integers()
+    ensures one { (x : ℕ) → le_bytes 1 x ≡ to_le_bytes w8 x }
+    ensures two { (x : ℕ) → le_bytes 2 x ≡ to_le_bytes w16 x }
+    ensures four { (x : ℕ) → le_bytes 4 x ≡ to_le_bytes w32 x }
+    ensures eight { (x : ℕ) → le_bytes 8 x ≡ to_le_bytes w64 x }
 {}
 
 /// Proves that a stream that has absorbed n bytes has n modulo 64 of them pending. What its calls

@@ -1,6 +1,7 @@
 //! The laws of the definitions.
 
-ghost use Rattle.std.specs.Int.{to_le_bytes, w64};
+ghost use Rattle.std.specs.Hash.{le_bytes};
+ghost use Rattle.std.specs.Int.{to_le_bytes, w8, w16, w32, w64};
 ghost use Rattle.std.specs.List.{flat_map};
 ghost use Rattle.std.specs.Prelude.{◌≡◌, ◌+◌, ◌-◌, ◌*◌, ◌%◌, ◌^◌, ◌<◌, ◌≤◌, ◌++◌, ◌∷◌, []};
 ghost use Rattle.std.specs.Prelude.{ℕ, List, length, bit_xor, slice_index};
@@ -46,6 +47,16 @@ pub fn of_messages()
     laws::empty_write();
     laws::pending_remainder();
     laws::saved_once();
+}
+
+/// States the law of the bytes of integers.
+pub fn of_integers()
+    ensures one { (x : ℕ) → le_bytes 1 x ≡ to_le_bytes w8 x }
+    ensures two { (x : ℕ) → le_bytes 2 x ≡ to_le_bytes w16 x }
+    ensures four { (x : ℕ) → le_bytes 4 x ≡ to_le_bytes w32 x }
+    ensures eight { (x : ℕ) → le_bytes 8 x ≡ to_le_bytes w64 x }
+{
+    laws::bytes_of_integers();
 }
 
 /// States the law of lists of calls that are joined. `calls::run_of_calls` states the one of their
