@@ -4,6 +4,7 @@
 pub mod call_lists;
 pub mod checkpoints;
 pub mod costs;
+pub mod cuts;
 pub mod hashed;
 pub mod known;
 pub mod lists;
@@ -16,3 +17,4 @@ pub mod shards;
 pub mod stores;
 #[cfg(test)]
 mod tests;
+pub mod trees;

@@ -1,6 +1,6 @@
 //! Reproducible samples.
 
-ghost use Rattle.std.specs.Prelude.{◌≡◌, ◌+◌, ◌++◌, length};
+ghost use Rattle.std.specs.Prelude.{◌≡◌, length};
 ghost use Rattle.std.specs.Int.{to_le_bytes, w64};
 ghost use Rattle.std.specs.List.{flat_map};
 ghost use Rattle.komihash.specs.Generator.{after_steps, fill, outputs};
@@ -18,12 +18,12 @@ pub fn draw(generator: &mut Komirand, out: &mut [u64])
     }
 }
 
-/// Writes the sample of a seed in two parts, the first of 32 bytes.
-pub fn sample_in_two(seed: u64, first: &mut [u8; 32], second: &mut [u8])
-    ensures { first.new ++ second.new
-        ≡ fill 5 (after_steps 5 4 (seed, seed)) (32 + length second.old) }
+/// Writes the sample of a seed in two parts.
+pub fn sample_in_two(seed: u64, out: &mut [u8; 128])
+    ensures { out.new ≡ fill 5 (after_steps 5 4 (seed, seed)) 128 }
 {
     laws::fill_cut();
+    let (first, second) = out.split_at_mut(64);
     let mut generator = Komirand::init(seed);
     generator.fill_bytes(first);
     generator.fill_bytes(second);
