@@ -1,8 +1,8 @@
 #!/usr/bin/env python3
 """Checks that what stands in two places is the same: each block of Rattle in README and CALLING is
-a part of a file of crates/examples, what is copied from the repository has its licence, the crate
-for Rust has the tables of the library for C, and each link of a page leads to a file that is there,
-and to a heading of it."""
+a part of a file of crates/examples, v4.rt and v5.rt differ in the number alone, what is copied from
+the repository has its licence, the crate for Rust has the tables of the library for C, and each link
+of a page leads to a file that is there, and to a heading of it."""
 
 import re
 from pathlib import Path
@@ -29,6 +29,10 @@ files = [file for kind in kinds for file in (ROOT / "crates/examples").glob(kind
 examples = [file.read_text("utf-8") for file in files]
 
 checks = []
+for crate in ("komihash", "komihash_c"):
+    twins = ((ROOT / f"crates/{crate}/src/v{n}.rt").read_text("utf-8") for n in "45")
+    four, five = (re.sub("^//!.*\n", "", twin, flags=re.MULTILINE) for twin in twins)
+    checks.append((f"the versions in {crate}", four == five.replace("5", "4")))
 for folder in ("c", "crates/komihash", "rust"):
     licences = ((ROOT / path / "LICENSE").read_text("utf-8") for path in (".", folder))
     checks.append((f"the licence in {folder}", len(set(licences)) == 1))

@@ -1,8 +1,7 @@
 #!/usr/bin/env bash
-# Runs every proof and test: the rules for sources and for copies, which take seconds, `rt ci`, and
-# the tests of the built program and of the library for C, whose assembly is made anew. The packages
-# need none of the other parts, so they are tested beside them, on what those leave of the
-# processors.
+# Runs every proof and test: the rules for copies, which take seconds, `rt ci`, and the tests of the
+# built program and of the library for C, whose assembly is made anew. The packages need none of the
+# other parts, so they are tested beside them, on what those leave of the processors.
 #
 # The last line is 'N passed, M failed', the sum of all parts, with ', K skipped' if a tool is
 # missing; lines above it say which. With REQUIRE_ALL=1 in the environment, skipped is failed, but
@@ -21,7 +20,7 @@ all_refused() {
 
 TMPDIR=$scratch nice -n 19 bash scripts/packages.sh > "$scratch/packages" 2>&1 &
 pid=$!
-if part bash scripts/rules.sh && part python3 scripts/copies.py && part rt ci; then
+if part python3 scripts/copies.py && part rt ci; then
     run_case 'each must-fail edit is refused' all_refused
     for name in attacks program compare_assembly; do part bash scripts/$name.sh; done
 else
