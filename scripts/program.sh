@@ -108,7 +108,7 @@ refuse_memory 5 4bde5bdc63771675 4 1f
 tests_pass() { grep '^test result: ok\. [1-9]' "$1" && grep -x 'status 0' "$1"; }
 wait
 for crate in komihash komisum; do
-    run_case "the tests of $crate allocate nothing" tests_pass "$scratch/$crate"
+    run_case "the tests of $crate pass without their first allocation" tests_pass "$scratch/$crate"
 done
 
 counted

@@ -8,8 +8,8 @@ pub(crate) const LANES: [u8; 64] =
     \xc9\x8b\xea\x6f\x52\xe8\xf2\x4e\xa5\x87\x03\x5b\x9d\x8e\xa6\xf0\
     \x14\xdb\x96\xa6\xe5\xc1\x5e\x8e\xde\x82\xad\xda\xe7\x3d\x76\x71";
 
-/// The pair round of these bytes takes e to 0, so both products of the closing are 0, and so is the hash. The same
-/// holds after up to seven more bytes.
+/// The pair round of these bytes takes e to 0, so both products of the closing are 0, and so is the
+/// hash. The same holds after up to seven more bytes.
 pub(crate) const ZERO: [u8; 16] =
     *b"\x23\xb7\xf5\x1b\xf5\x11\x2d\xfe\xf1\xff\xff\xff\xff\xff\xff\xff";
 

@@ -1,5 +1,5 @@
 //! Saved texts: those of known streams, what is resumed from them, and bytes that are no text. The
-//! last test saves and resumes a stream between its calls, each of which has its own run (`run_on`).
+//! last test saves and resumes a stream between its calls, each in its own run (`run_on`).
 
 ghost use Rattle.std.specs.Prelude.{◌≡◌, ◌≤◌, length};
 ghost use Rattle.komihash.specs.Calls.{run_products, run_kept_bytes};
