@@ -114,6 +114,17 @@ is_state : (v : ℕ) (s : State) → IsState v s
     → AreWords (in_order s.lanes) × AreBytes s.pending × (length s.pending < 64)
 is_state v s is = (is.words, is.bytes, is.few)
 
+is_state_if : (v : ℕ) (s : State) → AreWords (in_order s.lanes) → AreBytes s.pending
+    → length s.pending < 64 → (s.top_bit ≡ true → s.had_block ≡ true)
+    → (s.top_bit ≡ true → v ≡ 4) → IsState v s
+is_state_if v s words bytes few block version = record {
+  words = words;
+  bytes = bytes;
+  few = few;
+  top_bit_block = block;
+  top_bit_version = version;
+}
+
 top_bit : (v : ℕ) (s : State) → IsState v s → s.top_bit ≡ true
     → (s.had_block ≡ true) × (v ≡ 4)
 top_bit v s is set = (is.top_bit_block set, is.top_bit_version set)

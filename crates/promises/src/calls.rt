@@ -9,6 +9,7 @@ ghost use Rattle.komihash.specs.Calls.{run_products, run_kept_bytes};
 ghost use Rattle.komihash.specs.Counts.{absorb_products, answer_products, absorb_kept_bytes};
 ghost use Rattle.komihash.specs.Generator.{next, after_steps, fill, after_fill};
 ghost use Rattle.komihash.specs.Hash.{komi};
+ghost use Rattle.komihash.specs.Hasher.{number_after};
 ghost use Rattle.komihash.specs.Padding.{ArePadded, padded_words};
 ghost use Rattle.komihash.specs.Stream.{IsState, HasAbsorbed};
 ghost use Rattle.komihash.specs.Words.{AreBytes};
@@ -21,6 +22,10 @@ use komihash::stream::{Call, KomiStream, LONGEST_TEXT, run, run_on};
 use komihash::tally::Tally;
 use komihash::{laws, v4, v5};
 use std::hash::Hasher;
+
+const _: () = prove!(LONGEST_TEXT == 131);
+
+const _: () = prove!(size_of::<Tally>() == 0);
 
 /// The promises of a version, for the methods of its stream, and for what stands beside it.
 pub trait Promises: KomiStream {
@@ -82,10 +87,12 @@ pub trait Promises: KomiStream {
         ensures pair { result.3
             ≡ after_fill Self.VERSION (next Self.VERSION (s1, s2)) (length buffer.old) };
 
-    /// Returns the numbers of the hasher of a number and of the default one, after a write.
-    fn chained(number: u64, bytes: &[u8]) -> (u64, u64)
-        ensures chain { result.0 ≡ komi Self.VERSION number bytes.now }
-        ensures default { result.1 ≡ komi Self.VERSION 0 bytes.now };
+    /// Returns the number of the hasher of a number after a write, and that of the default hasher
+    /// after two.
+    fn chained(number: u64, first: &[u8], second: &[u8]) -> (u64, u64)
+        ensures hash { result.0 ≡ komi Self.VERSION number first.now }
+        ensures chain { result.1
+            ≡ number_after Self.VERSION 0 (first.now ∷ second.now ∷ []) };
 }
 
 impl Promises for v4::StreamedKomihash {
@@ -128,11 +135,12 @@ impl Promises for v4::StreamedKomihash {
         (one.words(), two.words(), output, generator.words())
     }
 
-    fn chained(number: u64, bytes: &[u8]) -> (u64, u64) {
+    fn chained(number: u64, first: &[u8], second: &[u8]) -> (u64, u64) {
         let mut hasher = v4::KomiHasher::new(number);
         let mut default = v4::KomiHasher::default();
-        hasher.write(bytes);
-        default.write(bytes);
+        hasher.write(first);
+        default.write(first);
+        default.write(second);
         (hasher.finish(), default.finish())
     }
 }
@@ -177,11 +185,12 @@ impl Promises for v5::StreamedKomihash {
         (one.words(), two.words(), output, generator.words())
     }
 
-    fn chained(number: u64, bytes: &[u8]) -> (u64, u64) {
+    fn chained(number: u64, first: &[u8], second: &[u8]) -> (u64, u64) {
         let mut hasher = v5::KomiHasher::new(number);
         let mut default = v5::KomiHasher::default();
-        hasher.write(bytes);
-        default.write(bytes);
+        hasher.write(first);
+        default.write(first);
+        default.write(second);
         (hasher.finish(), default.finish())
     }
 }
@@ -198,16 +207,17 @@ pub fn by_the_names_of_the_root(
     (komihash::komihash(bytes, 0), stream, hasher, generator)
 }
 
-/// Returns a new stream and a new tally, at the cost of one product.
-pub fn started<S: KomiStream>(seed: u64) -> (S, Tally)
-    ensures version { (S.VERSION ≡ 4) ⊎ (S.VERSION ≡ 5) }
+/// Returns a new stream, a new tally, at the cost of one product, and the version.
+pub fn started<S: KomiStream>(seed: u64) -> (S, Tally, u8)
+    ensures version { result.2 ≡ S.VERSION }
+    ensures versions { (S.VERSION ≡ 4) ⊎ (S.VERSION ≡ 5) }
     ensures state { IsState S.VERSION (S.state result.0) }
     ensures start { StartPromise S.VERSION seed (S.state result.0) }
     ensures products { result.1.products ≡ 1 }
     ensures kept_bytes { result.1.kept_bytes ≡ 0 }
 {
     let mut tally = Tally::new();
-    (S::start(seed, &mut tally), tally)
+    (S::start(seed, &mut tally), tally, S::VERSION)
 }
 
 /// Absorbs bytes, and answers. Counts the products and the copied bytes of both.
