@@ -1,6 +1,9 @@
 //! Hashes of what readers give, and what a fault leaves.
 
-ghost use Rattle.std.specs.Prelude.{◌<◌, ◌≤◌};
+ghost use Rattle.std.specs.Prelude.{◌≡◌, ◌≢◌, ◌↔◌, ◌+◌, ◌^◌, ◌<◌, ◌≤◌};
+ghost use Rattle.std.specs.Prelude.{List, length, true, false, OnOk, IfOk, IfSome, ℕ};
+ghost use Rattle.std.specs.Io.KnownBytes.{Consumes, IsAtEnd};
+ghost use Rattle.komihash.specs.Hash.{komi};
 
 use super::fakes::{Calls, ERRORS, FakeReader};
 use super::{SIX_IN_FIVE, ZERO};
@@ -10,6 +13,37 @@ use crate::watched::Watched;
 use komihash::stream::{Call, KomiStream, LONGEST_TEXT, run_on};
 use komihash::tally::Tally;
 use komihash::v5::StreamedKomihash;
+use std::io::Read;
+
+// Does what `digest` does, and states its promises again.
+fn digested_as_promised<R: Read, S: KomiStream>(
+    reader: &mut Watched<R>,
+    seed: u64,
+    chunk: &mut [u8],
+    most: u64,
+) -> Result<u64, Fault>
+    requires room { 0 < length chunk.old }
+    requires most { most < 2 ^ 63 }
+    requires sound { reader.old.failed ≡ false }
+    ensures hash { IfOk result (λ hash. IfSome (R.remaining reader.old.inner) (λ bytes.
+        hash ≡ komi S.VERSION seed bytes)) }
+    ensures all_read { OnOk result (IsAtEnd (R.remaining reader.new.inner)) }
+    ensures read { (result ≡ Err Fault.Read) ↔ (reader.new.failed ≡ true) }
+    ensures too_long { IfSome (R.remaining reader.old.inner) (λ _. (bytes : List ℕ)
+        × Consumes (R.remaining reader.old.inner) (R.remaining reader.new.inner) bytes
+        × ((result ≡ Err Fault.TooLong)
+        ↔ ((reader.new.failed ≡ false) × (most < length bytes)))) }
+    ensures no_write { result ≢ Err Fault.Write }
+    ensures bound { IfSome (R.remaining reader.old.inner) (λ _. (bytes : List ℕ)
+        × Consumes (R.remaining reader.old.inner) (R.remaining reader.new.inner) bytes
+        × (length bytes ≤ most + length chunk.old)) }
+    ensures read_bound { result ≡ Err Fault.Read
+        → IfSome (R.remaining reader.old.inner) (λ _. (bytes : List ℕ)
+        × Consumes (R.remaining reader.old.inner) (R.remaining reader.new.inner) bytes
+        × (length bytes ≤ most)) }
+{
+    digest::<R, S>(reader, seed, chunk, most)
+}
 
 // Calls `digest` in version 5 with seed 0 and a chunk of `size` bytes. Also returns the number of
 // reads.
@@ -20,7 +54,8 @@ fn digested(bytes: &[u8], calls: Calls, most: u32, size: usize) -> (Result<u64, 
     let mut chunk = [0xee; 96];
     let mut reader = Watched::new(FakeReader::new(bytes, calls));
     let most = u64::from(most);
-    let result = digest::<FakeReader, StreamedKomihash>(&mut reader, 0, &mut chunk[..size], most);
+    let chunk = &mut chunk[..size];
+    let result = digested_as_promised::<_, StreamedKomihash>(&mut reader, 0, chunk, most);
     (result, reader.into_inner().calls.made)
 }
 

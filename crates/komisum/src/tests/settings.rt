@@ -33,6 +33,13 @@ fn refused_arguments(rt: HostRuntime) {
     }
 }
 
+// Does what `settings` does, and states its promise again.
+fn settings_as_promised(arguments: &[&str]) -> Option<(Version, u64)>
+    ensures { result ≡ settings_of (map (λ argument. argument.now) arguments.now) }
+{
+    settings(arguments)
+}
+
 // Does what `settings_from_args` does, and states its promise again.
 fn asked_as_promised(given: io::Result<Args>) -> Result<(Version, u64), Refusal>
     ensures { MatchResult given

@@ -1,4 +1,5 @@
-//! Calls through a watched reader or writer return what the inner one returns.
+//! Calls through a watched reader or writer return what the inner one returns. Once one has failed,
+//! `failed` stays true.
 
 ghost use Rattle.std.specs.Prelude.{◌≡◌, false};
 
@@ -32,7 +33,7 @@ fn reads(rt: HostRuntime) {
         }
         assert_eq!(rt; error_of(reader.read(&mut bytes)), Some(error));
         assert!(rt; reader.failed());
-        assert!(rt; matches!(reader.read(&mut []), Ok(0)));
+        assert!(rt; matches!(reader.read(&mut []), Ok(0)) && reader.failed());
         assert_eq!(rt; reader.into_inner().calls.made, 4);
     }
 }
@@ -47,10 +48,11 @@ fn writes_and_a_flush(rt: HostRuntime) {
         }
         assert_eq!(rt; error_of(writer.flush().map(|()| 0)), Some(error));
         assert!(rt; writer.failed());
-        assert!(rt; writer.flush().is_ok());
+        assert!(rt; writer.flush().is_ok() && writer.failed());
+        assert!(rt; matches!(writer.write(b"78"), Ok(2)) && writer.failed());
         let writer = writer.into_inner();
-        assert_eq!(rt; writer.taken(), b"123456".as_slice());
-        assert_eq!(rt; writer.calls.made, 4);
+        assert_eq!(rt; writer.taken(), b"12345678".as_slice());
+        assert_eq!(rt; writer.calls.made, 5);
     }
 }
 
