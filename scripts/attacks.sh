@@ -4,6 +4,7 @@
 # error that its first line says; `control` and `lemma` must be accepted. Names that are private are
 # unknown if the kit has built `komihash` before. `tally_raised_by_hand` has the handwritten proof
 # of `Tally::raise`, but where this uses the key of tallies, it says that nothing changes.
+# `stream_with_weaker_contract` is `stream_not_counted` with a contract that doesn't ask for counts.
 set -u
 cd "$(dirname "$0")/attacks" || exit 1
 . ../../c/cases.sh
@@ -20,6 +21,8 @@ split() { # FILE FOLDER ENDING
 }
 split modules.rt.txt src rt
 split proofs.antt.txt proofs antt
+sed 's/_tally: &mut Tally) -> u64/& ensures { Answered 5 self.now.0.state result }/' \
+    "$above/src/stream_not_counted.rt" >> "$above/src/stream_with_weaker_contract.rt"
 sed -Ez '
     s/Rattle\.komihash([.a-z]*)\.tally\.Tally\.raise/Rattle.above\1.tally_raised_by_hand.raised/g
     s/raise_spec/raised_spec/g
