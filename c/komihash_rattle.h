@@ -14,7 +14,8 @@
  *   null.
  * - A pointer to words, a stream or a generator is aligned to eight bytes, or on 32-bit x86 to four.
  *   One to bytes needs no alignment.
- * - What a call writes must not overlap anything else that the call is passed.
+ * - The bytes that a call writes must not overlap anything else that it is passed. Room that it
+ *   doesn't write may.
  * - If threads share a stream or a generator and one of them changes it, they need a lock. If a
  *   signal handler shares one, the signal must be blocked.
  *

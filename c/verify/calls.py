@@ -9,6 +9,13 @@ from terms import Unknown, address, bv, choose, secret, simple, sym
 NONE = bv(2**64 - 1)
 
 
+def apart(base, size, other, length):
+    """Whether two arrays don't overlap. Memory is such that none does; where code compares their
+    addresses, it also has to be a fact."""
+    return z3.Or(size == 0, length == 0, z3.And(
+        z3.UGE(base - other, length), z3.UGE(other - base, size)))
+
+
 class Library(collections.namedtuple('Library', 'image layout red_zone alignment before',
                                      defaults=(None, lambda call: None))):
     """The image of a library, and how its functions are called: how streams lie in memory, whether
@@ -26,24 +33,20 @@ class Call:
         self.cpu = library.image.processor(library, self.products)
         self.facts, self.memory = self.cpu.facts, self.cpu.memory
         # For header.py: how many facts don't come from the case, what it is passed, the state of
-        # its stream and how many bytes that counts, and the bytes of the last of its words.
+        # its stream and how many bytes that counts, and the last nine bytes of its words.
         self.first_fact, self.args = len(self.facts.list), ()
-        self.state = self.count = self.last_word = None
+        self.state = self.count = self.last_bytes = None
 
-    def base(self, name, size, apart_from=()):
+    def base(self, name, size):
         """Passes an array of `size` bytes, which is null only if it is empty, and after which
-        there is an address. Returns its address. That it overlaps no other array is how memory
-        works here; where code compares addresses, it also has to be a fact."""
+        there is an address. Returns its address."""
         base, size = address(name), bv(size) if isinstance(size, int) else size
         self.facts.add(simple(z3.Or(size == 0, z3.ULT(size, -base))), z3.ULT(size, 2**63))
-        for other, length in apart_from:
-            self.facts.add(z3.Or(size == 0, length == 0, z3.And(
-                z3.UGE(base - other, length), z3.UGE(other - base, size))))
         return base
 
-    def array(self, name, size, content=(), high=None, writable=False, apart_from=()):
+    def array(self, name, size, content=(), high=None, writable=False):
         """Passes an array, with the content of its first bytes."""
-        base = self.base(name, size, apart_from)
+        base = self.base(name, size)
         limit = None if isinstance(size, int) else size
         high = len(content) if high is None else high
         self.memory.add(Array(name, base, 0, high, writable, limit), content)
@@ -136,13 +139,13 @@ def padded_content(call, content, last):
     for 3, at least 3. If `last` is None, the last word is 0. Returns the bytes, the length of their
     message, and whether they have one."""
     if last is None:
-        call.last_word = [bv(0, 8)] * 8
-        return content[:-8] + call.last_word, 0, z3.BoolVal(len(content) == 8)
-    index, byte = last
-    at = len(content) - 8 + index
-    found = secret('padding byte', 8) if byte == 3 else bv(byte, 8)
-    call.facts.add(z3.UGE(found, byte))
-    content = content[:at] + [found] + [bv(0, 8)] * (7 - index)
-    call.last_word = content[-8:]
-    fits = found == padding_byte(call.version, content[at - 1]) if at else z3.BoolVal(False)
+        content, at, fits = [*content[:-8], *[bv(0, 8)] * 8], 0, z3.BoolVal(len(content) == 8)
+    else:
+        index, byte = last
+        at = len(content) - 8 + index
+        found = secret('padding byte', 8) if byte == 3 else bv(byte, 8)
+        call.facts.add(z3.UGE(found, byte))
+        content = content[:at] + [found] + [bv(0, 8)] * (7 - index)
+        fits = found == padding_byte(call.version, content[at - 1]) if at else z3.BoolVal(False)
+    call.last_bytes = [secret('none', 8), *content][-9:]
     return content, at, fits

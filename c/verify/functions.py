@@ -2,7 +2,7 @@
 are in loops.py. Each check runs a call with symbols for all contents, asks whether what it returns
 and stores is what the definition says, and returns the processor at the end."""
 import z3
-from calls import NONE, Call, generator, named, padded_content, some_state
+from calls import NONE, Call, apart, generator, named, padded_content, some_state
 from checks import accepted, check, check_bytes, check_generator
 from definition import State, is_text, komi, next_pair, padded_words, start, words_of
 from terms import bv, bytes_of, join, part, secret, sym
@@ -124,13 +124,14 @@ def pad(library, version, length):
     call = Call(library, version, '_pad')
     address, message = call.message(length)
     room, words = sym('room'), padded_words(version, message)
-    call.facts.add(z3.ULT(room, 2**60))
-    out = call.aligned(call.array('out', 8 * room, high=8 * len(words), writable=True,
-                                  apart_from=[(address, bv(length))]))
+    enough, size = z3.UGE(room, len(words)), 8 * len(words)
+    out = call.aligned(call.array('out', 8 * room, high=size, writable=True))
+    call.facts.add(z3.ULT(room, 2**60),
+                   z3.Implies(enough, apart(out, bv(size), address, bv(length))))
     for end in call.run(address, bv(length), out, room):
-        enough = accepted(end, z3.UGE(room, len(words)))
-        check(end, 'number', end.result(), bv(len(words) if enough else 0))
-        check_bytes(end, 'words', 'out', bytes_of(join(words)) if enough else [])
+        is_enough = accepted(end, enough)
+        check(end, 'number', end.result(), bv(len(words) if is_enough else 0))
+        check_bytes(end, 'words', 'out', bytes_of(join(words)) if is_enough else [])
     return end
 
 
@@ -144,9 +145,11 @@ def unpad(library, version, count, last):
     if count:
         content, length, fits = padded_content(call, named('words', range(8 * count)), last)
     room, words = sym('room'), call.aligned(call.array('words', 8 * count, content))
-    out = call.array('out', room, high=length, writable=True, apart_from=[(words, bv(8 * count))])
+    out = call.array('out', room, high=length, writable=True)
+    fits = z3.And(fits, z3.UGE(room, 8 * count))
+    call.facts.add(z3.Implies(fits, apart(out, bv(length), words, bv(8 * count))))
     for end in call.run(words, bv(count), out, room):
-        found = accepted(end, z3.And(fits, z3.UGE(room, 8 * count)))
+        found = accepted(end, fits)
         check(end, 'length', end.result(), bv(length) if found else NONE)
         check_bytes(end, 'message', 'out', content[:length] if found else [])
     return end

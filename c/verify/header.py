@@ -3,10 +3,11 @@
 Trusted is that `allowed` and `any_state` leave out no call that the header allows: they have its
 first comment in formulas, and read its prototypes. `witness` needs no trust, because the conditions
 of a case are asked of whatever it chooses."""
-import itertools
 import os
 import re
 import z3
+from calls import apart
+from definition import padding_byte
 from terms import SYMBOLS, Facts, Refused, address, bv, join, simple, sym, symbols
 
 HEADER = os.path.join(os.path.dirname(os.path.abspath(__file__)), '..', 'komihash_rattle.h')
@@ -29,7 +30,7 @@ class Pointer:
 
     def __init__(self, kind, base, count, structs):
         element = kind.replace('const ', '').rstrip(' *')
-        self.base, self.written = base, 'const' not in kind
+        self.base = base
         if element in ELEMENTS:
             unit, count = ELEMENTS[element], count
             self.size, self.limits = count * unit, [z3.ULE(count, (2**63 - 1) // unit)]
@@ -40,9 +41,24 @@ class Pointer:
         # It is null only if it is empty, and after it there is an address.
         self.limits.append(z3.Or(self.size == 0, z3.And(base != 0, z3.ULT(self.size, -base))))
 
-    def apart(self, other):
-        return z3.Or(self.size == 0, other.size == 0, z3.And(
-            z3.UGE(self.base - other.base, other.size), z3.UGE(other.base - self.base, self.size)))
+
+# What matters of contents: the state of a stream, how many bytes it counts, and the last nine bytes
+# of some words.
+FILL, HAD_BLOCK, TOP_BIT = sym('any fill'), sym('any had_block', 8), sym('any top_bit', 8)
+COUNT, LAST_BYTES = sym('any count'), sym('any last bytes', 72)
+
+
+def written(call, length, room):
+    """How many bytes of `out` a call of `pad` or `unpad` writes. Only these must not overlap."""
+    if not call.name.endswith('_unpad'):
+        words = z3.LShR(length, 3) + 1
+        return z3.If(z3.UGE(room, words), 8 * words, 0)
+    size = bv(0)
+    for k in range(8):
+        byte = padding_byte(call.version, z3.Extract(8 * k + 7, 8 * k, LAST_BYTES))
+        is_last = z3.LShR(LAST_BYTES, 8 * k + 8) == z3.ZeroExt(64, byte)
+        size = z3.If(is_last, 8 * length - 8 + k, size)
+    return z3.If(z3.UGE(room, 8 * length), size, 0)
 
 
 def allowed(call):
@@ -52,14 +68,12 @@ def allowed(call):
     pointers = [Pointer(kind, *pair, structs)
                 for kind, *pair in zip(kinds, args, [*args[1:], None]) if '*' in kind]
     conditions = sum((p.limits for p in pointers), [])
-    conditions += [p.apart(q) for p, q in itertools.combinations(pointers, 2)
-                   if p.written or q.written]
+    # No case of other functions asks how their arrays lie.
+    if call.name.endswith('pad'):
+        source, out = pointers
+        conditions.append(
+            apart(out.base, written(call, args[1], args[3]), source.base, source.size))
     return args, conditions
-
-
-# What matters of contents: the state of a stream, how many bytes it counts, and the last word.
-FILL, HAD_BLOCK, TOP_BIT = sym('any fill'), sym('any had_block', 8), sym('any top_bit', 8)
-COUNT, LAST_WORD = sym('any count'), sym('any last word')
 
 
 def any_state(call, args):
@@ -117,8 +131,8 @@ def condition(call, wanted):
                   (call.state.top_bit, TOP_BIT)]
     if call.count is not None:
         pairs.append((call.count, COUNT))
-    if call.last_word:
-        pairs.append((join(call.last_word), LAST_WORD))
+    if call.last_bytes:
+        pairs.append((join(call.last_bytes), LAST_BYTES))
     found = {}
     for term, value in pairs:
         witness(found, simple(term), value)

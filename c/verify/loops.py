@@ -2,7 +2,7 @@
 import copy
 import functools
 import z3
-from calls import NONE, generator, named, padded_content, some_lanes, some_state
+from calls import NONE, apart, generator, named, padded_content, some_lanes, some_state
 from checks import accepted, check, check_bytes, check_generator
 from definition import (TRUE, State, block_round, hash_from_pair, joined, lanes, next_pair,
                         padded_words, padding_byte, seed_pair, top_bit, words_of)
@@ -271,8 +271,9 @@ class Pad(Copy):
         self.result = simple(z3.LShR(self.length, 3) + 1)
         self.call.facts.add(z3.ULT(sym('room'), 2**60))
         self.base = self.call.base('bytes', self.length)
-        apart = [(self.base, self.length)]
-        self.call.aligned(self.call.base('out', 8 * sym('room'), apart))
+        out = self.call.aligned(self.call.base('out', 8 * sym('room')))
+        self.call.facts.add(z3.Implies(
+            self.accepted(), apart(out, 8 * self.result, self.base, self.length)))
         return named('end', range(-self.GRAIN, 0))
 
     def args(self):
@@ -299,7 +300,9 @@ class Unpad(Copy):
         self.result = simple(self.length + self.more)
         self.call.facts.add(z3.ULT(self.length, 2**63 - 8))
         self.base = self.call.aligned(self.call.base('words', self.size))
-        self.call.base('out', sym('room'), [(self.base, self.size)])
+        out = self.call.base('out', sym('room'))
+        self.call.facts.add(z3.Implies(
+            self.accepted(), apart(out, self.result, self.base, self.size)))
         return content
 
     def args(self):

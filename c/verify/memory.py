@@ -19,8 +19,8 @@ class Array:
 
 class Memory:
     """Arrays, which don't overlap: each has a symbol of its own for its address, and a store to one
-    changes no other. The header asks that of arrays that are written, and if two are only read, an
-    overlap changes nothing.
+    changes no other. The header asks that of the bytes that a call writes, and stores to others are
+    refused at its end; if two are only read, an overlap changes nothing.
 
     A byte is kept as the term that was stored, its number in it, and how many bytes the term has.
     A byte that isn't kept has no content, and may not be read."""

@@ -17,8 +17,14 @@ refused() {
     [ $? = 1 ] && grep FAILED "$scratch/told" || { cat "$scratch/told"; false; }
 }
 
-refusal='s/^(?=\t[a-z]+q\t)/\tcmpq\t%rdx, %rdi\n\tjne\t9f\n\txorl\t%eax, %eax\n\tretq\n9:\n/'
-refusal+=' || s/^(?=\t[a-z]+\tx)/\tcmp\tx0, x2\n\tb.ne\t9f\n\tmov\tx0, #0\n\tret\n9:\n/'
+# Refuses empty messages that lie where `out` does.
+empty='s/^(?=\t[a-z]+q\t)/\tcmpq\t%rdx, %rdi\n\tjne\t9f\n\txorl\t%eax, %eax\n\tretq\n9:\n/'
+empty+=' || s/^(?=\t[a-z]+\tx)/\tcmp\tx0, x2\n\tb.ne\t9f\n\tmov\tx0, #0\n\tret\n9:\n/'
+# Returns 77 for bytes that lie in the room of `out`, after all that is written.
+room='s/^(?=\t[a-z]+q\t)/\tcmpq\t\$8, %rcx\n\tjb\t9f\n\ttestq\t%rsi, %rsi\n\tje\t9f\n'
+room+='\tleaq\t48(%rdx), %r8\n\tcmpq\t%r8, %rdi\n\tjne\t9f\n\tmovl\t\$77, %eax\n\tretq\n9:\n/'
+room+=' || s/^(?=\t[a-z]+\tx)/\tcmp\tx3, #8\n\tb.lo\t9f\n\tcbz\tx1, 9f\n\tadd\tx9, x2, #48\n'
+room+='\tcmp\tx0, x9\n\tb.ne\t9f\n\tmov\tx0, #77\n\tret\n9:\n/'
 # Moves the stack by a number that two ways have, and adds a carry that is 0 on both.
 carry='s/^(?=\t[a-z]+q\t)/\tcmpq\t\$4096, %rsp\n\tjb\t9f\n\tmovq\t%rsp, %r8\n\tmovq\t%rdx, %rcx\n'
 carry+='\tandl\t\$64, %ecx\n\tnegq\t%rcx\n\tsubq\t\$64, %rcx\n\txorl\t%eax, %eax\n\tadcq\t%rcx, %rsp\n'
@@ -45,8 +51,10 @@ resume a register of the caller that is not restored
 s/\tpopq\t\K%r\w+|\tadd\tsp, sp\K, #\d+/$& =~ m(#) ? ", #0" : "%rcx"/e
 EDITS
     done
-    run_case "a refusal if no bytes lie where out does, in komihash_v5_pad of $source" \
-        refused komihash_v5_pad "$source" "$refusal"
+    run_case "a refusal if no bytes lie where out does, in komihash_v4_pad of $source" \
+        refused komihash_v4_pad "$source" "$empty"
+    run_case "a result if bytes lie in room that is not written, in komihash_v5_pad of $source" \
+        refused komihash_v5_pad "$source" "$room"
     [ "$source" = aarch64 ] || run_case "a carry that is not there in komihash_v5_save of $source" \
         refused komihash_v5_save "$source" "$carry"
 done
