@@ -14,7 +14,6 @@ class Image:
 
     def __init__(self, content, processors, level, names):
         self.elf, self.level = Elf(content), level
-        need(self.elf.machine in processors, 'this is no library for x86-64 or ARM64')
         self.processor = processors[self.elf.machine]
         need(level in self.processor.LEVELS, f'{self.processor.NAME} has no level {level}')
         self.functions, self.exported = self.elf.functions(names)

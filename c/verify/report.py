@@ -53,14 +53,16 @@ class Progress:
 def names_there(image, names, some):
     """Those of the names that the library has. A library of ours has all, and exports no others."""
     missing = [name for name in NAMES if name not in image.functions]
-    if not some and (missing or image.exported != len(NAMES)):
-        raise Unknown(f'it exports {image.exported} names, and not the {len(NAMES)} of the '
-                      f'functions, of which it lacks {len(missing)}')
+    others = sorted({*image.exported} - {*NAMES})
+    if not some and (missing or others):
+        raise Unknown(f'it lacks {missing} and also exports {others}')
     there = [name for name in names if name not in missing]
     if not there:
         raise Unknown('it exports none of the functions')
     if len(there) < len(names):
         print('Not there, so not checked:', *(name for name in names if name in missing))
+    if others:
+        print('It also exports what is not checked:', *others)
     return there
 
 

@@ -12,12 +12,13 @@ from terms import Unknown
 NAME = 'komihash_v5_rand_next'
 # Where the header of a file has these, and their bytes. Where segments, symbols and entries of the
 # dynamic table have these.
-CLASS, DATA, TYPE, MACHINE, VERSION = (4, 1), (5, 1), (16, 2), (18, 2), (20, 4)
+CLASS, DATA, SYSTEM, TYPE, MACHINE, VERSION, COUNT = \
+    (4, 1), (5, 1), (7, 1), (16, 2), (18, 2), (20, 4), (56, 2)
 KIND, RIGHTS, OFFSET, START, FILLED, SIZE, ALIGN = \
     (0, 4), (4, 4), (8, 8), (16, 8), (32, 8), (40, 8), (48, 8)
-INFO, OTHER, SECTION, VALUE = (4, 1), (5, 1), (6, 2), (8, 8)
-# An entry that loaders may leave out.
-SONAME = 14
+NAMED, INFO, OTHER, SECTION, VALUE = (0, 4), (4, 1), (5, 1), (6, 2), (8, 8)
+# Entries that loaders may leave out, of which the linker writes the first.
+SONAME, BIND_NOW = elf.SONAME, 24
 
 
 class Edit:
@@ -74,16 +75,26 @@ def of_file(e, features, nothing):
     """Changes of the file, by name: the reason for which it is refused, and what is done."""
     load, note, dynamic = elf.LOAD, elf.NOTES, elf.DYNAMIC
     code, last = e.code_part(), len(e.elf.of_type(load)) - 1
-    text, hashes, names = e.elf.of_type(load)[code], e.elf.hashes(), e.elf.table[elf.HASHES]
+    text, table, names = e.elf.of_type(load)[code], e.elf.table, e.elf.table[elf.HASHES]
     return {
         'numbers are big-endian': ('no ELF file', lambda: e.put(0, DATA, 2)),
         'addresses have 32 bits': ('no ELF file', lambda: e.put(0, CLASS, 1)),
+        'it is for one system': ('byte 7 is 0x3', lambda: e.put(0, SYSTEM, 3)),
         'a program': ('no shared library', lambda: e.put(0, TYPE, 2)),
         'another processor': ('no library for', lambda: e.put(0, MACHINE, 40)),
         'the end is cut off': ('too short', lambda: e.content.__delitem__(slice(600, None))),
         'another part lies over the code': (
             'mapped over another', lambda: e.segment(
                 note, (KIND, load), (OFFSET, 0), (START, text.start), (ALIGN, text.align))),
+        'a part is aligned to smaller pages': (
+            'not aligned', lambda: e.segment(load, (ALIGN, elf.PAGES[e.elf.machine] // 2))),
+        'memory without end': (
+            'more than 67108864', lambda: e.segment(load, (SIZE, 2**46), which=last)),
+        'segments without end': ('more than 64', lambda: e.put(0, COUNT, 65535)),
+        'tables can not be read': (
+            'can not be read', lambda: e.segment(load, (RIGHTS, elf.EXECUTE), which=0)),
+        'no part of the file has its tables': (
+            'can not be read', lambda: e.segment(load, (RIGHTS, 0), which=0)),
         'code can be written': (
             'could be written', lambda: e.segment(load, (RIGHTS, 7), which=code)),
         'zeros follow the code': (
@@ -93,10 +104,14 @@ def of_file(e, features, nothing):
         'memory of threads': ('unknown type', lambda: e.segment(note, (KIND, 7))),
         'a stack that can run': ('could be executed', lambda: e.segment(elf.STACK, (RIGHTS, 7))),
         'code is protected after relocation': (
-            'RELRO reaches', lambda: e.segment(
+            'can not be written', lambda: e.segment(
                 elf.RELRO, (START, text.start), (OFFSET, text.offset))),
         'the dynamic table is another one in the file': (
             'elsewhere in the file', lambda: e.segment(dynamic, (OFFSET, 0))),
+        'the dynamic table is not in the file': (
+            'elsewhere in the file', lambda: e.segment(dynamic, (FILLED, 0))),
+        'stack frames are not in memory': (
+            'elsewhere in the file', lambda: e.segment(elf.FRAMES, (START, 2**40))),
         'another table of segments': (
             'another one in memory', lambda: e.segment(note, (KIND, elf.TABLE))),
         'a stack of threads that is large': (
@@ -106,25 +121,42 @@ def of_file(e, features, nothing):
             'in different ways', lambda: e.bytes_at(names + 12, bytes([40]))),
         'a symbol before the first that is hashed': (
             'before its first', lambda: e.bytes_at(names + 4, bytes([0, 0, 1]))),
-        'tables can be written': (
-            'not in memory that is only read', lambda: e.segment(load, (RIGHTS, 6), which=0)
-            if code else e.entry(elf.SYMBOLS, elf.SYMBOLS, e.elf.of_type(load)[last].start)),
+        'a table can be written': ('not in memory that is only read', lambda: e.entry(
+            SONAME, elf.COUNTED, e.elf.of_type(load)[last].start)),
         'code runs when it is loaded': ('do more', lambda: e.entry(SONAME, 12, text.start)),
         'bytes are relocated': ('do more', lambda: e.entry(SONAME, 7, text.start)),
         'another library is loaded': ('do more', lambda: e.entry(SONAME, 1)),
         'it can not be opened': ('do more', lambda: e.entry(SONAME, elf.FLAGS_1, 0x40)),
         'two tables of symbols': ('twice', lambda: e.entry(SONAME, elf.SYMBOLS, text.start)),
-        'no table of hashes': ('no DT_GNU_HASH', lambda: e.entry(elf.HASHES, 4)),
+        'no table of hashes': ('no DT_GNU_HASH', lambda: e.entry(elf.HASHES, BIND_NOW)),
+        'strings of no size': (
+            'not all that it needs', lambda: e.entry(elf.STRINGS_SIZE, BIND_NOW)),
+        'strings beyond memory': (
+            'not in memory', lambda: e.entry(elf.STRINGS_SIZE, elf.STRINGS_SIZE, 2**40)),
+        'strings without an end': (
+            'no end', lambda: e.entry(elf.STRINGS_SIZE, elf.STRINGS_SIZE, 10)),
+        'its name is not among the strings': (
+            'not among the strings', lambda: e.entry(SONAME, SONAME, 2**20)),
+        'it takes the place of another library': ('would take it for', lambda: e.bytes_at(
+            table[elf.STRINGS] + table.get(SONAME, 0), b'libc.so.6\0')),
+        'another table of hashes outside of memory': (
+            'not in memory', lambda: e.entry(SONAME, elf.COUNTED, 2**40)),
+        'another table of hashes that counts other symbols': (
+            'counts other', lambda: e.entry(SONAME, elf.COUNTED, names)),
+        'a filter that reaches beyond memory': (
+            'not in memory', lambda: e.bytes_at(names + 8, bytes([0, 0, 1, 0]))),
         'a filter that finds no name': (
-            'missing: komihash_v4', lambda: e.bytes_at(hashes[4], bytes(8 * hashes[2]))),
+            'missing: komihash_v4', lambda: e.bytes_at(names + 16, bytes(8 * len(e.elf.filter)))),
         'a function is a number': ('no function', lambda: e.symbol(SECTION, 0xfff1)),
         'a function is hidden': ('no function', lambda: e.symbol(OTHER, 2)),
         'a function is local': ('no function', lambda: e.symbol(INFO, 2)),
         'a function chooses another': ('no function', lambda: e.symbol(INFO, 0x1a)),
         'a function lies outside': ('no function', lambda: e.symbol(VALUE, 2**40)),
         'a function lies at address 0': ('no function', lambda: e.symbol(VALUE, 0)),
+        'a function whose name is not among the strings': (
+            'not among the strings', lambda: e.symbol(NAMED, 2**20)),
         'two functions have one name': ('missing: komihash_v5_rand_next', lambda: e.symbol(
-            (0, 4), e.elf.symbol(e.elf.find(b'komihash_v4_rand_next'))[0])),
+            NAMED, e.elf.strings.index(b'komihash_v4_rand_next\0'))),
         'a function has no mark': ('has none', lambda: e.code(nothing)),
         'marks of an unknown kind': ('unknown: 0xc0', lambda: e.note(features, 64)),
         'an unknown property': ('unknown: 0xc0008002', lambda: e.note(0xc0008002, 8)),
