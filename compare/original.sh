@@ -1,6 +1,6 @@
 #!/usr/bin/env bash
 # Compiles the Rust crate `komihash`, whose code stays as it is, and shows by ../c/verify that its
-# machine code computes what the definition says: run.sh original [OPTION..], which `verify` has.
+# machine code computes what the definition says: run.sh original [OPTION..], which original.py has.
 set -euo pipefail
 crate=$(realpath "${KOMIHASH_CRATE:?must name the folder of the Rust crate}")
 cd "$(dirname "${BASH_SOURCE[0]}")"
@@ -36,5 +36,5 @@ done
 echo "komihash $(field version) by $(rustc --version)"
 calls=('' _start _write _finish _rand_{init{,_with_extra_seed,_words},next,fill})
 python=$(sh ../c/verify/find_python.sh)
-exec "$python" -B ../c/verify --crate --some --red-zone --function "${calls[@]/#/komihash_v4}" \
+exec "$python" -B original.py --some --red-zone --function "${calls[@]/#/komihash_v4}" \
     "${calls[@]/#/komihash_v5}" "$@" -- "${libraries[@]}"

@@ -33,9 +33,9 @@ class Call:
         self.cpu = library.image.processor(library, self.products)
         self.facts, self.memory = self.cpu.facts, self.cpu.memory
         # For header.py: how many facts don't come from the case, what it is passed, the state of
-        # its stream and how many bytes that counts, and the last nine bytes of its words.
+        # its stream, and the last nine bytes of its words.
         self.first_fact, self.args = len(self.facts.list), ()
-        self.state = self.count = self.last_bytes = None
+        self.state = self.last_bytes = None
 
     def base(self, name, size):
         """Passes an array of `size` bytes, which is null only if it is empty, and after which
@@ -60,12 +60,12 @@ class Call:
         content = named('bytes', range(length))
         return self.array('bytes', length, content), content
 
-    def stream(self, state, writable=False, count=None):
+    def stream(self, state, writable=False):
         size = self.layout.SIZE
         base = self.array('stream', size, high=size, writable=writable)
         if state:
             self.state = state
-            self.layout.store(self, state, count)
+            self.layout.store(self, state)
         return self.aligned(base)
 
     def begin(self, args):

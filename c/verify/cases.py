@@ -1,5 +1,6 @@
 """The cases of each function, and how a worker checks one of them."""
 import collections
+import signal
 import time
 import functions as f
 import header
@@ -16,7 +17,8 @@ from x86_64 import X86
 
 # By the numbers that ELF has for them.
 PROCESSORS = {62: X86, 183: Arm}
-LIBRARY = None
+# What is checked, and the limit of time of a case.
+LIBRARY, SECONDS = None, 600
 # The row of a function: the definition's multiplications for n bytes with f bytes pending, whether
 # jumps may depend on contents, and its cases by how they are checked.
 Function = collections.namedtuple('Function', 'multiplications by_contents cases')
@@ -123,13 +125,10 @@ def row_of(name):
     return FUNCTIONS[name[len('komihash_v4'):]]
 
 
-def cases_of(name, every=1):
-    """The cases of a function, with each so many-th of the writes that complete no block."""
+def cases_of(name):
     cases = [Case(name, check, args)
              for check, some in row_of(name).cases.items() for args in some]
-    some = [case for k, case in enumerate(cases)
-            if case.check is not f.write_within or k % every == 0]
-    return [AllCalls(name, None, cases), *some]
+    return [AllCalls(name, None, cases), *cases]
 
 
 def open_library(content, level, layout=Ours, red_zone=False):
@@ -139,8 +138,14 @@ def open_library(content, level, layout=Ours, red_zone=False):
     return LIBRARY.image
 
 
+def give_up(*_):
+    raise Unknown(f'no answer within {SECONDS} seconds of processor time')
+
+
 def run_case(case):
     """Checks a case. Nothing may be claimed after an error of this program, either."""
+    signal.signal(signal.SIGVTALRM, give_up)
+    signal.setitimer(signal.ITIMER_VIRTUAL, SECONDS, 1)
     terms.ANSWERS.clear()
     terms.COUNTS.update(asked=0, second=0)
     begin, ran, depth, failure = time.time(), frozenset(), 0, None
@@ -155,5 +160,6 @@ def run_case(case):
         failure = f'{refused}'
     except Exception as error:
         failure = Unknown(f'{type(error).__name__}: {error}')
+    signal.setitimer(signal.ITIMER_VIRTUAL, 0)
     return Done(case, failure, time.time() - begin, ran, depth,
                 terms.COUNTS['asked'], terms.COUNTS['second'])

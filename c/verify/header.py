@@ -1,14 +1,14 @@
 """The calls that the header allows, and whether the cases of a function are all of these.
 
 Trusted is that `allowed` and `any_state` leave out no call that the header allows: they have its
-first comment in formulas, and read its prototypes. `witness` needs no trust, because the conditions
-of a case are asked of whatever it chooses."""
+first comment in formulas, and read its prototypes."""
 import os
 import re
 import z3
 from calls import apart
 from definition import padding_byte
-from terms import SYMBOLS, Facts, Refused, address, bv, join, simple, sym, symbols
+from guesses import witness
+from terms import Facts, Refused, address, bv, join, simple, sym
 
 HEADER = os.path.join(os.path.dirname(os.path.abspath(__file__)), '..', 'komihash_rattle.h')
 PROTOTYPE = r'(\w+) KOMIHASH_CALL\s+{}\((.*?)\);'
@@ -25,27 +25,9 @@ def parameters(name):
     return [re.fullmatch(r'(.+?)(\w+)', one).groups() for one in returned + listed.split(', ')]
 
 
-class Pointer:
-    """An array or struct that a function is passed, as the header's first comment has it."""
-
-    def __init__(self, kind, base, count, structs):
-        element = kind.replace('const ', '').rstrip(' *')
-        self.base = base
-        if element in ELEMENTS:
-            unit, count = ELEMENTS[element], count
-            self.size, self.limits = count * unit, [z3.ULE(count, (2**63 - 1) // unit)]
-        else:
-            unit, self.size, self.limits = 8, bv(structs[element.split('_')[-1]]), []
-        if unit == 8:
-            self.limits.append(base & 7 == 0)
-        # It is null only if it is empty, and after it there is an address.
-        self.limits.append(z3.Or(self.size == 0, z3.And(base != 0, z3.ULT(self.size, -base))))
-
-
-# What matters of contents: the state of a stream, how many bytes it counts, and the last nine bytes
-# of some words.
+# What matters of contents: the state of a stream, and the last nine bytes of some words.
 FILL, HAD_BLOCK, TOP_BIT = sym('any fill'), sym('any had_block', 8), sym('any top_bit', 8)
-COUNT, LAST_BYTES = sym('any count'), sym('any last bytes', 72)
+LAST_BYTES = sym('any last bytes', 72)
 
 
 def written(call, length, room):
@@ -64,26 +46,31 @@ def written(call, length, room):
 def allowed(call):
     """The arguments of any call of a function that the header allows, and its conditions."""
     kinds, names = zip(*parameters(call.name))
-    args, structs = [sym(f'any {one}') for one in names], {'stream': call.layout.SIZE, 'rand': 16}
-    pointers = [Pointer(kind, *pair, structs)
-                for kind, *pair in zip(kinds, args, [*args[1:], None]) if '*' in kind]
-    conditions = sum((p.limits for p in pointers), [])
+    args, sizes, conditions = [sym(f'any {one}') for one in names], [], []
+    structs = {'stream': call.layout.SIZE, 'rand': 16}
+    for kind, base, count in zip(kinds, args, [*args[1:], None]):
+        element, star, _ = kind.replace('const ', '').partition(' *')
+        if star:
+            unit = ELEMENTS.get(element, 8)
+            if element in ELEMENTS:
+                size, most = count * unit, z3.ULE(count, (2**63 - 1) // unit)
+            else:
+                size, most = bv(structs[element.split('_')[-1]]), z3.BoolVal(True)
+            # It is null only if it is empty, and after it there is an address.
+            conditions += [most, base & unit - 1 == 0,
+                           z3.Or(size == 0, z3.And(base != 0, z3.ULT(size, -base)))]
+            sizes.append(size)
     # No case of other functions asks how their arrays lie.
     if call.name.endswith('pad'):
-        source, out = pointers
-        conditions.append(
-            apart(out.base, written(call, args[1], args[3]), source.base, source.size))
+        conditions.append(apart(args[2], written(call, args[1], args[3]), args[0], sizes[0]))
     return args, conditions
 
 
 def any_state(call, args):
     """A stream is in some state, since only `start` and `resume` make one, and only calls change
-    it. If it counts bytes, it must not have more than it can count after a write, either."""
-    yield from (z3.ULT(FILL, 64), z3.ULE(HAD_BLOCK, 1),
-                z3.ULE(TOP_BIT, HAD_BLOCK if call.version == 4 else 0))
-    if call.count is not None:
-        yield from (COUNT & 63 == FILL, z3.UGE(COUNT, 64) == (HAD_BLOCK == 1))
-        yield from (z3.ULE(COUNT, COUNT + length) for length in args[2:])
+    it."""
+    return [z3.ULT(FILL, 64), z3.ULE(HAD_BLOCK, 1),
+            z3.ULE(TOP_BIT, HAD_BLOCK if call.version == 4 else 0), *call.layout.any_more(args)]
 
 
 class Begun(Exception):
@@ -102,25 +89,6 @@ def beginning(library, case):
         return begun.args[0]
 
 
-def witness(found, term, value):
-    """Chooses values for a term's symbols by which it may have a value. Whether it has, is asked
-    when all are chosen."""
-    if z3.is_app_of(term, z3.Z3_OP_CONCAT):
-        high = term.size()
-        for child in term.children():
-            witness(found, child, z3.Extract(high - 1, high - child.size(), value))
-            high -= child.size()
-    elif z3.is_app_of(term, z3.Z3_OP_BADD):
-        known = {str(one) for one in found}
-        *others, last = sorted(term.children(), key=lambda part: len(symbols(part) - known))
-        witness(found, last, value - z3.substitute(sum(others), *found.items()))
-    elif str(term) in symbols(term):
-        found.setdefault(term, value)
-    else:
-        for one in (SYMBOLS.term[name] for name in symbols(term)):
-            found.setdefault(one, z3.Extract(one.size() - 1, 0, value))
-
-
 def condition(call, wanted):
     """Which of the wanted calls a case has: those for which its symbols have these values."""
     # A struct that is returned has its address in a register of its own on ARM64.
@@ -129,8 +97,7 @@ def condition(call, wanted):
     if call.state:
         pairs += [(bv(len(call.state.pending)), FILL), (call.state.had_block, HAD_BLOCK),
                   (call.state.top_bit, TOP_BIT)]
-    if call.count is not None:
-        pairs.append((call.count, COUNT))
+    pairs += call.layout.more
     if call.last_bytes:
         pairs.append((join(call.last_bytes), LAST_BYTES))
     found = {}

@@ -20,16 +20,16 @@ weak, one of the three ways fails.
 Lengths are GRAIN * q + r, with q at least 1. The number q stays a symbol. In the first two ways, so
 does r; in the third, each r is run by itself, so that the number of bytes after the loop is known.
 """
-import collections
 import z3
 from calls import Call, named
 from forms import Arrival, Invariant, World
+from guesses import cuts
 from machine import LOADED, Seen
 from memory import Array
 from terms import Refused, Unknown, bv, put_for, simple, sym, symbols
 
-# To find the loop, these calls are run: with a huge q, and with a small one and a remainder.
-LONG, TURNS, REST = 2**20, 12, 40
+# An invariant is guessed from calls with a huge q.
+LONG = 2**20
 
 
 class Induction:
@@ -58,7 +58,7 @@ class Induction:
         self.q, self.r = sym(f'q{width}', 64 - width), sym(f'r{width}', width - self.FIXED_BITS)
 
     def prove(self):
-        self.head, self.exit = self.find_cuts()
+        self.head, self.exit = cuts(self)
         self.guess()
         self.settle()
         return self
@@ -108,31 +108,6 @@ class Induction:
     def run(self, cpu, pc=None):
         """The arrivals and the returns."""
         return cpu.run(pc or self.library.image.functions[self.call.name], (self.head, self.exit))
-
-    def find_cuts(self):
-        """The head is the first of the places to which a long call comes most often. The exit is
-        the first place outside of the loop that a call with one turn or none comes to too."""
-        (few, _), (many, refusal) = self.places(1), self.places(TURNS)
-        often = collections.Counter(many)
-        head = max(many, key=often.get)
-        if often[head] < 2:
-            raise refusal or Unknown(f'{self.call.name}: no loop was found')
-        last = len(many) - 1 - many[::-1].index(head)
-        inside = set(many[many.index(head):last])
-        return head, next(pc for pc in many[last:]
-                          if pc not in inside and (head in few or pc in few))
-
-    def places(self, q):
-        """The places to which an accepted call of GRAIN * q + REST bytes comes, and why it ends if
-        it is refused, which doesn't matter after the loop."""
-        cpu = self.start(1, True, front=self.GRAIN * (q + 1))
-        cpu.facts.add(self.q == q, self.r == REST >> self.FIXED_BITS)
-        refusal = None
-        try:
-            list(self.run(cpu))
-        except Refused as refused:
-            refusal = refused
-        return list(self.seen.order), refusal
 
     def guess(self):
         """Guesses the invariant of the head from two arrivals of a long call, and how many bytes a

@@ -7,7 +7,6 @@ from checks import accepted, check, check_bytes, check_generator
 from definition import (TRUE, State, block_round, hash_from_pair, joined, lanes, next_pair,
                         padded_words, padding_byte, seed_pair, top_bit, words_of)
 from induction import Induction
-from layout import last_word
 from memory import Array
 from terms import bv, bytes_of, join, secret, simple, sym, symbols
 
@@ -76,7 +75,7 @@ class Write(Blocks):
     """Writes that complete a block. Here, GRAIN * q + r counts the bytes that are pending too, and
     before the first turn, all of these are yet to take: the units begin below zero."""
     NAME = '_write'
-    STABLE = frozenset({'stream', 'last', 'count'})
+    STABLE = frozenset({'stream', 'last'})
 
     def stable(self):
         """The turns are those of any write, so q, the bytes and their length mean nothing there."""
@@ -89,22 +88,18 @@ class Write(Blocks):
         call = self.new_call()
         self.length, content = simple(self.long_length(least) - fill), named('front', range(front))
         state = some_state(self.version, fill)
-        stream = call.stream(state, writable=True, count=self.count_before())
+        stream = call.stream(state, writable=True)
         self.base = call.base('bytes', self.length)
         call.memory.add(Array('front', self.base, 0, front, limit=self.length), content)
         after = simple(self.base + self.length - self.rest())
         call.memory.add(Array('last', after, -1, 0), [secret('last', 8)], -1)
-        self.follow(state.lanes, state.pending + content, last=last_word(state))
+        self.follow(state.lanes, state.pending + content)
         self.units = bv(-fill % 2**64)
         return stream, self.base, self.length
-
-    def count_before(self):
-        return self.call.layout.count_before(self.call, self.length, self.rest())
 
     def open(self):
         """Any write, some bytes of which were taken. Returns the address of the next."""
         self.call.stream(None, writable=True)
-        self.count_before()
         self.base = self.call.base('bytes', self.length)
         return simple(self.base + self.units)
 
@@ -143,7 +138,7 @@ class Write(Blocks):
         """The turns and the end are those of any write. They are proved once; another number of
         pending bytes needs only to begin with the same invariants. If it doesn't, it drops what
         doesn't hold, and proves the rest by itself."""
-        shown = proved_write(self.library, self.version)
+        shown = proved_write(type(self), self.library, self.version)
         self.head, self.exit, self.step = shown.head, shown.exit, shown.step
         self.invariants = {pc: copy.copy(one) for pc, one in shown.invariants.items()}
         if not self.begin():
@@ -153,9 +148,9 @@ class Write(Blocks):
 
 
 @functools.lru_cache(maxsize=None)
-def proved_write(library, version):
+def proved_write(kind, library, version):
     """The writes with some number of pending bytes, proved."""
-    return Induction.prove(Write(library, version, SOME_FILL))
+    return Induction.prove(kind(library, version, SOME_FILL))
 
 
 class Fill(Induction):

@@ -1,10 +1,10 @@
 """The definition against hashes of the Rust crate and of the C original, and against itself."""
-import multiprocessing
 import os
 import z3
 from calls import named, some_state
 from definition import VERSIONS, Numbers, Products, hash_from_lanes, komi, padded_words, start
 from terms import Unknown, bv, const, secret
+from workers import results
 
 
 HASHES = 95
@@ -50,6 +50,5 @@ def check_streams(length):
 def check_definition(jobs):
     check_hashes()
     print(f'the definition gives the {HASHES} hashes of vectors.tsv')
-    with multiprocessing.Pool(jobs) as pool:
-        pool.map(check_streams, range(128), chunksize=1)
+    list(results(jobs, check_streams, range(128)))
     print('in the definition, streams answer the hash of any message, however it is cut')

@@ -30,4 +30,4 @@ def test(image, path, done, args):
 
 
 if __name__ == '__main__':
-    sys.exit(main(__doc__, test, options))
+    sys.exit(main(__doc__, options, test))

@@ -3,17 +3,18 @@ refuses. What passes must do on the processor, for random calls, what the librar
 so must what is read as the same instruction."""
 import collections
 import functools
-import multiprocessing
 import random
 import signal
 import tempfile
 import cases
 import terms
 from processor import compare
+from workers import results
 
 # Limits for a mutant: steps of Z3 for a question, processor time, and how many cases are run before
-# calls on the processor show whether others need to be.
-EFFORT, SECONDS, SOME = 2 * 10**8, 300, 100
+# calls on the processor show whether others need to be. After so many mutants for each process,
+# others begin, since processes remember terms.
+EFFORT, SECONDS, SOME, MANY = 2 * 10**8, 300, 100, 20
 # The cases that reach an instruction, by its address; the level and the file of the library.
 # Workers inherit these.
 AT, LIBRARY = collections.defaultdict(list), ['', b'']
@@ -115,9 +116,9 @@ def test(image, done, args):
             AT[address].append(one.case)
     flips = choose_flips(image, owners, args.mutants, args.seed)
     LIBRARY[:] = image.level, image.elf.content
-    tries = functools.partial(try_mutant, args.program)
-    with multiprocessing.Pool(args.jobs, start, maxtasksperchild=20) as pool:
-        for m in pool.imap_unordered(tries, list(flips)):
+    tries, flips, many = functools.partial(try_mutant, args.program), list(flips), MANY * args.jobs
+    for k in range(0, len(flips), many):
+        for m in results(args.jobs, tries, flips[k:k + many], start):
             found['several' if len(owners[m.address]) > 1 else min(owners[m.address])].append(m)
             wrong += m.failure is None and 'WRONGLY' in m.told
             if verdict(m) != 'refused':
