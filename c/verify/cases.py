@@ -118,7 +118,7 @@ class AllCalls(Case):
 
 # What a case gave: why it failed, or the instructions that ran and how deep the stack was; and how
 # many questions were asked.
-Done = collections.namedtuple('Done', 'case failure seconds ran depth asked second')
+Done = collections.namedtuple('Done', 'case failure seconds ran depth asked')
 
 
 def row_of(name):
@@ -147,7 +147,7 @@ def run_case(case):
     signal.signal(signal.SIGVTALRM, give_up)
     signal.setitimer(signal.ITIMER_VIRTUAL, SECONDS, 1)
     terms.ANSWERS.clear()
-    terms.COUNTS.update(asked=0, second=0)
+    terms.ASKED[0] = 0
     begin, ran, depth, failure = time.time(), frozenset(), 0, None
     try:
         seen = case.run(LIBRARY)
@@ -161,5 +161,4 @@ def run_case(case):
     except Exception as error:
         failure = Unknown(f'{type(error).__name__}: {error}')
     signal.setitimer(signal.ITIMER_VIRTUAL, 0)
-    return Done(case, failure, time.time() - begin, ran, depth,
-                terms.COUNTS['asked'], terms.COUNTS['second'])
+    return Done(case, failure, time.time() - begin, ran, depth, terms.ASKED[0])

@@ -7,7 +7,7 @@ import hashlib
 import os
 import sys
 import time
-import terms
+import second
 from cases import NAMES, cases_of, open_library, run_case
 from layout import Ours
 from progress import Progress
@@ -54,10 +54,8 @@ def verify(level, path, args, layout, choose):
             progress.add(done)
     finally:
         progress.table(failed)
-    told = f'{progress.total("asked")} questions to Z3'
-    if terms.SECOND:
-        told += f', of which {terms.SECOND} answered {progress.total("second")} in the same way'
-    print(f'{told}; {time.time() - begin:.0f} seconds, {args.jobs} processes')
+    print(f'{progress.total("asked")} questions to Z3{f" and {second.NAME}" if second.NAME else ""}; '
+          f'{time.time() - begin:.0f} seconds, {args.jobs} processes')
     return image, all_done, failed
 
 

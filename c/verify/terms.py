@@ -1,17 +1,15 @@
 """Terms: bit vectors of Z3 over symbols; and Facts, which asks Z3 what holds of them."""
 import functools
-import os
 import random
-import subprocess
+import second
 import z3
 
-SECOND = os.environ.get('SECOND')
 # Sums and xors of the same parts, in any order, become the same term.
 SIMPLIFY = z3.args2params([], {'bv_sort_ac': True})
 # Z3 may make so many steps for a question.
 EFFORT = 10**9
 # What was answered in this case, and how many questions were asked.
-ANSWERS, COUNTS = {}, {'asked': 0, 'second': 0}
+ANSWERS, ASKED = {}, [0]
 
 
 class Refused(Exception):
@@ -188,27 +186,16 @@ class Facts:
         return ANSWERS[key][0]
 
     def ask(self, terms):
-        COUNTS['asked'] += 1
+        ASKED[0] += 1
         solver = z3.Tactic('qfbv').solver()
         solver.set('rlimit', EFFORT)
         solver.add(*terms)
         answer = solver.check()
         if answer == z3.unknown:
             raise Unknown('Z3 does not answer with the effort that is allowed')
-        if SECOND:
-            self.ask_second(solver, str(answer))
+        if second.NAME and (why := second.objection(solver, str(answer))):
+            raise Unknown(why)
         return solver.model() if answer == z3.sat else None
-
-    def ask_second(self, solver, answer):
-        text = '(set-logic QF_BV)\n' + solver.to_smt2()
-        command = [SECOND, '--lang=smt2', '--tlimit=600000']
-        done = subprocess.run(command, input=text, capture_output=True, text=True)
-        second = done.stdout.strip()
-        if second not in ('sat', 'unsat'):
-            raise Unknown(f'{SECOND} does not answer: {second or done.stderr.strip()}')
-        if second != answer:
-            raise Refused(f'Z3 answers {answer}, {SECOND} {second}')
-        COUNTS['second'] += 1
 
     def decide(self, path, cond):
         """True, False, or None if both can be on this path."""
