@@ -54,7 +54,7 @@ def verify(level, path, args, layout, choose):
             progress.add(done)
     finally:
         progress.table(failed)
-    print(f'{progress.total("asked")} questions to Z3{f" and {second.NAME}" if second.NAME else ""}; '
+    print(f'{progress.total("asked")} questions to Z3{second.NAME and f" and {second.NAME}"}; '
           f'{time.time() - begin:.0f} seconds, {args.jobs} processes')
     return image, all_done, failed
 

@@ -2,7 +2,7 @@
 import os
 import subprocess
 
-NAME = os.environ.get('SECOND')
+NAME = os.environ.get('SECOND', '')
 
 
 def objection(solver, answer):
