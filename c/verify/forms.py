@@ -1,19 +1,18 @@
 """What holds of all states that arrive at one place of a loop: an invariant, which is guessed from
 examples. What an arrival doesn't confirm is dropped, so a wrong guess can't lead to a wrong claim.
 
-An invariant gives each word of registers and memory a form, or none. A form is a function from a
-world, which is what the definition says at an arrival, to the term that the word is. For example,
-in the loop of a hash,
-- a register is `base + units`, the address of the next byte: a linear form;
+An invariant gives each word of registers and memory a form, or none. A form is a term that has
+symbols for what the definition says at an arrival, which is the arrival's world. For example, in
+the loop of a hash,
+- a register is `base + units`, the address of the next byte;
 - eight other words are the lanes, or two lanes xored: words of the world;
 - the stack pointer, and what the caller had in its registers, stay as they are: fixed terms.
 Beside forms, some conditions hold, as that a turn of the loop is left."""
-import itertools
-import z3
-from terms import join, part, simple, symbols
+from guesses import form_of
+from terms import join, part, put_for, sym, symbols
 
-# In a linear form, the factors of the units, of the base and of the length.
-FACTORS = list(itertools.product((0, 1, -1, 8, -8), (0, 1), (0, 1)))
+# In a form, the units, the base and the length, and then the words of a world.
+PLACES = [sym(f'place {k} of a world') for k in range(12)]
 
 
 class World:
@@ -22,17 +21,10 @@ class World:
 
     def __init__(self, words, units, base, length):
         self.words, self.units, self.base, self.length = words, units, base, length
-        numbers = range(len(words))
-        self.keys = [(k,) for k in numbers] + list(itertools.combinations(numbers, 2))
 
-    def word(self, key):
-        """A word, or two of them, xored."""
-        first, *more = (self.words[k] for k in key)
-        return simple(first ^ more[0]) if more else first
-
-    def sum(self, factors):
-        of_units, of_base, of_length = factors
-        return of_units * self.units + of_base * self.base + of_length * self.length
+    def value(self, form):
+        """The term that a form is in this world."""
+        return put_for(form, *zip(PLACES, [self.units, self.base, self.length, *self.words]))
 
 
 class Arrival:
@@ -62,37 +54,21 @@ def size_of(cpu, name, offset):
     return 1 if name == 'stream' and offset >= cpu.library.layout.FLAGS else 8
 
 
-def form_of(facts, stable, first, second):
-    """The form that a word has in two worlds, or None. Each is a term and its world."""
-    (a, one), (b, other) = first, second
-    if symbols(a) <= stable and z3.eq(a, b):
-        return lambda world: a
-    if a.size() != 64:
-        return None
-    for factors in FACTORS:
-        constant = simple(a - one.sum(factors))
-        if symbols(constant) <= stable and z3.eq(constant, simple(b - other.sum(factors))):
-            return lambda world: simple(constant + world.sum(factors))
-    for key in one.keys:
-        if facts.same(a, one.word(key)) and facts.same(b, other.word(key)):
-            return lambda world: world.word(key)
-    return None
-
-
 class Invariant:
     """What holds of the states that arrive at one place: forms by word, and names of conditions.
 
-    Forms may use symbols of the world, and *stable* ones, which mean the same at each arrival of
+    Forms may have the symbols of a world, and *stable* ones, which mean the same at each arrival of
     a call: an argument, the length, what the caller had in a register. Others, such as the bytes
-    of a turn, have one meaning in each turn, so no form may mention them."""
+    of a turn, have one meaning in each turn, so no form may have them."""
 
     def __init__(self, stable, first, second):
         """Guesses from two arrivals, which may be the same."""
         self.holding = first.holding & second.holding
-        self.forms = {
-            word: form_of(first.facts, stable, (term, first.world),
-                          (second.words[word], second.world))
-            for word, term in first.words.items() if word in second.words}
+        fixed = stable.union(*map(symbols, PLACES))
+        guessed = ((word, form_of(PLACES, stable, first, second, word))
+                   for word in first.words if word in second.words)
+        self.forms = {word: form if form is not None and symbols(form) <= fixed else None
+                      for word, form in guessed}
 
     def admit(self, arrival):
         """Drops what doesn't hold of an arrival. Returns whether all did."""
@@ -106,8 +82,8 @@ class Invariant:
         has."""
         forms = {word: form for word, form in self.forms.items() if word in arrival.words}
         true = arrival.facts.holding(arrival.path, {
-            word: arrival.words[word] == form(arrival.world)
-            for word, form in forms.items() if form})
+            word: arrival.words[word] == arrival.world.value(form)
+            for word, form in forms.items() if form is not None})
         return {word: form if word in true else None for word, form in forms.items()}
 
     def assume(self, cpu, world, change):
@@ -115,7 +91,8 @@ class Invariant:
         function says. Words without a form hold anything."""
         words = {n: [] for n in cpu.r}
         for (name, k), form in self.forms.items():
-            word = change(form(world)) if form else cpu.fresh(8 * size_of(cpu, name, k))
+            word = cpu.fresh(8 * size_of(cpu, name, k)) if form is None else \
+                change(world.value(form))
             if name in words:
                 words[name].append(word)
             else:

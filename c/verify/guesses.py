@@ -1,11 +1,16 @@
-"""Guesses. Nothing here needs trust: the invariants at any cuts are proved, and the conditions of a
-case are asked of any witness."""
+"""Guesses. Nothing here needs trust: invariants of any forms at any cuts are proved, and the
+conditions of a case are asked of any witness."""
 import collections
+import functools
+import itertools
+import operator
 import z3
-from terms import SYMBOLS, Refused, Unknown, symbols
+from terms import SYMBOLS, Refused, Unknown, simple, symbols
 
 # To find the loop, calls are run with a small q, and with one and a remainder.
 TURNS, REST = 12, 40
+# In a linear form, the factors of the units, of the base and of the length.
+FACTORS = list(itertools.product((0, 1, -1, 8, -8), (0, 1), (0, 1)))
 
 
 def cuts(proof):
@@ -34,6 +39,30 @@ def places(proof, q):
     except Refused as refused:
         refusal = refused
     return list(proof.seen.order), refusal
+
+
+def form_of(places, stable, first, second, word):
+    """The form that a word has at two arrivals, or None."""
+    a, b, one, other = first.words[word], second.words[word], first.world, second.world
+    if symbols(a) <= stable and z3.eq(a, b):
+        return a
+    if a.size() != 64:
+        return None
+    for factors in FACTORS:
+        def linear(*terms):
+            return sum(k * term for k, term in zip(factors, terms) if k)
+        constant = simple(a - linear(one.units, one.base, one.length))
+        if symbols(constant) <= stable and \
+                z3.eq(constant, simple(b - linear(other.units, other.base, other.length))):
+            return constant + linear(*places)
+    count = range(len(one.words))
+    for key in [*zip(count), *itertools.combinations(count, 2)]:
+        def xored(words):
+            return functools.reduce(operator.xor, (words[k] for k in key))
+        if first.facts.same(a, simple(xored(one.words))) and \
+                first.facts.same(b, simple(xored(other.words))):
+            return xored(places[3:])
+    return None
 
 
 def witness(found, term, value):
