@@ -6,6 +6,7 @@
 #include <stdio.h>
 #include <string.h>
 #include <sys/mman.h>
+#include <unistd.h>
 
 typedef uint64_t word;
 typedef struct { word w[2]; } pair;
@@ -53,6 +54,7 @@ int main(int count, char **args) {
                           MAP_PRIVATE | MAP_ANONYMOUS | MAP_FIXED, -1, 0);
         if (!f.symbol || memory != (void *)call.place) return 1;
         memcpy(memory, call.memory, sizeof call.memory);
+        alarm(60); /* ends a call that doesn't return */
         result returned = make(f, call.args);
         fwrite(&returned, sizeof returned, 1, stdout);
         fwrite(memory, sizeof call.memory, 1, stdout);
