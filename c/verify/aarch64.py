@@ -4,14 +4,15 @@ import operator
 import z3
 from capstone import CS_ARCH_ARM64, CS_MODE_ARM
 from capstone import arm64_const as A
-from machine import CONDITIONS, Cpu, compared, means, unknown
+from machine import CONDITIONS, LOADED, Cpu, compared, means, number_of, unknown
 from opcodes import is_known_arm64 as is_known
 from terms import bv, choose, join, leading_zeros, part, resize, secret, simple, sym
 
 TABLE = {}
 SIZES = {'x': 64, 'w': 32, 'q': 128, 'd': 64, 'v': 128}
 SHIFTS = {A.ARM64_SFT_LSL: operator.lshift, A.ARM64_SFT_LSR: z3.LShR,
-          A.ARM64_SFT_ASR: operator.rshift}
+          A.ARM64_SFT_ASR: operator.rshift, A.ARM64_SFT_ROR: z3.RotateRight,
+          'lsl': operator.lshift, 'lsr': z3.LShR, 'ror': z3.RotateRight}
 
 
 def register(name):
@@ -88,17 +89,18 @@ class Arm(Cpu):
             raise unknown(i)
 
     def address(self, i, k):
-        """The address in operand k. A further operand is added to the base afterwards."""
-        m, base = i.ops[k].mem, register(i.reg_name(i.ops[k].mem.base))[0]
-        start = self.r[base]
+        """The address in operand k. If the base is written back, it becomes the address, to which
+        a further operand is added afterwards."""
+        op, base = i.ops[k], register(i.reg_name(i.ops[k].mem.base))[0]
         if base == 'sp':
-            self.check_aligned(start, 16)
+            self.check_aligned(self.r[base], 16)
+        address = self.r[base] + op.mem.disp
+        if op.mem.index:
+            address += self.r[register(i.reg_name(op.mem.index))[0]] << op.shift.value
         if i.writeback or len(i.ops) > k + 1:
             self.check_differ(i, [*range(k)], base)
-            self.r[base] = simple(start + i.ops[k + 1].imm)
-            return start
-        index = self.r[register(i.reg_name(m.index))[0]] if m.index else 0
-        return simple(start + index + m.disp)
+            self.r[base] = simple(address + (i.ops[k + 1].imm if len(i.ops) > k + 1 else 0))
+        return simple(address)
 
 
 def bits(c, i):
@@ -122,7 +124,11 @@ TABLE.update({
     'movi': lambda c, i: c.put(i, 0, bv(0, c.width(i))),
     'clz': lambda c, i: c.put(i, 0, leading_zeros(c.get(i, 1))),
     'csel': lambda c, i: c.put(i, 0, choose(selector(c, i), c.get(i, 1), c.get(i, 2))),
-    'cset': lambda c, i: c.put(i, 0, resize(choose(selector(c, i), bv(1), bv(0)), c.width(i))),
+    'cinc': lambda c, i: c.put(i, 0, choose(selector(c, i), c.get(i, 1) + 1, c.get(i, 1))),
+    'cset': lambda c, i: c.put(i, 0, number_of(selector(c, i), c.width(i))),
+    'csetm': lambda c, i: c.put(i, 0, -number_of(selector(c, i), c.width(i))),
+    'adrp': lambda c, i: c.put(i, 0, LOADED + i.ops[1].imm),
+    'dup': lambda c, i: c.put(i, 0, join([c.get(i, 1)] * 2)),
     'ubfx': lambda c, i: c.put(i, 0, resize(bits(c, i), c.width(i))),
     'ubfiz': lambda c, i: c.put(
         i, 0, resize(part(c.get(i, 1), 0, i.ops[3].imm), c.width(i)) << i.ops[2].imm),
@@ -135,6 +141,14 @@ def compute(c, i):
     a, b = c.both(i)
     c.put(i, 0, {'add': a + b, 'sub': a - b, 'eor': a ^ b, 'orr': a | b, 'and': a & b,
                  'bic': a & ~b}[i.mnemonic])
+
+
+@means(TABLE, 'adds')
+def add(c, i):
+    a, b = c.both(i)
+    result = simple(a + b)
+    c.put(i, 0, result)
+    c.set_flags(result, c=z3.UGE(result, a))
 
 
 @means(TABLE, 'subs', 'cmp')
@@ -176,11 +190,10 @@ def move_and_keep(c, i):
     c.put(i, 0, c.get(i, 0) & mask | c.get(i, 1, w))
 
 
-@means(TABLE, 'lsl', 'lsr')
+@means(TABLE, 'lsl', 'lsr', 'ror')
 def shift(c, i):
     a, n = c.both(i)
-    n = simple(n & (a.size() - 1))
-    c.put(i, 0, a << n if i.mnemonic == 'lsl' else z3.LShR(a, n))
+    c.put(i, 0, SHIFTS[i.mnemonic](a, simple(n & (a.size() - 1))))
 
 
 @means(TABLE, 'bfxil')

@@ -3,14 +3,14 @@ import operator
 import z3
 from capstone import CS_ARCH_X86, CS_MODE_64
 from capstone import x86_const as X
-from machine import CONDITIONS, LOADED, Cpu, compared, means, unknown
+from machine import CONDITIONS, LOADED, Cpu, compared, means, number_of, unknown
 from memory import MustSplit
 from opcodes import KNOWN_X86, is_known
 from terms import (SYMBOLS, Refused, bv, choose, const, join, leading_zeros, part, resize, secret,
                    simple, sym, symbols)
 
 TABLE = {}
-SHIFTS = {'shl': operator.lshift, 'shr': z3.LShR, 'sar': operator.rshift}
+SHIFTS = {'shl': operator.lshift, 'shr': z3.LShR, 'sar': operator.rshift, 'rol': z3.RotateLeft}
 
 
 def registers():
@@ -135,17 +135,18 @@ def logic(c, i):
 def add(c, i):
     a, b = c.both(i)
     carry = z3.BoolVal(False) if i.mnemonic == 'add' else c.flag('c')
-    result = simple(a + b + z3.If(carry, bv(1, a.size()), bv(0, a.size())))
+    result = simple(a + b + number_of(carry, a.size()))
     c.put(i, 0, result)
     c.set_flags(result, c=z3.If(carry, z3.ULE(result, a), z3.ULT(result, a)))
 
 
-@means(TABLE, 'sub', 'cmp')
+@means(TABLE, 'sub', 'sbb', 'cmp')
 def subtract(c, i):
     a, b = c.both(i)
-    if i.mnemonic == 'sub':
-        c.put(i, 0, a - b)
-    c.flags = compared(a, b)
+    borrow = c.flag('c') if i.mnemonic == 'sbb' else z3.BoolVal(False)
+    if i.mnemonic != 'cmp':
+        c.put(i, 0, a - b - number_of(borrow, a.size()))
+    c.flags = compared(a, b, borrow)
 
 
 @means(TABLE, 'inc', 'dec')
@@ -171,13 +172,13 @@ def count(c, i, k, width):
     return n
 
 
-@means(TABLE, 'shl', 'shr', 'sar')
+@means(TABLE, *SHIFTS)
 def shift(c, i):
     a = c.get(i, 0)
     n, do = count(c, i, 1, a.size()), SHIFTS[i.mnemonic]
     result = simple(do(a, n))
     c.put(i, 0, result)
-    if const(n) is None:
+    if const(n) is None or i.mnemonic == 'rol':
         c.flags = {}
     elif const(n):
         last = a.size() - const(n) if i.mnemonic == 'shl' else const(n) - 1
@@ -314,16 +315,19 @@ def zero_upper(c, i):
         c.r[f'ymm{n}'] = resize(part(c.r[f'ymm{n}'], 0, 128), 256)
 
 
-@means(TABLE, 'rep movsb')
-def copy_bytes(c, i):
-    """Copies as many bytes as rcx says, upwards: the direction flag is clear at each call, and no
-    instruction here sets it. From one array to another, that is as all at once."""
-    size = c.facts.unique(c.r['rcx'], c.path)
-    if size is None:
+@means(TABLE, 'rep movsb', 'rep movsq')
+def copy(c, i):
+    """Copies as many bytes or words as rcx says, upwards: the direction flag is clear at each call,
+    and no instruction here sets it. If no byte is read after it was written, that is as all at
+    once."""
+    number = c.facts.unique(c.r['rcx'], c.path)
+    if number is None:
         raise MustSplit(c.r['rcx'])
-    if symbols(c.r['rsi']) & symbols(c.r['rdi']) & SYMBOLS.addresses:
-        raise Refused('a copy within an array')
+    size, ahead = number * i.ops[0].size, c.r['rdi'] - c.r['rsi']
     if size:
+        if symbols(c.r['rsi']) & symbols(c.r['rdi']) & SYMBOLS.addresses and \
+                not c.facts.holds(c.path, z3.UGE(ahead - 1, size - 1)):
+            raise Refused('a copy onto itself within an array')
         c.store(c.r['rdi'], c.load(c.r['rsi'], size))
-    for n, change in (('rdi', size), ('rsi', size), ('rcx', -size)):
+    for n, change in (('rdi', size), ('rsi', size), ('rcx', -number)):
         c.r[n] = simple(c.r[n] + change)
