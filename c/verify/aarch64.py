@@ -214,7 +214,7 @@ def access(c, i):
     return number, {'b': 1, 'h': 2}.get(i.mnemonic[-1], c.width(i) // 8)
 
 
-@means(TABLE, 'ldr', 'ldur', 'ldrb', 'ldurb', 'ldrh', 'ldurh', 'ldp')
+@means(TABLE, 'ldr', 'ldur', 'ldrb', 'ldurb', 'ldrh', 'ldp')
 def load(c, i):
     number, size = access(c, i)
     c.check_differ(i, range(number))
@@ -224,7 +224,7 @@ def load(c, i):
         c.put(i, k, resize(value, c.width(i)))
 
 
-@means(TABLE, 'str', 'stur', 'strb', 'sturb', 'strh', 'sturh', 'stp')
+@means(TABLE, 'str', 'stur', 'strb', 'strh', 'sturh', 'stp')
 def store(c, i):
     number, size = access(c, i)
     values = [c.get(i, k) for k in range(number)]

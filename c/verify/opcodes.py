@@ -11,23 +11,22 @@ import re
 X86 = {
     'x86-64': '''bsr 0fbd; bt 0fba/4 0fa3; bts 0fba/5 0fab; dec ff/1 fe/1; inc ff/0 fe/0; lea 8d
         mov 88 89 8a 8b b0+ b8+ c6/0 c7/0 66:89 66:c7/0; movabs W:b8+; movzx 0fb6 0fb7
-        mul W:f7/4; neg f7/3 f6/3; not f7/2 f6/2; pop 58+; push 50+ ff/6; leave c9
-        shld 0fa4 0fa5; rep_movsb f3:a4; rep_movsq f3W:a5
-        ret c3; jmp eb e9; call e8 67:e8; test 84 85 a8 a9 f6/0 f7/0; nop 90 0f1f/0
+        mul W:f7/4; neg f7/3 f6/3; not f7/2 f6/2; pop 58+; push 50+ ff/6; shld 0fa4 0fa5
+        rep_movsb f3:a4; rep_movsq f3W:a5; ret c3; jmp eb e9; call e8 67:e8
+        test 84 85 a8 a9 f6/0 f7/0; nop 90 0f1f/0; endbr64 f3:0f1e
         movaps 0f28 0f29; movups 0f10 0f11; movdqa 66:0f6f 66:0f7f; movdqu f3:0f6f f3:0f7f
         movq 66W:0f6e 66W:0f7e f3:0f7e 66:0fd6; pxor 66:0fef; xorps 0f57
         punpcklqdq 66:0f6c; punpckhqdq 66:0f6d; unpckhpd 66:0f15; movlhps 0f16
-        paddq 66:0fd4; pshufd 66:0f70; shufps 0fc6; endbr64 f3:0f1e''',
+        paddq 66:0fd4''',
     'x86-64-v2': '''palignr 66:0f3a0f; pextrq 66W:0f3a16''',
     'x86-64-v3': '''lzcnt f3:0fbd f3W:0fbd; andn v:0f38f2 vW:0f38f2; mulx vf2W:0f38f6
-        sarx vf3:0f38f7 vf3W:0f38f7; shlx v66:0f38f7 v66W:0f38f7; shrx vf2:0f38f7 vf2W:0f38f7
-        vmovups v.:0f10 v.:0f11 vL.:0f10 vL.:0f11; vmovaps v.:0f28 v.:0f29 vL.:0f28 vL.:0f29
+        shlx v66:0f38f7 v66W:0f38f7; shrx vf2:0f38f7 vf2W:0f38f7
+        vmovups v.:0f10 v.:0f11 vL.:0f10 vL.:0f11
         vmovdqu v.f3:0f6f v.f3:0f7f vL.f3:0f6f vL.f3:0f7f
         vmovq v.66W:0f6e v.66W:0f7e v.f3:0f7e v.66:0fd6; vmovlhps v:0f16; vzeroupper v.:0f77
         vpxor v66:0fef vL66:0fef; vxorps v:0f57 vL:0f57; vpaddq v66:0fd4 vL66:0fd4
         vpunpcklqdq v66:0f6c vL66:0f6c; vpunpckhqdq v66:0f6d vL66:0f6d
         vunpckhpd v66:0f15 vL66:0f15
-        vpalignr v66:0f3a0f vL66:0f3a0f; vshufps v:0fc6 vL:0fc6; vpshufd v.66:0f70 vL.66:0f70
         vpextrq v.66W:0f3a16; vextracti128 vL.66:0f3a39; vinserti128 vL66:0f3a38
         vpermq vL.66W:0f3a00; vpermpd vL.66W:0f3a01; vbroadcastsd vL.66:0f3819
         vblendps v66:0f3a0c vL66:0f3a0c'''}
@@ -115,10 +114,10 @@ ARM64 = '''
     ldr 0011110111 00111100111.....011.10 00111100110.........01
     ldur 1.111000010.........00 00111100110.........00; ldurb 00111000010.........00
     ldrb 0011100101 00111000011.....011.10 00111000010.........01
-    ldrh 0111100101 01111000011.....011.10 01111000010.........01; ldurh 01111000010.........00
+    ldrh 0111100101 01111000011.....011.10 01111000010.........01
     str 1.11100100 1.111000001.....011.10 1.111000000.........01
     str 0011110110 00111100101.....011.10 00111100100.........01
-    stur 1.111000000.........00 00111100100.........00; sturb 00111000000.........00
+    stur 1.111000000.........00 00111100100.........00
     strb 0011100100 00111000001.....011.10 00111000000.........01
     strh 0111100100 01111000001.....011.10 01111000000.........01; sturh 01111000000.........00
     ldp .010100101 .010100011 1010110101 1010110011

@@ -105,8 +105,8 @@ class X86(Cpu):
 
 TABLE.update({
     **dict.fromkeys(('nop', 'endbr64'), lambda c, i: None),
-    **dict.fromkeys(('mov', 'movabs', 'movups', 'movdqu', 'movaps', 'movdqa', 'vmovups', 'vmovdqu',
-                     'vmovaps'), lambda c, i: c.put(i, 0, c.get(i, 1, 8 * i.ops[0].size))),
+    **dict.fromkeys(('mov', 'movabs', 'movups', 'movdqu', 'movaps', 'movdqa', 'vmovups', 'vmovdqu'),
+                    lambda c, i: c.put(i, 0, c.get(i, 1, 8 * i.ops[0].size))),
     'movzx': lambda c, i: c.put(i, 0, resize(c.get(i, 1), 8 * i.ops[0].size)),
     'lea': lambda c, i: c.put(i, 0, part(c.address(i, i.ops[1]), 0, 8 * i.ops[0].size)),
     'not': lambda c, i: c.put(i, 0, ~c.get(i, 0)),
@@ -185,7 +185,7 @@ def shift(c, i):
         c.set_flags(result, c=part(a, last, 1) == 1)
 
 
-@means(TABLE, 'shlx', 'shrx', 'sarx')
+@means(TABLE, 'shlx', 'shrx')
 def shift_by_register(c, i):
     a = c.get(i, 1)
     c.put(i, 0, SHIFTS[i.mnemonic[:3]](a, count(c, i, 2, a.size())))
@@ -251,12 +251,6 @@ def pop(c):
     return value
 
 
-@means(TABLE, 'leave')
-def leave(c, i):
-    c.r['rsp'] = c.r['rbp']
-    c.r['rbp'] = pop(c)
-
-
 @means(TABLE, 'call')
 def call(c, i):
     push(c, c.note_call(i))
@@ -291,13 +285,11 @@ def vector(c, i):
 VECTORS = {
     'paddq': (64, 128, lambda a, b, n: [x + y for x, y in zip(a, b)]),
     'palignr': (8, 128, lambda a, b, n: (b + a)[n:n + 16]),
-    'pshufd': (32, 128, lambda a, b, n: [b[n >> 2 * k & 3] for k in range(4)]),
-    'shufps': (32, 128, lambda a, b, n: [(b if k > 1 else a)[n >> 2 * k & 3] for k in range(4)]),
     **dict.fromkeys(('pxor', 'xorps'), (64, 128, lambda a, b, n: [x ^ y for x, y in zip(a, b)])),
     **dict.fromkeys(('punpcklqdq', 'movlhps'), (64, 128, lambda a, b, n: [a[0], b[0]])),
     **dict.fromkeys(('punpckhqdq', 'unpckhpd'), (64, 128, lambda a, b, n: [a[1], b[1]]))}
 # The processor checks the addresses of these, if no v comes before.
-ALIGNED = {'movaps', 'movdqa', 'vmovaps', *VECTORS}
+ALIGNED = {'movaps', 'movdqa', *VECTORS}
 VECTORS['pextrq'] = 64, 128, lambda a, b, n: [b[n & 1]]
 TABLE.update({prefix + name: vector for prefix in ('', 'v') for name in VECTORS})
 VECTORS.update({

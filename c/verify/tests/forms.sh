@@ -42,8 +42,8 @@ a jump by a return||is not the caller|lea rax, [rip + body]; push rax; ret
 a return address that is changed||is not the caller|call 1f; ret; 1: add qword ptr [rsp], 1; ret
 a call by a register||not known for x86-64: call rax|call rax
 a call out of the library||not known|call body + 0x100000
-a frame that is aligned||2 passed|push rbp; mov rbp, rsp; and rsp, -64; push rdi; pop rdi; leave
-a frame aligned too much||ways through the call|push rbp; mov rbp, rsp; and rsp, -128; leave
+a frame that is aligned||2 passed|push rbp; mov rbp, rsp; and rsp, -64; push rdi; pop rdi; mov rsp, rbp; pop rbp
+a frame aligned too much||ways through the call|push rbp; mov rbp, rsp; and rsp, -128; mov rsp, rbp; pop rbp
 the red zone|--red-zone|2 passed|mov [rsp - 128], rdi; mov rdi, [rsp - 128]
 no red zone||below the stack pointer|mov [rsp - 8], rdi
 below the red zone|--red-zone|below the stack pointer|mov [rsp - 136], rdi
