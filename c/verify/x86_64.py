@@ -6,8 +6,7 @@ from capstone import x86_const as X
 from machine import CONDITIONS, LOADED, Cpu, compared, means, number_of, unknown
 from memory import MustSplit
 from opcodes import KNOWN_X86, is_known
-from terms import (SYMBOLS, Refused, bv, choose, const, join, leading_zeros, part, resize, secret,
-                   simple, sym, symbols)
+from terms import bv, choose, const, join, leading_zeros, part, resize, secret, simple, sym
 
 TABLE = {}
 SHIFTS = {'shl': operator.lshift, 'shr': z3.LShR, 'sar': operator.rshift, 'rol': z3.RotateLeft}
@@ -310,16 +309,11 @@ def zero_upper(c, i):
 @means(TABLE, 'rep movsb', 'rep movsq')
 def copy(c, i):
     """Copies as many bytes or words as rcx says, upwards: the direction flag is clear at each call,
-    and no instruction here sets it. If no byte is read after it was written, that is as all at
-    once."""
-    number = c.facts.unique(c.r['rcx'], c.path)
+    and no instruction here sets it."""
+    number, size = c.facts.unique(c.r['rcx'], c.path), i.ops[0].size
     if number is None:
         raise MustSplit(c.r['rcx'])
-    size, ahead = number * i.ops[0].size, c.r['rdi'] - c.r['rsi']
-    if size:
-        if symbols(c.r['rsi']) & symbols(c.r['rdi']) & SYMBOLS.addresses and \
-                not c.facts.holds(c.path, z3.UGE(ahead - 1, size - 1)):
-            raise Refused('a copy onto itself within an array')
+    for _ in range(number):
         c.store(c.r['rdi'], c.load(c.r['rsi'], size))
-    for n, change in (('rdi', size), ('rsi', size), ('rcx', -number)):
-        c.r[n] = simple(c.r[n] + change)
+        c.r.update((n, simple(c.r[n] + size)) for n in ('rdi', 'rsi'))
+    c.r['rcx'] = bv(0)

@@ -50,7 +50,6 @@ below the red zone|--red-zone|below the stack pointer|mov [rsp - 136], rdi
 a word that was popped||was not written|push rdi; pop rdi; sub rsp, 8; pop rdi
 a red zone moved|--red-zone|was not written|push rdi; mov [rsp-128], rdi; pop rax; push rax; mov rdi, [rsp-128]
 bytes copied||2 passed|push [rdi]; mov rsi, rsp; mov ecx, 8; rep movsb; sub rdi, 8; pop rsi
-bytes copied onto themselves||within an array|mov rsi, rdi; inc rdi; mov ecx, 8; rep movsb
 bytes copied by halves of addresses||not known for x86-64: rep|addr32 rep movsb
 an address not aligned||not aligned|paddq xmm0, [rdi]
 the highest bit of 0||ways through the call|mov rcx, -1; xor eax, eax; bsr ecx, eax; shr rcx, 32; jne 1f; 1:
