@@ -15,10 +15,11 @@ FACTORS = list(itertools.product((0, 1, -1, 8, -8), (0, 1), (0, 1)))
 
 def cuts(proof):
     """The head of a loop and its exit. The head is the first of the places to which a long call
-    comes most often. The exit is the first place outside of the loop that a call with one turn or
-    none comes to too."""
+    comes more often than a short one, by most. The exit is the first place outside of the loop that
+    a call with one turn or none comes to too."""
     (few, _), (many, refusal) = places(proof, 1), places(proof, TURNS)
     often = collections.Counter(many)
+    often.subtract(few)
     head = max(many, key=often.get)
     if often[head] < 2:
         raise refusal or Unknown(f'{proof.call.name}: no loop was found')
