@@ -13,7 +13,9 @@ import sys
 import tempfile
 sys.path.append(os.path.dirname(os.path.dirname(os.path.abspath(__file__))))
 import z3
-from capstone import Cs
+import aarch64
+import x86_64
+from capstone import CS_OP_MEM, Cs
 from calls import Library
 from cases import PROCESSORS
 from layout import Ours
@@ -23,14 +25,17 @@ from processor import BASE, SIZE, on_numbers, replies_to, request
 from terms import Refused, Unknown, bv, const, simple
 
 # How many encodings are tried, and how many of each name are compared.
-TRIES, OF_EACH_NAME = 5000, 40
-# The first register points to POINTER. Before the index SAVED, memory is what instructions access.
-# From there on it has the registers: eight words, eight vectors of 32 bytes, and the flags.
+TRIES, OF_EACH_NAME = 6000, 40
+# The stack pointer is POINTER. Memory before the index SAVED is what instructions access. From
+# there on it has the registers, words first, the flags, and the stack pointer of the caller.
 POINTER, SAVED = BASE + 256, 512
-FLAGS_AT = SAVED + 8 * 8 + 8 * 32
+VECTORS_AT, FLAGS_AT, STACK_AT = SAVED + 256, SAVED + 1280, SAVED + 1288
 X86, ARM = PROCESSORS.values()
-WORDS_OF = {X86: 'rdi rax rcx rdx rsi r8 r9 r10'.split(), ARM: [f'x{k}' for k in range(8)]}
-VECTORS_OF = {X86: [f'ymm{k}' for k in range(8)], ARM: [f'v{k}' for k in range(8)]}
+WORDS_OF = {X86: [n for n, (whole, *_) in x86_64.NAMES.items() if n == whole and n[0] == 'r' and
+                  n != 'rsp'], ARM: [f'x{k}' for k in range(31)]}
+VECTORS_OF = {X86: [f'ymm{k}' for k in range(16)], ARM: [f'v{k}' for k in range(32)]}
+WHOLE = {X86: lambda name: x86_64.NAMES.get(name, [None])[0],
+         ARM: lambda name: aarch64.register(name)[0]}
 # The bits of zero, sign, carry and overflow.
 BITS = {X86: (6, 7, 0, 11), ARM: (30, 31, 29, 28)}
 ENCODINGS = sorted(set().union(*KNOWN_X86['x86-64-v3'].values()))
@@ -41,7 +46,7 @@ def places(kind):
     """The registers, each with its index in memory."""
     words, vectors = WORDS_OF[kind], VECTORS_OF[kind]
     return [(name, SAVED + 8 * k) for k, name in enumerate(words)], \
-        [(name, SAVED + 64 + 32 * k) for k, name in enumerate(vectors)]
+        [(name, VECTORS_AT + 32 * k) for k, name in enumerate(vectors)]
 
 
 def x86_code(r):
@@ -51,17 +56,18 @@ def x86_code(r):
     prefix, wide = re.sub('[vL.W]', '', head), 'W' in head
     if head.startswith('v'):
         table = next(k for k in (2, 3, 1) if opcode.startswith(MAP_OF_VEX[k]))
-        third = 15 if '.' in head else r.randrange(8, 16)
+        third = 15 if '.' in head else r.randrange(16)
         last = wide << 7 | third << 3 | ('L' in head) << 2 | PREFIX_OF_VEX.index(prefix)
-        code, opcode = bytes([0xc4, 0xe0 | table, last]), opcode[len(MAP_OF_VEX[table]):]
+        code = bytes([0xc4, r.randrange(8) << 5 | table, last])
+        opcode = opcode[len(MAP_OF_VEX[table]):]
     else:
-        rex = 0x40 | (wide or r.randrange(2)) << 3 | r.choice([0, 1, 4])
-        code = bytes.fromhex(prefix) + bytes([rex])
+        # Without a byte REX, some registers are the high bytes of others.
+        rex = bytes([0x40 | wide << 3 | r.randrange(16)]) if wide or r.randrange(4) else b''
+        code = bytes.fromhex(prefix) + rex
     number = bytearray.fromhex(opcode.rstrip('+'))
     number[-1] |= r.randrange(8) if opcode.endswith('+') else 0
-    # Registers, or memory at the first of them and a byte.
-    operands = r.choice([0xc0, 0x47]) | (int(reg) if reg else r.randrange(8)) << 3 | r.randrange(8)
-    return code + number + bytes([operands, *r.randbytes(10)])
+    operands = r.randrange(256) & 0xc7 | (int(reg) if reg else r.randrange(8)) << 3
+    return code + number + bytes([operands, *r.randbytes(9)])
 
 
 def random_code(r, kind):
@@ -70,6 +76,20 @@ def random_code(r, kind):
         return x86_code(r)
     bits = ''.join(r.choice('01') if bit == '.' else bit for bit in r.choice(PATTERNS))
     return int(bits, 2).to_bytes(4, 'little')
+
+
+def random_memory(r, kind, i):
+    """Memory before an instruction, in which an address of it is likely to lie."""
+    flags = sum(r.randrange(2) << bit for bit in BITS[kind])
+    memory = bytearray(r.randbytes(FLAGS_AT) + flags.to_bytes(8, 'little')).ljust(SIZE, b'\0')
+    values = {name: r.getrandbits(r.choice([6, 64])) for name in WORDS_OF[kind]}
+    for m in (op.mem for op in i.ops if op.type == CS_OP_MEM):
+        for register, value in ((m.index, r.randrange(16)),
+                                (m.base, POINTER + r.choice([1, 16]) * r.randrange(8) - m.disp)):
+            values[WHOLE[kind](i.reg_name(register)) if register else None] = value
+    for name, at in places(kind)[0]:
+        memory[at:at + 8] = (values[name] % 2**64).to_bytes(8, 'little')
+    return bytes(memory)
 
 
 def flags_in(kind, memory):
@@ -98,7 +118,7 @@ def in_model(kind, i, memory):
     for name, at in words + vectors:
         size = cpu.r[name].size()
         cpu.r[name] = bv(int.from_bytes(memory[at:at + size // 8], 'little'), size)
-    cpu.r[words[0][0]] = bv(POINTER)
+    cpu.r[cpu.SP] = bv(POINTER)
     cpu.flags = {name: z3.BoolVal(flag) for name, flag in flags_in(kind, memory).items()}
     before, cpu.stack_pointer = dict(cpu.r), cpu.r[cpu.SP]
     went = cpu.TABLE[i.mnemonic](cpu, i)
@@ -117,8 +137,7 @@ def chosen(r, kind, level):
         if i is None or not kind.is_known(i, level) or count[i.mnemonic] == OF_EACH_NAME:
             continue
         i.ops, i.text = i.operands, i.op_str
-        flags = sum(r.randrange(2) << bit for bit in BITS[kind])
-        memory = r.randbytes(FLAGS_AT) + flags.to_bytes(8, 'little') + bytes(SIZE - FLAGS_AT - 8)
+        memory = random_memory(r, kind, i)
         try:
             cpu = in_model(kind, i, memory)
         except (KeyError, IndexError, MustSplit, Refused, Unknown, z3.Z3Exception):
@@ -131,22 +150,29 @@ def chosen(r, kind, level):
 
 def function(kind, number, code):
     """A function that loads the registers, runs an instruction, and saves them."""
-    (first, *words), vectors = places(kind)
-    code = '.byte ' + ', '.join(map(hex, code))
+    words, vectors = ([(name, at - 256) for name, at in some] for some in places(kind))
+    flags, stack, code = FLAGS_AT - 256, STACK_AT - 256, '.byte ' + ', '.join(map(hex, code))
     if kind is X86:
-        load = ['mov %rdi, %r11', f'push {FLAGS_AT - 256}(%rdi)', 'popf']
-        load += [f'mov {at - 256}(%rdi), %{name}' for name, at in words]
-        load += [f'vmovdqu {at - 256}(%rdi), %{name}' for name, at in vectors]
-        save = [f'mov %{name}, {at - 256}(%r11)' for name, at in [first, *words]]
-        save += [f'vmovdqu %{name}, {at - 256}(%r11)' for name, at in vectors]
-        save += ['pushf', f'pop {FLAGS_AT - 256}(%r11)']
+        load = [f'push %{name}' for name in kind.SAVED]
+        load += [f'push {flags}(%rdi)', 'popf', f'mov %rsp, {stack}(%rdi)', 'mov %rdi, %rsp']
+        load += [f'vmovdqu {at}(%rsp), %{name}' for name, at in vectors]
+        load += [f'mov {at}(%rsp), %{name}' for name, at in words]
+        save = [f'mov %{name}, {at}(%rsp)' for name, at in words]
+        save += [f'vmovdqu %{name}, {at}(%rsp)' for name, at in vectors]
+        save += ['mov %rsp, %rdi', f'mov {stack}(%rdi), %rsp', 'pushf', f'pop {flags}(%rdi)']
+        save += [f'pop %{name}' for name in reversed(kind.SAVED)]
     else:
-        load = ['mov x9, x0', f'ldr x1, [x0, {FLAGS_AT - 256}]', 'msr nzcv, x1']
-        load += [f'ldr {name}, [x0, {at - 256}]' for name, at in words]
-        load += [f'ldr q{name[1:]}, [x0, {at - 256}]' for name, at in vectors]
-        save = [f'str {name}, [x9, {at - 256}]' for name, at in [first, *words]]
-        save += [f'str q{name[1:]}, [x9, {at - 256}]' for name, at in vectors]
-        save += ['mrs x1, nzcv', f'str x1, [x9, {FLAGS_AT - 256}]']
+        pairs = [f'{c}{k}, {c}{k + 1}, [sp' for c, start, end in (('x', 19, 30), ('d', 8, 15))
+                 for k in range(start, end, 2)]
+        load = [f'stp {pair}, -16]!' for pair in pairs]
+        load += ['mov x1, sp', f'str x1, [x0, {stack}]', 'mov sp, x0']
+        load += [f'ldr x1, [sp, {flags}]', 'msr nzcv, x1']
+        load += [f'ldr q{name[1:]}, [sp, {at}]' for name, at in vectors]
+        load += [f'ldr {name}, [sp, {at}]' for name, at in words]
+        save = [f'str {name}, [sp, {at}]' for name, at in words]
+        save += [f'str q{name[1:]}, [sp, {at}]' for name, at in vectors]
+        save += ['mrs x1, nzcv', f'str x1, [sp, {flags}]', f'ldr x1, [sp, {stack}]', 'mov sp, x1']
+        save += [f'ldp {pair}], 16' for pair in reversed(pairs)]
     return '\n'.join([f'.globl i{number}', f'i{number}:', *load, code, *save, 'ret', ''])
 
 
@@ -189,7 +215,8 @@ def main(level, compiler, *program):
             print(f'FAILED: {i.mnemonic} {i.text} ({i.bytes.hex()}): {what}')
     if len(replies) < len(found):
         failed += 1
-        print(f'FAILED: the program ended at {found[len(replies)][0].mnemonic}')
+        i = found[len(replies)][0]
+        print(f'FAILED: the program ended at {i.mnemonic} {i.text} ({i.bytes.hex()})')
     print(f'{len(replies)} instructions do in the model what they do really, but for {failed}')
     return failed > 0 or not found
 
