@@ -313,7 +313,7 @@ def copy(c, i):
     number, size = c.facts.unique(c.r['rcx'], c.path), i.ops[0].size
     if number is None:
         raise MustSplit(c.r['rcx'])
-    for _ in range(number):
+    for _ in range(number % 2**64):
         c.store(c.r['rdi'], c.load(c.r['rsi'], size))
         c.r.update((n, simple(c.r[n] + size)) for n in ('rdi', 'rsi'))
     c.r['rcx'] = bv(0)
