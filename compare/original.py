@@ -4,15 +4,16 @@ import os
 import sys
 import z3
 sys.path.append(os.path.join(os.path.dirname(os.path.abspath(__file__)), '..', 'c', 'verify'))
+import terms
 from cases import FUNCTIONS
 from checks import check
 from definition import FALSE, TRUE
-from functions import write_within
 from header import FILL, HAD_BLOCK
 from layout import Ours
 from loops import Write
 from report import main
-from terms import bv, choose, join, part, secret, simple, sym
+from terms import bv, join, part, secret, simple, sym
+from tests.sample import choose, options
 
 COUNT = sym('any count')
 
@@ -50,10 +51,10 @@ class Crate(Ours):
         end.memory.content('stream', 0, self.SIZE)  # No byte may be left without content.
         count = end.memory.content('stream', self.count_at, 8)
         check(end, 'number of pending bytes', simple(count & 63), bv(len(state.pending)))
-        check(end, 'had_block', choose(z3.UGE(count, 64), TRUE, FALSE), state.had_block)
+        check(end, 'had_block', terms.choose(z3.UGE(count, 64), TRUE, FALSE), state.had_block)
         if self.version == 4:
             last = end.memory.content('stream', 135, 1)
-            check(end, 'top bit', choose(last < 0, TRUE, FALSE), state.top_bit)
+            check(end, 'top bit', terms.choose(last < 0, TRUE, FALSE), state.top_bit)
 
     def any_more(self, args):
         """The count fits the state. It must not overflow by a write."""
@@ -91,19 +92,7 @@ class CountedWrite(Write):
         return super().open()
 
 
-def options(parser):
-    parser.add_argument('--every', type=int, default=1, metavar='N',
-                        help='checks only each Nth of the writes that complete no block')
-
-
-def choose_cases(cases, args):
-    if args.every > 1:
-        print(f'Of the writes that complete no block, only each {args.every}th is checked.')
-    return [case for k, case in enumerate(cases)
-            if case.check is not write_within or k % args.every == 0]
-
-
 if __name__ == '__main__':
     writes = FUNCTIONS['_write'].cases
     writes[CountedWrite] = writes.pop(Write)
-    sys.exit(main(__doc__, options, layout=Crate, choose=choose_cases))
+    sys.exit(main(__doc__, options, layout=Crate, choose=choose))

@@ -70,6 +70,17 @@ verify_package() {
     lacks 'the machine code of the library for C' "$python" ||
         in_package verify LEVEL=x86-64 MUTANTS=30
 }
+# Verifies builds of the crate for Rust in part: the calls of one version for each processor.
+verify_rust() { # VERSION CALLS [SETTING..]
+    lacks 'the machine code of the crate for Rust' rustc "$python" ||
+        in_package verify FROM=rust EVERY=40 FUNCTION="$(printf "komihash_v$1%s " '' $2)" "${@:3}"
+}
+verify_rust_for_arm() {
+    local compiler prefix=aarch64-linux-gnu-
+    lacks 'the same for ARM64' "${prefix}gcc" "${debian[@]}" "$python" ||
+        { compiler=$(compiler_for aarch64-unknown-linux-gnu) &&
+            verify_rust 4 '_write _finish _pad' "CROSS=$prefix" "RUSTC=$compiler"; }
+}
 test_verify() {
     local tests=c/verify/tests name=libkomihash_rattle.so.1 out libraries
     lacks 'attacks on the check of the machine code' "$python" && return
@@ -137,6 +148,8 @@ part check_cross_from_rust i686-linux-gnu- i686-unknown-linux-gnu
 part check_web
 part check_macos
 part verify_package
+part verify_rust 5 '_write _finish _unpad' LEVEL=x86-64-v2
+part verify_rust_for_arm
 part test_verify
 part verify_original
 counted
