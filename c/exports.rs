@@ -11,46 +11,6 @@ fn panic(_: &core::panic::PanicInfo) -> ! {
     loop {}
 }
 
-// LLVM makes calls of memcpy of loops that copy. Where `make verify` can read the library, it has a
-// memcpy of its own, whose loops this check follows, and which no other code sees.
-#[cfg(all(target_os = "linux", target_arch = "x86_64"))]
-core::arch::global_asm!(
-    "memcpy: xor eax, eax",
-    "2: lea rcx, [rax + 8]",
-    "cmp rcx, rdx",
-    "ja 3f",
-    "mov r8, [rsi + rax]",
-    "mov [rdi + rax], r8",
-    "mov rax, rcx",
-    "jmp 2b",
-    "3: cmp rax, rdx",
-    "je 4f",
-    "mov cl, [rsi + rax]",
-    "mov [rdi + rax], cl",
-    "inc rax",
-    "jmp 3b",
-    "4: mov rax, rdi",
-    "ret",
-);
-#[cfg(all(target_os = "linux", target_arch = "aarch64"))]
-core::arch::global_asm!(
-    "memcpy: mov x3, #0",
-    "2: add x4, x3, #8",
-    "cmp x4, x2",
-    "b.hi 3f",
-    "ldr x5, [x1, x3]",
-    "str x5, [x0, x3]",
-    "mov x3, x4",
-    "b 2b",
-    "3: cmp x3, x2",
-    "b.eq 4f",
-    "ldrb w4, [x1, x3]",
-    "strb w4, [x0, x3]",
-    "add x3, x3, #1",
-    "b 3b",
-    "4: ret",
-);
-
 /// Returns what a pointer and the number after it stand for. If the number is 0, the pointer may be
 /// null, which no slice can be.
 unsafe fn array<'a, T>(pointer: *const T, count: usize) -> &'a [T] {

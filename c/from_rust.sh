@@ -26,14 +26,11 @@ case $file in
 *.wasm) kind=cdylib files=link=$file ;;
 *) kind=staticlib files=link=$scratch/all.a,obj=$file ;;
 esac
-# The assembler marks calls of memcpy so that the linker makes them direct, and rustc doesn't.
-case $target in x86_64*-linux*) files=link=$scratch/all.a,asm=$scratch/all.s ;; esac
-compile() {
+compile() { # LLVM would make calls of memcpy from loops that copy.
     $rustc --target "$target" --cap-lints allow -C opt-level=3 -C codegen-units=1 -C panic=abort \
-        -C force-unwind-tables=yes "$@"
+        -C force-unwind-tables=yes -C llvm-args=-disable-loop-idiom-memcpy "$@"
 }
 compile "$@" --edition "$(sed -n 's/^edition = "\(.*\)"/\1/p' "$crate/Cargo.toml")" \
     --crate-name komihash_rattle --crate-type rlib --out-dir "$scratch" "$crate/src/lib.rs"
 compile "$@" --edition 2021 -C lto=fat --crate-type "$kind" --emit "$files" -L "$scratch" \
     --extern komihash_rattle "$here/exports.rs"
-[ ! -f "$scratch/all.s" ] || "${CROSS-}as" --gdwarf-5 -o "$file" "$scratch/all.s"
