@@ -124,6 +124,7 @@ TABLE.update({
     'movi': lambda c, i: c.put(i, 0, bv(0, c.width(i))),
     'clz': lambda c, i: c.put(i, 0, leading_zeros(c.get(i, 1))),
     'csel': lambda c, i: c.put(i, 0, choose(selector(c, i), c.get(i, 1), c.get(i, 2))),
+    'csinc': lambda c, i: c.put(i, 0, choose(selector(c, i), c.get(i, 1), c.get(i, 2) + 1)),
     'cinc': lambda c, i: c.put(i, 0, choose(selector(c, i), c.get(i, 1) + 1, c.get(i, 1))),
     'cset': lambda c, i: c.put(i, 0, number_of(selector(c, i), c.width(i))),
     'csetm': lambda c, i: c.put(i, 0, -number_of(selector(c, i), c.width(i))),
