@@ -5,14 +5,29 @@ use core::mem::size_of;
 use core::slice::{from_raw_parts, from_raw_parts_mut};
 
 // The only function that the crate calls outside of itself. Panics never happen, as is checked.
+#[cfg(target_arch = "x86_64")]
 core::arch::global_asm!(
     ".hidden memcpy",
     ".globl memcpy",
-    ".type memcpy, @function",
+    ".type memcpy, %function",
     "memcpy: mov rax, rdi",
     "mov rcx, rdx",
     "rep movsb",
     "ret",
+);
+#[cfg(target_arch = "aarch64")]
+core::arch::global_asm!(
+    ".hidden memcpy",
+    ".globl memcpy",
+    ".type memcpy, %function",
+    "memcpy: mov x3, #0",
+    "1: cmp x3, x2",
+    "b.eq 2f",
+    "ldrb w4, [x1, x3]",
+    "strb w4, [x0, x3]",
+    "add x3, x3, #1",
+    "b 1b",
+    "2: ret",
 );
 
 #[panic_handler]
