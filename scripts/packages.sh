@@ -93,9 +93,16 @@ test_verify() {
     run_case 'edits of files are refused' "$python" -B $tests/attacks.py "${libraries[@]}"
     if grep -qw avx2 /proc/cpuinfo; then
         run_case 'random instructions do in the model what they do on the processor' \
-            "$python" -B $tests/instructions.py x86-64-v3 "${CC:-cc}" "$out/processor"
+            "$python" -B $tests/instructions.py x86-64-v3 "${CC:-cc}"
     else
         skip 'random instructions (optional)' 'processor with AVX2'
+    fi
+    if [ -d "$out/aarch64-linux-gnu" ]; then
+        run_case 'random instructions of ARM64 do in the model what they do in an emulator' \
+            "$python" -B $tests/instructions.py armv8-a aarch64-linux-gnu-gcc qemu-aarch64 \
+            -L /usr/aarch64-linux-gnu
+    else
+        skip 'random instructions of ARM64' 'aarch64-linux-gnu-gcc or no qemu-aarch64'
     fi
     counted
 }

@@ -2,8 +2,7 @@
 in the model and really, on random registers, flags and memory, and must do the same. Jumps, and
 what moves the stack pointer, are left to the calls of processor.py.
 
-instructions.py LEVEL COMPILER PROGRAM.., where the level is x86-64-v3 or armv8-a, and the program
-is processor.c."""
+instructions.py LEVEL COMPILER [EMULATOR], where the level is x86-64-v3 or armv8-a."""
 import collections
 import os
 import random
@@ -30,6 +29,7 @@ TRIES, OF_EACH_NAME = 6000, 40
 # there on it has the registers, words first, the flags, and the stack pointer of the caller.
 POINTER, SAVED = BASE + 256, 512
 VECTORS_AT, FLAGS_AT, STACK_AT = SAVED + 256, SAVED + 1280, SAVED + 1288
+PROGRAM = os.path.join(os.path.dirname(os.path.abspath(__file__)), 'processor.c')
 X86, ARM = PROCESSORS.values()
 WORDS_OF = {X86: [n for n, (whole, *_) in x86_64.NAMES.items() if n == whole and n[0] == 'r' and
                   n != 'rsp'], ARM: [f'x{k}' for k in range(31)]}
@@ -150,30 +150,28 @@ def chosen(r, kind, level):
 
 def function(kind, number, code):
     """A function that loads the registers, runs an instruction, and saves them."""
-    words, vectors = ([(name, at - 256) for name, at in some] for some in places(kind))
+    registers = [(name, at - 256) for name, at in sum(places(kind), [])]
     flags, stack, code = FLAGS_AT - 256, STACK_AT - 256, '.byte ' + ', '.join(map(hex, code))
     if kind is X86:
-        load = [f'push %{name}' for name in kind.SAVED]
-        load += [f'push {flags}(%rdi)', 'popf', f'mov %rsp, {stack}(%rdi)', 'mov %rdi, %rsp']
-        load += [f'vmovdqu {at}(%rsp), %{name}' for name, at in vectors]
-        load += [f'mov {at}(%rsp), %{name}' for name, at in words]
-        save = [f'mov %{name}, {at}(%rsp)' for name, at in words]
-        save += [f'vmovdqu %{name}, {at}(%rsp)' for name, at in vectors]
-        save += ['mov %rsp, %rdi', f'mov {stack}(%rdi), %rsp', 'pushf', f'pop {flags}(%rdi)']
-        save += [f'pop %{name}' for name in reversed(kind.SAVED)]
+        keep = [(f'push %{name}', f'pop %{name}') for name in kind.SAVED]
+        start = f'push {flags}(%rdi); popf; mov %rsp, {stack}(%rdi); mov %rdi, %rsp'
+        moves = [('mov' if name[0] == 'r' else 'vmovdqu', f'{at}(%rsp)', f'%{name}')
+                 for name, at in registers]
+        load, save = ([f'{move} {x}, {y}' for move, x, y in moves],
+                      [f'{move} {y}, {x}' for move, x, y in moves])
+        end = f'mov %rsp, %rdi; mov {stack}(%rdi), %rsp; pushf; pop {flags}(%rdi)'
     else:
-        pairs = [f'{c}{k}, {c}{k + 1}, [sp' for c, start, end in (('x', 19, 30), ('d', 8, 15))
-                 for k in range(start, end, 2)]
-        load = [f'stp {pair}, -16]!' for pair in pairs]
-        load += ['mov x1, sp', f'str x1, [x0, {stack}]', 'mov sp, x0']
-        load += [f'ldr x1, [sp, {flags}]', 'msr nzcv, x1']
-        load += [f'ldr q{name[1:]}, [sp, {at}]' for name, at in vectors]
-        load += [f'ldr {name}, [sp, {at}]' for name, at in words]
-        save = [f'str {name}, [sp, {at}]' for name, at in words]
-        save += [f'str q{name[1:]}, [sp, {at}]' for name, at in vectors]
-        save += ['mrs x1, nzcv', f'str x1, [sp, {flags}]', f'ldr x1, [sp, {stack}]', 'mov sp, x1']
-        save += [f'ldp {pair}], 16' for pair in reversed(pairs)]
-    return '\n'.join([f'.globl i{number}', f'i{number}:', *load, code, *save, 'ret', ''])
+        pairs = [f'x{k}, x{k + 1}, [sp' for k in range(19, 30, 2)]
+        pairs += [f'd{k}, d{k + 1}, [sp' for k in range(8, 16, 2)]
+        keep = [(f'stp {pair}, -16]!', f'ldp {pair}], 16') for pair in pairs]
+        start = f'mov x1, sp; str x1, [x0, {stack}]; mov sp, x0; ldr x1, [sp, {flags}]; ' \
+            'msr nzcv, x1'
+        load = [f'ldr {name.replace("v", "q")}, [sp, {at}]' for name, at in registers]
+        save = ['str' + one.removeprefix('ldr') for one in load]
+        end = f'mrs x1, nzcv; str x1, [sp, {flags}]; ldr x1, [sp, {stack}]; mov sp, x1'
+    before, after = zip(*keep)
+    return '\n'.join([f'.globl i{number}', f'i{number}:', *before, start, *load, code, *save, end,
+                      *reversed(after), 'ret', ''])
 
 
 def differences(kind, cpu, memory):
@@ -192,23 +190,24 @@ def differences(kind, cpu, memory):
             yield f'flag {name}: {flag} in the model, {real} really'
 
 
-def replies_of(kind, found, compiler, program):
+def replies_of(kind, found, compiler, emulator):
     """What the processor leaves of each memory."""
     with tempfile.TemporaryDirectory() as folder:
-        source, library = f'{folder}/instructions.s', f'{folder}/instructions.so'
+        source, library, program = (f'{folder}/instructions{end}' for end in ('.s', '.so', ''))
         with open(source, 'w') as file:
             file.write('.section .note.GNU-stack, "", %progbits\n.text\n')
             file.writelines(function(kind, k, i.bytes) for k, (i, _, _) in enumerate(found))
         subprocess.run([compiler, '-shared', '-nostdlib', '-o', library, source], check=True)
+        subprocess.run([compiler, '-o', program, PROGRAM, '-ldl'], check=True)
         requests = [request(f'i{k}', 1, (POINTER, 0, 0, 0), memory)
                     for k, (_, memory, _) in enumerate(found)]
-        return [memory for _, memory in replies_to(requests, [*program, library])[0]]
+        return [memory for _, memory in replies_to(requests, [*emulator, program, library])[0]]
 
 
-def main(level, compiler, *program):
+def main(level, compiler, *emulator):
     kind = next(kind for kind in PROCESSORS.values() if level in kind.LEVELS)
     found = list(chosen(random.Random(1), kind, level))
-    replies, failed = replies_of(kind, found, compiler, program), 0
+    replies, failed = replies_of(kind, found, compiler, emulator), 0
     for (i, _, cpu), memory in zip(found, replies):
         for what in differences(kind, cpu, memory):
             failed += 1
