@@ -8,39 +8,23 @@ cd "$(dirname "${BASH_SOURCE[0]}")"
 field() { sed -n "s/^$1 *= *\"\(.*\)\"/\1/p" "$crate/Cargo.toml"; }
 out=$PWD/out/original
 
-# add_core DIR OPTION.. builds core for ARM64, which the compiler here may lack, by the compiler and
-# the sources of Debian's packages rustc-web and rust-web-src.
-add_core() {
-    local at=$1/lib/rustlib/aarch64-unknown-linux-gnu/lib
-    mkdir -p "$at"
-    [ -f "$at/libcore.rlib" ] || "$rustc" --edition 2024 "${@:2}" -Z force-unstable-if-unmarked \
-        --crate-name core --crate-type rlib --out-dir "$at" /usr/src/rustc-*/library/core/src/lib.rs
-    echo '#![feature(compiler_builtins)] #![compiler_builtins] #![no_std]' |
-        "$rustc" --edition 2021 "${@:2}" -Z force-unstable-if-unmarked --sysroot "$1" \
-            --crate-name compiler_builtins --crate-type rlib --out-dir "$at" -
-}
-
 # build LEVEL OPT makes OUT/LEVEL/OPT.so. The crate names std, but uses only what core has too, so a
 # crate of this name that is core stands in for it, and nothing of std is linked.
 build() {
-    local dir=$out/$1 cross='' rustc=rustc options=(-C "opt-level=$2" -C panic=abort
+    local dir=$out/$1 cross='' rustc=(rustc -C "target-cpu=$1")
+    local options=(--edition "$(field edition)" -C "opt-level=$2" -C panic=abort
         -C codegen-units=1)
     if [ "$1" = armv8-a ]; then
-        local -x RUSTC_BOOTSTRAP=1 CFG_VERSION=x
-        cross=aarch64-linux-gnu- rustc=/usr/bin/rustc
-        options+=(--target aarch64-unknown-linux-gnu)
-        add_core "$dir" -A warnings "${options[@]}"
-        options+=(--sysroot "$dir")
-    else
-        options+=(-C "target-cpu=$1")
+        cross=aarch64-linux-gnu-
+        rustc=(/usr/bin/rustc --target aarch64-unknown-linux-gnu --sysroot "$dir")
+        [ -d "$dir/lib" ] || bash ../scripts/sysroot.sh aarch64-unknown-linux-gnu "$dir"
     fi
-    options+=(--edition "$(field edition)")
     mkdir -p "$dir"
     echo '#![no_std] pub use core::*;' |
-        "$rustc" "${options[@]}" --crate-name std --crate-type rlib -o "$dir/libstd.rlib" -
-    "$rustc" "${options[@]}" --crate-name komihash --crate-type rlib -o "$dir/libkomihash.rlib" \
+        "${rustc[@]}" "${options[@]}" --crate-name std --crate-type rlib -o "$dir/libstd.rlib" -
+    "${rustc[@]}" "${options[@]}" --crate-name komihash --crate-type rlib -o "$dir/libkomihash.rlib" \
         --extern "std=$dir/libstd.rlib" "$crate/src/lib.rs"
-    "$rustc" "${options[@]}" -C lto=fat --crate-type staticlib -L "$dir" --extern komihash \
+    "${rustc[@]}" "${options[@]}" -C lto=fat --crate-type staticlib -L "$dir" --extern komihash \
         --emit "link=$dir/$2.a,asm=$dir/$2.s" original.rs
     # `as` marks the calls of memcpy, so that `ld` makes them direct. The names of files that panics
     # would print need the loader, so they are left out.
@@ -49,7 +33,7 @@ build() {
     echo '{ global: komihash_*; local: *; };' > "$dir/names"
     "${cross}ld" -shared -Bsymbolic --gc-sections --version-script="$dir/names" -o "$dir/$2.so" \
         "$dir/$2.o"
-    echo "komihash $(field version) by $("$rustc" --version), for $1, opt-level $2"
+    echo "komihash $(field version) by $("${rustc[@]}" --version), for $1, opt-level $2"
     libraries+=("$1:$dir/$2.so")
 }
 
