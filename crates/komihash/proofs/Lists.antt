@@ -1,8 +1,8 @@
 -- Lists that are cut, joined and written over piece by piece.
-use Rattle.std.proofs.Common.{◌≡◌, ℕ, zero, suc, ◌+◌, ◌-◌, ◌≤◌, List, [], ◌∷◌, ◌++◌, length, take}
-use Rattle.std.proofs.Common.{drop, set, ap, arith, take-append-drop}
+use Rattle.std.proofs.Common.{◌≡◌, ℕ, ◌+◌, ◌-◌, ◌<◌, List, ◌++◌, length, take, drop, get_or, set}
+use Rattle.std.proofs.Common.{arith}
 use Rattle.std.proofs.lemmas.Bool.{cases_lt}
-use Rattle.std.proofs.lemmas.Grind.{elements}
+use Rattle.std.proofs.lemmas.Grind.{elements, common_steps}
 
 -- the first n items of two pieces: those of the first, and as many of the second as are missing
 pub take-append : (n : ℕ) (xs ys : List ℕ)
@@ -13,3 +13,11 @@ take-append n xs ys = grind (arith, elements, cases_lt)
 pub record Covers (n : ℕ) (out all old : List ℕ) : Type 0 where
   pub front : take n out ≡ take n all
   pub others : drop n out ≡ drop n old
+
+-- one more item is stored
+pub Covers-next : (i x : ℕ) {out all old : List ℕ} → Covers i out all old
+    → (i < length out) × (i < length all) → x ≡ get_or all i 0 → Covers (i + 1) (set out i x) all old
+Covers-next i x so (fits, some) is =
+    let front = so.front in
+    let others = so.others in
+    record { front = grind (arith, common_steps); others = grind (arith, common_steps) }

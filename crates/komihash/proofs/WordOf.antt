@@ -1,17 +1,15 @@
 -- Words of lists of bytes that are cut and joined.
 use Rattle.std.proofs.Common.{◌≡◌, ℕ, zero, suc, ◌+◌, ◌-◌, ◌*◌, ◌/◌, ◌%◌, ◌^◌, ◌<◌, ◌≤◌, List, []}
 use Rattle.std.proofs.Common.{◌∷◌, ◌++◌, length, take, drop, get_or, ap, arith, ◌∙◌, sym, take-add}
-use Rattle.std.proofs.Common.{Fits, w8, refl, take-take, drop-drop, replicate, length-append}
+use Rattle.std.proofs.Common.{Fits, w8, refl, drop-drop, replicate, length-append}
 use Rattle.std.proofs.Common.{length-drop, length-take-le, take_all, get_or-drop, take_at, drop_at}
 use Rattle.std.proofs.Common.{pow-add, pow_pos, bit_or}
 use Rattle.std.proofs.lemmas.Bool.{cases_lt}
 use Rattle.std.proofs.lemmas.Grind.{elements}
-use Rattle.std.proofs.lemmas.List.{get_or_past, drop-take, drop-append-le, take-append-le}
+use Rattle.std.proofs.lemmas.List.{get_or_past, drop-append-le, take-append-le}
 use Rattle.std.proofs.lemmas.Nat.{shl-shr, shr_high, mod_low, mod-pow-add}
-use Rattle.std.proofs.lemmas.Simd.{Each1-from_get_or, get_or_wider}
 use Rattle.std.proofs.Math.Nat.{mul-mod_left}
 use Rattle.std.specs.Int.Bits.{or_shifted_r}
-use Rattle.std.specs.Simd.Lanes.{number_l}
 use Rattle.komihash.specs.Words.{AreBytes, word_of}
 
 -- ---- lists of bytes

@@ -85,6 +85,7 @@ pub(crate) fn hash_from_pair<W: WholeWords>(
     close(pair, first, second, tally)
 }
 
+// Rust instead: #[inline]
 #[inline(never)]
 fn hash_of_partial_word<const V: u8>(bytes: &[u8], seed: u64, tally: &mut Tally) -> u64
     requires least { 1 ≤ length bytes.now }
@@ -98,6 +99,7 @@ fn hash_of_partial_word<const V: u8>(bytes: &[u8], seed: u64, tally: &mut Tally)
 }
 
 // The final word comes first, so that its shift doesn't take registers that the products need.
+// Rust instead: #[inline]
 #[inline(never)]
 fn hash_of_one_word<const V: u8>(bytes: &[u8], seed: u64, tally: &mut Tally) -> u64
     requires least { 8 ≤ length bytes.now }
@@ -111,6 +113,7 @@ fn hash_of_one_word<const V: u8>(bytes: &[u8], seed: u64, tally: &mut Tally) -> 
 }
 
 // This function is apart from the next one, because keys often have 16 bytes.
+// Rust instead: #[inline]
 #[inline(never)]
 fn hash_of_16_bytes<const V: u8>(bytes: &[u8], seed: u64, tally: &mut Tally) -> u64
     requires { length bytes.now ≡ 16 }
@@ -122,6 +125,7 @@ fn hash_of_16_bytes<const V: u8>(bytes: &[u8], seed: u64, tally: &mut Tally) -> 
     close(pair, padding_byte::<V>(bytes), 0, tally)
 }
 
+// Rust instead: #[inline]
 #[inline(never)]
 fn hash_of_words<const V: u8>(bytes: &[u8], seed: u64, tally: &mut Tally) -> u64
     requires least { 16 < length bytes.now }

@@ -120,8 +120,11 @@ pub(crate) fn read_whole_words(bytes: &[u8], out: &mut [u64])
     ensures words { take (length bytes.now / 8) out.new ≡ whole_words bytes.now }
     ensures rest { drop (length bytes.now / 8) out.new ≡ drop (length bytes.now / 8) out.old }
 {
-    'whole: for i in 0..bytes.len() / 8 {
-        out[i] = word_at(bytes, 8 * i);
+    // With one slice of each length, the loop tests no index.
+    let (words, _) = bytes.as_chunks::<8>();
+    let front = &mut out[..words.len()];
+    'whole: for i in 0..words.len() {
+        front[i] = u64::from_le_bytes(words[i]);
     }
 }
 
@@ -134,8 +137,9 @@ pub(crate) fn write_first_bytes(words: &[u64], count: usize, out: &mut [u8])
     ensures rest { drop count out.new ≡ drop count out.old }
 {
     let whole = count / 8;
+    let front = &words[..whole];
     'whole: for i in 0..whole {
-        write_word(words[i], &mut out[8 * i..8 * i + 8]);
+        write_word(front[i], &mut out[8 * i..8 * i + 8]);
     }
     let has_remainder = count % 8 > 0;
     if has_remainder {

@@ -1,18 +1,24 @@
 -- Each turn of the loop stores the next whole word.
-use Rattle.std.proofs.Common.{◌≡◌, ◌/◌, ◌∙◌, length, arith, take_all}
-use Rattle.std.proofs.lemmas.Grind.{common_steps}
-use Rattle.komihash.proofs.WholeWords.{length-stored_words, get_or-stored_words, length-whole_words}
+use Rattle.std.proofs.Common.{◌≡◌, ◌/◌, ◌∙◌, length, arith, sym, take_all}
+use Rattle.std.proofs.lemmas.List.{length-set, take-append-le}
+use Rattle.komihash.proofs.Lists.{Covers-next}
+use Rattle.komihash.proofs.WholeWords.{get_or-stored_words, length-whole_words, word_of-chunk}
 use Rattle.komihash.proofs.utils.read_whole_words.Goals as goal
 
 pub whole-preserved : goal.whole-preserved
 whole-preserved c =
     let bytes = c.args.bytes.now in
-    let size = length-stored_words (length bytes / 8) bytes in
-    let word = get_or-stored_words (length bytes / 8) c.whole.i bytes (omega arith) in
-    record { front = grind (arith, common_steps); others = grind (arith, common_steps) }
+    let n = length bytes / 8 in
+    let size = length-whole_words bytes in
+    let read = word_of-chunk n c.whole.i bytes (omega arith) (omega arith) in
+    let word = rw c.as_chunks.ensures.front at c.from_le_bytes.ensures in
+    let next = Covers-next c.whole.i _ c.whole.invariant.1 (omega arith)
+    (word ∙ read ∙ sym (get_or-stored_words n c.whole.i bytes (omega arith))) in
+    (length-set _ c.whole.i _ ∙ c.whole.invariant.0, next)
 
 pub returns-clause-words : goal.returns-clause-words
 returns-clause-words c =
     let all : c.whole.i ≡ length c.args.bytes.now / 8 = omega arith in
-    (rw all at c.whole.invariant.front)
+    take-append-le _ c.whole.front _ (omega arith)
+    ∙ (rw all at c.whole.invariant.1.front)
     ∙ take_all _ _ (search (arith, length-whole_words))

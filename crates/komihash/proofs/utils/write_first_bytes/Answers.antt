@@ -1,12 +1,17 @@
 -- Each turn covers eight more bytes of `out`; fewer than eight may be left after the loop.
-use Rattle.std.proofs.Common.{◌≡◌, ◌/◌, rules, arith}
+use Rattle.std.proofs.Common.{◌≡◌, ◌/◌, ◌∙◌, ℕ, ap, take, get_or, get_or-take, w64, rules, arith}
+use Rattle.std.specs.Int.{to_le_bytes}
 use Rattle.komihash.proofs.AllBytes.{Covers-more}
 use Rattle.komihash.proofs.utils.write_first_bytes.Goals as goal
 
 pub whole-preserved : goal.whole-preserved
 whole-preserved c =
-    Covers-more _ _ _ _ _ 8 _ _ c.whole.invariant c.write_word.ensures (omega arith) (omega arith)
-    (omega arith) (omega arith) (omega arith)
+    let words = c.args.words.now in
+    let same : get_or (take (c.args.count / 8) words) c.whole.i 0 ≡ get_or words c.whole.i 0 =
+    grind (arith, get_or-take {A = ℕ}) in
+    Covers-more _ _ _ _ _ 8 _ _ c.whole.invariant
+    (c.write_word.ensures ∙ ap (to_le_bytes w64) same) (omega arith) (omega arith) (omega arith)
+    (omega arith) (omega arith)
 
 pub returns-then-has_remainder : goal.returns-then-has_remainder
 returns-then-has_remainder c =

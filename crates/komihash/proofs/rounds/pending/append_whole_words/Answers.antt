@@ -1,5 +1,5 @@
 -- The words after the partial word continue those that are stored.
-use Rattle.std.proofs.Common.{◌≡◌, ℕ, ◌+◌, ◌-◌, ◌*◌, ◌/◌, ◌%◌, length, drop, arith, ◌∙◌}
+use Rattle.std.proofs.Common.{◌≡◌, ◌+◌, ◌-◌, ◌/◌, ◌%◌, length, drop, arith, ◌∙◌}
 use Rattle.std.proofs.Common.{take_all, length-drop}
 use Rattle.std.proofs.lemmas.Bool.Decides.{nat_tests}
 use Rattle.komihash.specs.Internals.{pending_bytes}
