@@ -79,7 +79,7 @@ verify_rust_for_arm() {
     local compiler prefix=aarch64-linux-gnu-
     lacks 'the same for ARM64' "${prefix}gcc" "${debian[@]}" "$python" ||
         { compiler=$(compiler_for aarch64-unknown-linux-gnu) &&
-            verify_rust 4 '_write _finish _pad' "CROSS=$prefix" "RUSTC=$compiler"; }
+            verify_rust 4 '_write _finish' "CROSS=$prefix" "RUSTC=$compiler"; }
 }
 test_verify() {
     local tests=c/verify/tests name=libkomihash_rattle.so.1 out libraries
@@ -155,7 +155,7 @@ part check_cross_from_rust i686-linux-gnu- i686-unknown-linux-gnu
 part check_web
 part check_macos
 part verify_package
-part verify_rust 5 '_write _finish _unpad' LEVEL=x86-64-v2
+part verify_rust 5 '_write _finish' LEVEL=x86-64-v2
 part verify_rust_for_arm
 part test_verify
 part verify_original
