@@ -65,7 +65,7 @@ below_prefix() {
     *) quoted "$1" ;;
     esac
 }
-for file in package/*; do
+for file in templates/*; do
     case $file in *.pc) special='["\\#]' ;; *) special='^$' ;; esac
     sed "s|@VERSION@|$version|; s|@PREFIX@|$(quoted "$prefix")|
         s|@LIBDIR@|$(below_prefix "$libdir")|

@@ -7,7 +7,7 @@
 #   run.sh answers              prints sums of hashes of the original, which a test has
 #   run.sh values < TABLE       prints ../c/vectors.tsv or ../c/values.tsv anew, by the original
 #   run.sh original [OPTION..]  shows that the machine code of the original, in the folder
-#                               KOMIHASH_CRATE, computes what the definition says: original.sh
+#                               KOMIHASH_CRATE, computes what the definition says: rust_crate.sh
 #
 # REPEATS is 201 if not given. LAYOUTS says in how many layouts of the machine code `bench` runs, 8
 # if unset, and BUILDS names some of the builds plain, fat, x86-64 and x86-64-v3. KOMIHASH_CRATE is
@@ -26,7 +26,7 @@ link() {
 [ -z "${LINK_TO:-}" ] || { link "$LINK_TO" "$@" && exec "$cc" "$@"; }
 
 here=$(cd "$(dirname "${BASH_SOURCE[0]}")" && pwd)
-[ "${1:-}" != original ] || exec "$here/original.sh" "${@:2}"
+[ "${1:-}" != original ] || exec "$here/rust_crate.sh" "${@:2}"
 options=(--quiet --release)
 [ -z "${KOMIHASH_CRATE:-}" ] || options+=(
     --offline --config "patch.crates-io.komihash.path='$(realpath "$KOMIHASH_CRATE")'")

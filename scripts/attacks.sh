@@ -7,7 +7,7 @@
 # `stream_with_weaker_contract` is `stream_not_counted` with a contract that doesn't ask for counts.
 set -u
 cd "$(dirname "$0")/attacks" || exit 1
-. ../../c/cases.sh
+. ../../c/tests/cases.sh
 
 above=$scratch/crates/above
 by_hand=proofs/tally_raised_by_hand/raised

@@ -4,7 +4,7 @@
 # the library run with what it makes.
 set -uo pipefail
 cd "$(dirname "$0")/../c" || exit 1
-. ./cases.sh
+. ./tests/cases.sh
 
 # Prints the compiler that a file names.
 compiler_of() { sed -nE '1,/\*\// s/^ \* (commit|compiler) .*/&/p' "$1"; }

@@ -1,6 +1,6 @@
 # Sums parts, for the scripts that source this file at the top of the repository, in bash. A part is
-# a command, or a function, whose last line has counts, as c/cases.sh prints them.
-. c/cases.sh
+# a command, or a function, whose last line has counts, as c/tests/cases.sh prints them.
+. c/tests/cases.sh
 
 # Runs a part, and adds the counts in its last line.
 part() {

@@ -4,7 +4,7 @@
 # mostly to build tests.
 set -uo pipefail
 cd "$(dirname "$0")/../crates/komisum" || exit 1
-. ../../c/cases.sh
+. ../../c/tests/cases.sh
 
 program=out/komisum
 long=$(printf '%0300d' 0)

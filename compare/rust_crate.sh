@@ -1,6 +1,6 @@
 #!/usr/bin/env bash
 # Compiles the Rust crate `komihash`, whose code stays as it is, and shows by ../c/verify that its
-# machine code computes what the definition says: run.sh original [OPTION..], which original.py has.
+# machine code computes what the definition says: run.sh original [OPTION..], which rust_crate.py has.
 set -euo pipefail
 crate=$(realpath "${KOMIHASH_CRATE:?must name the folder of the Rust crate}")
 cd "$(dirname "${BASH_SOURCE[0]}")"
@@ -25,7 +25,7 @@ build() {
     "${rustc[@]}" "${options[@]}" --crate-name komihash --crate-type rlib -o "$dir/libkomihash.rlib" \
         --extern "std=$dir/libstd.rlib" "$crate/src/lib.rs"
     "${rustc[@]}" "${options[@]}" -C lto=fat --crate-type staticlib -L "$dir" --extern komihash \
-        --emit "link=$dir/$2.a,asm=$dir/$2.s" original.rs
+        --emit "link=$dir/$2.a,asm=$dir/$2.s" rust_crate.rs
     # `as` marks the calls of memcpy, so that `ld` makes them direct. The names of files that panics
     # would print need the loader, so they are left out.
     "${cross}as" --gdwarf-5 -o "$dir/$2.o" "$dir/$2.s"
@@ -43,5 +43,5 @@ for build in ${BUILDS:-x86-64-v2:3 x86-64-v2:s x86-64-v3:3 x86-64-v3:s}; do
 done
 calls=('' _start _write _finish _rand_{init{,_with_extra_seed,_words},next,fill})
 python=$(sh ../c/verify/find_python.sh)
-exec "$python" -B original.py --some --red-zone --function "${calls[@]/#/komihash_v4}" \
+exec "$python" -B rust_crate.py --some --red-zone --function "${calls[@]/#/komihash_v4}" \
     "${calls[@]/#/komihash_v5}" "$@" -- "${libraries[@]}"
