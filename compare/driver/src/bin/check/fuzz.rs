@@ -1,5 +1,5 @@
 //! Compares calls of the crate with those of the original, which lacks saved texts and padding.
-use crate::calls::{Calls, calls, hexadecimal};
+use crate::by_name::{Calls, calls, hexadecimal};
 use crate::random::Random;
 
 const SEEDS: [u64; 5] = [0, 1, u64::MAX, 0x5555_5555_5555_5555, 0x0123_4567_89ab_cdef];
