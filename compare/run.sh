@@ -41,16 +41,16 @@ esac
 
 # Builds a program of that name in all layouts.
 build() {
-    if [ "$1" = plain ] || [ "$1" = fat ]; then
-        [ "$1" = plain ] || export CARGO_PROFILE_RELEASE_LTO=fat
-        touch src/bin/speed.rs
-        LINK_TO=$here/out/$1 cargo rustc "${options[@]}" --bin speed -- -Clinker="$here/run.sh"
-    else
+    local bin=speed v3=${1#x86-64} flags=(-Clinker="$here/run.sh")
+    [ "$1" != fat ] || export CARGO_PROFILE_RELEASE_LTO=fat
+    if [ "$v3" != "$1" ]; then
+        bin=hashes
         make --silent -C ../../c >&2
-        v3=${1#x86-64}
-        link "$here/out/$1" -O3 "-march=$1" -ffunction-sections -I../../c ../../c/bench.c \
-            "../../c/out/libkomihash_rattle${v3/-/_}.a"
+        "$cc" -O3 "-march=$1" -ffunction-sections -I../../c -c -o "../out/$1.o" hashes.c
+        flags+=(-Clink-arg={"$here/out/$1.o","$here/../c/out/libkomihash_rattle${v3/-/_}.a"})
     fi
+    touch "src/bin/$bin.rs"
+    LINK_TO=$here/out/$1 cargo rustc "${options[@]}" --bin "$bin" -- "${flags[@]}"
 }
 
 repeats=${2:-201} files=()

@@ -24,6 +24,10 @@ pub fn run(seed: u64, count: u64) {
 }
 
 impl Random {
+    fn one_of<T: Copy>(&mut self, these: &[T]) -> T {
+        these[self.below(these.len())]
+    }
+
     fn length(&mut self) -> usize {
         let limit = self.one_of(&[20, 70, 140, 3000]);
         self.below(limit)
