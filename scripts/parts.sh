@@ -15,3 +15,8 @@ part() {
     [ "$status" = 0 ] || [ "$failed" != "$before" ] || failed=$((failed + 1))
     [ "$failed" = "$before" ] || { echo "FAILED: $*"; false; }
 }
+
+# A part that needs tools: part_with 'TOOL..' COMMAND..
+part_with() {
+    if type $1 > "$scratch/case" 2>&1; then part "${@:2}"; else skip "${*:2}" "$1"; fi
+}

@@ -9,12 +9,6 @@ cd "$(dirname "$0")/../crates/komisum" || exit 1
 program=out/komisum
 long=$(printf '%0300d' 0)
 
-# Runs the tests of both crates, each with its first allocation refused, while the cases below run.
-for crate in komihash komisum; do
-    (cd "../$crate" && rt try --test --fail-alloc 1 --seconds 600 && echo 'status 0') \
-        > "$scratch/$crate" 2>&1 &
-done
-
 # Runs a command, and then prints its status and its standard error.
 ran() {
     "$@" 2> "$scratch/errors"
@@ -105,10 +99,7 @@ run_case 'refuse.c compiles' \
 refuse_memory 2 "$(cat stdout)"
 refuse_memory 5 4bde5bdc63771675 4 1f
 
-tests_pass() { grep '^test result: ok\. [1-9]' "$1" && grep -x 'status 0' "$1"; }
-wait
-for crate in komihash komisum; do
-    run_case "the tests of $crate pass without their first allocation" tests_pass "$scratch/$crate"
-done
-
+# All but `main` takes no memory, so the first request of the tests would be a wrong one.
+tests() { rt try --test --fail-alloc 1 --seconds 600 2>&1 | grep '^test result: ok\. [1-9]'; }
+run_case 'the tests pass without their first allocation' tests
 counted
