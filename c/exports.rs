@@ -1,5 +1,5 @@
-//! The functions of komihash_rattle.h, by the crate for Rust, or those that the crate `komihash` has,
-//! by that one, if `original` is set. Each `unsafe` here rests on the first comment of that header,
+//! The functions of komihash_rattle.h, by the crate for Rust; with `--cfg original`, those that the
+//! crate `komihash` has, by that one. Each `unsafe` here rests on the first comment of that header,
 //! which says what callers see to.
 #![no_std]
 #![allow(improper_ctypes_definitions)] // Callers see streams and generators as arrays of words.
@@ -98,7 +98,8 @@ macro_rules! export {
                     = if length > room / 8 {
                         usize::MAX
                     } else {
-                        unpad(array(words, length), array_mut(out, 8 * length)).unwrap_or(usize::MAX)
+                        unpad(array(words, length), array_mut(out, 8 * length))
+                            .unwrap_or(usize::MAX)
                     };
             }
         })*

@@ -6,10 +6,10 @@ set -euo pipefail
 crate=$(realpath "${KOMIHASH_CRATE:?must name the folder of the Rust crate}")
 cd "$(dirname "${BASH_SOURCE[0]}")/../c"
 
-# build LEVEL OPT. The crate names std, but uses only what core has too, so a crate of this name that
-# is core stands in for it. `memcpy`, the only function that it calls outside of itself, is added;
-# `as` marks the calls of it, so that `ld` makes them direct. The names of files that panics would
-# print need the loader, so they are left out.
+# build LEVEL OPT. The crate names std, but uses only what core has too, so a crate of this name
+# that is core stands in for it. `memcpy`, the only function that it calls outside of itself, is
+# added; `as` marks the calls of it, so that `ld` makes them direct. The names of files that panics
+# would print need the loader, so they are left out.
 build() {
     local dir=../compare/out/original/$1-$2 rustc=rustc target=x86_64-unknown-linux-gnu cross=
     local options=(-C "opt-level=$2" -C "target-cpu=$1")

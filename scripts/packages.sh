@@ -1,6 +1,7 @@
 #!/usr/bin/env bash
-# Tests the library for C as its package is unpacked, with nothing beside it, and the crate for Rust.
-# Also verifies the machine code of this library and of the Rust crate, and tests that check.
+# Tests the library for C as its package is unpacked, with nothing beside it, and the crate for
+# Rust. Also verifies the machine code of both, and of the Rust crate `komihash`, and tests that
+# check.
 set -uo pipefail
 cd "$(dirname "$0")/.." || exit 1
 . scripts/parts.sh
@@ -13,15 +14,15 @@ unpack() {
 in_package() { make -C "$scratch"/komihash_rattle-*/ --no-print-directory "$@"; }
 
 # Makes something from Rust for another processor: by Debian's compiler, with a core library that is
-# made here: from_rust TARGET[:OPTION..] ARGUMENT..
+# made here: from_rust 'TARGET [OPTION..]' ARGUMENT..
 debian='/usr/bin/rustc /usr/lib/rustlib/src/rust/x.py'
 from_rust() {
-    local target=${1%%:*}
+    local target=${1%% *}
     bash scripts/sysroot.sh "$target" "$scratch/$target" >&2 &&
         in_package "RUSTC=/usr/bin/rustc --sysroot $scratch/$target${1#"$target"}" "${@:2}"
 }
 hashes_of_web() {
-    from_rust 'wasm32-unknown-unknown: -C linker=wasm-ld' wasm "OUT=$scratch/web" &&
+    from_rust 'wasm32-unknown-unknown -C linker=wasm-ld' wasm "OUT=$scratch/web" &&
         node c/examples/vectors.mjs "$scratch/web/komihash_rattle.wasm" < c/vectors.tsv |
         diff <(grep -v '^#' c/vectors.tsv) -
 }

@@ -54,6 +54,13 @@ complete() {
         awk -v "kinds=$kinds" '$2 ~ kinds { print $1 }' | sort |
         diff "$scratch/declared" -
 }
+# Whether calls.c calls each function of the header.
+calls_each() {
+    for number in 4 5; do
+        $CC -I. -D "VERSION=$number" -c -o "$scratch/calls.o" tests/calls.c &&
+            "$NM" -P "$scratch/calls.o" | grep -oE '^_?komihash_v[^ ]* U' || return
+    done | sed 's/^_//; s/ U$//' | sort | diff "$scratch/declared" -
+}
 # Whether a library is marked for IBT and SHSTK, or for BTI: by a note, and in each function.
 marked() {
     "${CROSS}readelf" -n "$1" | grep -E 'feature: (IBT, SHSTK|BTI)$' &&
@@ -198,6 +205,7 @@ run_case 'the library is installed' build install "PREFIX=$prefix"
 run_case 'the numbers in the header are those of its version' test "$version" = \
     "$(sed -n 's/.*_VERSION_[A-Z]* //p' komihash_rattle.h | paste -s -d .)"
 grep -o 'komihash_v[a-z0-9_]*(' komihash_rattle.h | tr -d '(' | sort > "$scratch/declared"
+run_case 'calls.c calls each function of the header' calls_each
 find "$prefix" -type f -name 'lib*' ! -name '*.dll' > "$scratch/libraries"
 while read -r file; do
     name=${file#"$prefix/"}

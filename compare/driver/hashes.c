@@ -1,4 +1,4 @@
-/* The hashes that ../driver/src/bin/hashes.rs times, and writes to streams in the form of hashes. */
+/* The hashes that src/bin/hashes.rs times, and writes to streams in the form of hashes. */
 #include <komihash_rattle.h>
 #include <wyhash/wyhash.h>
 #define XXH_INLINE_ALL
