@@ -76,7 +76,8 @@ $(sed -nE 's/^(commit|compiler) / * &/p' "$kit/WHAT")
 END
     sed -E '/^\t\.(file|ident|aeabi_[a-z]*)\t/d; s/^\t(\.(section|type|size)\t.*)/\tELF_ONLY(\1)/
         /\.note\.gnu\.property/,/\.text$/s/^\t(\.(p2align|long|word|asciz)\t.*)/\tELF_ONLY(\1)/
-        s/^\t\.globl\t(.*)/&\n\tWINDOWS_ONLY(.def \1; .scl 2; .type 32; .endef)/' "$scratch/module.s"
+        s/^\t\.globl\t(.*)/&\n\tWINDOWS_ONLY(.def \1; .scl 2; .type 32; .endef)/' \
+        "$scratch/module.s"
 }
 
 # Whether the types of the header have the sizes that the crate proves: size TYPE FILE prints one.

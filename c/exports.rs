@@ -1,5 +1,6 @@
-//! The functions of komihash_rattle.h, by the crate for Rust. Each `unsafe` here rests on the first
-//! comment of that header, which says what callers see to.
+//! The functions of komihash_rattle.h, by the crate for Rust; with `--cfg original`, those that the
+//! crate `komihash` has, by that one. Each `unsafe` here rests on the first comment of that header,
+//! which says what callers see to.
 #![no_std]
 #![allow(improper_ctypes_definitions)] // Callers see streams and generators as arrays of words.
 use core::mem::{align_of, size_of};
@@ -45,8 +46,7 @@ macro_rules! export {
     ($convention:literal: $($name:literal $version:ident)*) => {
         $(mod $version {
             use super::*;
-            use komihash_rattle::stream::LONGEST_TEXT;
-            use komihash_rattle::$version::{komihash, pad, unpad, Komirand, StreamedKomihash};
+            use komihash_rattle::$version::{komihash, Komirand, StreamedKomihash};
 
             // The types of the header, which have eighteen words and two.
             const _: () = assert!(size_of::<StreamedKomihash>() <= 144);
@@ -60,6 +60,20 @@ macro_rules! export {
                 "_write"(stream: &mut StreamedKomihash, bytes: *const u8, length: usize) -> ()
                     = stream.write(array(bytes, length));
                 "_finish"(stream: &StreamedKomihash) -> u64 = stream.finish();
+                "_rand_init"(seed: u64) -> Komirand = Komirand::init(seed);
+                "_rand_init_with_extra_seed"(seed: u64, extra_seed: u64) -> Komirand
+                    = Komirand::init_with_extra_seed(seed, extra_seed);
+                "_rand_init_words"(s1: u64, s2: u64) -> Komirand = Komirand::new(s1, s2);
+                "_rand_next"(rand: &mut Komirand) -> u64 = rand.next();
+                "_rand_fill"(rand: &mut Komirand, out: *mut u8, length: usize) -> ()
+                    = rand.fill_bytes(array_mut(out, length));
+            }
+
+            #[cfg(not(original))]
+            use komihash_rattle::{stream::LONGEST_TEXT, $version::{pad, unpad}};
+
+            #[cfg(not(original))]
+            functions! { $convention, $name:
                 "_save"(stream: &StreamedKomihash, out: *mut u8, room: usize) -> usize
                     = if room < LONGEST_TEXT {
                         0
@@ -74,13 +88,6 @@ macro_rules! export {
                         }
                         None => false,
                     };
-                "_rand_init"(seed: u64) -> Komirand = Komirand::init(seed);
-                "_rand_init_with_extra_seed"(seed: u64, extra_seed: u64) -> Komirand
-                    = Komirand::init_with_extra_seed(seed, extra_seed);
-                "_rand_init_words"(s1: u64, s2: u64) -> Komirand = Komirand::new(s1, s2);
-                "_rand_next"(rand: &mut Komirand) -> u64 = rand.next();
-                "_rand_fill"(rand: &mut Komirand, out: *mut u8, length: usize) -> ()
-                    = rand.fill_bytes(array_mut(out, length));
                 "_pad"(bytes: *const u8, length: usize, out: *mut u64, room: usize) -> usize
                     = if room <= length / 8 {
                         0
@@ -91,7 +98,8 @@ macro_rules! export {
                     = if length > room / 8 {
                         usize::MAX
                     } else {
-                        unpad(array(words, length), array_mut(out, 8 * length)).unwrap_or(usize::MAX)
+                        unpad(array(words, length), array_mut(out, 8 * length))
+                            .unwrap_or(usize::MAX)
                     };
             }
         })*

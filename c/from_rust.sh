@@ -1,14 +1,14 @@
 #!/bin/sh
 # Compiles the crate for Rust, with the names of the header: from_rust.sh MACHINE FILE [OPTION..].
 # MACHINE is what C compilers print for -dumpmachine. FILE gets an object, or if it ends in .wasm a
-# module. The options are for rustc. The environment may have RUSTC, also with options, and
-# RUST_TARGET, what rustc calls the machine.
+# module, in .s assembly. The options are for rustc. The environment may have RUSTC, also with
+# options, RUST_TARGET, what rustc calls the machine, and RUST_CRATE, the folder of another crate.
 set -eu
 unset MAKEFLAGS MFLAGS # whose job server is closed here
 rustc=${RUSTC:-rustc} machine=$1 file=$2
 shift 2
 here=$(dirname "$0")
-crate=$here/rust
+crate=${RUST_CRATE:-$here/rust}
 [ -d "$crate" ] || crate=$here/../rust
 target=${RUST_TARGET:-$(echo "$machine" | sed -E 's/^arm64/aarch64/; s/^i[345]86/i686/
     s/^riscv64/&gc/; s/-([a-z]*-)?linux/-unknown-linux/; s/-linux$/&-gnu/
@@ -24,6 +24,7 @@ scratch=$(mktemp -d)
 trap 'rm -rf "$scratch"' EXIT
 case $file in
 *.wasm) kind=cdylib files=link=$file ;;
+*.s) kind=staticlib files=link=$scratch/all.a,asm=$file ;;
 *) kind=staticlib files=link=$scratch/all.a,obj=$file ;;
 esac
 compile() { # LLVM would make calls of memcpy from loops that copy.

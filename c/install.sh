@@ -16,11 +16,15 @@ for folder in "$prefix" "$bindir" "$libdir" "$includedir" "$docdir"; do
     esac || { echo "PREFIX, LIBDIR and the like are absolute paths, not '$folder'" >&2; exit 2; }
 done
 
+# The licence is beside this folder in the repository.
+license=LICENSE
+[ -f LICENSE ] || license=../LICENSE
+
 # Calls a function with the mode, the source and the path of each file.
 each_file() {
     "$1" 644 komihash_rattle.h "$includedir/komihash_rattle.h"
     "$1" 644 komihash_rattle/komihash.h "$includedir/komihash_rattle/komihash.h"
-    "$1" 644 LICENSE "$docdir/LICENSE"
+    "$1" 644 "$license" "$docdir/LICENSE"
     "$1" 644 "$filled/komihash_rattle.pc" "$libdir/pkgconfig/komihash_rattle.pc"
     for file in "$filled"/*.cmake; do
         "$1" 644 "$file" "$libdir/cmake/komihash_rattle/${file##*/}"
@@ -65,7 +69,7 @@ below_prefix() {
     *) quoted "$1" ;;
     esac
 }
-for file in package/*; do
+for file in templates/*; do
     case $file in *.pc) special='["\\#]' ;; *) special='^$' ;; esac
     sed "s|@VERSION@|$version|; s|@PREFIX@|$(quoted "$prefix")|
         s|@LIBDIR@|$(below_prefix "$libdir")|

@@ -7,7 +7,7 @@
 #   run.sh answers              prints sums of hashes of the original, which a test has
 #   run.sh values < TABLE       prints ../c/vectors.tsv or ../c/values.tsv anew, by the original
 #   run.sh original [OPTION..]  shows that the machine code of the original, in the folder
-#                               KOMIHASH_CRATE, computes what the definition says: original.sh
+#                               KOMIHASH_CRATE, computes what the definition says: rust_crate.sh
 #
 # REPEATS is 201 if not given. LAYOUTS says in how many layouts of the machine code `bench` runs, 8
 # if unset, and BUILDS names some of the builds plain, fat, x86-64 and x86-64-v3. KOMIHASH_CRATE is
@@ -26,7 +26,7 @@ link() {
 [ -z "${LINK_TO:-}" ] || { link "$LINK_TO" "$@" && exec "$cc" "$@"; }
 
 here=$(cd "$(dirname "${BASH_SOURCE[0]}")" && pwd)
-[ "${1:-}" != original ] || exec "$here/original.sh" "${@:2}"
+[ "${1:-}" != original ] || exec "$here/rust_crate.sh" "${@:2}"
 options=(--quiet --release)
 [ -z "${KOMIHASH_CRATE:-}" ] || options+=(
     --offline --config "patch.crates-io.komihash.path='$(realpath "$KOMIHASH_CRATE")'")
@@ -41,16 +41,16 @@ esac
 
 # Builds a program of that name in all layouts.
 build() {
-    if [ "$1" = plain ] || [ "$1" = fat ]; then
-        [ "$1" = plain ] || export CARGO_PROFILE_RELEASE_LTO=fat
-        touch src/bin/speed.rs
-        LINK_TO=$here/out/$1 cargo rustc "${options[@]}" --bin speed -- -Clinker="$here/run.sh"
-    else
+    local bin=speed v3=${1#x86-64} flags=(-Clinker="$here/run.sh")
+    [ "$1" != fat ] || export CARGO_PROFILE_RELEASE_LTO=fat
+    if [ "$v3" != "$1" ]; then
+        bin=hashes
         make --silent -C ../../c >&2
-        v3=${1#x86-64}
-        link "$here/out/$1" -O3 "-march=$1" -ffunction-sections -I../../c ../../c/bench.c \
-            "../../c/out/libkomihash_rattle${v3/-/_}.a"
+        "$cc" -O3 "-march=$1" -ffunction-sections -I../../c -c -o "../out/$1.o" hashes.c
+        flags+=(-Clink-arg={"$here/out/$1.o","$here/../c/out/libkomihash_rattle${v3/-/_}.a"})
     fi
+    touch "src/bin/$bin.rs"
+    LINK_TO=$here/out/$1 cargo rustc "${options[@]}" --bin "$bin" -- "${flags[@]}"
 }
 
 repeats=${2:-201} files=()

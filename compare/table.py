@@ -63,11 +63,10 @@ def read(files):
     times = collections.defaultdict(lambda: collections.defaultdict(list))
     for file in map(pathlib.Path, files):
         build = file.stem.rpartition("-")[0]
-        heads, *lines = (re.split("\t|  +", line) for line in file.read_text("utf-8").splitlines())
+        heads, *lines = (line.split("\t") for line in file.read_text("utf-8").splitlines())
         for row, *numbers in lines:
             for head, number in zip(heads[1:], numbers):
-                if number != "-":
-                    times[row][f"{build} {head}"].append(float(number))
+                times[row][f"{build} {head}"].append(float(number))
     return times
 
 

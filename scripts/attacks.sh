@@ -1,62 +1,63 @@
 #!/usr/bin/env bash
-# Checks that no other crate can raise a tally, or hash in a version 3. Each attack in attacks/ is a
-# module of a crate above `komihash`, or a file of that crate's proofs. It must be refused with the
-# error that its first line says; `control` and `lemma` must be accepted. Names that are private are
-# unknown if the kit has built `komihash` before. `tally_raised_by_hand` has the handwritten proof
-# of `Tally::raise`, but where this uses the key of tallies, it says that nothing changes.
-# `stream_with_weaker_contract` is `stream_not_counted` with a contract that doesn't ask for counts.
+# Checks that no other crate can raise a tally, write a stream that promises less, or hash in a
+# version 3. Each attack in attacks/ is a module of a crate above `komihash`, or a file of that
+# crate's proofs. `tally_raised_by_hand` has the handwritten proof of `Tally::raise`, but where this
+# uses the key of tallies, it says that nothing changes. `stream_with_weaker_contract` is
+# `stream_not_counted` with a contract that doesn't ask for counts.
 set -u
 cd "$(dirname "$0")/attacks" || exit 1
-. ../../c/cases.sh
+. ../../c/tests/cases.sh
 
 above=$scratch/crates/above
-by_hand=proofs/tally_raised_by_hand/raised
-mkdir -p "$above"/{src,$by_hand}
+by_hand=$above/proofs/tally_raised_by_hand/raised
+mkdir -p "$above/src" "$by_hand"
 cp -r ../../crates/komihash "$scratch/crates"
 printf 'komihash:\nabove: komihash\n' > "$scratch/crates.txt"
 split() { # FILE FOLDER ENDING
     awk -v "folder=$above/$2" -v "ending=$3" '
-        /^(\/\/|--) [a-z_]+: / { file = folder "/" substr($2, 1, length($2) - 1) "." ending }
+        /^(\/\/|--) [a-z_]+$/ { file = folder "/" $2 "." ending }
         file { print > file }' "$1"
 }
 split modules.rt.txt src rt
 split proofs.antt.txt proofs antt
-sed 's/_tally: &mut Tally) -> u64/& ensures { Answered 5 self.now.0.state result }/' \
-    "$above/src/stream_not_counted.rt" >> "$above/src/stream_with_weaker_contract.rt"
+sed -e '1a ghost use Rattle.komihash.specs.Stream.{Answered};' \
+    -e 's/^impl KomiStream.*/& \/\/ refused: answer-tells/' \
+    -e 's/ -> u64 .*costs/ -> u64 ensures { Answered 5 self.now.0.state result } {/' \
+    "$above/src/stream_not_counted.rt" > "$above/src/stream_with_weaker_contract.rt"
 sed -Ez '
     s/Rattle\.komihash([.a-z]*)\.tally\.Tally\.raise/Rattle.above\1.tally_raised_by_hand.raised/g
     s/raise_spec/raised_spec/g
     s/use Rattle\.komihash\.proofs\.TallyProofs[^\n]*/use base.Logic.{id⊢}/
-    s/\(tally_changed [^$]*\) \$/(id⊢ 𝓤 _) $/' \
-    ../../crates/komihash/proofs/tally/Tally/raise/Proof.antt > "$above/$by_hand/Proof.antt"
+    s/\(tally_changed [^$]*\) \$/(id⊢ 𝓤 _) $ -- refused: Sealed.owned_by_tally/' \
+    ../../crates/komihash/proofs/tally/Tally/raise/Proof.antt > "$by_hand/Proof.antt"
+cd "$above" || exit
 
 # Checks the crate, whose modules are the files that are there.
 check() {
-    cd "$above" && rm -f src/lib.rt proofs/Lib.antt || return
+    rm -f src/lib.rt proofs/Lib.antt
     { echo '#![tactic(auto)]'; ls src | sed 's/^\(.*\)\.rt$/mod \1;/'; } > lib.rt
     ls proofs | sed -n 's/^\(.*\)\.antt$/mod \1/p' > Lib.antt
     mv lib.rt src && mv Lib.antt proofs && rt check 2>&1
 }
-refused() { # ATTACK KIND NAME
-    echo "${told[$1]}"
-    sed -z 's/\n  / /g' <<< "${told[$1]}" | grep -E "^(note: )?(\./)?(src|proofs)/$1\b" |
-        grep -E "$2:" | grep "\`[^\`]*\b$3\b"
+attacks() { grep -rl 'refused: ' src proofs | sort; }
+# Whether each marked line of a file has an error with its name.
+refused() {
+    grep -n 'refused: ' "$1" | while IFS=: read -r line text; do
+        grep -E "^(note: )?(\./)?$1:$line:.*\b${text##*refused: }\b" <<< "$output" || exit
+    done
 }
 
 # Errors in names hide those in bounds, these hide those in methods, and all hide those in proofs,
 # so what a check refuses is taken out before the next.
-declare -A told
-attacks=$(sed -nE 's/^(\/\/|--) ([a-z_]+): (\S+) (\S+)$/\2 \3 \4/p' *)
+all=$(attacks)
 for errors_in in names bounds methods proofs; do
-    output=$(check)
-    while read -r attack kind name; do
-        ls "$above"/*/"$attack".* > "$scratch/case" 2>&1 || continue
-        told[$attack]=$output
-        ! refused "$attack" "$kind" "$name" > "$scratch/case" || rm -rf "$above"/*/"$attack"{,.*}
-    done <<< "$attacks"
+    output=$(check | sed -z 's/\n  / /g')
+    for file in $(attacks); do
+        attack=$(cut -d / -f 2 <<< "${file%.*}")
+        ! refused "$file" > "$scratch/case" || rm -rf {src,proofs}/"$attack"{,.*}
+    done
 done
-while read -r attack kind name; do
-    run_case "$attack is refused" refused "$attack" "$kind" "$name"
-done <<< "$attacks"
+gone() { test ! -e "$1" || { grep "$1" <<< "$output"; false; }; }
+for file in $all; do run_case "$file is refused" gone "$file"; done
 run_case 'the controls are accepted' check
 counted

@@ -1,17 +1,10 @@
 #!/usr/bin/env bash
-# Tests the library for C and the crate for Rust as their packages are unpacked, with nothing beside
-# them. Also verifies the machine code of this library and of the Rust crate, and tests that check.
+# Tests the library for C as its package is unpacked, with nothing beside it, and the crate for
+# Rust. Also verifies the machine code of both, and of the Rust crate `komihash`, and tests that
+# check.
 set -uo pipefail
 cd "$(dirname "$0")/.." || exit 1
 . scripts/parts.sh
-
-# Whether a tool is missing. The part that needs it then ends in the line that it is skipped: lacks
-# NAME TOOL..
-lacks() {
-    local tools
-    printf -v tools ' or no %s' "${@:2}"
-    ! type "${@:2}" > "$scratch/case" 2>&1 && skip "$1" "${tools# or no }" && { counted; true; }
-}
 
 # Unpacks the package of the library for C, and makes it again from what was unpacked.
 unpack() {
@@ -19,144 +12,94 @@ unpack() {
         in_package dist && cmp "$scratch"/komihash_rattle-*.tar.gz "$scratch"/*/out/*.tar.gz
 }
 in_package() { make -C "$scratch"/komihash_rattle-*/ --no-print-directory "$@"; }
-check_package() { in_package check; }
-check_cross() { # PREFIX EMULATOR: with a cross compiler
-    lacks "the library for C, for ${1%-}" "$1gcc" "$2" || in_package check "CROSS=$1" "RUN=$2"
-}
 
-# The library for C from Rust: by the user's compiler, and for other processors by Debian's, with a
-# core library that is made here.
-check_from_rust() {
-    lacks 'the library for C, from Rust' rustc || in_package check FROM=rust
-}
-debian=(/usr/bin/rustc /usr/lib/rustlib/src/rust/x.py)
-compiler_for() { # TARGET
-    bash scripts/sysroot.sh "$1" "$scratch/$1" >&2 && echo "/usr/bin/rustc --sysroot $scratch/$1"
-}
-check_cross_from_rust() { # PREFIX TARGET [EMULATOR]
-    local compiler
-    lacks "the library for C, for ${1%-}" "$1gcc" "${debian[@]}" "${@:3}" ||
-        { compiler=$(compiler_for "$2") &&
-            in_package check "CROSS=$1" "RUN=${3:-}" "RUSTC=$compiler"; }
-}
-check_web() {
-    lacks 'the library for WebAssembly' node wasm-ld "${debian[@]}" && return
-    run_case 'the library for WebAssembly gives the hashes of vectors.tsv' hashes_of_web
-    counted
+# Makes something from Rust for another processor: by Debian's compiler, with a core library that is
+# made here: from_rust 'TARGET [OPTION..]' ARGUMENT..
+debian='/usr/bin/rustc /usr/lib/rustlib/src/rust/x.py'
+from_rust() {
+    local target=${1%% *}
+    bash scripts/sysroot.sh "$target" "$scratch/$target" >&2 &&
+        in_package "RUSTC=/usr/bin/rustc --sysroot $scratch/$target${1#"$target"}" "${@:2}"
 }
 hashes_of_web() {
-    local compiler module=$scratch/web/komihash_rattle.wasm
-    compiler=$(compiler_for wasm32-unknown-unknown) &&
-        in_package wasm "OUT=${module%/*}" "RUSTC=$compiler -C linker=wasm-ld" &&
-        node c/examples/vectors.mjs "$module" < c/vectors.tsv |
+    from_rust 'wasm32-unknown-unknown -C linker=wasm-ld' wasm "OUT=$scratch/web" &&
+        node c/examples/vectors.mjs "$scratch/web/komihash_rattle.wasm" < c/vectors.tsv |
         diff <(grep -v '^#' c/vectors.tsv) -
 }
-check_macos() {
-    lacks 'the library for C, for macOS' clang lld "${debian[@]}" && return
-    run_case 'the library for C links for macOS, with the names of the header' names_for_macos
-    counted
-}
 names_for_macos() {
-    local compiler library=$scratch/macos/libkomihash_rattle.1.dylib
-    local linker='clang --target=arm64-apple-darwin23 -mmacosx-version-min=11 -fuse-ld=lld'
-    compiler=$(compiler_for aarch64-apple-darwin) && in_package "OUT=${library%/*}" "$library" \
-        "RUSTC=$compiler" "CC=$linker" LDFLAGS=-nostdlib &&
+    local library=$scratch/macos/libkomihash_rattle.1.dylib
+    from_rust aarch64-apple-darwin "$library" "OUT=${library%/*}" LDFLAGS=-nostdlib \
+        'CC=clang --target=arm64-apple-darwin23 -mmacosx-version-min=11 -fuse-ld=lld' &&
         diff <(grep -oE 'komihash_v\w+\(' c/komihash_rattle.h | tr -d '(' | sort) \
             <(grep -aoE '\b_komihash_v\w+' "$library" | cut -c2- | sort -u)
 }
 
-# Verifies the build that every processor can run, and tests the check by flipping bits.
-verify_package() {
-    lacks 'the machine code of the library for C' "$python" ||
-        in_package verify LEVEL=x86-64 MUTANTS=30
-}
-# Verifies builds of the crate for Rust in part: the calls of one version for each processor.
-verify_rust() { # VERSION CALLS [SETTING..]
-    lacks 'the machine code of the crate for Rust' rustc "$python" ||
-        in_package verify FROM=rust EVERY=40 FUNCTION="$(printf "komihash_v$1%s " '' $2)" "${@:3}"
-}
-verify_rust_for_arm() {
-    local compiler prefix=aarch64-linux-gnu-
-    lacks 'the same for ARM64' "${prefix}gcc" "${debian[@]}" "$python" ||
-        { compiler=$(compiler_for aarch64-unknown-linux-gnu) &&
-            verify_rust 4 '_write _finish' "CROSS=$prefix" "RUSTC=$compiler"; }
-}
-test_verify() {
-    local tests=c/verify/tests name=libkomihash_rattle.so.1 out libraries
-    lacks 'attacks on the check of the machine code' "$python" && return
-    out=$(echo "$scratch"/komihash_rattle-*/out)
-    libraries=("x86-64:$out/$name" "x86-64-v3:$out/glibc-hwcaps/x86-64-v3/$name")
-    [ ! -d "$out/aarch64-linux-gnu" ] || libraries+=("armv8-a:$out/aarch64-linux-gnu/$name")
-    run_case 'the definition gives the values of values.tsv' "$python" -B $tests/values.py
-    run_case 'edits of the assembly are refused' bash $tests/edits.sh "$python" x86_64
-    run_case 'only right forms of code are followed' bash $tests/forms.sh "$python"
-    run_case 'edits of files are refused' "$python" -B $tests/attacks.py "${libraries[@]}"
-    if grep -qw avx2 /proc/cpuinfo; then
-        run_case 'random instructions do in the model what they do on the processor' \
-            "$python" -B $tests/instructions.py x86-64-v3 "${CC:-cc}"
-    else
-        skip 'random instructions (optional)' 'processor with AVX2'
-    fi
-    if [ -d "$out/aarch64-linux-gnu" ]; then
-        run_case 'random instructions of ARM64 do in the model what they do in an emulator' \
-            "$python" -B $tests/instructions.py armv8-a aarch64-linux-gnu-gcc qemu-aarch64 \
-            -L /usr/aarch64-linux-gnu
-    else
-        skip 'random instructions of ARM64' 'aarch64-linux-gnu-gcc or no qemu-aarch64'
-    fi
-    counted
-}
-# Verifies a build of the Rust crate, of which the writes that complete no block are tried in part.
-verify_original() {
-    local name='the machine code of the Rust crate'
-    if [ -z "${KOMIHASH_CRATE:-}" ]; then
-        skip "$name (optional)" 'folder KOMIHASH_CRATE'
-        counted
-    else
-        lacks "$name" rustc "$python" ||
-            BUILDS=x86-64-v2:3 bash compare/run.sh original --every 40
-    fi
-}
 # Whether the crate for Rust is what the script makes of the source.
 erased() {
     python3 -B rust/erase.py crates/komihash/src "$scratch/erased" &&
         diff -r "$scratch/erased" rust/src
 }
-# Packs the crate for Rust, and tests it as it is unpacked, also for the processor that runs here.
-check_crate() {
-    lacks 'the crate for Rust' cargo rustfmt python3 && return
-    run_case 'erase.py is not misled' python3 -B rust/tests/erase.py
-    run_case 'rust/src is erased from the source' erased
-    export CARGO_TARGET_DIR=$scratch/crate
-    run_case 'the crate for Rust is packed' \
-        cargo package --manifest-path rust/Cargo.toml --offline --allow-dirty --no-verify
-    cd "$CARGO_TARGET_DIR/package" && tar -xzf *.crate && cd komihash_rattle-*/ || return
-    run_case 'the crate for Rust, with debug assertions' cargo test --offline
-    RUSTFLAGS='-C target-cpu=native' run_case 'the crate for Rust, for this processor' \
-        cargo test --offline --release --tests
-    needs cargo-clippy 'the crate for Rust, by clippy (optional)' \
-        cargo clippy --offline --all-targets -- -D warnings
-    counted
-}
 
 # Debian keeps wine64 outside of PATH.
 export PATH="$PATH:/usr/lib/wine" WINEPREFIX="$scratch/wine" WINEDEBUG=-all
-export WINEDLLOVERRIDES='mscoree,mshtml='
-python=$(sh c/verify/find_python.sh) || python='python3 with z3 and capstone'
+export WINEDLLOVERRIDES='mscoree,mshtml=' CARGO_TARGET_DIR=$scratch/crate
+python=$(sh c/verify/find_python.sh) || python=python3-with-z3-and-capstone
 
 run_case 'the package of the library for C is made again from itself' unpack
-part check_package
-part check_crate
-part check_cross x86_64-w64-mingw32- wine64
-part check_cross aarch64-linux-gnu- qemu-aarch64
-part check_from_rust
-part check_cross_from_rust s390x-linux-gnu- s390x-unknown-linux-gnu qemu-s390x
-part check_cross_from_rust i686-linux-gnu- i686-unknown-linux-gnu
-part check_web
-part check_macos
-part verify_package
-part verify_rust 5 '_write _finish' LEVEL=x86-64-v2
-part verify_rust_for_arm
-part test_verify
-part verify_original
+part in_package check
+arm=aarch64-linux-gnu windows=x86_64-w64-mingw32
+part_with "$windows-gcc wine64" in_package check "CROSS=$windows-" RUN=wine64
+part_with "$arm-gcc qemu-aarch64" in_package check "CROSS=$arm-" RUN=qemu-aarch64
+part_with rustc in_package check FROM=rust
+part_with "s390x-linux-gnu-gcc qemu-s390x $debian" from_rust s390x-unknown-linux-gnu \
+    check CROSS=s390x-linux-gnu- RUN=qemu-s390x
+part_with "i686-linux-gnu-gcc $debian" from_rust i686-unknown-linux-gnu \
+    check CROSS=i686-linux-gnu-
+needs "node wasm-ld $debian" 'the library for WebAssembly gives the hashes of vectors.tsv' \
+    hashes_of_web
+needs "clang lld $debian" 'the library for C links for macOS, with the names of the header' \
+    names_for_macos
+
+crate=(--manifest-path rust/Cargo.toml --offline)
+needs python3 'erase.py is not misled' python3 -B rust/tests/erase.py
+needs 'python3 rustfmt' 'rust/src is erased from the source' erased
+needs cargo 'the crate for Rust is packed, and builds as it is unpacked' \
+    cargo package "${crate[@]}" --allow-dirty
+needs cargo 'the crate for Rust, with debug assertions' cargo test "${crate[@]}"
+RUSTFLAGS='-C target-cpu=native' needs cargo 'the crate for Rust, for this processor' \
+    cargo test "${crate[@]}" --release --tests
+needs cargo-clippy 'the crate for Rust, by clippy (optional)' \
+    cargo clippy "${crate[@]}" --all-targets -- -D warnings
+
+# Of the library, the build that every processor can run is verified, and the check is tested by
+# flipping bits. Of the crate for Rust, these are the calls of one version for each processor.
+sample() { printf "FUNCTION=komihash_v$1_write komihash_v$1_finish"; }
+part_with "$python" in_package verify LEVEL=x86-64 MUTANTS=30
+part_with "rustc $python" in_package verify FROM=rust EVERY=40 "$(sample 5)" LEVEL=x86-64-v2
+part_with "$arm-gcc $debian $python" from_rust aarch64-unknown-linux-gnu \
+    verify FROM=rust EVERY=40 "$(sample 4)" "CROSS=$arm-"
+
+tests=c/verify/tests out=$(echo "$scratch"/komihash_rattle-*/out) so=libkomihash_rattle.so.1
+libraries=("x86-64:$out/$so" "x86-64-v3:$out/glibc-hwcaps/x86-64-v3/$so")
+[ ! -d "$out/$arm" ] || libraries+=("armv8-a:$out/$arm/$so")
+needs "$python" 'the definition gives the values of values.tsv' "$python" -B $tests/values.py
+needs "$python" 'edits of the assembly are refused' bash $tests/edits.sh "$python" x86_64
+needs "$python" 'only right forms of code are followed' bash $tests/forms.sh "$python"
+needs "$python" 'edits of files are refused' "$python" -B $tests/attacks.py "${libraries[@]}"
+if grep -qw avx2 /proc/cpuinfo; then
+    needs "$python" 'random instructions do in the model what they do on the processor' \
+        "$python" -B $tests/instructions.py x86-64-v3 "${CC:-cc}"
+else
+    skip 'random instructions (optional)' 'a processor with AVX2'
+fi
+needs "$python $arm-gcc qemu-aarch64" \
+    'random instructions of ARM64 do in the model what they do in an emulator' \
+    "$python" -B $tests/instructions.py armv8-a $arm-gcc qemu-aarch64 -L /usr/$arm
+
+# Of the Rust crate, a build is verified, and of the writes that complete no block only a part.
+if [ "${KOMIHASH_CRATE:-}" ]; then
+    BUILDS=x86-64-v2:3 part_with "rustc $python" bash compare/run.sh original --every 40
+else
+    skip 'the machine code of the Rust crate (optional)' 'its folder as KOMIHASH_CRATE'
+fi
 counted

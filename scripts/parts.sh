@@ -1,6 +1,6 @@
 # Sums parts, for the scripts that source this file at the top of the repository, in bash. A part is
-# a command, or a function, whose last line has counts, as c/cases.sh prints them.
-. c/cases.sh
+# a command, or a function, whose last line has counts, as c/tests/cases.sh prints them.
+. c/tests/cases.sh
 
 # Runs a part, and adds the counts in its last line.
 part() {
@@ -14,4 +14,9 @@ part() {
     skipped=$((skipped + ${BASH_REMATCH[4]:-0}))
     [ "$status" = 0 ] || [ "$failed" != "$before" ] || failed=$((failed + 1))
     [ "$failed" = "$before" ] || { echo "FAILED: $*"; false; }
+}
+
+# A part that needs tools: part_with 'TOOL..' COMMAND..
+part_with() {
+    if type $1 > "$scratch/case" 2>&1; then part "${@:2}"; else skip "${*:2}" "$1"; fi
 }

@@ -4,16 +4,10 @@
 # mostly to build tests.
 set -uo pipefail
 cd "$(dirname "$0")/../crates/komisum" || exit 1
-. ../../c/cases.sh
+. ../../c/tests/cases.sh
 
 program=out/komisum
 long=$(printf '%0300d' 0)
-
-# Runs the tests of both crates, each with its first allocation refused, while the cases below run.
-for crate in komihash komisum; do
-    (cd "../$crate" && rt try --test --fail-alloc 1 --seconds 600 && echo 'status 0') \
-        > "$scratch/$crate" 2>&1 &
-done
 
 # Runs a command, and then prints its status and its standard error.
 ran() {
@@ -26,16 +20,8 @@ ran() {
 line() { printf '%s\nstatus 0\n' "$1"; }
 fault() { printf 'status %s\nkomisum: %s\n' "$1" "$2"; }
 
-# Prints rows of test vectors, each with the hash that the program prints for its version, seed and
-# message.
-hashed() {
-    while IFS='|' read -r version seed message _; do
-        printf '%s|%s|%s|%s\n' "$version" "$seed" "$message" \
-            "$(printf "$(sed 's/../\\x&/g' <<< "$message")" | "$program" "$version" "$seed")"
-    done
-}
-grep -v '^#' ../../c/vectors.tsv | tr '\t' '|' > "$scratch/vectors" || exit
-run_case 'c/vectors.tsv' diff "$scratch/vectors" <(hashed < "$scratch/vectors")
+run_case 'version 5 and another seed' diff <(line a53b9c6b9eb8afe9) \
+    <(printf port | ran "$program" 5 7)
 
 # The program's name need not be UTF-8, may be long, and may be empty.
 named() { (exec -a "$1" "$program" 4 1f); }
@@ -105,10 +91,7 @@ run_case 'refuse.c compiles' \
 refuse_memory 2 "$(cat stdout)"
 refuse_memory 5 4bde5bdc63771675 4 1f
 
-tests_pass() { grep '^test result: ok\. [1-9]' "$1" && grep -x 'status 0' "$1"; }
-wait
-for crate in komihash komisum; do
-    run_case "the tests of $crate pass without their first allocation" tests_pass "$scratch/$crate"
-done
-
+# All but `main` takes no memory, so the first request of the tests would be a wrong one.
+tests() { rt try --test --fail-alloc 1 --seconds 600 2>&1 | grep '^test result: ok\. [1-9]'; }
+run_case 'the tests pass without their first allocation' tests
 counted

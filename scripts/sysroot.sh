@@ -1,7 +1,7 @@
 #!/usr/bin/env bash
-# Builds Rust's core library for a target that the compiler here has none for, from Debian's packages
-# rustc-web and rust-web-src: sysroot.sh TARGET FOLDER. `/usr/bin/rustc --sysroot FOLDER` then
-# compiles for this target what needs neither std nor alloc.
+# Builds Rust's core library for a target that the compiler here has none for, from Debian's
+# packages rustc-web and rust-web-src: sysroot.sh TARGET FOLDER. `/usr/bin/rustc --sysroot FOLDER`
+# then compiles for this target what needs neither std nor alloc.
 set -euo pipefail
 target=$1 folder=$(realpath -m "$2")/lib/rustlib/$1/lib
 cd /usr/lib/rustlib/src/rust/library

@@ -20,7 +20,7 @@ all_refused() {
 
 TMPDIR=$scratch nice -n 19 bash scripts/packages.sh > "$scratch/packages" 2>&1 &
 pid=$!
-if part python3 scripts/copies.py && part rt ci; then
+if part python3 scripts/check_pages.py && part rt ci; then
     run_case 'each must-fail edit is refused' all_refused
     for name in attacks program compare_assembly; do part bash scripts/$name.sh; done
 else

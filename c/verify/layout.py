@@ -1,6 +1,6 @@
 """How a stream lies in memory. A layout says which memory stands for a state of the definition. If
 `start` leaves such memory, and `write` and `finish` do on all such memory what the definition does,
-then so does any sequence of them. `compare/original.py` has another layout.
+then so does any sequence of them. `compare/rust_crate.py` has another layout.
 
 Trusted is that `store` passes all memory that `check` accepts for a state. That the layout is the
 library's needs no trust: with another one, right code is refused, but no wrong code passes."""

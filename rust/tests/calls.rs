@@ -1,26 +1,15 @@
-//! Calls each function, by rows of `vectors.tsv` and `values.tsv`, and for each cut of a message.
+//! Calls each function: by rows of the tables of the library for C, for each cut of a message, and
+//! where a call must panic.
+mod by_name;
+
+use by_name::{bytes, calls, hexadecimal, number, row};
 use komihash_rattle::stream::{Call, KomiStream, LONGEST_TEXT, run, run_on};
 use std::collections::HashMap;
 use std::hash::{BuildHasherDefault, Hash, Hasher};
 use std::panic::{catch_unwind, set_hook, take_hook};
 use std::sync::Mutex;
 
-const VECTORS: &str = include_str!("vectors.tsv");
-const VALUES: &str = include_str!("values.tsv");
-
-/// Returns the rows of a table that have a version in a column.
-fn rows(table: &'static str, column: usize, version: &'static str) -> Vec<Vec<&'static str>> {
-    let rows = table.lines().map(|row| row.split('\t').collect::<Vec<_>>());
-    rows.filter(|row| row.get(column) == Some(&version)).collect()
-}
-
-fn number(digits: &str) -> u64 {
-    u64::from_str_radix(digits, 16).unwrap()
-}
-
-fn bytes(digits: &str) -> Vec<u8> {
-    (0..digits.len()).step_by(2).map(|at| number(&digits[at..at + 2]) as u8).collect()
-}
+const TABLES: [&str; 2] = [include_str!("../../c/vectors.tsv"), include_str!("../../c/values.tsv")];
 
 macro_rules! tests {
     ($version:ident, $number:literal) => {
@@ -28,81 +17,80 @@ macro_rules! tests {
             use super::*;
             use komihash_rattle::$version::*;
 
-            /// Saves a stream, and resumes it.
-            fn resumed(stream: &StreamedKomihash) -> StreamedKomihash {
-                let mut out = [0xa5; LONGEST_TEXT + 1];
-                let length = stream.save(&mut out);
-                assert!(out[length..].iter().all(|byte| *byte == 0xa5));
-                assert!(StreamedKomihash::resume(&out[..length - 1]).is_none());
-                StreamedKomihash::resume(&out[..length]).unwrap()
-            }
-
-            fn pads_and_unpads(message: &[u8]) {
-                let mut words = vec![7; message.len() / 8 + 2];
-                let count = pad(message, &mut words);
-                assert_eq!((count, words.pop()), (words.len(), Some(7)));
-                let mut out = vec![7; 8 * count + 1];
-                assert_eq!(unpad(&words, &mut out), Some(message.len()));
-                assert_eq!(out[..message.len()], *message);
-                words.push(0);
-                assert_eq!(unpad(&words, &mut [0; 400]), None);
+            /// Returns the value of a call that the original lacks.
+            fn added(call: &str, given: &[&str]) -> String {
+                match (call, given) {
+                    ("save", [seed, message]) => {
+                        let mut stream = StreamedKomihash::new_with_seed(number(seed));
+                        stream.write(&bytes(message));
+                        let mut out = [0; LONGEST_TEXT];
+                        let length = stream.save(&mut out);
+                        hexadecimal(&out[..length])
+                    }
+                    ("resume", [text]) => StreamedKomihash::resume(&bytes(text))
+                        .map_or("none".to_string(), |it| format!("{:016x}", it.finish())),
+                    ("unpad", words) => {
+                        let words: Vec<_> = words.iter().map(|word| number(word)).collect();
+                        let mut out = vec![0; 8 * words.len()];
+                        unpad(&words, &mut out)
+                            .map_or("none".to_string(), |length| hexadecimal(&out[..length]))
+                    }
+                    _ => panic!("an unknown call {call}"),
+                }
             }
 
             #[test]
-            fn hashes_of_vectors() {
-                let vectors = rows(VECTORS, 0, $number);
-                assert!(vectors.len() > 40);
-                for row in vectors {
-                    let (seed, message, hash) = (number(row[1]), bytes(row[2]), number(row[3]));
-                    assert_eq!(komihash(&message, seed), hash);
-                    pads_and_unpads(&message);
-                    for cut in 0..=message.len() {
-                        let mut stream = StreamedKomihash::new_with_seed(seed);
-                        stream.write(&message[..cut]);
-                        assert_eq!(stream.finish(), komihash(&message[..cut], seed));
-                        let mut resumed = resumed(&stream);
-                        let mut copy = stream.clone();
-                        for stream in [&mut stream, &mut resumed, &mut copy] {
-                            stream.write(&message[cut..]);
-                            assert_eq!(stream.finish(), hash);
-                        }
+            fn values_of_the_tables() {
+                let calls = calls!(komihash_rattle::$version);
+                let rows = TABLES.iter().flat_map(|table| table.lines()).filter_map(row);
+                let rows: Vec<_> = rows.filter(|row| row.0 == $number).collect();
+                assert!(rows.len() > 70);
+                for (_, call, given, value) in rows {
+                    let result = calls(call, &given).unwrap_or_else(|| added(call, &given));
+                    assert_eq!(result, value, "{call} {given:?}");
+                }
+            }
+
+            /// Cuts a message into two writes, between which the stream is copied, and saved.
+            #[test]
+            fn streams_of_two_writes() {
+                let message: Vec<u8> = (0..200).collect();
+                for (length, cut) in (0..=200).flat_map(|it| (0..=it).map(move |cut| (it, cut))) {
+                    let (mut stream, mut out) = (StreamedKomihash::new_with_seed(7), [0xa5; 132]);
+                    stream.write(&message[..cut]);
+                    assert_eq!(stream.finish(), komihash(&message[..cut], 7));
+                    let saved = stream.save(&mut out);
+                    assert!(out[saved..].iter().all(|byte| *byte == 0xa5));
+                    let resumed = StreamedKomihash::resume(&out[..saved]).unwrap();
+                    for mut stream in [stream.clone(), resumed, stream] {
+                        stream.write(&message[cut..length]);
+                        assert_eq!(stream.finish(), komihash(&message[..length], 7));
                     }
                 }
             }
 
             #[test]
-            fn outputs_of_generators() {
-                let rows = rows(VALUES, 1, $number);
-                let rows = rows.iter().filter(|row| row[0] == "new" || row[0].starts_with("init"));
-                for row in rows.clone() {
-                    let words = [number(row[2]), number(row[3])];
-                    let (mut generator, lengths) = match row[0] {
-                        "init" => (Komirand::init(words[0]), &row[3..]),
-                        "new" => (Komirand::new(words[0], words[1]), &row[4..]),
-                        _ => (Komirand::init_with_extra_seed(words[0], words[1]), &row[4..]),
-                    };
-                    let (wanted, lengths) = lengths.split_last().unwrap();
-                    let fills = lengths.iter().flat_map(|length| {
-                        if *length == "8" {
-                            return generator.next().to_le_bytes().to_vec();
-                        }
-                        let mut out = vec![0; length.parse().unwrap()];
-                        generator.fill_bytes(&mut out);
-                        out
-                    });
-                    assert_eq!(fills.collect::<Vec<_>>(), bytes(wanted));
+            fn padded_words() {
+                let message: Vec<u8> = (56..=255).collect();
+                for length in 0..=200 {
+                    let mut words = vec![7; length / 8 + 2];
+                    let count = pad(&message[..length], &mut words);
+                    assert_eq!((count, words.pop()), (words.len(), Some(7)));
+                    let mut out = vec![7; 8 * count + 1];
+                    assert_eq!(unpad(&words, &mut out), Some(length));
+                    assert_eq!(out[..length], message[..length]);
                 }
-                assert!(rows.count() > 6);
-                const WORDS: Komirand = Komirand::new(0x0123456789abcdef, 0xfedcba9876543210);
+            }
+
+            #[test]
+            fn fills_are_outputs() {
+                const START: Komirand = Komirand::new(1, 2);
                 for length in 0..40 {
-                    let (mut filled, mut bytes) = (WORDS, vec![0; length]);
+                    let (mut filled, mut stepped, mut bytes) = (START, START, vec![0; length]);
                     filled.fill_bytes(&mut bytes);
-                    let mut stepped = WORDS;
-                    let mut wanted = Vec::new();
-                    while wanted.len() < length {
-                        wanted.extend(stepped.next().to_le_bytes());
+                    for part in bytes.chunks(8) {
+                        assert_eq!(*part, stepped.next().to_le_bytes()[..part.len()]);
                     }
-                    assert_eq!(bytes, wanted[..length]);
                     assert_eq!(filled.next(), stepped.next());
                 }
             }
@@ -129,16 +117,10 @@ macro_rules! tests {
             }
 
             #[test]
-            fn chains_of_hashers() {
-                let mut hasher = KomiHasher::default();
-                hasher.write(b"hello");
-                hasher.write(b"world");
-                assert_eq!(hasher.finish(), komihash(b"world", komihash(b"hello", 0)));
+            fn hashers_of_maps() {
                 let mut map = HashMap::<String, u64, BuildHasherDefault<KomiHasher>>::default();
-                for i in 0..1000 {
-                    map.insert(i.to_string(), i);
-                    map.insert(i.to_string(), 2 * i);
-                }
+                map.extend((0..1000).map(|i| (i.to_string(), i)));
+                map.extend((0..1000).map(|i| (i.to_string(), 2 * i)));
                 assert!(map.len() == 1000 && (0..1000).all(|i| map[&i.to_string()] == 2 * i));
                 let (mut one, mut other) = (KomiHasher::new(1), KomiHasher::new(1));
                 (7u64, "port").hash(&mut one);

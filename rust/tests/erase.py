@@ -7,7 +7,8 @@ sys.dont_write_bytecode = True
 sys.path.insert(0, str(Path(__file__).resolve().parent.parent))
 from erase import erase  # noqa: E402
 
-TEST = '#[track_caller]\npub fn f(out: &mut [u8]) {\nassert!(8 <= out.len(), "`out` is too short"); }'
+TEST = ('#[track_caller]\npub fn f(out: &mut [u8]) {\n'
+        'assert!(8 <= out.len(), "`out` is too short"); }')
 # What is erased in each way of writing it, and Rust that is left.
 LEFT = {
     'fn f()\n    ensures { x ≡ "}" }\n{ g("{") }': 'fn f() { g("{") }',

@@ -1,7 +1,7 @@
 #!/usr/bin/env bash
 # Edits the first fitting instruction of a function in the assembly, one at a time, and checks that
 # what is then built is refused: [CROSS=aarch64-linux-gnu-] edits.sh PYTHON SOURCE..
-cd "$(dirname "$0")/../.." && . ./cases.sh
+cd "$(dirname "$0")/../.." && . ./tests/cases.sh
 python=$1 sources=("${@:2}")
 declare -A level=([x86_64]=x86-64 [x86_64_v3]=x86-64-v3 [aarch64]=armv8-a)
 

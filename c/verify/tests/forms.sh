@@ -1,7 +1,7 @@
 #!/usr/bin/env bash
 # Begins a right function for x86-64 with some instructions, and checks which of these are followed,
 # and why the others are refused: forms.sh PYTHON
-cd "$(dirname "$0")/../.." && . ./cases.sh
+cd "$(dirname "$0")/../.." && . ./tests/cases.sh
 python=$1
 
 # tried OPTION EXPECTED INSTRUCTIONS

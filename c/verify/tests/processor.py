@@ -177,6 +177,8 @@ def compare(content, level, rounds, program):
     calls = [call for k in range(rounds) for version in VERSIONS
              for call in round_of_calls(r, version, k % 64)
              if call.name in library.image.functions]
+    if left := {*library.image.functions} - {call.name for call in calls}:
+        raise Refused(f'{sorted(left)} are in no round of calls')
     replies, status = replies_to((call.request() for call in calls), program)
     for call, reply in zip(calls, replies):
         model, real = call.in_model(library), call.outcome(*reply)

@@ -1,5 +1,5 @@
 //! Compares calls of the crate with those of the original, which lacks saved texts and padding.
-use crate::calls::{Calls, calls, hexadecimal};
+use crate::by_name::{Calls, calls, hexadecimal};
 use crate::random::Random;
 
 const SEEDS: [u64; 5] = [0, 1, u64::MAX, 0x5555_5555_5555_5555, 0x0123_4567_89ab_cdef];
@@ -24,6 +24,10 @@ pub fn run(seed: u64, count: u64) {
 }
 
 impl Random {
+    fn one_of<T: Copy>(&mut self, these: &[T]) -> T {
+        these[self.below(these.len())]
+    }
+
     fn length(&mut self) -> usize {
         let limit = self.one_of(&[20, 70, 140, 3000]);
         self.below(limit)

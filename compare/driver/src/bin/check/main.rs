@@ -1,10 +1,11 @@
 //! Compares the crate with the original, or prints what the original computes: see ../run.sh.
-mod calls;
+#[path = "../../../../../rust/tests/by_name/mod.rs"]
+mod by_name;
 mod fuzz;
 #[path = "../../random.rs"]
 mod random;
 
-use calls::{Calls, calls};
+use by_name::{Calls, calls, row};
 use std::io;
 
 fn main() {
@@ -34,17 +35,15 @@ fn answers() {
 /// Prints the rows of c/vectors.tsv or c/values.tsv, which are read from standard input, each with
 /// the value that the original gives. Comments and rows of calls that it lacks stay as they are.
 fn values([v4, v5]: [Calls; 2]) {
-    for row in io::stdin().lines() {
-        let row = row.expect("a row");
-        let of = |version| if version == "4" { v4 } else { v5 };
-        let value = match row.split('\t').collect::<Vec<_>>()[..] {
-            [version @ ("4" | "5"), seed, message, _] => of(version)("komihash", &[seed, message]),
-            [call, version, ref given @ .., _] => of(version)(call, given),
-            _ => None,
-        };
-        match (value, row.rsplit_once('\t')) {
+    for line in io::stdin().lines() {
+        let line = line.expect("a row");
+        let value = row(&line).and_then(|(version, call, given, _)| {
+            let calls = if version == "4" { v4 } else { v5 };
+            calls(call, &given)
+        });
+        match (value, line.rsplit_once('\t')) {
             (Some(value), Some((given, _))) => println!("{given}\t{value}"),
-            _ => println!("{row}"),
+            _ => println!("{line}"),
         }
     }
 }

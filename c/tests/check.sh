@@ -2,8 +2,8 @@
 # Tests the library for C; `make check` runs it, and passes what it builds with. Installs the
 # library below a folder whose name a shell must quote, and compiles and runs programs with it.
 set -u
-cd "$(dirname "$0")" || exit 1
-. ./cases.sh
+cd "$(dirname "$0")/.." || exit 1
+. ./tests/cases.sh
 
 prefix="$scratch/a & 'b'"
 lib="$prefix/lib"
@@ -54,6 +54,13 @@ complete() {
         awk -v "kinds=$kinds" '$2 ~ kinds { print $1 }' | sort |
         diff "$scratch/declared" -
 }
+# Whether calls.c calls each function of the header.
+calls_each() {
+    for number in 4 5; do
+        $CC -I. -D "VERSION=$number" -c -o "$scratch/calls.o" tests/calls.c &&
+            "$NM" -P "$scratch/calls.o" | grep -oE '^_?komihash_v[^ ]* U' || return
+    done | sed 's/^_//; s/ U$//' | sort | diff "$scratch/declared" -
+}
 # Whether a library is marked for IBT and SHSTK, or for BTI: by a note, and in each function.
 marked() {
     "${CROSS}readelf" -n "$1" | grep -E 'feature: (IBT, SHSTK|BTI)$' &&
@@ -77,25 +84,24 @@ rows() { grep -hE "^((new|init|init_with_extra_seed)$tab)?$1$tab" vectors.tsv va
 calls() {
     for number in 4 5; do
         rows $number |
-            runs -std=c11 -D "VERSION=$number" -I "$prefix/include" calls.c "$1" || return
+            runs -std=c11 -D "VERSION=$number" -I "$prefix/include" tests/calls.c "$1" ||
+            return
     done
 }
 on_oldest_processor() { RUN='qemu-x86_64 -cpu Opteron_G1' && calls "$archive"; }
 # Compiles calls that were written for the C original, with these options.
-original() {
-    runs "$@" -I "$prefix/include/komihash_rattle" original.c -x none "$archive" < vectors.tsv
-}
-by_python() { PYTHONPATH=examples python3 -B -W error calls.py < vectors.tsv; }
+original() { runs "$@" -I "$prefix/include/komihash_rattle" tests/original.c -x none "$archive"; }
+by_python() { PYTHONPATH=examples python3 -B -W error tests/calls.py < vectors.tsv; }
 
 # Whether gdb finds its way from each instruction of these versions in a library to main.
 unwinds() { # LIBRARY NUMBER..
     library=$1
     shift
     for number; do
-        $CC -g -D "VERSION=$number" -o "$program" calls.c "$library" &&
+        $CC -g -I. -D "VERSION=$number" -o "$program" tests/calls.c "$library" &&
             rows $number | tail -n 13 > "$scratch/rows" &&
-            gdb -q -nx -batch -ex "set args < $scratch/rows > /dev/null" -x unwind.py "$program" ||
-            return
+            gdb -q -nx -batch -ex "set args < $scratch/rows > /dev/null" -x tests/unwind.py \
+                "$program" || return
     done
 }
 
@@ -199,6 +205,7 @@ run_case 'the library is installed' build install "PREFIX=$prefix"
 run_case 'the numbers in the header are those of its version' test "$version" = \
     "$(sed -n 's/.*_VERSION_[A-Z]* //p' komihash_rattle.h | paste -s -d .)"
 grep -o 'komihash_v[a-z0-9_]*(' komihash_rattle.h | tr -d '(' | sort > "$scratch/declared"
+run_case 'calls.c calls each function of the header' calls_each
 find "$prefix" -type f -name 'lib*' ! -name '*.dll' > "$scratch/libraries"
 while read -r file; do
     name=${file#"$prefix/"}
@@ -219,10 +226,7 @@ for compiler in "$CC" ${clang:+"$clang"}; do
         { skip 'calls.c and the example in C' "$tool"; continue; }
     run_case "calls.c, by $name" prints "$values" calls "$archive"
     run_case "calls.c, by $name, shared library" prints "$values" calls "$linked"
-    for standard in c89 gnu89 c99; do
-        run_case "the names of the C original in $standard, by $name" \
-            prints "$vectors_of_5" original "-std=$standard"
-    done
+    run_case "the names of the C original in C89, by $name" original -std=c89
     run_case "the example in C, by $name" prints $hash runs "$scratch/example.c" \
         -std=c11 -I "$prefix/include" "$archive"
     needs pkg-config "the example in C, by $name and pkg-config" \
@@ -233,7 +237,7 @@ if [ ! "$CROSS" ]; then
         needs "${compiler%% *}" "the example in C++, by $compiler" prints $hash \
             runs examples/example.cpp -std=c++17 -I "$prefix/include" "$archive"
         needs "${compiler%% *}" "the names of the C original, by $compiler" \
-            prints "$vectors_of_5" original -x c++ -std=c++11
+            original -x c++ -std=c++11
     done
     compiler='musl-gcc -static'
     needs musl-gcc 'calls.c with musl' prints "$values" calls "$archive"
@@ -241,7 +245,6 @@ if [ ! "$CROSS" ]; then
     needs gdb 'gdb finds main from each instruction of the library' unwinds "$archive" 4 5
     needs gdb 'gdb finds main where the library has lines of source code' \
         unwinds "$ASSEMBLY/${machine%%-*}.S" 5
-    run_case 'make bench' build bench
 fi
 compiler=$CC
 [ "${machine%%-*}$system" != x86_64Linux ] || needs qemu-x86_64 \

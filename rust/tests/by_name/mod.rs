@@ -1,4 +1,5 @@
-//! Calls by their names and arguments, as c/values.tsv has them, and some more.
+//! Calls by their names and arguments, as c/values.tsv has them, and some more. compare/ makes them
+//! of the original too.
 use std::fmt::Write;
 
 /// Returns the value of a call, or none if the call is of another kind.
@@ -18,12 +19,25 @@ pub fn hexadecimal(bytes: &[u8]) -> String {
     })
 }
 
+/// Returns what a row of c/vectors.tsv or c/values.tsv has: version, call, arguments and value.
+pub fn row(line: &str) -> Option<(&str, &str, Vec<&str>, &str)> {
+    match line.split('\t').collect::<Vec<_>>()[..] {
+        [version @ ("4" | "5"), ref given @ .., value] => {
+            Some((version, "komihash", given.to_vec(), value))
+        }
+        [call, version @ ("4" | "5"), ref given @ .., value] => {
+            Some((version, call, given.to_vec(), value))
+        }
+        _ => None,
+    }
+}
+
 /// Makes the calls of a version of a crate.
 macro_rules! calls {
     ($module:path) => {{
         use std::collections::HashMap;
         use std::hash::{BuildHasher, BuildHasherDefault, Hasher};
-        use $crate::calls::{Calls, bytes, hexadecimal, number};
+        use $crate::by_name::{Calls, bytes, hexadecimal, number};
         use $module::{KomiHasher, Komirand, StreamedKomihash, komihash};
 
         /// Returns what fills of these lengths write, one after the other.

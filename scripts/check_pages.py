@@ -1,8 +1,8 @@
 #!/usr/bin/env python3
 """Checks that what stands in two places is the same: each block of Rattle in README and CALLING is
-a part of a file of crates/examples, v4.rt and v5.rt differ in the number alone, what is copied from
-the repository has its licence, the crate for Rust has the tables of the library for C, and each link
-of a page leads to a file that is there, and to a heading of it."""
+a part of a file of crates/examples, v4.rt and v5.rt differ in the number alone, crates/komihash,
+which users copy, has the licence, and each link of a page leads to a file that is there, and to a
+heading of it."""
 
 import re
 from pathlib import Path
@@ -33,12 +33,8 @@ for crate in ("komihash", "komihash_c"):
     twins = ((ROOT / f"crates/{crate}/src/v{n}.rt").read_text("utf-8") for n in "45")
     four, five = (re.sub("^//!.*\n", "", twin, flags=re.MULTILINE) for twin in twins)
     checks.append((f"the versions in {crate}", four == five.replace("5", "4")))
-for folder in ("c", "crates/komihash", "rust"):
-    licences = ((ROOT / path / "LICENSE").read_text("utf-8") for path in (".", folder))
-    checks.append((f"the licence in {folder}", len(set(licences)) == 1))
-for name in ("vectors.tsv", "values.tsv"):
-    tables = {(ROOT / folder / name).read_text("utf-8") for folder in ("c", "rust/tests")}
-    checks.append((f"rust/tests/{name}", len(tables) == 1))
+licences = {(ROOT / path / "LICENSE").read_text("utf-8") for path in (".", "crates/komihash")}
+checks.append(("the licence in crates/komihash", len(licences) == 1))
 checks.append(("README and CALLING have blocks", all(map(CODE.search, (readme, calling)))))
 for code in CODE.findall(readme + calling):
     checks.append((f"the block `{code.splitlines()[0]}`", any(code in text for text in examples)))

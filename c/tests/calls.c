@@ -4,7 +4,7 @@
  * and ends. Each array that is passed ends at the end of a page, after which nothing can be
  * accessed. */
 #define _DEFAULT_SOURCE
-#include "komihash_rattle.h"
+#include <komihash_rattle.h>
 #include <inttypes.h>
 #include <stdio.h>
 #include <stdlib.h>

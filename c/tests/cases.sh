@@ -19,17 +19,17 @@ run_case() {
     fi
 }
 
-# A case that can't be run, since a tool is missing: skip NAME TOOL
+# A case that can't be run, since something is missing: skip NAME WHAT
 skip() {
     skipped=$((skipped + 1))
-    echo "skipped: $1, since there is no $2"
+    echo "skipped: $1, which needs $2"
 }
 
-# A case that needs a tool: needs TOOL NAME COMMAND..
+# A case that needs tools: needs 'TOOL..' NAME COMMAND..
 needs() {
-    tool=$1
+    tools=$1
     shift
-    if command -v "$tool" > "$scratch/case"; then run_case "$@"; else skip "$1" "$tool"; fi
+    if type $tools > "$scratch/case" 2>&1; then run_case "$@"; else skip "$1" "$tools"; fi
 }
 
 counted() {
