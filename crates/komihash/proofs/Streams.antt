@@ -9,7 +9,7 @@ use Rattle.std.proofs.lemmas.Bool.Decides.{nat_tests}
 use Rattle.std.proofs.lemmas.Grind.{elements}
 use Rattle.std.proofs.lemmas.List.{drop_all}
 use Rattle.komihash.specs.Hash.{komi, hash_from_pair}
-use Rattle.komihash.specs.Padding.{pads_with_two, padding_after, padding_byte}
+use Rattle.komihash.specs.Padding.{KeepsTopBit, pads_with_two, padding_after, padding_byte}
 use Rattle.komihash.specs.Rounds.{join, closing}
 use Rattle.komihash.specs.Saved.{text, IsTextAfter}
 use Rattle.komihash.specs.Internals.{stored_words, whole_words, block_lanes, after_blocks, tail_end}
@@ -98,7 +98,7 @@ absorb-few v s bytes few =
 
 -- ---- it stays a state
 
-pads_with_two-version : (v b : ℕ) → pads_with_two v b ≡ true → v ≡ 4
+pads_with_two-version : (v b : ℕ) → pads_with_two v b ≡ true → KeepsTopBit v
 pads_with_two-version v b h = grind (arith, nat_tests)
 
 -- a new stream's state, and the state after bytes

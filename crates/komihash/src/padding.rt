@@ -4,18 +4,26 @@
 ghost use Rattle.std.specs.Prelude.{◌≡◌, ◌+◌, ◌*◌, ◌/◌, ◌^◌, ◌<◌, ◌≤◌, ◌↔◌, IsTrue};
 ghost use Rattle.std.specs.Prelude.{IfSome, IfNone, length, take, slice_index};
 ghost use Rattle.komihash.specs.Padding.{ArePadded, Padded, Unpadded, padded_words};
-ghost use Rattle.komihash.specs.Padding.{pads_with_two, padding_after, padding_byte};
+ghost use Rattle.komihash.specs.Padding.{has_two, pads_with_two, padding_after, padding_byte};
 ghost use Rattle.komihash.specs.Internals.{final_word};
 ghost use Rattle.komihash.specs.Words.{all_bytes};
 
 use crate::utils::{last_word, read_partial_word, read_whole_words, write_first_bytes};
 
-/// Returns whether the padding byte after `byte` is 2: in version 4, if its top bit is set.
+/// Returns whether version V has the padding byte 2.
+#[inline(always)]
+pub(crate) fn has_two<const V: u8>() -> bool
+    ensures { result ≡ has_two V }
+{
+    V == 4
+}
+
+/// Returns whether the padding byte after `byte` is 2: if the version has it, and the top bit is set.
 #[inline(always)]
 pub(crate) fn pads_with_two<const V: u8>(byte: u8) -> bool
     ensures { result ≡ pads_with_two V byte }
 {
-    V == 4 && byte >= 128
+    has_two::<V>() && byte >= 128
 }
 
 /// Returns the padding byte: 2 after a last byte for which `pads_with_two` holds, otherwise 1.
