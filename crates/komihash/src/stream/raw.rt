@@ -8,9 +8,9 @@ ghost use Rattle.komihash.specs.Stream.{State, IsState, HasAbsorbed, absorb};
 ghost use Rattle.komihash.specs.Stream.{Started, Absorbed, Answered};
 
 use super::saved::{self, LONGEST_TEXT};
-use crate::hash::hash_from_pair;
 use crate::padding::{has_two, padding_after, pads_with_two};
 use crate::rounds::pending::Pending;
+use crate::rounds::words::hash_from_pair;
 use crate::rounds::{Lanes, absorb_blocks, block_round, close, join, lanes_of, places, seed_pair};
 use crate::tally::Tally;
 use crate::version::{IsVersion, Versions};

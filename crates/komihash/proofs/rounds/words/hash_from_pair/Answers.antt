@@ -2,8 +2,8 @@
 use Rattle.std.proofs.Common.{rules, ◌+◌, ◌*◌, ◌/◌, arith, length}
 use Rattle.std.proofs.lemmas.Bool.{iff_false}
 use Rattle.std.proofs.lemmas.List.{drop_more, drop_all}
-use Rattle.komihash.proofs.hash.hash_from_pair.Goals as goal
-use Rattle.komihash.proofs.hash.hash_from_pair.Goals.{then-is_odd, else-is_odd}
+use Rattle.komihash.proofs.rounds.words.hash_from_pair.Goals as goal
+use Rattle.komihash.proofs.rounds.words.hash_from_pair.Goals.{then-is_odd, else-is_odd}
 
 pub returns-clause-hash : goal.returns-clause-hash
 returns-clause-hash g c =
