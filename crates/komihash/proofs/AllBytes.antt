@@ -8,6 +8,8 @@ use borrow.Rule.Slice.PartMut.{put_mid}
 use Rattle.std.proofs.Math.Nat.{div-div-eq-div-mul}
 use Rattle.std.specs.Int.{to_le_bytes}
 use Rattle.std.specs.Simd.Lanes.{digits_l}
+use Rattle.std.proofs.lemmas.Grind.{elements}
+use Rattle.std.proofs.lemmas.Bool.{cases_lt}
 use Rattle.komihash.specs.Internals.{stored_words, whole_words}
 use Rattle.komihash.specs.Words.{AreBytes, AreWords, word_of, all_bytes}
 use Rattle.komihash.proofs.Lists.{Covers, take-append}
@@ -40,14 +42,7 @@ pub Covers-more : (ws out new old : List ℕ) (i j k n : ℕ) → Covers (8 * i)
     → 8 * i + k ≡ n → n ≤ length out
     → Covers n (put_mid (8 * i) k out new) (all_bytes ws) old
 Covers-more ws out new old i j k n so is lt le sum room fits =
-    let bytes = is ∙ sym (take-all_bytes ws i j lt le) in
-    let size : length new ≡ j = ap length is ∙ length-take-le j _ le in
-    record {
-      front = take-put_mid (8 * i) k out new n (omega arith) (omega arith)
-          ∙ rw (so.front, bytes, ← take-add (8 * i) j (all_bytes ws), sum) refl;
-      others = drop-put_mid (8 * i) k out new n (omega arith) (omega arith) (omega arith)
-          ∙ rw (← room, ← drop-drop k (8 * i) out, so.others) (drop-drop k (8 * i) old);
-    }
+    grind (arith, elements, cases_lt, take-all_bytes, take-put_mid, take-add, drop-put_mid, drop-drop)
 
 -- a word's first digits are the bytes that it was made of
 digits-word_of : (n : ℕ) (xs : List ℕ) → AreBytes xs

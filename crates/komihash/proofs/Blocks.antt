@@ -3,6 +3,8 @@ use Rattle.std.proofs.Common.{◌≡◌, ℕ, ◌+◌, ◌-◌, ◌*◌, ◌/◌
 use Rattle.std.proofs.Common.{length, take, drop, refl, ap, arith, ◌∙◌, sym}
 use Rattle.std.proofs.lemmas.List.{length-drop, length-take-le, take-append-drop, drop-drop}
 use Rattle.std.proofs.lemmas.List.{drop_at, append_assoc, length-append}
+use Rattle.std.proofs.lemmas.Grind.{elements}
+use Rattle.std.proofs.lemmas.Bool.{cases_lt}
 use Rattle.komihash.specs.Rounds.{Lanes, block_round}
 use Rattle.komihash.specs.Internals.{whole_words, after_words, block_lanes, after_blocks}
 use Rattle.komihash.proofs.WholeWords.{whole_words-append, length-whole_words}
@@ -74,10 +76,7 @@ block_lanes-more v l xs le = (completed v l [] xs 64 refl le).lanes
 -- ---- the words after them, and the bytes after their last word
 
 pub after_words-after_blocks : (m : List ℕ) → after_words (after_blocks m) ≡ after_words m
-after_words-after_blocks m =
-    let n = length m - length m % 64 in
-    drop-drop (8 * (length (after_blocks m) / 8)) n m
-    ∙ ap (λ k. drop k m) (omega (arith, length-after_blocks m))
+after_words-after_blocks m = grind (arith, elements, cases_lt)
 
 pub after_words-whole_words : (m : List ℕ)
     → after_words (whole_words m) ≡ whole_words (after_blocks m)

@@ -17,17 +17,13 @@ use Rattle.komihash.proofs.Streams.{absorb-append, absorb-nothing, absorb-blocks
 pub pending-absorb : (v : ℕ) (s : State) (bytes : List ℕ) → length s.pending < 64
     → length (absorb v s bytes).pending ≡ (length s.pending + length bytes) % 64
 pending-absorb v s bytes few =
-    let all = s.pending ++ bytes in
-    rw (absorb-blocks v s bytes few)
-    (omega (arith, length-after_blocks all, length-append s.pending bytes))
+    grind (arith, absorb-blocks, length-after_blocks, length-append {A = ℕ})
 
 -- after a message
 pub HasAbsorbed-pending : (v seed : ℕ) (s : State) (m : List ℕ) → HasAbsorbed v seed s m
     → length s.pending ≡ length m % 64
 unfolding HasAbsorbed
-HasAbsorbed-pending v seed s m is =
-    let pending = pending-absorb v (start seed) m (omega arith) in
-    rw is (omega arith)
+HasAbsorbed-pending v seed s m is = grind (arith, pending-absorb)
 
 -- what the proof of `absorb_costs` of `src/tests/calls.rt` needs
 pub ruleset costs = (pending-absorb)
@@ -97,8 +93,7 @@ products_of_answers-pieces n (Answer ∷ pieces) only = absurd only
 pub run_products-pieces : (pieces : List Call) → AreAbsorbs pieces
     → run_products (pieces ++ Answer ∷ []) ≡ hash_products (length (bytes_of_calls pieces))
 run_products-pieces pieces only =
-    let bytes = bytes_of_calls-append pieces (Answer ∷ []) ∙ append-nil _ in
-    rw bytes (omega (arith, products_of_answers-pieces 0 pieces only))
+    search (arith, bytes_of_calls-append, append-nil, products_of_answers-pieces)
 
 -- ---- the first of several calls
 
@@ -120,18 +115,5 @@ call_first v s next (Absorb bytes) calls few is =
     let pending = pending-absorb v s bytes.now few in
     let rest = costs-modulo (length s.pending + length bytes.now)
     (length (absorb v s bytes.now).pending) calls (omega arith) in
-    rw (is, append-nil bytes.now) record {
-      answers = answers_after-same (λ m. answer v (absorb v s m)) _ bytes.now [] calls
-          (λ x. ap (answer v) (absorb-append v s bytes.now x));
-      state = absorb-append v s bytes.now (bytes_of_calls calls);
-      products = rw (append-nil bytes.now) (omega arith);
-      kept_bytes = omega arith;
-    }
-call_first v s next Answer calls few is =
-    let same : next ≡ s = is ∙ absorb-nothing v s in
-    rw same record {
-      answers = refl;
-      state = refl;
-      products = omega arith;
-      kept_bytes = omega arith;
-    }
+    grind (arith, rest, append-nil, answers_after-same, absorb-append)
+call_first v s next Answer calls few is = grind (arith, absorb-nothing)

@@ -7,6 +7,7 @@ use Rattle.std.proofs.lemmas.List.Concat.{flat_map-append}
 use Rattle.std.proofs.Math.Seq.{take-append-add}
 use Rattle.std.specs.Int.{to_le_bytes}
 use Rattle.std.specs.List.{flat_map}
+use Rattle.std.proofs.lemmas.Grind.{elements}
 use Rattle.komihash.specs.Generator.{next, after_steps, outputs, fill_steps, fill, after_fill}
 use Rattle.komihash.specs.Words.{all_bytes}
 use Rattle.komihash.proofs.AllBytes.{length-all_bytes}
@@ -66,9 +67,7 @@ after_fill-add v x y s whole =
 -- a fill of whole words is the bytes of as many outputs
 pub fill-whole : (v n : ℕ) (s : ℕ × ℕ)
     → fill v s (8 * n) ≡ flat_map (λ output. to_le_bytes w64 output) (outputs v n s)
-fill-whole v n s =
-    let steps : fill_steps (8 * n) ≡ n = omega arith in
-    rw steps (take_all (8 * n) _ (omega (arith, length-bytes v n s)))
+fill-whole v n s = grind (arith, elements, length-bytes)
 
 pub after_fill-whole : (v n : ℕ) (s : ℕ × ℕ) → after_fill v s (8 * n) ≡ after_steps v n s
 after_fill-whole v n s = ap (λ k. after_steps v k s) (omega arith)
@@ -76,13 +75,4 @@ after_fill-whole v n s = ap (λ k. after_steps v k s) (omega arith)
 pub fill-add : (v x y : ℕ) (s : ℕ × ℕ) → x % 8 ≡ 0
     → fill v s (x + y) ≡ fill v s x ++ fill v (after_fill v s x) y
 fill-add v x y s whole =
-    let now = after_fill v s x in
-    let front = all_bytes (outputs v (fill_steps x) s) in
-    let size : length front ≡ x = omega (arith, length-bytes v (fill_steps x) s) in
-    rw (
-      fill_steps-add x y whole,
-      outputs-add v (fill_steps x) (fill_steps y) s,
-      flat_map-append (to_le_bytes w64) (outputs v (fill_steps x) s) (outputs v (fill_steps y) now),
-      take_all x front (omega arith),
-    )
-    (rw size at (take-append-add front (all_bytes (outputs v (fill_steps y) now)) y))
+    grind (arith, elements, length-bytes, fill_steps-add, outputs-add, flat_map-append, take-append-add)

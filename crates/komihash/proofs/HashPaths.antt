@@ -4,6 +4,7 @@ use Rattle.std.proofs.Common.{◌≡◌, ℕ, zero, suc, ◌+◌, ◌-◌, ◌*�
 use Rattle.std.proofs.Common.{List, [], ◌∷◌, ◌++◌, length, take, drop, refl, arith, ◌∙◌, drop-drop}
 use Rattle.std.proofs.Common.{eqb-true, slice_index}
 use native.Mathlib.Numerals.{unary_clauses}
+use Rattle.std.proofs.lemmas.Grind.{elements}
 use Rattle.komihash.specs.Rounds.{Lanes, lanes, seed_pair, block_round, pair_round, join, closing}
 use Rattle.komihash.specs.Hash.{hash_from_pair, hash_from_lanes, komi}
 use Rattle.komihash.specs.Internals.{stored_words, whole_words, after_words, final_word}
@@ -92,9 +93,7 @@ module _ (v seed : ℕ) (m : List ℕ) where
   pub komi_partial_word : 1 ≤ length m → length m < 8
       → komi v seed m ≡ closing pair (word_of (m ++ padding_byte v m ∷ []) ∷ [])
   unfolding stored_words
-  komi_partial_word some lt =
-      let count : length m / 8 ≡ 0 = omega arith in
-      rw (komi_short (omega arith) (omega arith), count) refl
+  komi_partial_word some lt = grind (arith, elements, komi_short)
 
   pub komi_one_word : 8 ≤ length m → length m < 16
       → komi v seed m ≡ closing pair (word_of (take 8 m) ∷ last ∷ [])
@@ -115,9 +114,7 @@ pub komi_blocks : (v seed : ℕ) (m : List ℕ) → 64 ≤ length m → length m
     → komi v seed m
     ≡ closing (join true (block_lanes v (lanes (seed_pair seed)) (whole_words m)))
     (final_word m (padding_byte v m) ∷ [])
-komi_blocks v seed m le lt =
-    let none = whole_words-few (after_blocks m) (omega (arith, length-after_blocks m)) in
-    rw (komi_long v seed m le, none) refl
+komi_blocks v seed m le lt = grind (arith, whole_words-few, length-after_blocks, komi_long)
 
 pub komi_empty : (v seed : ℕ) (m : List ℕ) → length m ≡ 0
     → komi v seed m ≡ closing (seed_pair seed) (0 ∷ [])

@@ -7,6 +7,8 @@ use Rattle.std.proofs.Common.{drop_at, take_all, slice_index, ◌==◌}
 use Rattle.std.proofs.lemmas.Bool.Decides.{nat_tests}
 use Rattle.std.proofs.lemmas.Slice.{take-put_mid, drop-put_mid}
 use borrow.Rule.Slice.PartMut.{put_mid}
+use Rattle.std.proofs.lemmas.Grind.{elements}
+use Rattle.std.proofs.lemmas.Bool.{cases_lt}
 use Rattle.komihash.specs.Rounds.{Lanes, in_order}
 use Rattle.komihash.specs.Saved.{lanes_at, pending_at, longest_text, text, IsText, IsTextAfter}
 use Rattle.komihash.specs.Saved.{Restored}
@@ -163,12 +165,7 @@ pub restored : (v : ℕ) (bytes : List ℕ) (now : State) → IsText v bytes
     → IsState v now × Restored v (λ (s : State). s) bytes (Some now)
 unfolding IsTextAfter
 restored v bytes now (s, is, of_s) lanes pending had_block top_bit =
-    let read : now ≡ state_of bytes = grind arith in
-    let back = λ (t : State) (is : IsState v t) (of : text v t ≡ bytes).
-    read ∙ ap state_of (sym of) ∙ state_of-text v t is.words in
-    let same = back s is of_s in
-    let size = length-text v s in
-    (grind (arith, back), grind (arith, back))
+    grind (arith, elements, cases_lt, state_of-text, length-text)
 
 -- the text of a stream that has absorbed a message
 pub text-after : (v seed : ℕ) (s : State) (m bytes : List ℕ) → IsState v s → HasAbsorbed v seed s m

@@ -156,15 +156,7 @@ answer-none v s none = rw none
 tail_end-drop : (v n : ℕ) (m : List ℕ) → 0 < n → n ≤ length m
     → tail_end v (drop n m) true (pads_with_two v (slice_index m (n - 1))) ≡ padding_byte v m
 tail_end-drop v n m some le =
-    let size = length-drop n m in
-    elim (cases_lt n (length m)) [
-      | inl lt ↦
-          let last : n + (length (drop n m) - 1) ≡ length m - 1 = omega arith in
-          tail_end-pending v (drop n m) true _ (omega arith)
-          ∙ ap (λ b. padding_after (pads_with_two v b))
-          (get_or-drop n m (length (drop n m) - 1) 0 ∙ ap (slice_index m) last)
-      | inr ge ↦ let all : n ≡ length m = omega arith in rw (drop_all n m ge, all) refl
-    ]
+    grind (arith, elements, cases_lt, length-drop, tail_end-pending, get_or-drop)
 
 -- with those of a stream that has had no block
 tail_end-start : (v : ℕ) (m : List ℕ) → tail_end v m false false ≡ padding_or_zero v m
@@ -194,10 +186,7 @@ answer-joined v seed m =
 -- an answer is the hash of the message that the stream has absorbed
 pub answered : (v : ℕ) (now : State) (result : ℕ) → result ≡ answer v now → Answered v now result
 unfolding HasAbsorbed
-answered v now result is = record {
-  answer = is;
-  hash = λ seed m before. is ∙ ap (answer v) before ∙ answer-joined v seed m;
-}
+answered v now result is = grind (arith, answer-joined)
 
 -- equal messages lead to equal states and texts
 pub same_state_after : (v seed : ℕ) (s t : State) (m : List ℕ) → HasAbsorbed v seed s m

@@ -127,11 +127,7 @@ module _ (v : ℕ) (ws : List ℕ) (fit : (k : ℕ) → Fits w64 (get_or ws k 0)
       let place : 8 * (length ws - 1) + n % 8 ≡ n = omega arith in
       let word = rw (place, bytes, drop_at m (end ∷ zeros) n refl) at
       (word_from (n % 8) (omega arith)) in
-      elim (cases_lt 0 n) [
-        | inl some ↦
-            absurd (omega (arith, word, shr_le last (8 * (n % 8)), padding_or_zero-some v m some))
-        | inr empty ↦ omega arith
-      ]
+      grind (arith, elements, cases_lt, word, shr_le last (8 * (n % 8)), padding_or_zero-some v m)
 
   -- the message that would end below index r of the last word
   module _ (r : ℕ) (below : r < 8) (some : 0 < length ws)
@@ -177,10 +173,8 @@ pub highest : (w bit : ℕ) → 2 ^ bit ≤ w → w < 2 * 2 ^ bit
 highest w bit low high =
     let at = 8 * (bit / 8) in
     let le : 2 ^ at ≤ 2 ^ bit = pow_mono (omega arith) in
-    let lt : 2 ^ (1 + bit) ≤ 2 ^ (8 + at) = pow_mono (omega arith) in (
-      le-div 1 w (2 ^ at) (pow_pos at) (omega arith),
-      shr_below w 8 at (omega (arith, pow-add 2 1 bit)),
-    )
+    let lt : 2 ^ (1 + bit) ≤ 2 ^ (8 + at) = pow_mono (omega arith) in
+    grind (arith, elements, le-div, pow-add)
 
 pub byte_of_words : (ws : List ℕ) (at : ℕ) → at < 8 * length ws
     → get_or (to_le_bytes w64 (get_or ws (at / 8) 0)) (at % 8) 0 ≡ get_or (all_bytes ws) at 0
@@ -192,6 +186,4 @@ byte_of_words ws at lt =
 pub padding_byte_at : (v : ℕ) (ws : List ℕ) (n last : ℕ) → 0 < n → n ≤ 8 * length ws
     → last ≡ slice_index (all_bytes ws) (n - 1)
     → padding_after (pads_with_two v last) ≡ padding_byte v (take n (all_bytes ws))
-padding_byte_at v ws n last some le is =
-    let size = length-take-le n (all_bytes ws) (omega (arith, length-all_bytes ws)) in
-    grind (arith, elements, size)
+padding_byte_at v ws n last some le is = grind (arith, elements, cases_lt, length-all_bytes)

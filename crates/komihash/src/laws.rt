@@ -1,5 +1,5 @@
-//! Laws of the definitions that contracts cite. Each function changes nothing: its contract states a
-//! law, which is proved for all messages, seeds and versions. A function that needs a law calls it.
+//! Laws of the definitions that contracts cite. Each function changes nothing: its contract states
+//! a law, which is proved for all messages, seeds and versions. A function that needs a law calls it.
 
 #![tactic(auto, using(crate::proofs::LawLemmas::laws))]
 

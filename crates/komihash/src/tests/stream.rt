@@ -1,5 +1,5 @@
 //! Streams of both versions in pieces of many sizes: `finish` against `komihash` of all bytes, which
-//! is proved, and here is tried on the compiled code.
+//! is proved of the source, and tried here on the compiled code.
 
 use super::hash::hashes;
 use super::messages::{HIGH_END, SIX, SIX_IN_FIVE, SIX_IN_FOUR, pattern};
