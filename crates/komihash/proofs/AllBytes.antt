@@ -67,21 +67,13 @@ unfolding stored_words
 bytes-stored_words zero [] are le = refl
 bytes-stored_words zero (x ∷ xs) are le = absurd (omega arith)
 bytes-stored_words (suc n) xs are le =
-    let rest : length xs - 8 ≡ length (drop 8 xs) = omega (arith, length-drop 8 xs) in
-    take-append (length xs) (to_le_bytes w64 (word_of (take 8 xs))) _
-    ∙ rw (
-      take-word_of xs are,
-      rest,
-      bytes-stored_words n (drop 8 xs) (AreBytes-drop 8 xs are) (omega (arith, length-drop 8 xs)),
-    )
-    (take-append-drop 8 xs)
+    let others = bytes-stored_words n (drop 8 xs) (AreBytes-drop 8 xs are) in
+    grind (arith, others, take-word_of xs are, take-append-drop 8 xs, length-drop 8 xs, take-append (length xs) (to_le_bytes w64 (word_of (take 8 xs))))
 
 pub all_bytes-whole_words : (xs : List ℕ) → AreBytes xs → length xs % 8 ≡ 0
     → all_bytes (whole_words xs) ≡ xs
 all_bytes-whole_words xs are whole =
-    let size = length-all_bytes (whole_words xs) ∙ ap (λ n. 8 * n) (length-whole_words xs) in
-    sym (take_all (length xs) (all_bytes (whole_words xs)) (omega arith))
-    ∙ bytes-stored_words (length xs / 8) xs are (omega arith)
+    grind (arith, elements, length-all_bytes, length-whole_words, bytes-stored_words (length xs / 8) xs are)
 
 pub AreWords-stored_words : (n : ℕ) (xs : List ℕ) → AreBytes xs → AreWords (stored_words n xs)
 unfolding stored_words
@@ -93,5 +85,4 @@ pub stored_words-all_bytes : (ws : List ℕ) → AreWords ws
     → stored_words (length ws) (all_bytes ws) ≡ ws
 unfolding stored_words
 stored_words-all_bytes [] fit = refl
-stored_words-all_bytes (w ∷ ws) fit =
-    rw (stored_words-all_bytes ws fit.1) (ap (λ u. u ∷ ws) (omega (arith, fit.0)))
+stored_words-all_bytes (w ∷ ws) fit = grind (arith, stored_words-all_bytes ws fit.1, fit.0)

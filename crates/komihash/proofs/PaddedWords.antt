@@ -13,8 +13,7 @@ use Rattle.komihash.proofs.WholeWords.{stored_words-last, words_of-whole}
 
 pub padding_or_zero-some : (v : ℕ) (m : List ℕ) → 0 < length m
     → (padding_or_zero v m ≡ padding_byte v m) × (0 < padding_or_zero v m)
-padding_or_zero-some v [] some = absurd (omega arith)
-padding_or_zero-some v (b ∷ m) some = (refl, grind arith)
+padding_or_zero-some v m some = grind arith
 
 -- the padded words as the code reads them
 pub padded_words-by_tail : (v : ℕ) (m : List ℕ)
@@ -50,5 +49,4 @@ final_word_many xs end typed many small =
 
 -- where no byte stands after the last whole word
 pub final_word_whole : (xs : List ℕ) (end : ℕ) → length xs % 8 ≡ 0 → final_word xs end ≡ end
-final_word_whole xs end whole =
-    rw (drop_all (8 * (length xs / 8)) xs (omega arith)) (omega arith)
+final_word_whole xs end whole = grind (arith, drop_all)

@@ -69,26 +69,16 @@ absorb_byte-full : (v : ℕ) (s : State) (b : ℕ) (bytes : List ℕ) → length
     × (blocks_state v (absorb_byte v s b) bytes ≡ blocks_state v s (b ∷ bytes))
 absorb_byte-full v s b bytes full =
     let all = s.pending ++ b ∷ [] in
-    let size : length all ≡ 64 = omega (arith, length-append s.pending (b ∷ [])) in
-    let on = completed v s.lanes s.pending (b ∷ bytes) 1 (omega arith) (omega arith) in
-    rw (size, words_of-whole 8 all size)
-    (refl, grind (arith, nat_tests, elements, on.lanes, on.left))
+    let on = completed v s.lanes s.pending (b ∷ bytes) 1 in
+    grind (arith, nat_tests, elements, on, words_of-whole 8 all, length-append s.pending (b ∷ []))
 
 pub absorb-blocks : (v : ℕ) (s : State) (bytes : List ℕ) → length s.pending < 64
     → absorb v s bytes ≡ blocks_state v s bytes
 unfolding absorb
 absorb-blocks v s [] few = rw (blocks_state-few v s [] (omega arith), append-nil) refl
 absorb-blocks v s (b ∷ bytes) few =
-    let size = length-append s.pending (b ∷ []) in
-    let next = absorb_byte v s b in
-    elim (cases_lt (length s.pending) 63) [
-      | inl lt ↦
-          let is = absorb_byte-few v s b lt in
-          absorb-blocks v next bytes (rw is (omega arith)) ∙ rw (is, append_assoc) refl
-      | inr ge ↦
-          let (none, same) = absorb_byte-full v s b bytes (omega arith) in
-          absorb-blocks v next bytes (rw none (omega arith)) ∙ same
-    ]
+    let next = absorb-blocks v (absorb_byte v s b) bytes in
+    grind (arith, cases_lt, next, absorb_byte-few v s b, absorb_byte-full v s b bytes, length-append s.pending (b ∷ []), append_assoc)
 
 -- bytes that fill no block
 pub absorb-few : (v : ℕ) (s : State) (bytes : List ℕ) → length s.pending + length bytes < 64
@@ -103,20 +93,15 @@ pads_with_two-version v b h = grind (arith, nat_tests)
 
 -- a new stream's state, and the state after bytes
 pub IsState-start : (v seed : ℕ) → IsState v (start seed)
-IsState-start v seed = search (arith, AreWords-seed_pair, false≢true)
+IsState-start v seed = grind (arith, AreWords-seed_pair)
 
 pub IsState-absorb : (v : ℕ) (s : State) (bytes : List ℕ) → IsState v s → AreBytes bytes
     → IsState v (absorb v s bytes)
 IsState-absorb v s bytes is are =
     let all = s.pending ++ bytes in
-    rw (absorb-blocks v s bytes is.few) record {
-      words = AreWords-block_lanes v s.lanes (whole_words all) is.words;
-      bytes = AreBytes-drop (length all - length all % 64) all
-          (AreBytes-append s.pending bytes is.bytes are);
-      few = omega (arith, length-after_blocks all);
-      top_bit_block = grind (arith, nat_tests, is.top_bit_block);
-      top_bit_version = grind (arith, nat_tests, is.top_bit_version, pads_with_two-version);
-    }
+    let rest = AreBytes-drop (length all - length all % 64) all (AreBytes-append s.pending bytes is.bytes are) in
+    let words = AreWords-block_lanes v s.lanes (whole_words all) is.words in
+    grind (arith, nat_tests, rest, words, absorb-blocks, length-after_blocks all, is, pads_with_two-version)
 
 -- what the proof of a write needs
 pub ruleset more_absorbed = (absorb-append, absorb-few, IsState-absorb, AreBytes-typed)
@@ -128,8 +113,7 @@ tail_of-words : (v : ℕ) (m : List ℕ) (had_block top_bit : Bool)
     → tail_of v m had_block top_bit
     ≡ whole_words m ++ final_word m (tail_end v m had_block top_bit) ∷ []
 unfolding stored_words
-tail_of-words v [] had_block top_bit = grind arith
-tail_of-words v (b ∷ m) had_block top_bit = padded_words-by_tail v (b ∷ m)
+tail_of-words v m had_block top_bit = grind (arith, padded_words-by_tail v m)
 
 -- an answer, from the pair of its lanes, its whole words and its final word
 pub answer-by_pair : (v : ℕ) (s : State)
@@ -143,8 +127,7 @@ answer-by_pair v s =
 -- what ends the tail, with pending bytes
 pub tail_end-pending : (v : ℕ) (m : List ℕ) (had_block top_bit : Bool) → 0 < length m
     → tail_end v m had_block top_bit ≡ padding_byte v m
-tail_end-pending v [] had_block top_bit some = absurd (omega arith)
-tail_end-pending v (b ∷ m) had_block top_bit some = refl
+tail_end-pending v m had_block top_bit some = grind arith
 
 -- an answer with nothing pending
 pub answer-none : (v : ℕ) (s : State) → s.pending ≡ []
@@ -160,8 +143,7 @@ tail_end-drop v n m some le =
 
 -- with those of a stream that has had no block
 tail_end-start : (v : ℕ) (m : List ℕ) → tail_end v m false false ≡ padding_or_zero v m
-tail_end-start v [] = refl
-tail_end-start v (b ∷ m) = refl
+tail_end-start v m = grind arith
 
 -- the answer of a new stream that absorbed a message is the message's hash
 pub answer-joined : (v seed : ℕ) (m : List ℕ) → answer v (absorb v (start seed) m) ≡ komi v seed m

@@ -45,29 +45,25 @@ same_end (x ∷ xs) (y ∷ ys) a b j k some_a some_b is =
 -- bytes whose word is 0, and bytes whose word is a byte
 all_zeros : (xs : List ℕ) → word_of xs ≡ 0 → xs ≡ replicate (length xs) 0
 all_zeros [] is = refl
-all_zeros (x ∷ xs) is =
-    let others = all_zeros xs (omega arith) in grind arith
+all_zeros (x ∷ xs) is = grind (arith, all_zeros xs)
 
 one_byte : (xs : List ℕ) (k : ℕ) → length xs ≡ suc k → word_of xs < 256
     → xs ≡ word_of xs ∷ replicate k 0
 one_byte [] k size small = absurd (omega arith)
-one_byte (x ∷ xs) k size small =
-    let others = all_zeros xs (omega arith) in grind arith
+one_byte (x ∷ xs) k size small = grind (arith, all_zeros xs)
 
 -- ---- the bytes of padded words
 
 padding_or_zero-above : (v : ℕ) (m : List ℕ) → 0 < padding_or_zero v m
     → (0 < length m) × (padding_or_zero v m ≡ padding_byte v m)
-padding_or_zero-above v [] above = absurd (omega arith)
-padding_or_zero-above v (b ∷ m) above = (omega arith, refl)
+padding_or_zero-above v m above = grind arith
 
 AreBytes-end : (b k : ℕ) → b < 256 → AreBytes (b ∷ replicate k 0)
 AreBytes-end b k small i = grind (arith, elements, get_or_past {X = ℕ}, cases_lt)
 
 padded_words-some : (v : ℕ) (m : List ℕ) → 0 < length m
     → padded_words v m ≡ words_of (padded_bytes v m)
-padded_words-some v [] some = absurd (omega arith)
-padded_words-some v (b ∷ m) some = refl
+padded_words-some v m some = grind arith
 
 bytes_of_padded : (v : ℕ) (m : List ℕ) {ws : List ℕ} → AreBytes m → padded_words v m ≡ ws
     → all_bytes ws ≡ m ++ padding_or_zero v m ∷ replicate (7 - length m % 8) 0
@@ -76,11 +72,8 @@ bytes_of_padded v (b ∷ m) are is =
     let xs = b ∷ m in
     let zeros : List ℕ = replicate (7 - length xs % 8) 0 in
     let end = padding_byte v xs in
-    let whole : length (padded_bytes v xs) % 8 ≡ 0 =
-    omega (arith, length-append xs (end ∷ zeros), length-replicate {A = ℕ}) in
     let are_padded = AreBytes-append xs (end ∷ zeros) are (AreBytes-end end _ (grind arith)) in
-    ap all_bytes (sym is ∙ words_of-whole _ (padded_bytes v xs) (omega arith))
-    ∙ all_bytes-whole_words (padded_bytes v xs) are_padded whole
+    grind (arith, length-append xs (end ∷ zeros), length-replicate {A = ℕ}, words_of-whole, all_bytes-whole_words (padded_bytes v xs) are_padded)
 
 -- no two messages share their padded words
 pub same_message : (v : ℕ) (x y : List ℕ) → AreBytes x → AreBytes y
@@ -143,28 +136,19 @@ module _ (v : ℕ) (ws : List ℕ) (fit : (k : ℕ) → Fits w64 (get_or ws k 0)
 
     split : all_bytes ws ≡ message ++ last / 2 ^ (8 * r) ∷ replicate (7 - length message % 8) 0
     split =
-        let rest = drop size (all_bytes ws) in
-        let word = word_from r some in
-        let end : 7 - length message % 8 ≡ 7 - r = omega (arith, length-message) in
-        let count : length rest ≡ suc (7 - r) =
-        omega (arith, length-drop size (all_bytes ws), length-all_bytes ws) in
-        sym (take-append-drop size (all_bytes ws))
-        ∙ ap (λ zs. message ++ zs) (rw (end, ← word) (one_byte rest (7 - r) count (omega arith)))
+      let rest = drop size (all_bytes ws) in
+      grind (arith, elements, one_byte rest (7 - r), word_from r some, length-message, length-all_bytes ws, take-append-drop size (all_bytes ws))
 
     pub unpadded : 0 < size → last / 2 ^ (8 * r) ≡ padding_byte v message
         → padded_words v message ≡ ws
     unpadded long is =
-        padded_words-some v message (omega (arith, length-message))
-        ∙ ap words_of (rw is at (sym split))
-        ∙ words_of-whole (length ws) (all_bytes ws) (length-all_bytes ws)
-        ∙ stored_words-all_bytes ws (Each1-from_get_or _ ws 0 (λ k _. (fit k).fits))
+      let fits = stored_words-all_bytes ws (Each1-from_get_or _ ws 0 (λ k _. (fit k).fits)) in
+      grind (arith, padded_words-some v message, length-message, split, words_of-whole (length ws) (all_bytes ws), length-all_bytes ws, fits)
 
     pub one_place : ArePadded v ws → (0 < size) × (last / 2 ^ (8 * r) ≡ padding_byte v message)
     one_place (m, are, is) =
-        let (same, end) = same_end message m _ _ _ _ (λ _. above_0)
-        (λ some. (padding_or_zero-some v m some).1) (sym split ∙ bytes_of_padded v m are is) in
-        let (some, byte) = padding_or_zero-above v m (rw end at above_0) in
-        (omega (arith, length-message, ap length same), rw same (end ∙ byte))
+      let same = same_end message m _ _ (7 - length message % 8) (7 - length m % 8) (λ _. above_0) (λ some. (padding_or_zero-some v m some).1) in
+      grind (arith, same, split, bytes_of_padded v m are is, length-message, padding_or_zero-above v m)
 
 -- ---- what the code finds
 
@@ -178,10 +162,7 @@ highest w bit low high =
 
 pub byte_of_words : (ws : List ℕ) (at : ℕ) → at < 8 * length ws
     → get_or (to_le_bytes w64 (get_or ws (at / 8) 0)) (at % 8) 0 ≡ get_or (all_bytes ws) at 0
-byte_of_words ws at lt =
-    let word = take-all_bytes ws (at / 8) 8 (omega arith) (omega arith) in
-    let same = ap (λ bs. get_or bs (at % 8) 0) word in
-    grind (arith, elements, same)
+byte_of_words ws at lt = grind (arith, elements, take-all_bytes ws (at / 8) 8)
 
 pub padding_byte_at : (v : ℕ) (ws : List ℕ) (n last : ℕ) → 0 < n → n ≤ 8 * length ws
     → last ≡ slice_index (all_bytes ws) (n - 1)

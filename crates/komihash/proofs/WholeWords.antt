@@ -5,6 +5,7 @@ use Rattle.std.proofs.lemmas.List.{length-append, length-drop, drop-drop, take-a
 use Rattle.std.proofs.lemmas.List.{drop-append-le, drop_all, take_all}
 use Rattle.std.specs.Int.{from_le_bytes, w64}
 use Rattle.std.specs.Simd.{first_chunks}
+use Rattle.std.proofs.lemmas.Grind.{elements}
 use Rattle.komihash.specs.Internals.{stored_words, whole_words}
 use Rattle.komihash.specs.Words.{word_of, words_of}
 
@@ -41,11 +42,7 @@ word_of-chunk zero i xs lt le = absurd (omega arith)
 word_of-chunk (suc n) zero xs lt le = word_of-eight xs (omega arith)
 word_of-chunk (suc n) (suc i) xs lt le =
     let next : 8 + 8 * i ≡ 8 * suc i = omega arith in
-    rw (
-      word_of-chunk n i (drop 8 xs) (omega arith) (omega (arith, length-drop 8 xs)),
-      drop-drop (8 * i) 8 xs,
-      next,
-    ) refl
+    grind (arith, elements, next, drop-drop (8 * i) 8 xs, length-drop 8 xs, word_of-chunk n i (drop 8 xs))
 
 -- what proofs that read whole words one by one need
 pub ruleset read_words = (length-stored_words, get_or-stored_words, word_of-chunk)
@@ -93,6 +90,5 @@ stored_words-last n xs ys e le =
 pub words_of-whole : (n : ℕ) (xs : List ℕ) → length xs ≡ 8 * n → words_of xs ≡ stored_words n xs
 unfolding stored_words
 words_of-whole zero [] e = refl
-words_of-whole (suc n) (a ∷ b ∷ c ∷ d ∷ e ∷ f ∷ g ∷ h ∷ xs) is =
-    ap (λ ws. word_of (a ∷ b ∷ c ∷ d ∷ e ∷ f ∷ g ∷ h ∷ []) ∷ ws) (words_of-whole n xs (omega arith))
+words_of-whole (suc n) (a ∷ b ∷ c ∷ d ∷ e ∷ f ∷ g ∷ h ∷ xs) is = grind (arith, words_of-whole n xs)
 words_of-whole n xs e = absurd (omega arith)

@@ -82,21 +82,15 @@ pub word_of-join : (xs ys : List ℕ) (n : ℕ) → AreBytes xs → AreBytes ys 
     → bit_or (word_of xs) (word_of ys * 2 ^ (8 * n) % 2 ^ 64) ≡ word_of (xs ++ take (8 - n) ys)
 word_of-join xs ys n h g size le =
     let k = 8 * n in
-    let bits : 64 ≡ 8 * (8 - n) + k = omega arith in
-    let fit : word_of ys * 2 ^ k % 2 ^ 64 ≡ word_of (take (8 - n) ys) * 2 ^ k =
-    ap (λ w. word_of ys * 2 ^ k % 2 ^ w) bits ∙ shl_mod (word_of ys) k (8 * (8 - n))
-    ∙ ap (λ w. w * 2 ^ k) (sym (word_of-take (8 - n) ys g)) in
-    let below = rw (take_all n xs (omega arith)) at (word_of-take-lt n xs h) in
-    rw (fit, word_of-append xs (take (8 - n) ys), size)
-    (or_shifted_r (word_of (take (8 - n) ys)) k (word_of xs) below)
+    let fit = shl_mod (word_of ys) k (8 * (8 - n)) in
+    let below = word_of-take-lt n xs h in
+    grind (arith, elements, fit, below, word_of-take (8 - n) ys g, word_of-append xs (take (8 - n) ys), or_shifted_r (word_of (take (8 - n) ys)) k (word_of xs))
 
 -- one byte after others
 pub word_of-push : (xs : List ℕ) (n b : ℕ) → AreBytes xs → length xs ≡ n → n < 8 → b < 256
     → bit_or (word_of xs) (b * 2 ^ (8 * n) % 2 ^ 64) ≡ word_of (xs ++ b ∷ [])
 word_of-push xs n b h size few small =
-    let one : word_of (b ∷ []) ≡ b = omega arith in
-    let all : take (8 - n) (b ∷ []) ≡ b ∷ [] = take_all (8 - n) (b ∷ []) (omega arith) in
-    rw (one, all) at (word_of-join xs (b ∷ []) n h (AreBytes-one b small) size (omega arith))
+    grind (arith, elements, word_of-join xs (b ∷ []) n h (AreBytes-one b small))
 
 -- ---- bytes that are read in pieces
 
@@ -105,11 +99,8 @@ pub word_of-last : (n j s : ℕ) (xs : List ℕ) → AreBytes xs → n ≤ lengt
     → s ≡ 8 * (j + n - length xs) → length xs ≤ j + n
     → word_of (take n (drop (length xs - n) xs)) / 2 ^ s ≡ word_of (drop j xs)
 word_of-last n j s xs h many within e most =
-    let place : length xs - n + (j + n - length xs) ≡ j = omega arith in
     let last = drop (length xs - n) xs in
-    rw (e, take_all n last (omega (arith, length-drop (length xs - n) xs)))
-    (sym (word_of-drop (j + n - length xs) last (AreBytes-drop (length xs - n) xs h))
-    ∙ ap word_of (drop-drop (j + n - length xs) (length xs - n) xs ∙ ap (λ k. drop k xs) place))
+    grind (arith, elements, drop-drop, word_of-drop (j + n - length xs) last (AreBytes-drop (length xs - n) xs h))
 
 -- four to seven bytes, read in two pieces of four from both ends, and a byte b after them
 pub word_of-two_ends : (xs : List ℕ) (b s : ℕ) → AreBytes xs → 4 ≤ length xs → length xs < 8
