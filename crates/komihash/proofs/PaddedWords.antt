@@ -3,6 +3,8 @@ use Rattle.std.proofs.Common.{◌≡◌, ℕ, ◌+◌, ◌-◌, ◌*◌, ◌/◌
 use Rattle.std.proofs.Common.{◌∷◌, ◌++◌, length, take, drop, get_or, replicate, refl, arith}
 use Rattle.std.proofs.Common.{◌∙◌, sym, append_assoc, length-append, length-drop, shr-shr, bit_or}
 use Rattle.std.proofs.lemmas.List.{drop_all, length-replicate}
+use Rattle.std.proofs.lemmas.Bool.Decides.{nat_tests}
+use Rattle.std.proofs.lemmas.Grind.{common_steps, elements}
 use Rattle.komihash.specs.Padding.{padded_words, padding_byte}
 use Rattle.komihash.specs.Words.{word_of}
 use Rattle.komihash.specs.Internals.{stored_words, whole_words, after_words, final_word}
@@ -50,3 +52,6 @@ final_word_many xs end typed many small =
 -- where no byte stands after the last whole word
 pub final_word_whole : (xs : List ℕ) (end : ℕ) → length xs % 8 ≡ 0 → final_word xs end ≡ end
 final_word_whole xs end whole = grind (arith, drop_all)
+
+-- what the proof of `pad` needs
+pub ruleset pad_laws = (padded_words-by_tail, elements, nat_tests, common_steps)

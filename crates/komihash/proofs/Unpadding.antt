@@ -19,7 +19,7 @@ use Rattle.komihash.proofs.AllBytes.{length-all_bytes, AreBytes-all_bytes, take-
 use Rattle.komihash.proofs.AllBytes.{all_bytes-whole_words, stored_words-all_bytes}
 use Rattle.komihash.proofs.PaddedWords.{padding_or_zero-some}
 use Rattle.komihash.proofs.WholeWords.{words_of-whole}
-use Rattle.komihash.proofs.WordOf.{AreBytes-append, AreBytes-drop, word_of-drop}
+use Rattle.komihash.proofs.WordOf.{AreBytes-append, AreBytes-take, AreBytes-drop, word_of-drop}
 
 -- ---- bytes that end in a byte and zeros
 
@@ -168,3 +168,6 @@ pub padding_byte_at : (v : ℕ) (ws : List ℕ) (n last : ℕ) → 0 < n → n �
     → last ≡ slice_index (all_bytes ws) (n - 1)
     → padding_after (pads_with_two v last) ≡ padding_byte v (take n (all_bytes ws))
 padding_byte_at v ws n last some le is = grind (arith, elements, cases_lt, length-all_bytes)
+
+-- what the proof of `unpad` needs
+pub ruleset unpad_laws = (AreBytes-take, AreBytes-all_bytes, same_message)

@@ -78,6 +78,7 @@ pub(crate) fn final_word_by_branch(bytes: &[u8], end: u64) -> u64
 /// Writes the padded words of a message in version V to the front of `out`, and returns how many
 /// they are.
 #[inline(always)]
+#[tactic(auto, using(crate::proofs::PaddedWords::pad_laws))]
 pub(crate) fn pad<const V: u8>(bytes: &[u8], out: &mut [u64]) -> usize
     requires { length bytes.now / 8 + 1 ≤ length out.old }
     ensures { Padded V bytes.now out result }
@@ -168,6 +169,7 @@ fn message_length<const V: u8>(words: &[u64]) -> Option<usize>
 /// Writes the message that has these padded words in version V to the front of `out`, and returns
 /// its length in bytes. Returns `None`, with `out` unchanged, if no message has these words.
 #[inline(always)]
+#[tactic(auto, using(crate::proofs::Unpadding::unpad_laws))]
 pub(crate) fn unpad<const V: u8>(words: &[u64], out: &mut [u8]) -> Option<usize>
     requires { 8 * length words.now ≤ length out.old }
     ensures { Unpadded V words.now out result }

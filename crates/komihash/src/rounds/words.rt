@@ -106,6 +106,7 @@ fn round_each<W: WholeWords>(pair: Pair, left: &W, tally: &mut Tally) -> Pair
 /// Returns the hash from a pair, fewer than eight whole words, and the final word. The last whole
 /// word is any word if there are none.
 #[inline(always)]
+#[tactic(auto, using(std::proofs::lemmas::List::drop_all, std::proofs::lemmas::List::drop_more))]
 pub(crate) fn hash_from_pair<W: WholeWords>(
     pair: Pair,
     left: &W,
