@@ -33,8 +33,7 @@ take-all_bytes [] i over lt le = absurd (omega arith)
 take-all_bytes (w ∷ ws) zero over lt le = take-append-le over (to_le_bytes w64 w) (all_bytes ws) le
 take-all_bytes (w ∷ ws) (suc i) over lt le =
     let next : 8 * suc i ≡ 8 + 8 * i = omega arith in
-    rw (next, ← drop-drop (8 * i) 8 (all_bytes (w ∷ ws)))
-    (take-all_bytes ws i over (omega arith) le)
+    grind (arith, next, drop-drop (8 * i) 8 (all_bytes (w ∷ ws)), take-all_bytes ws i over)
 
 -- one more word is written: its lowest j bytes
 pub Covers-more : (ws out new old : List ℕ) (i j k n : ℕ) → Covers (8 * i) out (all_bytes ws) old

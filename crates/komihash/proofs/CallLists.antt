@@ -38,18 +38,14 @@ answers_after-same f g m n (Absorb bytes ∷ calls) same =
     answers_after-same f g (m ++ bytes.now) (n ++ bytes.now) calls
     (λ x. simp append_assoc (same (bytes.now ++ x)))
 answers_after-same f g m n (Answer ∷ calls) same =
-    let here = simp append-nil at (same []) in
-    let rest = answers_after-same f g m n calls same in
-    cc
+    grind (arith, append-nil, same [], answers_after-same f g m n calls same)
 
 pub answers_after-append : (f : List ℕ → ℕ) (m : List ℕ) (xs ys : List Call)
     → answers_after f m (xs ++ ys)
     ≡ answers_after f m xs ++ answers_after f (m ++ bytes_of_calls xs) ys
-answers_after-append f m [] ys = rw append-nil refl
-answers_after-append f m (Absorb bytes ∷ xs) ys =
-    simp append_assoc at (answers_after-append f (m ++ bytes.now) xs ys)
-answers_after-append f m (Answer ∷ xs) ys =
-    ap (λ rest. f m ∷ rest) (answers_after-append f m xs ys)
+answers_after-append f m [] ys = grind (arith, append-nil)
+answers_after-append f m (Absorb bytes ∷ xs) ys = grind (arith, append_assoc, answers_after-append f (m ++ bytes.now) xs ys)
+answers_after-append f m (Answer ∷ xs) ys = grind (arith, answers_after-append f m xs ys)
 
 -- the answers of a stream that absorbed a message are hashes
 pub onward-message : (v seed : ℕ) (s : State) (m : List ℕ) (calls : List Call)
@@ -74,11 +70,8 @@ costs-modulo : (p q : ℕ) (calls : List Call) → p % 64 ≡ q % 64
     → (products_of_answers p calls ≡ products_of_answers q calls)
     × (onward_kept_bytes p calls ≡ onward_kept_bytes q calls)
 costs-modulo p q [] same = (refl, refl)
-costs-modulo p q (Absorb bytes ∷ calls) same =
-    let rest = costs-modulo (p + length bytes.now) (q + length bytes.now) calls (omega arith) in
-    (rest.0, rw same (omega arith))
-costs-modulo p q (Answer ∷ calls) same =
-    let rest = costs-modulo p q calls same in (rw same (omega arith), rest.1)
+costs-modulo p q (Absorb bytes ∷ calls) same = grind (arith, costs-modulo (p + length bytes.now) (q + length bytes.now) calls)
+costs-modulo p q (Answer ∷ calls) same = grind (arith, costs-modulo p q calls)
 
 -- the products of pieces and one answer at their end are those of the hash of their bytes
 products_of_answers-pieces : (n : ℕ) (pieces : List Call) → AreAbsorbs pieces

@@ -39,12 +39,10 @@ without_block v s ws last lt = refl
 after_block : (v : ℕ) (s : Lanes) (ws : List ℕ) (last : ℕ)
     → hash_from_lanes v s true (ws ++ last ∷ [])
     ≡ hash_from_pair (join true (block_lanes v s ws)) (after_words ws ++ last ∷ [])
-after_block v s (w0 ∷ w1 ∷ w2 ∷ w3 ∷ w4 ∷ w5 ∷ w6 ∷ w7 ∷ []) last = refl
 after_block v s (w0 ∷ w1 ∷ w2 ∷ w3 ∷ w4 ∷ w5 ∷ w6 ∷ w7 ∷ w ∷ ws) last =
     let block = w0 ∷ w1 ∷ w2 ∷ w3 ∷ w4 ∷ w5 ∷ w6 ∷ w7 ∷ [] in
     let next : 8 * (length (block ++ w ∷ ws) / 8) ≡ 8 + 8 * (length (w ∷ ws) / 8) = omega arith in
-    rw (next, ← drop-drop (8 * (length (w ∷ ws) / 8)) 8 (block ++ w ∷ ws))
-    (after_block v (block_round v s block) (w ∷ ws) last)
+    grind (arith, next, drop-drop (8 * (length (w ∷ ws) / 8)) 8 (block ++ w ∷ ws), after_block v (block_round v s block) (w ∷ ws) last)
 after_block v s ws last = refl
 
 -- with eight words or more one is
@@ -80,13 +78,9 @@ module _ (v seed : ℕ) (m : List ℕ) where
       (whole_words (after_blocks m) ++ last ∷ [])
   unfolding komi
   komi_long le =
-      rw (
-        padded_words-by_tail v m,
-        (padding_or_zero-some v m (omega arith)).0,
-        ← after_words-whole_words m,
-      )
-      (first_block v (lanes pair) (whole_words m) last (omega (arith, length-whole_words m))
-      ∙ after_block v (lanes pair) (whole_words m) last)
+      let first = first_block v (lanes pair) (whole_words m) last in
+      let rest = after_block v (lanes pair) (whole_words m) last in
+      grind (arith, first, rest, padded_words-by_tail v m, padding_or_zero-some v m, after_words-whole_words m, length-whole_words m)
 
   -- ---- a law for each function of `src/hash.rt`
 
@@ -119,20 +113,17 @@ komi_blocks v seed m le lt = grind (arith, whole_words-few, length-after_blocks,
 pub komi_empty : (v seed : ℕ) (m : List ℕ) → length m ≡ 0
     → komi v seed m ≡ closing (seed_pair seed) (0 ∷ [])
 unfolding komi
-komi_empty v seed [] none = refl
-komi_empty v seed (b ∷ m) none = absurd (omega arith)
+komi_empty v seed m none = grind arith
 
 -- ---- two versions: they pad with the same byte after a byte below 128
 
 padding_or_zero-same : (m : List ℕ) → slice_index m (length m - 1) < 128
     → padding_or_zero 4 m ≡ padding_or_zero 5 m
-padding_or_zero-same [] low = refl
-padding_or_zero-same (b ∷ m) low = grind arith
+padding_or_zero-same m low = grind arith
 
 pub komi-same_below_64 : (seed : ℕ) (m : List ℕ) → length m < 64
     → slice_index m (length m - 1) < 128 → komi 4 seed m ≡ komi 5 seed m
-komi-same_below_64 seed m few low =
-    rw (komi_few 4 seed m few, komi_few 5 seed m few, padding_or_zero-same m low) refl
+komi-same_below_64 seed m few low = grind (arith, komi_few, padding_or_zero-same m)
 
 -- what the proofs of `src/hash.rt` need
 pub ruleset hash_laws = (

@@ -28,9 +28,7 @@ padded_words-by_tail v (b ∷ m) =
     let n = length xs in
     let zeros = replicate (7 - n % 8) 0 in
     let size : length (end ∷ zeros) ≡ 8 - n % 8 = omega (arith, length-replicate {A = ℕ}) in
-    words_of-whole (n / 8 + 1) (xs ++ end ∷ zeros) (omega (arith, length-append xs (end ∷ zeros)))
-    ∙ stored_words-last (n / 8) xs (end ∷ zeros) refl (omega arith)
-    ∙ rw (← append_assoc (after_words xs) (end ∷ []) zeros, word_of-zeros) refl
+    grind (arith, size, words_of-whole (n / 8 + 1) (xs ++ end ∷ zeros), stored_words-last (n / 8) xs (end ∷ zeros), length-append xs (end ∷ zeros), append_assoc (after_words xs) (end ∷ []) zeros, word_of-zeros)
 
 -- the final word of at least eight bytes, as it is read with the last eight
 pub final_word_many : (xs : List ℕ) (end : ℕ) → ((k : ℕ) → Fits w8 (get_or xs k 0))
@@ -42,12 +40,9 @@ final_word_many xs end typed many small =
     let r = length xs % 8 in
     let j = 8 * (length xs / 8) in
     let are = AreBytes-typed xs typed in
-    sym (rw (
-      shr-shr (word_of (take 8 (drop (length xs - 8) xs))) 1 (63 - 8 * r),
-      word_of-last 8 j (1 + (63 - 8 * r)) xs are many (omega arith) (omega arith) (omega arith),
-    )
-    (word_of-push (drop j xs) r end (AreBytes-drop j xs are) (omega (arith, length-drop j xs))
-    (omega arith) (omega arith)))
+    let last = word_of-last 8 j (1 + (63 - 8 * r)) xs are in
+    let push = word_of-push (drop j xs) r end (AreBytes-drop j xs are) in
+    grind (arith, shr-shr (word_of (take 8 (drop (length xs - 8) xs))) 1 (63 - 8 * r), last, push, length-drop j xs)
 
 -- where no byte stands after the last whole word
 pub final_word_whole : (xs : List ℕ) (end : ℕ) → length xs % 8 ≡ 0 → final_word xs end ≡ end

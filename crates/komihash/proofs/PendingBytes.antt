@@ -100,11 +100,8 @@ module _ {ws : List ℕ} {len : ℕ} (are : ArePending ws len) where
     words_put full =
         let front = take (64 - len) bytes in
         let rest = drop (64 - len) bytes in
-        let size : length (pending ++ front) ≡ 8 * 8 =
-        omega (arith, length-append pending front, length-take {A = ℕ}) in
-        let cut : pending ++ bytes ≡ (pending ++ front) ++ rest =
-        rw (append_assoc, take-append-drop) refl in
-        rw (is, cut, size, stored_words-append 8 0 (pending ++ front) rest size) (append-nil _)
+        let cut : pending ++ bytes ≡ (pending ++ front) ++ rest = rw (append_assoc, take-append-drop) refl in
+        grind (arith, cut, is, length-append pending front, length-take (64 - len) bytes, stored_words-append 8 0 (pending ++ front) rest, append-nil)
 
   -- the word at a place
   pub get_or_pending : (i : ℕ) → i < 8 → get_or ws i 0 ≡ stored_word pending i
@@ -141,14 +138,8 @@ module _ {ws : List ℕ} {len : ℕ} (are : ArePending ws len) where
       → bit_or (get_or ws (len / 8) 0) (word_of (take 8 bytes) * 2 ^ (8 * (len % 8)) % 2 ^ 64)
       ≡ stored_word (pending ++ bytes) (len / 8)
   partial_joined bytes typed =
-      let few = are.few in
-      let size = length-partial in
-      rw (
-        get_or_pending (len / 8) (omega arith),
-        word_of-join (take 8 partial) (take 8 bytes) (len % 8) (AreBytes_word (len / 8))
-            (AreBytes-take 8 bytes typed) (omega (arith, length-take 8 partial)) (omega arith),
-      )
-      (ap word_of (grind (arith, are.count, take-take {A = ℕ}, drop-append-le, take-append)))
+      let word = word_of-join (take 8 partial) (take 8 bytes) (len % 8) (AreBytes_word (len / 8)) (AreBytes-take 8 bytes typed) in
+      grind (arith, word, get_or_pending (len / 8), length-partial, are.count, are.few, take-take {A = ℕ}, length-take 8 partial, drop-append-le, take-append)
 
   -- with that word stored, the words after it are missing, but for those that stay 0
   pub partial_stored : (bytes : List ℕ) (word gap gap_end : ℕ) → AreBytes bytes

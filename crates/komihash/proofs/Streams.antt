@@ -54,10 +54,7 @@ blocks_state v s bytes =
 blocks_state-few : (v : ℕ) (s : State) (bytes : List ℕ) → length s.pending + length bytes < 64
     → blocks_state v s bytes ≡ record s { pending = s.pending ++ bytes }
 blocks_state-few v s bytes few =
-    let size = length-append s.pending bytes in
-    let none = block_lanes-few_bytes v s.lanes (s.pending ++ bytes) (omega arith) in
-    let all = after_blocks-few (s.pending ++ bytes) (omega arith) in
-    grind (arith, nat_tests)
+    grind (arith, nat_tests, block_lanes-few_bytes v s.lanes (s.pending ++ bytes), after_blocks-few (s.pending ++ bytes), length-append s.pending bytes)
 
 -- a byte that completes no block, and one that does
 absorb_byte-few : (v : ℕ) (s : State) (b : ℕ) → length s.pending < 63
@@ -121,8 +118,7 @@ pub answer-by_pair : (v : ℕ) (s : State)
     (whole_words s.pending
     ++ final_word s.pending (tail_end v s.pending s.had_block s.top_bit) ∷ [])
 unfolding answer
-answer-by_pair v s =
-    ap (hash_from_pair (join s.had_block s.lanes)) (tail_of-words v s.pending s.had_block s.top_bit)
+answer-by_pair v s = grind (arith, tail_of-words)
 
 -- what ends the tail, with pending bytes
 pub tail_end-pending : (v : ℕ) (m : List ℕ) (had_block top_bit : Bool) → 0 < length m
@@ -179,5 +175,4 @@ same_state_after v seed s t m first second = first ∙ sym second
 pub same_text_after : (v seed : ℕ) (m x y : List ℕ) → IsTextAfter v seed m x
     → IsTextAfter v seed m y → x ≡ y
 unfolding IsTextAfter HasAbsorbed
-same_text_after v seed m x y (s, _, first, of_s) (t, _, second, of_t) =
-    sym of_s ∙ ap (text v) (first ∙ sym second) ∙ of_t
+same_text_after v seed m x y (s, _, first, of_s) (t, _, second, of_t) = cc

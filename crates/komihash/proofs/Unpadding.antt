@@ -33,14 +33,10 @@ zeros-only (suc k) (x ∷ xs) ys b is = zeros-only k xs ys b (cc)
 -- there is one way to end in a byte that is 0 only if none stands before it
 same_end : (xs ys : List ℕ) (a b j k : ℕ) → (0 < length xs → 0 < a) → (0 < length ys → 0 < b)
     → xs ++ a ∷ replicate j 0 ≡ ys ++ b ∷ replicate k 0 → (xs ≡ ys) × (a ≡ b)
-same_end [] [] a b j k some_a some_b is = (refl, cc)
-same_end [] (y ∷ ys) a b j k some_a some_b is =
-    absurd (omega (arith, zeros-only j ys (replicate k 0) b (cc)))
-same_end (x ∷ xs) [] a b j k some_a some_b is =
-    absurd (omega (arith, zeros-only k xs (replicate j 0) a (cc)))
-same_end (x ∷ xs) (y ∷ ys) a b j k some_a some_b is =
-    let (front, end) = same_end xs ys a b j k (λ _. some_a (omega arith))
-    (λ _. some_b (omega arith)) (cc) in (cc, end)
+same_end [] [] a b j k some_a some_b is = grind arith
+same_end [] (y ∷ ys) a b j k some_a some_b is = grind (arith, zeros-only j ys (replicate k 0) b)
+same_end (x ∷ xs) [] a b j k some_a some_b is = grind (arith, zeros-only k xs (replicate j 0) a)
+same_end (x ∷ xs) (y ∷ ys) a b j k some_a some_b is = grind (arith, same_end xs ys a b j k)
 
 -- bytes whose word is 0, and bytes whose word is a byte
 all_zeros : (xs : List ℕ) → word_of xs ≡ 0 → xs ≡ replicate (length xs) 0
@@ -67,13 +63,13 @@ padded_words-some v m some = grind arith
 
 bytes_of_padded : (v : ℕ) (m : List ℕ) {ws : List ℕ} → AreBytes m → padded_words v m ≡ ws
     → all_bytes ws ≡ m ++ padding_or_zero v m ∷ replicate (7 - length m % 8) 0
-bytes_of_padded v [] are is = ap all_bytes (sym is)
+bytes_of_padded v [] are is = grind arith
 bytes_of_padded v (b ∷ m) are is =
     let xs = b ∷ m in
     let zeros : List ℕ = replicate (7 - length xs % 8) 0 in
     let end = padding_byte v xs in
-    let are_padded = AreBytes-append xs (end ∷ zeros) are (AreBytes-end end _ (grind arith)) in
-    grind (arith, length-append xs (end ∷ zeros), length-replicate {A = ℕ}, words_of-whole, all_bytes-whole_words (padded_bytes v xs) are_padded)
+    let padded = AreBytes-append xs (end ∷ zeros) are (AreBytes-end end _ (grind arith)) in
+    grind (arith, elements, words_of-whole, all_bytes-whole_words (padded_bytes v xs) padded)
 
 -- no two messages share their padded words
 pub same_message : (v : ℕ) (x y : List ℕ) → AreBytes x → AreBytes y
@@ -97,11 +93,8 @@ module _ (v : ℕ) (ws : List ℕ) (fit : (k : ℕ) → Fits w64 (get_or ws k 0)
       let bytes = all_bytes ws in
       let from = drop (8 * i) bytes in
       let eight = take_all 8 from (omega (arith, length-drop (8 * i) bytes, length-all_bytes ws)) in
-      let word : word_of from ≡ last =
-      ap word_of (sym eight ∙ take-all_bytes ws i 8 (omega arith) (omega arith))
-      ∙ omega (arith, (fit i).fits) in
-      rw (← drop-drop r (8 * i) bytes, ← word)
-      (word_of-drop r from (AreBytes-drop (8 * i) bytes (AreBytes-all_bytes ws)))
+      let rest = word_of-drop r from (AreBytes-drop (8 * i) bytes (AreBytes-all_bytes ws)) in
+      grind (arith, eight, take-all_bytes ws i 8, (fit i).fits, drop-drop r (8 * i) bytes, rest)
 
   pub padded_zero : ArePadded v ws → last ≡ 0 → length ws ≡ 1
   padded_zero (m, are, is) none =
@@ -109,18 +102,8 @@ module _ (v : ℕ) (ws : List ℕ) (fit : (k : ℕ) → Fits w64 (get_or ws k 0)
       let end = padding_or_zero v m in
       let zeros : List ℕ = replicate (7 - n % 8) 0 in
       let bytes = bytes_of_padded v m are is in
-      let count : length ws ≡ n / 8 + 1 =
-      omega (
-        arith,
-        length-append m (end ∷ zeros),
-        length-replicate {A = ℕ},
-        length-all_bytes ws,
-        ap length bytes,
-      ) in
-      let place : 8 * (length ws - 1) + n % 8 ≡ n = omega arith in
-      let word = rw (place, bytes, drop_at m (end ∷ zeros) n refl) at
-      (word_from (n % 8) (omega arith)) in
-      grind (arith, elements, cases_lt, word, shr_le last (8 * (n % 8)), padding_or_zero-some v m)
+      let count : length ws ≡ n / 8 + 1 = grind (arith, length-append m (end ∷ zeros), length-replicate {A = ℕ}, length-all_bytes ws, bytes) in
+      grind (arith, cases_lt, bytes, drop_at m (end ∷ zeros) n, word_from (n % 8), shr_le last (8 * (n % 8)), padding_or_zero-some v m)
 
   -- the message that would end below index r of the last word
   module _ (r : ℕ) (below : r < 8) (some : 0 < length ws)
@@ -136,19 +119,19 @@ module _ (v : ℕ) (ws : List ℕ) (fit : (k : ℕ) → Fits w64 (get_or ws k 0)
 
     split : all_bytes ws ≡ message ++ last / 2 ^ (8 * r) ∷ replicate (7 - length message % 8) 0
     split =
-      let rest = drop size (all_bytes ws) in
-      grind (arith, elements, one_byte rest (7 - r), word_from r some, length-message, length-all_bytes ws, take-append-drop size (all_bytes ws))
+        let rest = drop size (all_bytes ws) in
+        grind (arith, elements, one_byte rest (7 - r), word_from r some, length-message, length-all_bytes ws, take-append-drop size (all_bytes ws))
 
     pub unpadded : 0 < size → last / 2 ^ (8 * r) ≡ padding_byte v message
         → padded_words v message ≡ ws
     unpadded long is =
-      let fits = stored_words-all_bytes ws (Each1-from_get_or _ ws 0 (λ k _. (fit k).fits)) in
-      grind (arith, padded_words-some v message, length-message, split, words_of-whole (length ws) (all_bytes ws), length-all_bytes ws, fits)
+        let fits = stored_words-all_bytes ws (Each1-from_get_or _ ws 0 (λ k _. (fit k).fits)) in
+        grind (arith, padded_words-some v message, length-message, split, words_of-whole (length ws) (all_bytes ws), length-all_bytes ws, fits)
 
     pub one_place : ArePadded v ws → (0 < size) × (last / 2 ^ (8 * r) ≡ padding_byte v message)
     one_place (m, are, is) =
-      let same = same_end message m _ _ (7 - length message % 8) (7 - length m % 8) (λ _. above_0) (λ some. (padding_or_zero-some v m some).1) in
-      grind (arith, same, split, bytes_of_padded v m are is, length-message, padding_or_zero-above v m)
+        let same = same_end message m _ _ (7 - length message % 8) (7 - length m % 8) (λ _. above_0) (λ some. (padding_or_zero-some v m some).1) in
+        grind (arith, same, split, bytes_of_padded v m are is, length-message, padding_or_zero-above v m)
 
 -- ---- what the code finds
 

@@ -29,7 +29,7 @@ length-whole_words xs = length-stored_words (length xs / 8) xs
 
 pub whole_words-few : (xs : List ℕ) → length xs < 8 → whole_words xs ≡ []
 unfolding stored_words
-whole_words-few xs lt = let none : length xs / 8 ≡ 0 = omega arith in rw none refl
+whole_words-few xs lt = grind arith
 
 -- a chunk of eight bytes, and its word
 word_of-eight : (xs : List ℕ) → 8 ≤ length xs → from_le_bytes w64 (take 8 xs) ≡ word_of (take 8 xs)
@@ -66,15 +66,12 @@ stored_words-cut (suc n) k xs ys le =
 
 pub stored_words-append : (n k : ℕ) (xs ys : List ℕ) → length xs ≡ 8 * n
     → stored_words (n + k) (xs ++ ys) ≡ stored_words n xs ++ stored_words k ys
-stored_words-append n k xs ys e =
-    rw (drop_all (8 * n) xs (omega arith)) at (stored_words-cut n k xs ys (omega arith))
+stored_words-append n k xs ys e = grind (arith, drop_all (8 * n) xs, stored_words-cut n k xs ys)
 
 pub whole_words-append : (xs ys : List ℕ) (k : ℕ) → length xs ≡ 8 * k
     → whole_words (xs ++ ys) ≡ whole_words xs ++ whole_words ys
 whole_words-append xs ys k e =
-    let all : length (xs ++ ys) / 8 ≡ k + length ys / 8 = omega (arith, length-append xs ys) in
-    let first : length xs / 8 ≡ k = omega arith in
-    rw (all, first) (stored_words-append k (length ys / 8) xs ys e)
+    grind (arith, stored_words-append k (length ys / 8) xs ys, length-append xs ys)
 
 -- fewer than eight bytes after whole words, and those that complete their word
 pub stored_words-last : (n : ℕ) (xs ys : List ℕ) → length xs / 8 ≡ n

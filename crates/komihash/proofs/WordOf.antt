@@ -46,8 +46,7 @@ word_of-cut (suc k) (x ∷ xs) =
 -- the word of two pieces, the second shifted by the length of the first
 word_of-append : (xs ys : List ℕ)
     → word_of (xs ++ ys) ≡ word_of ys * 2 ^ (8 * length xs) + word_of xs
-word_of-append xs ys =
-    rw (take_at xs ys _ refl, drop_at xs ys _ refl) at (word_of-cut (length xs) (xs ++ ys))
+word_of-append xs ys = grind (arith, elements, word_of-cut (length xs) (xs ++ ys), take_at xs ys, drop_at xs ys)
 
 -- zeros after others
 pub word_of-zeros : (xs : List ℕ) (k : ℕ) → word_of (xs ++ replicate k 0) ≡ word_of xs
@@ -63,13 +62,11 @@ word_of-take-lt (suc k) (x ∷ xs) h =
 
 -- so a mask leaves the first bytes, and a shift to the right the others
 word_of-take : (k : ℕ) (xs : List ℕ) → AreBytes xs → word_of (take k xs) ≡ word_of xs % 2 ^ (8 * k)
-word_of-take k xs h =
-    rw (word_of-cut k xs) (sym (mod_low (word_of (drop k xs)) (8 * k) _ (word_of-take-lt k xs h)))
+word_of-take k xs h = grind (arith, word_of-cut k xs, mod_low, word_of-take-lt k xs h)
 
 pub word_of-drop : (k : ℕ) (xs : List ℕ) → AreBytes xs
     → word_of (drop k xs) ≡ word_of xs / 2 ^ (8 * k)
-word_of-drop k xs h =
-    rw (word_of-cut k xs) (sym (shr_high (word_of (drop k xs)) (8 * k) _ (word_of-take-lt k xs h)))
+word_of-drop k xs h = grind (arith, word_of-cut k xs, shr_high, word_of-take-lt k xs h)
 
 -- ---- bytes that a shift to the left and `|` set after others
 
@@ -113,21 +110,13 @@ word_of-two_ends xs b s h least most small e =
     let k = length xs - 4 in
     let zs = xs ++ b ∷ [] in
     let are = AreBytes-append xs (b ∷ []) h (AreBytes-one b small) in
-    let size = length-append xs (b ∷ []) in
-    let five = take_all 5 (drop k zs) (omega (arith, length-drop k zs)) in
-    let from : length zs - 5 ≡ k = omega arith in
-    let second = rw (from, five, drop-append-le k xs (b ∷ []) (omega arith)) at
-    (word_of-last 5 4 s zs are (omega arith) (omega arith) (omega arith) (omega arith)) in
-    let last : length (drop k xs) ≡ 4 = omega (arith, length-drop k xs) in
-    rw (
-      take_all 4 (drop k xs) (omega arith),
-      word_of-push (drop k xs) 4 b (AreBytes-drop k xs h) last (omega arith) small,
-      second,
-      ← take-append-le 4 xs (b ∷ []) least,
-    )
-    (word_of-join (take 4 zs) (drop 4 zs) 4 (AreBytes-take 4 zs are) (AreBytes-drop 4 zs are)
-    (length-take-le 4 zs (omega arith)) (omega arith)
-    ∙ ap word_of (sym (take-add 4 4 zs) ∙ take_all 8 zs (omega arith)))
+    let push = word_of-push (drop k xs) 4 b (AreBytes-drop k xs h) in
+    let last = word_of-last 5 4 s zs are in
+    let join = word_of-join (take 4 zs) (drop 4 zs) 4 (AreBytes-take 4 zs are) (AreBytes-drop 4 zs are) in
+    let four = take_all 4 (drop k xs) in
+    let five = take_all 5 (drop k zs) in
+    let eight = take_all 8 zs in
+    grind (arith, push, last, join, four, five, eight, length-append xs (b ∷ []), drop-append-le k xs (b ∷ []), take-append-le 4 xs (b ∷ []), take-add 4 4 zs, length-drop k xs, length-drop k zs, length-take-le 4 zs)
 
 -- at most three bytes, each read by itself
 pub word_of-few : (xs : List ℕ) → length xs < 4
