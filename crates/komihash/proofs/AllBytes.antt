@@ -1,8 +1,8 @@
 -- The bytes of words: how many, by index, and those of words that store bytes.
 use Rattle.std.proofs.Common.{◌≡◌, ℕ, zero, suc, ◌+◌, ◌*◌, ◌/◌, ◌%◌, ◌<◌, ◌≤◌, List, [], ◌∷◌, ◌-◌}
 use Rattle.std.proofs.Common.{length, take, drop, get_or, refl, ap, arith, ◌∙◌, sym, take-add, w64}
-use Rattle.std.proofs.lemmas.List.{drop-drop, length-drop, length-take-le}
-use Rattle.std.proofs.lemmas.List.{take-append-drop, take-append-le, take_all}
+use Rattle.std.proofs.lemmas.List.{drop-drop, length-drop}
+use Rattle.std.proofs.lemmas.List.{take-append-drop, take-append-le}
 use Rattle.std.proofs.lemmas.Slice.{take-put_mid, drop-put_mid}
 use borrow.Rule.Slice.PartMut.{put_mid}
 use Rattle.std.proofs.Math.Nat.{div-div-eq-div-mul}
@@ -41,7 +41,16 @@ pub Covers-more : (ws out new old : List ℕ) (i j k n : ℕ) → Covers (8 * i)
     → 8 * i + k ≡ n → n ≤ length out
     → Covers n (put_mid (8 * i) k out new) (all_bytes ws) old
 Covers-more ws out new old i j k n so is lt le sum room fits =
-    grind (arith, elements, cases_lt, take-all_bytes, take-put_mid, take-add, drop-put_mid, drop-drop)
+    grind (
+      arith,
+      elements,
+      cases_lt,
+      take-all_bytes,
+      take-put_mid,
+      take-add,
+      drop-put_mid,
+      drop-drop,
+    )
 
 -- a word's first digits are the bytes that it was made of
 digits-word_of : (n : ℕ) (xs : List ℕ) → AreBytes xs
@@ -67,12 +76,17 @@ bytes-stored_words zero [] are le = refl
 bytes-stored_words zero (x ∷ xs) are le = absurd (omega arith)
 bytes-stored_words (suc n) xs are le =
     let others = bytes-stored_words n (drop 8 xs) (AreBytes-drop 8 xs are) in
-    grind (arith, others, take-word_of xs are, take-append-drop 8 xs, length-drop 8 xs, take-append (length xs) (to_le_bytes w64 (word_of (take 8 xs))))
+    let word = take-word_of xs are in
+    let whole = take-append-drop 8 xs in
+    let size = length-drop 8 xs in
+    let cut = take-append (length xs) (to_le_bytes w64 (word_of (take 8 xs))) in
+    grind (arith, others, word, whole, size, cut)
 
 pub all_bytes-whole_words : (xs : List ℕ) → AreBytes xs → length xs % 8 ≡ 0
     → all_bytes (whole_words xs) ≡ xs
 all_bytes-whole_words xs are whole =
-    grind (arith, elements, length-all_bytes, length-whole_words, bytes-stored_words (length xs / 8) xs are)
+    let stored = bytes-stored_words (length xs / 8) xs are in
+    grind (arith, elements, length-all_bytes, length-whole_words, stored)
 
 pub AreWords-stored_words : (n : ℕ) (xs : List ℕ) → AreBytes xs → AreWords (stored_words n xs)
 unfolding stored_words

@@ -1,8 +1,8 @@
 -- Whole blocks of a message: the lanes after them, and the bytes after them.
 use Rattle.std.proofs.Common.{◌≡◌, ℕ, ◌+◌, ◌-◌, ◌*◌, ◌/◌, ◌%◌, ◌<◌, ◌≤◌, List, [], ◌∷◌, ◌++◌}
 use Rattle.std.proofs.Common.{length, take, drop, refl, ap, arith, ◌∙◌, sym}
-use Rattle.std.proofs.lemmas.List.{length-drop, length-take-le, take-append-drop, drop-drop}
-use Rattle.std.proofs.lemmas.List.{drop_at, append_assoc, length-append}
+use Rattle.std.proofs.lemmas.List.{length-drop, take-append-drop, drop-drop}
+use Rattle.std.proofs.lemmas.List.{drop_at, append_assoc}
 use Rattle.std.proofs.lemmas.Grind.{elements}
 use Rattle.std.proofs.lemmas.Bool.{cases_lt}
 use Rattle.komihash.specs.Rounds.{Lanes, block_round}
@@ -56,7 +56,11 @@ pub completed : (v : ℕ) (l : Lanes) (xs bytes : List ℕ) (k : ℕ) → length
 completed v l xs bytes k full enough =
     let block = xs ++ take k bytes in
     let cut : xs ++ bytes ≡ block ++ drop k bytes = rw (append_assoc, take-append-drop) refl in
-    grind (arith, elements, cut, whole_words-append block (drop k bytes) 8, block_lanes-round v l (whole_words block), after_blocks-more (block ++ drop k bytes), length-whole_words, drop_at block (drop k bytes) 64)
+    let words = whole_words-append block (drop k bytes) 8 in
+    let lanes = block_lanes-round v l (whole_words block) in
+    let left = after_blocks-more (block ++ drop k bytes) in
+    let back = drop_at block (drop k bytes) 64 in
+    grind (arith, elements, cut, words, lanes, left, length-whole_words, back)
 
 -- the same of the first block of a message
 pub block_lanes-more : (v : ℕ) (l : Lanes) (xs : List ℕ) → 64 ≤ length xs

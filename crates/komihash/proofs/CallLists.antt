@@ -1,7 +1,7 @@
 -- Lists of calls on a stream: how many bytes are pending after a write, what calls answer, the
 -- bytes and the costs of calls, and what the first call of a list leaves to the others.
-use Rattle.std.proofs.Common.{◌≡◌, ℕ, ◌+◌, ◌%◌, ◌<◌, List, [], ◌∷◌, ◌++◌, length, refl, ap, arith}
-use Rattle.std.proofs.Common.{sym, ◌∙◌, append_assoc, append-nil, length-append}
+use Rattle.std.proofs.Common.{◌≡◌, ℕ, ◌+◌, ◌%◌, ◌<◌, List, [], ◌∷◌, ◌++◌, length, refl, arith}
+use Rattle.std.proofs.Common.{sym, append_assoc, append-nil, length-append}
 use Rattle.komihash.specs.Calls.{answers_after, onward, bytes_of_calls, AreAbsorbs, run_products}
 use Rattle.komihash.specs.Calls.{products_of_answers, onward_products, onward_kept_bytes}
 use Rattle.komihash.specs.Counts.{answer_products, hash_products}
@@ -44,7 +44,8 @@ pub answers_after-append : (f : List ℕ → ℕ) (m : List ℕ) (xs ys : List C
     → answers_after f m (xs ++ ys)
     ≡ answers_after f m xs ++ answers_after f (m ++ bytes_of_calls xs) ys
 answers_after-append f m [] ys = grind (arith, append-nil)
-answers_after-append f m (Absorb bytes ∷ xs) ys = grind (arith, append_assoc, answers_after-append f (m ++ bytes.now) xs ys)
+answers_after-append f m (Absorb bytes ∷ xs) ys =
+    grind (arith, append_assoc, answers_after-append f (m ++ bytes.now) xs ys)
 answers_after-append f m (Answer ∷ xs) ys = grind (arith, answers_after-append f m xs ys)
 
 -- the answers of a stream that absorbed a message are hashes
@@ -70,7 +71,8 @@ costs-modulo : (p q : ℕ) (calls : List Call) → p % 64 ≡ q % 64
     → (products_of_answers p calls ≡ products_of_answers q calls)
     × (onward_kept_bytes p calls ≡ onward_kept_bytes q calls)
 costs-modulo p q [] same = (refl, refl)
-costs-modulo p q (Absorb bytes ∷ calls) same = grind (arith, costs-modulo (p + length bytes.now) (q + length bytes.now) calls)
+costs-modulo p q (Absorb bytes ∷ calls) same =
+    grind (arith, costs-modulo (p + length bytes.now) (q + length bytes.now) calls)
 costs-modulo p q (Answer ∷ calls) same = grind (arith, costs-modulo p q calls)
 
 -- the products of pieces and one answer at their end are those of the hash of their bytes

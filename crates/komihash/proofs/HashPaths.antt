@@ -1,7 +1,7 @@
 -- The hash of a message: what its rounds make of the words, then its hash by its length, in a form
 -- for each path of `src/hash.rt`.
 use Rattle.std.proofs.Common.{◌≡◌, ℕ, zero, suc, ◌+◌, ◌-◌, ◌*◌, ◌/◌, ◌%◌, ◌<◌, ◌≤◌, true, false}
-use Rattle.std.proofs.Common.{List, [], ◌∷◌, ◌++◌, length, take, drop, refl, arith, ◌∙◌, drop-drop}
+use Rattle.std.proofs.Common.{List, [], ◌∷◌, ◌++◌, length, take, drop, refl, arith, drop-drop}
 use Rattle.std.proofs.Common.{eqb-true, slice_index}
 use native.Mathlib.Numerals.{unary_clauses}
 use Rattle.std.proofs.lemmas.Grind.{elements}
@@ -12,7 +12,7 @@ use Rattle.komihash.specs.Internals.{padding_or_zero, block_lanes, after_blocks}
 use Rattle.komihash.specs.Words.{word_of}
 use Rattle.komihash.proofs.Blocks.{after_words-whole_words, length-after_blocks}
 use Rattle.komihash.specs.Padding.{padding_byte}
-use Rattle.komihash.proofs.PaddedWords.{padding_or_zero-some, padded_words-by_tail}
+use Rattle.komihash.proofs.PaddedWords.{padded_words-by_tail}
 use Rattle.komihash.proofs.PaddedWords.{final_word_whole}
 use Rattle.komihash.proofs.WholeWords.{length-whole_words, whole_words-few}
 
@@ -42,7 +42,9 @@ after_block : (v : ℕ) (s : Lanes) (ws : List ℕ) (last : ℕ)
 after_block v s (w0 ∷ w1 ∷ w2 ∷ w3 ∷ w4 ∷ w5 ∷ w6 ∷ w7 ∷ w ∷ ws) last =
     let block = w0 ∷ w1 ∷ w2 ∷ w3 ∷ w4 ∷ w5 ∷ w6 ∷ w7 ∷ [] in
     let next : 8 * (length (block ++ w ∷ ws) / 8) ≡ 8 + 8 * (length (w ∷ ws) / 8) = omega arith in
-    grind (arith, next, drop-drop (8 * (length (w ∷ ws) / 8)) 8 (block ++ w ∷ ws), after_block v (block_round v s block) (w ∷ ws) last)
+    let drops = drop-drop (8 * (length (w ∷ ws) / 8)) 8 (block ++ w ∷ ws) in
+    let more = after_block v (block_round v s block) (w ∷ ws) last in
+    grind (arith, next, drops, more)
 after_block v s ws last = refl
 
 -- with eight words or more one is
@@ -71,7 +73,7 @@ module _ (v seed : ℕ) (m : List ℕ) where
 
   pub komi_short : 1 ≤ length m → length m < 64
       → komi v seed m ≡ hash_from_pair pair (whole_words m ++ last ∷ [])
-  komi_short some lt = rw ((padding_or_zero-some v m (omega arith)).0) at (komi_few lt)
+  komi_short some lt = grind (arith, komi_few)
 
   pub komi_long : 64 ≤ length m
       → komi v seed m ≡ hash_from_pair (join true (block_lanes v (lanes pair) (whole_words m)))
@@ -80,7 +82,10 @@ module _ (v seed : ℕ) (m : List ℕ) where
   komi_long le =
       let first = first_block v (lanes pair) (whole_words m) last in
       let rest = after_block v (lanes pair) (whole_words m) last in
-      grind (arith, first, rest, padded_words-by_tail v m, padding_or_zero-some v m, after_words-whole_words m, length-whole_words m)
+      let padded = padded_words-by_tail v m in
+      let words = after_words-whole_words m in
+      let count = length-whole_words m in
+      grind (arith, first, rest, padded, words, count)
 
   -- ---- a law for each function of `src/hash.rt`
 
@@ -117,13 +122,9 @@ komi_empty v seed m none = grind arith
 
 -- ---- two versions: they pad with the same byte after a byte below 128
 
-padding_or_zero-same : (m : List ℕ) → slice_index m (length m - 1) < 128
-    → padding_or_zero 4 m ≡ padding_or_zero 5 m
-padding_or_zero-same m low = grind arith
-
 pub komi-same_below_64 : (seed : ℕ) (m : List ℕ) → length m < 64
     → slice_index m (length m - 1) < 128 → komi 4 seed m ≡ komi 5 seed m
-komi-same_below_64 seed m few low = grind (arith, komi_few, padding_or_zero-same m)
+komi-same_below_64 seed m few low = grind (arith, komi_few)
 
 -- what the proofs of `src/hash.rt` need
 pub ruleset hash_laws = (

@@ -1,7 +1,7 @@
 -- The padded words of a message are its whole words, and the word that ends them.
 use Rattle.std.proofs.Common.{◌≡◌, ℕ, ◌+◌, ◌-◌, ◌*◌, ◌/◌, ◌%◌, ◌^◌, ◌<◌, ◌≤◌, Fits, w8, List, []}
 use Rattle.std.proofs.Common.{◌∷◌, ◌++◌, length, take, drop, get_or, replicate, refl, arith}
-use Rattle.std.proofs.Common.{◌∙◌, sym, append_assoc, length-append, length-drop, shr-shr, bit_or}
+use Rattle.std.proofs.Common.{append_assoc, length-append, length-drop, shr-shr, bit_or}
 use Rattle.std.proofs.lemmas.List.{drop_all, length-replicate}
 use Rattle.std.proofs.lemmas.Bool.Decides.{nat_tests}
 use Rattle.std.proofs.lemmas.Grind.{common_steps, elements}
@@ -28,7 +28,11 @@ padded_words-by_tail v (b ∷ m) =
     let n = length xs in
     let zeros = replicate (7 - n % 8) 0 in
     let size : length (end ∷ zeros) ≡ 8 - n % 8 = omega (arith, length-replicate {A = ℕ}) in
-    grind (arith, size, words_of-whole (n / 8 + 1) (xs ++ end ∷ zeros), stored_words-last (n / 8) xs (end ∷ zeros), length-append xs (end ∷ zeros), append_assoc (after_words xs) (end ∷ []) zeros, word_of-zeros)
+    let same_words = words_of-whole (n / 8 + 1) (xs ++ end ∷ zeros) in
+    let ending = stored_words-last (n / 8) xs (end ∷ zeros) in
+    let length_of = length-append xs (end ∷ zeros) in
+    let order = append_assoc (after_words xs) (end ∷ []) zeros in
+    grind (arith, size, same_words, ending, length_of, order, word_of-zeros)
 
 -- the final word of at least eight bytes, as it is read with the last eight
 pub final_word_many : (xs : List ℕ) (end : ℕ) → ((k : ℕ) → Fits w8 (get_or xs k 0))
@@ -42,7 +46,9 @@ final_word_many xs end typed many small =
     let are = AreBytes-typed xs typed in
     let last = word_of-last 8 j (1 + (63 - 8 * r)) xs are in
     let push = word_of-push (drop j xs) r end (AreBytes-drop j xs are) in
-    grind (arith, shr-shr (word_of (take 8 (drop (length xs - 8) xs))) 1 (63 - 8 * r), last, push, length-drop j xs)
+    let shifts = shr-shr (word_of (take 8 (drop (length xs - 8) xs))) 1 (63 - 8 * r) in
+    let size = length-drop j xs in
+    grind (arith, shifts, last, push, size)
 
 -- where no byte stands after the last whole word
 pub final_word_whole : (xs : List ℕ) (end : ℕ) → length xs % 8 ≡ 0 → final_word xs end ≡ end

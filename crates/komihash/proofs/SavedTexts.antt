@@ -1,9 +1,9 @@
 -- Saved texts: how their parts are put together, how the state is read back from one, which bytes
 -- are one, and what the calls that save and resume say.
 use Rattle.std.proofs.Common.{◌≡◌, ℕ, ◌+◌, ◌-◌, ◌/◌, ◌≤◌, ◌↔◌, List, [], ◌∷◌, ◌++◌, length, take}
-use Rattle.std.proofs.Common.{drop, get_or, refl, ap, arith, ◌∙◌, sym, subst, Fits, w8, Some}
+use Rattle.std.proofs.Common.{drop, get_or, refl, arith, Fits, w8, Some}
 use Rattle.std.proofs.Common.{length-drop, length-take-le, drop-drop, take-append-drop, take_at}
-use Rattle.std.proofs.Common.{drop_at, take_all, slice_index, ◌==◌}
+use Rattle.std.proofs.Common.{drop_at, slice_index, ◌==◌}
 use Rattle.std.proofs.lemmas.Bool.Decides.{nat_tests}
 use Rattle.std.proofs.lemmas.Slice.{take-put_mid, drop-put_mid}
 use borrow.Rule.Slice.PartMut.{put_mid}
@@ -13,7 +13,7 @@ use Rattle.komihash.specs.Rounds.{Lanes, in_order}
 use Rattle.komihash.specs.Saved.{lanes_at, pending_at, longest_text, text, IsText, IsTextAfter}
 use Rattle.komihash.specs.Saved.{Restored}
 use Rattle.komihash.specs.Stream.{State, IsState, HasAbsorbed}
-use Rattle.komihash.specs.Internals.{IsHead, stored_words, whole_words, xor_again}
+use Rattle.komihash.specs.Internals.{IsHead, whole_words, xor_again}
 use Rattle.komihash.specs.Words.{AreBytes, AreWords, all_bytes}
 use Rattle.komihash.proofs.WholeWords.{length-whole_words}
 use Rattle.komihash.proofs.AllBytes.{length-all_bytes, stored_words-all_bytes}
@@ -59,7 +59,10 @@ unfolding text
 state_of-text v s are =
     let lanes = all_bytes (in_order s.lanes) in
     let words = stored_words-all_bytes (in_order s.lanes) are in
-    grind (arith, elements, nat_tests, words, length-all_bytes (in_order s.lanes), take_at lanes s.pending 64, drop_at lanes s.pending 64)
+    let count = length-all_bytes (in_order s.lanes) in
+    let front = take_at lanes s.pending 64 in
+    let rest = drop_at lanes s.pending 64 in
+    grind (arith, elements, nat_tests, words, count, front, rest)
 
 pub length-text : (v : ℕ) (s : State) → length (text v s) ≡ pending_at + length s.pending
 unfolding text
@@ -128,7 +131,8 @@ module _ (v : ℕ) (bytes : List ℕ) (are : AreBytes bytes) (laid : IsLaidOut v
   laid_out-state =
       let words = AreWords-stored_words (length lanes / 8) lanes AreBytes-lanes in
       let pending = AreBytes-drop pending_at bytes are in
-      grind (arith, nat_tests, words, pending, lanes-back, laid.head, laid.size, length-drop pending_at bytes)
+      let size = length-drop pending_at bytes in
+      grind (arith, nat_tests, words, pending, lanes-back, laid.head, laid.size, size)
 
 -- and the text of a state is laid out so
 text-laid_out : (v : ℕ) (s : State) → IsState v s → IsLaidOut v (text v s)

@@ -1,17 +1,16 @@
 -- Streams. The definition absorbs byte by byte, and the code in blocks: both lead to one state. It
 -- stays a state of its version, and a new stream that absorbed a message answers its hash.
 use Rattle.std.proofs.Common.{◌≡◌, ℕ, ◌+◌, ◌-◌, ◌%◌, ◌<◌, ◌≤◌, Bool, true, false, nat_lt, List, []}
-use Rattle.std.proofs.Common.{◌∷◌, ◌++◌, length, drop, refl, ap, arith, ◌∙◌, sym, inl, inr}
+use Rattle.std.proofs.Common.{◌∷◌, ◌++◌, length, drop, refl, arith, ◌∙◌, sym, inl, inr}
 use Rattle.std.proofs.Common.{if◌then◌else◌, append_assoc, append-nil, length-append, length-drop}
 use Rattle.std.proofs.Common.{get_or-drop, slice_index}
-use Rattle.std.proofs.lemmas.Bool.{false≢true, cases_lt}
+use Rattle.std.proofs.lemmas.Bool.{cases_lt}
 use Rattle.std.proofs.lemmas.Bool.Decides.{nat_tests}
 use Rattle.std.proofs.lemmas.Grind.{elements}
-use Rattle.std.proofs.lemmas.List.{drop_all}
 use Rattle.komihash.specs.Hash.{komi, hash_from_pair}
-use Rattle.komihash.specs.Padding.{KeepsTopBit, pads_with_two, padding_after, padding_byte}
+use Rattle.komihash.specs.Padding.{KeepsTopBit, pads_with_two, padding_byte}
 use Rattle.komihash.specs.Rounds.{join, closing}
-use Rattle.komihash.specs.Saved.{text, IsTextAfter}
+use Rattle.komihash.specs.Saved.{IsTextAfter}
 use Rattle.komihash.specs.Internals.{stored_words, whole_words, block_lanes, after_blocks, tail_end}
 use Rattle.komihash.specs.Internals.{final_word, padding_or_zero}
 use Rattle.komihash.specs.Stream.{State, IsState, HasAbsorbed, start, absorb, absorb_byte, answer}
@@ -54,12 +53,10 @@ blocks_state v s bytes =
 blocks_state-few : (v : ℕ) (s : State) (bytes : List ℕ) → length s.pending + length bytes < 64
     → blocks_state v s bytes ≡ record s { pending = s.pending ++ bytes }
 blocks_state-few v s bytes few =
-    grind (arith, nat_tests, block_lanes-few_bytes v s.lanes (s.pending ++ bytes), after_blocks-few (s.pending ++ bytes), length-append s.pending bytes)
-
--- a byte that completes no block, and one that does
-absorb_byte-few : (v : ℕ) (s : State) (b : ℕ) → length s.pending < 63
-    → absorb_byte v s b ≡ record s { pending = s.pending ++ b ∷ [] }
-absorb_byte-few v s b few = grind (arith, nat_tests, length-append s.pending (b ∷ []))
+    let lanes = block_lanes-few_bytes v s.lanes (s.pending ++ bytes) in
+    let left = after_blocks-few (s.pending ++ bytes) in
+    let size = length-append s.pending bytes in
+    grind (arith, nat_tests, lanes, left, size)
 
 absorb_byte-full : (v : ℕ) (s : State) (b : ℕ) (bytes : List ℕ) → length s.pending ≡ 63
     → ((absorb_byte v s b).pending ≡ [])
@@ -75,13 +72,14 @@ unfolding absorb
 absorb-blocks v s [] few = rw (blocks_state-few v s [] (omega arith), append-nil) refl
 absorb-blocks v s (b ∷ bytes) few =
     let next = absorb-blocks v (absorb_byte v s b) bytes in
-    grind (arith, cases_lt, next, absorb_byte-few v s b, absorb_byte-full v s b bytes, length-append s.pending (b ∷ []), append_assoc)
+    let full = absorb_byte-full v s b bytes in
+    let size = length-append s.pending (b ∷ []) in
+    grind (arith, cases_lt, nat_tests, next, full, size, append_assoc)
 
 -- bytes that fill no block
 pub absorb-few : (v : ℕ) (s : State) (bytes : List ℕ) → length s.pending + length bytes < 64
     → absorb v s bytes ≡ record s { pending = s.pending ++ bytes }
-absorb-few v s bytes few =
-    absorb-blocks v s bytes (omega arith) ∙ blocks_state-few v s bytes few
+absorb-few v s bytes few = grind (arith, absorb-blocks, blocks_state-few)
 
 -- ---- it stays a state
 
@@ -96,9 +94,11 @@ pub IsState-absorb : (v : ℕ) (s : State) (bytes : List ℕ) → IsState v s �
     → IsState v (absorb v s bytes)
 IsState-absorb v s bytes is are =
     let all = s.pending ++ bytes in
-    let rest = AreBytes-drop (length all - length all % 64) all (AreBytes-append s.pending bytes is.bytes are) in
+    let both = AreBytes-append s.pending bytes is.bytes are in
+    let rest = AreBytes-drop (length all - length all % 64) all both in
     let words = AreWords-block_lanes v s.lanes (whole_words all) is.words in
-    grind (arith, nat_tests, rest, words, absorb-blocks, length-after_blocks all, is, pads_with_two-version)
+    let count = length-after_blocks all in
+    grind (arith, nat_tests, rest, words, absorb-blocks, count, is, pads_with_two-version)
 
 -- what the proof of a write needs
 pub ruleset more_absorbed = (absorb-append, absorb-few, IsState-absorb, AreBytes-typed)

@@ -1,20 +1,20 @@
 -- Padded words read back. Their bytes are the message, the byte that ends it, which is 0 only if
 -- the message is empty, and zeros. So the padding byte is the last byte that is not 0.
 use Rattle.std.proofs.Common.{◌≡◌, ℕ, zero, suc, ◌+◌, ◌-◌, ◌*◌, ◌/◌, ◌%◌, ◌^◌, ◌<◌, ◌≤◌, List, []}
-use Rattle.std.proofs.Common.{◌∷◌, ◌++◌, length, take, drop, get_or, replicate, refl, ap, arith}
-use Rattle.std.proofs.Common.{◌∙◌, sym, w64, inl, inr, pow_mono, drop-drop, drop_at, length-append}
+use Rattle.std.proofs.Common.{◌∷◌, ◌++◌, length, take, drop, get_or, replicate, refl, arith}
+use Rattle.std.proofs.Common.{w64, pow_mono, drop-drop, drop_at, length-append}
 use Rattle.std.proofs.Common.{length-drop, length-take-le, take-append-drop, take_all, pow-add}
-use Rattle.std.proofs.Common.{pow_pos, slice_index, Fits}
+use Rattle.std.proofs.Common.{slice_index, Fits}
 use Rattle.std.proofs.lemmas.Bool.{cases_lt}
 use Rattle.std.proofs.lemmas.Grind.{elements}
 use Rattle.std.proofs.lemmas.List.{length-replicate, get_or_past}
-use Rattle.std.proofs.lemmas.Nat.{shr_below, shr_le, le-div}
+use Rattle.std.proofs.lemmas.Nat.{shr_le, le-div}
 use Rattle.std.proofs.lemmas.Simd.{Each1-from_get_or}
 use Rattle.std.specs.Int.{to_le_bytes}
 use Rattle.komihash.specs.Internals.{padding_or_zero}
 use Rattle.komihash.specs.Padding.{ArePadded, pads_with_two, padding_after, padded_words}
 use Rattle.komihash.specs.Padding.{padding_byte, padded_bytes}
-use Rattle.komihash.specs.Words.{AreBytes, word_of, words_of, all_bytes}
+use Rattle.komihash.specs.Words.{AreBytes, word_of, all_bytes}
 use Rattle.komihash.proofs.AllBytes.{length-all_bytes, AreBytes-all_bytes, take-all_bytes}
 use Rattle.komihash.proofs.AllBytes.{all_bytes-whole_words, stored_words-all_bytes}
 use Rattle.komihash.proofs.PaddedWords.{padding_or_zero-some}
@@ -50,16 +50,8 @@ one_byte (x ∷ xs) k size small = grind (arith, all_zeros xs)
 
 -- ---- the bytes of padded words
 
-padding_or_zero-above : (v : ℕ) (m : List ℕ) → 0 < padding_or_zero v m
-    → (0 < length m) × (padding_or_zero v m ≡ padding_byte v m)
-padding_or_zero-above v m above = grind arith
-
 AreBytes-end : (b k : ℕ) → b < 256 → AreBytes (b ∷ replicate k 0)
 AreBytes-end b k small i = grind (arith, elements, get_or_past {X = ℕ}, cases_lt)
-
-padded_words-some : (v : ℕ) (m : List ℕ) → 0 < length m
-    → padded_words v m ≡ words_of (padded_bytes v m)
-padded_words-some v m some = grind arith
 
 bytes_of_padded : (v : ℕ) (m : List ℕ) {ws : List ℕ} → AreBytes m → padded_words v m ≡ ws
     → all_bytes ws ≡ m ++ padding_or_zero v m ∷ replicate (7 - length m % 8) 0
@@ -75,9 +67,10 @@ bytes_of_padded v (b ∷ m) are is =
 pub same_message : (v : ℕ) (x y : List ℕ) → AreBytes x → AreBytes y
     → padded_words v x ≡ padded_words v y → x ≡ y
 same_message v x y are_x are_y same =
-    (same_end x y _ _ _ _ (λ some. (padding_or_zero-some v x some).1)
-    (λ some. (padding_or_zero-some v y some).1)
-    (sym (bytes_of_padded v x are_x same) ∙ bytes_of_padded v y are_y refl)).0
+    let ends = same_end x y in
+    let bytes = bytes_of_padded v x are_x same in
+    let same_bytes = bytes_of_padded v y are_y refl in
+    grind (arith, ends, padding_or_zero-some, bytes, same_bytes)
 
 -- ---- the highest byte of the last word that is not 0, which can only be the padding byte
 
@@ -102,8 +95,17 @@ module _ (v : ℕ) (ws : List ℕ) (fit : (k : ℕ) → Fits w64 (get_or ws k 0)
       let end = padding_or_zero v m in
       let zeros : List ℕ = replicate (7 - n % 8) 0 in
       let bytes = bytes_of_padded v m are is in
-      let count : length ws ≡ n / 8 + 1 = grind (arith, length-append m (end ∷ zeros), length-replicate {A = ℕ}, length-all_bytes ws, bytes) in
-      grind (arith, cases_lt, bytes, drop_at m (end ∷ zeros) n, word_from (n % 8), shr_le last (8 * (n % 8)), padding_or_zero-some v m)
+      let count : length ws ≡ n / 8 + 1 = grind (
+        arith,
+        length-append m (end ∷ zeros),
+        length-replicate {A = ℕ},
+        length-all_bytes ws,
+        bytes,
+      ) in
+      let back = drop_at m (end ∷ zeros) n in
+      let word = word_from (n % 8) in
+      let shifted = shr_le last (8 * (n % 8)) in
+      grind (arith, cases_lt, bytes, back, word, shifted)
 
   -- the message that would end below index r of the last word
   module _ (r : ℕ) (below : r < 8) (some : 0 < length ws)
@@ -119,19 +121,29 @@ module _ (v : ℕ) (ws : List ℕ) (fit : (k : ℕ) → Fits w64 (get_or ws k 0)
 
     split : all_bytes ws ≡ message ++ last / 2 ^ (8 * r) ∷ replicate (7 - length message % 8) 0
     split =
-        let rest = drop size (all_bytes ws) in
-        grind (arith, elements, one_byte rest (7 - r), word_from r some, length-message, length-all_bytes ws, take-append-drop size (all_bytes ws))
+        grind (
+          arith,
+          elements,
+          one_byte (drop size (all_bytes ws)) (7 - r),
+          word_from r some,
+          length-message,
+          length-all_bytes ws,
+          take-append-drop size (all_bytes ws),
+        )
 
     pub unpadded : 0 < size → last / 2 ^ (8 * r) ≡ padding_byte v message
         → padded_words v message ≡ ws
     unpadded long is =
         let fits = stored_words-all_bytes ws (Each1-from_get_or _ ws 0 (λ k _. (fit k).fits)) in
-        grind (arith, padded_words-some v message, length-message, split, words_of-whole (length ws) (all_bytes ws), length-all_bytes ws, fits)
+        let whole = words_of-whole (length ws) (all_bytes ws) in
+        let count = length-all_bytes ws in
+        grind (arith, length-message, split, whole, count, fits)
 
     pub one_place : ArePadded v ws → (0 < size) × (last / 2 ^ (8 * r) ≡ padding_byte v message)
     one_place (m, are, is) =
-        let same = same_end message m _ _ (7 - length message % 8) (7 - length m % 8) (λ _. above_0) (λ some. (padding_or_zero-some v m some).1) in
-        grind (arith, same, split, bytes_of_padded v m are is, length-message, padding_or_zero-above v m)
+        let ends = same_end message m _ _ (7 - length message % 8) (7 - length m % 8) in
+        let same = ends (λ _. above_0) (λ some. (padding_or_zero-some v m some).1) in
+        grind (arith, same, split, bytes_of_padded v m are is, length-message)
 
 -- ---- what the code finds
 

@@ -31,18 +31,16 @@ pub whole_words-few : (xs : List ℕ) → length xs < 8 → whole_words xs ≡ [
 unfolding stored_words
 whole_words-few xs lt = grind arith
 
--- a chunk of eight bytes, and its word
-word_of-eight : (xs : List ℕ) → 8 ≤ length xs → from_le_bytes w64 (take 8 xs) ≡ word_of (take 8 xs)
-word_of-eight (a ∷ b ∷ c ∷ d ∷ e ∷ f ∷ g ∷ h ∷ xs) le = omega arith
-word_of-eight xs le = absurd (omega arith)
-
 pub word_of-chunk : (n i : ℕ) (xs : List ℕ) → i < n → 8 * n ≤ length xs
     → from_le_bytes w64 (get_or (first_chunks 8 n xs) i []) ≡ word_of (take 8 (drop (8 * i) xs))
 word_of-chunk zero i xs lt le = absurd (omega arith)
-word_of-chunk (suc n) zero xs lt le = word_of-eight xs (omega arith)
+word_of-chunk (suc n) zero xs lt le = grind arith
 word_of-chunk (suc n) (suc i) xs lt le =
     let next : 8 + 8 * i ≡ 8 * suc i = omega arith in
-    grind (arith, elements, next, drop-drop (8 * i) 8 xs, length-drop 8 xs, word_of-chunk n i (drop 8 xs))
+    let drops = drop-drop (8 * i) 8 xs in
+    let size = length-drop 8 xs in
+    let chunk = word_of-chunk n i (drop 8 xs) in
+    grind (arith, elements, next, drops, size, chunk)
 
 -- what proofs that read whole words one by one need
 pub ruleset read_words = (length-stored_words, get_or-stored_words, word_of-chunk)

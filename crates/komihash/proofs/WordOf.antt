@@ -1,6 +1,6 @@
 -- Words of lists of bytes that are cut and joined.
 use Rattle.std.proofs.Common.{◌≡◌, ℕ, zero, suc, ◌+◌, ◌-◌, ◌*◌, ◌/◌, ◌%◌, ◌^◌, ◌<◌, ◌≤◌, List, []}
-use Rattle.std.proofs.Common.{◌∷◌, ◌++◌, length, take, drop, get_or, ap, arith, ◌∙◌, sym, take-add}
+use Rattle.std.proofs.Common.{◌∷◌, ◌++◌, length, take, drop, get_or, ap, arith, ◌∙◌, take-add}
 use Rattle.std.proofs.Common.{Fits, w8, refl, drop-drop, replicate, length-append}
 use Rattle.std.proofs.Common.{length-drop, length-take-le, take_all, get_or-drop, take_at, drop_at}
 use Rattle.std.proofs.Common.{pow-add, pow_pos, bit_or}
@@ -46,7 +46,8 @@ word_of-cut (suc k) (x ∷ xs) =
 -- the word of two pieces, the second shifted by the length of the first
 word_of-append : (xs ys : List ℕ)
     → word_of (xs ++ ys) ≡ word_of ys * 2 ^ (8 * length xs) + word_of xs
-word_of-append xs ys = grind (arith, elements, word_of-cut (length xs) (xs ++ ys), take_at xs ys, drop_at xs ys)
+word_of-append xs ys =
+    grind (arith, elements, word_of-cut (length xs) (xs ++ ys), take_at xs ys, drop_at xs ys)
 
 -- zeros after others
 pub word_of-zeros : (xs : List ℕ) (k : ℕ) → word_of (xs ++ replicate k 0) ≡ word_of xs
@@ -81,7 +82,10 @@ word_of-join xs ys n h g size le =
     let k = 8 * n in
     let fit = shl_mod (word_of ys) k (8 * (8 - n)) in
     let below = word_of-take-lt n xs h in
-    grind (arith, elements, fit, below, word_of-take (8 - n) ys g, word_of-append xs (take (8 - n) ys), or_shifted_r (word_of (take (8 - n) ys)) k (word_of xs))
+    let low = word_of-take (8 - n) ys g in
+    let joined = word_of-append xs (take (8 - n) ys) in
+    let or_word = or_shifted_r (word_of (take (8 - n) ys)) k (word_of xs) in
+    grind (arith, elements, fit, below, low, joined, or_word)
 
 -- one byte after others
 pub word_of-push : (xs : List ℕ) (n b : ℕ) → AreBytes xs → length xs ≡ n → n < 8 → b < 256
@@ -97,7 +101,8 @@ pub word_of-last : (n j s : ℕ) (xs : List ℕ) → AreBytes xs → n ≤ lengt
     → word_of (take n (drop (length xs - n) xs)) / 2 ^ s ≡ word_of (drop j xs)
 word_of-last n j s xs h many within e most =
     let last = drop (length xs - n) xs in
-    grind (arith, elements, drop-drop, word_of-drop (j + n - length xs) last (AreBytes-drop (length xs - n) xs h))
+    let high = word_of-drop (j + n - length xs) last (AreBytes-drop (length xs - n) xs h) in
+    grind (arith, elements, drop-drop, high)
 
 -- four to seven bytes, read in two pieces of four from both ends, and a byte b after them
 pub word_of-two_ends : (xs : List ℕ) (b s : ℕ) → AreBytes xs → 4 ≤ length xs → length xs < 8
@@ -112,11 +117,27 @@ word_of-two_ends xs b s h least most small e =
     let are = AreBytes-append xs (b ∷ []) h (AreBytes-one b small) in
     let push = word_of-push (drop k xs) 4 b (AreBytes-drop k xs h) in
     let last = word_of-last 5 4 s zs are in
-    let join = word_of-join (take 4 zs) (drop 4 zs) 4 (AreBytes-take 4 zs are) (AreBytes-drop 4 zs are) in
+    let four_are = AreBytes-take 4 zs are in
+    let join = word_of-join (take 4 zs) (drop 4 zs) 4 four_are (AreBytes-drop 4 zs are) in
     let four = take_all 4 (drop k xs) in
     let five = take_all 5 (drop k zs) in
     let eight = take_all 8 zs in
-    grind (arith, push, last, join, four, five, eight, length-append xs (b ∷ []), drop-append-le k xs (b ∷ []), take-append-le 4 xs (b ∷ []), take-add 4 4 zs, length-drop k xs, length-drop k zs, length-take-le 4 zs)
+    grind (
+      arith,
+      push,
+      last,
+      join,
+      four,
+      five,
+      eight,
+      length-append xs (b ∷ []),
+      drop-append-le k xs (b ∷ []),
+      take-append-le 4 xs (b ∷ []),
+      take-add 4 4 zs,
+      length-drop k xs,
+      length-drop k zs,
+      length-take-le 4 zs,
+    )
 
 -- at most three bytes, each read by itself
 pub word_of-few : (xs : List ℕ) → length xs < 4

@@ -1,4 +1,4 @@
-//! Streams of both versions in pieces of many sizes: `finish` against `komihash` of all bytes, which
+//! Streams of both versions in pieces of many sizes: `finish` against `komihash` of all bytes. This
 //! is proved of the source, and tried here on the compiled code.
 
 use super::hash::hashes;

@@ -11,11 +11,18 @@ returns-then-has_remainder c =
     let bytes = c.args.bytes.now in
     let end = c.args.len + length bytes in
     let from = length bytes - end % 8 in
-    let last = word_of-last 8 from (56 - 8 * (end % 8) + 8) bytes (AreBytes-typed bytes c.type_inv.bytes) in
+    let are = AreBytes-typed bytes c.type_inv.bytes in
+    let last = word_of-last 8 from (56 - 8 * (end % 8) + 8) bytes are in
     let word = word_after (pending_bytes c.args.words.now c.args.len) bytes (end / 8) from in
     let whole = take_all 8 (drop from bytes) in
     rw c.word_index.ensures (all_stored (put_word c.append_whole_words.ensures (end / 8)
-    (end / 8 + 1) _ (omega arith) (λ _. rw (c.last_word.ensures, shr-shr) (grind (arith, last, word, whole, length-drop from bytes)))) (omega arith))
+    (end / 8 + 1) _ (omega arith) (λ _. rw (c.last_word.ensures, shr-shr) (grind (
+      arith,
+      last,
+      word,
+      whole,
+      length-drop from bytes,
+    )))) (omega arith))
 
 pub returns-else-has_remainder : goal.returns-else-has_remainder
 returns-else-has_remainder c = all_stored c.append_whole_words.ensures (omega arith)

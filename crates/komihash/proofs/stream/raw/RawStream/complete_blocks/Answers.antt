@@ -17,4 +17,14 @@ returns-clause-state g c =
     let few = ap (λ (s : State). length s.pending) c.self.view_is in
     let is = absorb-blocks g.row.V s bytes in
     let first = completed g.row.V s.lanes s.pending bytes (64 - length s.pending) in
-    grind (arith, nat_tests, elements, c.if-none_pending.branch, few, is, first, length-append s.pending bytes, nil_from_length s.pending)
+    grind (
+      arith,
+      nat_tests,
+      elements,
+      c.if-none_pending.branch,
+      few,
+      is,
+      first,
+      length-append s.pending bytes,
+      nil_from_length s.pending,
+    )
