@@ -1,5 +1,4 @@
-//! The hash of a whole message, which is read without a copy. `hash_from_pair`, with which a hash
-//! ends, serves streams too.
+//! The hash of a whole message, which is read without a copy.
 //!
 //! Each range of lengths has a function of its own, so that short messages take few jumps. For the
 //! final word, `hash_of_one_word` and `hash_of_words` shift, because a processor can't guess a
@@ -7,50 +6,9 @@
 //! words, for which a shift is slower.
 
 use crate::padding::{final_word_by_branch, final_word_by_shift, padding_byte};
-use crate::rounds::words::{WholeWords, last_whole_word};
-use crate::rounds::{Pair, absorb_blocks, close, join, lanes_of, pair_round, seed_pair};
+use crate::rounds::words::{hash_from_pair, last_whole_word};
+use crate::rounds::{absorb_blocks, close, join, lanes_of, pair_round, seed_pair};
 use crate::utils::{read_partial_word, read_word, word_at};
-
-// Returns the pair after a round on the two words from index `at`. The remaining words hash the
-// same from it. This is stated and proved here once, for three calls.
-#[inline(always)]
-fn round_at<W: WholeWords>(pair: Pair, left: &W, at: usize) -> Pair {
-    pair_round(pair, left.word(at), left.word(at + 1))
-}
-
-// Returns the pair after a round on each two words. The word that may remain hashes the same from
-// it.
-#[inline(always)]
-fn round_each<W: WholeWords>(pair: Pair, left: &W) -> Pair {
-    if !left.holds(2) {
-        return pair;
-    }
-    let pair = round_at(pair, left, 0);
-    if !left.holds(4) {
-        return pair;
-    }
-    let pair = round_at(pair, left, 2);
-    if !left.holds(6) {
-        return pair;
-    }
-    round_at(pair, left, 4)
-}
-
-/// Returns the hash from a pair, fewer than eight whole words, and the final word. The last whole
-/// word is any word if there are none.
-#[inline(always)]
-pub(crate) fn hash_from_pair<W: WholeWords>(
-    pair: Pair,
-    left: &W,
-    last_whole_word: u64,
-    final_word: u64,
-) -> u64 {
-    let pair = round_each(pair, left);
-    // The closing of one word is that of two, the second of which is 0. So it needs no jump.
-    let (first, second) =
-        if left.is_odd() { (last_whole_word, final_word) } else { (final_word, 0) };
-    close(pair, first, second)
-}
 
 #[inline]
 fn hash_of_partial_word<const V: u8>(bytes: &[u8], seed: u64) -> u64 {

@@ -3,10 +3,16 @@
 
 use crate::utils::{last_word, read_partial_word, read_whole_words, write_first_bytes};
 
-/// Returns whether the padding byte after `byte` is 2: in version 4, if its top bit is set.
+/// Returns whether version V has the padding byte 2.
+#[inline(always)]
+pub(crate) fn has_two<const V: u8>() -> bool {
+    V == 4
+}
+
+/// Returns whether the padding byte after `byte` is 2: if the version has it, and the top bit is set.
 #[inline(always)]
 pub(crate) fn pads_with_two<const V: u8>(byte: u8) -> bool {
-    V == 4 && byte >= 128
+    has_two::<V>() && byte >= 128
 }
 
 /// Returns the padding byte: 2 after a last byte for which `pads_with_two` holds, otherwise 1.

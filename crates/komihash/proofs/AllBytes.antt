@@ -1,13 +1,15 @@
 -- The bytes of words: how many, by index, and those of words that store bytes.
 use Rattle.std.proofs.Common.{◌≡◌, ℕ, zero, suc, ◌+◌, ◌*◌, ◌/◌, ◌%◌, ◌<◌, ◌≤◌, List, [], ◌∷◌, ◌-◌}
 use Rattle.std.proofs.Common.{length, take, drop, get_or, refl, ap, arith, ◌∙◌, sym, take-add, w64}
-use Rattle.std.proofs.lemmas.List.{drop-drop, length-drop, length-take-le}
-use Rattle.std.proofs.lemmas.List.{take-append-drop, take-append-le, take_all}
+use Rattle.std.proofs.lemmas.List.{drop-drop, length-drop}
+use Rattle.std.proofs.lemmas.List.{take-append-drop, take-append-le}
 use Rattle.std.proofs.lemmas.Slice.{take-put_mid, drop-put_mid}
 use borrow.Rule.Slice.PartMut.{put_mid}
 use Rattle.std.proofs.Math.Nat.{div-div-eq-div-mul}
 use Rattle.std.specs.Int.{to_le_bytes}
 use Rattle.std.specs.Simd.Lanes.{digits_l}
+use Rattle.std.proofs.lemmas.Grind.{elements}
+use Rattle.std.proofs.lemmas.Bool.{cases_lt}
 use Rattle.komihash.specs.Internals.{stored_words, whole_words}
 use Rattle.komihash.specs.Words.{AreBytes, AreWords, word_of, all_bytes}
 use Rattle.komihash.proofs.Lists.{Covers, take-append}
@@ -31,8 +33,7 @@ take-all_bytes [] i over lt le = absurd (omega arith)
 take-all_bytes (w ∷ ws) zero over lt le = take-append-le over (to_le_bytes w64 w) (all_bytes ws) le
 take-all_bytes (w ∷ ws) (suc i) over lt le =
     let next : 8 * suc i ≡ 8 + 8 * i = omega arith in
-    rw (next, ← drop-drop (8 * i) 8 (all_bytes (w ∷ ws)))
-    (take-all_bytes ws i over (omega arith) le)
+    grind (arith, next, drop-drop (8 * i) 8 (all_bytes (w ∷ ws)), take-all_bytes ws i over)
 
 -- one more word is written: its lowest j bytes
 pub Covers-more : (ws out new old : List ℕ) (i j k n : ℕ) → Covers (8 * i) out (all_bytes ws) old
@@ -40,14 +41,16 @@ pub Covers-more : (ws out new old : List ℕ) (i j k n : ℕ) → Covers (8 * i)
     → 8 * i + k ≡ n → n ≤ length out
     → Covers n (put_mid (8 * i) k out new) (all_bytes ws) old
 Covers-more ws out new old i j k n so is lt le sum room fits =
-    let bytes = is ∙ sym (take-all_bytes ws i j lt le) in
-    let size : length new ≡ j = ap length is ∙ length-take-le j _ le in
-    record {
-      front = take-put_mid (8 * i) k out new n (omega arith) (omega arith)
-          ∙ rw (so.front, bytes, ← take-add (8 * i) j (all_bytes ws), sum) refl;
-      others = drop-put_mid (8 * i) k out new n (omega arith) (omega arith) (omega arith)
-          ∙ rw (← room, ← drop-drop k (8 * i) out, so.others) (drop-drop k (8 * i) old);
-    }
+    grind (
+      arith,
+      elements,
+      cases_lt,
+      take-all_bytes,
+      take-put_mid,
+      take-add,
+      drop-put_mid,
+      drop-drop,
+    )
 
 -- a word's first digits are the bytes that it was made of
 digits-word_of : (n : ℕ) (xs : List ℕ) → AreBytes xs
@@ -72,21 +75,18 @@ unfolding stored_words
 bytes-stored_words zero [] are le = refl
 bytes-stored_words zero (x ∷ xs) are le = absurd (omega arith)
 bytes-stored_words (suc n) xs are le =
-    let rest : length xs - 8 ≡ length (drop 8 xs) = omega (arith, length-drop 8 xs) in
-    take-append (length xs) (to_le_bytes w64 (word_of (take 8 xs))) _
-    ∙ rw (
-      take-word_of xs are,
-      rest,
-      bytes-stored_words n (drop 8 xs) (AreBytes-drop 8 xs are) (omega (arith, length-drop 8 xs)),
-    )
-    (take-append-drop 8 xs)
+    let others = bytes-stored_words n (drop 8 xs) (AreBytes-drop 8 xs are) in
+    let word = take-word_of xs are in
+    let whole = take-append-drop 8 xs in
+    let size = length-drop 8 xs in
+    let cut = take-append (length xs) (to_le_bytes w64 (word_of (take 8 xs))) in
+    grind (arith, others, word, whole, size, cut)
 
 pub all_bytes-whole_words : (xs : List ℕ) → AreBytes xs → length xs % 8 ≡ 0
     → all_bytes (whole_words xs) ≡ xs
 all_bytes-whole_words xs are whole =
-    let size = length-all_bytes (whole_words xs) ∙ ap (λ n. 8 * n) (length-whole_words xs) in
-    sym (take_all (length xs) (all_bytes (whole_words xs)) (omega arith))
-    ∙ bytes-stored_words (length xs / 8) xs are (omega arith)
+    let stored = bytes-stored_words (length xs / 8) xs are in
+    grind (arith, elements, length-all_bytes, length-whole_words, stored)
 
 pub AreWords-stored_words : (n : ℕ) (xs : List ℕ) → AreBytes xs → AreWords (stored_words n xs)
 unfolding stored_words
@@ -98,5 +98,4 @@ pub stored_words-all_bytes : (ws : List ℕ) → AreWords ws
     → stored_words (length ws) (all_bytes ws) ≡ ws
 unfolding stored_words
 stored_words-all_bytes [] fit = refl
-stored_words-all_bytes (w ∷ ws) fit =
-    rw (stored_words-all_bytes ws fit.1) (ap (λ u. u ∷ ws) (omega (arith, fit.0)))
+stored_words-all_bytes (w ∷ ws) fit = grind (arith, stored_words-all_bytes ws fit.1, fit.0)

@@ -1,8 +1,10 @@
 -- Whole blocks of a message: the lanes after them, and the bytes after them.
 use Rattle.std.proofs.Common.{◌≡◌, ℕ, ◌+◌, ◌-◌, ◌*◌, ◌/◌, ◌%◌, ◌<◌, ◌≤◌, List, [], ◌∷◌, ◌++◌}
 use Rattle.std.proofs.Common.{length, take, drop, refl, ap, arith, ◌∙◌, sym}
-use Rattle.std.proofs.lemmas.List.{length-drop, length-take-le, take-append-drop, drop-drop}
-use Rattle.std.proofs.lemmas.List.{drop_at, append_assoc, length-append}
+use Rattle.std.proofs.lemmas.List.{length-drop, take-append-drop, drop-drop}
+use Rattle.std.proofs.lemmas.List.{drop_at, append_assoc}
+use Rattle.std.proofs.lemmas.Grind.{elements}
+use Rattle.std.proofs.lemmas.Bool.{cases_lt}
 use Rattle.komihash.specs.Rounds.{Lanes, block_round}
 use Rattle.komihash.specs.Internals.{whole_words, after_words, block_lanes, after_blocks}
 use Rattle.komihash.proofs.WholeWords.{whole_words-append, length-whole_words}
@@ -53,17 +55,12 @@ pub completed : (v : ℕ) (l : Lanes) (xs bytes : List ℕ) (k : ℕ) → length
     → SameBlocks v l xs bytes (block_round v l (whole_words (xs ++ take k bytes))) (drop k bytes)
 completed v l xs bytes k full enough =
     let block = xs ++ take k bytes in
-    let rest = drop k bytes in
-    let size : length block ≡ 64 =
-    omega (arith, length-append xs (take k bytes), length-take-le k bytes enough) in
-    let cut : xs ++ bytes ≡ block ++ rest = rw (append_assoc, take-append-drop) refl in
-    record {
-      lanes = rw (cut, whole_words-append block rest 8 size)
-          (block_lanes-round v l (whole_words block) (whole_words rest)
-          (omega (arith, length-whole_words block)));
-      left = rw cut (after_blocks-more (block ++ rest) (omega (arith, length-append block rest))
-          ∙ ap after_blocks (drop_at block rest 64 size));
-    }
+    let cut : xs ++ bytes ≡ block ++ drop k bytes = rw (append_assoc, take-append-drop) refl in
+    let words = whole_words-append block (drop k bytes) 8 in
+    let lanes = block_lanes-round v l (whole_words block) in
+    let left = after_blocks-more (block ++ drop k bytes) in
+    let back = drop_at block (drop k bytes) 64 in
+    grind (arith, elements, cut, words, lanes, left, length-whole_words, back)
 
 -- the same of the first block of a message
 pub block_lanes-more : (v : ℕ) (l : Lanes) (xs : List ℕ) → 64 ≤ length xs
@@ -74,24 +71,14 @@ block_lanes-more v l xs le = (completed v l [] xs 64 refl le).lanes
 -- ---- the words after them, and the bytes after their last word
 
 pub after_words-after_blocks : (m : List ℕ) → after_words (after_blocks m) ≡ after_words m
-after_words-after_blocks m =
-    let n = length m - length m % 64 in
-    drop-drop (8 * (length (after_blocks m) / 8)) n m
-    ∙ ap (λ k. drop k m) (omega (arith, length-after_blocks m))
+after_words-after_blocks m = grind (arith, elements, cases_lt)
 
 pub after_words-whole_words : (m : List ℕ)
     → after_words (whole_words m) ≡ whole_words (after_blocks m)
 after_words-whole_words m =
     let n = length m - length m % 64 in
-    let front = take n m in
-    let size : length front ≡ 8 * (8 * (length m / 64)) =
-    length-take-le n m (omega arith) ∙ omega arith in
-    let count : 8 * (length (whole_words m) / 8) ≡ length (whole_words front) =
-    omega (arith, length-whole_words m, length-whole_words front) in
-    rw count
-    (ap (λ ws. drop (length (whole_words front)) ws)
-    (ap whole_words (sym (take-append-drop n m)) ∙ whole_words-append front (after_blocks m) _ size)
-    ∙ drop_at (whole_words front) (whole_words (after_blocks m)) _ refl)
+    let cut = whole_words-append (take n m) (after_blocks m) (8 * (length m / 64)) in
+    grind (arith, elements, take-append-drop n m, cut, length-whole_words)
 
 -- what absorbing one block needs, and what it needs that no block is left
 pub ruleset one_block = (block_lanes-more, after_blocks-more)

@@ -1,7 +1,7 @@
 -- Lists of calls on a stream: how many bytes are pending after a write, what calls answer, the
 -- bytes and the costs of calls, and what the first call of a list leaves to the others.
-use Rattle.std.proofs.Common.{◌≡◌, ℕ, ◌+◌, ◌%◌, ◌<◌, List, [], ◌∷◌, ◌++◌, length, refl, ap, arith}
-use Rattle.std.proofs.Common.{sym, ◌∙◌, append_assoc, append-nil, length-append}
+use Rattle.std.proofs.Common.{◌≡◌, ℕ, ◌+◌, ◌%◌, ◌<◌, List, [], ◌∷◌, ◌++◌, length, refl, arith}
+use Rattle.std.proofs.Common.{sym, append_assoc, append-nil, length-append}
 use Rattle.komihash.specs.Calls.{answers_after, onward, bytes_of_calls, AreAbsorbs, run_products}
 use Rattle.komihash.specs.Calls.{products_of_answers, onward_products, onward_kept_bytes}
 use Rattle.komihash.specs.Counts.{answer_products, hash_products}
@@ -17,17 +17,13 @@ use Rattle.komihash.proofs.Streams.{absorb-append, absorb-nothing, absorb-blocks
 pub pending-absorb : (v : ℕ) (s : State) (bytes : List ℕ) → length s.pending < 64
     → length (absorb v s bytes).pending ≡ (length s.pending + length bytes) % 64
 pending-absorb v s bytes few =
-    let all = s.pending ++ bytes in
-    rw (absorb-blocks v s bytes few)
-    (omega (arith, length-after_blocks all, length-append s.pending bytes))
+    grind (arith, absorb-blocks, length-after_blocks, length-append {A = ℕ})
 
 -- after a message
 pub HasAbsorbed-pending : (v seed : ℕ) (s : State) (m : List ℕ) → HasAbsorbed v seed s m
     → length s.pending ≡ length m % 64
 unfolding HasAbsorbed
-HasAbsorbed-pending v seed s m is =
-    let pending = pending-absorb v (start seed) m (omega arith) in
-    rw is (omega arith)
+HasAbsorbed-pending v seed s m is = grind (arith, pending-absorb)
 
 -- what the proof of `absorb_costs` of `src/tests/calls.rt` needs
 pub ruleset costs = (pending-absorb)
@@ -42,18 +38,15 @@ answers_after-same f g m n (Absorb bytes ∷ calls) same =
     answers_after-same f g (m ++ bytes.now) (n ++ bytes.now) calls
     (λ x. simp append_assoc (same (bytes.now ++ x)))
 answers_after-same f g m n (Answer ∷ calls) same =
-    let here = simp append-nil at (same []) in
-    let rest = answers_after-same f g m n calls same in
-    cc
+    grind (arith, append-nil, same [], answers_after-same f g m n calls same)
 
 pub answers_after-append : (f : List ℕ → ℕ) (m : List ℕ) (xs ys : List Call)
     → answers_after f m (xs ++ ys)
     ≡ answers_after f m xs ++ answers_after f (m ++ bytes_of_calls xs) ys
-answers_after-append f m [] ys = rw append-nil refl
+answers_after-append f m [] ys = grind (arith, append-nil)
 answers_after-append f m (Absorb bytes ∷ xs) ys =
-    simp append_assoc at (answers_after-append f (m ++ bytes.now) xs ys)
-answers_after-append f m (Answer ∷ xs) ys =
-    ap (λ rest. f m ∷ rest) (answers_after-append f m xs ys)
+    grind (arith, append_assoc, answers_after-append f (m ++ bytes.now) xs ys)
+answers_after-append f m (Answer ∷ xs) ys = grind (arith, answers_after-append f m xs ys)
 
 -- the answers of a stream that absorbed a message are hashes
 pub onward-message : (v seed : ℕ) (s : State) (m : List ℕ) (calls : List Call)
@@ -79,10 +72,8 @@ costs-modulo : (p q : ℕ) (calls : List Call) → p % 64 ≡ q % 64
     × (onward_kept_bytes p calls ≡ onward_kept_bytes q calls)
 costs-modulo p q [] same = (refl, refl)
 costs-modulo p q (Absorb bytes ∷ calls) same =
-    let rest = costs-modulo (p + length bytes.now) (q + length bytes.now) calls (omega arith) in
-    (rest.0, rw same (omega arith))
-costs-modulo p q (Answer ∷ calls) same =
-    let rest = costs-modulo p q calls same in (rw same (omega arith), rest.1)
+    grind (arith, costs-modulo (p + length bytes.now) (q + length bytes.now) calls)
+costs-modulo p q (Answer ∷ calls) same = grind (arith, costs-modulo p q calls)
 
 -- the products of pieces and one answer at their end are those of the hash of their bytes
 products_of_answers-pieces : (n : ℕ) (pieces : List Call) → AreAbsorbs pieces
@@ -97,8 +88,7 @@ products_of_answers-pieces n (Answer ∷ pieces) only = absurd only
 pub run_products-pieces : (pieces : List Call) → AreAbsorbs pieces
     → run_products (pieces ++ Answer ∷ []) ≡ hash_products (length (bytes_of_calls pieces))
 run_products-pieces pieces only =
-    let bytes = bytes_of_calls-append pieces (Answer ∷ []) ∙ append-nil _ in
-    rw bytes (omega (arith, products_of_answers-pieces 0 pieces only))
+    search (arith, bytes_of_calls-append, append-nil, products_of_answers-pieces)
 
 -- ---- the first of several calls
 
@@ -120,18 +110,5 @@ call_first v s next (Absorb bytes) calls few is =
     let pending = pending-absorb v s bytes.now few in
     let rest = costs-modulo (length s.pending + length bytes.now)
     (length (absorb v s bytes.now).pending) calls (omega arith) in
-    rw (is, append-nil bytes.now) record {
-      answers = answers_after-same (λ m. answer v (absorb v s m)) _ bytes.now [] calls
-          (λ x. ap (answer v) (absorb-append v s bytes.now x));
-      state = absorb-append v s bytes.now (bytes_of_calls calls);
-      products = rw (append-nil bytes.now) (omega arith);
-      kept_bytes = omega arith;
-    }
-call_first v s next Answer calls few is =
-    let same : next ≡ s = is ∙ absorb-nothing v s in
-    rw same record {
-      answers = refl;
-      state = refl;
-      products = omega arith;
-      kept_bytes = omega arith;
-    }
+    grind (arith, rest, append-nil, answers_after-same, absorb-append)
+call_first v s next Answer calls few is = grind (arith, absorb-nothing)

@@ -2,11 +2,12 @@
 -- buffer, in two parts.
 use Rattle.std.proofs.Common.{◌≡◌, ℕ, zero, suc, ◌+◌, ◌*◌, ◌%◌, ◌<◌, ◌∷◌, ◌++◌}
 use Rattle.std.proofs.Common.{length, refl, ap, arith, ◌∙◌, zero-add, suc-add, length-take-le}
-use Rattle.std.proofs.Common.{take_all, sym, w64, slice_index}
+use Rattle.std.proofs.Common.{w64, slice_index}
 use Rattle.std.proofs.lemmas.List.Concat.{flat_map-append}
 use Rattle.std.proofs.Math.Seq.{take-append-add}
 use Rattle.std.specs.Int.{to_le_bytes}
 use Rattle.std.specs.List.{flat_map}
+use Rattle.std.proofs.lemmas.Grind.{elements}
 use Rattle.komihash.specs.Generator.{next, after_steps, outputs, fill_steps, fill, after_fill}
 use Rattle.komihash.specs.Words.{all_bytes}
 use Rattle.komihash.proofs.AllBytes.{length-all_bytes}
@@ -44,8 +45,7 @@ pub next_output : (v k n : ℕ) (s now : ℕ × ℕ) → k < n → now ≡ after
     → ((next v now).0 ≡ slice_index (outputs v n s) k) × (next v now ≡ after_steps v (k + 1) s)
     × (k < length (outputs v n s))
 unfolding after_steps
-next_output v k n s now lt is =
-    rw is (sym (output-at v n k s lt), sym (after_steps-add v k 1 s), rw (length-outputs v n s) lt)
+next_output v k n s now lt is = grind (arith, output-at, after_steps-add v k 1 s, length-outputs)
 
 length-bytes : (v n : ℕ) (s : ℕ × ℕ) → length (all_bytes (outputs v n s)) ≡ 8 * n
 length-bytes v n s = length-all_bytes (outputs v n s) ∙ ap (λ k. 8 * k) (length-outputs v n s)
@@ -55,20 +55,14 @@ length-bytes v n s = length-all_bytes (outputs v n s) ∙ ap (λ k. 8 * k) (leng
 pub length-fill : (v n : ℕ) (s : ℕ × ℕ) → length (fill v s n) ≡ n
 length-fill v n s = length-take-le n _ (omega (arith, length-bytes v (fill_steps n) s))
 
-fill_steps-add : (x y : ℕ) → x % 8 ≡ 0 → fill_steps (x + y) ≡ fill_steps x + fill_steps y
-fill_steps-add x y whole = omega arith
-
 pub after_fill-add : (v x y : ℕ) (s : ℕ × ℕ) → x % 8 ≡ 0
     → after_fill v s (x + y) ≡ after_fill v (after_fill v s x) y
-after_fill-add v x y s whole =
-    rw (fill_steps-add x y whole) (after_steps-add v (fill_steps x) (fill_steps y) s)
+after_fill-add v x y s whole = grind (arith, after_steps-add v (fill_steps x) (fill_steps y) s)
 
 -- a fill of whole words is the bytes of as many outputs
 pub fill-whole : (v n : ℕ) (s : ℕ × ℕ)
     → fill v s (8 * n) ≡ flat_map (λ output. to_le_bytes w64 output) (outputs v n s)
-fill-whole v n s =
-    let steps : fill_steps (8 * n) ≡ n = omega arith in
-    rw steps (take_all (8 * n) _ (omega (arith, length-bytes v n s)))
+fill-whole v n s = grind (arith, elements, length-bytes)
 
 pub after_fill-whole : (v n : ℕ) (s : ℕ × ℕ) → after_fill v s (8 * n) ≡ after_steps v n s
 after_fill-whole v n s = ap (λ k. after_steps v k s) (omega arith)
@@ -76,13 +70,5 @@ after_fill-whole v n s = ap (λ k. after_steps v k s) (omega arith)
 pub fill-add : (v x y : ℕ) (s : ℕ × ℕ) → x % 8 ≡ 0
     → fill v s (x + y) ≡ fill v s x ++ fill v (after_fill v s x) y
 fill-add v x y s whole =
-    let now = after_fill v s x in
-    let front = all_bytes (outputs v (fill_steps x) s) in
-    let size : length front ≡ x = omega (arith, length-bytes v (fill_steps x) s) in
-    rw (
-      fill_steps-add x y whole,
-      outputs-add v (fill_steps x) (fill_steps y) s,
-      flat_map-append (to_le_bytes w64) (outputs v (fill_steps x) s) (outputs v (fill_steps y) now),
-      take_all x front (omega arith),
-    )
-    (rw size at (take-append-add front (all_bytes (outputs v (fill_steps y) now)) y))
+    let more = outputs-add v (fill_steps x) (fill_steps y) s in
+    grind (arith, elements, length-bytes, more, flat_map-append, take-append-add)

@@ -1,9 +1,10 @@
 -- The hash of a message: what its rounds make of the words, then its hash by its length, in a form
 -- for each path of `src/hash.rt`.
 use Rattle.std.proofs.Common.{◌≡◌, ℕ, zero, suc, ◌+◌, ◌-◌, ◌*◌, ◌/◌, ◌%◌, ◌<◌, ◌≤◌, true, false}
-use Rattle.std.proofs.Common.{List, [], ◌∷◌, ◌++◌, length, take, drop, refl, arith, ◌∙◌, drop-drop}
+use Rattle.std.proofs.Common.{List, [], ◌∷◌, ◌++◌, length, take, drop, refl, arith, drop-drop}
 use Rattle.std.proofs.Common.{eqb-true, slice_index}
 use native.Mathlib.Numerals.{unary_clauses}
+use Rattle.std.proofs.lemmas.Grind.{elements}
 use Rattle.komihash.specs.Rounds.{Lanes, lanes, seed_pair, block_round, pair_round, join, closing}
 use Rattle.komihash.specs.Hash.{hash_from_pair, hash_from_lanes, komi}
 use Rattle.komihash.specs.Internals.{stored_words, whole_words, after_words, final_word}
@@ -11,7 +12,7 @@ use Rattle.komihash.specs.Internals.{padding_or_zero, block_lanes, after_blocks}
 use Rattle.komihash.specs.Words.{word_of}
 use Rattle.komihash.proofs.Blocks.{after_words-whole_words, length-after_blocks}
 use Rattle.komihash.specs.Padding.{padding_byte}
-use Rattle.komihash.proofs.PaddedWords.{padding_or_zero-some, padded_words-by_tail}
+use Rattle.komihash.proofs.PaddedWords.{padded_words-by_tail}
 use Rattle.komihash.proofs.PaddedWords.{final_word_whole}
 use Rattle.komihash.proofs.WholeWords.{length-whole_words, whole_words-few}
 
@@ -38,12 +39,12 @@ without_block v s ws last lt = refl
 after_block : (v : ℕ) (s : Lanes) (ws : List ℕ) (last : ℕ)
     → hash_from_lanes v s true (ws ++ last ∷ [])
     ≡ hash_from_pair (join true (block_lanes v s ws)) (after_words ws ++ last ∷ [])
-after_block v s (w0 ∷ w1 ∷ w2 ∷ w3 ∷ w4 ∷ w5 ∷ w6 ∷ w7 ∷ []) last = refl
 after_block v s (w0 ∷ w1 ∷ w2 ∷ w3 ∷ w4 ∷ w5 ∷ w6 ∷ w7 ∷ w ∷ ws) last =
     let block = w0 ∷ w1 ∷ w2 ∷ w3 ∷ w4 ∷ w5 ∷ w6 ∷ w7 ∷ [] in
     let next : 8 * (length (block ++ w ∷ ws) / 8) ≡ 8 + 8 * (length (w ∷ ws) / 8) = omega arith in
-    rw (next, ← drop-drop (8 * (length (w ∷ ws) / 8)) 8 (block ++ w ∷ ws))
-    (after_block v (block_round v s block) (w ∷ ws) last)
+    let drops = drop-drop (8 * (length (w ∷ ws) / 8)) 8 (block ++ w ∷ ws) in
+    let more = after_block v (block_round v s block) (w ∷ ws) last in
+    grind (arith, next, drops, more)
 after_block v s ws last = refl
 
 -- with eight words or more one is
@@ -72,29 +73,26 @@ module _ (v seed : ℕ) (m : List ℕ) where
 
   pub komi_short : 1 ≤ length m → length m < 64
       → komi v seed m ≡ hash_from_pair pair (whole_words m ++ last ∷ [])
-  komi_short some lt = rw ((padding_or_zero-some v m (omega arith)).0) at (komi_few lt)
+  komi_short some lt = grind (arith, komi_few)
 
   pub komi_long : 64 ≤ length m
       → komi v seed m ≡ hash_from_pair (join true (block_lanes v (lanes pair) (whole_words m)))
       (whole_words (after_blocks m) ++ last ∷ [])
   unfolding komi
   komi_long le =
-      rw (
-        padded_words-by_tail v m,
-        (padding_or_zero-some v m (omega arith)).0,
-        ← after_words-whole_words m,
-      )
-      (first_block v (lanes pair) (whole_words m) last (omega (arith, length-whole_words m))
-      ∙ after_block v (lanes pair) (whole_words m) last)
+      let first = first_block v (lanes pair) (whole_words m) last in
+      let rest = after_block v (lanes pair) (whole_words m) last in
+      let padded = padded_words-by_tail v m in
+      let words = after_words-whole_words m in
+      let count = length-whole_words m in
+      grind (arith, first, rest, padded, words, count)
 
   -- ---- a law for each function of `src/hash.rt`
 
   pub komi_partial_word : 1 ≤ length m → length m < 8
       → komi v seed m ≡ closing pair (word_of (m ++ padding_byte v m ∷ []) ∷ [])
   unfolding stored_words
-  komi_partial_word some lt =
-      let count : length m / 8 ≡ 0 = omega arith in
-      rw (komi_short (omega arith) (omega arith), count) refl
+  komi_partial_word some lt = grind (arith, elements, komi_short)
 
   pub komi_one_word : 8 ≤ length m → length m < 16
       → komi v seed m ≡ closing pair (word_of (take 8 m) ∷ last ∷ [])
@@ -115,27 +113,18 @@ pub komi_blocks : (v seed : ℕ) (m : List ℕ) → 64 ≤ length m → length m
     → komi v seed m
     ≡ closing (join true (block_lanes v (lanes (seed_pair seed)) (whole_words m)))
     (final_word m (padding_byte v m) ∷ [])
-komi_blocks v seed m le lt =
-    let none = whole_words-few (after_blocks m) (omega (arith, length-after_blocks m)) in
-    rw (komi_long v seed m le, none) refl
+komi_blocks v seed m le lt = grind (arith, whole_words-few, length-after_blocks, komi_long)
 
 pub komi_empty : (v seed : ℕ) (m : List ℕ) → length m ≡ 0
     → komi v seed m ≡ closing (seed_pair seed) (0 ∷ [])
 unfolding komi
-komi_empty v seed [] none = refl
-komi_empty v seed (b ∷ m) none = absurd (omega arith)
+komi_empty v seed m none = grind arith
 
 -- ---- two versions: they pad with the same byte after a byte below 128
 
-padding_or_zero-same : (m : List ℕ) → slice_index m (length m - 1) < 128
-    → padding_or_zero 4 m ≡ padding_or_zero 5 m
-padding_or_zero-same [] low = refl
-padding_or_zero-same (b ∷ m) low = grind arith
-
 pub komi-same_below_64 : (seed : ℕ) (m : List ℕ) → length m < 64
     → slice_index m (length m - 1) < 128 → komi 4 seed m ≡ komi 5 seed m
-komi-same_below_64 seed m few low =
-    rw (komi_few 4 seed m few, komi_few 5 seed m few, padding_or_zero-same m low) refl
+komi-same_below_64 seed m few low = grind (arith, komi_few)
 
 -- what the proofs of `src/hash.rt` need
 pub ruleset hash_laws = (

@@ -16,7 +16,8 @@ pub record Covers (n : ℕ) (out all old : List ℕ) : Type 0 where
 
 -- one more item is stored
 pub Covers-next : (i x : ℕ) {out all old : List ℕ} → Covers i out all old
-    → (i < length out) × (i < length all) → x ≡ get_or all i 0 → Covers (i + 1) (set out i x) all old
+    → (i < length out) × (i < length all) → x ≡ get_or all i 0
+    → Covers (i + 1) (set out i x) all old
 Covers-next i x so (fits, some) is =
     let front = so.front in
     let others = so.others in

@@ -1,8 +1,10 @@
 -- The padded words of a message are its whole words, and the word that ends them.
 use Rattle.std.proofs.Common.{◌≡◌, ℕ, ◌+◌, ◌-◌, ◌*◌, ◌/◌, ◌%◌, ◌^◌, ◌<◌, ◌≤◌, Fits, w8, List, []}
 use Rattle.std.proofs.Common.{◌∷◌, ◌++◌, length, take, drop, get_or, replicate, refl, arith}
-use Rattle.std.proofs.Common.{◌∙◌, sym, append_assoc, length-append, length-drop, shr-shr, bit_or}
+use Rattle.std.proofs.Common.{append_assoc, length-append, length-drop, shr-shr, bit_or}
 use Rattle.std.proofs.lemmas.List.{drop_all, length-replicate}
+use Rattle.std.proofs.lemmas.Bool.Decides.{nat_tests}
+use Rattle.std.proofs.lemmas.Grind.{common_steps, elements}
 use Rattle.komihash.specs.Padding.{padded_words, padding_byte}
 use Rattle.komihash.specs.Words.{word_of}
 use Rattle.komihash.specs.Internals.{stored_words, whole_words, after_words, final_word}
@@ -13,8 +15,7 @@ use Rattle.komihash.proofs.WholeWords.{stored_words-last, words_of-whole}
 
 pub padding_or_zero-some : (v : ℕ) (m : List ℕ) → 0 < length m
     → (padding_or_zero v m ≡ padding_byte v m) × (0 < padding_or_zero v m)
-padding_or_zero-some v [] some = absurd (omega arith)
-padding_or_zero-some v (b ∷ m) some = (refl, grind arith)
+padding_or_zero-some v m some = grind arith
 
 -- the padded words as the code reads them
 pub padded_words-by_tail : (v : ℕ) (m : List ℕ)
@@ -27,9 +28,11 @@ padded_words-by_tail v (b ∷ m) =
     let n = length xs in
     let zeros = replicate (7 - n % 8) 0 in
     let size : length (end ∷ zeros) ≡ 8 - n % 8 = omega (arith, length-replicate {A = ℕ}) in
-    words_of-whole (n / 8 + 1) (xs ++ end ∷ zeros) (omega (arith, length-append xs (end ∷ zeros)))
-    ∙ stored_words-last (n / 8) xs (end ∷ zeros) refl (omega arith)
-    ∙ rw (← append_assoc (after_words xs) (end ∷ []) zeros, word_of-zeros) refl
+    let same_words = words_of-whole (n / 8 + 1) (xs ++ end ∷ zeros) in
+    let ending = stored_words-last (n / 8) xs (end ∷ zeros) in
+    let length_of = length-append xs (end ∷ zeros) in
+    let order = append_assoc (after_words xs) (end ∷ []) zeros in
+    grind (arith, size, same_words, ending, length_of, order, word_of-zeros)
 
 -- the final word of at least eight bytes, as it is read with the last eight
 pub final_word_many : (xs : List ℕ) (end : ℕ) → ((k : ℕ) → Fits w8 (get_or xs k 0))
@@ -41,14 +44,15 @@ final_word_many xs end typed many small =
     let r = length xs % 8 in
     let j = 8 * (length xs / 8) in
     let are = AreBytes-typed xs typed in
-    sym (rw (
-      shr-shr (word_of (take 8 (drop (length xs - 8) xs))) 1 (63 - 8 * r),
-      word_of-last 8 j (1 + (63 - 8 * r)) xs are many (omega arith) (omega arith) (omega arith),
-    )
-    (word_of-push (drop j xs) r end (AreBytes-drop j xs are) (omega (arith, length-drop j xs))
-    (omega arith) (omega arith)))
+    let last = word_of-last 8 j (1 + (63 - 8 * r)) xs are in
+    let push = word_of-push (drop j xs) r end (AreBytes-drop j xs are) in
+    let shifts = shr-shr (word_of (take 8 (drop (length xs - 8) xs))) 1 (63 - 8 * r) in
+    let size = length-drop j xs in
+    grind (arith, shifts, last, push, size)
 
 -- where no byte stands after the last whole word
 pub final_word_whole : (xs : List ℕ) (end : ℕ) → length xs % 8 ≡ 0 → final_word xs end ≡ end
-final_word_whole xs end whole =
-    rw (drop_all (8 * (length xs / 8)) xs (omega arith)) (omega arith)
+final_word_whole xs end whole = grind (arith, drop_all)
+
+-- what the proof of `pad` needs
+pub ruleset pad_laws = (padded_words-by_tail, elements, nat_tests, common_steps)

@@ -1,7 +1,7 @@
 -- Pending bytes, and the eight words that store them.
 use Rattle.std.proofs.Common.{◌≡◌, ℕ, ◌+◌, ◌*◌, ◌<◌, ◌≤◌, List, [], ◌∷◌, ◌++◌, Fits, length, take}
 use Rattle.std.proofs.Common.{drop, get_or, set, refl, ap, arith, ◌∙◌, w8, ◌-◌, ◌/◌, ◌%◌, ◌^◌}
-use Rattle.std.proofs.Common.{inl, inr, length-append, length-drop, length-take, take-take}
+use Rattle.std.proofs.Common.{length-append, length-drop, length-take, take-take}
 use Rattle.std.proofs.Common.{append_assoc, append-nil, take-append-drop, bit_or}
 use Rattle.std.proofs.lemmas.Bool.{cases_eq, cases_lt}
 use Rattle.std.proofs.lemmas.Grind.{elements}
@@ -51,18 +51,22 @@ words_stored xs bytes piece out chunks from n end is tail {ws} {at} but places a
     let (place, count, few, size, ends, most) = places in
     record {
       size = grind (arith, elements, but.size);
-      words = λ k lt after. elim (cases_lt k at) [
-        | inl less ↦ grind (arith, elements, but.words k lt)
-        | inr least ↦ elim (cases_lt (k - at) n) [
-          | inl inside ↦
-              let read : chunk_word chunks (k - at) ≡ word_of (take 8 (drop (8 * (k - at)) piece)) =
-              rw is (word_of-chunk (length piece / 8) (k - at) piece (omega arith) (omega arith)) in
-              let there : length xs + (from + 8 * (k - at)) ≡ 8 * k = omega arith in
-              let stored = word_after xs bytes k (from + 8 * (k - at)) there in
-              grind (arith, elements, are (k - at) (omega arith), read, tail, stored)
-          | inr beyond ↦ grind (arith, elements, but.words k lt, after)
-        ]
-      ];
+      words = λ k lt after.
+          let read = word_of-chunk (length piece / 8) (k - at) piece in
+          let stored = word_after xs bytes k (from + 8 * (k - at)) in
+          grind (
+            arith,
+            elements,
+            cases_lt k at,
+            cases_lt (k - at) n,
+            but.words k lt,
+            after,
+            are (k - at),
+            is,
+            read,
+            tail,
+            stored,
+          );
     }
 
 -- ---- the pending bytes, which are the first of those that words store
@@ -81,17 +85,16 @@ module _ {ws : List ℕ} {len : ℕ} (are : ArePending ws len) where
   -- bytes put after them
   module _ (new bytes : List ℕ) (typed : (k : ℕ) → Fits w8 (get_or bytes k 0))
       (is : new ≡ stored_words 8 (pending ++ bytes)) where
-    length_put : length (pending ++ bytes) ≡ len + length bytes
-    length_put = omega (arith, length-append pending bytes)
-
     pub bytes_put : len + length bytes < 64
         → pending_bytes new (len + length bytes) ≡ pending ++ bytes
     bytes_put few =
         let typed_bytes : AreBytes (pending ++ bytes) = search bytes_typed in
-        rw (is, ← length_put) (bytes-stored_words 8 _ typed_bytes (omega (arith, length_put)))
+        let stored = bytes-stored_words 8 (pending ++ bytes) typed_bytes in
+        let size = length-append pending bytes in
+        grind (arith, stored, size, is)
 
     pub ArePending_put : len + length bytes < 64 → ArePending new (len + length bytes)
-    ArePending_put few = grind (arith, bytes_put few, length_put, is)
+    ArePending_put few = grind (arith, bytes_put few, length-append pending bytes, is)
 
     -- the first of them fill a block
     pub words_put : 64 ≤ len + length bytes
@@ -100,11 +103,12 @@ module _ {ws : List ℕ} {len : ℕ} (are : ArePending ws len) where
     words_put full =
         let front = take (64 - len) bytes in
         let rest = drop (64 - len) bytes in
-        let size : length (pending ++ front) ≡ 8 * 8 =
-        omega (arith, length-append pending front, length-take {A = ℕ}) in
         let cut : pending ++ bytes ≡ (pending ++ front) ++ rest =
         rw (append_assoc, take-append-drop) refl in
-        rw (is, cut, size, stored_words-append 8 0 (pending ++ front) rest size) (append-nil _)
+        let size = length-append pending front in
+        let length_of = length-take (64 - len) bytes in
+        let front_words = stored_words-append 8 0 (pending ++ front) rest in
+        grind (arith, cut, is, size, length_of, front_words, append-nil)
 
   -- the word at a place
   pub get_or_pending : (i : ℕ) → i < 8 → get_or ws i 0 ≡ stored_word pending i
@@ -130,10 +134,16 @@ module _ {ws : List ℕ} {len : ℕ} (are : ArePending ws len) where
       → StoresBut ws (pending ++ bytes) (len / 8) gap_end
   before_partial bytes gap_end room = record {
     size = omega (arith, ap length are.words, length-stored_words 8 pending);
-    words = λ k few after. get_or_pending k few ∙ ap word_of (elim (cases_lt k (len / 8)) [
-      | inl less ↦ grind (arith, drop-append-le, take-append-le, length-drop {A = ℕ})
-      | inr least ↦ grind (arith, drop_all, length-append {A = ℕ}, after least)
-    ]);
+    words = λ k few after. grind (
+      arith,
+      elements,
+      cases_lt k (len / 8),
+      get_or_pending k,
+      drop-append-le,
+      take-append-le,
+      drop_all,
+      after,
+    );
   }
 
   -- the partial word with those of them that fit
@@ -141,14 +151,21 @@ module _ {ws : List ℕ} {len : ℕ} (are : ArePending ws len) where
       → bit_or (get_or ws (len / 8) 0) (word_of (take 8 bytes) * 2 ^ (8 * (len % 8)) % 2 ^ 64)
       ≡ stored_word (pending ++ bytes) (len / 8)
   partial_joined bytes typed =
-      let few = are.few in
-      let size = length-partial in
-      rw (
-        get_or_pending (len / 8) (omega arith),
-        word_of-join (take 8 partial) (take 8 bytes) (len % 8) (AreBytes_word (len / 8))
-            (AreBytes-take 8 bytes typed) (omega (arith, length-take 8 partial)) (omega arith),
+      let these = AreBytes-take 8 bytes typed in
+      let word =
+      word_of-join (take 8 partial) (take 8 bytes) (len % 8) (AreBytes_word (len / 8)) these in
+      grind (
+        arith,
+        word,
+        get_or_pending (len / 8),
+        length-partial,
+        are.count,
+        are.few,
+        take-take {A = ℕ},
+        length-take 8 partial,
+        drop-append-le,
+        take-append,
       )
-      (ap word_of (grind (arith, are.count, take-take {A = ℕ}, drop-append-le, take-append)))
 
   -- with that word stored, the words after it are missing, but for those that stay 0
   pub partial_stored : (bytes : List ℕ) (word gap gap_end : ℕ) → AreBytes bytes

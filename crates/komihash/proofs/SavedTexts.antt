@@ -1,17 +1,19 @@
 -- Saved texts: how their parts are put together, how the state is read back from one, which bytes
 -- are one, and what the calls that save and resume say.
 use Rattle.std.proofs.Common.{◌≡◌, ℕ, ◌+◌, ◌-◌, ◌/◌, ◌≤◌, ◌↔◌, List, [], ◌∷◌, ◌++◌, length, take}
-use Rattle.std.proofs.Common.{drop, get_or, refl, ap, arith, ◌∙◌, sym, subst, Fits, w8, Some}
+use Rattle.std.proofs.Common.{drop, get_or, refl, arith, Fits, w8, Some}
 use Rattle.std.proofs.Common.{length-drop, length-take-le, drop-drop, take-append-drop, take_at}
-use Rattle.std.proofs.Common.{drop_at, take_all, slice_index, ◌==◌}
+use Rattle.std.proofs.Common.{drop_at, slice_index, ◌==◌}
 use Rattle.std.proofs.lemmas.Bool.Decides.{nat_tests}
 use Rattle.std.proofs.lemmas.Slice.{take-put_mid, drop-put_mid}
 use borrow.Rule.Slice.PartMut.{put_mid}
+use Rattle.std.proofs.lemmas.Grind.{elements}
+use Rattle.std.proofs.lemmas.Bool.{cases_lt}
 use Rattle.komihash.specs.Rounds.{Lanes, in_order}
 use Rattle.komihash.specs.Saved.{lanes_at, pending_at, longest_text, text, IsText, IsTextAfter}
 use Rattle.komihash.specs.Saved.{Restored}
 use Rattle.komihash.specs.Stream.{State, IsState, HasAbsorbed}
-use Rattle.komihash.specs.Internals.{IsHead, stored_words, whole_words, xor_again}
+use Rattle.komihash.specs.Internals.{IsHead, whole_words, xor_again}
 use Rattle.komihash.specs.Words.{AreBytes, AreWords, all_bytes}
 use Rattle.komihash.proofs.WholeWords.{length-whole_words}
 use Rattle.komihash.proofs.AllBytes.{length-all_bytes, stored_words-all_bytes}
@@ -25,9 +27,7 @@ pub part-put : (a n : ℕ) (out part bytes : List ℕ) → a ≤ n → n ≤ len
     → length part ≡ length (take (n - a) (drop a out)) → take (n - a) part ≡ bytes
     → (take n (put_mid a (n - a) out part) ≡ take a out ++ bytes)
     × ((m : ℕ) → n ≤ m → drop m (put_mid a (n - a) out part) ≡ drop m out)
-part-put a n out part bytes le within room is =
-    let size = room ∙ length-take-le (n - a) (drop a out) (omega (arith, length-drop a out)) in
-    grind (arith, take-put_mid, drop-put_mid, take_all)
+part-put a n out part bytes le within room is = grind (arith, elements, take-put_mid, drop-put_mid)
 
 -- ---- a text, and the state that is read from it
 
@@ -58,11 +58,11 @@ state_of-text : (v : ℕ) (s : State) → AreWords (in_order s.lanes) → state_
 unfolding text
 state_of-text v s are =
     let lanes = all_bytes (in_order s.lanes) in
-    let size : length lanes ≡ 64 = length-all_bytes (in_order s.lanes) in
-    let words : whole_words lanes ≡ in_order s.lanes =
-    ap (λ n. stored_words (n / 8) lanes) size
-    ∙ stored_words-all_bytes (in_order s.lanes) are in
-    grind (arith, nat_tests, take_at lanes s.pending 64 size, drop_at lanes s.pending 64 size)
+    let words = stored_words-all_bytes (in_order s.lanes) are in
+    let count = length-all_bytes (in_order s.lanes) in
+    let front = take_at lanes s.pending 64 in
+    let rest = drop_at lanes s.pending 64 in
+    grind (arith, elements, nat_tests, words, count, front, rest)
 
 pub length-text : (v : ℕ) (s : State) → length (text v s) ≡ pending_at + length s.pending
 unfolding text
@@ -71,8 +71,7 @@ length-text v s = omega arith
 pub IsTextAfter-most : (v seed : ℕ) (m bytes : List ℕ) → IsTextAfter v seed m bytes
     → length bytes ≤ longest_text
 unfolding IsTextAfter
-IsTextAfter-most v seed m bytes (s, is, absorbed, same) =
-    omega (arith, is.few, length-text v s, ap length same)
+IsTextAfter-most v seed m bytes (s, is, absorbed, same) = grind (arith, is.few, length-text v s)
 
 -- two states never share a text
 module _ (v w : ℕ) (s t : State) (same : text v s ≡ text w t) where
@@ -81,8 +80,7 @@ module _ (v w : ℕ) (s t : State) (same : text v s ≡ text w t) where
   same_version = cc
 
   pub same_state : AreWords (in_order s.lanes) → AreWords (in_order t.lanes) → s ≡ t
-  same_state first second = sym (state_of-text v s first) ∙ ap state_of same
-      ∙ state_of-text w t second
+  same_state first second = grind (arith, state_of-text v s first, state_of-text w t second)
 
 -- ---- which bytes are a text
 
@@ -130,28 +128,22 @@ module _ (v : ℕ) (bytes : List ℕ) (are : AreBytes bytes) (laid : IsLaidOut v
       grind (arith, nat_tests, laid.head, laid.size, lanes-back, drop-drop, length-drop {A = ℕ})
 
   laid_out-state : IsState v (state_of bytes)
-  laid_out-state = record {
-    words = subst AreWords (sym lanes-back)
-        (AreWords-stored_words (length lanes / 8) lanes AreBytes-lanes);
-    bytes = AreBytes-drop pending_at bytes are;
-    few = omega (arith, laid.size, laid.head.few, length-drop pending_at bytes);
-    top_bit_block = grind (arith, nat_tests, laid.head);
-    top_bit_version = grind (arith, nat_tests, laid.head);
-  }
+  laid_out-state =
+      let words = AreWords-stored_words (length lanes / 8) lanes AreBytes-lanes in
+      let pending = AreBytes-drop pending_at bytes are in
+      let size = length-drop pending_at bytes in
+      grind (arith, nat_tests, words, pending, lanes-back, laid.head, laid.size, size)
 
 -- and the text of a state is laid out so
 text-laid_out : (v : ℕ) (s : State) → IsState v s → IsLaidOut v (text v s)
 unfolding text
-text-laid_out v s is =
-    let size = length-text v s in grind (arith, is)
+text-laid_out v s is = grind (arith, is, length-text v s)
 
 pub IsLaidOut-text : (v : ℕ) (bytes : List ℕ) → ((k : ℕ) → Fits w8 (get_or bytes k 0))
     → IsLaidOut v bytes ↔ IsText v bytes
 IsLaidOut-text v bytes typed =
-    let are = AreBytes-typed bytes typed in (
-      λ laid. (state_of bytes, laid_out-state v bytes are laid, laid_out-text v bytes are laid),
-      λ is. subst (IsLaidOut v) is.2 (text-laid_out v is.0 is.1),
-    )
+    let are = AreBytes-typed bytes typed in
+    grind (arith, laid_out-state v bytes are, laid_out-text v bytes are, text-laid_out v)
 
 -- ---- what the calls say
 
@@ -163,18 +155,13 @@ pub restored : (v : ℕ) (bytes : List ℕ) (now : State) → IsText v bytes
     → IsState v now × Restored v (λ (s : State). s) bytes (Some now)
 unfolding IsTextAfter
 restored v bytes now (s, is, of_s) lanes pending had_block top_bit =
-    let read : now ≡ state_of bytes = grind arith in
-    let back = λ (t : State) (is : IsState v t) (of : text v t ≡ bytes).
-    read ∙ ap state_of (sym of) ∙ state_of-text v t is.words in
-    let same = back s is of_s in
-    let size = length-text v s in
-    (grind (arith, back), grind (arith, back))
+    grind (arith, elements, cases_lt, state_of-text, length-text)
 
 -- the text of a stream that has absorbed a message
 pub text-after : (v seed : ℕ) (s : State) (m bytes : List ℕ) → IsState v s → HasAbsorbed v seed s m
     → text v s ≡ bytes → IsTextAfter v seed m bytes
 unfolding IsTextAfter
-text-after v seed s m bytes is after same = (s, is, after, same)
+text-after v seed s m bytes is after same = search arith
 
 -- what the proof of `store` needs
 pub ruleset stored = (length-text, text-after)

@@ -1,17 +1,16 @@
 -- Streams. The definition absorbs byte by byte, and the code in blocks: both lead to one state. It
 -- stays a state of its version, and a new stream that absorbed a message answers its hash.
 use Rattle.std.proofs.Common.{◌≡◌, ℕ, ◌+◌, ◌-◌, ◌%◌, ◌<◌, ◌≤◌, Bool, true, false, nat_lt, List, []}
-use Rattle.std.proofs.Common.{◌∷◌, ◌++◌, length, drop, refl, ap, arith, ◌∙◌, sym, inl, inr}
+use Rattle.std.proofs.Common.{◌∷◌, ◌++◌, length, drop, refl, arith, ◌∙◌, sym, inl, inr}
 use Rattle.std.proofs.Common.{if◌then◌else◌, append_assoc, append-nil, length-append, length-drop}
 use Rattle.std.proofs.Common.{get_or-drop, slice_index}
-use Rattle.std.proofs.lemmas.Bool.{false≢true, cases_lt}
+use Rattle.std.proofs.lemmas.Bool.{cases_lt}
 use Rattle.std.proofs.lemmas.Bool.Decides.{nat_tests}
 use Rattle.std.proofs.lemmas.Grind.{elements}
-use Rattle.std.proofs.lemmas.List.{drop_all}
 use Rattle.komihash.specs.Hash.{komi, hash_from_pair}
-use Rattle.komihash.specs.Padding.{pads_with_two, padding_after, padding_byte}
+use Rattle.komihash.specs.Padding.{KeepsTopBit, pads_with_two, padding_byte}
 use Rattle.komihash.specs.Rounds.{join, closing}
-use Rattle.komihash.specs.Saved.{text, IsTextAfter}
+use Rattle.komihash.specs.Saved.{IsTextAfter}
 use Rattle.komihash.specs.Internals.{stored_words, whole_words, block_lanes, after_blocks, tail_end}
 use Rattle.komihash.specs.Internals.{final_word, padding_or_zero}
 use Rattle.komihash.specs.Stream.{State, IsState, HasAbsorbed, start, absorb, absorb_byte, answer}
@@ -54,69 +53,52 @@ blocks_state v s bytes =
 blocks_state-few : (v : ℕ) (s : State) (bytes : List ℕ) → length s.pending + length bytes < 64
     → blocks_state v s bytes ≡ record s { pending = s.pending ++ bytes }
 blocks_state-few v s bytes few =
+    let lanes = block_lanes-few_bytes v s.lanes (s.pending ++ bytes) in
+    let left = after_blocks-few (s.pending ++ bytes) in
     let size = length-append s.pending bytes in
-    let none = block_lanes-few_bytes v s.lanes (s.pending ++ bytes) (omega arith) in
-    let all = after_blocks-few (s.pending ++ bytes) (omega arith) in
-    grind (arith, nat_tests)
-
--- a byte that completes no block, and one that does
-absorb_byte-few : (v : ℕ) (s : State) (b : ℕ) → length s.pending < 63
-    → absorb_byte v s b ≡ record s { pending = s.pending ++ b ∷ [] }
-absorb_byte-few v s b few = grind (arith, nat_tests, length-append s.pending (b ∷ []))
+    grind (arith, nat_tests, lanes, left, size)
 
 absorb_byte-full : (v : ℕ) (s : State) (b : ℕ) (bytes : List ℕ) → length s.pending ≡ 63
     → ((absorb_byte v s b).pending ≡ [])
     × (blocks_state v (absorb_byte v s b) bytes ≡ blocks_state v s (b ∷ bytes))
 absorb_byte-full v s b bytes full =
     let all = s.pending ++ b ∷ [] in
-    let size : length all ≡ 64 = omega (arith, length-append s.pending (b ∷ [])) in
-    let on = completed v s.lanes s.pending (b ∷ bytes) 1 (omega arith) (omega arith) in
-    rw (size, words_of-whole 8 all size)
-    (refl, grind (arith, nat_tests, elements, on.lanes, on.left))
+    let on = completed v s.lanes s.pending (b ∷ bytes) 1 in
+    grind (arith, nat_tests, elements, on, words_of-whole 8 all, length-append s.pending (b ∷ []))
 
 pub absorb-blocks : (v : ℕ) (s : State) (bytes : List ℕ) → length s.pending < 64
     → absorb v s bytes ≡ blocks_state v s bytes
 unfolding absorb
 absorb-blocks v s [] few = rw (blocks_state-few v s [] (omega arith), append-nil) refl
 absorb-blocks v s (b ∷ bytes) few =
+    let next = absorb-blocks v (absorb_byte v s b) bytes in
+    let full = absorb_byte-full v s b bytes in
     let size = length-append s.pending (b ∷ []) in
-    let next = absorb_byte v s b in
-    elim (cases_lt (length s.pending) 63) [
-      | inl lt ↦
-          let is = absorb_byte-few v s b lt in
-          absorb-blocks v next bytes (rw is (omega arith)) ∙ rw (is, append_assoc) refl
-      | inr ge ↦
-          let (none, same) = absorb_byte-full v s b bytes (omega arith) in
-          absorb-blocks v next bytes (rw none (omega arith)) ∙ same
-    ]
+    grind (arith, cases_lt, nat_tests, next, full, size, append_assoc)
 
 -- bytes that fill no block
 pub absorb-few : (v : ℕ) (s : State) (bytes : List ℕ) → length s.pending + length bytes < 64
     → absorb v s bytes ≡ record s { pending = s.pending ++ bytes }
-absorb-few v s bytes few =
-    absorb-blocks v s bytes (omega arith) ∙ blocks_state-few v s bytes few
+absorb-few v s bytes few = grind (arith, absorb-blocks, blocks_state-few)
 
 -- ---- it stays a state
 
-pads_with_two-version : (v b : ℕ) → pads_with_two v b ≡ true → v ≡ 4
+pads_with_two-version : (v b : ℕ) → pads_with_two v b ≡ true → KeepsTopBit v
 pads_with_two-version v b h = grind (arith, nat_tests)
 
 -- a new stream's state, and the state after bytes
 pub IsState-start : (v seed : ℕ) → IsState v (start seed)
-IsState-start v seed = search (arith, AreWords-seed_pair, false≢true)
+IsState-start v seed = grind (arith, AreWords-seed_pair)
 
 pub IsState-absorb : (v : ℕ) (s : State) (bytes : List ℕ) → IsState v s → AreBytes bytes
     → IsState v (absorb v s bytes)
 IsState-absorb v s bytes is are =
     let all = s.pending ++ bytes in
-    rw (absorb-blocks v s bytes is.few) record {
-      words = AreWords-block_lanes v s.lanes (whole_words all) is.words;
-      bytes = AreBytes-drop (length all - length all % 64) all
-          (AreBytes-append s.pending bytes is.bytes are);
-      few = omega (arith, length-after_blocks all);
-      top_bit_block = grind (arith, nat_tests, is.top_bit_block);
-      top_bit_version = grind (arith, nat_tests, is.top_bit_version, pads_with_two-version);
-    }
+    let both = AreBytes-append s.pending bytes is.bytes are in
+    let rest = AreBytes-drop (length all - length all % 64) all both in
+    let words = AreWords-block_lanes v s.lanes (whole_words all) is.words in
+    let count = length-after_blocks all in
+    grind (arith, nat_tests, rest, words, absorb-blocks, count, is, pads_with_two-version)
 
 -- what the proof of a write needs
 pub ruleset more_absorbed = (absorb-append, absorb-few, IsState-absorb, AreBytes-typed)
@@ -128,8 +110,7 @@ tail_of-words : (v : ℕ) (m : List ℕ) (had_block top_bit : Bool)
     → tail_of v m had_block top_bit
     ≡ whole_words m ++ final_word m (tail_end v m had_block top_bit) ∷ []
 unfolding stored_words
-tail_of-words v [] had_block top_bit = grind arith
-tail_of-words v (b ∷ m) had_block top_bit = padded_words-by_tail v (b ∷ m)
+tail_of-words v m had_block top_bit = grind (arith, padded_words-by_tail v m)
 
 -- an answer, from the pair of its lanes, its whole words and its final word
 pub answer-by_pair : (v : ℕ) (s : State)
@@ -137,14 +118,12 @@ pub answer-by_pair : (v : ℕ) (s : State)
     (whole_words s.pending
     ++ final_word s.pending (tail_end v s.pending s.had_block s.top_bit) ∷ [])
 unfolding answer
-answer-by_pair v s =
-    ap (hash_from_pair (join s.had_block s.lanes)) (tail_of-words v s.pending s.had_block s.top_bit)
+answer-by_pair v s = grind (arith, tail_of-words)
 
 -- what ends the tail, with pending bytes
 pub tail_end-pending : (v : ℕ) (m : List ℕ) (had_block top_bit : Bool) → 0 < length m
     → tail_end v m had_block top_bit ≡ padding_byte v m
-tail_end-pending v [] had_block top_bit some = absurd (omega arith)
-tail_end-pending v (b ∷ m) had_block top_bit some = refl
+tail_end-pending v m had_block top_bit some = grind arith
 
 -- an answer with nothing pending
 pub answer-none : (v : ℕ) (s : State) → s.pending ≡ []
@@ -156,20 +135,11 @@ answer-none v s none = rw none
 tail_end-drop : (v n : ℕ) (m : List ℕ) → 0 < n → n ≤ length m
     → tail_end v (drop n m) true (pads_with_two v (slice_index m (n - 1))) ≡ padding_byte v m
 tail_end-drop v n m some le =
-    let size = length-drop n m in
-    elim (cases_lt n (length m)) [
-      | inl lt ↦
-          let last : n + (length (drop n m) - 1) ≡ length m - 1 = omega arith in
-          tail_end-pending v (drop n m) true _ (omega arith)
-          ∙ ap (λ b. padding_after (pads_with_two v b))
-          (get_or-drop n m (length (drop n m) - 1) 0 ∙ ap (slice_index m) last)
-      | inr ge ↦ let all : n ≡ length m = omega arith in rw (drop_all n m ge, all) refl
-    ]
+    grind (arith, elements, cases_lt, length-drop, tail_end-pending, get_or-drop)
 
 -- with those of a stream that has had no block
 tail_end-start : (v : ℕ) (m : List ℕ) → tail_end v m false false ≡ padding_or_zero v m
-tail_end-start v [] = refl
-tail_end-start v (b ∷ m) = refl
+tail_end-start v m = grind arith
 
 -- the answer of a new stream that absorbed a message is the message's hash
 pub answer-joined : (v seed : ℕ) (m : List ℕ) → answer v (absorb v (start seed) m) ≡ komi v seed m
@@ -194,10 +164,7 @@ answer-joined v seed m =
 -- an answer is the hash of the message that the stream has absorbed
 pub answered : (v : ℕ) (now : State) (result : ℕ) → result ≡ answer v now → Answered v now result
 unfolding HasAbsorbed
-answered v now result is = record {
-  answer = is;
-  hash = λ seed m before. is ∙ ap (answer v) before ∙ answer-joined v seed m;
-}
+answered v now result is = grind (arith, answer-joined)
 
 -- equal messages lead to equal states and texts
 pub same_state_after : (v seed : ℕ) (s t : State) (m : List ℕ) → HasAbsorbed v seed s m
@@ -208,5 +175,4 @@ same_state_after v seed s t m first second = first ∙ sym second
 pub same_text_after : (v seed : ℕ) (m x y : List ℕ) → IsTextAfter v seed m x
     → IsTextAfter v seed m y → x ≡ y
 unfolding IsTextAfter HasAbsorbed
-same_text_after v seed m x y (s, _, first, of_s) (t, _, second, of_t) =
-    sym of_s ∙ ap (text v) (first ∙ sym second) ∙ of_t
+same_text_after v seed m x y (s, _, first, of_s) (t, _, second, of_t) = cc

@@ -1,25 +1,25 @@
 -- Padded words read back. Their bytes are the message, the byte that ends it, which is 0 only if
 -- the message is empty, and zeros. So the padding byte is the last byte that is not 0.
 use Rattle.std.proofs.Common.{◌≡◌, ℕ, zero, suc, ◌+◌, ◌-◌, ◌*◌, ◌/◌, ◌%◌, ◌^◌, ◌<◌, ◌≤◌, List, []}
-use Rattle.std.proofs.Common.{◌∷◌, ◌++◌, length, take, drop, get_or, replicate, refl, ap, arith}
-use Rattle.std.proofs.Common.{◌∙◌, sym, w64, inl, inr, pow_mono, drop-drop, drop_at, length-append}
+use Rattle.std.proofs.Common.{◌∷◌, ◌++◌, length, take, drop, get_or, replicate, refl, arith}
+use Rattle.std.proofs.Common.{w64, pow_mono, drop-drop, drop_at, length-append}
 use Rattle.std.proofs.Common.{length-drop, length-take-le, take-append-drop, take_all, pow-add}
-use Rattle.std.proofs.Common.{pow_pos, slice_index, Fits}
+use Rattle.std.proofs.Common.{slice_index, Fits}
 use Rattle.std.proofs.lemmas.Bool.{cases_lt}
 use Rattle.std.proofs.lemmas.Grind.{elements}
 use Rattle.std.proofs.lemmas.List.{length-replicate, get_or_past}
-use Rattle.std.proofs.lemmas.Nat.{shr_below, shr_le, le-div}
+use Rattle.std.proofs.lemmas.Nat.{shr_le, le-div}
 use Rattle.std.proofs.lemmas.Simd.{Each1-from_get_or}
 use Rattle.std.specs.Int.{to_le_bytes}
 use Rattle.komihash.specs.Internals.{padding_or_zero}
 use Rattle.komihash.specs.Padding.{ArePadded, pads_with_two, padding_after, padded_words}
 use Rattle.komihash.specs.Padding.{padding_byte, padded_bytes}
-use Rattle.komihash.specs.Words.{AreBytes, word_of, words_of, all_bytes}
+use Rattle.komihash.specs.Words.{AreBytes, word_of, all_bytes}
 use Rattle.komihash.proofs.AllBytes.{length-all_bytes, AreBytes-all_bytes, take-all_bytes}
 use Rattle.komihash.proofs.AllBytes.{all_bytes-whole_words, stored_words-all_bytes}
 use Rattle.komihash.proofs.PaddedWords.{padding_or_zero-some}
 use Rattle.komihash.proofs.WholeWords.{words_of-whole}
-use Rattle.komihash.proofs.WordOf.{AreBytes-append, AreBytes-drop, word_of-drop}
+use Rattle.komihash.proofs.WordOf.{AreBytes-append, AreBytes-take, AreBytes-drop, word_of-drop}
 
 -- ---- bytes that end in a byte and zeros
 
@@ -33,62 +33,44 @@ zeros-only (suc k) (x ∷ xs) ys b is = zeros-only k xs ys b (cc)
 -- there is one way to end in a byte that is 0 only if none stands before it
 same_end : (xs ys : List ℕ) (a b j k : ℕ) → (0 < length xs → 0 < a) → (0 < length ys → 0 < b)
     → xs ++ a ∷ replicate j 0 ≡ ys ++ b ∷ replicate k 0 → (xs ≡ ys) × (a ≡ b)
-same_end [] [] a b j k some_a some_b is = (refl, cc)
-same_end [] (y ∷ ys) a b j k some_a some_b is =
-    absurd (omega (arith, zeros-only j ys (replicate k 0) b (cc)))
-same_end (x ∷ xs) [] a b j k some_a some_b is =
-    absurd (omega (arith, zeros-only k xs (replicate j 0) a (cc)))
-same_end (x ∷ xs) (y ∷ ys) a b j k some_a some_b is =
-    let (front, end) = same_end xs ys a b j k (λ _. some_a (omega arith))
-    (λ _. some_b (omega arith)) (cc) in (cc, end)
+same_end [] [] a b j k some_a some_b is = grind arith
+same_end [] (y ∷ ys) a b j k some_a some_b is = grind (arith, zeros-only j ys (replicate k 0) b)
+same_end (x ∷ xs) [] a b j k some_a some_b is = grind (arith, zeros-only k xs (replicate j 0) a)
+same_end (x ∷ xs) (y ∷ ys) a b j k some_a some_b is = grind (arith, same_end xs ys a b j k)
 
 -- bytes whose word is 0, and bytes whose word is a byte
 all_zeros : (xs : List ℕ) → word_of xs ≡ 0 → xs ≡ replicate (length xs) 0
 all_zeros [] is = refl
-all_zeros (x ∷ xs) is =
-    let others = all_zeros xs (omega arith) in grind arith
+all_zeros (x ∷ xs) is = grind (arith, all_zeros xs)
 
 one_byte : (xs : List ℕ) (k : ℕ) → length xs ≡ suc k → word_of xs < 256
     → xs ≡ word_of xs ∷ replicate k 0
 one_byte [] k size small = absurd (omega arith)
-one_byte (x ∷ xs) k size small =
-    let others = all_zeros xs (omega arith) in grind arith
+one_byte (x ∷ xs) k size small = grind (arith, all_zeros xs)
 
 -- ---- the bytes of padded words
-
-padding_or_zero-above : (v : ℕ) (m : List ℕ) → 0 < padding_or_zero v m
-    → (0 < length m) × (padding_or_zero v m ≡ padding_byte v m)
-padding_or_zero-above v [] above = absurd (omega arith)
-padding_or_zero-above v (b ∷ m) above = (omega arith, refl)
 
 AreBytes-end : (b k : ℕ) → b < 256 → AreBytes (b ∷ replicate k 0)
 AreBytes-end b k small i = grind (arith, elements, get_or_past {X = ℕ}, cases_lt)
 
-padded_words-some : (v : ℕ) (m : List ℕ) → 0 < length m
-    → padded_words v m ≡ words_of (padded_bytes v m)
-padded_words-some v [] some = absurd (omega arith)
-padded_words-some v (b ∷ m) some = refl
-
 bytes_of_padded : (v : ℕ) (m : List ℕ) {ws : List ℕ} → AreBytes m → padded_words v m ≡ ws
     → all_bytes ws ≡ m ++ padding_or_zero v m ∷ replicate (7 - length m % 8) 0
-bytes_of_padded v [] are is = ap all_bytes (sym is)
+bytes_of_padded v [] are is = grind arith
 bytes_of_padded v (b ∷ m) are is =
     let xs = b ∷ m in
     let zeros : List ℕ = replicate (7 - length xs % 8) 0 in
     let end = padding_byte v xs in
-    let whole : length (padded_bytes v xs) % 8 ≡ 0 =
-    omega (arith, length-append xs (end ∷ zeros), length-replicate {A = ℕ}) in
-    let are_padded = AreBytes-append xs (end ∷ zeros) are (AreBytes-end end _ (grind arith)) in
-    ap all_bytes (sym is ∙ words_of-whole _ (padded_bytes v xs) (omega arith))
-    ∙ all_bytes-whole_words (padded_bytes v xs) are_padded whole
+    let padded = AreBytes-append xs (end ∷ zeros) are (AreBytes-end end _ (grind arith)) in
+    grind (arith, elements, words_of-whole, all_bytes-whole_words (padded_bytes v xs) padded)
 
 -- no two messages share their padded words
 pub same_message : (v : ℕ) (x y : List ℕ) → AreBytes x → AreBytes y
     → padded_words v x ≡ padded_words v y → x ≡ y
 same_message v x y are_x are_y same =
-    (same_end x y _ _ _ _ (λ some. (padding_or_zero-some v x some).1)
-    (λ some. (padding_or_zero-some v y some).1)
-    (sym (bytes_of_padded v x are_x same) ∙ bytes_of_padded v y are_y refl)).0
+    let ends = same_end x y in
+    let bytes = bytes_of_padded v x are_x same in
+    let same_bytes = bytes_of_padded v y are_y refl in
+    grind (arith, ends, padding_or_zero-some, bytes, same_bytes)
 
 -- ---- the highest byte of the last word that is not 0, which can only be the padding byte
 
@@ -104,11 +86,8 @@ module _ (v : ℕ) (ws : List ℕ) (fit : (k : ℕ) → Fits w64 (get_or ws k 0)
       let bytes = all_bytes ws in
       let from = drop (8 * i) bytes in
       let eight = take_all 8 from (omega (arith, length-drop (8 * i) bytes, length-all_bytes ws)) in
-      let word : word_of from ≡ last =
-      ap word_of (sym eight ∙ take-all_bytes ws i 8 (omega arith) (omega arith))
-      ∙ omega (arith, (fit i).fits) in
-      rw (← drop-drop r (8 * i) bytes, ← word)
-      (word_of-drop r from (AreBytes-drop (8 * i) bytes (AreBytes-all_bytes ws)))
+      let rest = word_of-drop r from (AreBytes-drop (8 * i) bytes (AreBytes-all_bytes ws)) in
+      grind (arith, eight, take-all_bytes ws i 8, (fit i).fits, drop-drop r (8 * i) bytes, rest)
 
   pub padded_zero : ArePadded v ws → last ≡ 0 → length ws ≡ 1
   padded_zero (m, are, is) none =
@@ -116,22 +95,17 @@ module _ (v : ℕ) (ws : List ℕ) (fit : (k : ℕ) → Fits w64 (get_or ws k 0)
       let end = padding_or_zero v m in
       let zeros : List ℕ = replicate (7 - n % 8) 0 in
       let bytes = bytes_of_padded v m are is in
-      let count : length ws ≡ n / 8 + 1 =
-      omega (
+      let count : length ws ≡ n / 8 + 1 = grind (
         arith,
         length-append m (end ∷ zeros),
         length-replicate {A = ℕ},
         length-all_bytes ws,
-        ap length bytes,
+        bytes,
       ) in
-      let place : 8 * (length ws - 1) + n % 8 ≡ n = omega arith in
-      let word = rw (place, bytes, drop_at m (end ∷ zeros) n refl) at
-      (word_from (n % 8) (omega arith)) in
-      elim (cases_lt 0 n) [
-        | inl some ↦
-            absurd (omega (arith, word, shr_le last (8 * (n % 8)), padding_or_zero-some v m some))
-        | inr empty ↦ omega arith
-      ]
+      let back = drop_at m (end ∷ zeros) n in
+      let word = word_from (n % 8) in
+      let shifted = shr_le last (8 * (n % 8)) in
+      grind (arith, cases_lt, bytes, back, word, shifted)
 
   -- the message that would end below index r of the last word
   module _ (r : ℕ) (below : r < 8) (some : 0 < length ws)
@@ -147,28 +121,29 @@ module _ (v : ℕ) (ws : List ℕ) (fit : (k : ℕ) → Fits w64 (get_or ws k 0)
 
     split : all_bytes ws ≡ message ++ last / 2 ^ (8 * r) ∷ replicate (7 - length message % 8) 0
     split =
-        let rest = drop size (all_bytes ws) in
-        let word = word_from r some in
-        let end : 7 - length message % 8 ≡ 7 - r = omega (arith, length-message) in
-        let count : length rest ≡ suc (7 - r) =
-        omega (arith, length-drop size (all_bytes ws), length-all_bytes ws) in
-        sym (take-append-drop size (all_bytes ws))
-        ∙ ap (λ zs. message ++ zs) (rw (end, ← word) (one_byte rest (7 - r) count (omega arith)))
+        grind (
+          arith,
+          elements,
+          one_byte (drop size (all_bytes ws)) (7 - r),
+          word_from r some,
+          length-message,
+          length-all_bytes ws,
+          take-append-drop size (all_bytes ws),
+        )
 
     pub unpadded : 0 < size → last / 2 ^ (8 * r) ≡ padding_byte v message
         → padded_words v message ≡ ws
     unpadded long is =
-        padded_words-some v message (omega (arith, length-message))
-        ∙ ap words_of (rw is at (sym split))
-        ∙ words_of-whole (length ws) (all_bytes ws) (length-all_bytes ws)
-        ∙ stored_words-all_bytes ws (Each1-from_get_or _ ws 0 (λ k _. (fit k).fits))
+        let fits = stored_words-all_bytes ws (Each1-from_get_or _ ws 0 (λ k _. (fit k).fits)) in
+        let whole = words_of-whole (length ws) (all_bytes ws) in
+        let count = length-all_bytes ws in
+        grind (arith, length-message, split, whole, count, fits)
 
     pub one_place : ArePadded v ws → (0 < size) × (last / 2 ^ (8 * r) ≡ padding_byte v message)
     one_place (m, are, is) =
-        let (same, end) = same_end message m _ _ _ _ (λ _. above_0)
-        (λ some. (padding_or_zero-some v m some).1) (sym split ∙ bytes_of_padded v m are is) in
-        let (some, byte) = padding_or_zero-above v m (rw end at above_0) in
-        (omega (arith, length-message, ap length same), rw same (end ∙ byte))
+        let ends = same_end message m _ _ (7 - length message % 8) (7 - length m % 8) in
+        let same = ends (λ _. above_0) (λ some. (padding_or_zero-some v m some).1) in
+        grind (arith, same, split, bytes_of_padded v m are is, length-message)
 
 -- ---- what the code finds
 
@@ -177,21 +152,17 @@ pub highest : (w bit : ℕ) → 2 ^ bit ≤ w → w < 2 * 2 ^ bit
 highest w bit low high =
     let at = 8 * (bit / 8) in
     let le : 2 ^ at ≤ 2 ^ bit = pow_mono (omega arith) in
-    let lt : 2 ^ (1 + bit) ≤ 2 ^ (8 + at) = pow_mono (omega arith) in (
-      le-div 1 w (2 ^ at) (pow_pos at) (omega arith),
-      shr_below w 8 at (omega (arith, pow-add 2 1 bit)),
-    )
+    let lt : 2 ^ (1 + bit) ≤ 2 ^ (8 + at) = pow_mono (omega arith) in
+    grind (arith, elements, le-div, pow-add)
 
 pub byte_of_words : (ws : List ℕ) (at : ℕ) → at < 8 * length ws
     → get_or (to_le_bytes w64 (get_or ws (at / 8) 0)) (at % 8) 0 ≡ get_or (all_bytes ws) at 0
-byte_of_words ws at lt =
-    let word = take-all_bytes ws (at / 8) 8 (omega arith) (omega arith) in
-    let same = ap (λ bs. get_or bs (at % 8) 0) word in
-    grind (arith, elements, same)
+byte_of_words ws at lt = grind (arith, elements, take-all_bytes ws (at / 8) 8)
 
 pub padding_byte_at : (v : ℕ) (ws : List ℕ) (n last : ℕ) → 0 < n → n ≤ 8 * length ws
     → last ≡ slice_index (all_bytes ws) (n - 1)
     → padding_after (pads_with_two v last) ≡ padding_byte v (take n (all_bytes ws))
-padding_byte_at v ws n last some le is =
-    let size = length-take-le n (all_bytes ws) (omega (arith, length-all_bytes ws)) in
-    grind (arith, elements, size)
+padding_byte_at v ws n last some le is = grind (arith, elements, cases_lt, length-all_bytes)
+
+-- what the proof of `unpad` needs
+pub ruleset unpad_laws = (AreBytes-take, AreBytes-all_bytes, same_message)

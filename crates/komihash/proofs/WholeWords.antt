@@ -5,6 +5,7 @@ use Rattle.std.proofs.lemmas.List.{length-append, length-drop, drop-drop, take-a
 use Rattle.std.proofs.lemmas.List.{drop-append-le, drop_all, take_all}
 use Rattle.std.specs.Int.{from_le_bytes, w64}
 use Rattle.std.specs.Simd.{first_chunks}
+use Rattle.std.proofs.lemmas.Grind.{elements}
 use Rattle.komihash.specs.Internals.{stored_words, whole_words}
 use Rattle.komihash.specs.Words.{word_of, words_of}
 
@@ -28,24 +29,18 @@ length-whole_words xs = length-stored_words (length xs / 8) xs
 
 pub whole_words-few : (xs : List ℕ) → length xs < 8 → whole_words xs ≡ []
 unfolding stored_words
-whole_words-few xs lt = let none : length xs / 8 ≡ 0 = omega arith in rw none refl
-
--- a chunk of eight bytes, and its word
-word_of-eight : (xs : List ℕ) → 8 ≤ length xs → from_le_bytes w64 (take 8 xs) ≡ word_of (take 8 xs)
-word_of-eight (a ∷ b ∷ c ∷ d ∷ e ∷ f ∷ g ∷ h ∷ xs) le = omega arith
-word_of-eight xs le = absurd (omega arith)
+whole_words-few xs lt = grind arith
 
 pub word_of-chunk : (n i : ℕ) (xs : List ℕ) → i < n → 8 * n ≤ length xs
     → from_le_bytes w64 (get_or (first_chunks 8 n xs) i []) ≡ word_of (take 8 (drop (8 * i) xs))
 word_of-chunk zero i xs lt le = absurd (omega arith)
-word_of-chunk (suc n) zero xs lt le = word_of-eight xs (omega arith)
+word_of-chunk (suc n) zero xs lt le = grind arith
 word_of-chunk (suc n) (suc i) xs lt le =
     let next : 8 + 8 * i ≡ 8 * suc i = omega arith in
-    rw (
-      word_of-chunk n i (drop 8 xs) (omega arith) (omega (arith, length-drop 8 xs)),
-      drop-drop (8 * i) 8 xs,
-      next,
-    ) refl
+    let drops = drop-drop (8 * i) 8 xs in
+    let size = length-drop 8 xs in
+    let chunk = word_of-chunk n i (drop 8 xs) in
+    grind (arith, elements, next, drops, size, chunk)
 
 -- what proofs that read whole words one by one need
 pub ruleset read_words = (length-stored_words, get_or-stored_words, word_of-chunk)
@@ -69,15 +64,12 @@ stored_words-cut (suc n) k xs ys le =
 
 pub stored_words-append : (n k : ℕ) (xs ys : List ℕ) → length xs ≡ 8 * n
     → stored_words (n + k) (xs ++ ys) ≡ stored_words n xs ++ stored_words k ys
-stored_words-append n k xs ys e =
-    rw (drop_all (8 * n) xs (omega arith)) at (stored_words-cut n k xs ys (omega arith))
+stored_words-append n k xs ys e = grind (arith, drop_all (8 * n) xs, stored_words-cut n k xs ys)
 
 pub whole_words-append : (xs ys : List ℕ) (k : ℕ) → length xs ≡ 8 * k
     → whole_words (xs ++ ys) ≡ whole_words xs ++ whole_words ys
 whole_words-append xs ys k e =
-    let all : length (xs ++ ys) / 8 ≡ k + length ys / 8 = omega (arith, length-append xs ys) in
-    let first : length xs / 8 ≡ k = omega arith in
-    rw (all, first) (stored_words-append k (length ys / 8) xs ys e)
+    grind (arith, stored_words-append k (length ys / 8) xs ys, length-append xs ys)
 
 -- fewer than eight bytes after whole words, and those that complete their word
 pub stored_words-last : (n : ℕ) (xs ys : List ℕ) → length xs / 8 ≡ n
@@ -93,6 +85,5 @@ stored_words-last n xs ys e le =
 pub words_of-whole : (n : ℕ) (xs : List ℕ) → length xs ≡ 8 * n → words_of xs ≡ stored_words n xs
 unfolding stored_words
 words_of-whole zero [] e = refl
-words_of-whole (suc n) (a ∷ b ∷ c ∷ d ∷ e ∷ f ∷ g ∷ h ∷ xs) is =
-    ap (λ ws. word_of (a ∷ b ∷ c ∷ d ∷ e ∷ f ∷ g ∷ h ∷ []) ∷ ws) (words_of-whole n xs (omega arith))
+words_of-whole (suc n) (a ∷ b ∷ c ∷ d ∷ e ∷ f ∷ g ∷ h ∷ xs) is = grind (arith, words_of-whole n xs)
 words_of-whole n xs e = absurd (omega arith)

@@ -1,6 +1,6 @@
 -- Words of lists of bytes that are cut and joined.
 use Rattle.std.proofs.Common.{◌≡◌, ℕ, zero, suc, ◌+◌, ◌-◌, ◌*◌, ◌/◌, ◌%◌, ◌^◌, ◌<◌, ◌≤◌, List, []}
-use Rattle.std.proofs.Common.{◌∷◌, ◌++◌, length, take, drop, get_or, ap, arith, ◌∙◌, sym, take-add}
+use Rattle.std.proofs.Common.{◌∷◌, ◌++◌, length, take, drop, get_or, ap, arith, ◌∙◌, take-add}
 use Rattle.std.proofs.Common.{Fits, w8, refl, drop-drop, replicate, length-append}
 use Rattle.std.proofs.Common.{length-drop, length-take-le, take_all, get_or-drop, take_at, drop_at}
 use Rattle.std.proofs.Common.{pow-add, pow_pos, bit_or}
@@ -47,7 +47,7 @@ word_of-cut (suc k) (x ∷ xs) =
 word_of-append : (xs ys : List ℕ)
     → word_of (xs ++ ys) ≡ word_of ys * 2 ^ (8 * length xs) + word_of xs
 word_of-append xs ys =
-    rw (take_at xs ys _ refl, drop_at xs ys _ refl) at (word_of-cut (length xs) (xs ++ ys))
+    grind (arith, elements, word_of-cut (length xs) (xs ++ ys), take_at xs ys, drop_at xs ys)
 
 -- zeros after others
 pub word_of-zeros : (xs : List ℕ) (k : ℕ) → word_of (xs ++ replicate k 0) ≡ word_of xs
@@ -63,13 +63,11 @@ word_of-take-lt (suc k) (x ∷ xs) h =
 
 -- so a mask leaves the first bytes, and a shift to the right the others
 word_of-take : (k : ℕ) (xs : List ℕ) → AreBytes xs → word_of (take k xs) ≡ word_of xs % 2 ^ (8 * k)
-word_of-take k xs h =
-    rw (word_of-cut k xs) (sym (mod_low (word_of (drop k xs)) (8 * k) _ (word_of-take-lt k xs h)))
+word_of-take k xs h = grind (arith, word_of-cut k xs, mod_low, word_of-take-lt k xs h)
 
 pub word_of-drop : (k : ℕ) (xs : List ℕ) → AreBytes xs
     → word_of (drop k xs) ≡ word_of xs / 2 ^ (8 * k)
-word_of-drop k xs h =
-    rw (word_of-cut k xs) (sym (shr_high (word_of (drop k xs)) (8 * k) _ (word_of-take-lt k xs h)))
+word_of-drop k xs h = grind (arith, word_of-cut k xs, shr_high, word_of-take-lt k xs h)
 
 -- ---- bytes that a shift to the left and `|` set after others
 
@@ -82,21 +80,18 @@ pub word_of-join : (xs ys : List ℕ) (n : ℕ) → AreBytes xs → AreBytes ys 
     → bit_or (word_of xs) (word_of ys * 2 ^ (8 * n) % 2 ^ 64) ≡ word_of (xs ++ take (8 - n) ys)
 word_of-join xs ys n h g size le =
     let k = 8 * n in
-    let bits : 64 ≡ 8 * (8 - n) + k = omega arith in
-    let fit : word_of ys * 2 ^ k % 2 ^ 64 ≡ word_of (take (8 - n) ys) * 2 ^ k =
-    ap (λ w. word_of ys * 2 ^ k % 2 ^ w) bits ∙ shl_mod (word_of ys) k (8 * (8 - n))
-    ∙ ap (λ w. w * 2 ^ k) (sym (word_of-take (8 - n) ys g)) in
-    let below = rw (take_all n xs (omega arith)) at (word_of-take-lt n xs h) in
-    rw (fit, word_of-append xs (take (8 - n) ys), size)
-    (or_shifted_r (word_of (take (8 - n) ys)) k (word_of xs) below)
+    let fit = shl_mod (word_of ys) k (8 * (8 - n)) in
+    let below = word_of-take-lt n xs h in
+    let low = word_of-take (8 - n) ys g in
+    let joined = word_of-append xs (take (8 - n) ys) in
+    let or_word = or_shifted_r (word_of (take (8 - n) ys)) k (word_of xs) in
+    grind (arith, elements, fit, below, low, joined, or_word)
 
 -- one byte after others
 pub word_of-push : (xs : List ℕ) (n b : ℕ) → AreBytes xs → length xs ≡ n → n < 8 → b < 256
     → bit_or (word_of xs) (b * 2 ^ (8 * n) % 2 ^ 64) ≡ word_of (xs ++ b ∷ [])
 word_of-push xs n b h size few small =
-    let one : word_of (b ∷ []) ≡ b = omega arith in
-    let all : take (8 - n) (b ∷ []) ≡ b ∷ [] = take_all (8 - n) (b ∷ []) (omega arith) in
-    rw (one, all) at (word_of-join xs (b ∷ []) n h (AreBytes-one b small) size (omega arith))
+    grind (arith, elements, word_of-join xs (b ∷ []) n h (AreBytes-one b small))
 
 -- ---- bytes that are read in pieces
 
@@ -105,11 +100,9 @@ pub word_of-last : (n j s : ℕ) (xs : List ℕ) → AreBytes xs → n ≤ lengt
     → s ≡ 8 * (j + n - length xs) → length xs ≤ j + n
     → word_of (take n (drop (length xs - n) xs)) / 2 ^ s ≡ word_of (drop j xs)
 word_of-last n j s xs h many within e most =
-    let place : length xs - n + (j + n - length xs) ≡ j = omega arith in
     let last = drop (length xs - n) xs in
-    rw (e, take_all n last (omega (arith, length-drop (length xs - n) xs)))
-    (sym (word_of-drop (j + n - length xs) last (AreBytes-drop (length xs - n) xs h))
-    ∙ ap word_of (drop-drop (j + n - length xs) (length xs - n) xs ∙ ap (λ k. drop k xs) place))
+    let high = word_of-drop (j + n - length xs) last (AreBytes-drop (length xs - n) xs h) in
+    grind (arith, elements, drop-drop, high)
 
 -- four to seven bytes, read in two pieces of four from both ends, and a byte b after them
 pub word_of-two_ends : (xs : List ℕ) (b s : ℕ) → AreBytes xs → 4 ≤ length xs → length xs < 8
@@ -122,21 +115,29 @@ word_of-two_ends xs b s h least most small e =
     let k = length xs - 4 in
     let zs = xs ++ b ∷ [] in
     let are = AreBytes-append xs (b ∷ []) h (AreBytes-one b small) in
-    let size = length-append xs (b ∷ []) in
-    let five = take_all 5 (drop k zs) (omega (arith, length-drop k zs)) in
-    let from : length zs - 5 ≡ k = omega arith in
-    let second = rw (from, five, drop-append-le k xs (b ∷ []) (omega arith)) at
-    (word_of-last 5 4 s zs are (omega arith) (omega arith) (omega arith) (omega arith)) in
-    let last : length (drop k xs) ≡ 4 = omega (arith, length-drop k xs) in
-    rw (
-      take_all 4 (drop k xs) (omega arith),
-      word_of-push (drop k xs) 4 b (AreBytes-drop k xs h) last (omega arith) small,
-      second,
-      ← take-append-le 4 xs (b ∷ []) least,
+    let push = word_of-push (drop k xs) 4 b (AreBytes-drop k xs h) in
+    let last = word_of-last 5 4 s zs are in
+    let four_are = AreBytes-take 4 zs are in
+    let join = word_of-join (take 4 zs) (drop 4 zs) 4 four_are (AreBytes-drop 4 zs are) in
+    let four = take_all 4 (drop k xs) in
+    let five = take_all 5 (drop k zs) in
+    let eight = take_all 8 zs in
+    grind (
+      arith,
+      push,
+      last,
+      join,
+      four,
+      five,
+      eight,
+      length-append xs (b ∷ []),
+      drop-append-le k xs (b ∷ []),
+      take-append-le 4 xs (b ∷ []),
+      take-add 4 4 zs,
+      length-drop k xs,
+      length-drop k zs,
+      length-take-le 4 zs,
     )
-    (word_of-join (take 4 zs) (drop 4 zs) 4 (AreBytes-take 4 zs are) (AreBytes-drop 4 zs are)
-    (length-take-le 4 zs (omega arith)) (omega arith)
-    ∙ ap word_of (sym (take-add 4 4 zs) ∙ take_all 8 zs (omega arith)))
 
 -- at most three bytes, each read by itself
 pub word_of-few : (xs : List ℕ) → length xs < 4

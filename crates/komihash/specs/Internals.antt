@@ -5,7 +5,7 @@ use Rattle.std.specs.Int.{from_le_bytes, w64}
 use Rattle.std.specs.Int.Bits.{xor_assoc, xor_self, xor_zero_l}
 use Rattle.std.proofs.Common.{ap, ◌∙◌, sym}
 use Rattle.std.specs.Prelude.{List, [], ◌∷◌, ◌++◌, length, take, drop, get_or, slice_index}
-use Rattle.komihash.specs.Padding.{padding_byte}
+use Rattle.komihash.specs.Padding.{KeepsTopBit, padding_byte}
 use Rattle.komihash.specs.Rounds.{Lanes, block_round}
 use Rattle.komihash.specs.Stream.{end_after_blocks}
 use Rattle.komihash.specs.Words.{word_of, all_bytes}
@@ -91,7 +91,7 @@ pub record IsHead (v : ℕ) (bytes : List ℕ) : Type 0 where
   pub version : slice_index bytes 0 ≡ v
   pub had_block : slice_index bytes 1 < 2
   pub top_bit : slice_index bytes 2 ≤ slice_index bytes 1
-  pub top_bit_version : 0 < slice_index bytes 2 → v ≡ 4
+  pub top_bit_version : 0 < slice_index bytes 2 → KeepsTopBit v
   pub few : slice_index bytes 3 < 64
 
 -- ---- lemmas by which a struct's value gives back its fields, which have to stand in `specs`

@@ -5,16 +5,23 @@ use Rattle.std.specs.Prelude.{Option, IfSome, IfNone, IsSomeAnd, IsNone, if◌th
 use Rattle.komihash.specs.Borrows.{Mut}
 use Rattle.komihash.specs.Words.{AreBytes, words_of}
 
--- whether the version is 4 and a last byte is at least 128
+-- whether version v has the padding byte 2, and so keeps the top bit of a stream's last block
+abbrev pub has_two : ℕ → Bool
+has_two v = v == 4
+
+-- the same as a proposition
+abbrev pub KeepsTopBit : ℕ → Type 0
+KeepsTopBit v = v ≡ 4
+
+-- whether the padding byte after a last byte b is 2: if the version has it, and b is at least 128
 abbrev pub pads_with_two : ℕ → ℕ → Bool
-pads_with_two v b = v == 4 && nat_le 128 b
+pads_with_two v b = has_two v && nat_le 128 b
 
 -- the padding byte: 2 after a last byte for which `pads_with_two` holds, else 1
 abbrev pub padding_after : Bool → ℕ
 padding_after top_bit = if top_bit then 2 else 1
 
--- the padding byte of a nonempty message in version v: 1, but 2 in version 4 if the message's last
--- byte is at least 128
+-- the padding byte of a nonempty message in version v
 abbrev pub padding_byte : ℕ → List ℕ → ℕ
 padding_byte v m = padding_after (pads_with_two v (slice_index m (length m - 1)))
 

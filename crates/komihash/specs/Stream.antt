@@ -4,7 +4,7 @@ use Rattle.std.specs.Prelude.{List, [], ◌∷◌, ◌++◌, length}
 use Rattle.komihash.specs.Borrows.{Mut}
 use Rattle.komihash.specs.Hash.{komi, hash_from_pair}
 use Rattle.komihash.specs.Rounds.{Lanes, in_order, seed_pair, lanes, block_round, join}
-use Rattle.komihash.specs.Padding.{pads_with_two, padding_after, padded_words}
+use Rattle.komihash.specs.Padding.{KeepsTopBit, pads_with_two, padding_after, padded_words}
 use Rattle.komihash.specs.Words.{AreBytes, AreWords, words_of}
 
 -- eight lanes; the pending bytes, which no block has taken yet; whether a block was absorbed; and
@@ -68,7 +68,7 @@ pub record IsState (v : ℕ) (s : State) : Type 0 where
   pub bytes : AreBytes s.pending
   pub few : length s.pending < 64
   pub top_bit_block : s.top_bit ≡ true → s.had_block ≡ true
-  pub top_bit_version : s.top_bit ≡ true → v ≡ 4
+  pub top_bit_version : s.top_bit ≡ true → KeepsTopBit v
 
 -- what contracts see of a stream of version v: a state, and that it is one of this version
 pub record StateOf (v : ℕ) : Type 0 where

@@ -4,18 +4,26 @@
 ghost use Rattle.std.specs.Prelude.{◌≡◌, ◌+◌, ◌*◌, ◌/◌, ◌^◌, ◌<◌, ◌≤◌, ◌↔◌, IsTrue};
 ghost use Rattle.std.specs.Prelude.{IfSome, IfNone, length, take, slice_index};
 ghost use Rattle.komihash.specs.Padding.{ArePadded, Padded, Unpadded, padded_words};
-ghost use Rattle.komihash.specs.Padding.{pads_with_two, padding_after, padding_byte};
+ghost use Rattle.komihash.specs.Padding.{has_two, pads_with_two, padding_after, padding_byte};
 ghost use Rattle.komihash.specs.Internals.{final_word};
 ghost use Rattle.komihash.specs.Words.{all_bytes};
 
 use crate::utils::{last_word, read_partial_word, read_whole_words, write_first_bytes};
 
-/// Returns whether the padding byte after `byte` is 2: in version 4, if its top bit is set.
+/// Returns whether version V has the padding byte 2.
+#[inline(always)]
+pub(crate) fn has_two<const V: u8>() -> bool
+    ensures { result ≡ has_two V }
+{
+    V == 4
+}
+
+/// Returns whether the padding byte after `byte` is 2: if V has it, and the byte's top bit is set.
 #[inline(always)]
 pub(crate) fn pads_with_two<const V: u8>(byte: u8) -> bool
     ensures { result ≡ pads_with_two V byte }
 {
-    V == 4 && byte >= 128
+    has_two::<V>() && byte >= 128
 }
 
 /// Returns the padding byte: 2 after a last byte for which `pads_with_two` holds, otherwise 1.
@@ -70,6 +78,7 @@ pub(crate) fn final_word_by_branch(bytes: &[u8], end: u64) -> u64
 /// Writes the padded words of a message in version V to the front of `out`, and returns how many
 /// they are.
 #[inline(always)]
+#[tactic(auto, using(crate::proofs::PaddedWords::pad_laws))]
 pub(crate) fn pad<const V: u8>(bytes: &[u8], out: &mut [u64]) -> usize
     requires { length bytes.now / 8 + 1 ≤ length out.old }
     ensures { Padded V bytes.now out result }
@@ -160,6 +169,7 @@ fn message_length<const V: u8>(words: &[u64]) -> Option<usize>
 /// Writes the message that has these padded words in version V to the front of `out`, and returns
 /// its length in bytes. Returns `None`, with `out` unchanged, if no message has these words.
 #[inline(always)]
+#[tactic(auto, using(crate::proofs::Unpadding::unpad_laws))]
 pub(crate) fn unpad<const V: u8>(words: &[u64], out: &mut [u8]) -> Option<usize>
     requires { 8 * length words.now ≤ length out.old }
     ensures { Unpadded V words.now out result }

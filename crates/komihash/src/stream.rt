@@ -23,8 +23,8 @@ pub mod raw;
 
 /// A stream of either version, for generic code.
 ///
-/// The methods have other names than those of `StreamedKomihash`, so that the name alone tells which
-/// of the two a call means.
+/// The methods have other names than those of `StreamedKomihash`, so that the name alone tells
+/// which of the two a call means.
 ///  <!-- Rattle -->
 /// `start`, `absorb` and `answer` also count their cost in a tally <!-- Rattle -->
 /// that the caller passes: products of two words, and bytes that <!-- Rattle -->

@@ -1,11 +1,9 @@
 -- The names of `komihash` that the contracts and proofs of callers may cite, with their arguments,
 -- file by file, and then the records with their fields. The change that takes one away, or changes
 -- its arguments, fails here, and needs a new first number of the version.
-use Rattle.std.specs.Prelude.{ℕ, Bool, true, List, [], ◌∷◌, Option, ◌≡◌, ◌↔◌, ◌<◌, ◌+◌, ◌/◌}
-use Rattle.std.specs.Prelude.{length, take, drop}
+use Rattle.std.specs.Prelude.{ℕ, Bool, true, List, [], ◌∷◌, Option, ◌≡◌, ◌↔◌, ◌<◌, ◌≤◌, ◌+◌, ◌/◌}
+use Rattle.std.specs.Prelude.{◌++◌, length, take, drop}
 use Rattle.std.specs.Prelude.{IfSome, IfNone, IsSomeAnd, IsNone}
-use Rattle.promises.specs.Promises.{StartPromise, AbsorbPromise, AnswerPromise}
-use Rattle.promises.specs.Promises.{StorePromise, RestorePromise}
 use Rattle.komihash.specs.Borrows.{Mut}
 use Rattle.komihash.specs.Calls.{answers_after, answers, onward, bytes_of_calls, AreAbsorbs}
 use Rattle.komihash.specs.Calls.{products_of_answers, onward_products, onward_kept_bytes}
@@ -15,8 +13,9 @@ use Rattle.komihash.specs.Counts.{absorb_kept_bytes, Costs}
 use Rattle.komihash.specs.Generator.{next, after_steps, outputs, fill_steps, fill, after_fill}
 use Rattle.komihash.specs.Hash.{komi, hash_from_lanes, hash_from_pair}
 use Rattle.komihash.specs.Hasher.{number_after}
-use Rattle.komihash.specs.Padding.{pads_with_two, padding_after, padding_byte, padded_bytes}
-use Rattle.komihash.specs.Padding.{padded_words, ArePadded, Padded, Unpadded}
+use Rattle.komihash.specs.Padding.{has_two, KeepsTopBit, pads_with_two, padding_after}
+use Rattle.komihash.specs.Padding.{padding_byte, padded_bytes, padded_words, ArePadded}
+use Rattle.komihash.specs.Padding.{Padded, Unpadded}
 use Rattle.komihash.specs.Rounds.{fraction_of_pi, constant, low, high, plus, mix, seed_words}
 use Rattle.komihash.specs.Rounds.{seed_pair, Lanes, in_order, lanes, places, block_round_by}
 use Rattle.komihash.specs.Rounds.{block_round, join, pair_round, mix_again, closing}
@@ -34,6 +33,9 @@ words_and_bytes = (word_of, words_of, all_bytes)
 
 are_words : (List ℕ → Type 0) × (List ℕ → Type 0)
 are_words = (AreBytes, AreWords)
+
+versions_with_two : (ℕ → Bool) × (ℕ → Type 0)
+versions_with_two = (has_two, KeepsTopBit)
 
 padding : (ℕ → ℕ → Bool) × (Bool → ℕ) × (ℕ → List ℕ → ℕ) × (ℕ → List ℕ → List ℕ)
 padding = (pads_with_two, padding_after, padding_byte, padded_bytes)
@@ -129,35 +131,35 @@ top_bit : (v : ℕ) (s : State) → IsState v s → s.top_bit ≡ true
     → (s.had_block ≡ true) × (v ≡ 4)
 top_bit v s is set = (is.top_bit_block set, is.top_bit_version set)
 
-started : (v seed : ℕ) (s : State) → Started v seed s → StartPromise v seed s
-started v seed s is = record { state = is.state; message = is.message }
+started : (v seed : ℕ) (s : State) → Started v seed s → (s ≡ start seed) × HasAbsorbed v seed s []
+started v seed s is = (is.state, is.message)
 
 absorbed : {A : Type 0} (v : ℕ) (view : A → State) (stream : Mut A) (bytes : List ℕ)
-    → Absorbed v view stream bytes → AbsorbPromise v view stream bytes
-absorbed v view stream bytes is = record { state = is.state; message = is.message }
+    → Absorbed v view stream bytes
+    → (view stream.exit.now ≡ absorb v (view stream.entry.now) bytes)
+    × ((seed : ℕ) (m : List ℕ) → HasAbsorbed v seed (view stream.entry.now) m
+    → HasAbsorbed v seed (view stream.exit.now) (m ++ bytes))
+absorbed v view stream bytes is = (is.state, is.message)
 
-answered : (v : ℕ) (s : State) (n : ℕ) → Answered v s n → AnswerPromise v s n
-answered v s n is = record { state = is.answer; message = is.hash }
+answered : (v : ℕ) (s : State) (n : ℕ) → Answered v s n
+    → (n ≡ answer v s) × ((seed : ℕ) (m : List ℕ) → HasAbsorbed v seed s m → n ≡ komi v seed m)
+answered v s n is = (is.answer, is.hash)
 
 stored : (v : ℕ) (s : State) (out : Mut (List ℕ)) (n : ℕ) → Stored v s out n
-    → StorePromise v s n out
-stored v s out n is = record {
-  count = is.length;
-  most = is.most;
-  saved = is.text;
-  message = is.message;
-  rest = is.rest;
-}
+    → (n ≡ length (text v s)) × (n ≤ longest_text) × (take n out.exit.now ≡ text v s)
+    × ((seed : ℕ) (m : List ℕ) → HasAbsorbed v seed s m → IsTextAfter v seed m (take n out.exit.now))
+    × (drop n out.exit.now ≡ drop n out.entry.now)
+stored v s out n is = (is.length, is.most, is.text, is.message, is.rest)
 
 restored : {A : Type 0} (v : ℕ) (view : A → State) (bytes : List ℕ) (result : Option A)
-    → Restored v view bytes result → RestorePromise v view bytes result
-restored v view bytes result is = record {
-  saved = is.text;
-  most = is.most;
-  same = is.same;
-  message = is.message;
-  none = is.none;
-}
+    → Restored v view bytes result
+    → IfSome result (λ stream. text v (view stream) ≡ bytes)
+    × IfSome result (λ _. length bytes ≤ longest_text)
+    × ((s : State) → IsState v s → text v s ≡ bytes → IsSomeAnd result (λ stream. view stream ≡ s))
+    × ((seed : ℕ) (m : List ℕ) → IsTextAfter v seed m bytes
+    → IsSomeAnd result (λ stream. HasAbsorbed v seed (view stream) m))
+    × (IsNone result ↔ ¬ IsText v bytes)
+restored v view bytes result is = (is.text, is.most, is.same, is.message, is.none)
 
 padded_out : (v : ℕ) (bytes : List ℕ) (out : Mut (List ℕ)) (n : ℕ) → Padded v bytes out n
     → (n ≡ length bytes / 8 + 1) × (take n out.exit.now ≡ padded_words v bytes)

@@ -1,22 +1,19 @@
-//! The promises of the calls of both versions.
+//! The promises of the calls of both versions. `StableNames` has the fields of the records.
 
-ghost use Rattle.std.specs.Prelude.{◌≡◌, ◌+◌, ◌*◌, ◌/◌, ◌%◌, ◌≤◌, ◌↔◌, ◌⊎◌, ◌++◌, ◌∷◌, []};
+ghost use Rattle.std.specs.Prelude.{◌≡◌, ◌+◌, ◌*◌, ◌/◌, ◌%◌, ◌≤◌, ◌⊎◌, ◌++◌, ◌∷◌, []};
 ghost use Rattle.std.specs.Prelude.{ℕ, List, length, take, drop, Contains};
-ghost use Rattle.std.specs.Prelude.{IfSome, IfNone, IsNone, IsSomeAnd};
 ghost use Rattle.komihash.specs.Calls.{answers, answers_after, onward, bytes_of_calls};
 ghost use Rattle.komihash.specs.Calls.{onward_products, onward_kept_bytes};
 ghost use Rattle.komihash.specs.Calls.{run_products, run_kept_bytes};
-ghost use Rattle.komihash.specs.Counts.{absorb_products, answer_products, absorb_kept_bytes};
+ghost use Rattle.komihash.specs.Counts.{Costs, absorb_products, answer_products, absorb_kept_bytes};
 ghost use Rattle.komihash.specs.Generator.{next, after_steps, fill, after_fill};
 ghost use Rattle.komihash.specs.Hash.{komi};
 ghost use Rattle.komihash.specs.Hasher.{number_after};
-ghost use Rattle.komihash.specs.Padding.{ArePadded, padded_words};
-ghost use Rattle.komihash.specs.Stream.{IsState, HasAbsorbed};
-ghost use Rattle.komihash.specs.Words.{AreBytes};
+ghost use Rattle.komihash.specs.Padding.{Padded, Unpadded};
+ghost use Rattle.komihash.specs.Saved.{Stored, Restored};
+ghost use Rattle.komihash.specs.Stream.{IsState, HasAbsorbed, Started, Absorbed, Answered};
 ghost use Rattle.komihash.specs.declared.stream.Call.{Call};
 ghost use Rattle.komihash.specs.declared.stream.Call.TheVariants.{Answer};
-ghost use Rattle.promises.specs.Promises.{StartPromise, AbsorbPromise, AnswerPromise};
-ghost use Rattle.promises.specs.Promises.{StorePromise, RestorePromise};
 
 use komihash::stream::{Call, KomiStream, LONGEST_TEXT, run, run_on};
 use komihash::tally::Tally;
@@ -31,50 +28,40 @@ const _: () = prove!(size_of::<Tally>() == 0);
 pub trait Promises: KomiStream {
     /// Returns the new stream of a seed, and the two of seed 0.
     fn new_streams(seed: u64) -> (Self, Self, Self)
-        ensures seed { StartPromise Self.VERSION seed (Self.state result.0) }
-        ensures new { StartPromise Self.VERSION 0 (Self.state result.1) }
-        ensures default { StartPromise Self.VERSION 0 (Self.state result.2) };
+        ensures seed { Started Self.VERSION seed (Self.state result.0) }
+        ensures new { Started Self.VERSION 0 (Self.state result.1) }
+        ensures default { Started Self.VERSION 0 (Self.state result.2) };
 
     /// Writes bytes to the stream, and returns the hash of all bytes so far.
     fn written(&mut self, bytes: &[u8]) -> u64
-        ensures write { AbsorbPromise Self.VERSION Self.state self bytes.now }
-        ensures finish { AnswerPromise Self.VERSION (Self.state self.new) result };
+        ensures write { Absorbed Self.VERSION Self.state self bytes.now }
+        ensures finish { Answered Self.VERSION (Self.state self.new) result };
 
     /// Writes the saved text of the stream to the front of `out`.
     fn saved(&self, out: &mut [u8]) -> usize
         requires { LONGEST_TEXT ≤ length out.old }
-        ensures { StorePromise Self.VERSION (Self.state self.now) result out };
+        ensures { Stored Self.VERSION (Self.state self.now) out result };
 
     /// Returns the stream of a saved text, and accepts nothing else.
     fn resumed(bytes: &[u8]) -> Option<Self>
-        ensures { RestorePromise Self.VERSION Self.state bytes.now result };
+        ensures { Restored Self.VERSION Self.state bytes.now result };
 
     /// Returns the hash of a message twice. The second is counted, and copies no byte.
     fn hashed(bytes: &[u8], seed: u64, tally: &mut Tally) -> (u64, u64)
         ensures hash { result.0 ≡ komi Self.VERSION seed bytes.now }
         ensures counted { result.1 ≡ komi Self.VERSION seed bytes.now }
-        ensures products { tally.new.products ≡ tally.old.products
-            + (3 + 4 * (length bytes.now / 64) + length bytes.now % 64 / 16) }
-        ensures kept_bytes { tally.new.kept_bytes ≡ tally.old.kept_bytes };
+        ensures costs { Costs tally
+            (3 + 4 * (length bytes.now / 64) + length bytes.now % 64 / 16) 0 };
 
     /// Writes the padded words of a message to the front of `out`.
     fn padded(bytes: &[u8], out: &mut [u64]) -> usize
         requires { length bytes.now / 8 + 1 ≤ length out.old }
-        ensures count { result ≡ length bytes.now / 8 + 1 }
-        ensures padded { take result out.new ≡ padded_words Self.VERSION bytes.now }
-        ensures rest { drop result out.new ≡ drop result out.old };
+        ensures { Padded Self.VERSION bytes.now out result };
 
     /// Writes the message that has these padded words, and accepts no other words.
     fn unpadded(words: &[u64], out: &mut [u8]) -> Option<usize>
         requires { 8 * length words.now ≤ length out.old }
-        ensures length { IfSome result (λ n. n / 8 + 1 ≡ length words.now) }
-        ensures message { IfSome result
-            (λ n. padded_words Self.VERSION (take n out.new) ≡ words.now) }
-        ensures rest { IfSome result (λ n. drop n out.new ≡ drop n out.old) }
-        ensures same { (m : List ℕ) → AreBytes m → padded_words Self.VERSION m ≡ words.now
-            → IsSomeAnd result (λ n. take n out.new ≡ m) }
-        ensures none { IsNone result ↔ ¬ ArePadded Self.VERSION words.now }
-        ensures unchanged { IfNone result (out.new ≡ out.old) };
+        ensures { Unpadded Self.VERSION words.now out result };
 
     /// Returns the words of the generators of a seed and of two seeds. Takes a step from the words
     /// `s1` and `s2`, fills the buffer, and returns the output and the words.
@@ -212,7 +199,7 @@ pub fn started<S: KomiStream>(seed: u64) -> (S, Tally, u8)
     ensures version { result.2 ≡ S.VERSION }
     ensures versions { (S.VERSION ≡ 4) ⊎ (S.VERSION ≡ 5) }
     ensures state { IsState S.VERSION (S.state result.0) }
-    ensures start { StartPromise S.VERSION seed (S.state result.0) }
+    ensures start { Started S.VERSION seed (S.state result.0) }
     ensures products { result.1.products ≡ 1 }
     ensures kept_bytes { result.1.kept_bytes ≡ 0 }
 {
@@ -222,14 +209,12 @@ pub fn started<S: KomiStream>(seed: u64) -> (S, Tally, u8)
 
 /// Absorbs bytes, and answers. Counts the products and the copied bytes of both.
 pub fn absorbed<S: KomiStream>(stream: &mut S, bytes: &[u8], tally: &mut Tally) -> u64
-    ensures absorb { AbsorbPromise S.VERSION S.state stream bytes.now }
-    ensures answer { AnswerPromise S.VERSION (S.state stream.new) result }
-    ensures products { tally.new.products ≡ tally.old.products
-        + absorb_products (length (S.state stream.old).pending) (length bytes.now)
-        + answer_products (length (S.state stream.new).pending) }
-    ensures kept_bytes { tally.new.kept_bytes
-        ≡ tally.old.kept_bytes
-        + absorb_kept_bytes (length (S.state stream.old).pending) (length bytes.now) }
+    ensures absorb { Absorbed S.VERSION S.state stream bytes.now }
+    ensures answer { Answered S.VERSION (S.state stream.new) result }
+    ensures costs { Costs tally
+        (absorb_products (length (S.state stream.old).pending) (length bytes.now)
+        + answer_products (length (S.state stream.new).pending))
+        (absorb_kept_bytes (length (S.state stream.old).pending) (length bytes.now)) }
 {
     stream.absorb(bytes, tally);
     stream.answer(tally)
@@ -238,14 +223,14 @@ pub fn absorbed<S: KomiStream>(stream: &mut S, bytes: &[u8], tally: &mut Tally) 
 /// Writes the saved text of a stream to the front of `out`.
 pub fn stored<S: KomiStream>(stream: &S, out: &mut [u8]) -> usize
     requires { LONGEST_TEXT ≤ length out.old }
-    ensures { StorePromise S.VERSION (S.state stream.now) result out }
+    ensures { Stored S.VERSION (S.state stream.now) out result }
 {
     stream.store(out)
 }
 
 /// Returns the stream of a saved text, and accepts nothing else.
 pub fn restored<S: KomiStream>(bytes: &[u8]) -> Option<S>
-    ensures { RestorePromise S.VERSION S.state bytes.now result }
+    ensures { Restored S.VERSION S.state bytes.now result }
 {
     S::restore(bytes)
 }
@@ -263,8 +248,7 @@ pub fn run_of_calls<S: KomiStream>(
     ensures answers { take result out.new ≡ answers S.VERSION seed calls.now }
     ensures count { result ≡ length (answers S.VERSION seed calls.now) }
     ensures rest { drop result out.new ≡ drop result out.old }
-    ensures products { tally.new.products ≡ tally.old.products + run_products calls.now }
-    ensures kept_bytes { tally.new.kept_bytes ≡ tally.old.kept_bytes + run_kept_bytes calls.now }
+    ensures costs { Costs tally (run_products calls.now) (run_kept_bytes calls.now) }
     ensures digest { (pieces : List Call) → ¬ Contains pieces Answer
         → calls.now ≡ pieces ++ Answer ∷ [] → tally.new.products ≡ tally.old.products
         + (3 + 4 * (length (bytes_of_calls pieces) / 64)
@@ -287,11 +271,9 @@ pub fn run_of_further_calls<S: KomiStream>(
     ensures hashes { (seed : ℕ) (m : List ℕ) → HasAbsorbed S.VERSION seed (S.state stream.old) m
         → take result out.new ≡ answers_after (komi S.VERSION seed) m calls.now }
     ensures rest { drop result out.new ≡ drop result out.old }
-    ensures absorbed { AbsorbPromise S.VERSION S.state stream (bytes_of_calls calls.now) }
-    ensures products { tally.new.products
-        ≡ tally.old.products + onward_products (length (S.state stream.old).pending) calls.now }
-    ensures kept_bytes { tally.new.kept_bytes
-        ≡ tally.old.kept_bytes + onward_kept_bytes (length (S.state stream.old).pending) calls.now }
+    ensures absorbed { Absorbed S.VERSION S.state stream (bytes_of_calls calls.now) }
+    ensures costs { Costs tally (onward_products (length (S.state stream.old).pending) calls.now)
+        (onward_kept_bytes (length (S.state stream.old).pending) calls.now) }
 {
     run_on(stream, calls, out, tally)
 }

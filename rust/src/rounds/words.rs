@@ -1,4 +1,7 @@
-//! Whole words, which the rounds on pairs take from a message's bytes or from a stream.
+//! Whole words, which the rounds on pairs take from a message's bytes or from a stream, and the end
+//! of each hash, which takes what is left of them.
+
+use super::{Pair, close, pair_round};
 
 /// Returns the last whole word of at least eight bytes.
 #[inline(always)]
@@ -37,4 +40,45 @@ impl WholeWords for &[u8] {
         let (words, _) = self.as_chunks::<8>();
         u64::from_le_bytes(words[at])
     }
+}
+
+// Returns the pair after a round on the two words from index `at`. The remaining words hash the
+// same from it. This is stated and proved here once, for three calls.
+#[inline(always)]
+fn round_at<W: WholeWords>(pair: Pair, left: &W, at: usize) -> Pair {
+    pair_round(pair, left.word(at), left.word(at + 1))
+}
+
+// Returns the pair after a round on each two words. The word that may remain hashes the same from
+// it.
+#[inline(always)]
+fn round_each<W: WholeWords>(pair: Pair, left: &W) -> Pair {
+    if !left.holds(2) {
+        return pair;
+    }
+    let pair = round_at(pair, left, 0);
+    if !left.holds(4) {
+        return pair;
+    }
+    let pair = round_at(pair, left, 2);
+    if !left.holds(6) {
+        return pair;
+    }
+    round_at(pair, left, 4)
+}
+
+/// Returns the hash from a pair, fewer than eight whole words, and the final word. The last whole
+/// word is any word if there are none.
+#[inline(always)]
+pub(crate) fn hash_from_pair<W: WholeWords>(
+    pair: Pair,
+    left: &W,
+    last_whole_word: u64,
+    final_word: u64,
+) -> u64 {
+    let pair = round_each(pair, left);
+    // The closing of one word is that of two, the second of which is 0. So it needs no jump.
+    let (first, second) =
+        if left.is_odd() { (last_whole_word, final_word) } else { (final_word, 0) };
+    close(pair, first, second)
 }

@@ -2,9 +2,9 @@
 //! version, because no generic type can be in an interface for C.
 
 use super::saved::{self, LONGEST_TEXT};
-use crate::hash::hash_from_pair;
-use crate::padding::{padding_after, pads_with_two};
+use crate::padding::{has_two, padding_after, pads_with_two};
 use crate::rounds::pending::Pending;
+use crate::rounds::words::hash_from_pair;
 use crate::rounds::{Lanes, absorb_blocks, block_round, close, join, lanes_of, places, seed_pair};
 use crate::version::{IsVersion, Versions};
 
@@ -58,7 +58,7 @@ impl RawStream {
         let pending_len = self.pending.len();
         let blocks_end = bytes.len() - (pending_len + bytes.len()) % 64;
         // Version 5 reads no byte for it.
-        self.top_bit = V == 4 && pads_with_two::<V>(bytes[blocks_end - 1]);
+        self.top_bit = has_two::<V>() && pads_with_two::<V>(bytes[blocks_end - 1]);
         self.had_block = true;
         let mut lanes;
         let mut rest = bytes;

@@ -1,6 +1,7 @@
 //! The saved text of a stream, part by part: four bytes that describe it, the eight lanes in their
 //! order, and the pending bytes.
 
+use crate::padding::has_two;
 use crate::rounds::pending::Pending;
 use crate::rounds::{Lanes, from_order, in_order};
 use crate::utils::{read_whole_words, write_first_bytes};
@@ -45,7 +46,7 @@ pub(crate) fn write_pending(pending: &Pending, out: &mut [u8]) -> usize {
 fn is_head<const V: u8>(bytes: &[u8]) -> bool {
     bytes[0] == V
         && bytes[1] < 2
-        && bytes[2] <= (if V == 4 { bytes[1] } else { 0 })
+        && bytes[2] <= (if has_two::<V>() { bytes[1] } else { 0 })
         && bytes[3] < 64
 }
 

@@ -1,10 +1,16 @@
-//! Whole words, which the rounds on pairs take from a message's bytes or from a stream.
+//! Whole words, which the rounds on pairs take from a message's bytes or from a stream, and the end
+//! of each hash, which takes what is left of them.
 
 #![tactic(auto, using(crate::proofs::WholeWords::read_words))]
 
-ghost use Rattle.std.specs.Prelude.{◌≡◌, ℕ, ◌-◌, ◌/◌, ◌%◌, ◌<◌, ◌≤◌, ◌↔◌, IsTrue};
-ghost use Rattle.std.specs.Prelude.{List, length, slice_index};
-ghost use Rattle.komihash.specs.Internals.{whole_words};
+ghost use Rattle.std.specs.Prelude.{◌≡◌, ℕ, ◌+◌, ◌-◌, ◌*◌, ◌/◌, ◌%◌, ◌<◌, ◌≤◌, ◌↔◌, IsTrue};
+ghost use Rattle.std.specs.Prelude.{List, [], ◌∷◌, ◌++◌, length, drop, slice_index};
+ghost use Rattle.komihash.specs.Counts.{Costs};
+ghost use Rattle.komihash.specs.Hash.{hash_from_pair};
+ghost use Rattle.komihash.specs.Internals.{pair_of, whole_words};
+
+use super::{Pair, close, pair_round};
+use crate::tally::Tally;
 
 /// Returns the last whole word of at least eight bytes.
 #[inline(always)]
@@ -56,4 +62,70 @@ impl WholeWords for &[u8] {
         let (words, _) = self.as_chunks::<8>();
         u64::from_le_bytes(words[at])
     }
+}
+
+// Returns the pair after a round on the two words from index `at`. The remaining words hash the
+// same from it. This is stated and proved here once, for three calls.
+#[inline(always)]
+#[tactic(auto, using(crate::proofs::HashPaths::hash_from_pair_two))]
+fn round_at<W: WholeWords>(pair: Pair, left: &W, at: usize, tally: &mut Tally) -> Pair
+    requires within { at + 2 ≤ length (W.words left.now) }
+    requires place { at < 7 }
+    ensures hash { (final_word : ℕ)
+        → hash_from_pair (pair_of result) (drop (at + 2) (W.words left.now) ++ final_word ∷ [])
+        ≡ hash_from_pair (pair_of pair) (drop at (W.words left.now) ++ final_word ∷ []) }
+    ensures costs { Costs tally 1 0 }
+{
+    pair_round(pair, left.word(at), left.word(at + 1), tally)
+}
+
+// Returns the pair after a round on each two words. The word that may remain hashes the same from
+// it.
+#[inline(always)]
+fn round_each<W: WholeWords>(pair: Pair, left: &W, tally: &mut Tally) -> Pair
+    requires { length (W.words left.now) < 8 }
+    ensures hash { (final_word : ℕ) → hash_from_pair (pair_of result)
+        (drop (length (W.words left.now) / 2 * 2) (W.words left.now) ++ final_word ∷ [])
+        ≡ hash_from_pair (pair_of pair) (W.words left.now ++ final_word ∷ []) }
+    ensures costs { Costs tally (length (W.words left.now) / 2) 0 }
+{
+    if !left.holds(2) {
+        return pair;
+    }
+    let pair = round_at(pair, left, 0, tally);
+    if !left.holds(4) {
+        return pair;
+    }
+    let pair = round_at(pair, left, 2, tally);
+    if !left.holds(6) {
+        return pair;
+    }
+    round_at(pair, left, 4, tally)
+}
+
+/// Returns the hash from a pair, fewer than eight whole words, and the final word. The last whole
+/// word is any word if there are none.
+#[inline(always)]
+#[tactic(auto, using(std::proofs::lemmas::List::drop_all, std::proofs::lemmas::List::drop_more))]
+pub(crate) fn hash_from_pair<W: WholeWords>(
+    pair: Pair,
+    left: &W,
+    last_whole_word: u64,
+    final_word: u64,
+    tally: &mut Tally,
+) -> u64
+    requires below_8 { length (W.words left.now) < 8 }
+    requires word { 0 < length (W.words left.now)
+        → last_whole_word ≡ slice_index (W.words left.now) (length (W.words left.now) - 1) }
+    ensures hash { result ≡ hash_from_pair (pair_of pair) (W.words left.now ++ final_word ∷ []) }
+    ensures costs { Costs tally (2 + length (W.words left.now) / 2) 0 }
+{
+    let pair = round_each(pair, left, tally);
+    // The closing of one word is that of two, the second of which is 0. So it needs no jump.
+    let (first, second) = if left.is_odd() {
+        (last_whole_word, final_word)
+    } else {
+        (final_word, 0)
+    };
+    close(pair, first, second, tally)
 }

@@ -8,6 +8,7 @@ ghost use Rattle.komihash.specs.Rounds.{in_order};
 ghost use Rattle.komihash.specs.Internals.{IsHead, whole_words};
 ghost use Rattle.komihash.specs.Words.{all_bytes};
 
+use crate::padding::has_two;
 use crate::rounds::pending::Pending;
 use crate::rounds::{Lanes, from_order, in_order};
 use crate::tally::Tally;
@@ -74,7 +75,7 @@ fn is_head<const V: u8>(bytes: &[u8]) -> bool
 {
     bytes[0] == V
         && bytes[1] < 2
-        && bytes[2] <= (if V == 4 { bytes[1] } else { 0 })
+        && bytes[2] <= (if has_two::<V>() { bytes[1] } else { 0 })
         && bytes[3] < 64
 }
 

@@ -43,35 +43,39 @@ fn assert_unpads(rt: &impl Abort, words: &[u64], messages: [Option<&[u8]>; 2]) {
     }
 }
 
+const LOW_END: &[u8] = b"\xff\xff\xff\xff\xff\xff\xff\x7f";
+
+const HIGH_END: &[u8] = b"\0\0\0\0\0\0\x80";
+
+const TWO: &[u8] = b"\x02\0\0\0\0\0\0\0";
+
 // Each row has words, and the message that has them as its padded words in version 4 and in 5.
+const ROWS: [(&[u64], Option<&[u8]>, Option<&[u8]>); 20] = [
+    (&[0], Some(&[]), Some(&[])),
+    (&[0x0180], None, Some(&[0x80])),
+    (&[0x0280], Some(&[0x80]), None),
+    (&[0x0201], None, None),
+    (&[1], None, None),
+    (&[2], None, None),
+    (&[], None, None),
+    (&[0, 0], None, None),
+    (&[u64::MAX, 2], Some(&[0xff; 8]), None),
+    (&[u64::MAX, 1], None, Some(&[0xff; 8])),
+    (&[u64::MAX / 2, 1], Some(LOW_END), Some(LOW_END)),
+    (&[u64::MAX / 2, 2], None, None),
+    (&[0x0100], Some(&[0]), Some(&[0])),
+    (&[0x0200], None, None),
+    (&[0x0100_0000_0000_0000], Some(&[0; 7]), Some(&[0; 7])),
+    (&[0x0280_0000_0000_0000], Some(HIGH_END), None),
+    (&[0x0180_0000_0000_0000], None, Some(HIGH_END)),
+    (&[2, 1], Some(TWO), Some(TWO)),
+    (&[u64::MAX, 2, 0], None, None),
+    (&[u64::MAX], None, None),
+];
+
 #[test]
 fn unpads_known_words(rt: HostRuntime) {
-    let low: &[u8] = b"\xff\xff\xff\xff\xff\xff\xff\x7f";
-    let high: &[u8] = b"\0\0\0\0\0\0\x80";
-    let two: &[u8] = b"\x02\0\0\0\0\0\0\0";
-    let rows: [(&[u64], Option<&[u8]>, Option<&[u8]>); 20] = [
-        (&[0], Some(&[]), Some(&[])),
-        (&[0x0180], None, Some(&[0x80])),
-        (&[0x0280], Some(&[0x80]), None),
-        (&[0x0201], None, None),
-        (&[1], None, None),
-        (&[2], None, None),
-        (&[], None, None),
-        (&[0, 0], None, None),
-        (&[u64::MAX, 2], Some(&[0xff; 8]), None),
-        (&[u64::MAX, 1], None, Some(&[0xff; 8])),
-        (&[u64::MAX / 2, 1], Some(low), Some(low)),
-        (&[u64::MAX / 2, 2], None, None),
-        (&[0x0100], Some(&[0]), Some(&[0])),
-        (&[0x0200], None, None),
-        (&[0x0100_0000_0000_0000], Some(&[0; 7]), Some(&[0; 7])),
-        (&[0x0280_0000_0000_0000], Some(high), None),
-        (&[0x0180_0000_0000_0000], None, Some(high)),
-        (&[2, 1], Some(two), Some(two)),
-        (&[u64::MAX, 2, 0], None, None),
-        (&[u64::MAX], None, None),
-    ];
-    for (words, four, five) in rows {
+    for (words, four, five) in ROWS {
         assert_unpads(&rt, words, [four, five]);
     }
 }

@@ -1,7 +1,6 @@
 -- Only the last byte that is not 0 can be the padding byte (`one_place`). If it has the value of
 -- one, the words are padded words (`unpadded`).
-use Rattle.std.proofs.Common.{arith}
-use Rattle.std.proofs.lemmas.Bool.{iff_false}
+use Rattle.std.proofs.Common.{arith, rules}
 use Rattle.komihash.proofs.Unpadding.{padded_zero, unpadded, one_place}
 use Rattle.komihash.proofs.padding.message_length.Goals as goal
 
@@ -24,8 +23,5 @@ returns-then-is_padding_byte-clause-message g c =
     (c.is_padding_byte.ensures.0 c.if-is_padding_byte.true)
 
 pub returns-else-is_padding_byte-clause-none : goal.returns-else-is_padding_byte-clause-none
-returns-else-is_padding_byte-clause-none g c p =
-    let place = c.highest_place-place in
-    let found = one_place g.row.V _ c.type_inv.words place.result place.ensures.place
-    (omega arith) place.ensures.some place.ensures.last p in
-    iff_false c.is_padding_byte.ensures c.if-is_padding_byte.false found.1
+returns-else-is_padding_byte-clause-none g c =
+    search (rules, arith, one_place)

@@ -1,7 +1,7 @@
 -- A turn makes the first of the calls that are left (`call_first`). After the loop none is left, so
 -- the answers so far are all answers, and those of a stream that absorbed a message are hashes.
-use Rattle.std.proofs.Common.{◌≡◌, sym, ◌+◌, get_or, drop, ap, arith, ◌∙◌, ◌∷◌}
-use Rattle.std.proofs.lemmas.List.{drop_more, drop_all, append-nil}
+use Rattle.std.proofs.Common.{◌≡◌, sym, ◌+◌, get_or, drop, ap, arith, rules, ◌∙◌, ◌∷◌}
+use Rattle.std.proofs.lemmas.List.{drop_more, append-nil}
 use Rattle.std.proofs.lemmas.Grind.{common_steps}
 use Rattle.komihash.specs.Stream.{absorb, HasAbsorbed}
 use Rattle.komihash.specs.declared.stream.Call.{Call}
@@ -37,14 +37,10 @@ loop-call-preserved g c =
     ]
 
 pub returns-clause-hashes : goal.returns-clause-hashes
-returns-clause-hashes g c seed m before =
-    let none = drop_all c.loop-call.call-index c.args.calls.now c.loop-call-test.false in
-    let hashes = onward-message _ seed _ m c.args.calls.now before in
-    grind (arith, common_steps)
+returns-clause-hashes g c =
+    search (rules, arith, onward-message, common_steps)
 
 pub returns-clause-absorbed : goal.returns-clause-absorbed
 unfolding HasAbsorbed
 returns-clause-absorbed g c =
-    let none = drop_all c.loop-call.call-index c.args.calls.now c.loop-call-test.false in
-    let state = sym (absorb-nothing _ _) ∙ rw none at c.loop-call.invariant.state in
-    grind (arith, common_steps, more_absorbed)
+    search (rules, arith, absorb-nothing, common_steps, more_absorbed)

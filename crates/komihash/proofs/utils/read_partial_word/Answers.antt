@@ -1,15 +1,12 @@
 -- Four bytes or more are read in two pieces, and fewer one by one.
-use Rattle.std.proofs.Common.{◌≡◌, ◌*◌, ◌^◌, length, get_or, arith, refl}
+use Rattle.std.proofs.Common.{◌≡◌, ◌*◌, ◌^◌, length, get_or, arith, rules, refl}
 use Rattle.std.proofs.lemmas.List.{get_or_past}
 use Rattle.komihash.proofs.WordOf.{AreBytes-typed, word_of-two_ends, word_of-few, word_of-push}
 use Rattle.komihash.proofs.utils.read_partial_word.Goals as goal
 
 pub returns-then-has_half_word : goal.returns-then-has_half_word
 returns-then-has_half_word c =
-    let bytes = c.args.bytes.now in
-    rw (c.half_word_at.ensures, c.half_word_at-then-has_half_word.ensures)
-    (word_of-two_ends bytes c.args.end _ (AreBytes-typed bytes c.type_inv.bytes)
-    (omega arith) (omega arith) (omega arith) (omega arith))
+    search (rules, arith, word_of-two_ends, AreBytes-typed)
 
 pub returns-after-has_third : goal.returns-after-has_third
 returns-after-has_third c =

@@ -1,5 +1,5 @@
 -- Each turn of the loop stores the next whole word.
-use Rattle.std.proofs.Common.{◌≡◌, ◌/◌, ◌∙◌, length, arith, sym, take_all}
+use Rattle.std.proofs.Common.{◌/◌, ◌∙◌, length, arith, rules, sym, take_all}
 use Rattle.std.proofs.lemmas.List.{length-set, take-append-le}
 use Rattle.komihash.proofs.Lists.{Covers-next}
 use Rattle.komihash.proofs.WholeWords.{get_or-stored_words, length-whole_words, word_of-chunk}
@@ -18,7 +18,4 @@ whole-preserved c =
 
 pub returns-clause-words : goal.returns-clause-words
 returns-clause-words c =
-    let all : c.whole.i ≡ length c.args.bytes.now / 8 = omega arith in
-    take-append-le _ c.whole.front _ (omega arith)
-    ∙ (rw all at c.whole.invariant.1.front)
-    ∙ take_all _ _ (search (arith, length-whole_words))
+    search (rules, arith, take-append-le, take_all, length-whole_words)
