@@ -89,7 +89,8 @@ test_verify() {
     [ ! -d "$out/aarch64-linux-gnu" ] || libraries+=("armv8-a:$out/aarch64-linux-gnu/$name")
     run_case 'the definition gives the values of values.tsv' "$python" -B $tests/values.py
     run_case 'edits of the assembly are refused' bash $tests/edits.sh "$python" x86_64
-    run_case 'only right forms of code are followed' bash $tests/forms.sh "$python"
+    run_case 'only code that the check can follow is accepted' \
+        bash $tests/accepted_code.sh "$python"
     run_case 'edits of files are refused' "$python" -B $tests/attacks.py "${libraries[@]}"
     if grep -qw avx2 /proc/cpuinfo; then
         run_case 'random instructions do in the model what they do on the processor' \

@@ -44,10 +44,6 @@ def means(table, *names):
     return enter
 
 
-class DependsOnAlignment(Exception):
-    """What lies where in the stack depends on the low bits of the stack pointer."""
-
-
 class Seen:
     """What the paths of one case met: instructions, also in the order in which they ran, bytes of
     stack, and symbols for contents on which a jump or an address depends."""
@@ -85,8 +81,6 @@ class Cpu:
         self.sp = sym('sp')
         self.memory.add(Array('stack', self.sp, -STACK_BYTES, self.ABOVE, True))
         self.facts.add(self.sp & 15 == self.ABOVE, LOADED & 4095 == 0)
-        if library.alignment is not None:
-            self.facts.add(self.sp & 63 == library.alignment)
         self.red_zone = self.RED_ZONE if library.red_zone else 0
         self.r[self.SP] = self.sp
         # The addresses to which calls must return, and a pointer to the last: no array has them.
@@ -176,8 +170,6 @@ class Cpu:
 
     def with_values(self, term):
         """A copy for each value that a term can have here."""
-        if symbols(term) == {'sp'} and self.library.alignment is None:
-            raise DependsOnAlignment
         self.note_time(term)
         self.parted = self.pc
         values = self.facts.values(term, self.path, VALUES)
