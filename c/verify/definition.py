@@ -39,14 +39,6 @@ class Products:
         raise Refused('a product that the definition does not have, or has made already')
 
 
-class Numbers(Products):
-    """Products of numbers, which are multiplied."""
-
-    def new(self, x, y):
-        product = simple(x).as_long() * simple(y).as_long()
-        return bv(product & 2**64 - 1), bv(product >> 64)
-
-
 def mix(products, x, y, e):
     low, high = products.new(x, y)
     e = simple(e + high)

@@ -6,10 +6,11 @@ import struct
 import subprocess
 from calls import Library
 from cases import NAMES, PROCESSORS
-from definition import VERSIONS, Numbers, padded_words
+from definition import VERSIONS, padded_words
 from image import Image
 from layout import Ours
 from terms import Refused, Unknown, bv, const
+from vectors import Numbers
 
 # Where memory is in a call, its bytes, the words of a stream, and what the program replies.
 BASE, SIZE, WORDS = 2**32, 2048, Ours.SIZE // 8
