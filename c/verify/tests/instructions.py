@@ -1,6 +1,6 @@
 """Compares single instructions with the processor: random encodings that opcodes.py allows are run
 in the model and really, on random registers, flags and memory, and must do the same. Jumps, and
-what moves the stack pointer, are left to the calls of processor.py.
+what moves the stack pointer, are left to the libraries that are verified, and run by calls.c.
 
 instructions.py LEVEL COMPILER [EMULATOR], where the level is x86-64-v3 or armv8-a."""
 import collections
@@ -20,16 +20,32 @@ from cases import PROCESSORS
 from layout import Ours
 from memory import MustSplit
 from opcodes import KNOWN_ARM64, KNOWN_X86, MAP_OF_VEX, PREFIX_OF_VEX
-from processor import BASE, SIZE, on_numbers, replies_to, request
 from terms import Refused, Unknown, bv, const, simple
 
 # How many encodings are tried, and how many of each name are compared.
 TRIES, OF_EACH_NAME = 6000, 40
-# The stack pointer is POINTER. Memory before the index SAVED is what instructions access. From
-# there on it has the registers, words first, the flags, and the stack pointer of the caller.
-POINTER, SAVED = BASE + 256, 512
+# Memory is at BASE, and the stack pointer at POINTER. Memory before the index SAVED is what
+# instructions access. From there on it has the registers, words first, the flags, and the stack
+# pointer of the caller.
+BASE, SIZE, SAVED = 2**32, 2048, 512
+POINTER = BASE + 256
 VECTORS_AT, FLAGS_AT, STACK_AT = SAVED + 256, SAVED + 1280, SAVED + 1288
-PROGRAM = os.path.join(os.path.dirname(os.path.abspath(__file__)), 'processor.c')
+# Runs each function on the memory that it reads for it, and writes what is left.
+PROGRAM = f'''
+#include <stdio.h>
+#include <sys/mman.h>
+
+extern void (*const functions[])(void *);
+
+int main(void) {{
+    void *memory = mmap((void *){BASE}, {SIZE}, PROT_READ | PROT_WRITE,
+                        MAP_PRIVATE | MAP_ANONYMOUS | MAP_FIXED, -1, 0);
+    for (int k = 0; functions[k] && fread(memory, {SIZE}, 1, stdin); k++) {{
+        functions[k]((void *){POINTER});
+        fwrite(memory, {SIZE}, 1, stdout);
+    }}
+}}
+'''
 X86, ARM = PROCESSORS.values()
 WORDS_OF = {X86: [n for n, (whole, *_) in x86_64.NAMES.items() if n == whole and n[0] == 'r' and
                   n != 'rsp'], ARM: [f'x{k}' for k in range(31)]}
@@ -99,20 +115,30 @@ def flags_in(kind, memory):
     return {'z': zero, 's': sign, 'c': carry == (kind is X86), 'l': sign != overflow}
 
 
-def with_memory(kind):
-    """A processor that reads nothing but the memory before SAVED."""
-    class WithMemory(on_numbers(kind)):
-        def load(self, address, length):
+def on_numbers(kind):
+    """A processor that multiplies, and has nothing but the memory before SAVED."""
+    class OnNumbers(kind):
+        def multiply(self, a, b, halves):
+            product = const(a) * const(b)
+            return [bv(product >> 64 * half & 2**64 - 1) for half in halves]
+
+        def offset(self, address, length):
             at = const(address)
             if at is None or not BASE <= at <= BASE + SAVED - length:
                 raise Refused('another address')
-            return super().load(address, length)
-    return WithMemory
+            return at
+
+        def load(self, address, length):
+            return self.memory.content('arrays', self.offset(address, length), length)
+
+        def store(self, address, value):
+            self.memory.put('arrays', self.offset(address, value.size() // 8), value)
+    return OnNumbers
 
 
 def in_model(kind, i, memory):
     """The processor after an instruction."""
-    cpu, (words, vectors) = with_memory(kind)(Library(None, Ours, False), None), places(kind)
+    cpu, (words, vectors) = on_numbers(kind)(Library(None, Ours, False), None), places(kind)
     for k in range(SAVED if '[' in i.text else 0):
         cpu.memory.put('arrays', BASE + k, bv(memory[k], 8))
     for name, at in words + vectors:
@@ -142,9 +168,8 @@ def chosen(r, kind, level):
             cpu = in_model(kind, i, memory)
         except (KeyError, IndexError, MustSplit, Refused, Unknown, z3.Z3Exception):
             continue
-        if all(0 <= k - BASE < SAVED for k in cpu.memory.written('arrays')):
-            count[i.mnemonic] += 1
-            yield i, memory, cpu
+        count[i.mnemonic] += 1
+        yield i, memory, cpu
     print(f'{len(count)} names, and never', *sorted(set(kind.TABLE) - set(count)))
 
 
@@ -170,8 +195,8 @@ def function(kind, number, code):
         save = ['str' + one.removeprefix('ldr') for one in load]
         end = f'mrs x1, nzcv; str x1, [sp, {flags}]; ldr x1, [sp, {stack}]; mov sp, x1'
     before, after = zip(*keep)
-    return '\n'.join([f'.globl i{number}', f'i{number}:', *before, start, *load, code, *save, end,
-                      *reversed(after), 'ret', ''])
+    lines = [f'i{number}:', *before, start, *load, code, *save, end, *reversed(after), 'ret']
+    return '\n'.join(lines) + '\n'
 
 
 def differences(kind, cpu, memory):
@@ -192,16 +217,20 @@ def differences(kind, cpu, memory):
 
 def replies_of(kind, found, compiler, emulator):
     """What the processor leaves of each memory."""
+    memories = b''.join(memory for _, memory, _ in found)
     with tempfile.TemporaryDirectory() as folder:
-        source, library, program = (f'{folder}/instructions{end}' for end in ('.s', '.so', ''))
-        with open(source, 'w') as file:
+        code, program = (os.path.join(folder, name) for name in ('code.s', 'program'))
+        with open(code, 'w') as file:
             file.write('.section .note.GNU-stack, "", %progbits\n.text\n')
             file.writelines(function(kind, k, i.bytes) for k, (i, _, _) in enumerate(found))
-        subprocess.run([compiler, '-shared', '-nostdlib', '-o', library, source], check=True)
-        subprocess.run([compiler, '-o', program, PROGRAM, '-ldl'], check=True)
-        requests = [request(f'i{k}', 1, (POINTER, 0, 0, 0), memory)
-                    for k, (_, memory, _) in enumerate(found)]
-        return [memory for _, memory in replies_to(requests, [*emulator, program, library])[0]]
+            file.write('.section .data.rel.ro\n.globl functions\nfunctions:\n')
+            file.writelines(f'.quad i{k}\n' for k in range(len(found)))
+            file.write('.quad 0\n')
+        subprocess.run([compiler, '-o', program, code, '-x', 'c', '-'], input=PROGRAM.encode(),
+                       check=True)
+        done = subprocess.run(['timeout', '60', *emulator, program], input=memories,
+                              stdout=subprocess.PIPE, check=False).stdout
+    return [done[k:k + SIZE] for k in range(0, len(done) - SIZE + 1, SIZE)]
 
 
 def main(level, compiler, *emulator):
