@@ -24,11 +24,9 @@ def unknown(i):
     return Unknown(f'{i.address:#x}: no meaning is known of: {i.mnemonic} {i.text}')
 
 
-def compared(a, b, borrow=z3.BoolVal(False)):
-    """The flags of a - b, or if there is a borrow, of 1 less."""
-    result, same = a - b - number_of(borrow, a.size()), z3.And(borrow, a == b)
-    return {'z': result == 0, 's': result < 0, 'c': z3.Or(z3.ULT(a, b), same),
-            'l': z3.Or(a < b, same)}
+def compared(a, b):
+    """The flags of a - b."""
+    return {'z': a == b, 's': a - b < 0, 'c': z3.ULT(a, b), 'l': a < b}
 
 
 def number_of(cond, width):
