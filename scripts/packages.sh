@@ -73,7 +73,7 @@ needs cargo-clippy 'the crate for Rust, by clippy (optional)' \
 
 # Of the library, the build that every processor can run is verified, and the check is tested by
 # flipping bits. Of the crate for Rust, these are the calls of one version for each processor.
-sample() { printf "FUNCTION=komihash_v$1_write komihash_v$1_finish"; }
+sample() { echo "FUNCTION=komihash_v$1 komihash_v$1_write komihash_v$1_finish"; }
 part_with "$python" in_package verify LEVEL=x86-64 MUTANTS=30
 part_with "rustc $python" in_package verify FROM=rust EVERY=40 "$(sample 5)" LEVEL=x86-64-v2
 part_with "$arm-gcc $debian $python" from_rust aarch64-unknown-linux-gnu \
@@ -82,9 +82,9 @@ part_with "$arm-gcc $debian $python" from_rust aarch64-unknown-linux-gnu \
 tests=c/verify/tests out=$(echo "$scratch"/komihash_rattle-*/out) so=libkomihash_rattle.so.1
 libraries=("x86-64:$out/$so" "x86-64-v3:$out/glibc-hwcaps/x86-64-v3/$so")
 [ ! -d "$out/$arm" ] || libraries+=("armv8-a:$out/$arm/$so")
-needs "$python" 'the definition gives the values of values.tsv' "$python" -B $tests/values.py
 needs "$python" 'edits of the assembly are refused' bash $tests/edits.sh "$python" x86_64
-needs "$python" 'only right forms of code are followed' bash $tests/forms.sh "$python"
+needs "$python" 'only code that the check can follow is accepted' \
+    bash $tests/accepted_code.sh "$python"
 needs "$python" 'edits of files are refused' "$python" -B $tests/attacks.py "${libraries[@]}"
 if grep -qw avx2 /proc/cpuinfo; then
     needs "$python" 'random instructions do in the model what they do on the processor' \

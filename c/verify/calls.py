@@ -16,11 +16,11 @@ def apart(base, size, other, length):
         z3.UGE(base - other, length), z3.UGE(other - base, size)))
 
 
-class Library(collections.namedtuple('Library', 'image layout red_zone alignment before',
-                                     defaults=(None, lambda call: None))):
-    """The image of a library, and how its functions are called: how streams lie in memory, whether
-    functions may use the red zone, and the stack pointer modulo 64, if a case is about one.
-    `before` is told of each call before its first instruction."""
+class Library(collections.namedtuple('Library', 'image layout red_zone before',
+                                     defaults=(lambda call: None,))):
+    """The image of a library, and how its functions are called: how streams lie in memory, and
+    whether functions may use the red zone. `before` is told of each call before its first
+    instruction."""
 
 
 class Call:

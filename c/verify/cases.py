@@ -11,7 +11,6 @@ from calls import Library
 from definition import VERSIONS
 from image import Image
 from layout import Ours
-from machine import DependsOnAlignment, Seen
 from terms import Refused, Unknown
 from x86_64 import X86
 
@@ -71,16 +70,7 @@ class Case(collections.namedtuple('Case', 'name check args')):
         return int(self.name[len('komihash_v')])
 
     def run(self, library):
-        """What was seen. If the code aligns its stack, each stack pointer modulo 64 is a case."""
-        try:
-            return self.run_once(library)
-        except DependsOnAlignment:
-            seen = Seen()
-            for alignment in range(library.image.processor.ABOVE, 64, 16):
-                seen.include(self.run_once(library._replace(alignment=alignment)))
-            return seen
-
-    def run_once(self, library):
+        """Checks the case, and returns what was seen."""
         done = self.check(library, self.version(), *self.args)
         if self.has_loop():
             done.prove()

@@ -137,7 +137,6 @@ class Elf:
         """The values by their tags. The loader adds its address to some of them, so they are in
         memory that can be written, and the tables that they name are not."""
         place, = self.of_type(DYNAMIC)
-        need(place.flags & WRITE, 'the dynamic table can not be written')
         table, data = {}, self.content[place.offset:place.offset + (place.size & -ENTRY.size)]
         for tag, value in ENTRY.iter_unpack(data):
             if not tag:

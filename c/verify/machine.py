@@ -24,11 +24,9 @@ def unknown(i):
     return Unknown(f'{i.address:#x}: no meaning is known of: {i.mnemonic} {i.text}')
 
 
-def compared(a, b, borrow=z3.BoolVal(False)):
-    """The flags of a - b, or if there is a borrow, of 1 less."""
-    result, same = a - b - number_of(borrow, a.size()), z3.And(borrow, a == b)
-    return {'z': result == 0, 's': result < 0, 'c': z3.Or(z3.ULT(a, b), same),
-            'l': z3.Or(a < b, same)}
+def compared(a, b):
+    """The flags of a - b."""
+    return {'z': a == b, 's': a - b < 0, 'c': z3.ULT(a, b), 'l': a < b}
 
 
 def number_of(cond, width):
@@ -42,10 +40,6 @@ def means(table, *names):
         table.update(dict.fromkeys(names, do))
         return do
     return enter
-
-
-class DependsOnAlignment(Exception):
-    """What lies where in the stack depends on the low bits of the stack pointer."""
 
 
 class Seen:
@@ -85,8 +79,6 @@ class Cpu:
         self.sp = sym('sp')
         self.memory.add(Array('stack', self.sp, -STACK_BYTES, self.ABOVE, True))
         self.facts.add(self.sp & 15 == self.ABOVE, LOADED & 4095 == 0)
-        if library.alignment is not None:
-            self.facts.add(self.sp & 63 == library.alignment)
         self.red_zone = self.RED_ZONE if library.red_zone else 0
         self.r[self.SP] = self.sp
         # The addresses to which calls must return, and a pointer to the last: no array has them.
@@ -176,8 +168,6 @@ class Cpu:
 
     def with_values(self, term):
         """A copy for each value that a term can have here."""
-        if symbols(term) == {'sp'} and self.library.alignment is None:
-            raise DependsOnAlignment
         self.note_time(term)
         self.parted = self.pc
         values = self.facts.values(term, self.path, VALUES)

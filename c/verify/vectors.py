@@ -1,27 +1,99 @@
-"""The definition against hashes of the Rust crate and of the C original, and against itself."""
+"""The definition against values of the Rust crate and of the C original, and against itself."""
 import os
 import z3
 from calls import named, some_state
-from definition import VERSIONS, Numbers, Products, hash_from_lanes, komi, padded_words, start
-from terms import Unknown, bv, const, secret
+from definition import (VERSIONS, Products, State, hash_from_lanes, is_text, komi, next_pair,
+                        padded_words, start, words_of)
+from terms import Unknown, bv, bytes_of, const, secret, simple
 from workers import results
 
+# The files of values, which explain their rows, and how many they have.
+FOLDER = os.path.join(os.path.dirname(os.path.abspath(__file__)), '..')
+ROWS = {'vectors.tsv': 95, 'values.tsv': 56}
 
-HASHES = 95
+
+class Numbers(Products):
+    """Products of numbers, which are multiplied."""
+
+    def new(self, x, y):
+        product = const(simple(x)) * const(simple(y))
+        return bv(product & 2**64 - 1), bv(product >> 64)
 
 
-def check_hashes():
-    """Computes the hashes of vectors.tsv."""
-    path = os.path.join(os.path.dirname(os.path.abspath(__file__)), '..', 'vectors.tsv')
-    with open(path) as file:
+NUMBERS = Numbers()
+
+
+def number(digits):
+    return bv(int(digits, 16))
+
+
+def content(digits):
+    return [bv(byte, 8) for byte in bytes.fromhex(digits)]
+
+
+def hexadecimal(terms):
+    return bytes(map(const, terms)).hex()
+
+
+def komihash(version, seed, *messages):
+    """The hash, which is the seed for a further message."""
+    for message in messages:
+        seed = f'{const(komi(NUMBERS, version, number(seed), content(message))):016x}'
+    return seed
+
+
+def save(version, seed, message):
+    state = start(NUMBERS, number(seed)).absorb(NUMBERS, version, content(message))
+    return hexadecimal(bytes_of(state.text(version)))
+
+
+def resume(version, text):
+    text = content(text)
+    if not z3.is_true(simple(is_text(version, text))):
+        return 'none'
+    state = State(words_of(text[4:68]), text[68:], *text[1:3])
+    return f'{const(state.answer(NUMBERS, version)):016x}'
+
+
+def fills(version, x, y, *lengths):
+    pair, written = (number(x), number(y)), []
+    for end in (sum(map(int, lengths[:k + 1])) for k in range(len(lengths))):
+        while len(written) < end:
+            pair = next_pair(NUMBERS, version, *pair)
+            written += bytes_of(pair[0])
+        del written[end:]
+    return hexadecimal(written)
+
+
+def unpad(version, *words):
+    words = [number(word) for word in words]
+    padded = [byte for word in words for byte in bytes_of(word)]
+    for length in range(max(len(padded) - 8, 0), len(padded)):
+        if padded_words(version, padded[:length]) == words:
+            return hexadecimal(padded[:length])
+    return 'none'
+
+
+CALLS = {
+    'komihash': komihash, 'hasher': komihash, 'save': save, 'resume': resume, 'unpad': unpad,
+    # Four steps of a generator are 32 bytes.
+    'new': fills, 'init': lambda version, seed, *lengths: fills(
+        version, seed, seed, 32, *lengths)[64:],
+    'init_with_extra_seed': lambda version, *given: fills(version, *given[:2], 32, *given[2:])[64:]}
+
+
+def check_values(name, count):
+    """Computes the values of a file."""
+    with open(os.path.join(FOLDER, name)) as file:
         rows = [line.rstrip('\n').split('\t') for line in file if line[0] != '#']
-    for version, seed, message, wanted in rows:
-        content = [bv(byte, 8) for byte in bytes.fromhex(message)]
-        found = const(komi(Numbers(), int(version), bv(int(seed, 16)), content))
-        if found != int(wanted, 16):
-            raise Unknown(f'the definition gives {found:x} and not {wanted} for {message}')
-    if len(rows) != HASHES:
-        raise Unknown(f'vectors.tsv has {len(rows)} hashes, and not {HASHES}')
+    if len(rows) != count:
+        raise Unknown(f'{name} has {len(rows)} values, and not {count}')
+    for row in rows:
+        call, version, *given, wanted = row if row[0] in CALLS else ['komihash', *row]
+        found = CALLS[call](int(version), *given)
+        if found != wanted:
+            raise Unknown(f'the definition gives {found} and not {wanted} for {call} {given}')
+    print(f'the definition gives the {count} values of {name}')
 
 
 def check_streams(length):
@@ -48,7 +120,7 @@ def check_streams(length):
 
 
 def check_definition(jobs):
-    check_hashes()
-    print(f'the definition gives the {HASHES} hashes of vectors.tsv')
+    for name, count in ROWS.items():
+        check_values(name, count)
     list(results(jobs, check_streams, range(128)))
     print('in the definition, streams answer the hash of any message, however it is cut')

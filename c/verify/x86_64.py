@@ -139,13 +139,12 @@ def add(c, i):
     c.set_flags(result, c=z3.If(carry, z3.ULE(result, a), z3.ULT(result, a)))
 
 
-@means(TABLE, 'sub', 'sbb', 'cmp')
+@means(TABLE, 'sub', 'neg', 'cmp')
 def subtract(c, i):
-    a, b = c.both(i)
-    borrow = c.flag('c') if i.mnemonic == 'sbb' else z3.BoolVal(False)
+    a, b = (bv(0, 8 * i.ops[0].size), c.get(i, 0)) if i.mnemonic == 'neg' else c.both(i)
     if i.mnemonic != 'cmp':
-        c.put(i, 0, a - b - number_of(borrow, a.size()))
-    c.flags = compared(a, b, borrow)
+        c.put(i, 0, a - b)
+    c.flags = compared(a, b)
 
 
 @means(TABLE, 'inc', 'dec')
@@ -153,13 +152,6 @@ def step_by_one(c, i):
     result = simple(c.get(i, 0) + (1 if i.mnemonic == 'inc' else -1))
     c.put(i, 0, result)
     c.set_flags(result, **{k: f for k, f in c.flags.items() if k == 'c'})
-
-
-@means(TABLE, 'neg')
-def negate(c, i):
-    a = c.get(i, 0)
-    c.put(i, 0, -a)
-    c.set_flags(simple(-a), c=a != 0)
 
 
 def count(c, i, k, width):

@@ -27,9 +27,9 @@ room+=' || s/^(?=\t[a-z]+\tx)/\tcmp\tx3, #8\n\tb.lo\t9f\n\tcbz\tx1, 9f\n\tadd\tx
 room+='\tcmp\tx0, x9\n\tb.ne\t9f\n\tmov\tx0, #77\n\tret\n9:\n/'
 # Moves the stack by a number that two ways have, and adds a carry that is 0 on both.
 carry='s/^(?=\t[a-z]+q\t)/\tcmpq\t\$4096, %rsp\n\tjb\t9f\n\tmovq\t%rsp, %r8\n\tmovq\t%rdx, %rcx\n'
-carry+='\tandl\t\$64, %ecx\n\tnegq\t%rcx\n\tsubq\t\$64, %rcx\n\txorl\t%eax, %eax\n\tadcq\t%rcx, %rsp\n'
-carry+='\tmovq\t%rsp, %r9\n\tmovq\t%r8, %rsp\n\tsubq\t%r8, %r9\n\tsubq\t%rcx, %r9\n\tjne\t9f\n'
-carry+='\tmovq\t\$0, (%rsi)\n\tmovl\t\$77, %eax\n\tretq\n9:\n/'
+carry+='\tandl\t\$64, %ecx\n\tnegq\t%rcx\n\tsubq\t\$64, %rcx\n\txorl\t%eax, %eax\n'
+carry+='\tadcq\t%rcx, %rsp\n\tmovq\t%rsp, %r9\n\tmovq\t%r8, %rsp\n\tsubq\t%r8, %r9\n'
+carry+='\tsubq\t%rcx, %r9\n\tjne\t9f\n\tmovq\t\$0, (%rsi)\n\tmovl\t\$77, %eax\n\tretq\n9:\n/'
 for source in "${sources[@]}"; do
     for version in 4 5; do
         while read -r function name; do

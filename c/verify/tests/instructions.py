@@ -1,6 +1,6 @@
 """Compares single instructions with the processor: random encodings that opcodes.py allows are run
 in the model and really, on random registers, flags and memory, and must do the same. Jumps, and
-what moves the stack pointer, are left to the calls of processor.py.
+what moves the stack pointer, are left to the libraries that are verified, and run by calls.c.
 
 instructions.py LEVEL COMPILER [EMULATOR], where the level is x86-64-v3 or armv8-a."""
 import collections
@@ -20,20 +20,38 @@ from cases import PROCESSORS
 from layout import Ours
 from memory import MustSplit
 from opcodes import KNOWN_ARM64, KNOWN_X86, MAP_OF_VEX, PREFIX_OF_VEX
-from processor import BASE, SIZE, on_numbers, replies_to, request
 from terms import Refused, Unknown, bv, const, simple
 
 # How many encodings are tried, and how many of each name are compared.
 TRIES, OF_EACH_NAME = 6000, 40
-# The stack pointer is POINTER. Memory before the index SAVED is what instructions access. From
-# there on it has the registers, words first, the flags, and the stack pointer of the caller.
-POINTER, SAVED = BASE + 256, 512
-VECTORS_AT, FLAGS_AT, STACK_AT = SAVED + 256, SAVED + 1280, SAVED + 1288
-PROGRAM = os.path.join(os.path.dirname(os.path.abspath(__file__)), 'processor.c')
+# Memory is at BASE, and the stack pointer at POINTER. Memory before the index SAVED is what
+# instructions access. From there on it has the registers, the flags, and the stack pointer of the
+# caller.
+BASE, SIZE, SAVED = 2**32, 4096, 512
+POINTER, FLAGS_AT, STACK_AT = BASE + 256, SAVED + 2048, SAVED + 2056
+# Calls each function on the memory that it reads for it, and writes what is left.
+PROGRAM = f'''
+#include <setjmp.h>
+#include <stdio.h>
+#include <sys/mman.h>
+
+extern void (*const functions[])(void *);
+static jmp_buf before;
+void finish(void) {{ longjmp(before, 1); }}
+
+int main(void) {{
+    static int k;
+    static void *memory;
+    memory = mmap((void *){BASE}, {SIZE}, PROT_READ | PROT_WRITE,
+                  MAP_PRIVATE | MAP_ANONYMOUS | MAP_FIXED, -1, 0);
+    for (; functions[k] && fread(memory, {SIZE}, 1, stdin); k++) {{
+        if (!setjmp(before))
+            functions[k]((void *){POINTER});
+        fwrite(memory, {SIZE}, 1, stdout);
+    }}
+}}
+'''
 X86, ARM = PROCESSORS.values()
-WORDS_OF = {X86: [n for n, (whole, *_) in x86_64.NAMES.items() if n == whole and n[0] == 'r' and
-                  n != 'rsp'], ARM: [f'x{k}' for k in range(31)]}
-VECTORS_OF = {X86: [f'ymm{k}' for k in range(16)], ARM: [f'v{k}' for k in range(32)]}
 WHOLE = {X86: lambda name: x86_64.NAMES.get(name, [None])[0],
          ARM: lambda name: aarch64.register(name)[0]}
 # The bits of zero, sign, carry and overflow.
@@ -44,9 +62,8 @@ PATTERNS = sorted(set('|'.join(known.pattern for known in KNOWN_ARM64.values()).
 
 def places(kind):
     """The registers, each with its index in memory."""
-    words, vectors = WORDS_OF[kind], VECTORS_OF[kind]
-    return [(name, SAVED + 8 * k) for k, name in enumerate(words)], \
-        [(name, VECTORS_AT + 32 * k) for k, name in enumerate(vectors)]
+    names = [name for name in kind.registers(None) if name != kind.SP]
+    return {name: SAVED + 32 * k for k, name in enumerate(names)}
 
 
 def x86_code(r):
@@ -82,12 +99,13 @@ def random_memory(r, kind, i):
     """Memory before an instruction, in which an address of it is likely to lie."""
     flags = sum(r.randrange(2) << bit for bit in BITS[kind])
     memory = bytearray(r.randbytes(FLAGS_AT) + flags.to_bytes(8, 'little')).ljust(SIZE, b'\0')
-    values = {name: r.getrandbits(r.choice([6, 64])) for name in WORDS_OF[kind]}
+    values = {name: r.getrandbits(r.choice([6, 64])) for name in places(kind) if name[0] in 'rx'}
     for m in (op.mem for op in i.ops if op.type == CS_OP_MEM):
         for register, value in ((m.index, r.randrange(16)),
                                 (m.base, POINTER + r.choice([1, 16]) * r.randrange(8) - m.disp)):
             values[WHOLE[kind](i.reg_name(register)) if register else None] = value
-    for name, at in places(kind)[0]:
+    for name in values.keys() & places(kind).keys():
+        at = places(kind)[name]
         memory[at:at + 8] = (values[name] % 2**64).to_bytes(8, 'little')
     return bytes(memory)
 
@@ -99,31 +117,40 @@ def flags_in(kind, memory):
     return {'z': zero, 's': sign, 'c': carry == (kind is X86), 'l': sign != overflow}
 
 
-def with_memory(kind):
-    """A processor that reads nothing but the memory before SAVED."""
-    class WithMemory(on_numbers(kind)):
-        def load(self, address, length):
+def on_numbers(kind):
+    """A processor that multiplies, and has nothing but the memory before SAVED."""
+    class OnNumbers(kind):
+        def multiply(self, a, b, halves):
+            product = const(a) * const(b)
+            return [bv(product >> 64 * half & 2**64 - 1) for half in halves]
+
+        def offset(self, address, length):
             at = const(address)
             if at is None or not BASE <= at <= BASE + SAVED - length:
                 raise Refused('another address')
-            return super().load(address, length)
-    return WithMemory
+            return at
+
+        def load(self, address, length):
+            return self.memory.content('arrays', self.offset(address, length), length)
+
+        def store(self, address, value):
+            self.memory.put('arrays', self.offset(address, value.size() // 8), value)
+    return OnNumbers
 
 
 def in_model(kind, i, memory):
     """The processor after an instruction."""
-    cpu, (words, vectors) = with_memory(kind)(Library(None, Ours, False), None), places(kind)
+    cpu, registers = on_numbers(kind)(Library(None, Ours, False), None), places(kind)
     for k in range(SAVED if '[' in i.text else 0):
         cpu.memory.put('arrays', BASE + k, bv(memory[k], 8))
-    for name, at in words + vectors:
+    for name, at in registers.items():
         size = cpu.r[name].size()
         cpu.r[name] = bv(int.from_bytes(memory[at:at + size // 8], 'little'), size)
     cpu.r[cpu.SP] = bv(POINTER)
     cpu.flags = {name: z3.BoolVal(flag) for name, flag in flags_in(kind, memory).items()}
     before, cpu.stack_pointer = dict(cpu.r), cpu.r[cpu.SP]
     went = cpu.TABLE[i.mnemonic](cpu, i)
-    others = set(cpu.r) - {name for name, _ in words + vectors}
-    if went is not None or any(cpu.r[name] is not before[name] for name in others):
+    if went is not None or any(cpu.r[name] is not before[name] for name in {*cpu.r} - {*registers}):
         raise Refused('a jump, or another register')
     return cpu
 
@@ -142,42 +169,35 @@ def chosen(r, kind, level):
             cpu = in_model(kind, i, memory)
         except (KeyError, IndexError, MustSplit, Refused, Unknown, z3.Z3Exception):
             continue
-        if all(0 <= k - BASE < SAVED for k in cpu.memory.written('arrays')):
-            count[i.mnemonic] += 1
-            yield i, memory, cpu
+        count[i.mnemonic] += 1
+        yield i, memory, cpu
     print(f'{len(count)} names, and never', *sorted(set(kind.TABLE) - set(count)))
 
 
 def function(kind, number, code):
     """A function that loads the registers, runs an instruction, and saves them."""
-    registers = [(name, at - 256) for name, at in sum(places(kind), [])]
-    flags, stack, code = FLAGS_AT - 256, STACK_AT - 256, '.byte ' + ', '.join(map(hex, code))
+    flags, stack = FLAGS_AT - 256, STACK_AT - 256
     if kind is X86:
-        keep = [(f'push %{name}', f'pop %{name}') for name in kind.SAVED]
+        moves = [('mov' if name[0] == 'r' else 'vmovdqu', f'{at - 256}(%rsp)', f'%{name}')
+                 for name, at in places(kind).items()]
+        load = [f'{move} {place}, {register}' for move, place, register in moves]
+        save = [f'{move} {register}, {place}' for move, place, register in moves]
         start = f'push {flags}(%rdi); popf; mov %rsp, {stack}(%rdi); mov %rdi, %rsp'
-        moves = [('mov' if name[0] == 'r' else 'vmovdqu', f'{at}(%rsp)', f'%{name}')
-                 for name, at in registers]
-        load, save = ([f'{move} {x}, {y}' for move, x, y in moves],
-                      [f'{move} {y}, {x}' for move, x, y in moves])
-        end = f'mov %rsp, %rdi; mov {stack}(%rdi), %rsp; pushf; pop {flags}(%rdi)'
+        end = f'mov %rsp, %rdi; mov {stack}(%rdi), %rsp; pushf; pop {flags}(%rdi); jmp finish'
     else:
-        pairs = [f'x{k}, x{k + 1}, [sp' for k in range(19, 30, 2)]
-        pairs += [f'd{k}, d{k + 1}, [sp' for k in range(8, 16, 2)]
-        keep = [(f'stp {pair}, -16]!', f'ldp {pair}], 16') for pair in pairs]
+        load = [f'ldr {name.replace("v", "q")}, [sp, {at - 256}]'
+                for name, at in places(kind).items()]
+        save = ['str' + one.removeprefix('ldr') for one in load]
         start = f'mov x1, sp; str x1, [x0, {stack}]; mov sp, x0; ldr x1, [sp, {flags}]; ' \
             'msr nzcv, x1'
-        load = [f'ldr {name.replace("v", "q")}, [sp, {at}]' for name, at in registers]
-        save = ['str' + one.removeprefix('ldr') for one in load]
-        end = f'mrs x1, nzcv; str x1, [sp, {flags}]; ldr x1, [sp, {stack}]; mov sp, x1'
-    before, after = zip(*keep)
-    return '\n'.join([f'.globl i{number}', f'i{number}:', *before, start, *load, code, *save, end,
-                      *reversed(after), 'ret', ''])
+        end = f'mrs x1, nzcv; str x1, [sp, {flags}]; ldr x1, [sp, {stack}]; mov sp, x1; b finish'
+    code = '.byte ' + ', '.join(map(hex, code))
+    return '\n'.join([f'i{number}:', start, *load, code, *save, end, ''])
 
 
 def differences(kind, cpu, memory):
     """What differs after an instruction: the model, and the memory that the processor left."""
-    words, vectors = places(kind)
-    found = [(name, simple(cpu.r[name]), at) for name, at in words + vectors]
+    found = [(name, simple(cpu.r[name]), at) for name, at in places(kind).items()]
     found += [(f'byte {k - BASE}', cpu.memory.content('arrays', k, 1), k - BASE)
               for k in cpu.memory.written('arrays')]
     for name, term, at in found:
@@ -192,16 +212,20 @@ def differences(kind, cpu, memory):
 
 def replies_of(kind, found, compiler, emulator):
     """What the processor leaves of each memory."""
+    memories = b''.join(memory for _, memory, _ in found)
     with tempfile.TemporaryDirectory() as folder:
-        source, library, program = (f'{folder}/instructions{end}' for end in ('.s', '.so', ''))
-        with open(source, 'w') as file:
+        code, program = (os.path.join(folder, name) for name in ('code.s', 'program'))
+        with open(code, 'w') as file:
             file.write('.section .note.GNU-stack, "", %progbits\n.text\n')
             file.writelines(function(kind, k, i.bytes) for k, (i, _, _) in enumerate(found))
-        subprocess.run([compiler, '-shared', '-nostdlib', '-o', library, source], check=True)
-        subprocess.run([compiler, '-o', program, PROGRAM, '-ldl'], check=True)
-        requests = [request(f'i{k}', 1, (POINTER, 0, 0, 0), memory)
-                    for k, (_, memory, _) in enumerate(found)]
-        return [memory for _, memory in replies_to(requests, [*emulator, program, library])[0]]
+            file.write('.section .data.rel.ro\n.globl functions\nfunctions:\n')
+            file.writelines(f'.quad i{k}\n' for k in range(len(found)))
+            file.write('.quad 0\n')
+        subprocess.run([compiler, '-o', program, code, '-x', 'c', '-'], input=PROGRAM.encode(),
+                       check=True)
+        done = subprocess.run(['timeout', '60', *emulator, program], input=memories,
+                              stdout=subprocess.PIPE, check=False).stdout
+    return [done[k:k + SIZE] for k in range(0, len(done) - SIZE + 1, SIZE)]
 
 
 def main(level, compiler, *emulator):

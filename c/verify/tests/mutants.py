@@ -1,42 +1,64 @@
-"""Flips bits of the code of a library, one at a time, and tells which of these mutants the check
-refuses. What passes must do on the processor, for random calls, what the library does in the model;
-so must what is read as the same instruction."""
+"""Shows that shared libraries compute komihash, and tests the check by flipping bits of their code,
+one at a time. A mutant that passes must still do on the processor what calls.c asks, and so must
+one of which the same instruction is read."""
 import collections
 import functools
+import os
 import random
-import signal
+import re
+import shlex
+import subprocess
+import sys
 import tempfile
+VERIFY = os.path.dirname(os.path.dirname(os.path.abspath(__file__)))
+sys.path.append(VERIFY)
 import cases
 import terms
-from processor import compare
+from definition import VERSIONS
+from report import main
 from workers import results
 
-# Limits for a mutant: steps of Z3 for a question, processor time, and how many cases are run before
-# calls on the processor show whether others need to be. After so many mutants for each process,
-# others begin, since processes remember terms.
-EFFORT, SECONDS, SOME, MANY = 2 * 10**8, 300, 100, 20
-# The cases that reach an instruction, by its address; the level and the file of the library.
-# Workers inherit these.
-AT, LIBRARY = collections.defaultdict(list), ['', b'']
-Mutant = collections.namedtuple('Mutant', 'address bit before after failure told')
+# Limits for a mutant: steps of Z3 for a question, processor time of a case, and how many cases are
+# run before it runs on the processor.
+EFFORT, SECONDS, SOME = 2 * 10**8, 60, 100
+NAME = 'libkomihash_rattle.so.1'
+# The rows that calls.c reads in a version, and prints again if the library is right.
+ROWS = r'^(?:(?:new|init|init_with_extra_seed)\t)?{}\t.*\n'
+# A bit, where it is, and the instruction there as it is read.
+Flip = collections.namedtuple('Flip', 'address offset bit before')
+# The cases that reach an instruction, by its address. Workers inherit this, and the library.
+REACHING, LIBRARY = collections.defaultdict(list), None
 
 
-def start():
-    """Begins a worker. A mutant gets less effort and so much processor time."""
-    terms.EFFORT = EFFORT
-    signal.signal(signal.SIGPROF, stop)
+def options(parser):
+    parser.add_argument('--mutants', type=int, required=True, help='how many bits are flipped')
+    parser.add_argument('--calls', type=shlex.split, required=True,
+                        help='calls.c as a program, without the version at the end of its name')
 
 
-def stop(*_):
-    raise TimeoutError(f'no answer within {SECONDS} seconds')
+def begin():
+    global LIBRARY
+    LIBRARY, terms.EFFORT, cases.SECONDS = cases.LIBRARY, EFFORT, SECONDS
 
 
-def text(image, address):
-    try:
-        i = image.instruction(address)
-    except terms.Unknown:
-        return 'no instruction'
+def read(image, address):
+    i = image.instruction(address)
     return f'{i.mnemonic} {i.text}'
+
+
+def choose_flips(image, done):
+    """Bits to flip: one for each function, and then of any instruction that a case reaches."""
+    r, owners = random.Random(1), collections.defaultdict(set)
+    for one in sorted(done, key=lambda d: (d.case.has_loop(), d.seconds)):
+        for address in one.ran:
+            owners[one.case.name].add(address)
+            REACHING[address].append(one.case)
+    some = [sorted(owners[name]) for name in sorted(owners)]
+    while True:
+        for address in map(r.choice, some):
+            bit = r.randrange(8 * image.instruction(address).size)
+            yield Flip(address, image.elf.offset(address) + bit // 8, bit % 8, read(image, address))
+        some = [sorted(REACHING)]
 
 
 def refusal(tried):
@@ -45,92 +67,56 @@ def refusal(tried):
     return next((failure for failure in failures if failure is not None), None)
 
 
-def flipped(address, bit):
-    """The file of the library with a bit of the code changed."""
-    level, content = LIBRARY
-    changed = bytearray(content)
-    offset = cases.open_library(content, level).elf.offset(address + bit // 8)
-    changed[offset] ^= 1 << bit % 8
-    return bytes(changed)
+def works(content, calls):
+    """Whether the calls of calls.c go right in a library that has this content."""
+    rows = ''
+    for name in ('vectors.tsv', 'values.tsv'):
+        with open(os.path.join(VERIFY, '..', name)) as file:
+            rows += file.read()
+    with tempfile.TemporaryDirectory() as folder:
+        with open(os.path.join(folder, NAME), 'wb') as file:
+            file.write(content)
+        for version in VERSIONS:
+            own = ''.join(re.findall(ROWS.format(version), rows, re.M)).encode()
+            done = subprocess.run(
+                ['timeout', '60', *calls[:-1], f'{calls[-1]}{version}'], input=own,
+                stdout=subprocess.PIPE, env={**os.environ, 'LD_LIBRARY_PATH': folder}, check=False)
+            if done.stdout != own:
+                return False
+    return True
 
 
-def try_mutant(program, flip):
-    """Runs some cases that reach the instruction, and if calls on the processor differ, the others
-    too."""
-    (address, bit), failure, told = flip, None, ''
-    content, reaching = flipped(address, bit), AT[address]
-    before = text(cases.LIBRARY.image, address)
-    some = reaching[::max(len(reaching) // SOME, 1)]
+def try_flip(calls, flip):
+    """What the check and the processor make of a mutant. As only some cases are run at first, the
+    others may refuse it too."""
+    content = bytearray(LIBRARY.image.elf.content)
+    content[flip.offset] ^= 1 << flip.bit
     try:
-        after = text(cases.open_library(content, LIBRARY[0]), address)
+        image = cases.open_library(
+            bytes(content), LIBRARY.image.level, LIBRARY.layout, LIBRARY.red_zone)
+        after, reaching = read(image, flip.address), REACHING[flip.address]
     except terms.Unknown as unknown:
-        return Mutant(address, bit, before, 'no library', unknown, told)
-    signal.setitimer(signal.ITIMER_PROF, SECONDS)
-    try:
-        failure = refusal(some) if after != before else None
-        if failure is None:
-            told = really(content, program)
-            failure = refusal(c for c in reaching if c not in some) if 'WRONGLY' in told else None
-    except TimeoutError as error:
-        failure = terms.Unknown(error)
-    signal.setitimer(signal.ITIMER_PROF, 0)
-    return Mutant(address, bit, before, after, failure, told)
+        return flip, 'not known', unknown
+    some = reaching[::len(reaching) // SOME + 1]
+    failure = refusal(some) if after != flip.before else None
+    if failure is None and works(content, calls):
+        return flip, 'passed' if after != flip.before else 'the same', after
+    failure = failure or refusal(case for case in reaching if case not in some)
+    kind = 'not known' if isinstance(failure, terms.Unknown) else 'refused'
+    return flip, kind if failure else 'WRONG', failure or after
 
 
-def choose_flips(image, owners, count, seed):
-    """Bits to flip: one for each function, and then of any instruction that is reached."""
-    r, addresses = random.Random(seed), sorted(owners)
-    names = sorted(set().union(*owners.values()))
-    own = [[a for a in addresses if name in owners[a]] for name in names]
-    for which in [*own, *[addresses] * count][:count]:
-        address = r.choice(which)
-        yield address, r.randrange(8 * image.instruction(address).size)
+def test(image, _, done, args):
+    """Tries so many mutants. Returns how many were judged rightly and wrongly."""
+    flips, found = choose_flips(image, done), collections.Counter()
+    tried = [next(flips) for _ in range(args.mutants)]
+    for flip, kind, told in results(
+            args.jobs, functools.partial(try_flip, args.calls), tried, begin):
+        found[kind] += 1
+        print(f'{flip.address:#x}, {flip.before}, with another bit: {kind}: {told}', flush=True)
+    print('Mutants:', ', '.join(f'{number} {kind}' for kind, number in found.items()))
+    return args.mutants - found['WRONG'], found['WRONG']
 
 
-def really(content, program):
-    """What random calls of a library show that has this content."""
-    with tempfile.NamedTemporaryFile(suffix='.so') as changed:
-        changed.write(content)
-        changed.flush()
-        try:
-            calls, _ = compare(LIBRARY[1], LIBRARY[0], 16, [*program, changed.name])
-            return f'{calls} calls agree'
-        except terms.Refused as refused:
-            return f'WRONGLY: {refused}'
-
-
-def verdict(mutant):
-    if mutant.before == mutant.after:
-        return 'same'
-    if mutant.failure is None:
-        return 'passed'
-    return 'no answer' if isinstance(mutant.failure, terms.Unknown) else 'refused'
-
-
-def test(image, done, args):
-    """Tries so many mutants. Returns how many were passed wrongly."""
-    owners, found, wrong = collections.defaultdict(set), collections.defaultdict(list), 0
-    for one in sorted(done, key=lambda d: (d.case.has_loop(), d.seconds)):
-        for address in one.ran:
-            owners[address].add(one.case.name)
-            AT[address].append(one.case)
-    flips = choose_flips(image, owners, args.mutants, args.seed)
-    LIBRARY[:] = image.level, image.elf.content
-    tries, flips, many = functools.partial(try_mutant, args.program), list(flips), MANY * args.jobs
-    for k in range(0, len(flips), many):
-        for m in results(args.jobs, tries, flips[k:k + many], start):
-            found['several' if len(owners[m.address]) > 1 else min(owners[m.address])].append(m)
-            wrong += m.failure is None and 'WRONGLY' in m.told
-            if verdict(m) != 'refused':
-                print(f'{m.address:#x} bit {m.bit}: {m.before} -> {m.after}: {verdict(m)}: '
-                      f'{m.failure or m.told}', flush=True)
-    tell(found)
-    return wrong
-
-
-def tell(found):
-    row = '{:38} {:>7} {:>7} {:>9} {:>6} {:>6}'.format
-    print(row('function', 'mutants', 'refused', 'no answer', 'passed', 'same'))
-    for name, some in [*sorted(found.items()), ('all', sum(found.values(), []))]:
-        kinds = collections.Counter(map(verdict, some))
-        print(row(name, len(some), *(kinds[k] for k in ('refused', 'no answer', 'passed', 'same'))))
+if __name__ == '__main__':
+    sys.exit(main(__doc__, options, test))
