@@ -4,6 +4,8 @@ import random
 import second
 import z3
 
+# Z3 itself checks what it is passed, and raises an error; its Python module need not do so first.
+z3.z3.Z3_DEBUG = False
 # Sums and xors of the same parts, in any order, become the same term.
 SIMPLIFY = z3.args2params([], {'bv_sort_ac': True})
 # Z3 may make so many steps for a question.
