@@ -1,4 +1,5 @@
 """Terms: bit vectors of Z3 over symbols; and Facts, which asks Z3 what holds of them."""
+import collections
 import functools
 import random
 import second
@@ -10,8 +11,9 @@ z3.z3.Z3_DEBUG = False
 SIMPLIFY = z3.args2params([], {'bv_sort_ac': True})
 # Z3 may make so many steps for a question.
 EFFORT = 10**9
-# What was answered in this case, and how many questions were asked.
-ANSWERS, ASKED = {}, [0]
+# What was answered in this case, the models that were found last, and how many questions were
+# asked.
+ANSWERS, MODELS, ASKED = {}, collections.deque(maxlen=16), [0]
 
 
 class Refused(Exception):
@@ -147,6 +149,10 @@ def leading_zeros(term):
     return result
 
 
+def is_true_in(model, cond):
+    return z3.is_true(model.eval(cond, model_completion=True))
+
+
 @functools.lru_cache(maxsize=None)
 def at_point(point, name):
     """The value of a symbol at a random point."""
@@ -180,11 +186,14 @@ class Facts:
             names = names.union(*map(symbols, near))
 
     def model(self, path, *terms):
-        """A model in which the terms hold on this path, or None. Answers are remembered."""
+        """A model in which the terms hold on this path, or None. Answers are remembered, and a
+        model that was found for other terms may be one for these."""
         wanted = self.relevant(path, terms) + list(terms)
         key = frozenset(term.get_id() for term in wanted)
         if key not in ANSWERS:
-            ANSWERS[key] = self.ask(wanted), wanted
+            both = z3.And(*wanted)
+            known = (model for model in MODELS if is_true_in(model, both))
+            ANSWERS[key] = next(known, None) or self.ask(wanted), wanted
         return ANSWERS[key][0]
 
     def ask(self, terms):
@@ -197,7 +206,10 @@ class Facts:
             raise Unknown('Z3 does not answer with the effort that is allowed')
         if second.NAME and (why := second.objection(solver, str(answer))):
             raise Unknown(why)
-        return solver.model() if answer == z3.sat else None
+        if answer == z3.unsat:
+            return None
+        MODELS.appendleft(solver.model())
+        return MODELS[0]
 
     def decide(self, path, cond):
         """True, False, or None if both can be on this path."""
@@ -221,8 +233,7 @@ class Facts:
             model = self.model(path, z3.Not(z3.And(*left.values())))
             if model is None:
                 break
-            left = {k: c for k, c in left.items()
-                    if z3.is_true(model.eval(c, model_completion=True))}
+            left = {k: c for k, c in left.items() if is_true_in(model, c)}
         return sure | set(left)
 
     def point(self, term):
