@@ -193,8 +193,16 @@ class Facts:
         if key not in ANSWERS:
             both = z3.And(*wanted)
             known = (model for model in MODELS if is_true_in(model, both))
-            ANSWERS[key] = next(known, None) or self.ask(wanted), wanted
+            ANSWERS[key] = next(known, None) or self.find_model(wanted, terms), wanted
         return ANSWERS[key][0]
+
+    def find_model(self, wanted, terms):
+        """Asks without the facts about other symbols first, which most often suffices."""
+        names = frozenset().union(*map(symbols, terms))
+        few = [term for term in wanted if symbols(term) <= names]
+        if len(few) < len(wanted) and self.ask(few) is None:
+            return None
+        return self.ask(wanted)
 
     def ask(self, terms):
         ASKED[0] += 1
