@@ -9,8 +9,8 @@ import z3
 z3.z3.Z3_DEBUG = False
 # Sums and xors of the same parts, in any order, become the same term.
 SIMPLIFY = z3.args2params([], {'bv_sort_ac': True})
-# Z3 may make so many steps for a question.
-EFFORT = 10**9
+# Z3 may make so many steps for a question, after a few by a solver that is quicker with lengths.
+EFFORT, FEW = 10**9, 10**5
 # What was answered in this case, the models that were found last, and how many questions were
 # asked.
 ANSWERS, MODELS, ASKED = {}, collections.deque(maxlen=16), [0]
@@ -206,11 +206,13 @@ class Facts:
 
     def ask(self, terms):
         ASKED[0] += 1
-        solver = z3.Tactic('qfbv').solver()
-        solver.set('rlimit', EFFORT)
-        solver.add(*terms)
-        answer = solver.check()
-        if answer == z3.unknown:
+        for name, effort in ('smt', FEW), ('qfbv', EFFORT):
+            solver = z3.Tactic(name).solver()
+            solver.set('rlimit', effort)
+            solver.add(*terms)
+            if (answer := solver.check()) != z3.unknown:
+                break
+        else:
             raise Unknown('Z3 does not answer with the effort that is allowed')
         if second.NAME and (why := second.objection(solver, str(answer))):
             raise Unknown(why)
