@@ -62,7 +62,8 @@ class Call:
 
     def stream(self, state, writable=False):
         size = self.layout.SIZE
-        base = self.array('stream', size, high=size, writable=writable)
+        content = named('unused', range(size)) if state else ()
+        base = self.array('stream', size, content, size, writable)
         if state:
             self.state = state
             self.layout.store(self, state)

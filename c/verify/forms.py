@@ -9,7 +9,7 @@ the loop of a hash,
 - the stack pointer, and what the caller had in its registers, stay as they are: fixed terms.
 Beside forms, some conditions hold, as that a turn of the loop is left."""
 from guesses import form_of
-from terms import join, part, put_for, sym, symbols
+from terms import join, part, put_for, sym, symbols, width_of
 
 # In a form, the units, the base and the length, and then the words of a world.
 PLACES = [sym(f'place {k} of a world') for k in range(12)]
@@ -39,7 +39,7 @@ class Arrival:
 def words_of(cpu):
     """The words of registers, of both stacks and of a stream, and the flags of a stream."""
     found = {(n, low // 64): part(term, low, 64)
-             for n, term in cpu.r.items() for low in range(0, term.size(), 64)}
+             for n, term in cpu.r.items() for low in range(0, width_of(term), 64)}
     known = cpu.memory.data
     for name, k in known:
         size = size_of(cpu, name, k)

@@ -85,10 +85,10 @@ def witness(found, term, value):
             witness(found, child, z3.Extract(high - 1, high - child.size(), value))
             high -= child.size()
     elif z3.is_app_of(term, z3.Z3_OP_BADD):
-        known = {str(one) for one in found}
+        known = frozenset().union(*map(symbols, found))
         *others, last = sorted(term.children(), key=lambda part: len(symbols(part) - known))
         witness(found, last, value - z3.substitute(sum(others), *found.items()))
-    elif str(term) in symbols(term):
+    elif symbols(term) and not term.children():
         found.setdefault(term, value)
     else:
         for one in (SYMBOLS.term[name] for name in symbols(term)):

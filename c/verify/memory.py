@@ -1,5 +1,5 @@
 """Memory: arrays of bytes at symbolic addresses, and no other place."""
-from terms import SYMBOLS, Refused, join, linear, part, signed, simple, symbols
+from terms import SYMBOLS, Refused, join, linear, part, signed, simple, symbols, width_of
 
 
 class MustSplit(Exception):
@@ -87,7 +87,7 @@ class Memory:
         self.put(name, offset, value)
 
     def put(self, name, offset, value):
-        size = value.size() // 8
+        size = width_of(value) // 8
         for k in range(size):
             self.data[name, offset + k] = value, k, size
 

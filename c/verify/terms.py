@@ -106,9 +106,14 @@ def signed(term):
     return term.as_signed_long() if z3.is_bv_value(term) else None
 
 
+def width_of(term):
+    """What term.size() is, without its object for the sort, which takes long."""
+    return z3.Z3_get_bv_sort_size(term.ctx_ref(), z3.Z3_get_sort(term.ctx_ref(), term.as_ast()))
+
+
 def part(term, low, width):
     """Bits of a term, from `low` on."""
-    if low == 0 and term.size() == width:
+    if low == 0 and width_of(term) == width:
         return term
     return simple(z3.Extract(low + width - 1, low, term))
 
