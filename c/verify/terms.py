@@ -176,38 +176,20 @@ class Facts:
     def add(self, *facts):
         self.list.extend(facts)
 
-    def relevant(self, path, terms):
-        """The facts that share symbols with the terms, directly or through others. Leaving out
-        facts is always safe: what can't be without them can't be with them. So at worst, a path is
-        run that can't happen, or right code is refused."""
-        left, chosen = self.list + list(path), []
-        names = set().union(*map(symbols, terms))
-        while True:
-            near = [t for t in left if symbols(t) & names]
-            if not near:
-                return chosen
-            chosen += near
-            left = [t for t in left if not symbols(t) & names]
-            names = names.union(*map(symbols, near))
-
     def model(self, path, *terms):
-        """A model in which the terms hold on this path, or None. Answers are remembered, and a
-        model that was found for other terms may be one for these."""
-        wanted = self.relevant(path, terms) + list(terms)
-        key = frozenset(term.get_id() for term in wanted)
-        if key not in ANSWERS:
-            both = z3.And(*wanted)
-            known = (model for model in MODELS if is_true_in(model, both))
-            ANSWERS[key] = next(known, None) or self.find_model(wanted, terms), wanted
+        """A model in which the terms hold on this path, or None. What can't be without some facts
+        can't be with them, so it is asked first without those about other symbols. Answers are
+        remembered, and a model that was found for other terms may be one for these."""
+        wanted, names = [*self.list, *path, *terms], frozenset().union(*map(symbols, terms))
+        for some in [term for term in wanted if symbols(term) <= names], wanted:
+            key = frozenset(term.get_id() for term in some)
+            if key not in ANSWERS:
+                both = z3.And(*some)
+                known = (model for model in MODELS if is_true_in(model, both))
+                ANSWERS[key] = next(known, None) or self.ask(some), some
+            if ANSWERS[key][0] is None:
+                return None
         return ANSWERS[key][0]
-
-    def find_model(self, wanted, terms):
-        """Asks without the facts about other symbols first, which most often suffices."""
-        names = frozenset().union(*map(symbols, terms))
-        few = [term for term in wanted if symbols(term) <= names]
-        if len(few) < len(wanted) and self.ask(few) is None:
-            return None
-        return self.ask(wanted)
 
     def ask(self, terms):
         ASKED[0] += 1
@@ -269,7 +251,7 @@ class Facts:
 
     def values(self, term, path, most):
         """The values that a term can have on this path; None if there are more."""
-        # The first condition is always true, and makes the facts about the term relevant.
+        # The first condition is always true. By its symbols, the facts about the term are asked first.
         found, conds = [], [term == term]
         while (model := self.model(path, *conds)) is not None:
             found.append(model.eval(term, model_completion=True))
