@@ -251,7 +251,7 @@ class Facts:
 
     def values(self, term, path, most):
         """The values that a term can have on this path; None if there are more."""
-        # The first condition is always true. By its symbols, the facts about the term are asked first.
+        # The first condition is always true, and its symbols say which facts are asked first.
         found, conds = [], [term == term]
         while (model := self.model(path, *conds)) is not None:
             found.append(model.eval(term, model_completion=True))
