@@ -1,5 +1,5 @@
 """Memory: arrays of bytes at symbolic addresses, and no other place."""
-from terms import SYMBOLS, Refused, join, linear, part, signed, simple, symbols, width_of
+from terms import SYMBOLS, Refused, join, part, signed, simple, symbols, width_of
 
 
 class MustSplit(Exception):
@@ -40,12 +40,11 @@ class Memory:
 
     def find(self, cpu, address, length, write):
         """The array of an address, and the offset in it, which must be one number on this path.
-        The costly ways to find the number come last."""
+        The costly way to find the number comes last."""
         names = symbols(address)
         near = [(a, simple(address - a.base)) for a in self.arrays if a.names & names]
         offset = difference = None
-        for offset_of in (signed, lambda term: signed(simple(linear(term))),
-                          lambda term: cpu.facts.unique(term, cpu.path)):
+        for offset_of in signed, lambda term: cpu.facts.unique(term, cpu.path):
             for array, difference in near:
                 offset = offset_of(difference)
                 if offset is not None and self.fits(cpu, array, offset, length, write):

@@ -81,21 +81,6 @@ def simple(term):
     return z3.z3._to_expr_ref(ast, context)
 
 
-def linear(term):
-    """Writes bits side by side as a sum, so that sums of the same parts become equal."""
-    if z3.is_app_of(term, z3.Z3_OP_CONCAT):
-        total, k = bv(0, term.size()), 0
-        for child in reversed(term.children()):
-            total += z3.ZeroExt(term.size() - child.size(), child) * 2**k
-            k += child.size()
-        return total
-    if z3.is_app_of(term, z3.Z3_OP_BADD):
-        return sum(map(linear, term.children()))
-    if z3.is_app_of(term, z3.Z3_OP_BMUL):
-        return functools.reduce(lambda x, y: x * y, map(linear, term.children()))
-    return term
-
-
 def const(term):
     """The number that a term is, or None."""
     return term.as_long() if z3.is_bv_value(term) else None
