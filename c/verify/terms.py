@@ -139,10 +139,6 @@ def leading_zeros(term):
     return result
 
 
-def is_true_in(model, cond):
-    return z3.is_true(model.eval(cond, model_completion=True))
-
-
 @functools.lru_cache(maxsize=None)
 def at_point(point, name):
     """The value of a symbol at a random point."""
@@ -170,7 +166,7 @@ class Facts:
             key = frozenset(term.get_id() for term in some)
             if key not in ANSWERS:
                 both = z3.And(*some)
-                known = (model for model in MODELS if is_true_in(model, both))
+                known = (m for m in MODELS if z3.is_true(m.eval(both, model_completion=True)))
                 ANSWERS[key] = next(known, None) or self.ask(some), some
             if ANSWERS[key][0] is None:
                 return None
@@ -208,15 +204,7 @@ class Facts:
 
     def holding(self, path, conds):
         """The names of those conditions that hold on this path."""
-        conds = {k: simple(cond) for k, cond in conds.items()}
-        sure = {k for k, cond in conds.items() if z3.is_true(cond)}
-        left = {k: c for k, c in conds.items() if k not in sure and not z3.is_false(c)}
-        while left:
-            model = self.model(path, z3.Not(z3.And(*left.values())))
-            if model is None:
-                break
-            left = {k: c for k, c in left.items() if is_true_in(model, c)}
-        return sure | set(left)
+        return {name for name, cond in conds.items() if self.holds(path, cond)}
 
     def point(self, term):
         """The values of a term at three random points."""
