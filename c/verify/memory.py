@@ -1,4 +1,5 @@
 """Memory: arrays of bytes at symbolic addresses, and no other place."""
+import z3
 from terms import SYMBOLS, Refused, join, part, signed, simple, symbols, width_of
 
 
@@ -59,7 +60,9 @@ class Memory:
             return False
         if write and not array.writable:
             raise Refused(f'write of {length} bytes at {array.name}{offset:+}, which is only read')
-        return array.limit is None or cpu.has_room(array, offset + length)
+        # What is answered is remembered, so it is asked first whether the whole array is there.
+        return array.limit is None or any(cpu.facts.holds(cpu.path, z3.UGE(array.limit, some))
+                                          for some in (array.high, offset + length))
 
     def load(self, cpu, address, length):
         name, offset = self.find(cpu, address, length, False)
