@@ -62,7 +62,8 @@ class Call:
 
     def stream(self, state, writable=False):
         size = self.layout.SIZE
-        base = self.array('stream', size, high=size, writable=writable)
+        content = named('unused', range(size)) if state else ()
+        base = self.array('stream', size, content, size, writable)
         if state:
             self.state = state
             self.layout.store(self, state)
@@ -82,7 +83,7 @@ class Call:
         """Runs the call. Yields the processor at each return, at which all products are made."""
         self.begin(args)
         for end in self.cpu.call(self.name, *args):
-            self.check_all_products(end)
+            self.check_products(end)
             yield end
 
     def one(self, *args):
@@ -93,14 +94,11 @@ class Call:
                             f'part at {ends[-1].parted:#x}')
         return ends[0]
 
-    def check_products(self, end, wanted):
-        """Whether just these products were made, each once."""
-        if end.halves != {(k, half) for k in wanted for half in (0, 1)}:
-            end.refuse(f'{len(end.halves) / 2:g} products, and not the {len(wanted)} of the '
-                       'definition')
-
-    def check_all_products(self, end):
-        self.check_products(end, range(len(self.products.list)))
+    def check_products(self, end, count=None):
+        """Whether just so many products were made, from the first on, or all, and each once."""
+        count = len(self.products.list) if count is None else count
+        if end.halves != {(k, half) for k in range(count) for half in (0, 1)}:
+            end.refuse(f'{len(end.halves) / 2:g} products, and not the {count} of the definition')
 
 
 def named(name, numbers):

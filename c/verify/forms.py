@@ -9,10 +9,11 @@ the loop of a hash,
 - the stack pointer, and what the caller had in its registers, stay as they are: fixed terms.
 Beside forms, some conditions hold, as that a turn of the loop is left."""
 from guesses import form_of
-from terms import join, part, put_for, sym, symbols
+from terms import join, part, put_for, sym, symbols, width_of
 
 # In a form, the units, the base and the length, and then the words of a world.
 PLACES = [sym(f'place {k} of a world') for k in range(12)]
+NAMES = frozenset().union(*map(symbols, PLACES))
 
 
 class World:
@@ -24,6 +25,8 @@ class World:
 
     def value(self, form):
         """The term that a form is in this world."""
+        if symbols(form).isdisjoint(NAMES):
+            return form
         return put_for(form, *zip(PLACES, [self.units, self.base, self.length, *self.words]))
 
 
@@ -39,7 +42,7 @@ class Arrival:
 def words_of(cpu):
     """The words of registers, of both stacks and of a stream, and the flags of a stream."""
     found = {(n, low // 64): part(term, low, 64)
-             for n, term in cpu.r.items() for low in range(0, term.size(), 64)}
+             for n, term in cpu.r.items() for low in range(0, width_of(term), 64)}
     known = cpu.memory.data
     for name, k in known:
         size = size_of(cpu, name, k)
@@ -64,10 +67,9 @@ class Invariant:
     def __init__(self, stable, first, second):
         """Guesses from two arrivals, which may be the same."""
         self.holding = first.holding & second.holding
-        fixed = stable.union(*map(symbols, PLACES))
         guessed = ((word, form_of(PLACES, stable, first, second, word))
                    for word in first.words if word in second.words)
-        self.forms = {word: form if form is not None and symbols(form) <= fixed else None
+        self.forms = {word: form if form is not None and symbols(form) <= stable | NAMES else None
                       for word, form in guessed}
 
     def admit(self, arrival):

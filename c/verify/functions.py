@@ -51,17 +51,24 @@ def finish(library, version, fill, had_block):
     return end
 
 
+def check_out(ends, cond, result, refused, content):
+    """Checks calls that return one result and write `content` to `out` if a condition holds, and
+    return another and write nothing if not."""
+    for end in ends:
+        is_accepted = accepted(end, cond)
+        check(end, 'result', end.result(), result if is_accepted else refused)
+        check_bytes(end, 'bytes', 'out', content if is_accepted else [])
+    return end
+
+
 def save(library, version, fill):
     """With any room: the text, or nothing if there is no room for the longest."""
     call = Call(library, version, '_save')
     state, room = some_state(version, fill), sym('room')
     stream = call.stream(state)
     out = call.array('out', room, high=68 + fill, writable=True)
-    for end in call.run(stream, out, room):
-        enough = accepted(end, z3.UGE(room, 131))
-        check(end, 'length', end.result(), bv(68 + fill if enough else 0))
-        check_bytes(end, 'text', 'out', bytes_of(state.text(version)) if enough else [])
-    return end
+    return check_out(call.run(stream, out, room), z3.UGE(room, 131), bv(68 + fill), bv(0),
+                     bytes_of(state.text(version)))
 
 
 def resume(library, version, length):
@@ -128,11 +135,8 @@ def pad(library, version, length):
     out = call.aligned(call.array('out', 8 * room, high=size, writable=True))
     call.facts.add(z3.ULT(room, 2**60),
                    z3.Implies(enough, apart(out, bv(size), address, bv(length))))
-    for end in call.run(address, bv(length), out, room):
-        is_enough = accepted(end, enough)
-        check(end, 'number', end.result(), bv(len(words) if is_enough else 0))
-        check_bytes(end, 'words', 'out', bytes_of(join(words)) if is_enough else [])
-    return end
+    return check_out(call.run(address, bv(length), out, room), enough, bv(len(words)), bv(0),
+                     bytes_of(join(words)))
 
 
 LAST_BYTES = [None, *((index, byte) for index in range(8) for byte in (1, 2, 3))]
@@ -148,8 +152,5 @@ def unpad(library, version, count, last):
     out = call.array('out', room, high=length, writable=True)
     fits = z3.And(fits, z3.UGE(room, 8 * count))
     call.facts.add(z3.Implies(fits, apart(out, bv(length), words, bv(8 * count))))
-    for end in call.run(words, bv(count), out, room):
-        found = accepted(end, fits)
-        check(end, 'length', end.result(), bv(length) if found else NONE)
-        check_bytes(end, 'message', 'out', content[:length] if found else [])
-    return end
+    return check_out(call.run(words, bv(count), out, room), fits, bv(length), NONE,
+                     content[:length])

@@ -9,14 +9,24 @@ from terms import SYMBOLS, Refused, Unknown, simple, symbols
 
 # To find the loop, calls are run with a small q, and with one and a remainder.
 TURNS, REST = 12, 40
+# The cuts that were found, by the class of a proof, the library and the version.
+CUTS = {}
 # In a linear form, the factors of the units, of the base and of the length.
 FACTORS = list(itertools.product((0, 1, -1, 8, -8), (0, 1), (0, 1)))
 
 
 def cuts(proof):
-    """The head of a loop and its exit. The head is the first of the places to which a long call
-    comes more often than a short one, by most. The exit is the first place outside of the loop that
-    a call with one turn or none comes to too."""
+    """The head of a loop and its exit, as they were found first for calls of this kind."""
+    kind = type(proof), proof.library, proof.version
+    if kind not in CUTS:
+        CUTS[kind] = find_cuts(proof)
+    return CUTS[kind]
+
+
+def find_cuts(proof):
+    """The head is the first of the places to which a long call comes more often than a short one,
+    by most. The exit is the first place outside of the loop that a call with one turn or none comes
+    to too."""
     (few, _), (many, refusal) = places(proof, 1), places(proof, TURNS)
     often = collections.Counter(many)
     often.subtract(few)
@@ -75,10 +85,10 @@ def witness(found, term, value):
             witness(found, child, z3.Extract(high - 1, high - child.size(), value))
             high -= child.size()
     elif z3.is_app_of(term, z3.Z3_OP_BADD):
-        known = {str(one) for one in found}
+        known = frozenset().union(*map(symbols, found))
         *others, last = sorted(term.children(), key=lambda part: len(symbols(part) - known))
         witness(found, last, value - z3.substitute(sum(others), *found.items()))
-    elif str(term) in symbols(term):
+    elif symbols(term) and not term.children():
         found.setdefault(term, value)
     else:
         for one in (SYMBOLS.term[name] for name in symbols(term)):

@@ -216,7 +216,7 @@ class Induction:
                                  len(call.products.list)))
         for cpu, _ in call.cpu.run(self.exit):
             cpu.check_return()
-            self.call.check_all_products(cpu)
+            self.call.check_products(cpu)
             self.check_end(cpu)
 
     def after_turns(self, remainder, rest):

@@ -6,7 +6,7 @@ Trusted is that `store` passes all memory that `check` accepts for a state. That
 library's needs no trust: with another one, right code is refused, but no wrong code passes."""
 from checks import check
 from definition import words_of
-from terms import bv, secret, simple
+from terms import bv, simple
 
 
 class Ours:
@@ -32,9 +32,7 @@ class Ours:
         yield self.FLAGS + 1, state.top_bit
 
     def store(self, call, state):
-        """Passes any memory that stands for a state."""
-        for k in range(self.SIZE):
-            call.memory.put('stream', k, secret(f'unused[{k}]', 8))
+        """Puts what stands for a state into memory of which each byte is anything."""
         for k, term in self.exact(state):
             call.memory.put('stream', k, term)
 

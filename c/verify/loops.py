@@ -31,7 +31,7 @@ class Blocks(Induction):
 
     def steps(self, cpu):
         blocks = max(len(cpu.halves) // 2 - self.before, 0) // 4
-        self.call.check_products(cpu, range(self.before + 4 * blocks))
+        self.call.check_products(cpu, self.before + 4 * blocks)
         return blocks
 
 
@@ -176,7 +176,7 @@ class Fill(Induction):
 
     def steps(self, cpu):
         steps = len(cpu.halves) // 2
-        self.call.check_products(cpu, range(steps))
+        self.call.check_products(cpu, steps)
         check_bytes(cpu, 'bytes', 'out', self.outputs[:8 * steps])
         return steps
 

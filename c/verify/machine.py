@@ -73,9 +73,9 @@ class Cpu:
         # Conditions that hold on this path, and which halves of products were made on it.
         self.path, self.halves = [], frozenset()
         self.memory, self.r, self.flags = Memory(), self.registers(), {}
-        # The last instruction, the one at which the path last forked, how many values are
-        # undefined, and how many bytes arrays surely have.
-        self.pc, self.parted, self.undefined, self.enough = None, None, 0, {}
+        # The last instruction, the one at which the path last forked, and how many values are
+        # undefined.
+        self.pc, self.parted, self.undefined = None, None, 0
         self.sp = sym('sp')
         self.memory.add(Array('stack', self.sp, -STACK_BYTES, self.ABOVE, True))
         self.facts.add(self.sp & 15 == self.ABOVE, LOADED & 4095 == 0)
@@ -233,17 +233,6 @@ class Cpu:
             raise Refused(f'a return to {to}, which is not the caller')
         self.r['ssp'] = simple(self.r['ssp'] + 8)
         return const(simple(to - LOADED)) if last else RETURN
-
-    def has_room(self, array, size):
-        """Whether an array with a limit has so many bytes. As what is found is remembered, whether
-        it has all that it can have is asked first."""
-        if size <= self.enough.get(array.name, 0):
-            return True
-        for some in (array.high, size):
-            if self.facts.holds(self.path, z3.UGE(array.limit, some)):
-                self.enough = {**self.enough, array.name: some}
-                return True
-        return False
 
     # Values
 

@@ -1,5 +1,6 @@
 """Memory: arrays of bytes at symbolic addresses, and no other place."""
-from terms import SYMBOLS, Refused, join, linear, part, signed, simple, symbols
+import z3
+from terms import SYMBOLS, Refused, join, part, signed, simple, symbols, width_of
 
 
 class MustSplit(Exception):
@@ -40,12 +41,11 @@ class Memory:
 
     def find(self, cpu, address, length, write):
         """The array of an address, and the offset in it, which must be one number on this path.
-        The costly ways to find the number come last."""
+        The costly way to find the number comes last."""
         names = symbols(address)
         near = [(a, simple(address - a.base)) for a in self.arrays if a.names & names]
         offset = difference = None
-        for offset_of in (signed, lambda term: signed(simple(linear(term))),
-                          lambda term: cpu.facts.unique(term, cpu.path)):
+        for offset_of in signed, lambda term: cpu.facts.unique(term, cpu.path):
             for array, difference in near:
                 offset = offset_of(difference)
                 if offset is not None and self.fits(cpu, array, offset, length, write):
@@ -60,7 +60,9 @@ class Memory:
             return False
         if write and not array.writable:
             raise Refused(f'write of {length} bytes at {array.name}{offset:+}, which is only read')
-        return array.limit is None or cpu.has_room(array, offset + length)
+        # What is answered is remembered, so it is asked first whether the whole array is there.
+        return array.limit is None or any(cpu.facts.holds(cpu.path, z3.UGE(array.limit, some))
+                                          for some in (array.high, offset + length))
 
     def load(self, cpu, address, length):
         name, offset = self.find(cpu, address, length, False)
@@ -87,7 +89,7 @@ class Memory:
         self.put(name, offset, value)
 
     def put(self, name, offset, value):
-        size = value.size() // 8
+        size = width_of(value) // 8
         for k in range(size):
             self.data[name, offset + k] = value, k, size
 

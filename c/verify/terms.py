@@ -1,15 +1,19 @@
 """Terms: bit vectors of Z3 over symbols; and Facts, which asks Z3 what holds of them."""
+import collections
 import functools
 import random
 import second
 import z3
 
+# Z3 itself checks what it is passed, and raises an error; its Python module need not do so first.
+z3.z3.Z3_DEBUG = False
 # Sums and xors of the same parts, in any order, become the same term.
 SIMPLIFY = z3.args2params([], {'bv_sort_ac': True})
-# Z3 may make so many steps for a question.
-EFFORT = 10**9
-# What was answered in this case, and how many questions were asked.
-ANSWERS, ASKED = {}, [0]
+# Z3 may make so many steps for a question, after a few by a solver that is quicker with lengths.
+EFFORT, FEW = 10**9, 10**5
+# What was answered in this case, the models that were found last, and how many questions were
+# asked.
+ANSWERS, MODELS, ASKED = {}, collections.deque(maxlen=16), [0]
 
 
 class Refused(Exception):
@@ -77,21 +81,6 @@ def simple(term):
     return z3.z3._to_expr_ref(ast, context)
 
 
-def linear(term):
-    """Writes bits side by side as a sum, so that sums of the same parts become equal."""
-    if z3.is_app_of(term, z3.Z3_OP_CONCAT):
-        total, k = bv(0, term.size()), 0
-        for child in reversed(term.children()):
-            total += z3.ZeroExt(term.size() - child.size(), child) * 2**k
-            k += child.size()
-        return total
-    if z3.is_app_of(term, z3.Z3_OP_BADD):
-        return sum(map(linear, term.children()))
-    if z3.is_app_of(term, z3.Z3_OP_BMUL):
-        return functools.reduce(lambda x, y: x * y, map(linear, term.children()))
-    return term
-
-
 def const(term):
     """The number that a term is, or None."""
     return term.as_long() if z3.is_bv_value(term) else None
@@ -102,9 +91,14 @@ def signed(term):
     return term.as_signed_long() if z3.is_bv_value(term) else None
 
 
+def width_of(term):
+    """What term.size() is, without its object for the sort, which takes long."""
+    return z3.Z3_get_bv_sort_size(term.ctx_ref(), z3.Z3_get_sort(term.ctx_ref(), term.as_ast()))
+
+
 def part(term, low, width):
     """Bits of a term, from `low` on."""
-    if low == 0 and term.size() == width:
+    if low == 0 and width_of(term) == width:
         return term
     return simple(z3.Extract(low + width - 1, low, term))
 
@@ -163,39 +157,37 @@ class Facts:
     def add(self, *facts):
         self.list.extend(facts)
 
-    def relevant(self, path, terms):
-        """The facts that share symbols with the terms, directly or through others. Leaving out
-        facts is always safe: what can't be without them can't be with them. So at worst, a path is
-        run that can't happen, or right code is refused."""
-        left, chosen = self.list + list(path), []
-        names = set().union(*map(symbols, terms))
-        while True:
-            near = [t for t in left if symbols(t) & names]
-            if not near:
-                return chosen
-            chosen += near
-            left = [t for t in left if not symbols(t) & names]
-            names = names.union(*map(symbols, near))
-
     def model(self, path, *terms):
-        """A model in which the terms hold on this path, or None. Answers are remembered."""
-        wanted = self.relevant(path, terms) + list(terms)
-        key = frozenset(term.get_id() for term in wanted)
-        if key not in ANSWERS:
-            ANSWERS[key] = self.ask(wanted), wanted
+        """A model in which the terms hold on this path, or None. What can't be without some facts
+        can't be with them, so it is asked first without those about other symbols. Answers are
+        remembered, and a model that was found for other terms may be one for these."""
+        wanted, names = [*self.list, *path, *terms], frozenset().union(*map(symbols, terms))
+        for some in [term for term in wanted if symbols(term) <= names], wanted:
+            key = frozenset(term.get_id() for term in some)
+            if key not in ANSWERS:
+                both = z3.And(*some)
+                known = (m for m in MODELS if z3.is_true(m.eval(both, model_completion=True)))
+                ANSWERS[key] = next(known, None) or self.ask(some), some
+            if ANSWERS[key][0] is None:
+                return None
         return ANSWERS[key][0]
 
     def ask(self, terms):
         ASKED[0] += 1
-        solver = z3.Tactic('qfbv').solver()
-        solver.set('rlimit', EFFORT)
-        solver.add(*terms)
-        answer = solver.check()
-        if answer == z3.unknown:
+        for name, effort in ('smt', FEW), ('qfbv', EFFORT):
+            solver = z3.Tactic(name).solver()
+            solver.set('rlimit', effort)
+            solver.add(*terms)
+            if (answer := solver.check()) != z3.unknown:
+                break
+        else:
             raise Unknown('Z3 does not answer with the effort that is allowed')
         if second.NAME and (why := second.objection(solver, str(answer))):
             raise Unknown(why)
-        return solver.model() if answer == z3.sat else None
+        if answer == z3.unsat:
+            return None
+        MODELS.appendleft(solver.model())
+        return MODELS[0]
 
     def decide(self, path, cond):
         """True, False, or None if both can be on this path."""
@@ -212,16 +204,7 @@ class Facts:
 
     def holding(self, path, conds):
         """The names of those conditions that hold on this path."""
-        conds = {k: simple(cond) for k, cond in conds.items()}
-        sure = {k for k, cond in conds.items() if z3.is_true(cond)}
-        left = {k: c for k, c in conds.items() if k not in sure and not z3.is_false(c)}
-        while left:
-            model = self.model(path, z3.Not(z3.And(*left.values())))
-            if model is None:
-                break
-            left = {k: c for k, c in left.items()
-                    if z3.is_true(model.eval(c, model_completion=True))}
-        return sure | set(left)
+        return {name for name, cond in conds.items() if self.holds(path, cond)}
 
     def point(self, term):
         """The values of a term at three random points."""
@@ -241,7 +224,7 @@ class Facts:
 
     def values(self, term, path, most):
         """The values that a term can have on this path; None if there are more."""
-        # The first condition is always true, and makes the facts about the term relevant.
+        # The first condition is always true, and its symbols say which facts are asked first.
         found, conds = [], [term == term]
         while (model := self.model(path, *conds)) is not None:
             found.append(model.eval(term, model_completion=True))
