@@ -42,9 +42,8 @@ def verify(level, path, args, layout, choose):
           f'SHA-256 {hashlib.sha256(content).hexdigest()}')
     cases = choose([case for name in names_there(image, args.function, args.some)
                     for case in cases_of(name)], args)
-    progress = Progress(cases)
-    # Those that take longest come first, so that no process is left with one at the end.
-    cases.sort(key=lambda case: not case.has_loop())
+    progress = Progress(cases, args.jobs)
+    cases.sort(key=progress.order)
     try:
         for done in results(args.jobs, run_case, cases):
             if isinstance(done.failure, Unknown):
@@ -55,9 +54,8 @@ def verify(level, path, args, layout, choose):
             progress.add(done)
     finally:
         progress.table(failed)
-    print(f'{sum(done.asked for done in all_done)} questions to Z3'
-          f'{second.NAME and f" and {second.NAME}"}; {time.time() - begin:.0f} seconds, '
-          f'{args.jobs} processes')
+    print(f'{progress.total("asked")} questions to Z3{second.NAME and f" and {second.NAME}"}; '
+          f'{time.time() - begin:.0f} seconds, {args.jobs} processes')
     return image, all_done, failed
 
 
