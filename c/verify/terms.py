@@ -215,12 +215,10 @@ class Facts:
             known = self.points[term.get_id()] = term, tuple(values)
         return known[1]
 
-    def same(self, a, b, path=()):
-        """Whether two terms are equal on a path. Without a path, the answer is no, at no cost, if
-        they differ at a random point. The facts may leave that point out, so some are missed."""
-        if not path and self.point(a) != self.point(b):
-            return False
-        return z3.eq(a, b) or self.holds(path, a == b)
+    def same(self, a, b):
+        """Whether two terms are equal. The answer is no, at no cost, if they differ at a random
+        point. The facts may leave that point out, so some are missed."""
+        return self.point(a) == self.point(b) and (z3.eq(a, b) or self.holds((), a == b))
 
     def values(self, term, path, most):
         """The values that a term can have on this path; None if there are more."""
