@@ -9,7 +9,7 @@ pub(crate) fn has_two<const V: u8>() -> bool {
     V == 4
 }
 
-/// Returns whether the padding byte after `byte` is 2: if the version has it, and the top bit is set.
+/// Returns whether the padding byte after `byte` is 2: if V has it, and the byte's top bit is set.
 #[inline(always)]
 pub(crate) fn pads_with_two<const V: u8>(byte: u8) -> bool {
     has_two::<V>() && byte >= 128

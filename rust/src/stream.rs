@@ -8,8 +8,8 @@ pub(crate) mod streamed;
 
 /// A stream of either version, for generic code.
 ///
-/// The methods have other names than those of `StreamedKomihash`, so that the name alone tells which
-/// of the two a call means.
+/// The methods have other names than those of `StreamedKomihash`, so that the name alone tells
+/// which of the two a call means.
 ///
 /// ```
 /// use komihash_rattle::stream::KomiStream;

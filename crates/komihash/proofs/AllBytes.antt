@@ -1,7 +1,7 @@
 -- The bytes of words: how many, by index, and those of words that store bytes.
 use Rattle.std.proofs.Common.{◌≡◌, ℕ, zero, suc, ◌+◌, ◌*◌, ◌/◌, ◌%◌, ◌<◌, ◌≤◌, List, [], ◌∷◌, ◌-◌}
 use Rattle.std.proofs.Common.{length, take, drop, get_or, refl, ap, arith, ◌∙◌, sym, take-add, w64}
-use Rattle.std.proofs.lemmas.List.{drop-drop, length-drop}
+use Rattle.std.proofs.lemmas.List.{drop-drop}
 use Rattle.std.proofs.lemmas.List.{take-append-drop, take-append-le}
 use Rattle.std.proofs.lemmas.Slice.{take-put_mid, drop-put_mid}
 use borrow.Rule.Slice.PartMut.{put_mid}
@@ -9,7 +9,6 @@ use Rattle.std.proofs.Math.Nat.{div-div-eq-div-mul}
 use Rattle.std.specs.Int.{to_le_bytes}
 use Rattle.std.specs.Simd.Lanes.{digits_l}
 use Rattle.std.proofs.lemmas.Grind.{elements}
-use Rattle.std.proofs.lemmas.Bool.{cases_lt}
 use Rattle.komihash.specs.Internals.{stored_words, whole_words}
 use Rattle.komihash.specs.Words.{AreBytes, AreWords, word_of, all_bytes}
 use Rattle.komihash.proofs.Lists.{Covers, take-append}
@@ -32,8 +31,7 @@ pub take-all_bytes : (ws : List ℕ) (i over : ℕ) → i < length ws → over �
 take-all_bytes [] i over lt le = absurd (omega arith)
 take-all_bytes (w ∷ ws) zero over lt le = take-append-le over (to_le_bytes w64 w) (all_bytes ws) le
 take-all_bytes (w ∷ ws) (suc i) over lt le =
-    let next : 8 * suc i ≡ 8 + 8 * i = omega arith in
-    grind (arith, next, drop-drop (8 * i) 8 (all_bytes (w ∷ ws)), take-all_bytes ws i over)
+    grind (arith, drop-drop (8 * i) 8 (all_bytes (w ∷ ws)), take-all_bytes ws i over)
 
 -- one more word is written: its lowest j bytes
 pub Covers-more : (ws out new old : List ℕ) (i j k n : ℕ) → Covers (8 * i) out (all_bytes ws) old
@@ -41,16 +39,7 @@ pub Covers-more : (ws out new old : List ℕ) (i j k n : ℕ) → Covers (8 * i)
     → 8 * i + k ≡ n → n ≤ length out
     → Covers n (put_mid (8 * i) k out new) (all_bytes ws) old
 Covers-more ws out new old i j k n so is lt le sum room fits =
-    grind (
-      arith,
-      elements,
-      cases_lt,
-      take-all_bytes,
-      take-put_mid,
-      take-add,
-      drop-put_mid,
-      drop-drop,
-    )
+    grind (arith, elements, take-all_bytes, take-put_mid, take-add, drop-put_mid)
 
 -- a word's first digits are the bytes that it was made of
 digits-word_of : (n : ℕ) (xs : List ℕ) → AreBytes xs
@@ -78,9 +67,8 @@ bytes-stored_words (suc n) xs are le =
     let others = bytes-stored_words n (drop 8 xs) (AreBytes-drop 8 xs are) in
     let word = take-word_of xs are in
     let whole = take-append-drop 8 xs in
-    let size = length-drop 8 xs in
     let cut = take-append (length xs) (to_le_bytes w64 (word_of (take 8 xs))) in
-    grind (arith, others, word, whole, size, cut)
+    grind (arith, others, word, whole, cut)
 
 pub all_bytes-whole_words : (xs : List ℕ) → AreBytes xs → length xs % 8 ≡ 0
     → all_bytes (whole_words xs) ≡ xs
@@ -98,4 +86,4 @@ pub stored_words-all_bytes : (ws : List ℕ) → AreWords ws
     → stored_words (length ws) (all_bytes ws) ≡ ws
 unfolding stored_words
 stored_words-all_bytes [] fit = refl
-stored_words-all_bytes (w ∷ ws) fit = grind (arith, stored_words-all_bytes ws fit.1, fit.0)
+stored_words-all_bytes (w ∷ ws) fit = grind (arith, stored_words-all_bytes ws fit.1)

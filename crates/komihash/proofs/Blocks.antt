@@ -4,7 +4,6 @@ use Rattle.std.proofs.Common.{length, take, drop, refl, ap, arith, ◌∙◌, sy
 use Rattle.std.proofs.lemmas.List.{length-drop, take-append-drop, drop-drop}
 use Rattle.std.proofs.lemmas.List.{drop_at, append_assoc}
 use Rattle.std.proofs.lemmas.Grind.{elements}
-use Rattle.std.proofs.lemmas.Bool.{cases_lt}
 use Rattle.komihash.specs.Rounds.{Lanes, block_round}
 use Rattle.komihash.specs.Internals.{whole_words, after_words, block_lanes, after_blocks}
 use Rattle.komihash.proofs.WholeWords.{whole_words-append, length-whole_words}
@@ -71,14 +70,14 @@ block_lanes-more v l xs le = (completed v l [] xs 64 refl le).lanes
 -- ---- the words after them, and the bytes after their last word
 
 pub after_words-after_blocks : (m : List ℕ) → after_words (after_blocks m) ≡ after_words m
-after_words-after_blocks m = grind (arith, elements, cases_lt)
+after_words-after_blocks m = grind (arith, elements)
 
 pub after_words-whole_words : (m : List ℕ)
     → after_words (whole_words m) ≡ whole_words (after_blocks m)
 after_words-whole_words m =
     let n = length m - length m % 64 in
     let cut = whole_words-append (take n m) (after_blocks m) (8 * (length m / 64)) in
-    grind (arith, elements, take-append-drop n m, cut, length-whole_words)
+    grind (arith, elements, cut, length-whole_words)
 
 -- what absorbing one block needs, and what it needs that no block is left
 pub ruleset one_block = (block_lanes-more, after_blocks-more)

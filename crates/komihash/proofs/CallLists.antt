@@ -110,5 +110,5 @@ call_first v s next (Absorb bytes) calls few is =
     let pending = pending-absorb v s bytes.now few in
     let rest = costs-modulo (length s.pending + length bytes.now)
     (length (absorb v s bytes.now).pending) calls (omega arith) in
-    grind (arith, rest, append-nil, answers_after-same, absorb-append)
+    grind (arith, append-nil, answers_after-same, absorb-append)
 call_first v s next Answer calls few is = grind (arith, absorb-nothing)

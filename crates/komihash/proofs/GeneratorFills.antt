@@ -4,7 +4,6 @@ use Rattle.std.proofs.Common.{◌≡◌, ℕ, zero, suc, ◌+◌, ◌*◌, ◌%�
 use Rattle.std.proofs.Common.{length, refl, ap, arith, ◌∙◌, zero-add, suc-add, length-take-le}
 use Rattle.std.proofs.Common.{w64, slice_index}
 use Rattle.std.proofs.lemmas.List.Concat.{flat_map-append}
-use Rattle.std.proofs.Math.Seq.{take-append-add}
 use Rattle.std.specs.Int.{to_le_bytes}
 use Rattle.std.specs.List.{flat_map}
 use Rattle.std.proofs.lemmas.Grind.{elements}
@@ -71,4 +70,4 @@ pub fill-add : (v x y : ℕ) (s : ℕ × ℕ) → x % 8 ≡ 0
     → fill v s (x + y) ≡ fill v s x ++ fill v (after_fill v s x) y
 fill-add v x y s whole =
     let more = outputs-add v (fill_steps x) (fill_steps y) s in
-    grind (arith, elements, length-bytes, more, flat_map-append, take-append-add)
+    grind (arith, elements, length-bytes, more, flat_map-append)

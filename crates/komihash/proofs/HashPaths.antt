@@ -4,7 +4,6 @@ use Rattle.std.proofs.Common.{◌≡◌, ℕ, zero, suc, ◌+◌, ◌-◌, ◌*�
 use Rattle.std.proofs.Common.{List, [], ◌∷◌, ◌++◌, length, take, drop, refl, arith, drop-drop}
 use Rattle.std.proofs.Common.{eqb-true, slice_index}
 use native.Mathlib.Numerals.{unary_clauses}
-use Rattle.std.proofs.lemmas.Grind.{elements}
 use Rattle.komihash.specs.Rounds.{Lanes, lanes, seed_pair, block_round, pair_round, join, closing}
 use Rattle.komihash.specs.Hash.{hash_from_pair, hash_from_lanes, komi}
 use Rattle.komihash.specs.Internals.{stored_words, whole_words, after_words, final_word}
@@ -41,10 +40,9 @@ after_block : (v : ℕ) (s : Lanes) (ws : List ℕ) (last : ℕ)
     ≡ hash_from_pair (join true (block_lanes v s ws)) (after_words ws ++ last ∷ [])
 after_block v s (w0 ∷ w1 ∷ w2 ∷ w3 ∷ w4 ∷ w5 ∷ w6 ∷ w7 ∷ w ∷ ws) last =
     let block = w0 ∷ w1 ∷ w2 ∷ w3 ∷ w4 ∷ w5 ∷ w6 ∷ w7 ∷ [] in
-    let next : 8 * (length (block ++ w ∷ ws) / 8) ≡ 8 + 8 * (length (w ∷ ws) / 8) = omega arith in
     let drops = drop-drop (8 * (length (w ∷ ws) / 8)) 8 (block ++ w ∷ ws) in
     let more = after_block v (block_round v s block) (w ∷ ws) last in
-    grind (arith, next, drops, more)
+    grind (arith, drops, more)
 after_block v s ws last = refl
 
 -- with eight words or more one is
@@ -92,7 +90,7 @@ module _ (v seed : ℕ) (m : List ℕ) where
   pub komi_partial_word : 1 ≤ length m → length m < 8
       → komi v seed m ≡ closing pair (word_of (m ++ padding_byte v m ∷ []) ∷ [])
   unfolding stored_words
-  komi_partial_word some lt = grind (arith, elements, komi_short)
+  komi_partial_word some lt = grind (arith, komi_short)
 
   pub komi_one_word : 8 ≤ length m → length m < 16
       → komi v seed m ≡ closing pair (word_of (take 8 m) ∷ last ∷ [])

@@ -1,11 +1,10 @@
 -- Pending bytes, and the eight words that store them.
 use Rattle.std.proofs.Common.{◌≡◌, ℕ, ◌+◌, ◌*◌, ◌<◌, ◌≤◌, List, [], ◌∷◌, ◌++◌, Fits, length, take}
 use Rattle.std.proofs.Common.{drop, get_or, set, refl, ap, arith, ◌∙◌, w8, ◌-◌, ◌/◌, ◌%◌, ◌^◌}
-use Rattle.std.proofs.Common.{length-append, length-drop, length-take, take-take}
-use Rattle.std.proofs.Common.{append_assoc, append-nil, take-append-drop, bit_or}
-use Rattle.std.proofs.lemmas.Bool.{cases_eq, cases_lt}
+use Rattle.std.proofs.Common.{length-append, length-drop, length-take}
+use Rattle.std.proofs.Common.{append_assoc, take-append-drop, bit_or}
 use Rattle.std.proofs.lemmas.Grind.{elements}
-use Rattle.std.proofs.lemmas.List.{drop_all, drop-append-le, take-append-le}
+use Rattle.std.proofs.lemmas.List.{drop_all, drop-append-le}
 use Rattle.std.proofs.Math.Seq.{drop-append-add}
 use Rattle.std.specs.Prelude.{slice_index}
 use Rattle.std.specs.Simd.{first_chunks}
@@ -16,7 +15,6 @@ use Rattle.komihash.specs.Words.{AreBytes, word_of}
 use Rattle.komihash.proofs.AllBytes.{AreBytes-all_bytes, bytes-stored_words}
 use Rattle.komihash.proofs.WholeWords.{length-stored_words, get_or-stored_words, read_words}
 use Rattle.komihash.proofs.WholeWords.{stored_words-append, word_of-chunk}
-use Rattle.komihash.proofs.Lists.{take-append}
 use Rattle.komihash.proofs.WordOf.{AreBytes-append, AreBytes-take, AreBytes-drop, AreBytes-typed}
 use Rattle.komihash.proofs.WordOf.{word_of-join}
 
@@ -26,13 +24,13 @@ use Rattle.komihash.proofs.WordOf.{word_of-join}
 pub put_word : {ws zs : List ℕ} {gap gap_end : ℕ} → StoresBut ws zs gap gap_end → (i n x : ℕ)
     → (i ≤ gap) × (n ≤ i + 1) → ((n ≤ i → gap_end ≤ i) → x ≡ stored_word zs i)
     → StoresBut (set ws i x) zs n gap_end
-put_word but i n x within is = grind (arith, elements, cases_eq, but.words, but.size, is)
+put_word but i n x within is = grind (arith, elements)
 
 -- none is missing
 pub all_stored : {ws zs : List ℕ} {gap gap_end : ℕ} → StoresBut ws zs gap gap_end
     → (gap < 8 → gap_end ≤ gap) → ws ≡ stored_words 8 zs
 all_stored but none =
-    grind (arith, elements, but.words, but.size, length-stored_words, get_or-stored_words)
+    grind (arith, elements, length-stored_words, get_or-stored_words)
 
 -- a word of bytes that are put after others
 pub word_after : (xs bytes : List ℕ) (at from : ℕ) → length xs + from ≡ 8 * at
@@ -50,23 +48,11 @@ pub words_stored : (xs bytes piece out : List ℕ) (chunks : List (List ℕ)) (f
 words_stored xs bytes piece out chunks from n end is tail {ws} {at} but places are =
     let (place, count, few, size, ends, most) = places in
     record {
-      size = grind (arith, elements, but.size);
+      size = grind (arith, elements);
       words = λ k lt after.
           let read = word_of-chunk (length piece / 8) (k - at) piece in
           let stored = word_after xs bytes k (from + 8 * (k - at)) in
-          grind (
-            arith,
-            elements,
-            cases_lt k at,
-            cases_lt (k - at) n,
-            but.words k lt,
-            after,
-            are (k - at),
-            is,
-            read,
-            tail,
-            stored,
-          );
+          grind (arith, elements);
     }
 
 -- ---- the pending bytes, which are the first of those that words store
@@ -91,10 +77,10 @@ module _ {ws : List ℕ} {len : ℕ} (are : ArePending ws len) where
         let typed_bytes : AreBytes (pending ++ bytes) = search bytes_typed in
         let stored = bytes-stored_words 8 (pending ++ bytes) typed_bytes in
         let size = length-append pending bytes in
-        grind (arith, stored, size, is)
+        grind (arith, stored, size)
 
     pub ArePending_put : len + length bytes < 64 → ArePending new (len + length bytes)
-    ArePending_put few = grind (arith, bytes_put few, length-append pending bytes, is)
+    ArePending_put few = grind (arith, bytes_put few, length-append pending bytes)
 
     -- the first of them fill a block
     pub words_put : 64 ≤ len + length bytes
@@ -108,7 +94,7 @@ module _ {ws : List ℕ} {len : ℕ} (are : ArePending ws len) where
         let size = length-append pending front in
         let length_of = length-take (64 - len) bytes in
         let front_words = stored_words-append 8 0 (pending ++ front) rest in
-        grind (arith, cut, is, size, length_of, front_words, append-nil)
+        grind (arith, size, length_of, front_words)
 
   -- the word at a place
   pub get_or_pending : (i : ℕ) → i < 8 → get_or ws i 0 ≡ stored_word pending i
@@ -134,16 +120,7 @@ module _ {ws : List ℕ} {len : ℕ} (are : ArePending ws len) where
       → StoresBut ws (pending ++ bytes) (len / 8) gap_end
   before_partial bytes gap_end room = record {
     size = omega (arith, ap length are.words, length-stored_words 8 pending);
-    words = λ k few after. grind (
-      arith,
-      elements,
-      cases_lt k (len / 8),
-      get_or_pending k,
-      drop-append-le,
-      take-append-le,
-      drop_all,
-      after,
-    );
+    words = λ k few after. grind (arith, elements, get_or_pending k, drop-append-le, drop_all);
   }
 
   -- the partial word with those of them that fit
@@ -154,18 +131,7 @@ module _ {ws : List ℕ} {len : ℕ} (are : ArePending ws len) where
       let these = AreBytes-take 8 bytes typed in
       let word =
       word_of-join (take 8 partial) (take 8 bytes) (len % 8) (AreBytes_word (len / 8)) these in
-      grind (
-        arith,
-        word,
-        get_or_pending (len / 8),
-        length-partial,
-        are.count,
-        are.few,
-        take-take {A = ℕ},
-        length-take 8 partial,
-        drop-append-le,
-        take-append,
-      )
+      grind (arith, get_or_pending (len / 8), length-partial, drop-append-le)
 
   -- with that word stored, the words after it are missing, but for those that stay 0
   pub partial_stored : (bytes : List ℕ) (word gap gap_end : ℕ) → AreBytes bytes

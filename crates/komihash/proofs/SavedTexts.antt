@@ -2,13 +2,11 @@
 -- are one, and what the calls that save and resume say.
 use Rattle.std.proofs.Common.{◌≡◌, ℕ, ◌+◌, ◌-◌, ◌/◌, ◌≤◌, ◌↔◌, List, [], ◌∷◌, ◌++◌, length, take}
 use Rattle.std.proofs.Common.{drop, get_or, refl, arith, Fits, w8, Some}
-use Rattle.std.proofs.Common.{length-drop, length-take-le, drop-drop, take-append-drop, take_at}
-use Rattle.std.proofs.Common.{drop_at, slice_index, ◌==◌}
-use Rattle.std.proofs.lemmas.Bool.Decides.{nat_tests}
+use Rattle.std.proofs.Common.{length-drop, length-take-le, take-append-drop}
+use Rattle.std.proofs.Common.{slice_index, ◌==◌}
 use Rattle.std.proofs.lemmas.Slice.{take-put_mid, drop-put_mid}
 use borrow.Rule.Slice.PartMut.{put_mid}
 use Rattle.std.proofs.lemmas.Grind.{elements}
-use Rattle.std.proofs.lemmas.Bool.{cases_lt}
 use Rattle.komihash.specs.Rounds.{Lanes, in_order}
 use Rattle.komihash.specs.Saved.{lanes_at, pending_at, longest_text, text, IsText, IsTextAfter}
 use Rattle.komihash.specs.Saved.{Restored}
@@ -16,7 +14,7 @@ use Rattle.komihash.specs.Stream.{State, IsState, HasAbsorbed}
 use Rattle.komihash.specs.Internals.{IsHead, whole_words, xor_again}
 use Rattle.komihash.specs.Words.{AreBytes, AreWords, all_bytes}
 use Rattle.komihash.proofs.WholeWords.{length-whole_words}
-use Rattle.komihash.proofs.AllBytes.{length-all_bytes, stored_words-all_bytes}
+use Rattle.komihash.proofs.AllBytes.{stored_words-all_bytes}
 use Rattle.komihash.proofs.AllBytes.{all_bytes-whole_words, AreWords-stored_words}
 use Rattle.komihash.proofs.WordOf.{AreBytes-typed, AreBytes-take, AreBytes-drop}
 
@@ -59,10 +57,7 @@ unfolding text
 state_of-text v s are =
     let lanes = all_bytes (in_order s.lanes) in
     let words = stored_words-all_bytes (in_order s.lanes) are in
-    let count = length-all_bytes (in_order s.lanes) in
-    let front = take_at lanes s.pending 64 in
-    let rest = drop_at lanes s.pending 64 in
-    grind (arith, elements, nat_tests, words, count, front, rest)
+    grind (arith, words)
 
 pub length-text : (v : ℕ) (s : State) → length (text v s) ≡ pending_at + length s.pending
 unfolding text
@@ -71,7 +66,7 @@ length-text v s = omega arith
 pub IsTextAfter-most : (v seed : ℕ) (m bytes : List ℕ) → IsTextAfter v seed m bytes
     → length bytes ≤ longest_text
 unfolding IsTextAfter
-IsTextAfter-most v seed m bytes (s, is, absorbed, same) = grind (arith, is.few, length-text v s)
+IsTextAfter-most v seed m bytes (s, is, absorbed, same) = grind (arith, length-text v s)
 
 -- two states never share a text
 module _ (v w : ℕ) (s t : State) (same : text v s ≡ text w t) where
@@ -123,21 +118,21 @@ module _ (v : ℕ) (bytes : List ℕ) (are : AreBytes bytes) (laid : IsLaidOut v
   unfolding text
   laid_out-text =
       let words = all_bytes-whole_words lanes AreBytes-lanes (omega (arith, length-lanes)) in
-      let first = four bytes (omega (arith, laid.size)) in
+      let first = four bytes (omega (arith)) in
       let whole = take-append-drop 64 (drop lanes_at bytes) in
-      grind (arith, nat_tests, laid.head, laid.size, lanes-back, drop-drop, length-drop {A = ℕ})
+      grind (arith, laid.size, lanes-back)
 
   laid_out-state : IsState v (state_of bytes)
   laid_out-state =
       let words = AreWords-stored_words (length lanes / 8) lanes AreBytes-lanes in
       let pending = AreBytes-drop pending_at bytes are in
       let size = length-drop pending_at bytes in
-      grind (arith, nat_tests, words, pending, lanes-back, laid.head, laid.size, size)
+      grind (arith, words, pending, lanes-back, size)
 
 -- and the text of a state is laid out so
 text-laid_out : (v : ℕ) (s : State) → IsState v s → IsLaidOut v (text v s)
 unfolding text
-text-laid_out v s is = grind (arith, is, length-text v s)
+text-laid_out v s is = grind (arith)
 
 pub IsLaidOut-text : (v : ℕ) (bytes : List ℕ) → ((k : ℕ) → Fits w8 (get_or bytes k 0))
     → IsLaidOut v bytes ↔ IsText v bytes
@@ -155,7 +150,7 @@ pub restored : (v : ℕ) (bytes : List ℕ) (now : State) → IsText v bytes
     → IsState v now × Restored v (λ (s : State). s) bytes (Some now)
 unfolding IsTextAfter
 restored v bytes now (s, is, of_s) lanes pending had_block top_bit =
-    grind (arith, elements, cases_lt, state_of-text, length-text)
+    grind (arith, state_of-text, length-text)
 
 -- the text of a stream that has absorbed a message
 pub text-after : (v seed : ℕ) (s : State) (m bytes : List ℕ) → IsState v s → HasAbsorbed v seed s m

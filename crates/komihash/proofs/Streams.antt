@@ -16,7 +16,7 @@ use Rattle.komihash.specs.Internals.{final_word, padding_or_zero}
 use Rattle.komihash.specs.Stream.{State, IsState, HasAbsorbed, start, absorb, absorb_byte, answer}
 use Rattle.komihash.specs.Stream.{tail_of, Answered}
 use Rattle.komihash.specs.Words.{AreBytes}
-use Rattle.komihash.proofs.Blocks.{completed, block_lanes-few_bytes, after_blocks-few}
+use Rattle.komihash.proofs.Blocks.{completed, block_lanes-few_bytes}
 use Rattle.komihash.proofs.Blocks.{length-after_blocks, after_words-after_blocks}
 use Rattle.komihash.proofs.HashPaths.{komi_few, komi_long}
 use Rattle.komihash.proofs.HashWords.{AreWords-seed_pair, AreWords-block_lanes}
@@ -54,9 +54,8 @@ blocks_state-few : (v : ℕ) (s : State) (bytes : List ℕ) → length s.pending
     → blocks_state v s bytes ≡ record s { pending = s.pending ++ bytes }
 blocks_state-few v s bytes few =
     let lanes = block_lanes-few_bytes v s.lanes (s.pending ++ bytes) in
-    let left = after_blocks-few (s.pending ++ bytes) in
     let size = length-append s.pending bytes in
-    grind (arith, nat_tests, lanes, left, size)
+    grind (arith, lanes, size)
 
 absorb_byte-full : (v : ℕ) (s : State) (b : ℕ) (bytes : List ℕ) → length s.pending ≡ 63
     → ((absorb_byte v s b).pending ≡ [])
@@ -64,7 +63,7 @@ absorb_byte-full : (v : ℕ) (s : State) (b : ℕ) (bytes : List ℕ) → length
 absorb_byte-full v s b bytes full =
     let all = s.pending ++ b ∷ [] in
     let on = completed v s.lanes s.pending (b ∷ bytes) 1 in
-    grind (arith, nat_tests, elements, on, words_of-whole 8 all, length-append s.pending (b ∷ []))
+    grind (arith, elements, on, words_of-whole 8 all)
 
 pub absorb-blocks : (v : ℕ) (s : State) (bytes : List ℕ) → length s.pending < 64
     → absorb v s bytes ≡ blocks_state v s bytes
@@ -74,7 +73,7 @@ absorb-blocks v s (b ∷ bytes) few =
     let next = absorb-blocks v (absorb_byte v s b) bytes in
     let full = absorb_byte-full v s b bytes in
     let size = length-append s.pending (b ∷ []) in
-    grind (arith, cases_lt, nat_tests, next, full, size, append_assoc)
+    grind (arith, nat_tests, next, full, size, append_assoc)
 
 -- bytes that fill no block
 pub absorb-few : (v : ℕ) (s : State) (bytes : List ℕ) → length s.pending + length bytes < 64
@@ -84,7 +83,7 @@ absorb-few v s bytes few = grind (arith, absorb-blocks, blocks_state-few)
 -- ---- it stays a state
 
 pads_with_two-version : (v b : ℕ) → pads_with_two v b ≡ true → KeepsTopBit v
-pads_with_two-version v b h = grind (arith, nat_tests)
+pads_with_two-version v b h = grind (arith)
 
 -- a new stream's state, and the state after bytes
 pub IsState-start : (v seed : ℕ) → IsState v (start seed)
@@ -98,7 +97,7 @@ IsState-absorb v s bytes is are =
     let rest = AreBytes-drop (length all - length all % 64) all both in
     let words = AreWords-block_lanes v s.lanes (whole_words all) is.words in
     let count = length-after_blocks all in
-    grind (arith, nat_tests, rest, words, absorb-blocks, count, is, pads_with_two-version)
+    grind (arith, rest, words, absorb-blocks, count)
 
 -- what the proof of a write needs
 pub ruleset more_absorbed = (absorb-append, absorb-few, IsState-absorb, AreBytes-typed)
@@ -135,7 +134,7 @@ answer-none v s none = rw none
 tail_end-drop : (v n : ℕ) (m : List ℕ) → 0 < n → n ≤ length m
     → tail_end v (drop n m) true (pads_with_two v (slice_index m (n - 1))) ≡ padding_byte v m
 tail_end-drop v n m some le =
-    grind (arith, elements, cases_lt, length-drop, tail_end-pending, get_or-drop)
+    grind (arith, length-drop, tail_end-pending, get_or-drop)
 
 -- with those of a stream that has had no block
 tail_end-start : (v : ℕ) (m : List ℕ) → tail_end v m false false ≡ padding_or_zero v m
@@ -154,7 +153,7 @@ answer-joined v seed m =
           let words = after_words-after_blocks m in
           let end = tail_end-drop v (length m - length m % 64) m (omega arith) (omega arith) in
           let hash = komi_long v seed m le in
-          let some : nat_lt (length m) 64 ≡ false = grind (arith, nat_tests) in
+          let some : nat_lt (length m) 64 ≡ false = grind (arith) in
           rw (absorb-blocks v (start seed) m (omega arith))
           (answer-by_pair v (blocks_state v (start seed) m) ∙ rw some (cc))
     ]

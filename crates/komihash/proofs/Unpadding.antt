@@ -5,10 +5,8 @@ use Rattle.std.proofs.Common.{◌∷◌, ◌++◌, length, take, drop, get_or, r
 use Rattle.std.proofs.Common.{w64, pow_mono, drop-drop, drop_at, length-append}
 use Rattle.std.proofs.Common.{length-drop, length-take-le, take-append-drop, take_all, pow-add}
 use Rattle.std.proofs.Common.{slice_index, Fits}
-use Rattle.std.proofs.lemmas.Bool.{cases_lt}
 use Rattle.std.proofs.lemmas.Grind.{elements}
 use Rattle.std.proofs.lemmas.List.{length-replicate, get_or_past}
-use Rattle.std.proofs.lemmas.Nat.{shr_le, le-div}
 use Rattle.std.proofs.lemmas.Simd.{Each1-from_get_or}
 use Rattle.std.specs.Int.{to_le_bytes}
 use Rattle.komihash.specs.Internals.{padding_or_zero}
@@ -51,7 +49,7 @@ one_byte (x ∷ xs) k size small = grind (arith, all_zeros xs)
 -- ---- the bytes of padded words
 
 AreBytes-end : (b k : ℕ) → b < 256 → AreBytes (b ∷ replicate k 0)
-AreBytes-end b k small i = grind (arith, elements, get_or_past {X = ℕ}, cases_lt)
+AreBytes-end b k small i = grind (arith, elements, get_or_past {X = ℕ})
 
 bytes_of_padded : (v : ℕ) (m : List ℕ) {ws : List ℕ} → AreBytes m → padded_words v m ≡ ws
     → all_bytes ws ≡ m ++ padding_or_zero v m ∷ replicate (7 - length m % 8) 0
@@ -70,7 +68,7 @@ same_message v x y are_x are_y same =
     let ends = same_end x y in
     let bytes = bytes_of_padded v x are_x same in
     let same_bytes = bytes_of_padded v y are_y refl in
-    grind (arith, ends, padding_or_zero-some, bytes, same_bytes)
+    grind (arith, ends, bytes, same_bytes)
 
 -- ---- the highest byte of the last word that is not 0, which can only be the padding byte
 
@@ -87,7 +85,7 @@ module _ (v : ℕ) (ws : List ℕ) (fit : (k : ℕ) → Fits w64 (get_or ws k 0)
       let from = drop (8 * i) bytes in
       let eight = take_all 8 from (omega (arith, length-drop (8 * i) bytes, length-all_bytes ws)) in
       let rest = word_of-drop r from (AreBytes-drop (8 * i) bytes (AreBytes-all_bytes ws)) in
-      grind (arith, eight, take-all_bytes ws i 8, (fit i).fits, drop-drop r (8 * i) bytes, rest)
+      grind (arith, eight, take-all_bytes ws i 8, drop-drop r (8 * i) bytes)
 
   pub padded_zero : ArePadded v ws → last ≡ 0 → length ws ≡ 1
   padded_zero (m, are, is) none =
@@ -100,12 +98,10 @@ module _ (v : ℕ) (ws : List ℕ) (fit : (k : ℕ) → Fits w64 (get_or ws k 0)
         length-append m (end ∷ zeros),
         length-replicate {A = ℕ},
         length-all_bytes ws,
-        bytes,
       ) in
       let back = drop_at m (end ∷ zeros) n in
       let word = word_from (n % 8) in
-      let shifted = shr_le last (8 * (n % 8)) in
-      grind (arith, cases_lt, bytes, back, word, shifted)
+      grind (arith, bytes, back, word)
 
   -- the message that would end below index r of the last word
   module _ (r : ℕ) (below : r < 8) (some : 0 < length ws)
@@ -126,7 +122,6 @@ module _ (v : ℕ) (ws : List ℕ) (fit : (k : ℕ) → Fits w64 (get_or ws k 0)
           elements,
           one_byte (drop size (all_bytes ws)) (7 - r),
           word_from r some,
-          length-message,
           length-all_bytes ws,
           take-append-drop size (all_bytes ws),
         )
@@ -137,13 +132,13 @@ module _ (v : ℕ) (ws : List ℕ) (fit : (k : ℕ) → Fits w64 (get_or ws k 0)
         let fits = stored_words-all_bytes ws (Each1-from_get_or _ ws 0 (λ k _. (fit k).fits)) in
         let whole = words_of-whole (length ws) (all_bytes ws) in
         let count = length-all_bytes ws in
-        grind (arith, length-message, split, whole, count, fits)
+        grind (arith, split, whole, count, fits)
 
     pub one_place : ArePadded v ws → (0 < size) × (last / 2 ^ (8 * r) ≡ padding_byte v message)
     one_place (m, are, is) =
         let ends = same_end message m _ _ (7 - length message % 8) (7 - length m % 8) in
         let same = ends (λ _. above_0) (λ some. (padding_or_zero-some v m some).1) in
-        grind (arith, same, split, bytes_of_padded v m are is, length-message)
+        grind (arith, same, split, bytes_of_padded v m are is)
 
 -- ---- what the code finds
 
@@ -153,7 +148,7 @@ highest w bit low high =
     let at = 8 * (bit / 8) in
     let le : 2 ^ at ≤ 2 ^ bit = pow_mono (omega arith) in
     let lt : 2 ^ (1 + bit) ≤ 2 ^ (8 + at) = pow_mono (omega arith) in
-    grind (arith, elements, le-div, pow-add)
+    grind (arith, pow-add)
 
 pub byte_of_words : (ws : List ℕ) (at : ℕ) → at < 8 * length ws
     → get_or (to_le_bytes w64 (get_or ws (at / 8) 0)) (at % 8) 0 ≡ get_or (all_bytes ws) at 0
@@ -162,7 +157,7 @@ byte_of_words ws at lt = grind (arith, elements, take-all_bytes ws (at / 8) 8)
 pub padding_byte_at : (v : ℕ) (ws : List ℕ) (n last : ℕ) → 0 < n → n ≤ 8 * length ws
     → last ≡ slice_index (all_bytes ws) (n - 1)
     → padding_after (pads_with_two v last) ≡ padding_byte v (take n (all_bytes ws))
-padding_byte_at v ws n last some le is = grind (arith, elements, cases_lt, length-all_bytes)
+padding_byte_at v ws n last some le is = grind (arith, elements, length-all_bytes)
 
 -- what the proof of `unpad` needs
 pub ruleset unpad_laws = (AreBytes-take, AreBytes-all_bytes, same_message)

@@ -5,7 +5,6 @@ use Rattle.std.proofs.lemmas.List.{length-append, length-drop, drop-drop, take-a
 use Rattle.std.proofs.lemmas.List.{drop-append-le, drop_all, take_all}
 use Rattle.std.specs.Int.{from_le_bytes, w64}
 use Rattle.std.specs.Simd.{first_chunks}
-use Rattle.std.proofs.lemmas.Grind.{elements}
 use Rattle.komihash.specs.Internals.{stored_words, whole_words}
 use Rattle.komihash.specs.Words.{word_of, words_of}
 
@@ -36,11 +35,9 @@ pub word_of-chunk : (n i : ℕ) (xs : List ℕ) → i < n → 8 * n ≤ length x
 word_of-chunk zero i xs lt le = absurd (omega arith)
 word_of-chunk (suc n) zero xs lt le = grind arith
 word_of-chunk (suc n) (suc i) xs lt le =
-    let next : 8 + 8 * i ≡ 8 * suc i = omega arith in
     let drops = drop-drop (8 * i) 8 xs in
-    let size = length-drop 8 xs in
     let chunk = word_of-chunk n i (drop 8 xs) in
-    grind (arith, elements, next, drops, size, chunk)
+    grind (arith, drops, chunk)
 
 -- what proofs that read whole words one by one need
 pub ruleset read_words = (length-stored_words, get_or-stored_words, word_of-chunk)

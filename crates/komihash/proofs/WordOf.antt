@@ -1,13 +1,12 @@
 -- Words of lists of bytes that are cut and joined.
 use Rattle.std.proofs.Common.{◌≡◌, ℕ, zero, suc, ◌+◌, ◌-◌, ◌*◌, ◌/◌, ◌%◌, ◌^◌, ◌<◌, ◌≤◌, List, []}
-use Rattle.std.proofs.Common.{◌∷◌, ◌++◌, length, take, drop, get_or, ap, arith, ◌∙◌, take-add}
-use Rattle.std.proofs.Common.{Fits, w8, refl, drop-drop, replicate, length-append}
-use Rattle.std.proofs.Common.{length-drop, length-take-le, take_all, get_or-drop, take_at, drop_at}
+use Rattle.std.proofs.Common.{◌∷◌, ◌++◌, length, take, drop, get_or, ap, arith, ◌∙◌}
+use Rattle.std.proofs.Common.{Fits, w8, refl, replicate, length-append}
+use Rattle.std.proofs.Common.{take_all, get_or-drop, take_at, drop_at}
 use Rattle.std.proofs.Common.{pow-add, pow_pos, bit_or}
-use Rattle.std.proofs.lemmas.Bool.{cases_lt}
 use Rattle.std.proofs.lemmas.Grind.{elements}
-use Rattle.std.proofs.lemmas.List.{get_or_past, drop-append-le, take-append-le}
-use Rattle.std.proofs.lemmas.Nat.{shl-shr, shr_high, mod_low, mod-pow-add}
+use Rattle.std.proofs.lemmas.List.{get_or_past, drop-append-le}
+use Rattle.std.proofs.lemmas.Nat.{shl-shr, mod-pow-add}
 use Rattle.std.proofs.Math.Nat.{mul-mod_left}
 use Rattle.std.specs.Int.Bits.{or_shifted_r}
 use Rattle.komihash.specs.Words.{AreBytes, word_of}
@@ -19,13 +18,13 @@ pub AreBytes-typed : (xs : List ℕ) → ((k : ℕ) → Fits w8 (get_or xs k 0))
 AreBytes-typed xs h k = (h k).fits
 
 AreBytes-one : (b : ℕ) → b < 256 → AreBytes (b ∷ [])
-AreBytes-one b h k = grind (arith, elements)
+AreBytes-one b h k = grind (arith)
 
 pub AreBytes-append : (xs ys : List ℕ) → AreBytes xs → AreBytes ys → AreBytes (xs ++ ys)
-AreBytes-append xs ys h g k = grind (arith, elements, cases_lt, h k, g (k - length xs))
+AreBytes-append xs ys h g k = grind (arith, elements)
 
 pub AreBytes-take : (k : ℕ) (xs : List ℕ) → AreBytes xs → AreBytes (take k xs)
-AreBytes-take k xs h i = grind (arith, elements, get_or_past {X = ℕ}, cases_lt, h i)
+AreBytes-take k xs h i = grind (arith, elements, get_or_past {X = ℕ})
 
 pub AreBytes-drop : (k : ℕ) (xs : List ℕ) → AreBytes xs → AreBytes (drop k xs)
 AreBytes-drop k xs h i = rw get_or-drop (h (k + i))
@@ -47,7 +46,7 @@ word_of-cut (suc k) (x ∷ xs) =
 word_of-append : (xs ys : List ℕ)
     → word_of (xs ++ ys) ≡ word_of ys * 2 ^ (8 * length xs) + word_of xs
 word_of-append xs ys =
-    grind (arith, elements, word_of-cut (length xs) (xs ++ ys), take_at xs ys, drop_at xs ys)
+    grind (arith, word_of-cut (length xs) (xs ++ ys), take_at xs ys, drop_at xs ys)
 
 -- zeros after others
 pub word_of-zeros : (xs : List ℕ) (k : ℕ) → word_of (xs ++ replicate k 0) ≡ word_of xs
@@ -63,11 +62,11 @@ word_of-take-lt (suc k) (x ∷ xs) h =
 
 -- so a mask leaves the first bytes, and a shift to the right the others
 word_of-take : (k : ℕ) (xs : List ℕ) → AreBytes xs → word_of (take k xs) ≡ word_of xs % 2 ^ (8 * k)
-word_of-take k xs h = grind (arith, word_of-cut k xs, mod_low, word_of-take-lt k xs h)
+word_of-take k xs h = grind (arith, word_of-cut k xs, word_of-take-lt k xs h)
 
 pub word_of-drop : (k : ℕ) (xs : List ℕ) → AreBytes xs
     → word_of (drop k xs) ≡ word_of xs / 2 ^ (8 * k)
-word_of-drop k xs h = grind (arith, word_of-cut k xs, shr_high, word_of-take-lt k xs h)
+word_of-drop k xs h = grind (arith, word_of-cut k xs, word_of-take-lt k xs h)
 
 -- ---- bytes that a shift to the left and `|` set after others
 
@@ -102,7 +101,7 @@ pub word_of-last : (n j s : ℕ) (xs : List ℕ) → AreBytes xs → n ≤ lengt
 word_of-last n j s xs h many within e most =
     let last = drop (length xs - n) xs in
     let high = word_of-drop (j + n - length xs) last (AreBytes-drop (length xs - n) xs h) in
-    grind (arith, elements, drop-drop, high)
+    grind (arith, elements, high)
 
 -- four to seven bytes, read in two pieces of four from both ends, and a byte b after them
 pub word_of-two_ends : (xs : List ℕ) (b s : ℕ) → AreBytes xs → 4 ≤ length xs → length xs < 8
@@ -132,11 +131,6 @@ word_of-two_ends xs b s h least most small e =
       eight,
       length-append xs (b ∷ []),
       drop-append-le k xs (b ∷ []),
-      take-append-le 4 xs (b ∷ []),
-      take-add 4 4 zs,
-      length-drop k xs,
-      length-drop k zs,
-      length-take-le 4 zs,
     )
 
 -- at most three bytes, each read by itself

@@ -15,7 +15,8 @@ pub enum Fault {
 }
 
 impl Fault {
-    /// Returns the message.
+    /// Returns the message, for callers that report a fault themselves. The program's own lines are
+    /// whole, so that one write takes them.
     pub fn text(&self) -> &'static str
         ensures { result.now ≡ fault_text self.now }
     {

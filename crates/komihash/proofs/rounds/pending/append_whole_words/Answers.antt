@@ -15,8 +15,10 @@ returns-then-has_two_more c =
     let count = length-drop from c.args.bytes.now in
     let partial = c.append_within_word.ensures at (end + 1) (omega arith) in
     let width : at + n - at ≡ n = omega arith in
-    let piece = take_all (length c.args.bytes.now - from) (drop from c.args.bytes.now) (omega arith) in
-    rw (c.word_index-next.ensures, width) (words_stored _ c.args.bytes.now _ _ _ from n end c.as_chunks.ensures.front piece partial
+    let rest = drop from c.args.bytes.now in
+    let piece = take_all (length c.args.bytes.now - from) rest (omega arith) in
+    rw (c.word_index-next.ensures, width)
+    (words_stored _ c.args.bytes.now _ _ _ from n end c.as_chunks.ensures.front piece partial
     (omega arith) c.store_words.ensures.words)
 
 pub returns-then-has_next : goal.returns-then-has_next

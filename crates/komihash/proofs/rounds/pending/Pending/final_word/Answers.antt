@@ -38,6 +38,7 @@ returns g c =
     let size = length-partial are in
     let whole = take_all 8 (partial are) (omega arith) in
     let after : take 8 (partial are) ≡ after_words xs = rw are.count whole in
-    rw (c.word_index.ensures, ← c.self.view_is, padding, get_or_pending are (len / 8) (omega arith), ← after)
+    let word = get_or_pending are (len / 8) (omega arith) in
+    rw (c.word_index.ensures, ← c.self.view_is, padding, word, ← after)
     (word_of-push (take 8 (partial are)) (len % 8) _ (AreBytes_word are (len / 8))
     (omega (arith, length-take {A = ℕ})) (omega arith) (grind arith))
