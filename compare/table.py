@@ -142,12 +142,8 @@ def rewrite(name, pattern, parts):
     path.write_text(text, "utf-8")
 
 
-def main(circumstances, word, *files):
-    times, measured = read(files), f"Measured on {circumstances}."
-    if word:
-        rows = [*times, *EACH]
-        print(table(times, RUST, rows), table(times, C, rows), measured, sep="\n\n")
-        return
+def rewrite_all(times, measured):
+    """Makes the tables of the pages, and the lines of the picture, anew."""
     singles = {one: row for row, ones in EACH.items() for one in ones}
     rows = list(dict.fromkeys(singles.get(row, row) for row in times))
     short = table(times, RUST, SHORT_RUST)
@@ -164,6 +160,15 @@ def main(circumstances, word, *files):
         rewrite(page, "<!-- speed -->.*<!-- /speed -->", [part])
     lines = [f'points="{" ".join(points(times, key))}"' for key in LINES]
     rewrite("speed.svg", 'points="[^"]*"', lines)
+
+
+def main(circumstances, word, *files):
+    times, measured = read(files), f"Measured on {circumstances}."
+    if word:
+        rows = [*times, *EACH]
+        print(table(times, RUST, rows), table(times, C, rows), measured, sep="\n\n")
+    else:
+        rewrite_all(times, measured)
 
 
 main(*sys.argv[1:])

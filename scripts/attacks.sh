@@ -1,25 +1,22 @@
 #!/usr/bin/env bash
 # Checks that no other crate can raise a tally, write a stream that promises less, or hash in a
-# version 3. Each attack in attacks/ is a module of a crate above `komihash`, or a file of that
+# version 3. Each attack in attacks.txt is a module of a crate above `komihash`, or a file of that
 # crate's proofs. `tally_raised_by_hand` has the handwritten proof of `Tally::raise`, but where this
 # uses the key of tallies, it says that nothing changes. `stream_with_weaker_contract` is
 # `stream_not_counted` with a contract that doesn't ask for counts.
 set -u
-cd "$(dirname "$0")/attacks" || exit 1
-. ../../c/tests/cases.sh
+cd "$(dirname "$0")" || exit 1
+. ../c/tests/cases.sh
 
 above=$scratch/crates/above
 by_hand=$above/proofs/tally_raised_by_hand/raised
 mkdir -p "$above/src" "$by_hand"
-cp -r ../../crates/komihash "$scratch/crates"
+cp -r ../crates/komihash "$scratch/crates"
 printf 'komihash:\nabove: komihash\n' > "$scratch/crates.txt"
-split() { # FILE FOLDER ENDING
-    awk -v "folder=$above/$2" -v "ending=$3" '
-        /^(\/\/|--) [a-z_]+$/ { file = folder "/" $2 "." ending }
-        file { print > file }' "$1"
-}
-split modules.rt.txt src rt
-split proofs.antt.txt proofs antt
+awk -v "above=$above" '
+    /^\/\/ [a-z_]+$/ { file = above "/src/" $2 ".rt" }
+    /^-- [a-z_]+$/ { file = above "/proofs/" $2 ".antt" }
+    file { print > file }' attacks.txt
 sed -e '1a ghost use Rattle.komihash.specs.Stream.{Answered};' \
     -e 's/^impl KomiStream.*/& \/\/ refused: answer-tells/' \
     -e 's/ -> u64 .*costs/ -> u64 ensures { Answered 5 self.now.0.state result } {/' \
@@ -29,7 +26,7 @@ sed -Ez '
     s/raise_spec/raised_spec/g
     s/use Rattle\.komihash\.proofs\.TallyProofs[^\n]*/use base.Logic.{id⊢}/
     s/\(tally_changed [^$]*\) \$/(id⊢ 𝓤 _) $ -- refused: Sealed.owned_by_tally/' \
-    ../../crates/komihash/proofs/tally/Tally/raise/Proof.antt > "$by_hand/Proof.antt"
+    ../crates/komihash/proofs/tally/Tally/raise/Proof.antt > "$by_hand/Proof.antt"
 cd "$above" || exit
 
 # Checks the crate, whose modules are the files that are there.

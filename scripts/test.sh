@@ -1,5 +1,5 @@
 #!/usr/bin/env bash
-# Runs every proof and test: the rules for copies, which take seconds, `rt ci`, and the tests of the
+# Runs every proof and test: the checks of pages, which take seconds, `rt ci`, and the tests of the
 # built program and of the library for C, whose assembly is made anew. The packages need none of the
 # other parts, so they are tested beside them, on what those leave of the processors.
 #

@@ -88,7 +88,6 @@ calls() {
             return
     done
 }
-on_oldest_processor() { RUN='qemu-x86_64 -cpu Opteron_G1' && calls "$archive"; }
 # Compiles calls that were written for the C original, with these options.
 original() { runs "$@" -I "$prefix/include/komihash_rattle" tests/original.c -x none "$archive"; }
 by_python() { PYTHONPATH=examples python3 -B -W error tests/calls.py < vectors.tsv; }
@@ -247,8 +246,6 @@ if [ ! "$CROSS" ]; then
         unwinds "$ASSEMBLY/${machine%%-*}.S" 5
 fi
 compiler=$CC
-[ "${machine%%-*}$system" != x86_64Linux ] || needs qemu-x86_64 \
-    'calls.c on a processor of 2003' prints "$values" on_oldest_processor
 for target in aarch64_be:big-endian x86_64-linux-gnux32:64-bit x86_64-pc-windows-msvc:MinGW-w64; do
     needs clang "the header refuses ${target%:*}" fails "${target#*:}" \
         clang "--target=${target%:*}" -x c -ffreestanding -fsyntax-only komihash_rattle.h

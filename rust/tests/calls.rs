@@ -2,7 +2,7 @@
 //! where a call must panic.
 mod by_name;
 
-use by_name::{bytes, calls, hexadecimal, number, row};
+use by_name::{bytes, calls, hexadecimal, number, row, word};
 use komihash_rattle::stream::{Call, KomiStream, LONGEST_TEXT, run, run_on};
 use std::collections::HashMap;
 use std::hash::{BuildHasherDefault, Hash, Hasher};
@@ -28,7 +28,7 @@ macro_rules! tests {
                         hexadecimal(&out[..length])
                     }
                     ("resume", [text]) => StreamedKomihash::resume(&bytes(text))
-                        .map_or("none".to_string(), |it| format!("{:016x}", it.finish())),
+                        .map_or("none".to_string(), |it| word(it.finish())),
                     ("unpad", words) => {
                         let words: Vec<_> = words.iter().map(|word| number(word)).collect();
                         let mut out = vec![0; 8 * words.len()];

@@ -9,6 +9,10 @@ pub fn number(digits: &str) -> u64 {
     u64::from_str_radix(digits, 16).expect("a number")
 }
 
+pub fn word(value: u64) -> String {
+    format!("{value:016x}")
+}
+
 pub fn bytes(digits: &str) -> Vec<u8> {
     (0..digits.len()).step_by(2).map(|at| number(&digits[at..at + 2]) as u8).collect()
 }
@@ -37,7 +41,7 @@ macro_rules! calls {
     ($module:path) => {{
         use std::collections::HashMap;
         use std::hash::{BuildHasher, BuildHasherDefault, Hasher};
-        use $crate::by_name::{Calls, bytes, hexadecimal, number};
+        use $crate::by_name::{Calls, bytes, hexadecimal, number, word};
         use $module::{KomiHasher, Komirand, StreamedKomihash, komihash};
 
         /// Returns what fills of these lengths write, one after the other.
@@ -52,39 +56,45 @@ macro_rules! calls {
             hexadecimal(&out)
         }
 
+        /// Returns the hash after each piece.
+        fn streamed(seed: &str, pieces: &[&str]) -> String {
+            let mut stream = StreamedKomihash::new_with_seed(number(seed));
+            let answers = pieces.iter().map(|piece| {
+                stream.write(&bytes(piece));
+                word(stream.finish())
+            });
+            answers.collect()
+        }
+
+        /// Returns the hash of a tuple of several kinds of values, which are made of a message.
+        fn hash_one(message: &[u8]) -> String {
+            let (bytes, _) = message.as_chunks::<8>();
+            let numbers: Vec<_> = bytes.iter().map(|it| u64::from_le_bytes(*it)).collect();
+            let small: Vec<_> = numbers.iter().map(|it| (*it as i32, *it as u16)).collect();
+            let value = (message, bytes, &small, "text", message.is_empty(), &numbers[..]);
+            let build = BuildHasherDefault::<KomiHasher>::new();
+            word(build.hash_one((value, Some('x'), message.len())))
+        }
+
+        /// Returns keys in the order of a map.
+        fn order(keys: &[&str]) -> String {
+            let pairs = keys.iter().enumerate().map(|(at, key)| (*key, at));
+            let map: HashMap<_, _, BuildHasherDefault<KomiHasher>> = pairs.collect();
+            assert!(keys.iter().all(|key| keys[map[key]] == *key));
+            map.into_keys().collect()
+        }
+
         let calls: Calls = |call, given| {
             Some(match (call, given) {
-                ("komihash", [seed, message]) => {
-                    format!("{:016x}", komihash(&bytes(message), number(seed)))
-                }
-                ("stream", [seed, pieces @ ..]) => {
-                    let mut stream = StreamedKomihash::new_with_seed(number(seed));
-                    let answers = pieces.iter().map(|piece| {
-                        stream.write(&bytes(piece));
-                        format!("{:016x}", stream.finish())
-                    });
-                    answers.collect()
-                }
+                ("komihash", [seed, message]) => word(komihash(&bytes(message), number(seed))),
+                ("stream", [seed, pieces @ ..]) => streamed(seed, pieces),
                 ("hasher", [seed, writes @ ..]) => {
                     let mut hasher = KomiHasher::new(number(seed));
                     writes.iter().for_each(|it| hasher.write(&bytes(it)));
-                    format!("{:016x}", hasher.finish())
+                    word(hasher.finish())
                 }
-                ("hash_one", [message]) => {
-                    let (message, build) =
-                        (bytes(message), BuildHasherDefault::<KomiHasher>::new());
-                    let (bytes, _) = message.as_chunks::<8>();
-                    let numbers: Vec<_> = bytes.iter().map(|it| u64::from_le_bytes(*it)).collect();
-                    let small: Vec<_> = numbers.iter().map(|it| (*it as i32, *it as u16)).collect();
-                    let value = (&message, bytes, &small, call, message.is_empty(), &numbers[..]);
-                    format!("{:016x}", build.hash_one((value, Some('x'), message.len())))
-                }
-                ("order", keys) => {
-                    let pairs = keys.iter().enumerate().map(|(at, key)| (*key, at));
-                    let map: HashMap<_, _, BuildHasherDefault<KomiHasher>> = pairs.collect();
-                    assert!(keys.iter().all(|key| keys[map[key]] == *key));
-                    map.into_keys().collect()
-                }
+                ("hash_one", [message]) => hash_one(&bytes(message)),
+                ("order", keys) => order(keys),
                 ("new", [x, y, lengths @ ..]) => {
                     filled(Komirand::new(number(x), number(y)), lengths)
                 }
@@ -94,7 +104,7 @@ macro_rules! calls {
                 }
                 ("next", [x, y, count]) => {
                     let mut rand = Komirand::new(number(x), number(y));
-                    (0..number(count)).map(|_| format!("{:016x}", rand.next())).collect()
+                    (0..number(count)).map(|_| word(rand.next())).collect()
                 }
                 _ => return None,
             })
