@@ -1,6 +1,7 @@
 """Tells what was done of each function. Nothing here needs trust."""
 import collections
 import time
+import second
 from cases import row_of
 
 ROW = '{:36} {:>6} {:>23} {:>9} {:>6} {:>8}'.format
@@ -10,8 +11,9 @@ class Progress:
     """What was done of the cases, told as it goes."""
 
     def __init__(self, cases):
-        self.all, self.told = collections.Counter(case.name for case in cases), time.time()
-        self.done = collections.defaultdict(list)
+        self.all = collections.Counter(case.name for case in cases)
+        self.done, self.begin = collections.defaultdict(list), time.time()
+        self.told = self.begin
 
     def add(self, done):
         name = done.case.name
@@ -34,3 +36,6 @@ class Progress:
                           'contents' if said.by_contents else 'lengths',
                           max(one.depth for one in done),
                           f'{sum(one.seconds for one in done):.0f}'))
+        asked = sum(one.asked for done in self.done.values() for one in done)
+        print(f'{asked} questions to Z3{second.NAME and f" and {second.NAME}"}; '
+              f'{time.time() - self.begin:.0f} seconds')
