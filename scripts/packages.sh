@@ -82,7 +82,6 @@ part_with "$arm-gcc $debian $python" from_rust aarch64-unknown-linux-gnu \
 tests=c/verify/tests out=$(echo "$scratch"/komihash_rattle-*/out) so=libkomihash_rattle.so.1
 libraries=("x86-64:$out/$so" "x86-64-v3:$out/glibc-hwcaps/x86-64-v3/$so")
 [ ! -d "$out/$arm" ] || libraries+=("armv8-a:$out/$arm/$so")
-needs "$python" 'edits of the assembly are refused' bash $tests/edits.sh "$python" x86_64
 needs "$python" 'only code that the check can follow is accepted' \
     bash $tests/accepted_code.sh "$python"
 needs "$python" 'edits of files are refused' "$python" -B $tests/attacks.py "${libraries[@]}"

@@ -3,6 +3,7 @@ trust."""
 import collections
 import statistics
 import time
+import second
 from cases import row_of
 
 
@@ -14,7 +15,8 @@ class Progress:
     """What was done of the cases, told as it goes."""
 
     def __init__(self, cases, jobs):
-        self.jobs, self.told = jobs, time.time()
+        self.jobs, self.begin = jobs, time.time()
+        self.told = self.begin
         self.first = {kind(case): case for case in reversed(cases)}
         self.all = collections.Counter(case.name for case in cases)
         self.left = collections.Counter(map(kind, cases))
@@ -61,3 +63,5 @@ class Progress:
                           'contents' if said.by_contents else 'lengths',
                           max(d.depth for d in self.done[name]),
                           f'{self.total("seconds", name):.0f}'))
+        print(f'{self.total("asked")} questions to Z3{second.NAME and f" and {second.NAME}"}; '
+              f'{time.time() - self.begin:.0f} seconds, {self.jobs} processes')

@@ -6,8 +6,6 @@ import argparse
 import hashlib
 import os
 import sys
-import time
-import second
 from cases import NAMES, cases_of, open_library, run_case
 from layout import Ours
 from progress import Progress
@@ -34,7 +32,7 @@ def names_there(image, names, some):
 
 def verify(level, path, args, layout, choose):
     """Checks a library, and returns it, what was done, and failures by the name of a function."""
-    begin, all_done, failed = time.time(), [], {}
+    all_done, failed = [], {}
     with open(path, 'rb') as file:
         content = file.read()
     image = open_library(content, level, layout, args.red_zone)
@@ -54,8 +52,6 @@ def verify(level, path, args, layout, choose):
             progress.add(done)
     finally:
         progress.table(failed)
-    print(f'{progress.total("asked")} questions to Z3{second.NAME and f" and {second.NAME}"}; '
-          f'{time.time() - begin:.0f} seconds, {args.jobs} processes')
     return image, all_done, failed
 
 
