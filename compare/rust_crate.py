@@ -10,7 +10,7 @@ from checks import check
 from definition import FALSE, TRUE
 from header import FILL, HAD_BLOCK
 from layout import Ours
-from loops import Write
+from any_length import Write
 from report import main
 from terms import bv, join, part, secret, simple, sym
 from tests.sample import choose, options

@@ -2,11 +2,11 @@
 import collections
 import signal
 import time
-import functions as f
+import fixed_lengths as fixed
 import header
-import loops
 import terms
 from aarch64 import Arm
+from any_length import Fill, Hash, Pad, Unpad, Write
 from calls import Library
 from definition import VERSIONS
 from image import Image
@@ -27,32 +27,32 @@ def each(numbers):
     return [(k,) for k in numbers]
 
 
-# Most cases are one length, remainder or number of pending bytes. A class of loops.py stands for
-# all calls that are longer than the cases before it.
+# Most cases are one length, remainder or number of pending bytes. A class stands for all calls that
+# are longer than the cases before it.
 FILLS = each(range(64))
 FUNCTIONS = {
     '': Function('3 + 4*(n//64) + n%64//16', False, {
-        f.hash_of: each(range(loops.Hash.GRAIN)),
-        loops.Hash: each(range(2**loops.Hash.FIXED_BITS))}),
-    '_start': Function('1', False, {f.start_of: [()]}),
+        fixed.hash_of: each(range(Hash.GRAIN)),
+        Hash: each(range(2**Hash.FIXED_BITS))}),
+    '_start': Function('1', False, {fixed.start_of: [()]}),
     '_write': Function('4*((f+n)//64)', False, {
-        f.write_within: [(p, n) for p in range(64) for n in range(64 - p)], loops.Write: FILLS}),
+        fixed.write_within: [(p, n) for p in range(64) for n in range(64 - p)], Write: FILLS}),
     '_finish': Function('2 + f//16', False, {
-        f.finish: [(p, b) for p in range(64) for b in (0, 1)]}),
-    '_save': Function('0', False, {f.save: FILLS}),
-    '_resume': Function('0', True, {f.resume: each([None, *range(132)])}),
-    '_rand_init': Function('4', False, {f.rand_init: [('_rand_init', 1, 4)]}),
+        fixed.finish: [(p, b) for p in range(64) for b in (0, 1)]}),
+    '_save': Function('0', False, {fixed.save: FILLS}),
+    '_resume': Function('0', True, {fixed.resume: each([None, *range(132)])}),
+    '_rand_init': Function('4', False, {fixed.rand_init: [('_rand_init', 1, 4)]}),
     '_rand_init_with_extra_seed': Function('4', False, {
-        f.rand_init: [('_rand_init_with_extra_seed', 2, 4)]}),
-    '_rand_init_words': Function('0', False, {f.rand_init: [('_rand_init_words', 2, 0)]}),
-    '_rand_next': Function('1', False, {f.rand_next: [()]}),
+        fixed.rand_init: [('_rand_init_with_extra_seed', 2, 4)]}),
+    '_rand_init_words': Function('0', False, {fixed.rand_init: [('_rand_init_words', 2, 0)]}),
+    '_rand_next': Function('1', False, {fixed.rand_next: [()]}),
     '_rand_fill': Function('(n+7)//8', False, {
-        f.rand_fill: each(range(loops.Fill.GRAIN)), loops.Fill: [()]}),
-    '_pad': Function('0', False, {f.pad: each(range(loops.Pad.GRAIN)), loops.Pad: [()]}),
+        fixed.rand_fill: each(range(Fill.GRAIN)), Fill: [()]}),
+    '_pad': Function('0', False, {fixed.pad: each(range(Pad.GRAIN)), Pad: [()]}),
     '_unpad': Function('0', True, {
-        f.unpad: [(0, None), *((n, last) for n in range(1, loops.Unpad.GRAIN // 8 + 1)
-                               for last in f.LAST_BYTES)],
-        loops.Unpad: each(f.LAST_BYTES)}),
+        fixed.unpad: [(0, None), *((n, last) for n in range(1, Unpad.GRAIN // 8 + 1)
+                                   for last in fixed.LAST_BYTES)],
+        Unpad: each(fixed.LAST_BYTES)}),
 }
 NAMES = [f'komihash_v{version}{suffix}' for version in VERSIONS for suffix in FUNCTIONS]
 

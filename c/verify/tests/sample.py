@@ -2,7 +2,7 @@
 import os
 import sys
 sys.path.append(os.path.dirname(os.path.dirname(os.path.abspath(__file__))))
-from functions import write_within
+from fixed_lengths import write_within
 from report import main
 
 

@@ -1,6 +1,6 @@
-"""What each function must do, and how a case of it is checked. Calls of any length, by induction,
-are in loops.py. Each check runs a call with symbols for all contents, asks whether what it returns
-and stores is what the definition says, and returns the processor at the end."""
+"""What each function must do, and how a case of it is checked. Each check runs a call with symbols
+for all contents, asks whether what it returns and stores is what the definition says, and returns
+the processor at the end."""
 import z3
 from calls import NONE, Call, apart, generator, named, padded_content, some_state
 from checks import accepted, check, check_bytes, check_generator
