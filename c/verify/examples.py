@@ -19,8 +19,7 @@ def example(end, found, wanted):
     """The values of two terms that differ, and the inputs for which they do. In the solver's model,
     products are any numbers. Here they are computed, which may make the terms equal: then random
     inputs are tried."""
-    model = end.facts.model((), *end.path, found != wanted) or \
-        end.facts.model(end.path, found != wanted)
+    model = end.facts.model(end.path, found != wanted)
 
     def of_model(name):
         return model.eval(SYMBOLS.term[name], model_completion=True)
