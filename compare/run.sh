@@ -65,9 +65,10 @@ done
 
 # Where and when it was measured.
 cpu() { LC_ALL=C lscpu | sed -n "s/^$1: *//p"; }
-version=$(sed -n 's/^version = "\(.*\)"/\1/p' ../../rust/Cargo.toml)
+crate=$(sed -n 's/^version = "\(.*\)"/\1/p' ../../rust/Cargo.toml)
+library=$(sed -n 's/.*RATTLE_VERSION "\(.*\)"/\1/p' ../../c/komihash_rattle.h)
 measured="$(cpu 'Model name') (family $(cpu 'CPU family'), model $(cpu Model)),"
-measured+=" $(cpu 'CPU(s)') CPUs; version $version, $(date -I);"
+measured+=" $(cpu 'CPU(s)') CPUs; crate $crate, library $library, $(date -I);"
 measured+=" $(rustc --version | cut -d ' ' -f -2); $("$cc" --version | sed -n 1p);"
 headers=(libxxhash-dev libwyhash-dev)
 measured+=$(dpkg-query -Wf ' ${Package} ${Version};' "${headers[@]}" 2> /dev/null || true)

@@ -30,9 +30,10 @@ examples = [file.read_text("utf-8") for file in files]
 
 checks = []
 for crate in ("komihash", "komihash_c"):
-    twins = ((ROOT / f"crates/{crate}/src/v{n}.rt").read_text("utf-8") for n in "45")
-    four, five = (re.sub("^//!.*\n", "", twin, flags=re.MULTILINE) for twin in twins)
-    checks.append((f"the versions in {crate}", four == five.replace("5", "4")))
+    twins = {file.stem[1]: re.sub("^//!.*\n", "", file.read_text("utf-8"), flags=re.MULTILINE)
+             for file in (ROOT / f"crates/{crate}/src").glob("v?.rt")}
+    same = all(twin == twins["5"].replace("5", n) for n, twin in twins.items())
+    checks.append((f"the versions in {crate}", same and len(twins) > 1))
 licences = {(ROOT / path / "LICENSE").read_text("utf-8") for path in (".", "crates/komihash")}
 checks.append(("the licence in crates/komihash", len(licences) == 1))
 checks.append(("README and CALLING have blocks", all(map(CODE.search, (readme, calling)))))
