@@ -1,6 +1,6 @@
-//! The functions of komihash_rattle.h, by the crate for Rust; with `--cfg original`, those that the
-//! crate `komihash` has, by that one. Each `unsafe` here rests on the first comment of that header,
-//! which says what callers see to.
+//! The functions of komihash_rattle.h, by the crate for Rust; with `--cfg rust_crate`, those that
+//! the crate `komihash` has, by that one. Each `unsafe` here rests on the first comment of that
+//! header, which says what callers see to.
 #![no_std]
 #![allow(improper_ctypes_definitions)] // Callers see streams and generators as arrays of words.
 use core::mem::{align_of, size_of};
@@ -69,10 +69,10 @@ macro_rules! export {
                     = rand.fill_bytes(array_mut(out, length));
             }
 
-            #[cfg(not(original))]
+            #[cfg(not(rust_crate))]
             use komihash_rattle::{stream::LONGEST_TEXT, $version::{pad, unpad}};
 
-            #[cfg(not(original))]
+            #[cfg(not(rust_crate))]
             functions! { $convention, $name:
                 "_save"(stream: &StreamedKomihash, out: *mut u8, room: usize) -> usize
                     = if room < LONGEST_TEXT {

@@ -3,16 +3,16 @@
 #
 #   run.sh bench [REPEATS]      times all rows, and makes the tables and the picture anew
 #   run.sh bench REPEATS WORD   times the rows whose name contains WORD, and prints them
-#   run.sh fuzz SEED N          compares the crate with the original, in N rounds of random calls
-#   run.sh answers              prints sums of hashes of the original, which a test has
-#   run.sh values < TABLE       prints ../c/vectors.tsv or ../c/values.tsv anew, by the original
-#   run.sh original [OPTION..]  shows that the machine code of the original, in the folder
+#   run.sh fuzz SEED N          compares ours with the Rust crate, in N rounds of random calls
+#   run.sh answers              prints sums of hashes of the Rust crate, which a test has
+#   run.sh values < TABLE       prints ../c/vectors.tsv or ../c/values.tsv anew, by the Rust crate
+#   run.sh verify [OPTION..]    shows that the machine code of the Rust crate, in the folder
 #                               KOMIHASH_CRATE, computes what the definition says: rust_crate.sh
 #
 # REPEATS is 201 if not given. LAYOUTS says in how many layouts of the machine code `bench` runs, 8
 # if unset, and BUILDS names some of the builds plain, fat, x86-64 and x86-64-v3. KOMIHASH_CRATE is
-# a folder with the original, where cargo has no registry, and RATTLE_CRATE one with another copy of
-# ../rust. CC compiles C, and RUSTFLAGS are for all Rust.
+# a folder with the Rust crate, where cargo has no registry, and RATTLE_CRATE one with another copy
+# of ../rust. CC compiles C, and RUSTFLAGS are for all Rust.
 set -euo pipefail
 cc=${CC:-cc} layouts=${LAYOUTS:-8}
 
@@ -26,7 +26,7 @@ link() {
 [ -z "${LINK_TO:-}" ] || { link "$LINK_TO" "$@" && exec "$cc" "$@"; }
 
 here=$(cd "$(dirname "${BASH_SOURCE[0]}")" && pwd)
-[ "${1:-}" != original ] || exec "$here/rust_crate.sh" "${@:2}"
+[ "${1:-}" != verify ] || exec "$here/rust_crate.sh" "${@:2}"
 options=(--quiet --release)
 [ -z "${KOMIHASH_CRATE:-}" ] || options+=(
     --offline --config "patch.crates-io.komihash.path='$(realpath "$KOMIHASH_CRATE")'")

@@ -1,6 +1,6 @@
 #!/usr/bin/env bash
 # Builds a library for C of the Rust crate `komihash`, whose code stays as it is, and shows by
-# ../c/verify that its machine code computes what the definition says: run.sh original [OPTION..],
+# ../c/verify that its machine code computes what the definition says: run.sh verify [OPTION..],
 # which rust_crate.py has.
 set -euo pipefail
 crate=$(realpath "${KOMIHASH_CRATE:?must name the folder of the Rust crate}")
@@ -11,7 +11,7 @@ cd "$(dirname "${BASH_SOURCE[0]}")/../c"
 # added; `as` marks the calls of it, so that `ld` makes them direct. The names of files that panics
 # would print need the loader, so they are left out.
 build() {
-    local dir=../compare/out/original/$1-$2 rustc=rustc target=x86_64-unknown-linux-gnu cross=
+    local dir=../compare/out/verify/$1-$2 rustc=rustc target=x86_64-unknown-linux-gnu cross=
     local options=(-C "opt-level=$2" -C "target-cpu=$1")
     local memcpy='mov %rdi, %rax; mov %rdx, %rcx; rep movsb; ret'
     mkdir -p "$dir"
@@ -24,7 +24,7 @@ build() {
     fi
     echo '#![no_std] pub use core::*;' | $rustc --target "$target" -C panic=abort \
         --crate-name std --crate-type rlib -o "$dir/libstd.rlib" -
-    RUSTC="$rustc --cfg original -L $dir --extern std=$dir/libstd.rlib" RUST_CRATE=$crate \
+    RUSTC="$rustc --cfg rust_crate -L $dir --extern std=$dir/libstd.rlib" RUST_CRATE=$crate \
         sh from_rust.sh "${target/-unknown/}" "$dir/crate.s" "${options[@]}"
     echo ".text; .globl memcpy; .hidden memcpy; memcpy: $memcpy" >> "$dir/crate.s"
     "${cross}as" --gdwarf-5 -o "$dir/crate.o" "$dir/crate.s"

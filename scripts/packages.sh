@@ -97,7 +97,7 @@ needs "$python $arm-gcc qemu-aarch64" \
 
 # Of the Rust crate, a build is verified, and of the writes that complete no block only a part.
 if [ "${KOMIHASH_CRATE:-}" ]; then
-    BUILDS=x86-64-v2:3 part_with "rustc $python" bash compare/run.sh original --every 40
+    BUILDS=x86-64-v2:3 part_with "rustc $python" bash compare/run.sh verify --every 40
 else
     skip 'the machine code of the Rust crate (optional)' 'its folder as KOMIHASH_CRATE'
 fi

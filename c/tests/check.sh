@@ -61,11 +61,12 @@ calls_each() {
             "$NM" -P "$scratch/calls.o" | grep -oE '^_?komihash_v[^ ]* U' || return
     done | sed 's/^_//; s/ U$//' | sort | diff "$scratch/declared" -
 }
-# Whether a library is marked for IBT and SHSTK, or for BTI: by a note, and in each function.
+# Whether a library is marked for IBT and SHSTK, or for BTI: by a note, and in each function that it
+# exports.
 marked() {
     "${CROSS}readelf" -n "$1" | grep -E 'feature: (IBT, SHSTK|BTI)$' &&
         "${CROSS}objdump" -d "$1" | grep -oE 'endbr64|bti.c' > "$scratch/marks" &&
-        test "$(wc -l < "$scratch/marks")" = "$(wc -l < "$scratch/declared")"
+        test "$(wc -l < "$scratch/marks")" = "$("$NM" -D --defined-only "$1" | wc -l)"
 }
 without_libraries() { ! "${CROSS}objdump" -p "$OUT/$dll" | grep 'DLL Name'; }
 same_elsewhere() {

@@ -39,8 +39,8 @@ pub trait KomiStream: Sized {
     /// Returns the hash of all bytes so far. The stream is unchanged.
     fn answer(&self) -> u64;
 
-    /// Writes the saved text of the stream to the front of `out`, whose rest is unchanged. Returns
-    /// the text's length in bytes.
+    /// Writes the saved text of the stream to the front of `out`, and returns the text's length in
+    /// bytes. The rest of `out` is unchanged.
     ///
     /// `out` needs room for `LONGEST_TEXT` bytes, whatever is pending.
     ///
@@ -50,8 +50,8 @@ pub trait KomiStream: Sized {
     #[track_caller]
     fn store(&self, out: &mut [u8]) -> usize;
 
-    /// Returns the stream that has these bytes as its saved text, or `None` if no stream of this
-    /// version has. Damage that leaves them the text of a stream goes unnoticed.
+    /// Returns the stream that has these bytes as its saved text, or `None`. Accepts any
+    /// well-formed text of this version, even a damaged one.
     fn restore(bytes: &[u8]) -> Option<Self>;
 }
 
@@ -65,8 +65,8 @@ pub enum Call<'a> {
     Answer,
 }
 
-/// Makes calls on a stream, in order, writes the answers to the front of `out`, whose rest is
-/// unchanged, and returns how many there are.
+/// Makes calls on a stream, in order, writes the answers to the front of `out`, and returns how
+/// many there are. The rest of `out` is unchanged.
 ///
 /// `out` needs room for one `u64` for each call. Afterwards the stream has absorbed all bytes of
 /// the calls. If it began from a seed and had absorbed a message before, each answer is the hash of
@@ -91,8 +91,8 @@ pub fn run_on<S: KomiStream>(stream: &mut S, calls: &[Call<'_>], out: &mut [u64]
     count
 }
 
-/// Makes calls on a new stream of a seed, in order, writes the answers to the front of `out`, whose
-/// rest is unchanged, and returns how many there are.
+/// Makes calls on a new stream of a seed, in order, writes the answers to the front of `out`, and
+/// returns how many there are. The rest of `out` is unchanged.
 ///
 /// `out` needs room for one `u64` for each call. Each answer is the hash of all bytes that the
 /// calls before it absorb, joined.

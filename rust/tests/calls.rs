@@ -17,7 +17,7 @@ macro_rules! tests {
             use super::*;
             use komihash_rattle::$version::*;
 
-            /// Returns the value of a call that the original lacks.
+            /// Returns the value of a call that `komihash` lacks.
             fn added(call: &str, given: &[&str]) -> String {
                 match (call, given) {
                     ("save", [seed, message]) => {

@@ -76,8 +76,8 @@ pub trait KomiStream: Sized + Drop {
         ensures answered { Answered VERSION (state self.now) result }
         ensures costs { Costs tally (answer_products (length (state self.now).pending)) 0 };
 
-    /// Writes the saved text of the stream to the front of `out`, whose rest is unchanged. Returns
-    /// the text's length in bytes.
+    /// Writes the saved text of the stream to the front of `out`, and returns the text's length in
+    /// bytes. The rest of `out` is unchanged.
     ///
     /// `out` needs room for `LONGEST_TEXT` bytes, whatever is pending.
     // Rust: ///
@@ -88,8 +88,8 @@ pub trait KomiStream: Sized + Drop {
         requires { LONGEST_TEXT ≤ length out.old }
         ensures { Stored VERSION (state self.now) out result };
 
-    /// Returns the stream that has these bytes as its saved text, or `None` if no stream of this
-    /// version has. Damage that leaves them the text of a stream goes unnoticed.
+    /// Returns the stream that has these bytes as its saved text, or `None`. Accepts any
+    /// well-formed text of this version, even a damaged one.
     fn restore(bytes: &[u8]) -> Option<Self>
         ensures { Restored VERSION state bytes.now result };
 
@@ -109,8 +109,8 @@ pub enum Call<'a> {
     Answer,
 }
 
-/// Makes calls on a stream, in order, writes the answers to the front of `out`, whose rest is
-/// unchanged, and returns how many there are.
+/// Makes calls on a stream, in order, writes the answers to the front of `out`, and returns how
+/// many there are. The rest of `out` is unchanged.
 /// Counts what the calls cost. <!-- Rattle -->
 ///
 /// `out` needs room for one `u64` for each call. Afterwards the stream has absorbed all bytes of
@@ -150,8 +150,8 @@ pub fn run_on<S: KomiStream>(
     count
 }
 
-/// Makes calls on a new stream of a seed, in order, writes the answers to the front of `out`, whose
-/// rest is unchanged, and returns how many there are.
+/// Makes calls on a new stream of a seed, in order, writes the answers to the front of `out`, and
+/// returns how many there are. The rest of `out` is unchanged.
 /// Counts what the stream and the calls cost. <!-- Rattle -->
 ///
 /// `out` needs room for one `u64` for each call. Each answer is the hash of all bytes that the

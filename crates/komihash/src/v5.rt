@@ -70,8 +70,8 @@ pub fn pad(bytes: &[u8], out: &mut [u64]) -> usize
     padding::pad::<5>(bytes, out)
 }
 
-/// Writes the message that has these padded words to the front of `out`, whose rest is unchanged,
-/// and returns its length in bytes. `out` needs room for eight bytes for each word.
+/// Writes the message that has these padded words to the front of `out`, and returns its length in
+/// bytes. The rest of `out` is unchanged. `out` needs room for eight bytes for each word.
 ///
 /// Returns `None`, with all of `out` unchanged, if no message has these words in this version.
 // Rust: /// [`pad`] has an example.

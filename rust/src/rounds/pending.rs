@@ -160,7 +160,7 @@ impl Pending {
         word | padding_after(pads_with_two::<V>(last_byte)) << (8 * over)
     }
 
-    /// Writes the bytes to the front of `out`, whose rest is unchanged.
+    /// Writes the bytes to the front of `out`. The rest of `out` is unchanged.
     #[inline(always)]
     pub(crate) fn write_to(&self, out: &mut [u8]) {
         write_first_bytes(&self.words, self.len, out);

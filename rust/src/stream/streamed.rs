@@ -60,8 +60,8 @@ where
         self.answer()
     }
 
-    /// Writes the saved text of the stream to the front of `out`, whose rest is unchanged. Returns
-    /// the text's length in bytes: 68, and one for each pending byte.
+    /// Writes the saved text of the stream to the front of `out`, and returns the text's length in
+    /// bytes: 68, and one for each pending byte. The rest of `out` is unchanged.
     ///
     /// `out` needs room for `LONGEST_TEXT` bytes, whatever is pending. `resume` makes the same
     /// stream from the text, also in another process. The text has the pending bytes as they are.
@@ -76,8 +76,8 @@ where
         self.store(out)
     }
 
-    /// Returns the stream that has these bytes as its saved text, or `None` if no stream of this
-    /// version has. Damage that leaves them the text of a stream goes unnoticed.
+    /// Returns the stream that has these bytes as its saved text, or `None`. Accepts any
+    /// well-formed text of this version, even a damaged one.
     #[inline(always)]
     pub fn resume(bytes: &[u8]) -> Option<Self> {
         StreamedKomihash::restore(bytes)

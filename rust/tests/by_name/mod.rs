@@ -1,5 +1,5 @@
 //! Calls by their names and arguments, as c/values.tsv has them, and some more. compare/ makes them
-//! of the original too.
+//! of the crate `komihash` too.
 use std::fmt::Write;
 
 /// Returns the value of a call, or none if the call is of another kind.

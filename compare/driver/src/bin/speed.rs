@@ -1,4 +1,4 @@
-//! Times the crate beside the original, and prints a table with tabs between the columns.
+//! Times the crate beside `komihash`, and prints a table with tabs between the columns.
 #[path = "../timing.rs"]
 mod timing;
 

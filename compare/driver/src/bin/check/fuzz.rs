@@ -1,10 +1,10 @@
-//! Compares calls of the crate with those of the original, which lacks saved texts and padding.
+//! Compares calls of the crate with those of `komihash`, which lacks saved texts and padding.
 use crate::by_name::{Calls, calls, hexadecimal};
 use crate::random::Random;
 
 const SEEDS: [u64; 5] = [0, 1, u64::MAX, 0x5555_5555_5555_5555, 0x0123_4567_89ab_cdef];
 
-/// The original and the crate in one version.
+/// `komihash` and the crate in one version.
 struct Both(&'static str, Calls, Calls);
 
 /// Compares random calls, and all lengths of a short message in two pieces.

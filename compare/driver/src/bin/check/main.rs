@@ -1,4 +1,4 @@
-//! Compares the crate with the original, or prints what the original computes: see ../run.sh.
+//! Compares the crate with `komihash`, or prints what that computes: see ../run.sh.
 #[path = "../../../../../rust/tests/by_name/mod.rs"]
 mod by_name;
 mod fuzz;
@@ -20,7 +20,7 @@ fn main() {
     }
 }
 
-/// Prints the sums of `crates/komihash/src/tests/hash.rt` in versions 4 and 5, by the original.
+/// Prints the sums of `crates/komihash/src/tests/hash.rt` in versions 4 and 5, by `komihash`.
 fn answers() {
     let message: Vec<u8> = (0..300).map(|i| (7 * i + 3) as u8).collect();
     for seed in [0, u64::MAX, 0x1d5c_8e2b_60f3_97a4] {
@@ -33,7 +33,7 @@ fn answers() {
 }
 
 /// Prints the rows of c/vectors.tsv or c/values.tsv, which are read from standard input, each with
-/// the value that the original gives. Comments and rows of calls that it lacks stay as they are.
+/// the value that `komihash` gives. Comments and rows of calls that it lacks stay as they are.
 fn values([v4, v5]: [Calls; 2]) {
     for line in io::stdin().lines() {
         let line = line.expect("a row");
