@@ -140,6 +140,7 @@ class Write(Blocks):
         doesn't hold, and proves the rest by itself."""
         shown = proved_write(type(self), self.library, self.version)
         self.head, self.exit, self.step = shown.head, shown.exit, shown.step
+        self.counted = shown.counted
         self.invariants = {pc: copy.copy(one) for pc, one in shown.invariants.items()}
         if not self.begin():
             self.settle()

@@ -17,8 +17,8 @@ SEGMENT, ENTRY, SYMBOL = struct.Struct('<IIQQQQQQ'), struct.Struct('<QQ'), struc
 WORD, NOTE = struct.Struct('<I'), struct.Struct('<III')
 SHARED, EXECUTE, WRITE, READ = 3, 1, 2, 4
 # By the numbers of processors, the largest pages that Linux has there. No library of this kind
-# needs more segments and memory.
-PAGES, SEGMENTS, MEMORY = {62: 2**12, 183: 2**16}, 64, 2**26
+# needs more segments, memory, names, and bytes of a name.
+PAGES, SEGMENTS, MEMORY, NAMES, LENGTH = {62: 2**12, 183: 2**16}, 64, 2**26, 2**16, 2**10
 # Types of segments.
 LOAD, DYNAMIC, NOTES, TABLE = 1, 2, 4, 6
 FRAMES, STACK, RELRO, PROPERTY = 0x6474e550, 0x6474e551, 0x6474e552, 0x6474e553
@@ -70,9 +70,11 @@ class Elf:
         return [s for s in self.segments if s.type in types]
 
     def mapped(self):
-        """The parts, of which no two share a page, and none can be both written and run."""
+        """The parts, of which no two share a page, and none can be both written and run. An empty
+        one takes no page, and a loader may map its page in place of the next."""
         end = 0
         for s in self.of_type(LOAD):
+            need(s.size, 'a part is empty')
             need(s.align >= PAGES[self.machine] and s.align & s.align - 1 == 0 and
                  (s.start - s.offset) % s.align == 0, 'a part is not aligned to pages')
             need(end <= s.start & -s.align, 'a part of the file is mapped over another')
@@ -87,7 +89,8 @@ class Elf:
 
     def check_segments(self, start, size):
         """What the loader reads in the file must be what it reads in memory, such as the table of
-        the segments itself, which is here in the file and has so many bytes."""
+        the segments itself, which is here in the file and has so many bytes. Loaders take it to be
+        in the first part whose pages have it."""
         within = DYNAMIC, NOTES, TABLE, FRAMES, RELRO, PROPERTY
         types = [s.type for s in self.segments]
         need({*types} <= {LOAD, STACK, *within}, 'there is a segment of an unknown type')
@@ -102,8 +105,11 @@ class Elf:
             need(s.type not in (DYNAMIC, RELRO) or part.flags & WRITE and
                  s.start + s.size <= part.start + part.size + 4095 & -4096,
                  'what the loader writes can not be written')
-        need(any(p.offset <= start and start + size <= p.offset + len(p.data)
-                 for p in self.parts if not p.flags & WRITE) and
+        page, end = PAGES[self.machine], start + size
+        first = next((p for p in self.parts if p.offset & -page <= start and
+                      end <= (p.offset + len(p.data) + page - 1 & -page)), None)
+        need(first and not first.flags & WRITE and first.offset <= start and
+             end <= first.offset + len(first.data) and
              all(s.offset == start and s.size >= size for s in self.of_type(TABLE)),
              'the table of segments is another one in memory')
 
@@ -116,7 +122,7 @@ class Elf:
         """Bytes that are mapped with these permissions, and that nobody can change; or None."""
         p = self.part_of(address, length)
         if p and p.flags & (flags | WRITE) == flags:
-            return p.data[address - p.start:][:length]
+            return p.data[address - p.start:address - p.start + length]
         return None
 
     def offset(self, address):
@@ -156,6 +162,7 @@ class Elf:
         buckets, self.first, size, self.shift = self.words(at, 4)
         need(buckets and size and size & size - 1 == 0 and self.shift < 32,
              'loaders read DT_GNU_HASH in different ways')
+        need(max(buckets, size) <= NAMES, f'DT_GNU_HASH is larger than {NAMES} names need')
         words = self.words(at + 16, 2 * size + buckets)
         self.filter = [low | high << 32 for low, high in zip(words[:2 * size:2], words[1::2])]
         self.buckets, at = words[2 * size:], at + 16 + 8 * size + 4 * buckets
@@ -163,8 +170,9 @@ class Elf:
              'DT_GNU_HASH has a symbol before its first')
         # After the last symbol, whose hash is odd, no chain of a bucket goes on.
         end = max(self.first, *self.buckets)
-        while not self.words(at + 4 * (end - self.first), 1)[0] & 1:
+        while end < NAMES and not self.words(at + 4 * (end - self.first), 1)[0] & 1:
             end += 1
+        need(end < NAMES, f'there are more than {NAMES} names')
         self.chains = self.words(at, end + 1 - self.first)
         need(COUNTED not in table or self.words(table[COUNTED], 2)[1] == end + 1,
              'DT_HASH counts other symbols')
@@ -177,8 +185,9 @@ class Elf:
              f'a loader would take it for {name}')
 
     def string(self, start):
-        need(start < len(self.strings), 'a name is not among the strings')
-        return self.strings[start:self.strings.index(0, start)]
+        end = self.strings.find(0, start, start + LENGTH)
+        need(end >= 0, f'a name is not among the strings, or has more than {LENGTH} bytes')
+        return self.strings[start:end]
 
     def find(self, name):
         """The number of the symbol that a loader finds for a name, or 0."""

@@ -87,7 +87,9 @@ def of_header(e):
 def of_parts(e):
     over = (KIND, LOAD), (OFFSET, 0), (START, e.code.start), (ALIGN, e.code.align)
     small, last = elf.PAGES[e.elf.machine] // 2, len(e.parts) - 1
+    nothing = (OFFSET, e.code.offset), (START, 0), (FILLED, 0), (SIZE, 0), (ALIGN, e.code.align)
     return [
+        ('an empty part', 'a part is empty', e.segment, NOTES, 0, (KIND, LOAD), *nothing),
         ('a part over the code', 'mapped over another', e.segment, NOTES, 0, *over),
         ('smaller pages', 'not aligned', e.segment, LOAD, 0, (ALIGN, small)),
         ('memory without end', 'more than 67108864', e.segment, LOAD, last, (SIZE, 2**46)),
@@ -110,7 +112,8 @@ def of_segments(e):
         ('another dynamic table in the file', elsewhere, e.segment, DYNAMIC, 0, (OFFSET, 0)),
         ('no dynamic table in the file', elsewhere, e.segment, DYNAMIC, 0, (FILLED, 0)),
         ('stack frames beyond memory', elsewhere, e.segment, FRAMES, 0, (START, 2**40)),
-        ('another table of segments', 'another one in memory', e.segment, NOTES, 0, (KIND, TABLE))]
+        ('another table of segments', 'another one in memory', e.segment, NOTES, 0, (KIND, TABLE)),
+        ('a table of segments that can change', 'another one', e.segment, LOAD, 0, (RIGHTS, 6))]
 
 
 def of_dynamic_table(e):
@@ -135,8 +138,11 @@ def of_names(e):
     names, soname = e.elf.table[elf.HASHES], e.elf.table[elf.STRINGS] + e.elf.table.get(SONAME, 0)
     other = e.elf.strings.index(OTHER_NAME.encode() + b'\0')
     none, elsewhere = bytes(8 * len(e.elf.filter)), e.elf.functions([OTHER_NAME])[0][OTHER_NAME]
+    buckets = names + 16 + len(none)
     return [
         ('the name of another library', 'would take it for', e.bytes_at, soname, b'libc.so.6\0'),
+        ('hashes without end', 'larger than 65536', e.bytes_at, names, b'\0\0\2'),
+        ('names without end', 'more than 65536', e.bytes_at, buckets, b'\0\0\1'),
         ('a symbol before the first', 'before its first', e.bytes_at, names + 4, b'\0\0\1'),
         ('a filter beyond memory', 'not in memory', e.bytes_at, names + 8, b'\0\0\1\0'),
         ('a shift of 40 bits', 'in different ways', e.bytes_at, names + 12, bytes([40])),
