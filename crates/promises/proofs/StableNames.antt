@@ -148,7 +148,7 @@ answered v s n is = (is.answer, is.hash)
 stored : (v : ℕ) (s : State) (out : Mut (List ℕ)) (n : ℕ) → Stored v s out n
     → (n ≡ length (text v s)) × (n ≤ longest_text) × (take n out.exit.now ≡ text v s)
     × ((seed : ℕ) (m : List ℕ) → HasAbsorbed v seed s m
-        → IsTextAfter v seed m (take n out.exit.now))
+    → IsTextAfter v seed m (take n out.exit.now))
     × (drop n out.exit.now ≡ drop n out.entry.now)
 stored v s out n is = (is.length, is.most, is.text, is.message, is.rest)
 
