@@ -34,8 +34,9 @@ for crate in ("komihash", "komihash_c"):
              for file in (ROOT / f"crates/{crate}/src").glob("v?.rt")}
     same = all(twin == twins["5"].replace("5", n) for n, twin in twins.items())
     checks.append((f"the versions in {crate}", same and len(twins) > 1))
-licences = {(ROOT / path / "LICENSE").read_text("utf-8") for path in (".", "crates/komihash")}
-checks.append(("the licence in crates/komihash", len(licences) == 1))
+for folder in ("crates/komihash", "rust"):
+    licences = {(ROOT / path / "LICENSE").read_text("utf-8") for path in (".", folder)}
+    checks.append((f"the licence in {folder}", len(licences) == 1))
 checks.append(("README and CALLING have blocks", all(map(CODE.search, (readme, calling)))))
 for code in CODE.findall(readme + calling):
     checks.append((f"the block `{code.splitlines()[0]}`", any(code in text for text in examples)))
