@@ -76,7 +76,7 @@ needs cargo-clippy 'the crate for Rust, by clippy (optional)' \
 # one version for each processor.
 sample() { echo "FUNCTION=komihash_v$1 komihash_v$1_write komihash_v$1_finish"; }
 part_with "$python" in_package verify LEVEL=x86-64 MUTANTS=30
-part_with "cvc5 $python" in_package verify LEVEL=x86-64 SECOND=cvc5 FUNCTION=komihash_v5_rand_fill
+part_with "cvc5 $python" in_package verify LEVEL=x86-64 SECOND=cvc5 FUNCTION=komihash_v5_save
 part_with "rustc $python" in_package verify FROM=rust EVERY=40 "$(sample 5)" LEVEL=x86-64-v2
 part_with "$arm-gcc $debian $python" from_rust aarch64-unknown-linux-gnu \
     verify FROM=rust EVERY=40 "$(sample 4)" "CROSS=$arm-"
