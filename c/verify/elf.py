@@ -89,8 +89,7 @@ class Elf:
 
     def check_segments(self, start, size):
         """What the loader reads in the file must be what it reads in memory, such as the table of
-        the segments itself, which is here in the file and has so many bytes. Loaders take it to be
-        in the first part whose pages have it."""
+        the segments itself, which is here in the file and has so many bytes."""
         within = DYNAMIC, NOTES, TABLE, FRAMES, RELRO, PROPERTY
         types = [s.type for s in self.segments]
         need({*types} <= {LOAD, STACK, *within}, 'there is a segment of an unknown type')
@@ -105,13 +104,18 @@ class Elf:
             need(s.type not in (DYNAMIC, RELRO) or part.flags & WRITE and
                  s.start + s.size <= part.start + part.size + 4095 & -4096,
                  'what the loader writes can not be written')
-        page, end = PAGES[self.machine], start + size
-        first = next((p for p in self.parts if p.offset & -page <= start and
-                      end <= (p.offset + len(p.data) + page - 1 & -page)), None)
-        need(first and not first.flags & WRITE and first.offset <= start and
-             end <= first.offset + len(first.data) and
+        need(self.keeps(start, start + size) and
              all(s.offset == start and s.size >= size for s in self.of_type(TABLE)),
              'the table of segments is another one in memory')
+
+    def keeps(self, start, end):
+        """Whether these bytes of the file stay in memory as they are. Loaders take them to be in
+        the first part whose pages have them."""
+        page = PAGES[self.machine]
+        first = next((p for p in self.parts if p.offset & -page <= start and
+                      end <= (p.offset + len(p.data) + page - 1 & -page)), None)
+        return first and not first.flags & WRITE and \
+            first.offset <= start and end <= first.offset + len(first.data)
 
     def part_of(self, address, length=1):
         """The part that has these bytes of the file, or None."""
@@ -158,7 +162,19 @@ class Elf:
 
     def read_tables(self):
         """Reads all that a loader may read to find any name, or the name of an address."""
-        at, table = self.table[HASHES], self.table
+        table, end = self.table, self.read_hashes(self.table[HASHES])
+        need(COUNTED not in table or self.words(table[COUNTED], 2)[1] == end + 1,
+             'DT_HASH counts other symbols')
+        self.strings = self.at(table[STRINGS], table[STRINGS_SIZE])
+        need(self.strings and not self.strings[-1], 'the strings are not in memory, or have no end')
+        self.symbols = [(self.string(name), *more) for name, *more in
+                        self.array(SYMBOL, table[SYMBOLS], end + 1)]
+        name = self.string(table.get(SONAME, 0))
+        need(SONAME not in table or name.startswith(b'libkomihash'),
+             f'a loader would take it for {name}')
+
+    def read_hashes(self, at):
+        """Reads the table of hashes, and returns the number of the last symbol."""
         buckets, self.first, size, self.shift = self.words(at, 4)
         need(buckets and size and size & size - 1 == 0 and self.shift < 32,
              'loaders read DT_GNU_HASH in different ways')
@@ -174,15 +190,7 @@ class Elf:
             end += 1
         need(end < NAMES, f'there are more than {NAMES} names')
         self.chains = self.words(at, end + 1 - self.first)
-        need(COUNTED not in table or self.words(table[COUNTED], 2)[1] == end + 1,
-             'DT_HASH counts other symbols')
-        self.strings = self.at(table[STRINGS], table[STRINGS_SIZE])
-        need(self.strings and not self.strings[-1], 'the strings are not in memory, or have no end')
-        self.symbols = [(self.string(name), *more) for name, *more in
-                        self.array(SYMBOL, table[SYMBOLS], end + 1)]
-        name = self.string(table.get(SONAME, 0))
-        need(SONAME not in table or name.startswith(b'libkomihash'),
-             f'a loader would take it for {name}')
+        return end
 
     def string(self, start):
         end = self.strings.find(0, start, start + LENGTH)

@@ -77,8 +77,7 @@ def main(text, options=lambda parser: None, test=None, layout=Ours,
     args, path = arguments(parser), 'the definition'
     try:
         check_all_values()
-        list(results(args.jobs, check_streams, range(128)))
-        print('in the definition, streams answer the hash of any message, however it is cut')
+        check_streams(args.jobs)
         passed, failed = 1, 0
         for one in args.library:
             level, path = one.split(':', 1)

@@ -3,9 +3,10 @@ import z3
 from calls import named, some_state
 from definition import VERSIONS, Products, hash_from_lanes, komi, padded_words, start
 from terms import Unknown, secret
+from workers import results
 
 
-def check_streams(length):
+def check_length(length):
     """Whether a stream answers the hash of any bytes, cut in the middle, by the same products.
     Fewer than 64 bytes are absorbed by a new stream of any seed, others from any lanes. Of these,
     both definitions first take a block, and then have lanes again, and the bytes after it. So by
@@ -26,3 +27,8 @@ def check_streams(length):
                     [state.answer(other, version), *sum(other.list, ())])
         if len(one.list) != len(other.list) or not all(z3.eq(a, b) for a, b in pairs):
             raise Unknown(f'the definition of streams gives other hashes for {length} bytes')
+
+
+def check_streams(jobs):
+    list(results(jobs, check_length, range(128)))
+    print('in the definition, streams answer the hash of any message, however it is cut')
