@@ -64,9 +64,10 @@ calls_each() {
 # Whether a library is marked for IBT and SHSTK, or for BTI: by a note, and in each function that it
 # exports.
 marked() {
+    case ${1##*/} in *.a) flag= ;; *) flag=-D ;; esac
     "${CROSS}readelf" -n "$1" | grep -E 'feature: (IBT, SHSTK|BTI)$' &&
         "${CROSS}objdump" -d "$1" | grep -oE 'endbr64|bti.c' > "$scratch/marks" &&
-        test "$(wc -l < "$scratch/marks")" = "$("$NM" -D --defined-only "$1" | wc -l)"
+        test "$(wc -l < "$scratch/marks")" = "$("$NM" -P -g $flag "$1" | grep -c ' T ')"
 }
 without_libraries() { ! "${CROSS}objdump" -p "$OUT/$dll" | grep 'DLL Name'; }
 same_elsewhere() {
