@@ -12,8 +12,8 @@ from header import FILL, HAD_BLOCK
 from layout import Ours
 from any_length import Write
 from report import main
+from sample import choose, options
 from terms import bv, join, part, secret, simple, sym
-from tests.sample import choose, options
 
 COUNT = sym('any count')
 

@@ -146,14 +146,12 @@ def rewrite_all(times, measured):
     """Makes the tables of the pages, and the lines of the picture, anew."""
     singles = {one: row for row, ones in EACH.items() for one in ones}
     rows = list(dict.fromkeys(singles.get(row, row) for row in times))
-    short = table(times, RUST, SHORT_RUST)
     pages = {
         "speed.md": [
             *("## Beside the Rust crate", table(times, RUST, rows), *grids(times)),
             *("## Beside other hashes", table(times, C, [*times])),
         ],
-        "../README.md": [short, table(times, C, SHORT_C)],
-        "../rust/README.md": [short],
+        "../README.md": [table(times, RUST, SHORT_RUST), table(times, C, SHORT_C)],
     }
     for page, tables in pages.items():
         part = "\n\n".join(["<!-- speed -->", *tables, measured, "<!-- /speed -->"])

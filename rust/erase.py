@@ -20,8 +20,10 @@ CHOICES = {r'^ *// Rattle alone\.\n(?:.+\n)+': '', r'^ *//.*<!-- Rattle -->\n': 
            r'^( *)// Rust instead: (.*)\n.+\n': r'\1\2\n', r'^( *)// Rust: (.*)\n': r'\1\2\n'}
 RUSTFMT = 'rustfmt', '--edition', '2024', '--config-path', Path(__file__).resolve().parent.parent
 ONLY_RATTLE = 'laws', 'tally', 'tests'  # modules
+# Comments and literals, which become ‹/N› and ‹sN›, so that no pattern sees what is in them.
 HIDDEN = re.compile(r'''//[^\n]*|"(?:[^"\\\n]|\\.)*"|b?'(?:[^'\\\n]|\\[^'\n]+)'(?!\w)''')
 COMMENTS = r'(?:‹/\d+›\s*)*'
+# Lines that only the prover reads, and what Rust spells in another way.
 LINES = (r'ghost use [^;]*;', r'#!?\[tactic\(.*\)\]', r'tally\.raise\([^;]*\);',
          r'use std::marker::(?:Model|\{Model, PhantomData\});', r'use crate::tally::Tally;',
          rf'(?:pub )?mod (?:{"|".join(ONLY_RATTLE)});', r'#\[cfg\(test\)\](?=\n *mod tests;)')
@@ -34,6 +36,7 @@ ATTRIBUTES = re.compile(r'#!?\[(.*)\]'), re.compile(
     r'derive\(Clone, (Copy, )?Debug\)|forbid\(unsafe_code\)|warn\(missing_docs\)|'
     r'allow\([\w:, ]+\)|doc = include_str!\(‹.\d+›\)')
 MACROS = re.compile(r'(\w+)!(?!=)'), re.compile('assert|unreachable|include_str')
+# What may not be left.
 NO_RUST = re.compile(r'\b(?:ghost|requires|ensures|tally|Tally|Model|Drop|prove|unsafe|rt|std|cfg|'
                      r'static|extern|macro_rules|no_mangle|export_name)\b|[^\x00-\x7f‹›]|"')
 BEFORE = re.compile(r'^(?:pub )?(trait |impl\b.* for |impl\b|fn )', re.M)

@@ -72,8 +72,8 @@ needs cargo-clippy 'the crate for Rust, by clippy (optional)' \
     cargo clippy "${crate[@]}" --all-targets -- -D warnings
 
 # Of the library, the build that every processor can run is verified, a function of it by a second
-# solver too, and the check is tested by flipping bits. Of the crate for Rust, these are the calls
-# of one version for each processor.
+# solver too, and the check is tested by flipping bits. Of the crate for Rust, these are the hash,
+# writes and answers of one version for each processor.
 sample() { echo "FUNCTION=komihash_v$1 komihash_v$1_write komihash_v$1_finish"; }
 part_with "$python" in_package verify LEVEL=x86-64 MUTANTS=30
 part_with "cvc5 $python" in_package verify LEVEL=x86-64 SECOND=cvc5 FUNCTION=komihash_v5_save

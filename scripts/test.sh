@@ -5,7 +5,7 @@
 #
 # The last line is 'N passed, M failed', the sum of all parts, with ', K skipped' if a tool is
 # missing; lines above it say which. With REQUIRE_ALL=1 in the environment, skipped is failed, but
-# for what is optional: the Rust crate, whose folder KOMIHASH_CRATE names.
+# for cases that are marked (optional), such as those of the Rust crate.
 set -uo pipefail
 cd "$(dirname "$0")/.." || exit 1
 . scripts/parts.sh

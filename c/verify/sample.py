@@ -1,7 +1,5 @@
 """Shows that shared libraries compute komihash, for a sample of the short writes."""
-import os
 import sys
-sys.path.append(os.path.dirname(os.path.dirname(os.path.abspath(__file__))))
 from fixed_lengths import write_within
 from report import main
 
