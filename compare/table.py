@@ -148,7 +148,7 @@ def rewrite_all(times, measured):
     rows = list(dict.fromkeys(singles.get(row, row) for row in times))
     pages = {
         "speed.md": [
-            *("## Beside the Rust crate", table(times, RUST, rows), *grids(times)),
+            *("## Beside komihash 0.5.0", table(times, RUST, rows), *grids(times)),
             *("## Beside other hashes", table(times, C, [*times])),
         ],
         "../README.md": [table(times, RUST, SHORT_RUST), table(times, C, SHORT_C)],
