@@ -1,7 +1,7 @@
 #!/usr/bin/env bash
 # Tests what no contract holds of the program that `rt ci` or `rt run` built: what `main` passes on,
-# arguments, faults of the system, and refused allocations. Needs a C compiler. Takes half a minute,
-# mostly to build tests.
+# arguments, faults of the system, and refused allocations. Needs a C compiler. Takes one or two
+# minutes, mostly for tests, the last of which are those of `komihash`.
 set -uo pipefail
 cd "$(dirname "$0")/../crates/komisum" || exit 1
 . ../../c/tests/cases.sh
@@ -94,4 +94,5 @@ refuse_memory 5 4bde5bdc63771675 4 1f
 # All but `main` takes no memory, so the first request of the tests would be a wrong one.
 tests() { rt try --test --fail-alloc 1 --seconds 600 2>&1 | grep '^test result: ok\. [1-9]'; }
 run_case 'the tests pass without their first allocation' tests
+cd ../komihash && run_case 'those of komihash pass without it too' tests
 counted

@@ -5,10 +5,11 @@ ghost use Rattle.std.specs.Hash.{le_bytes};
 ghost use Rattle.std.specs.Int.{to_le_bytes, w64};
 ghost use Rattle.komihash.specs.Hash.{komi};
 
+use komihash::v5::KomiBuildHasher;
 use komihash::{KomiHasher, laws};
 use std::alloc::{AllocFailed, Global};
 use std::collections::HashMap;
-use std::hash::{BuildHasher, Hash, Hasher};
+use std::hash::{Hash, Hasher};
 
 /// Returns the hash of a value by a hasher of version 5, which chains the hashes of its writes.
 pub fn hash_of<T: Hash>(value: &T) -> u64
@@ -41,23 +42,6 @@ pub fn hash_of_point(point: &Point) -> u64
     hash_of(point)
 }
 
-/// Makes a hasher of a seed for each key. A map takes it in place of the standard library's
-/// `BuildHasherDefault<KomiHasher>`, which needs a hasher that is `Copy`.
-#[derive(Clone, Copy)]
-pub struct Seeded {
-    pub seed: u64,
-}
-
-impl BuildHasher for Seeded {
-    type Hasher = KomiHasher;
-
-    ghost build_hasher = { λ seeded. seeded.seed };
-
-    fn build_hasher(&self) -> KomiHasher {
-        KomiHasher::new(self.seed)
-    }
-}
-
 /// Puts a value under a point into a new map, and returns what the map then has under it, or an
 /// error if memory runs out.
 pub fn put_and_get(
@@ -68,7 +52,7 @@ pub fn put_and_get(
 ) -> Result<Option<u64>, AllocFailed<(Point, u64)>>
     ensures { IfOk result (λ found. found ≡ Some value) }
 {
-    let mut map = HashMap::with_hasher(alloc, Seeded { seed });
+    let mut map = HashMap::with_hasher(alloc, KomiBuildHasher::new(seed));
     map.insert(point, value)?;
     Ok(map.get(&point).copied())
 }

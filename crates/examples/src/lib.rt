@@ -8,6 +8,7 @@ pub mod cuts;
 pub mod hashed;
 pub mod known;
 pub mod lists;
+pub mod maps;
 pub mod numbers;
 pub mod pieces;
 pub mod random;

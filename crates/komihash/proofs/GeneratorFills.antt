@@ -2,12 +2,15 @@
 -- buffer, in two parts.
 use Rattle.std.proofs.Common.{◌≡◌, ℕ, zero, suc, ◌+◌, ◌*◌, ◌%◌, ◌<◌, ◌∷◌, ◌++◌}
 use Rattle.std.proofs.Common.{length, refl, ap, arith, ◌∙◌, zero-add, suc-add, length-take-le}
-use Rattle.std.proofs.Common.{w64, slice_index}
+use Rattle.std.proofs.Common.{w64, slice_index, bit_xor, Bool, true, false, ◌==◌, ◌^◌, if◌then◌else◌}
+use Rattle.std.proofs.lemmas.List.{append-nil}
+use Rattle.std.proofs.lemmas.Nat.{xor_lt}
 use Rattle.std.proofs.lemmas.List.Concat.{flat_map-append}
 use Rattle.std.specs.Int.{to_le_bytes}
 use Rattle.std.specs.List.{flat_map}
 use Rattle.std.proofs.lemmas.Grind.{elements}
 use Rattle.komihash.specs.Generator.{next, after_steps, outputs, fill_steps, fill, after_fill}
+use Rattle.komihash.specs.Rounds.{low, high, plus}
 use Rattle.komihash.specs.Words.{all_bytes}
 use Rattle.komihash.proofs.AllBytes.{length-all_bytes}
 
@@ -71,3 +74,27 @@ pub fill-add : (v x y : ℕ) (s : ℕ × ℕ) → x % 8 ≡ 0
 fill-add v x y s whole =
     let more = outputs-add v (fill_steps x) (fill_steps y) s in
     grind (arith, elements, length-bytes, more, flat_map-append)
+
+-- ---- one output
+
+if-lt : (b : Bool) (x y n : ℕ) → x < n → y < n → (if b then x else y) < n
+if-lt true x y n p q = p
+if-lt false x y n p q = q
+
+pub next-lt : (v : ℕ) (s : ℕ × ℕ) → (next v s).0 < 2 ^ 64
+unfolding next
+next-lt v s =
+    let p : ℕ = s.0 * s.1 in
+    let second : ℕ = plus (plus s.1 (high p)) 0xaaaaaaaaaaaaaaaa in
+    let low_lt : low p < 2 ^ 64 = omega arith in
+    let second_lt : second < 2 ^ 64 = omega arith in
+    if-lt (v == 4) (bit_xor (low p) second) (plus (bit_xor (low p) (high p)) 0x5555555555555555)
+    (2 ^ 64) (xor_lt 64 (low p) second low_lt second_lt) (omega arith)
+
+pub fill-one : (v : ℕ) (s : ℕ × ℕ) → fill v s 8 ≡ to_le_bytes w64 (next v s).0
+unfolding outputs
+fill-one v s = fill-whole v 1 s ∙ append-nil (to_le_bytes w64 (next v s).0)
+
+pub after_fill-one : (v : ℕ) (s : ℕ × ℕ) → after_fill v s 8 ≡ next v s
+unfolding after_steps
+after_fill-one v s = refl

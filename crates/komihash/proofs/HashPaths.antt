@@ -3,6 +3,7 @@
 use Rattle.std.proofs.Common.{◌≡◌, ℕ, zero, suc, ◌+◌, ◌-◌, ◌*◌, ◌/◌, ◌%◌, ◌<◌, ◌≤◌, true, false}
 use Rattle.std.proofs.Common.{List, [], ◌∷◌, ◌++◌, length, take, drop, refl, arith, drop-drop}
 use Rattle.std.proofs.Common.{eqb-true, slice_index}
+use Rattle.std.proofs.lemmas.Grind.{elements}
 use native.Mathlib.Numerals.{unary_clauses}
 use Rattle.komihash.specs.Rounds.{Lanes, lanes, seed_pair, block_round, pair_round, join, closing}
 use Rattle.komihash.specs.Hash.{hash_from_pair, hash_from_lanes, komi}
@@ -113,6 +114,17 @@ pub komi_blocks : (v seed : ℕ) (m : List ℕ) → 64 ≤ length m → length m
     (final_word m (padding_byte v m) ∷ [])
 komi_blocks v seed m le lt = grind (arith, whole_words-few, length-after_blocks, komi_long)
 
+-- where a whole word is left after the blocks, it is the message's last one
+pub last_word-after_blocks : (m : List ℕ) → 0 < length (whole_words (after_blocks m))
+    → slice_index (whole_words m) (length m / 8 - 1)
+    ≡ slice_index (whole_words (after_blocks m)) (length (whole_words (after_blocks m)) - 1)
+last_word-after_blocks m some =
+    let words = after_words-whole_words m in
+    let count = length-whole_words m in
+    let left = length-after_blocks m in
+    let few = length-whole_words (after_blocks m) in
+    grind (arith, elements, words, count, left, few)
+
 pub komi_empty : (v seed : ℕ) (m : List ℕ) → length m ≡ 0
     → komi v seed m ≡ closing (seed_pair seed) (0 ∷ [])
 unfolding komi
@@ -133,6 +145,7 @@ pub ruleset hash_laws = (
   final_word_whole,
   komi_short,
   komi_long,
+  last_word-after_blocks,
   komi_blocks,
   length-whole_words,
   eqb-true,

@@ -1,9 +1,13 @@
 -- Lemmas about the definitions. They prove the laws of `src/laws.rt`, and a caller may name the
 -- ruleset `laws` for what no law states.
+use Rattle.std.proofs.Common.{append_assoc}
+use Rattle.std.proofs.lemmas.List.{map-append}
+use Rattle.std.proofs.lemmas.List.Concat.{flat_map-append}
 use Rattle.std.proofs.lemmas.List.Sums.{fold-append}
 use Rattle.komihash.proofs.CallLists.{answers_after-append, bytes_of_calls-append}
 use Rattle.komihash.proofs.CallLists.{run_products-pieces, HasAbsorbed-pending}
 use Rattle.komihash.proofs.GeneratorFills.{after_steps-add, outputs-add, fill-add, after_fill-add}
+use Rattle.komihash.proofs.GeneratorFills.{next-lt, fill-one, after_fill-one}
 use Rattle.komihash.proofs.GeneratorFills.{length-outputs, output-at, fill-whole, after_fill-whole}
 use Rattle.komihash.proofs.Unpadding.{same_message}
 use Rattle.komihash.proofs.SavedTexts.{same_version, same_state, IsTextAfter-most}
@@ -29,8 +33,20 @@ pub ruleset of_texts_and_words = (same_version, same_state, IsTextAfter-most, sa
 
 pub ruleset of_steps = (after_steps-add, outputs-add)
 
-pub ruleset of_outputs =
-    (length-outputs, output-at, fill-add, after_fill-add, fill-whole, after_fill-whole)
+pub ruleset of_outputs = (
+  length-outputs,
+  output-at,
+  fill-add,
+  after_fill-add,
+  fill-whole,
+  after_fill-whole,
+  next-lt,
+  fill-one,
+  after_fill-one,
+)
 
 pub ruleset laws =
     (of_hashes, of_streams, of_calls, of_texts_and_words, of_steps, of_outputs)
+
+-- what several writes for each item of a map or another iterator need
+pub ruleset of_items = (flat_map-append, append_assoc, map-append)

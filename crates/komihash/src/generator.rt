@@ -5,6 +5,7 @@ ghost use Rattle.komihash.specs.Generator.{next, after_steps, fill, after_fill};
 
 use crate::tally::Tally;
 use crate::utils::{multiply128, write_partial_word, write_word};
+use crate::version::{IsVersion, Versions};
 use std::marker::Model;
 
 /// A pseudorandom generator of version V, which is not cryptographic.
@@ -13,42 +14,46 @@ use std::marker::Model;
 /// A step multiplies the words, and replaces them by sums and exclusive ors of the second word, the
 /// halves of the product, and constants of alternating bits. Its output is the new first word. In
 /// one version, the same pair always gives the same outputs.
-/// `next` of `specs/Generator.antt` has the rule of each version. <!-- Rattle -->
 // Rust: ///
-// Rust: /// ```
-// Rust: /// use komihash_rattle::Komirand;
-// Rust: /// let mut generator = Komirand::init(1);
-// Rust: /// let (first, second) = (generator.next(), generator.next());
-// Rust: /// let mut bytes = [0; 11];
-// Rust: /// Komirand::init_with_extra_seed(1, 1).fill_bytes(&mut bytes);
-// Rust: /// assert_eq!(bytes[..8], first.to_le_bytes());
-// Rust: /// assert_eq!(bytes[8..], second.to_le_bytes()[..3]);
-// Rust: /// ```
+// Rust: /// If low and high are the halves of the product, the new second word is
+// Rust: /// `s2 + high + 0xaaaaaaaaaaaaaaaa` without a carry out. The new first word is the exclusive or
+// Rust: /// of low and that word in version 4, and `(low ^ high) + 0x5555555555555555` in version 5.
+/// `next` of `specs/Generator.antt` has the rule of each version. <!-- Rattle -->
 // Rust: #[repr(C)]
+// Rust: #[derive(Debug)]
 #[derive(Drop)]
-pub struct Komirand<const V: u8> {
+pub struct Komirand<const V: u8>
+where
+    Versions: IsVersion<V>,
+{
     s1: u64,
     s2: u64,
 }
 
-impl<const V: u8> Model for Komirand<V> {
+impl<const V: u8> Model for Komirand<V>
+where
+    Versions: IsVersion<V>,
+{
     ghost Value = { ℕ × ℕ };
 
     ghost view = { λ g. (g.s1, g.s2) };
 }
 
-impl<const V: u8> Komirand<V> {
+impl<const V: u8> Komirand<V>
+where
+    Versions: IsVersion<V>,
+{
     /// Returns the generator of a pair of words, without a step.
     ///
     /// Any words are allowed. The first outputs of small ones are simple patterns: in version 5
     /// `new(0, 0)` outputs 0x5555555555555555 first. `init` takes four steps to get past them.
     // Rust: ///
     // Rust: /// ```
-    // Rust: /// use komihash_rattle::Komirand;
-    // Rust: /// const START: Komirand = Komirand::new(1, 2);
-    // Rust: /// let mut generator = START;
-    // Rust: /// assert_ne!(generator.next(), generator.next());
+    // Rust: /// use komihash_rattle::v5::Komirand;
+    // Rust: /// const START: Komirand = Komirand::new(0, 0);
+    // Rust: /// assert_eq!(START.clone().next(), 0x5555555555555555);
     // Rust: /// ```
+    // Rust: #[must_use]
     #[inline]
     // Rust instead: pub const fn new(s1: u64, s2: u64) -> Self
     pub fn new(s1: u64, s2: u64) -> Self
@@ -59,6 +64,13 @@ impl<const V: u8> Komirand<V> {
 
     /// Returns the generator that has the seed as both words, after four steps, as the Rust
     /// crate `komihash` does.
+    // Rust: ///
+    // Rust: /// ```
+    // Rust: /// use komihash_rattle::v5::Komirand;
+    // Rust: /// let (mut one, mut other) = (Komirand::init(1), Komirand::init_with_extra_seed(1, 1));
+    // Rust: /// assert_eq!(one.next(), other.next());
+    // Rust: /// ```
+    // Rust: #[must_use]
     #[inline]
     pub fn init(seed: u64) -> Self
         ensures { result ≡ after_steps V 4 (seed, seed) }
@@ -67,6 +79,13 @@ impl<const V: u8> Komirand<V> {
     }
 
     /// Returns the generator of two seeds after four steps.
+    // Rust: ///
+    // Rust: /// ```
+    // Rust: /// use komihash_rattle::v5::Komirand;
+    // Rust: /// let (mut one, mut other) = (Komirand::init(1), Komirand::init_with_extra_seed(1, 2));
+    // Rust: /// assert_ne!(one.next(), other.next());
+    // Rust: /// ```
+    // Rust: #[must_use]
     #[inline]
     #[tactic(auto, unfolding(crate::specs::Generator::after_steps))]
     pub fn init_with_extra_seed(s1: u64, s2: u64) -> Self
@@ -91,6 +110,13 @@ impl<const V: u8> Komirand<V> {
     }
 
     /// Takes one step, and returns its output.
+    // Rust: ///
+    // Rust: /// ```
+    // Rust: /// use komihash_rattle::v5::Komirand;
+    // Rust: /// let mut dice = Komirand::init(7);
+    // Rust: /// let throw = 1 + dice.next() % 6;
+    // Rust: /// assert!((1..=6).contains(&throw));
+    // Rust: /// ```
     // Rust: #[allow(clippy::should_implement_trait)]
     #[inline]
     #[tactic(auto, unfolding(crate::specs::Generator::next))]
@@ -114,6 +140,16 @@ impl<const V: u8> Komirand<V> {
     ///
     /// Takes one step for each eight bytes, and one more for a remainder, which gets the lowest
     /// bytes of its output; its other bytes are dropped. Takes no step if the buffer is empty.
+    // Rust: ///
+    // Rust: /// ```
+    // Rust: /// use komihash_rattle::v5::Komirand;
+    // Rust: /// let mut generator = Komirand::init(1);
+    // Rust: /// let (first, second) = (generator.next(), generator.next());
+    // Rust: /// let mut bytes = [0; 11];
+    // Rust: /// Komirand::init(1).fill_bytes(&mut bytes);
+    // Rust: /// assert_eq!(bytes[..8], first.to_le_bytes());
+    // Rust: /// assert_eq!(bytes[8..], second.to_le_bytes()[..3]);
+    // Rust: /// ```
     #[inline]
     #[tactic(auto, unfolding(crate::specs::Generator::after_steps))]
     pub fn fill_bytes(&mut self, buffer: &mut [u8])

@@ -1,9 +1,6 @@
 //! The hash of a whole message, which is read without a copy.
 //!
-//! Each range of lengths has a function of its own, so that short messages take few jumps. For the
-//! final word, `hash_of_one_word` and `hash_of_words` shift, because a processor can't guess a
-//! branch where lengths vary. `hash_of_blocks` branches, because long messages are often whole
-//! words, for which a shift is slower.
+//! Each range of lengths has a function of its own, so that messages take few jumps.
 
 #![tactic(auto, using(crate::proofs::HashPaths::hash_laws))]
 
@@ -11,9 +8,11 @@ ghost use Rattle.std.specs.Prelude.{◌≡◌, ◌<◌, ◌≤◌, length};
 ghost use Rattle.komihash.specs.Counts.{Costs, hash_products};
 ghost use Rattle.komihash.specs.Hash.{komi};
 
-use crate::padding::{final_word_by_branch, final_word_by_shift, padding_byte};
+use crate::padding::{final_word_of_many, padding_byte};
 use crate::rounds::words::{hash_from_pair, last_whole_word};
-use crate::rounds::{absorb_blocks, close, join, lanes_of, pair_round, seed_pair};
+use crate::rounds::{
+    absorb_blocks, absorb_one_block, close, join, lanes_of, pair_round, seed_pair,
+};
 use crate::tally::Tally;
 use crate::utils::{read_partial_word, read_word, word_at};
 
@@ -39,7 +38,7 @@ fn hash_of_one_word<const V: u8>(bytes: &[u8], seed: u64, tally: &mut Tally) -> 
     ensures hash { result ≡ komi V seed bytes.now }
     ensures costs { Costs tally (hash_products (length bytes.now)) 0 }
 {
-    let final_word = final_word_by_shift(bytes, padding_byte::<V>(bytes));
+    let final_word = final_word_of_many(bytes, padding_byte::<V>(bytes));
     let pair = seed_pair(seed, tally);
     close(pair, read_word(bytes), final_word, tally)
 }
@@ -66,8 +65,24 @@ fn hash_of_words<const V: u8>(bytes: &[u8], seed: u64, tally: &mut Tally) -> u64
     ensures costs { Costs tally (hash_products (length bytes.now)) 0 }
 {
     let pair = seed_pair(seed, tally);
-    let final_word = final_word_by_shift(bytes, padding_byte::<V>(bytes));
+    let final_word = final_word_of_many(bytes, padding_byte::<V>(bytes));
     hash_from_pair(pair, &bytes, last_whole_word(bytes), final_word, tally)
+}
+
+// One block needs no loop.
+#[inline(never)]
+fn hash_of_one_block<const V: u8>(bytes: &[u8], seed: u64, tally: &mut Tally) -> u64
+    requires least { 64 ≤ length bytes.now }
+    requires most { length bytes.now < 128 }
+    ensures hash { result ≡ komi V seed bytes.now }
+    ensures costs { Costs tally (hash_products (length bytes.now)) 0 }
+{
+    let mut lanes = lanes_of(seed_pair(seed, tally));
+    let rest = absorb_one_block::<V>(&mut lanes, bytes, tally);
+    let pair = join(&lanes, true);
+    let final_word = final_word_of_many(bytes, padding_byte::<V>(bytes));
+    // If a whole word is left, it is the last one of all bytes.
+    hash_from_pair(pair, &rest, last_whole_word(bytes), final_word, tally)
 }
 
 #[inline(never)]
@@ -77,7 +92,7 @@ fn hash_of_blocks<const V: u8>(bytes: &[u8], seed: u64, tally: &mut Tally) -> u6
     ensures costs { Costs tally (hash_products (length bytes.now)) 0 }
 {
     let pair = seed_pair(seed, tally);
-    let final_word = final_word_by_branch(bytes, padding_byte::<V>(bytes));
+    let final_word = final_word_of_many(bytes, padding_byte::<V>(bytes));
     let mut lanes = lanes_of(pair);
     let rest = absorb_blocks::<V>(&mut lanes, bytes, tally);
     let pair = join(&lanes, true);
@@ -95,17 +110,21 @@ pub(crate) fn hash_message<const V: u8>(bytes: &[u8], seed: u64, tally: &mut Tal
     ensures hash { result ≡ komi V seed bytes.now }
     ensures costs { Costs tally (hash_products (length bytes.now)) 0 }
 {
-    if bytes.len() < 8 {
-        if bytes.is_empty() {
-            return close(seed_pair(seed, tally), 0, 0, tally);
+    if bytes.len() < 64 {
+        if bytes.len() < 8 {
+            if bytes.is_empty() {
+                return close(seed_pair(seed, tally), 0, 0, tally);
+            }
+            hash_of_partial_word::<V>(bytes, seed, tally)
+        } else if bytes.len() < 16 {
+            hash_of_one_word::<V>(bytes, seed, tally)
+        } else if bytes.len() > 16 {
+            hash_of_words::<V>(bytes, seed, tally)
+        } else {
+            hash_of_16_bytes::<V>(bytes, seed, tally)
         }
-        hash_of_partial_word::<V>(bytes, seed, tally)
-    } else if bytes.len() < 16 {
-        hash_of_one_word::<V>(bytes, seed, tally)
-    } else if bytes.len() == 16 {
-        hash_of_16_bytes::<V>(bytes, seed, tally)
-    } else if bytes.len() < 64 {
-        hash_of_words::<V>(bytes, seed, tally)
+    } else if bytes.len() < 128 {
+        hash_of_one_block::<V>(bytes, seed, tally)
     } else {
         hash_of_blocks::<V>(bytes, seed, tally)
     }

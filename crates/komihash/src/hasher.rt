@@ -1,11 +1,13 @@
-//! The hasher of both versions, which chains the hashes of its writes.
+//! The hasher of both versions, which chains the hashes of its writes, and what makes one for each
+//! key of a map.
 
 ghost use Rattle.std.specs.Prelude.{◌≡◌, ℕ};
 ghost use Rattle.komihash.specs.Hash.{komi};
 
 use crate::hash::hash_message;
 use crate::tally::Tally;
-use std::hash::Hasher;
+use crate::version::{IsVersion, Versions};
+use std::hash::{BuildHasher, Hasher};
 use std::marker::Model;
 
 /// A hasher of version V, which has one number. Each write replaces it by the hash of the bytes
@@ -14,36 +16,44 @@ use std::marker::Model;
 /// So writes are not joined: the number after two writes is not the hash of all their bytes. A
 /// write of no bytes replaces the number too.
 // Rust: ///
-// Rust: /// ```
-// Rust: /// use komihash_rattle::KomiHasher;
-// Rust: /// use std::collections::HashMap;
-// Rust: /// use std::hash::BuildHasherDefault;
-// Rust: /// let mut ports = HashMap::<&str, u16, BuildHasherDefault<KomiHasher>>::default();
-// Rust: /// ports.insert("https", 443);
-// Rust: /// assert_eq!(ports["https"], 443);
-// Rust: /// ```
+// Rust: /// What a value that implements `Hash` writes depends on the machine and on Rust's version. So
+// Rust: /// use a hasher for maps alone, whose keys no attacker chooses, and `komihash` for what is
+// Rust: /// stored, sent or sharded.
+// Rust: #[derive(Debug)]
 #[derive(Drop)]
-pub struct KomiHasher<const V: u8> {
+pub struct KomiHasher<const V: u8>
+where
+    Versions: IsVersion<V>,
+{
     number: u64,
 }
 
-impl<const V: u8> Model for KomiHasher<V> {
+impl<const V: u8> Model for KomiHasher<V>
+where
+    Versions: IsVersion<V>,
+{
     ghost Value = { ℕ };
 
     ghost view = { λ h. h.number };
 }
 
-impl<const V: u8> KomiHasher<V> {
+impl<const V: u8> KomiHasher<V>
+where
+    Versions: IsVersion<V>,
+{
     /// Returns the hasher of a number, which is the seed of its first write.
     // Rust: ///
     // Rust: /// ```
-    // Rust: /// use komihash_rattle::{KomiHasher, komihash};
+    // Rust: /// use komihash_rattle::v5::{KomiHasher, komihash};
     // Rust: /// use std::hash::Hasher;
     // Rust: /// let mut hasher = KomiHasher::new(7);
-    // Rust: /// hasher.write(b"port");
-    // Rust: /// assert_eq!(hasher.finish(), komihash(b"port", 7));
+    // Rust: /// hasher.write(b"po");
+    // Rust: /// hasher.write(b"rt");
+    // Rust: /// assert_eq!(hasher.finish(), komihash(b"rt", komihash(b"po", 7)));
     // Rust: /// ```
+    // Rust: #[must_use]
     #[inline]
+    // Rust instead: pub const fn new(seed: u64) -> Self
     pub fn new(seed: u64) -> Self
         ensures { result ≡ seed }
     {
@@ -51,7 +61,10 @@ impl<const V: u8> KomiHasher<V> {
     }
 }
 
-impl<const V: u8> Default for KomiHasher<V> {
+impl<const V: u8> Default for KomiHasher<V>
+where
+    Versions: IsVersion<V>,
+{
     ghost is_default = { λ s. s ≡ 0 };
 
     /// Returns the hasher of the number 0.
@@ -61,7 +74,10 @@ impl<const V: u8> Default for KomiHasher<V> {
     }
 }
 
-impl<const V: u8> Hasher for KomiHasher<V> {
+impl<const V: u8> Hasher for KomiHasher<V>
+where
+    Versions: IsVersion<V>,
+{
     ghost write = { komi V };
 
     ghost finish = { λ s. s };
@@ -76,5 +92,82 @@ impl<const V: u8> Hasher for KomiHasher<V> {
     #[inline]
     fn write(&mut self, bytes: &[u8]) {
         self.number = hash_message::<V>(bytes, self.number, &mut Tally::new());
+    }
+}
+
+/// Makes a hasher of version V for each key of a map, from one seed.
+///
+/// A seed changes the order in which a map iterates. It is no protection against keys that an
+/// attacker chooses.
+// Rust: #[derive(Debug)]
+#[derive(Clone, Copy)]
+pub struct KomiBuildHasher<const V: u8>
+where
+    Versions: IsVersion<V>,
+{
+    seed: u64,
+}
+
+impl<const V: u8> Model for KomiBuildHasher<V>
+where
+    Versions: IsVersion<V>,
+{
+    ghost Value = { ℕ };
+
+    ghost view = { λ b. b.seed };
+
+    ghost inverse = { λ seed. record {
+      seed = seed;
+    } };
+}
+
+impl<const V: u8> KomiBuildHasher<V>
+where
+    Versions: IsVersion<V>,
+{
+    /// Returns what makes hashers of a seed.
+    // Rust: ///
+    // Rust: /// ```
+    // Rust: /// use komihash_rattle::v5::KomiBuildHasher;
+    // Rust: /// use std::collections::HashMap;
+    // Rust: /// let mut ports = HashMap::with_hasher(KomiBuildHasher::new(7));
+    // Rust: /// ports.insert("https", 443);
+    // Rust: /// assert_eq!(ports["https"], 443);
+    // Rust: /// ```
+    // Rust: #[must_use]
+    #[inline]
+    // Rust instead: pub const fn new(seed: u64) -> Self
+    pub fn new(seed: u64) -> Self
+        ensures { result ≡ seed }
+    {
+        KomiBuildHasher { seed }
+    }
+}
+
+impl<const V: u8> Default for KomiBuildHasher<V>
+where
+    Versions: IsVersion<V>,
+{
+    ghost is_default = { λ s. s ≡ 0 };
+
+    /// Returns what makes hashers of seed 0.
+    #[inline]
+    fn default() -> Self {
+        KomiBuildHasher::new(0)
+    }
+}
+
+impl<const V: u8> BuildHasher for KomiBuildHasher<V>
+where
+    Versions: IsVersion<V>,
+{
+    type Hasher = KomiHasher<V>;
+
+    ghost build_hasher = { λ seed. seed };
+
+    /// Returns the hasher of the seed.
+    #[inline]
+    fn build_hasher(&self) -> KomiHasher<V> {
+        KomiHasher::new(self.seed)
     }
 }

@@ -19,13 +19,16 @@
 // Rust: #![no_std]
 // Rust: #![forbid(unsafe_code)]
 // Rust: #![warn(missing_docs)]
-// Rust: #![allow(private_bounds, clippy::int_plus_one, clippy::manual_is_multiple_of)]
+// Rust: #![allow(clippy::int_plus_one, clippy::manual_is_multiple_of)]
 
+// Rust: #[doc(inline)]
 pub use v5::{KomiHasher, Komirand, StreamedKomihash, komihash};
 
 mod generator;
 mod hash;
 mod hasher;
+// Rust: #[cfg(feature = "std")]
+// Rust: mod io;
 pub mod laws;
 mod padding;
 mod rounds;
@@ -36,4 +39,5 @@ mod tests;
 mod utils;
 pub mod v4;
 pub mod v5;
+// Rust instead: pub mod version;
 mod version;

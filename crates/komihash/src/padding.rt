@@ -47,10 +47,11 @@ pub(crate) fn padding_byte<const V: u8>(message: &[u8]) -> u64
 /// Returns the final word of eight or more bytes: the bytes after the last whole word, and `end`.
 ///
 /// Reads the last eight bytes, and shifts out those of the last whole word. If no byte comes after
-/// that word, the shift is by 64, which `>>` doesn't allow. So there are two.
+/// that word, the shift is by 64, which `>>` doesn't allow. So it shifts twice. A branch would be
+/// faster for whole words, but a processor can't guess it where lengths vary.
 #[inline(always)]
 #[tactic(auto, using(crate::proofs::PaddedWords::final_word_many))]
-pub(crate) fn final_word_by_shift(bytes: &[u8], end: u64) -> u64
+pub(crate) fn final_word_of_many(bytes: &[u8], end: u64) -> u64
     requires at_least_8 { 8 ≤ length bytes.now }
     requires end { end < 4 }
     ensures { result ≡ final_word bytes.now end }
@@ -58,21 +59,6 @@ pub(crate) fn final_word_by_shift(bytes: &[u8], end: u64) -> u64
     let eight = last_word(bytes);
     let shift = 8 * (bytes.len() % 8);
     (eight >> 1) >> (63 - shift) | end << shift
-}
-
-/// Returns the final word of eight or more bytes. If these are whole words, that is `end`, and
-/// nothing is read.
-#[inline(always)]
-#[tactic(auto, using(crate::proofs::PaddedWords::final_word_whole))]
-pub(crate) fn final_word_by_branch(bytes: &[u8], end: u64) -> u64
-    requires at_least_8 { 8 ≤ length bytes.now }
-    requires end { end < 4 }
-    ensures { result ≡ final_word bytes.now end }
-{
-    if bytes.len() % 8 == 0 {
-        return end;
-    }
-    final_word_by_shift(bytes, end)
 }
 
 /// Writes the padded words of a message in version V to the front of `out`, and returns how many
@@ -86,7 +72,7 @@ pub(crate) fn pad<const V: u8>(bytes: &[u8], out: &mut [u64]) -> usize
     let whole = bytes.len() / 8;
     let has_whole_word = whole > 0;
     let final_word = if has_whole_word {
-        final_word_by_shift(bytes, padding_byte::<V>(bytes))
+        final_word_of_many(bytes, padding_byte::<V>(bytes))
     } else if bytes.is_empty() {
         0
     } else {

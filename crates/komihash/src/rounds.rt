@@ -234,6 +234,24 @@ fn absorb_block<'a, const V: u8>(lanes: &mut Lanes, bytes: &'a [u8], tally: &mut
     rest
 }
 
+/// Absorbs the one whole block of the bytes, and returns the bytes after it.
+#[inline(always)]
+#[tactic(auto, using(crate::proofs::Blocks::no_block))]
+pub(crate) fn absorb_one_block<'a, const V: u8>(
+    lanes: &mut Lanes,
+    bytes: &'a [u8],
+    tally: &mut Tally,
+) -> &'a [u8]
+    requires least { 64 ≤ length bytes.now }
+    requires most { length bytes.now < 128 }
+    ensures left { result.now ≡ after_blocks bytes.now }
+    ensures length { length result.now ≡ length bytes.now % 64 }
+    ensures lanes { lanes.new ≡ block_lanes V lanes.old (whole_words bytes.now) }
+    ensures costs { Costs tally 4 0 }
+{
+    absorb_block::<V>(lanes, bytes, tally)
+}
+
 /// Absorbs each whole block of the bytes, and returns the bytes after them, fewer than 64.
 #[inline(always)]
 #[tactic(auto, using(crate::proofs::Blocks::no_block))]

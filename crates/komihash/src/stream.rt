@@ -25,6 +25,9 @@ pub mod raw;
 ///
 /// The methods have other names than those of `StreamedKomihash`, so that the name alone tells
 /// which of the two a call means.
+// Rust: /// `start`, `absorb`, `answer`, `store` and `restore` do what `new_with_seed`, `write`, `finish`,
+// Rust: /// `save` and `resume` do. Use this trait for code that also serves streams of your own type,
+// Rust: /// which may implement it, and otherwise `version::StreamedKomihash<V>`.
 ///  <!-- Rattle -->
 /// `start`, `absorb` and `answer` also count their cost in a tally <!-- Rattle -->
 /// that the caller passes: products of two words, and bytes that <!-- Rattle -->
@@ -57,6 +60,7 @@ pub trait KomiStream: Sized + Drop {
 
     /// Returns the new stream of a seed.
     /// Counts one product. <!-- Rattle -->
+    // Rust: #[must_use]
     fn start(seed: u64, tally: &mut Tally) -> Self
         ensures started { Started VERSION seed (state result) }
         ensures costs { Costs tally 1 0 };
@@ -72,6 +76,7 @@ pub trait KomiStream: Sized + Drop {
 
     /// Returns the hash of all bytes so far. The stream is unchanged.
     /// Counts two products, and one for each 16 pending bytes. <!-- Rattle -->
+    // Rust: #[must_use]
     fn answer(&self, tally: &mut Tally) -> u64
         ensures answered { Answered VERSION (state self.now) result }
         ensures costs { Costs tally (answer_products (length (state self.now).pending)) 0 };
@@ -83,13 +88,26 @@ pub trait KomiStream: Sized + Drop {
     // Rust: ///
     // Rust: /// # Panics
     // Rust: ///
-    // Rust: /// If `out` is shorter.
+    // Rust: /// If `out.len()` is less than `LONGEST_TEXT`.
+    // Rust: ///
+    // Rust: /// ```
+    // Rust: /// use komihash_rattle::stream::{KomiStream, LONGEST_TEXT};
+    // Rust: /// fn copy<S: KomiStream>(stream: &S) -> S {
+    // Rust: ///     let mut text = [0; LONGEST_TEXT];
+    // Rust: ///     let length = stream.store(&mut text);
+    // Rust: ///     S::restore(&text[..length]).unwrap()
+    // Rust: /// }
+    // Rust: /// assert_eq!(copy(&komihash_rattle::StreamedKomihash::start(7)).answer(),
+    // Rust: ///     komihash_rattle::komihash(b"", 7));
+    // Rust: /// ```
+    // Rust: #[must_use]
     fn store(&self, out: &mut [u8]) -> usize
         requires { LONGEST_TEXT ≤ length out.old }
         ensures { Stored VERSION (state self.now) out result };
 
-    /// Returns the stream that has these bytes as its saved text, or `None`. Accepts any
-    /// well-formed text of this version, even a damaged one.
+    /// Returns the stream that has these bytes as its saved text, or `None` if they don't have the
+    /// form of one in this version. There is no checksum: most damaged texts have this form.
+    // Rust: #[must_use]
     fn restore(bytes: &[u8]) -> Option<Self>
         ensures { Restored VERSION state bytes.now result };
 
@@ -109,6 +127,16 @@ pub enum Call<'a> {
     Answer,
 }
 
+// Rust: impl core::fmt::Debug for Call<'_> {
+// Rust:     /// Shows how many bytes are absorbed, and none of them.
+// Rust:     fn fmt(&self, f: &mut core::fmt::Formatter<'_>) -> core::fmt::Result {
+// Rust:         match self {
+// Rust:             Call::Absorb(bytes) => f.debug_tuple("Absorb").field(&bytes.len()).finish(),
+// Rust:             Call::Answer => f.write_str("Answer"),
+// Rust:         }
+// Rust:     }
+// Rust: }
+
 /// Makes calls on a stream, in order, writes the answers to the front of `out`, and returns how
 /// many there are. The rest of `out` is unchanged.
 /// Counts what the calls cost. <!-- Rattle -->
@@ -119,7 +147,18 @@ pub enum Call<'a> {
 // Rust: ///
 // Rust: /// # Panics
 // Rust: ///
-// Rust: /// If `out` is shorter.
+// Rust: /// If `out.len()` is less than `calls.len()`.
+// Rust: ///
+// Rust: /// ```
+// Rust: /// use komihash_rattle::stream::{Call, run_on};
+// Rust: /// use komihash_rattle::{StreamedKomihash, komihash};
+// Rust: /// let mut stream = StreamedKomihash::new_with_seed(7);
+// Rust: /// stream.write(b"po");
+// Rust: /// let mut answers = [0; 2];
+// Rust: /// let calls = [Call::Absorb(b"rt"), Call::Answer];
+// Rust: /// assert_eq!(run_on(&mut stream, &calls, &mut answers), 1);
+// Rust: /// assert_eq!(answers[0], komihash(b"port", 7));
+// Rust: /// ```
 pub fn run_on<S: KomiStream>(
     stream: &mut S,
     calls: &[Call<'_>],
@@ -159,7 +198,7 @@ pub fn run_on<S: KomiStream>(
 // Rust: ///
 // Rust: /// # Panics
 // Rust: ///
-// Rust: /// If `out` is shorter.
+// Rust: /// If `out.len()` is less than `calls.len()`.
 // Rust: ///
 // Rust: /// ```
 // Rust: /// use komihash_rattle::stream::{Call, run};
@@ -169,12 +208,14 @@ pub fn run_on<S: KomiStream>(
 // Rust: /// assert_eq!(run::<StreamedKomihash>(7, &calls, &mut answers), 2);
 // Rust: /// assert_eq!(answers[..2], [komihash(b"po", 7), komihash(b"port", 7)]);
 // Rust: /// ```
+// Rust: #[track_caller]
 pub fn run<S: KomiStream>(
     seed: u64,
     calls: &[Call<'_>],
     out: &mut [u64],
     tally: &mut Tally,
 ) -> usize
+    // Rust instead: // `run_on` tests the length of `out`.
     requires { length calls.now ≤ length out.old }
     ensures answers { out.new ≡ answers S.VERSION seed calls.now ++ drop result out.old }
     ensures count { result ≡ length (answers S.VERSION seed calls.now) }

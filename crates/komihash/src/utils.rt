@@ -158,6 +158,7 @@ pub(crate) fn multiply128(x: u64, y: u64, tally: &mut Tally) -> (u64, u64)
     tally.raise(1, 0);
     let product = u128::from(x) * u128::from(y);
     (
+        // Rust instead: product as u64,
         (product & 0xffff_ffff_ffff_ffff) as u64,
         (product >> 64) as u64,
     )

@@ -3,6 +3,8 @@
 //! It differs from version 5 in which words of a block are multiplied with each other, in the
 //! padding of messages that end in a byte of 128 or more, in the generator's step, and in the saved
 //! texts of streams.
+// Rust: //!
+// Rust: //! Examples of methods are those of version 5: write `v4` where they have `v5`.
 
 ghost use Rattle.std.specs.Prelude.{◌≡◌, ◌+◌, ◌*◌, ◌/◌, ◌≤◌, length};
 ghost use Rattle.komihash.specs.Counts.{Costs, hash_products};
@@ -13,21 +15,52 @@ use crate::tally::Tally;
 use crate::{generator, hash, hasher, padding, stream};
 
 /// The stream of version 4, which hashes bytes that come in pieces.
+// Rust: ///
+// Rust: /// However the bytes are cut, the hash is that of [`komihash`]. Pieces of a multiple of 64 bytes
+// Rust: /// are best, as [the type of both versions](crate::version::StreamedKomihash) explains.
+// Rust: ///
+// Rust: /// ```
+// Rust: /// use komihash_rattle::v4::{StreamedKomihash, komihash};
+// Rust: /// let mut stream = StreamedKomihash::new();
+// Rust: /// stream.write(b"po");
+// Rust: /// stream.write(b"rt");
+// Rust: /// assert_eq!(stream.finish(), komihash(b"port", 0));
+// Rust: /// ```
 pub type StreamedKomihash = stream::streamed::StreamedKomihash<4>;
 
 /// The hasher of version 4, which chains the hashes of its writes.
+// Rust: ///
+// Rust: /// Its writes are not joined: each replaces its number by the hash of the bytes, with the number
+// Rust: /// as the seed. Use it for maps alone, whose keys no attacker chooses, as
+// Rust: /// [the type of both versions](crate::version::KomiHasher) explains.
 pub type KomiHasher = hasher::KomiHasher<4>;
 
-/// The pseudorandom generator of version 4.
+/// Makes a hasher of version 4 for each key of a map, from one seed.
+// Rust: ///
+// Rust: /// A seed is no protection against keys that an attacker chooses.
+// Rust: ///
+// Rust: /// ```
+// Rust: /// use komihash_rattle::v4::KomiBuildHasher;
+// Rust: /// use std::collections::HashMap;
+// Rust: /// let mut ports = HashMap::with_hasher(KomiBuildHasher::new(7));
+// Rust: /// ports.insert("https", 443);
+// Rust: /// ```
+pub type KomiBuildHasher = hasher::KomiBuildHasher<4>;
+
+/// The pseudorandom generator of version 4, which is not cryptographic.
+// Rust: ///
+// Rust: /// [The type of both versions](crate::version::Komirand) has the rule of a step.
 pub type Komirand = generator::Komirand<4>;
 
 /// Returns the hash of a message of any length with any seed.
 /// It is `komi` of `specs/Hash.antt`. <!-- Rattle -->
+// Rust: /// It is not for messages that an attacker may choose, whatever the seed is.
 // Rust: ///
 // Rust: /// ```
 // Rust: /// use komihash_rattle::v4::komihash;
 // Rust: /// assert_eq!(komihash(b"", 0), 0xb7683ea7430132b4);
 // Rust: /// ```
+// Rust: #[must_use]
 #[inline]
 pub fn komihash(bytes: &[u8], seed: u64) -> u64
     ensures { result ≡ komi 4 seed bytes.now }
@@ -56,15 +89,13 @@ pub fn komihash_counted(bytes: &[u8], seed: u64, tally: &mut Tally) -> u64
 // Rust: ///
 // Rust: /// # Panics
 // Rust: ///
-// Rust: /// If `out` is shorter.
+// Rust: /// If `out.len()` is less than `bytes.len() / 8 + 1`.
 // Rust: ///
 // Rust: /// ```
-// Rust: /// use komihash_rattle::v4::{pad, unpad};
-// Rust: /// let (mut words, mut message) = ([0; 1], [0; 8]);
+// Rust: /// use komihash_rattle::v4::pad;
+// Rust: /// let mut words = [0; 1];
 // Rust: /// assert_eq!(pad(b"abc", &mut words), 1);
 // Rust: /// assert_eq!(words, [0x01636261]);
-// Rust: /// assert_eq!(unpad(&words, &mut message), Some(3));
-// Rust: /// assert_eq!(message[..3], *b"abc");
 // Rust: /// ```
 #[inline]
 pub fn pad(bytes: &[u8], out: &mut [u64]) -> usize
@@ -78,11 +109,20 @@ pub fn pad(bytes: &[u8], out: &mut [u64]) -> usize
 /// bytes. The rest of `out` is unchanged. `out` needs room for eight bytes for each word.
 ///
 /// Returns `None`, with all of `out` unchanged, if no message has these words in this version.
-// Rust: /// [`pad`] has an example.
 // Rust: ///
 // Rust: /// # Panics
 // Rust: ///
-// Rust: /// If `out` is shorter.
+// Rust: /// If `out.len()` is less than `8 * words.len()`.
+// Rust: ///
+// Rust: /// ```
+// Rust: /// use komihash_rattle::v4::unpad;
+// Rust: /// let mut message = [0; 8];
+// Rust: /// assert_eq!(unpad(&[0x01636261], &mut message), Some(3));
+// Rust: /// assert_eq!(message[..3], *b"abc");
+// Rust: /// assert_eq!(unpad(&[0], &mut message), Some(0));
+// Rust: /// assert_eq!(unpad(&[1], &mut message), None);
+// Rust: /// ```
+// Rust: #[must_use]
 #[inline]
 pub fn unpad(words: &[u64], out: &mut [u8]) -> Option<usize>
     requires { 8 * length words.now ≤ length out.old }

@@ -9,21 +9,52 @@ use crate::tally::Tally;
 use crate::{generator, hash, hasher, padding, stream};
 
 /// The stream of version 5, which hashes bytes that come in pieces.
+// Rust: ///
+// Rust: /// However the bytes are cut, the hash is that of [`komihash`]. Pieces of a multiple of 64 bytes
+// Rust: /// are best, as [the type of both versions](crate::version::StreamedKomihash) explains.
+// Rust: ///
+// Rust: /// ```
+// Rust: /// use komihash_rattle::v5::{StreamedKomihash, komihash};
+// Rust: /// let mut stream = StreamedKomihash::new();
+// Rust: /// stream.write(b"po");
+// Rust: /// stream.write(b"rt");
+// Rust: /// assert_eq!(stream.finish(), komihash(b"port", 0));
+// Rust: /// ```
 pub type StreamedKomihash = stream::streamed::StreamedKomihash<5>;
 
 /// The hasher of version 5, which chains the hashes of its writes.
+// Rust: ///
+// Rust: /// Its writes are not joined: each replaces its number by the hash of the bytes, with the number
+// Rust: /// as the seed. Use it for maps alone, whose keys no attacker chooses, as
+// Rust: /// [the type of both versions](crate::version::KomiHasher) explains.
 pub type KomiHasher = hasher::KomiHasher<5>;
 
-/// The pseudorandom generator of version 5.
+/// Makes a hasher of version 5 for each key of a map, from one seed.
+// Rust: ///
+// Rust: /// A seed is no protection against keys that an attacker chooses.
+// Rust: ///
+// Rust: /// ```
+// Rust: /// use komihash_rattle::v5::KomiBuildHasher;
+// Rust: /// use std::collections::HashMap;
+// Rust: /// let mut ports = HashMap::with_hasher(KomiBuildHasher::new(7));
+// Rust: /// ports.insert("https", 443);
+// Rust: /// ```
+pub type KomiBuildHasher = hasher::KomiBuildHasher<5>;
+
+/// The pseudorandom generator of version 5, which is not cryptographic.
+// Rust: ///
+// Rust: /// [The type of both versions](crate::version::Komirand) has the rule of a step.
 pub type Komirand = generator::Komirand<5>;
 
 /// Returns the hash of a message of any length with any seed.
 /// It is `komi` of `specs/Hash.antt`. <!-- Rattle -->
+// Rust: /// It is not for messages that an attacker may choose, whatever the seed is.
 // Rust: ///
 // Rust: /// ```
 // Rust: /// use komihash_rattle::v5::komihash;
 // Rust: /// assert_eq!(komihash(b"", 0), 0xb7683ea7430132b4);
 // Rust: /// ```
+// Rust: #[must_use]
 #[inline]
 pub fn komihash(bytes: &[u8], seed: u64) -> u64
     ensures { result ≡ komi 5 seed bytes.now }
@@ -52,15 +83,13 @@ pub fn komihash_counted(bytes: &[u8], seed: u64, tally: &mut Tally) -> u64
 // Rust: ///
 // Rust: /// # Panics
 // Rust: ///
-// Rust: /// If `out` is shorter.
+// Rust: /// If `out.len()` is less than `bytes.len() / 8 + 1`.
 // Rust: ///
 // Rust: /// ```
-// Rust: /// use komihash_rattle::v5::{pad, unpad};
-// Rust: /// let (mut words, mut message) = ([0; 1], [0; 8]);
+// Rust: /// use komihash_rattle::v5::pad;
+// Rust: /// let mut words = [0; 1];
 // Rust: /// assert_eq!(pad(b"abc", &mut words), 1);
 // Rust: /// assert_eq!(words, [0x01636261]);
-// Rust: /// assert_eq!(unpad(&words, &mut message), Some(3));
-// Rust: /// assert_eq!(message[..3], *b"abc");
 // Rust: /// ```
 #[inline]
 pub fn pad(bytes: &[u8], out: &mut [u64]) -> usize
@@ -74,11 +103,20 @@ pub fn pad(bytes: &[u8], out: &mut [u64]) -> usize
 /// bytes. The rest of `out` is unchanged. `out` needs room for eight bytes for each word.
 ///
 /// Returns `None`, with all of `out` unchanged, if no message has these words in this version.
-// Rust: /// [`pad`] has an example.
 // Rust: ///
 // Rust: /// # Panics
 // Rust: ///
-// Rust: /// If `out` is shorter.
+// Rust: /// If `out.len()` is less than `8 * words.len()`.
+// Rust: ///
+// Rust: /// ```
+// Rust: /// use komihash_rattle::v5::unpad;
+// Rust: /// let mut message = [0; 8];
+// Rust: /// assert_eq!(unpad(&[0x01636261], &mut message), Some(3));
+// Rust: /// assert_eq!(message[..3], *b"abc");
+// Rust: /// assert_eq!(unpad(&[0], &mut message), Some(0));
+// Rust: /// assert_eq!(unpad(&[1], &mut message), None);
+// Rust: /// ```
+// Rust: #[must_use]
 #[inline]
 pub fn unpad(words: &[u64], out: &mut [u8]) -> Option<usize>
     requires { 8 * length words.now ≤ length out.old }

@@ -79,6 +79,14 @@ pub extern "C" fn komihash_v5_start(seed: u64) -> Stream
     }
 }
 
+/// Makes the stream the new one of a seed.
+#[unsafe(no_mangle)]
+pub extern "C" fn komihash_v5_init(stream: &mut Stream, seed: u64)
+    ensures { Started 5 seed stream.new.raw }
+{
+    stream.raw = RawStream::start::<5>(seed, &mut Tally::new());
+}
+
 /// Absorbs bytes.
 #[unsafe(no_mangle)]
 pub extern "C" fn komihash_v5_write(stream: &mut Stream, bytes: &[u8])

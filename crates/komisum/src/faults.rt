@@ -15,8 +15,8 @@ pub enum Fault {
 }
 
 impl Fault {
-    /// Returns the message, for callers that report a fault themselves. The program's own lines are
-    /// whole, so that one write takes them.
+    /// Returns the message alone. The program prints it only as a part of its lines, which `ending`
+    /// has whole, so that one write takes each. So only tests call this.
     pub fn text(&self) -> &'static str
         ensures { result.now ≡ fault_text self.now }
     {

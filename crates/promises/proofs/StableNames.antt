@@ -27,6 +27,7 @@ use Rattle.komihash.specs.Stream.{Started, Absorbed, Answered}
 use Rattle.komihash.specs.Words.{AreBytes, AreWords, word_of, words_of, all_bytes}
 use Rattle.komihash.specs.declared.stream.Call.{Call}
 use Rattle.komihash.specs.declared.tally.Tally.{Tally}
+use Rattle.komihash.proofs.Propositions.{HasAbsorbed-prop}
 
 words_and_bytes : (List ℕ → ℕ) × (List ℕ → List ℕ) × (List ℕ → List ℕ)
 words_and_bytes = (word_of, words_of, all_bytes)
@@ -81,6 +82,9 @@ texts = (lanes_at, pending_at, longest_text, flag_byte, head, text)
 
 after_a_message : (ℕ → ℕ → State → List ℕ → Type 0) × (ℕ → ℕ → List ℕ → List ℕ → Type 0)
 after_a_message = (HasAbsorbed, IsTextAfter)
+
+absorbed_once : (v seed : ℕ) (s : State) (m : List ℕ) → IsProp (HasAbsorbed v seed s m)
+absorbed_once = HasAbsorbed-prop
 
 are_texts : ℕ → List ℕ → Type 0
 are_texts = IsText

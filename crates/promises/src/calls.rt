@@ -18,7 +18,7 @@ ghost use Rattle.komihash.specs.declared.stream.Call.TheVariants.{Answer};
 use komihash::stream::{Call, KomiStream, LONGEST_TEXT, run, run_on};
 use komihash::tally::Tally;
 use komihash::{laws, v4, v5};
-use std::hash::Hasher;
+use std::hash::{BuildHasher, Hasher};
 
 const _: () = prove!(LONGEST_TEXT == 131);
 
@@ -80,6 +80,11 @@ pub trait Promises: KomiStream {
         ensures hash { result.0 ≡ komi Self.VERSION number first.now }
         ensures chain { result.1
             ≡ number_after Self.VERSION 0 (first.now ∷ second.now ∷ []) };
+
+    /// Returns the numbers of the hashers that a map of a seed, and a default one, begin with.
+    fn built(seed: u64) -> (u64, u64)
+        ensures seed { result.0 ≡ seed }
+        ensures default { result.1 ≡ 0 };
 }
 
 impl Promises for v4::StreamedKomihash {
@@ -128,6 +133,12 @@ impl Promises for v4::StreamedKomihash {
         hasher.write(first);
         default.write(first);
         default.write(second);
+        (hasher.finish(), default.finish())
+    }
+
+    fn built(seed: u64) -> (u64, u64) {
+        let hasher: v4::KomiHasher = v4::KomiBuildHasher::new(seed).build_hasher();
+        let default: v4::KomiHasher = v4::KomiBuildHasher::default().build_hasher();
         (hasher.finish(), default.finish())
     }
 }
@@ -180,18 +191,25 @@ impl Promises for v5::StreamedKomihash {
         default.write(second);
         (hasher.finish(), default.finish())
     }
+
+    fn built(seed: u64) -> (u64, u64) {
+        let hasher: v5::KomiHasher = v5::KomiBuildHasher::new(seed).build_hasher();
+        let default: v5::KomiHasher = v5::KomiBuildHasher::default().build_hasher();
+        (hasher.finish(), default.finish())
+    }
 }
 
 /// Shows that the names of the root are those of version 5.
 pub fn by_the_names_of_the_root(
     bytes: &[u8],
+    seed: u64,
     stream: komihash::StreamedKomihash,
     hasher: komihash::KomiHasher,
     generator: komihash::Komirand,
 ) -> (u64, v5::StreamedKomihash, v5::KomiHasher, v5::Komirand)
-    ensures { result.0 ≡ komi 5 0 bytes.now }
+    ensures { result.0 ≡ komi 5 seed bytes.now }
 {
-    (komihash::komihash(bytes, 0), stream, hasher, generator)
+    (komihash::komihash(bytes, seed), stream, hasher, generator)
 }
 
 /// Returns a new stream, a new tally, at the cost of one product, and the version.
@@ -288,4 +306,11 @@ pub fn all_can_cross_threads() {
     can_cross_threads::<v5::KomiHasher>();
     can_cross_threads::<v4::Komirand>();
     can_cross_threads::<v5::Komirand>();
+}
+
+fn can_be_copied<T: Copy>() {}
+
+/// A call can be copied.
+pub fn calls_can_be_copied() {
+    can_be_copied::<Call<'_>>();
 }

@@ -4,7 +4,7 @@ ghost use Rattle.std.specs.Hash.{le_bytes};
 ghost use Rattle.std.specs.Int.{to_le_bytes, w8, w16, w32, w64};
 ghost use Rattle.std.specs.List.{flat_map};
 ghost use Rattle.std.specs.Prelude.{◌≡◌, ◌+◌, ◌-◌, ◌*◌, ◌%◌, ◌^◌, ◌<◌, ◌≤◌, ◌++◌, ◌∷◌, []};
-ghost use Rattle.std.specs.Prelude.{ℕ, List, length, bit_xor, slice_index};
+ghost use Rattle.std.specs.Prelude.{ℕ, List, length, map, bit_xor, slice_index};
 ghost use Rattle.komihash.specs.Calls.{answers_after, bytes_of_calls};
 ghost use Rattle.komihash.specs.Generator.{next, after_steps, outputs, fill, after_fill};
 ghost use Rattle.komihash.specs.Hash.{komi};
@@ -82,6 +82,9 @@ pub fn of_generators()
         ≡ flat_map (λ output. to_le_bytes w64 output) (outputs v n s) }
     ensures fill_of_outputs_pair { (v n : ℕ) (s : ℕ × ℕ)
         → after_fill v s (8 * n) ≡ after_steps v n s }
+    ensures one_output { (v : ℕ) (s : ℕ × ℕ) → fill v s 8 ≡ to_le_bytes w64 (next v s).0 }
+    ensures one_output_pair { (v : ℕ) (s : ℕ × ℕ) → after_fill v s 8 ≡ next v s }
+    ensures one_output_fits { (v : ℕ) (s : ℕ × ℕ) → (next v s).0 < 2 ^ 64 }
     ensures fill_cut { (v : ℕ) (s : ℕ × ℕ) (x y : ℕ) → x % 8 ≡ 0
         → fill v s (x + y) ≡ fill v s x ++ fill v (after_fill v s x) y }
     ensures fill_cut_pair { (v : ℕ) (s : ℕ × ℕ) (x y : ℕ) → x % 8 ≡ 0
@@ -94,6 +97,7 @@ pub fn of_generators()
 {
     laws::step_by_step();
     laws::fill_of_outputs();
+    laws::one_output();
     laws::fill_cut();
     laws::one_seed();
 }
@@ -109,6 +113,16 @@ pub fn of_the_lemmas()
     ensures most { (v seed : ℕ) (m x : List ℕ) → IsTextAfter v seed m x → length x ≤ 131 }
     ensures chain { (v number : ℕ) (x y : List (List ℕ))
         → number_after v number (x ++ y) ≡ number_after v (number_after v number x) y }
+    ensures count { (v n : ℕ) (s : ℕ × ℕ) → length (outputs v n s) ≡ n }
     ensures output { (v n k : ℕ) (s : ℕ × ℕ) → k < n
         → slice_index (outputs v n s) k ≡ (next v (after_steps v k s)).0 }
+{}
+
+/// States what loops need that write several times for each item.
+#[tactic(auto, using(komihash::proofs::LawLemmas::of_items))]
+pub fn of_items()
+    ensures joined { (f : ℕ → List ℕ) (x y : List ℕ)
+        → flat_map f (x ++ y) ≡ flat_map f x ++ flat_map f y }
+    ensures mapped { (f : ℕ → ℕ) (x y : List ℕ) → map f (x ++ y) ≡ map f x ++ map f y }
+    ensures in_parts { (x y z : List ℕ) → (x ++ y) ++ z ≡ x ++ (y ++ z) }
 {}

@@ -257,15 +257,11 @@ impl Pending {
         requires { 0 < length self.now }
         ensures { result ≡ final_word self.now (padding_byte V self.now) }
     {
-        let over = self.len % 8;
-        let word = self.words[word_index(self.len)];
-        let is_whole = over == 0;
-        let last_byte = if is_whole {
-            (self.words[(self.len / 8 + 7) % 8] >> 56 & 0xff) as u8
-        } else {
-            (word >> (8 * over - 8) & 0xff) as u8
-        };
-        word | padding_after(pads_with_two::<V>(last_byte)) << (8 * over)
+        let last = self.len - 1;
+        // Rust instead: let last_byte = (self.words[word_index(last)] >> (8 * (last % 8))) as u8;
+        let last_byte = (self.words[word_index(last)] >> (8 * (last % 8)) & 0xff) as u8;
+        let padding = padding_after(pads_with_two::<V>(last_byte));
+        self.words[word_index(self.len)] | padding << (8 * (self.len % 8))
     }
 
     /// Writes the bytes to the front of `out`. The rest of `out` is unchanged.

@@ -1,5 +1,7 @@
-//! The stream that `StreamedKomihash` and the library for C share. Its type does not name the
-//! version, because no generic type can be in an interface for C.
+// Rust: //! The stream of both versions, whose type does not name the version.
+//! The stream that `StreamedKomihash` and the library for C share. Its <!-- Rattle -->
+//! type does not name the version, because no generic type can be in an <!-- Rattle -->
+//! interface for C. <!-- Rattle -->
 
 ghost use Rattle.std.specs.Prelude.{◌≡◌, ◌+◌, ◌<◌, ◌≤◌, ℕ, List, IfSome, length, take, drop};
 ghost use Rattle.komihash.specs.Counts.{Costs, absorb_products, answer_products, absorb_kept_bytes};
@@ -7,6 +9,7 @@ ghost use Rattle.komihash.specs.Saved.{text, IsTextAfter, Restored};
 ghost use Rattle.komihash.specs.Stream.{State, IsState, HasAbsorbed, absorb};
 ghost use Rattle.komihash.specs.Stream.{Started, Absorbed, Answered};
 
+// Rust instead: use super::saved;
 use super::saved::{self, LONGEST_TEXT};
 use crate::padding::{has_two, padding_after, pads_with_two};
 use crate::rounds::pending::Pending;
@@ -150,6 +153,7 @@ impl RawStream {
     /// returns its length. The rest of `out` is unchanged.
     #[inline(always)]
     #[tactic(auto, unfolding(crate::specs::Saved::text), using(crate::proofs::SavedTexts::stored))]
+    // Rust instead: pub(crate) fn store<const V: u8>(&self, out: &mut [u8]) -> usize
     pub fn store<const V: u8>(&self, out: &mut [u8]) -> usize
     where
         Versions: IsVersion<V>,

@@ -17,18 +17,6 @@ use std::marker::Model;
 /// Pieces of a multiple of 64 bytes are best: as long as all are, none is copied. Otherwise a write
 /// copies into the stream the bytes that continue a partial block, and those that begin a new one:
 /// at most 63 of each.
-// Rust: ///
-// Rust: /// ```
-// Rust: /// use komihash_rattle::stream::LONGEST_TEXT;
-// Rust: /// use komihash_rattle::{StreamedKomihash, komihash};
-// Rust: /// let mut stream = StreamedKomihash::new_with_seed(7);
-// Rust: /// stream.write(b"p");
-// Rust: /// let mut text = [0; LONGEST_TEXT];
-// Rust: /// let length = stream.save(&mut text);
-// Rust: /// let mut stream = StreamedKomihash::resume(&text[..length]).unwrap();
-// Rust: /// stream.write(b"ort");
-// Rust: /// assert_eq!(stream.finish(), komihash(b"port", 7));
-// Rust: /// ```
 // Rust: #[repr(transparent)]
 #[derive(Drop)]
 pub struct StreamedKomihash<const V: u8>
@@ -56,6 +44,7 @@ where
     Versions: IsVersion<V>,
 {
     /// Returns the new stream of seed 0.
+    // Rust: #[must_use]
     #[inline]
     pub fn new() -> Self
         ensures { Started V 0 result.state }
@@ -64,6 +53,16 @@ where
     }
 
     /// Returns the new stream of a seed.
+    // Rust: ///
+    // Rust: /// ```
+    // Rust: /// use komihash_rattle::v5::{StreamedKomihash, komihash};
+    // Rust: /// let mut stream = StreamedKomihash::new_with_seed(7);
+    // Rust: /// stream.write(b"p");
+    // Rust: /// assert_eq!(stream.finish(), komihash(b"p", 7));
+    // Rust: /// stream.write(b"ort");
+    // Rust: /// assert_eq!(stream.finish(), komihash(b"port", 7));
+    // Rust: /// ```
+    // Rust: #[must_use]
     #[inline]
     pub fn new_with_seed(seed: u64) -> StreamedKomihash<V>
         ensures { Started V seed result.state }
@@ -72,7 +71,15 @@ where
     }
 
     /// Absorbs any number of bytes.
-    #[inline(always)]
+    // Rust: ///
+    // Rust: /// ```
+    // Rust: /// use komihash_rattle::v5::{StreamedKomihash, komihash};
+    // Rust: /// let mut stream = StreamedKomihash::new();
+    // Rust: /// stream.write(b"po");
+    // Rust: /// stream.write(b"rt");
+    // Rust: /// assert_eq!(stream.finish(), komihash(b"port", 0));
+    // Rust: /// ```
+    #[inline]
     pub fn write(&mut self, bytes: &[u8])
         ensures { Absorbed V (λ stream. stream.state) self bytes.now }
     {
@@ -80,6 +87,7 @@ where
     }
 
     /// Returns the hash of all bytes so far. The stream is unchanged, and may absorb more.
+    // Rust: #[must_use]
     #[inline]
     pub fn finish(&self) -> u64
         ensures { Answered V self.now.state result }
@@ -91,29 +99,60 @@ where
     /// bytes: 68, and one for each pending byte. The rest of `out` is unchanged.
     ///
     /// `out` needs room for `LONGEST_TEXT` bytes, whatever is pending. `resume` makes the same
-    /// stream from the text, also in another process. The text has the pending bytes as they are.
+    /// stream from the text, also on another machine. The text is bytes, not UTF-8, and has the
+    /// pending ones as they are.
     // Rust: ///
     // Rust: /// # Panics
     // Rust: ///
-    // Rust: /// If `out` is shorter.
-    #[inline(always)]
+    // Rust: /// If `out.len()` is less than `LONGEST_TEXT`.
+    // Rust: ///
+    // Rust: /// ```
+    // Rust: /// use komihash_rattle::stream::LONGEST_TEXT;
+    // Rust: /// use komihash_rattle::v5::{StreamedKomihash, komihash};
+    // Rust: /// let mut stream = StreamedKomihash::new();
+    // Rust: /// stream.write(b"p");
+    // Rust: /// let mut text = [0; LONGEST_TEXT];
+    // Rust: /// let length = stream.save(&mut text);
+    // Rust: /// let mut resumed = StreamedKomihash::resume(&text[..length]).unwrap();
+    // Rust: /// resumed.write(b"ort");
+    // Rust: /// assert_eq!(resumed.finish(), komihash(b"port", 0));
+    // Rust: /// ```
+    // Rust: #[must_use]
+    #[inline]
     pub fn save(&self, out: &mut [u8]) -> usize
         requires { LONGEST_TEXT ≤ length out.old }
         ensures { Stored V self.now.state out result }
     {
-        self.store(out)
+        self.raw.store::<V>(out)
     }
 
-    /// Returns the stream that has these bytes as its saved text, or `None`. Accepts any
-    /// well-formed text of this version, even a damaged one.
+    /// Returns the stream that has these bytes as its saved text, or `None` if they don't have the
+    /// form of one in this version. There is no checksum: most damaged texts have this form.
     /// The format is `text` in `specs/Saved.antt`. <!-- Rattle -->
-    #[inline(always)]
+    // Rust: ///
+    // Rust: /// ```
+    // Rust: /// use komihash_rattle::v5::StreamedKomihash;
+    // Rust: /// let stream = StreamedKomihash::resume(b"not a saved text");
+    // Rust: /// assert!(stream.is_none());
+    // Rust: /// ```
+    // Rust: #[must_use]
+    #[inline]
     pub fn resume(bytes: &[u8]) -> Option<Self>
         ensures { Restored V (λ stream. stream.state) bytes.now result }
     {
         StreamedKomihash::restore(bytes)
     }
 }
+
+// Rust: impl<const V: u8> core::fmt::Debug for StreamedKomihash<V>
+// Rust: where
+// Rust:     Versions: IsVersion<V>,
+// Rust: {
+// Rust:     /// Shows no byte of the message.
+// Rust:     fn fmt(&self, f: &mut core::fmt::Formatter<'_>) -> core::fmt::Result {
+// Rust:         f.debug_struct("StreamedKomihash").finish_non_exhaustive()
+// Rust:     }
+// Rust: }
 
 impl<const V: u8> Default for StreamedKomihash<V>
 where
@@ -138,29 +177,29 @@ where
 
     ghost state = { λ s. s.state };
 
-    #[inline(always)]
+    #[inline]
     fn start(seed: u64, tally: &mut Tally) -> Self {
         StreamedKomihash {
             raw: RawStream::start::<V>(seed, tally),
         }
     }
 
-    #[inline(always)]
+    #[inline]
     fn absorb(&mut self, bytes: &[u8], tally: &mut Tally) {
         self.raw.absorb::<V>(bytes, tally);
     }
 
-    #[inline(always)]
+    #[inline]
     fn answer(&self, tally: &mut Tally) -> u64 {
         self.raw.answer::<V>(tally)
     }
 
-    #[inline(always)]
+    #[inline]
     fn store(&self, out: &mut [u8]) -> usize {
         self.raw.store::<V>(out)
     }
 
-    #[inline(always)]
+    #[inline]
     fn restore(bytes: &[u8]) -> Option<Self> {
         Some(StreamedKomihash {
             raw: RawStream::restore::<V>(bytes)?,

@@ -1,9 +1,13 @@
 //! The generators of both versions: known outputs and bytes, and fill_bytes against `next`.
 
 use crate::generator::Komirand;
+use crate::version::{IsVersion, Versions};
 use std::process::Abort;
 
-fn generator<const V: u8>(number: usize) -> Komirand<V> {
+fn generator<const V: u8>(number: usize) -> Komirand<V>
+where
+    Versions: IsVersion<V>,
+{
     match number {
         0 => Komirand::new(0, 0),
         1 => Komirand::new(42, 42),
@@ -16,7 +20,10 @@ fn generator<const V: u8>(number: usize) -> Komirand<V> {
 }
 
 // Returns the output of one of the generators at an index, counted from 0.
-fn output<const V: u8>(number: usize, at: usize) -> u64 {
+fn output<const V: u8>(number: usize, at: usize) -> u64
+where
+    Versions: IsVersion<V>,
+{
     let mut generator = generator::<V>(number);
     for _ in 0..at {
         generator.next();
@@ -49,24 +56,35 @@ fn gives_known_outputs(rt: HostRuntime) {
     }
 }
 
-// Makes fills in turn. Compares all their bytes, and the next output with the first unused one.
-fn assert_fills<const V: u8>(rt: &impl Abort, number: usize, sizes: &[usize], wanted: &[u8]) {
+// Makes fills in turn. Compares all their bytes, and the next output.
+fn assert_fills<const V: u8>(
+    rt: &impl Abort,
+    number: usize,
+    sizes: &[usize],
+    wanted: &[u8],
+    next: u64,
+)
+where
+    Versions: IsVersion<V>,
+{
     let mut generator = generator::<V>(number);
     let mut bytes = [0xee; 96];
-    let (mut end, mut used) = (0, 0);
+    let mut end = 0;
     for size in sizes {
-        assert!(rt; end <= 96 && *size <= 96 - end && used <= 12);
+        assert!(rt; end <= 96 && *size <= 96 - end);
         generator.fill_bytes(&mut bytes[end..end + size]);
         end += size;
-        used += size.div_ceil(8);
     }
     assert!(rt; end <= 96);
     assert_eq!(rt; bytes[..end], *wanted, "{sizes:?}");
-    assert_eq!(rt; generator.next(), output::<V>(number, used), "{sizes:?}");
+    assert_eq!(rt; generator.next(), next, "{sizes:?}");
 }
 
 // Compares fills of every length with outputs, and two fills of 8 bytes with one of 16.
-fn assert_fills_every_length<const V: u8>(rt: &impl Abort) {
+fn assert_fills_every_length<const V: u8>(rt: &impl Abort)
+where
+    Versions: IsVersion<V>,
+{
     for number in 0..4usize {
         let mut generator = generator::<V>(number);
         let mut bytes = [0; 96];
@@ -74,9 +92,10 @@ fn assert_fills_every_length<const V: u8>(rt: &impl Abort) {
             bytes[8 * i..8 * i + 8].copy_from_slice(&generator.next().to_le_bytes());
         }
         for n in 0..96usize {
-            assert_fills::<V>(rt, number, &[n], &bytes[..n]);
+            let next = output::<V>(number, n.div_ceil(8));
+            assert_fills::<V>(rt, number, &[n], &bytes[..n], next);
         }
-        assert_fills::<V>(rt, number, &[8, 8], &bytes[..16]);
+        assert_fills::<V>(rt, number, &[8, 8], &bytes[..16], output::<V>(number, 2));
     }
 }
 
@@ -86,24 +105,40 @@ fn fills_every_length(rt: HostRuntime) {
     assert_fills_every_length::<5>(&rt);
 }
 
-// A fill doesn't use the bytes that the fill before has dropped. One of no bytes changes nothing.
+// Each row is a generator, sizes of fills, and the bytes and the next output in version 4 and in
+// version 5. A fill doesn't use the bytes that the fill before has dropped. One of no bytes changes
+// nothing.
 #[test]
 fn fills_known_bytes(rt: HostRuntime) {
     let four = *b"\xaa\xaa\xaa\xaa\xaa\xaa\xaa\xaa\xfe\xff\xff";
     let five = *b"\x55\x55\x55\x55\x55\x55\x55\x55\xe6\x79\x9e";
-    let rows: [(&[usize], &[u8], &[u8]); 9] = [
-        (&[0, 0], &[], &[]),
-        (&[3], &four[..3], &five[..3]),
-        (&[0, 3], &four[..3], &five[..3]),
-        (&[3, 3], &four[5..], &five[5..]),
-        (&[0, 3, 3], &four[5..], &five[5..]),
-        (&[9], &four[..9], &five[..9]),
-        (&[0, 9], &four[..9], &five[..9]),
-        (&[11], &four, &five),
-        (&[0, 11], &four, &five),
+    let (four_one, five_one) = (0xffff_ffff_ffff_fffe, 0x79e7_9e79_e79e_79e6);
+    let (four_two, five_two) = (0x4924_9249_2492_4910, 0xaf5b_2bd6_caf5_b2bc);
+    let rows: [(&[usize], &[u8], u64, &[u8], u64); 9] = [
+        (
+            &[0, 0],
+            &[],
+            0xaaaa_aaaa_aaaa_aaaa,
+            &[],
+            0x5555_5555_5555_5555,
+        ),
+        (&[3], &four[..3], four_one, &five[..3], five_one),
+        (&[0, 3], &four[..3], four_one, &five[..3], five_one),
+        (&[3, 3], &four[5..], four_two, &five[5..], five_two),
+        (&[0, 3, 3], &four[5..], four_two, &five[5..], five_two),
+        (&[9], &four[..9], four_two, &five[..9], five_two),
+        (&[0, 9], &four[..9], four_two, &five[..9], five_two),
+        (&[11], &four, four_two, &five, five_two),
+        (&[0, 11], &four, four_two, &five, five_two),
     ];
-    for (sizes, four, five) in rows {
-        assert_fills::<4>(&rt, 0, sizes, four);
-        assert_fills::<5>(&rt, 0, sizes, five);
+    for (sizes, four, next_of_four, five, next_of_five) in rows {
+        assert_fills::<4>(&rt, 0, sizes, four, next_of_four);
+        assert_fills::<5>(&rt, 0, sizes, five, next_of_five);
+    }
+    let four = *b"\x30\xac\xaa\xaa\xaa\xaa\xaa\xaa\xa4\xbf\xff\xff\xff\xff\xff\xff";
+    let five = *b"\x39\x5c\x55\x55\x55\x55\x55\x55\x12\x5a\x9b\xe7\x79\x9e\xe7\x79";
+    for sizes in [&[16], [8, 8].as_slice()] {
+        assert_fills::<4>(&rt, 1, sizes, &four, 0x6db6_db6d_b68c_f573);
+        assert_fills::<5>(&rt, 1, sizes, &five, 0x81fd_607f_8929_67d5);
     }
 }

@@ -9,7 +9,7 @@ use super::messages::{
 use crate::rounds::{in_order, lanes_of, pair_round, seed_pair, seed_words};
 use crate::tally::Tally;
 use crate::{v4, v5};
-use std::hash::Hasher;
+use std::hash::{BuildHasher, Hasher};
 use std::process::Abort;
 
 /// Returns the hash of a message in each version.
@@ -123,4 +123,6 @@ fn takes_each_hash_as_the_next_seed(rt: HostRuntime) {
     }
     assert_writes(&rt, v4::KomiHasher::new(7), &[], 7);
     assert_writes(&rt, v5::KomiHasher::new(7), &[], 7);
+    assert_writes(&rt, v4::KomiBuildHasher::new(7).build_hasher(), &[], 7);
+    assert_writes(&rt, v5::KomiBuildHasher::new(7).build_hasher(), &[], 7);
 }

@@ -8,12 +8,19 @@ use super::fakes::{Calls, ERRORS, FakeReader, FakeWriter};
 use crate::watched::Watched;
 use std::io::{Read, Result, Write};
 
-// Wraps a reader or a writer, and states again what the calls that call nothing promise.
-fn wrapped_as_promised<T: Drop>(inner: T) -> (bool, T)
-    ensures failed { result.0 ≡ false }
-    ensures inner { result.1 ≡ inner }
+// Wraps a reader or a writer, and states again what `new` promises.
+fn wrapped<T>(inner: T) -> Watched<T>
+    ensures failed { result.failed ≡ false }
+    ensures inner { result.inner ≡ inner }
 {
-    let watched = Watched::new(inner);
+    Watched::new(inner)
+}
+
+// Takes one apart, and states again what `failed` and `into_inner` promise, after any calls.
+fn taken_apart<T: Drop>(watched: Watched<T>) -> (bool, T)
+    ensures failed { result.0 ≡ watched.failed }
+    ensures inner { result.1 ≡ watched.inner }
+{
     (watched.failed(), watched.into_inner())
 }
 

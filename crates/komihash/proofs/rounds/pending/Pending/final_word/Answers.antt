@@ -31,14 +31,13 @@ returns g c =
     let xs = pending_bytes c.self.inside.words len in
     let some : 0 < len = omega (arith, ap length c.self.view_is) in
     let last = byte_at are (len - 1) (omega arith) in
-    let byte : c.if-is_whole.last_byte ≡ get_or xs (len - 1) 0 =
-    grind (arith, c.if-is_whole.branch, c.word_index.ensures, last) in
-    let padding : c.padding_after.result ≡ padding_byte g.row.V xs =
-    rw (c.padding_after.ensures, c.pads_with_two.ensures, byte, are.count) refl in
+    let padding : c.padding_after-padding.result ≡ padding_byte g.row.V xs =
+    rw (c.padding_after-padding.ensures, c.pads_with_two.ensures, c.word_index.ensures, last, are.count)
+    refl in
     let size = length-partial are in
     let whole = take_all 8 (partial are) (omega arith) in
     let after : take 8 (partial are) ≡ after_words xs = rw are.count whole in
     let word = get_or_pending are (len / 8) (omega arith) in
-    rw (c.word_index.ensures, ← c.self.view_is, padding, word, ← after)
+    rw (c.word_index-2.ensures, ← c.self.view_is, padding, word, ← after)
     (word_of-push (take 8 (partial are)) (len % 8) _ (AreBytes_word are (len / 8))
     (omega (arith, length-take {A = ℕ})) (omega arith) (grind arith))

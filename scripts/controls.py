@@ -1,0 +1,39 @@
+#!/usr/bin/env python3
+"""Proves the control of each must-fail edit: the same edit, with each line `right:` in place of
+the `new:` above it, on a copy of the crates. Makes as many at once as stand in different places."""
+
+import re
+import shutil
+import subprocess
+import tempfile
+from pathlib import Path
+
+ROOT = Path(__file__).resolve().parent.parent
+
+
+def make(edit, crate):
+    """Makes a control, between comments. Returns whether its places are there, and unchanged."""
+    text = edit.read_text("utf-8")
+    file = crate / text.split()[1]
+    code = file.read_text("utf-8")
+    for old, new, right in re.findall("old: (.*)\nnew: (.*)(?:\nright: (.*))?", text):
+        if code.count(old) != 1 or code[: code.index(old)].count("/**/") % 2:
+            return False
+        code = code.replace(old, f"/**/{right or new}/**/")
+    return "\nright: " in text and file.write_text(code, "utf-8") > 0
+
+
+left, counts = sorted(ROOT.glob("crates/*/must-fail/*.edit")), [0, 0]
+with tempfile.TemporaryDirectory() as room:
+    shutil.copy(ROOT / "crates.txt", room)
+    files = {"ignore": shutil.ignore_patterns("out", "must-fail"), "dirs_exist_ok": True}
+    while left:
+        crate = shutil.copytree(ROOT / "crates", Path(room, "crates"), **files) / left[0].parts[-3]
+        made = [edit for edit in left if edit.parts[-3] == crate.name and make(edit, crate)]
+        assert made, f"{left[0]} has no control, or one that can't be made"
+        check = subprocess.run(["rt", "check"], cwd=crate, stdout=-1, stderr=-2, text=True)
+        counts[check.returncode != 0] += len(made)
+        print(f"{len(made)} in {crate.name}:", check.stdout if check.returncode else "proved")
+        left = [edit for edit in left if edit not in made]
+print(f"{counts[0]} passed, {counts[1]} failed")
+raise SystemExit(counts[1] > 0)
