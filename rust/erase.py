@@ -1,9 +1,10 @@
 #!/usr/bin/env python3
 """Makes Rust of Rattle sources: erase.py SOURCE OUT.
 
-Erased is what only the prover reads: contracts, ghost items, tallies, laws and tests. A condition
-of a public function becomes a test; the prover has shown the others at each call. What else is not
-Rust, this script refuses. Comments say what one of the two alone has:
+Erased is what only the prover reads: contracts, ghost items, tallies, laws, tests, labels, and the
+names of conditions that are tested once. A condition of a public function becomes a test, in each
+impl of a public trait too; the prover has shown the others at each call. What else is not Rust,
+this script refuses. Comments say what one of the two alone has:
 
     // Rust: LINE             Rust has this line.
     // Rust instead: LINE     Rust has it in place of the next line.
@@ -18,31 +19,34 @@ from pathlib import Path
 
 CHOICES = {r'^ *// Rattle alone\.\n(?:.+\n)+': '', r'^ *//.*<!-- Rattle -->\n': '',
            r'^( *)// Rust instead: (.*)\n.+\n': r'\1\2\n', r'^( *)// Rust: (.*)\n': r'\1\2\n'}
-RUSTFMT = 'rustfmt', '--edition', '2024', '--config-path', Path(__file__).resolve().parent.parent
+RUSTFMT = 'rustfmt', '--edition', '2024', '--config-path', Path(__file__).resolve().parent
 ONLY_RATTLE = 'laws', 'tally', 'tests'  # modules
 # Comments and literals, which become ‹/N› and ‹sN›, so that no pattern sees what is in them.
-HIDDEN = re.compile(r'''//[^\n]*|"(?:[^"\\\n]|\\.)*"|b?'(?:[^'\\\n]|\\[^'\n]+)'(?!\w)''')
+HIDDEN = re.compile(r'''//[^\n]*|"(?:[^"\\\n]|\\.)*"|b?'(?:[^'\\\n]|\\.[^'\n]*)'(?!\w)''')
 COMMENTS = r'(?:‹/\d+›\s*)*'
+# The heads of functions, of traits, and of impls, which may be of a trait.
+FUNCTION = re.compile(r'^ *(pub )?(?:pub\(crate\) )?(?:const )?fn (\w+)', re.M)
+OWNER = re.compile(r'^(?:(pub )?(?:pub\(crate\) )?trait (\w+)|'
+                   r'impl\b(?:[^{;]*?(\w+)(?:<[^<>{;]*>)?\s+for\b)?)', re.M)
+CLAUSE = re.compile(r',?\n *(requires|ensures)(?: \w+)? \Z')
+CONDITION = re.compile(r'\{ ((?:length \w+\.\w+|[A-Z_]+|\d+|[ +*/])+) ≤ length (\w+)\.old \}')
 # Lines that only the prover reads, and what Rust spells in another way.
 LINES = (r'ghost use [^;]*;', r'#!?\[tactic\(.*\)\]', r'tally\.raise\([^;]*\);',
          r'use std::marker::(?:Model|\{Model, PhantomData\});', r'use crate::tally::Tally;',
          rf'(?:pub )?mod (?:{"|".join(ONLY_RATTLE)});', r'#\[cfg\(test\)\](?=\n *mod tests;)')
-TALLY = r'(?:tally(?:: &mut Tally)?|&mut Tally::new\(\))'
-SPELLED = {'#[derive(Drop)]': '#[derive(Clone, Debug)]', 'use std::': 'use core::',
-           '#[derive(Clone, Copy)]': '#[derive(Clone, Copy, Debug)]',
+TALLY = re.compile(r'(?:(?<=\()|,\s*)(?:tally(?:: &mut Tally)?|&mut Tally::new\(\))(?=,?\s*\))')
+SPELLED = {'#[derive(Drop)]': '#[derive(Clone)]', 'use std::': 'use core::',
            'pub trait KomiStream: Sized + Drop': 'pub trait KomiStream: Sized'}
+NAMED = re.compile(r'let (\w+) = ([^;{}]*);\n *((?:let \w+ = |return )?if )\1 (?=\{)')
 ATTRIBUTES = re.compile(r'#!?\[(.*)\]'), re.compile(
-    r'inline|inline\((always|never)\)|repr\((C|transparent)\)|track_caller|no_std|'
-    r'derive\(Clone, (Copy, )?Debug\)|forbid\(unsafe_code\)|warn\(missing_docs\)|'
-    r'allow\([\w:, ]+\)|doc = include_str!\(‹.\d+›\)')
+    r'inline|inline\((always|never)\)|repr\((C|transparent)\)|track_caller|no_std|must_use|'
+    r'derive\((Clone|Clone, Copy|Debug)\)|forbid\(unsafe_code\)|warn\(missing_docs\)|'
+    r'allow\([\w:, ]+\)|doc = include_str!\(‹.\d+›\)|doc\(inline\)|cfg\(feature = ‹.\d+›\)')
 MACROS = re.compile(r'(\w+)!(?!=)'), re.compile('assert|unreachable|include_str')
 # What may not be left.
-NO_RUST = re.compile(r'\b(?:ghost|requires|ensures|tally|Tally|Model|Drop|prove|unsafe|rt|std|cfg|'
-                     r'static|extern|macro_rules|no_mangle|export_name)\b|[^\x00-\x7f‹›]|"')
-BEFORE = re.compile(r'^(?:pub )?(trait |impl\b.* for |impl\b|fn )', re.M)
-HEAD = re.compile(r'^ *(pub )?(?:pub\(crate\) )?(?:const )?fn ', re.M)
-CLAUSE = re.compile(r',?\n *(requires|ensures)(?: \w+)? (?=\{)')
-CONDITION = re.compile(r'\{ ((?:length \w+\.\w+|[A-Z_]+|\d+|[ +*/])+) ≤ length (\w+)\.old \}')
+NO_RUST = re.compile(r'\b(?:ghost|requires|ensures|tally|Tally|Model|Drop|prove|unsafe|rt|std|'
+                     r'static|extern|async|macro_rules|no_mangle|export_name)\b|[^\x00-\x7f‹›]|"')
+COUNTED = re.compile(r'\b(?:fn|requires|ensures)\b')
 
 
 def refuse(why, text, at=0):
@@ -68,6 +72,35 @@ def cut(text, head, tail):
     return text
 
 
+def contract(text, at):
+    """The ranges of a function's clauses after `at`, the index of its body, and its conditions."""
+    clauses, conditions, depth = [], [], 0
+    while at < len(text):
+        depth += {'(': 1, '[': 1, ')': -1, ']': -1}.get(text[at], 0)
+        if depth or text[at] not in '{;':
+            at += 1
+        elif clause := CLAUSE.search(text, clauses[-1][1] if clauses else 0, at):
+            clauses.append((clause.start(), end_of(text, at)))
+            conditions += [text[at:clauses[-1][1]]] * (clause[1] == 'requires')
+            at = clauses[-1][1]
+        else:
+            return clauses, at, conditions
+    refuse('no body', text)
+
+
+def functions(text):
+    """Each function's head, the trait or impl that it stands in, and its contract."""
+    for it in re.finditer(r'\b(?:fn|(impl|trait))\b', text):
+        start = text.rfind('\n', 0, it.start()) + 1
+        head = (OWNER if it[1] else FUNCTION).match(text, start)
+        if not head or head.end() < it.end():
+            refuse('an unknown head', text, start)
+        if it[1]:
+            owner = head
+        else:
+            yield head, head[0].startswith(' ') and owner, contract(text, head.end())
+
+
 def test_of(condition):
     """A test of the condition that a slice is long enough, which is the only one that is known."""
     known = CONDITION.fullmatch(condition) or refuse('an unknown condition', condition)
@@ -75,38 +108,73 @@ def test_of(condition):
     return f'\nassert!({least} <= {known[2]}.len(), ‹m{known[2]}›);'
 
 
-def contracts(text):
+def traits_in(text):
+    """The conditions of the functions of public traits, by the names of both."""
+    return {(owner[2], head[2]): conditions for head, owner, (_, _, conditions) in functions(text)
+            if owner and owner[1]}
+
+
+def without_contracts(text, traits):
     """Cuts contracts. Public functions test their conditions, and panic at their caller's line."""
-    while match := CLAUSE.search(text):
-        start, conditions = match.start(), []
-        while match := CLAUSE.match(text, start):
-            end = end_of(text, match.end())
-            conditions += [text[match.end():end]] * (match[1] == 'requires')
-            text = text[:start] + text[end:]
-        body = re.compile(r',?\s*([{;])').match(text, start) or refuse('no body', text, start)
-        *_, head = HEAD.finditer(text, 0, start)
-        *_, owner = [None, *BEFORE.finditer(text, 0, head.start())]
-        of_trait = owner and head[0].startswith(' ') and owner[1] not in ('impl', 'fn ')
-        if conditions and of_trait and body[1] == '{':
+    parts, done = [], 0
+    for head, owner, (clauses, body, conditions) in functions(text):
+        if conditions and owner and (owner[2] or owner[3]) and text[body] == '{':
             refuse('a condition that nobody tests', text, head.start())
-        if conditions and (head[1] or of_trait):
-            tests = ''.join(map(test_of, conditions)) if body[1] == '{' else ''
-            text = (text[:head.start()] + '#[track_caller]\n' + text[head.start():body.end()]
-                    + tests + text[body.end():])
+        if not head[1] and not (owner and owner[1]):
+            conditions = owner and traits.get((owner[3], head[2])) or []
+        parts += [text[done:head.start()], '#[track_caller]\n' * bool(conditions)]
+        done = head.start()
+        for start, end in [*clauses, (body, body)]:
+            parts.append(text[done:start])
+            done = end
+        parts[-1] = re.sub(r'^,?\s*', '\n', parts[-1]) if clauses else parts[-1]
+        if text[body] == '{':
+            parts += ['{', *map(test_of, conditions)]
+            done = body + 1
+    return ''.join(parts) + text[done:]
+
+
+def without_tallies(text):
+    """Cuts tallies where functions take them, and where they are passed."""
+    for it in reversed([*TALLY.finditer(text)]):
+        depth, at = 1, it.start() + (it[0][0] != ',')
+        while depth and (at := at - 1) >= 0:
+            depth += {'(': -1, ')': 1}.get(text[at], 0)
+        if re.fullmatch(r'[\w>]', text[at - 1:at]):
+            text = text[:it.start()] + text[it.end():]
     return text
 
 
-def erase(text):
+def without_names(text):
+    """Puts conditions that have a name for the prover alone where they are tested."""
+    for it in reversed([*NAMED.finditer(text)]):
+        after = re.split(r'^ *(?:pub )?fn ', text[it.end():], maxsplit=1, flags=re.M)[0]
+        if not re.search(rf'\b{it[1]}\b', after):
+            text = text[:it.start()] + it[3] + it[2] + ' ' + text[it.end():]
+    return text
+
+
+def chosen(text):
+    """What Rust has of a source by its comments, and what is hidden in it."""
     if odd := re.search(r'\br#*"|/\*|‹', text):
         refuse('a raw string, a comment in stars, or a bracket', text, odd.start())
-    for written, chosen in CHOICES.items():
-        text = re.sub(written, chosen, text, flags=re.M)
+    for written, choice in CHOICES.items():
+        text = re.sub(written, choice, text, flags=re.M)
     hidden, number = HIDDEN.findall(text), count()
     text = HIDDEN.sub(lambda it: f'‹{"/" if it[0][0] == "/" else "s"}{next(number)}›', text)
-    text = cut(text, r'^impl(?:<[^>]*>)? Model for [^{]*\{', r'\n*')
-    text = contracts(cut(text, rf'{COMMENTS}(?:pub )?ghost \w+(?: =|:) \{{', r'[;,]\s*'))
+    left = cut(text, r'^impl(?:<[^>]*>)? Model for [^{]*\{', r'\n*')
+    left = cut(left, rf'{COMMENTS}(?:pub )?ghost \w+(?: =|:) \{{', r'[;,]\s*')
+    if COUNTED.findall(text) != COUNTED.findall(left):
+        refuse('a ghost item that has a function or a clause', text)
+    return left, hidden
+
+
+def erase(text, traits):
+    """Makes Rust of a source. The conditions of all public traits are given."""
+    text, hidden = chosen(text)
+    text = without_contracts(text, traits)
     text = re.sub(rf'^ *(?:{"|".join(LINES)})\n', '', text, flags=re.M)
-    text = re.sub(rf',\s*{TALLY}(?=,?\s*\))|(?<=\(){TALLY}(?=\))', '', text)
+    text = without_names(without_tallies(text))
     for ours, theirs in SPELLED.items():
         text = text.replace(ours, theirs)
     text = re.sub(r"'\w+: (?=(?:for|while|loop) )", '', text)
@@ -120,11 +188,16 @@ def erase(text):
 
 
 def main(source, out):
-    for file in source.rglob('*.rt'):
-        made = out / file.relative_to(source).with_suffix('.rs')
-        if file.relative_to(source).parts[0].removesuffix('.rt') not in ONLY_RATTLE:
-            made.parent.mkdir(parents=True, exist_ok=True)
-            made.write_text(erase(file.read_text('utf-8')), 'utf-8')
+    files = [file.relative_to(source) for file in source.rglob('*.rt')]
+    texts = {file: (source / file).read_text('utf-8') for file in files
+             if file.parts[0].removesuffix('.rt') not in ONLY_RATTLE}
+    traits = {}
+    for text in texts.values():
+        traits |= traits_in(chosen(text)[0])
+    for file, text in texts.items():
+        made = (out / file).with_suffix('.rs')
+        made.parent.mkdir(parents=True, exist_ok=True)
+        made.write_text(erase(text, traits), 'utf-8')
     subprocess.run([*RUSTFMT, out / 'lib.rs'], check=True)
 
 

@@ -1,6 +1,7 @@
 //! The pseudorandom generator of both versions.
 
 use crate::utils::{multiply128, write_partial_word, write_word};
+use crate::version::{IsVersion, Versions};
 
 /// A pseudorandom generator of version V, which is not cryptographic.
 ///
@@ -8,34 +9,34 @@ use crate::utils::{multiply128, write_partial_word, write_word};
 /// halves of the product, and constants of alternating bits. Its output is the new first word. In
 /// one version, the same pair always gives the same outputs.
 ///
-/// ```
-/// use komihash_rattle::Komirand;
-/// let mut generator = Komirand::init(1);
-/// let (first, second) = (generator.next(), generator.next());
-/// let mut bytes = [0; 11];
-/// Komirand::init_with_extra_seed(1, 1).fill_bytes(&mut bytes);
-/// assert_eq!(bytes[..8], first.to_le_bytes());
-/// assert_eq!(bytes[8..], second.to_le_bytes()[..3]);
-/// ```
+/// If low and high are the halves of the product, the new second word is
+/// `s2 + high + 0xaaaaaaaaaaaaaaaa` without a carry out. The new first word is the exclusive or
+/// of low and that word in version 4, and `(low ^ high) + 0x5555555555555555` in version 5.
 #[repr(C)]
-#[derive(Clone, Debug)]
-pub struct Komirand<const V: u8> {
+#[derive(Debug, Clone)]
+pub struct Komirand<const V: u8>
+where
+    Versions: IsVersion<V>,
+{
     s1: u64,
     s2: u64,
 }
 
-impl<const V: u8> Komirand<V> {
+impl<const V: u8> Komirand<V>
+where
+    Versions: IsVersion<V>,
+{
     /// Returns the generator of a pair of words, without a step.
     ///
     /// Any words are allowed. The first outputs of small ones are simple patterns: in version 5
     /// `new(0, 0)` outputs 0x5555555555555555 first. `init` takes four steps to get past them.
     ///
     /// ```
-    /// use komihash_rattle::Komirand;
-    /// const START: Komirand = Komirand::new(1, 2);
-    /// let mut generator = START;
-    /// assert_ne!(generator.next(), generator.next());
+    /// use komihash_rattle::v5::Komirand;
+    /// const START: Komirand = Komirand::new(0, 0);
+    /// assert_eq!(START.clone().next(), 0x5555555555555555);
     /// ```
+    #[must_use]
     #[inline]
     pub const fn new(s1: u64, s2: u64) -> Self {
         Komirand { s1, s2 }
@@ -43,12 +44,26 @@ impl<const V: u8> Komirand<V> {
 
     /// Returns the generator that has the seed as both words, after four steps, as the Rust
     /// crate `komihash` does.
+    ///
+    /// ```
+    /// use komihash_rattle::v5::Komirand;
+    /// let (mut one, mut other) = (Komirand::init(1), Komirand::init_with_extra_seed(1, 1));
+    /// assert_eq!(one.next(), other.next());
+    /// ```
+    #[must_use]
     #[inline]
     pub fn init(seed: u64) -> Self {
         Komirand::init_with_extra_seed(seed, seed)
     }
 
     /// Returns the generator of two seeds after four steps.
+    ///
+    /// ```
+    /// use komihash_rattle::v5::Komirand;
+    /// let (mut one, mut other) = (Komirand::init(1), Komirand::init_with_extra_seed(1, 2));
+    /// assert_ne!(one.next(), other.next());
+    /// ```
+    #[must_use]
     #[inline]
     pub fn init_with_extra_seed(s1: u64, s2: u64) -> Self {
         let mut generator = Komirand::new(s1, s2);
@@ -60,6 +75,13 @@ impl<const V: u8> Komirand<V> {
     }
 
     /// Takes one step, and returns its output.
+    ///
+    /// ```
+    /// use komihash_rattle::v5::Komirand;
+    /// let mut dice = Komirand::init(7);
+    /// let throw = 1 + dice.next() % 6;
+    /// assert!((1..=6).contains(&throw));
+    /// ```
     #[allow(clippy::should_implement_trait)]
     #[inline]
     pub fn next(&mut self) -> u64 {
@@ -75,6 +97,16 @@ impl<const V: u8> Komirand<V> {
     ///
     /// Takes one step for each eight bytes, and one more for a remainder, which gets the lowest
     /// bytes of its output; its other bytes are dropped. Takes no step if the buffer is empty.
+    ///
+    /// ```
+    /// use komihash_rattle::v5::Komirand;
+    /// let mut generator = Komirand::init(1);
+    /// let (first, second) = (generator.next(), generator.next());
+    /// let mut bytes = [0; 11];
+    /// Komirand::init(1).fill_bytes(&mut bytes);
+    /// assert_eq!(bytes[..8], first.to_le_bytes());
+    /// assert_eq!(bytes[8..], second.to_le_bytes()[..3]);
+    /// ```
     #[inline]
     pub fn fill_bytes(&mut self, buffer: &mut [u8]) {
         let whole = buffer.len() / 8;
@@ -82,8 +114,7 @@ impl<const V: u8> Komirand<V> {
             let word = self.next();
             write_word(word, &mut buffer[8 * i..8 * i + 8]);
         }
-        let has_remainder = buffer.len() % 8 > 0;
-        if has_remainder {
+        if buffer.len() % 8 > 0 {
             let output = self.next();
             write_partial_word(output, &mut buffer[8 * whole..]);
         }

@@ -1,13 +1,12 @@
 //! The hash of a whole message, which is read without a copy.
 //!
-//! Each range of lengths has a function of its own, so that short messages take few jumps. For the
-//! final word, `hash_of_one_word` and `hash_of_words` shift, because a processor can't guess a
-//! branch where lengths vary. `hash_of_blocks` branches, because long messages are often whole
-//! words, for which a shift is slower.
+//! Each range of lengths has a function of its own, so that messages take few jumps.
 
-use crate::padding::{final_word_by_branch, final_word_by_shift, padding_byte};
+use crate::padding::{final_word_of_many, padding_byte};
 use crate::rounds::words::{hash_from_pair, last_whole_word};
-use crate::rounds::{absorb_blocks, close, join, lanes_of, pair_round, seed_pair};
+use crate::rounds::{
+    absorb_blocks, absorb_one_block, close, join, lanes_of, pair_round, seed_pair,
+};
 use crate::utils::{read_partial_word, read_word, word_at};
 
 #[inline]
@@ -20,7 +19,7 @@ fn hash_of_partial_word<const V: u8>(bytes: &[u8], seed: u64) -> u64 {
 // The final word comes first, so that its shift doesn't take registers that the products need.
 #[inline]
 fn hash_of_one_word<const V: u8>(bytes: &[u8], seed: u64) -> u64 {
-    let final_word = final_word_by_shift(bytes, padding_byte::<V>(bytes));
+    let final_word = final_word_of_many(bytes, padding_byte::<V>(bytes));
     let pair = seed_pair(seed);
     close(pair, read_word(bytes), final_word)
 }
@@ -36,14 +35,25 @@ fn hash_of_16_bytes<const V: u8>(bytes: &[u8], seed: u64) -> u64 {
 #[inline]
 fn hash_of_words<const V: u8>(bytes: &[u8], seed: u64) -> u64 {
     let pair = seed_pair(seed);
-    let final_word = final_word_by_shift(bytes, padding_byte::<V>(bytes));
+    let final_word = final_word_of_many(bytes, padding_byte::<V>(bytes));
     hash_from_pair(pair, &bytes, last_whole_word(bytes), final_word)
+}
+
+// One block needs no loop.
+#[inline(never)]
+fn hash_of_one_block<const V: u8>(bytes: &[u8], seed: u64) -> u64 {
+    let mut lanes = lanes_of(seed_pair(seed));
+    let rest = absorb_one_block::<V>(&mut lanes, bytes);
+    let pair = join(&lanes, true);
+    let final_word = final_word_of_many(bytes, padding_byte::<V>(bytes));
+    // If a whole word is left, it is the last one of all bytes.
+    hash_from_pair(pair, &rest, last_whole_word(bytes), final_word)
 }
 
 #[inline(never)]
 fn hash_of_blocks<const V: u8>(bytes: &[u8], seed: u64) -> u64 {
     let pair = seed_pair(seed);
-    let final_word = final_word_by_branch(bytes, padding_byte::<V>(bytes));
+    let final_word = final_word_of_many(bytes, padding_byte::<V>(bytes));
     let mut lanes = lanes_of(pair);
     let rest = absorb_blocks::<V>(&mut lanes, bytes);
     let pair = join(&lanes, true);
@@ -58,17 +68,21 @@ fn hash_of_blocks<const V: u8>(bytes: &[u8], seed: u64) -> u64 {
 /// The tests of the length are inlined into the caller, and vanish where it knows the length.
 #[inline(always)]
 pub(crate) fn hash_message<const V: u8>(bytes: &[u8], seed: u64) -> u64 {
-    if bytes.len() < 8 {
-        if bytes.is_empty() {
-            return close(seed_pair(seed), 0, 0);
+    if bytes.len() < 64 {
+        if bytes.len() < 8 {
+            if bytes.is_empty() {
+                return close(seed_pair(seed), 0, 0);
+            }
+            hash_of_partial_word::<V>(bytes, seed)
+        } else if bytes.len() < 16 {
+            hash_of_one_word::<V>(bytes, seed)
+        } else if bytes.len() > 16 {
+            hash_of_words::<V>(bytes, seed)
+        } else {
+            hash_of_16_bytes::<V>(bytes, seed)
         }
-        hash_of_partial_word::<V>(bytes, seed)
-    } else if bytes.len() < 16 {
-        hash_of_one_word::<V>(bytes, seed)
-    } else if bytes.len() == 16 {
-        hash_of_16_bytes::<V>(bytes, seed)
-    } else if bytes.len() < 64 {
-        hash_of_words::<V>(bytes, seed)
+    } else if bytes.len() < 128 {
+        hash_of_one_block::<V>(bytes, seed)
     } else {
         hash_of_blocks::<V>(bytes, seed)
     }

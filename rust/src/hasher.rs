@@ -1,7 +1,9 @@
-//! The hasher of both versions, which chains the hashes of its writes.
+//! The hasher of both versions, which chains the hashes of its writes, and what makes one for each
+//! key of a map.
 
 use crate::hash::hash_message;
-use core::hash::Hasher;
+use crate::version::{IsVersion, Versions};
+use core::hash::{BuildHasher, Hasher};
 
 /// A hasher of version V, which has one number. Each write replaces it by the hash of the bytes
 /// written, with the number as the seed.
@@ -9,36 +11,42 @@ use core::hash::Hasher;
 /// So writes are not joined: the number after two writes is not the hash of all their bytes. A
 /// write of no bytes replaces the number too.
 ///
-/// ```
-/// use komihash_rattle::KomiHasher;
-/// use std::collections::HashMap;
-/// use std::hash::BuildHasherDefault;
-/// let mut ports = HashMap::<&str, u16, BuildHasherDefault<KomiHasher>>::default();
-/// ports.insert("https", 443);
-/// assert_eq!(ports["https"], 443);
-/// ```
-#[derive(Clone, Debug)]
-pub struct KomiHasher<const V: u8> {
+/// What a value that implements `Hash` writes depends on the machine and on Rust's version. So
+/// use a hasher for maps alone, whose keys no attacker chooses, and `komihash` for what is
+/// stored, sent or sharded.
+#[derive(Debug, Clone)]
+pub struct KomiHasher<const V: u8>
+where
+    Versions: IsVersion<V>,
+{
     number: u64,
 }
 
-impl<const V: u8> KomiHasher<V> {
+impl<const V: u8> KomiHasher<V>
+where
+    Versions: IsVersion<V>,
+{
     /// Returns the hasher of a number, which is the seed of its first write.
     ///
     /// ```
-    /// use komihash_rattle::{KomiHasher, komihash};
+    /// use komihash_rattle::v5::{KomiHasher, komihash};
     /// use std::hash::Hasher;
     /// let mut hasher = KomiHasher::new(7);
-    /// hasher.write(b"port");
-    /// assert_eq!(hasher.finish(), komihash(b"port", 7));
+    /// hasher.write(b"po");
+    /// hasher.write(b"rt");
+    /// assert_eq!(hasher.finish(), komihash(b"rt", komihash(b"po", 7)));
     /// ```
+    #[must_use]
     #[inline]
-    pub fn new(seed: u64) -> Self {
+    pub const fn new(seed: u64) -> Self {
         KomiHasher { number: seed }
     }
 }
 
-impl<const V: u8> Default for KomiHasher<V> {
+impl<const V: u8> Default for KomiHasher<V>
+where
+    Versions: IsVersion<V>,
+{
     /// Returns the hasher of the number 0.
     #[inline]
     fn default() -> Self {
@@ -46,7 +54,10 @@ impl<const V: u8> Default for KomiHasher<V> {
     }
 }
 
-impl<const V: u8> Hasher for KomiHasher<V> {
+impl<const V: u8> Hasher for KomiHasher<V>
+where
+    Versions: IsVersion<V>,
+{
     /// Returns the number. The hasher is unchanged, and takes further writes.
     #[inline]
     fn finish(&self) -> u64 {
@@ -57,5 +68,61 @@ impl<const V: u8> Hasher for KomiHasher<V> {
     #[inline]
     fn write(&mut self, bytes: &[u8]) {
         self.number = hash_message::<V>(bytes, self.number);
+    }
+}
+
+/// Makes a hasher of version V for each key of a map, from one seed.
+///
+/// A seed changes the order in which a map iterates. It is no protection against keys that an
+/// attacker chooses.
+#[derive(Debug, Clone, Copy)]
+pub struct KomiBuildHasher<const V: u8>
+where
+    Versions: IsVersion<V>,
+{
+    seed: u64,
+}
+
+impl<const V: u8> KomiBuildHasher<V>
+where
+    Versions: IsVersion<V>,
+{
+    /// Returns what makes hashers of a seed.
+    ///
+    /// ```
+    /// use komihash_rattle::v5::KomiBuildHasher;
+    /// use std::collections::HashMap;
+    /// let mut ports = HashMap::with_hasher(KomiBuildHasher::new(7));
+    /// ports.insert("https", 443);
+    /// assert_eq!(ports["https"], 443);
+    /// ```
+    #[must_use]
+    #[inline]
+    pub const fn new(seed: u64) -> Self {
+        KomiBuildHasher { seed }
+    }
+}
+
+impl<const V: u8> Default for KomiBuildHasher<V>
+where
+    Versions: IsVersion<V>,
+{
+    /// Returns what makes hashers of seed 0.
+    #[inline]
+    fn default() -> Self {
+        KomiBuildHasher::new(0)
+    }
+}
+
+impl<const V: u8> BuildHasher for KomiBuildHasher<V>
+where
+    Versions: IsVersion<V>,
+{
+    type Hasher = KomiHasher<V>;
+
+    /// Returns the hasher of the seed.
+    #[inline]
+    fn build_hasher(&self) -> KomiHasher<V> {
+        KomiHasher::new(self.seed)
     }
 }

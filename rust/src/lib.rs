@@ -3,17 +3,20 @@
 #![no_std]
 #![forbid(unsafe_code)]
 #![warn(missing_docs)]
-#![allow(private_bounds, clippy::int_plus_one, clippy::manual_is_multiple_of)]
+#![allow(clippy::int_plus_one, clippy::manual_is_multiple_of)]
 
+#[doc(inline)]
 pub use v5::{KomiHasher, Komirand, StreamedKomihash, komihash};
 
 mod generator;
 mod hash;
 mod hasher;
+#[cfg(feature = "std")]
+mod io;
 mod padding;
 mod rounds;
 pub mod stream;
 mod utils;
 pub mod v4;
 pub mod v5;
-mod version;
+pub mod version;

@@ -30,22 +30,13 @@ pub(crate) fn padding_byte<const V: u8>(message: &[u8]) -> u64 {
 /// Returns the final word of eight or more bytes: the bytes after the last whole word, and `end`.
 ///
 /// Reads the last eight bytes, and shifts out those of the last whole word. If no byte comes after
-/// that word, the shift is by 64, which `>>` doesn't allow. So there are two.
+/// that word, the shift is by 64, which `>>` doesn't allow. So it shifts twice. A branch would be
+/// faster for whole words, but a processor can't guess it where lengths vary.
 #[inline(always)]
-pub(crate) fn final_word_by_shift(bytes: &[u8], end: u64) -> u64 {
+pub(crate) fn final_word_of_many(bytes: &[u8], end: u64) -> u64 {
     let eight = last_word(bytes);
     let shift = 8 * (bytes.len() % 8);
     (eight >> 1) >> (63 - shift) | end << shift
-}
-
-/// Returns the final word of eight or more bytes. If these are whole words, that is `end`, and
-/// nothing is read.
-#[inline(always)]
-pub(crate) fn final_word_by_branch(bytes: &[u8], end: u64) -> u64 {
-    if bytes.len() % 8 == 0 {
-        return end;
-    }
-    final_word_by_shift(bytes, end)
 }
 
 /// Writes the padded words of a message in version V to the front of `out`, and returns how many
@@ -53,9 +44,8 @@ pub(crate) fn final_word_by_branch(bytes: &[u8], end: u64) -> u64 {
 #[inline(always)]
 pub(crate) fn pad<const V: u8>(bytes: &[u8], out: &mut [u64]) -> usize {
     let whole = bytes.len() / 8;
-    let has_whole_word = whole > 0;
-    let final_word = if has_whole_word {
-        final_word_by_shift(bytes, padding_byte::<V>(bytes))
+    let final_word = if whole > 0 {
+        final_word_of_many(bytes, padding_byte::<V>(bytes))
     } else if bytes.is_empty() {
         0
     } else {
@@ -96,15 +86,12 @@ fn message_length<const V: u8>(words: &[u64]) -> Option<usize> {
         return None;
     }
     let last = words[count - 1];
-    let is_zero = last == 0;
-    if is_zero {
-        let is_one_word = count == 1;
-        return if is_one_word { Some(0) } else { None };
+    if last == 0 {
+        return if count == 1 { Some(0) } else { None };
     }
     let place = highest_place(last);
     let length = 8 * (count - 1) + place;
-    let is_without_bytes = length == 0;
-    if is_without_bytes {
+    if length == 0 {
         return None;
     }
     if is_padding_byte::<V>(last >> (8 * place), words, length) { Some(length) } else { None }

@@ -26,7 +26,7 @@ const C8: u64 = 0x3f84_d5b5_b547_0917;
 
 /// A pair (a, e) as the code stores it: a xor e, and e. After a `mix`, a xor e is the low half of
 /// the product. The word a itself is computed only for a factor, and as the hash.
-#[derive(Clone, Copy, Debug)]
+#[derive(Clone, Copy)]
 #[repr(C)]
 pub(crate) struct Pair(u64, u64);
 
@@ -34,7 +34,7 @@ pub(crate) struct Pair(u64, u64);
 ///
 /// s5 to s8 are the words e of the pairs. s1 to s4 are the low halves, each xor the word e of the
 /// pair before it. The fourth pair is the one before the first, so it stands there.
-#[derive(Clone, Copy, Debug)]
+#[derive(Clone, Copy)]
 #[repr(C)]
 pub(crate) struct Lanes {
     fourth: Pair,
@@ -140,6 +140,12 @@ fn absorb_block<'a, const V: u8>(lanes: &mut Lanes, bytes: &'a [u8]) -> &'a [u8]
     let words = block_words(block);
     block_round(lanes, &words, places::<V>());
     rest
+}
+
+/// Absorbs the one whole block of the bytes, and returns the bytes after it.
+#[inline(always)]
+pub(crate) fn absorb_one_block<'a, const V: u8>(lanes: &mut Lanes, bytes: &'a [u8]) -> &'a [u8] {
+    absorb_block::<V>(lanes, bytes)
 }
 
 /// Absorbs each whole block of the bytes, and returns the bytes after them, fewer than 64.

@@ -10,6 +10,9 @@ pub(crate) mod streamed;
 ///
 /// The methods have other names than those of `StreamedKomihash`, so that the name alone tells
 /// which of the two a call means.
+/// `start`, `absorb`, `answer`, `store` and `restore` do what `new_with_seed`, `write`, `finish`,
+/// `save` and `resume` do. Use this trait for code that also serves streams of your own type,
+/// which may implement it, and otherwise `version::StreamedKomihash<V>`.
 ///
 /// ```
 /// use komihash_rattle::stream::KomiStream;
@@ -31,12 +34,14 @@ pub trait KomiStream: Sized {
     const VERSION: u8;
 
     /// Returns the new stream of a seed.
+    #[must_use]
     fn start(seed: u64) -> Self;
 
     /// Absorbs bytes.
     fn absorb(&mut self, bytes: &[u8]);
 
     /// Returns the hash of all bytes so far. The stream is unchanged.
+    #[must_use]
     fn answer(&self) -> u64;
 
     /// Writes the saved text of the stream to the front of `out`, and returns the text's length in
@@ -46,23 +51,46 @@ pub trait KomiStream: Sized {
     ///
     /// # Panics
     ///
-    /// If `out` is shorter.
+    /// If `out.len()` is less than `LONGEST_TEXT`.
+    ///
+    /// ```
+    /// use komihash_rattle::stream::{KomiStream, LONGEST_TEXT};
+    /// fn copy<S: KomiStream>(stream: &S) -> S {
+    ///     let mut text = [0; LONGEST_TEXT];
+    ///     let length = stream.store(&mut text);
+    ///     S::restore(&text[..length]).unwrap()
+    /// }
+    /// assert_eq!(copy(&komihash_rattle::StreamedKomihash::start(7)).answer(),
+    ///     komihash_rattle::komihash(b"", 7));
+    /// ```
+    #[must_use]
     #[track_caller]
     fn store(&self, out: &mut [u8]) -> usize;
 
-    /// Returns the stream that has these bytes as its saved text, or `None`. Accepts any
-    /// well-formed text of this version, even a damaged one.
+    /// Returns the stream that has these bytes as its saved text, or `None` if they don't have the
+    /// form of one in this version. There is no checksum: most damaged texts have this form.
+    #[must_use]
     fn restore(bytes: &[u8]) -> Option<Self>;
 }
 
 /// One call on a stream, for `run_on` and `run`.
-#[derive(Clone, Copy, Debug)]
+#[derive(Clone, Copy)]
 pub enum Call<'a> {
     /// Absorbs these bytes.
     Absorb(&'a [u8]),
 
     /// Answers the hash of all bytes so far.
     Answer,
+}
+
+impl core::fmt::Debug for Call<'_> {
+    /// Shows how many bytes are absorbed, and none of them.
+    fn fmt(&self, f: &mut core::fmt::Formatter<'_>) -> core::fmt::Result {
+        match self {
+            Call::Absorb(bytes) => f.debug_tuple("Absorb").field(&bytes.len()).finish(),
+            Call::Answer => f.write_str("Answer"),
+        }
+    }
 }
 
 /// Makes calls on a stream, in order, writes the answers to the front of `out`, and returns how
@@ -74,7 +102,18 @@ pub enum Call<'a> {
 ///
 /// # Panics
 ///
-/// If `out` is shorter.
+/// If `out.len()` is less than `calls.len()`.
+///
+/// ```
+/// use komihash_rattle::stream::{Call, run_on};
+/// use komihash_rattle::{StreamedKomihash, komihash};
+/// let mut stream = StreamedKomihash::new_with_seed(7);
+/// stream.write(b"po");
+/// let mut answers = [0; 2];
+/// let calls = [Call::Absorb(b"rt"), Call::Answer];
+/// assert_eq!(run_on(&mut stream, &calls, &mut answers), 1);
+/// assert_eq!(answers[0], komihash(b"port", 7));
+/// ```
 #[track_caller]
 pub fn run_on<S: KomiStream>(stream: &mut S, calls: &[Call<'_>], out: &mut [u64]) -> usize {
     assert!(calls.len() <= out.len(), "`out` is too short");
@@ -99,7 +138,7 @@ pub fn run_on<S: KomiStream>(stream: &mut S, calls: &[Call<'_>], out: &mut [u64]
 ///
 /// # Panics
 ///
-/// If `out` is shorter.
+/// If `out.len()` is less than `calls.len()`.
 ///
 /// ```
 /// use komihash_rattle::stream::{Call, run};
@@ -110,8 +149,9 @@ pub fn run_on<S: KomiStream>(stream: &mut S, calls: &[Call<'_>], out: &mut [u64]
 /// assert_eq!(answers[..2], [komihash(b"po", 7), komihash(b"port", 7)]);
 /// ```
 #[track_caller]
-pub fn run<S: KomiStream>(seed: u64, calls: &[Call<'_>], out: &mut [u64]) -> usize {
-    assert!(calls.len() <= out.len(), "`out` is too short");
+pub fn run<S: KomiStream>(seed: u64, calls: &[Call<'_>], out: &mut [u64]) -> usize
+// `run_on` tests the length of `out`.
+{
     let mut stream = S::start(seed);
     run_on(&mut stream, calls, out)
 }

@@ -32,8 +32,7 @@ fn half_word_at(bytes: &[u8], at: usize) -> u64 {
 #[inline(always)]
 pub(crate) fn read_partial_word(bytes: &[u8], end: u64) -> u64 {
     let n = bytes.len();
-    let has_half_word = n >= 4;
-    if has_half_word {
+    if n >= 4 {
         half_word_at(bytes, 0) | (half_word_at(bytes, n - 4) | end << 32) >> (64 - 8 * n) << 32
     } else if n > 0 {
         let middle = u64::from(bytes[n / 2]) << 8;
@@ -92,8 +91,7 @@ pub(crate) fn write_first_bytes(words: &[u64], count: usize, out: &mut [u8]) {
     for i in 0..whole {
         write_word(front[i], &mut out[8 * i..8 * i + 8]);
     }
-    let has_remainder = count % 8 > 0;
-    if has_remainder {
+    if count % 8 > 0 {
         write_partial_word(words[whole], &mut out[8 * whole..count]);
     }
 }
@@ -103,5 +101,5 @@ pub(crate) fn write_first_bytes(words: &[u64], count: usize, out: &mut [u8]) {
 #[inline(always)]
 pub(crate) fn multiply128(x: u64, y: u64) -> (u64, u64) {
     let product = u128::from(x) * u128::from(y);
-    ((product & 0xffff_ffff_ffff_ffff) as u64, (product >> 64) as u64)
+    (product as u64, (product >> 64) as u64)
 }

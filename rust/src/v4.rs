@@ -3,24 +3,57 @@
 //! It differs from version 5 in which words of a block are multiplied with each other, in the
 //! padding of messages that end in a byte of 128 or more, in the generator's step, and in the saved
 //! texts of streams.
+//!
+//! Examples of methods are those of version 5: write `v4` where they have `v5`.
 
 use crate::{generator, hash, hasher, padding, stream};
 
 /// The stream of version 4, which hashes bytes that come in pieces.
+///
+/// However the bytes are cut, the hash is that of [`komihash`]. Pieces of a multiple of 64 bytes
+/// are best, as [the type of both versions](crate::version::StreamedKomihash) explains.
+///
+/// ```
+/// use komihash_rattle::v4::{StreamedKomihash, komihash};
+/// let mut stream = StreamedKomihash::new();
+/// stream.write(b"po");
+/// stream.write(b"rt");
+/// assert_eq!(stream.finish(), komihash(b"port", 0));
+/// ```
 pub type StreamedKomihash = stream::streamed::StreamedKomihash<4>;
 
 /// The hasher of version 4, which chains the hashes of its writes.
+///
+/// Its writes are not joined: each replaces its number by the hash of the bytes, with the number
+/// as the seed. Use it for maps alone, whose keys no attacker chooses, as
+/// [the type of both versions](crate::version::KomiHasher) explains.
 pub type KomiHasher = hasher::KomiHasher<4>;
 
-/// The pseudorandom generator of version 4.
+/// Makes a hasher of version 4 for each key of a map, from one seed.
+///
+/// A seed is no protection against keys that an attacker chooses.
+///
+/// ```
+/// use komihash_rattle::v4::KomiBuildHasher;
+/// use std::collections::HashMap;
+/// let mut ports = HashMap::with_hasher(KomiBuildHasher::new(7));
+/// ports.insert("https", 443);
+/// ```
+pub type KomiBuildHasher = hasher::KomiBuildHasher<4>;
+
+/// The pseudorandom generator of version 4, which is not cryptographic.
+///
+/// [The type of both versions](crate::version::Komirand) has the rule of a step.
 pub type Komirand = generator::Komirand<4>;
 
 /// Returns the hash of a message of any length with any seed.
+/// It is not for messages that an attacker may choose, whatever the seed is.
 ///
 /// ```
 /// use komihash_rattle::v4::komihash;
 /// assert_eq!(komihash(b"", 0), 0xb7683ea7430132b4);
 /// ```
+#[must_use]
 #[inline]
 pub fn komihash(bytes: &[u8], seed: u64) -> u64 {
     hash::hash_message::<4>(bytes, seed)
@@ -34,15 +67,13 @@ pub fn komihash(bytes: &[u8], seed: u64) -> u64 {
 ///
 /// # Panics
 ///
-/// If `out` is shorter.
+/// If `out.len()` is less than `bytes.len() / 8 + 1`.
 ///
 /// ```
-/// use komihash_rattle::v4::{pad, unpad};
-/// let (mut words, mut message) = ([0; 1], [0; 8]);
+/// use komihash_rattle::v4::pad;
+/// let mut words = [0; 1];
 /// assert_eq!(pad(b"abc", &mut words), 1);
 /// assert_eq!(words, [0x01636261]);
-/// assert_eq!(unpad(&words, &mut message), Some(3));
-/// assert_eq!(message[..3], *b"abc");
 /// ```
 #[inline]
 #[track_caller]
@@ -55,11 +86,20 @@ pub fn pad(bytes: &[u8], out: &mut [u64]) -> usize {
 /// bytes. The rest of `out` is unchanged. `out` needs room for eight bytes for each word.
 ///
 /// Returns `None`, with all of `out` unchanged, if no message has these words in this version.
-/// [`pad`] has an example.
 ///
 /// # Panics
 ///
-/// If `out` is shorter.
+/// If `out.len()` is less than `8 * words.len()`.
+///
+/// ```
+/// use komihash_rattle::v4::unpad;
+/// let mut message = [0; 8];
+/// assert_eq!(unpad(&[0x01636261], &mut message), Some(3));
+/// assert_eq!(message[..3], *b"abc");
+/// assert_eq!(unpad(&[0], &mut message), Some(0));
+/// assert_eq!(unpad(&[1], &mut message), None);
+/// ```
+#[must_use]
 #[inline]
 #[track_caller]
 pub fn unpad(words: &[u64], out: &mut [u8]) -> Option<usize> {

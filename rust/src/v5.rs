@@ -3,20 +3,51 @@
 use crate::{generator, hash, hasher, padding, stream};
 
 /// The stream of version 5, which hashes bytes that come in pieces.
+///
+/// However the bytes are cut, the hash is that of [`komihash`]. Pieces of a multiple of 64 bytes
+/// are best, as [the type of both versions](crate::version::StreamedKomihash) explains.
+///
+/// ```
+/// use komihash_rattle::v5::{StreamedKomihash, komihash};
+/// let mut stream = StreamedKomihash::new();
+/// stream.write(b"po");
+/// stream.write(b"rt");
+/// assert_eq!(stream.finish(), komihash(b"port", 0));
+/// ```
 pub type StreamedKomihash = stream::streamed::StreamedKomihash<5>;
 
 /// The hasher of version 5, which chains the hashes of its writes.
+///
+/// Its writes are not joined: each replaces its number by the hash of the bytes, with the number
+/// as the seed. Use it for maps alone, whose keys no attacker chooses, as
+/// [the type of both versions](crate::version::KomiHasher) explains.
 pub type KomiHasher = hasher::KomiHasher<5>;
 
-/// The pseudorandom generator of version 5.
+/// Makes a hasher of version 5 for each key of a map, from one seed.
+///
+/// A seed is no protection against keys that an attacker chooses.
+///
+/// ```
+/// use komihash_rattle::v5::KomiBuildHasher;
+/// use std::collections::HashMap;
+/// let mut ports = HashMap::with_hasher(KomiBuildHasher::new(7));
+/// ports.insert("https", 443);
+/// ```
+pub type KomiBuildHasher = hasher::KomiBuildHasher<5>;
+
+/// The pseudorandom generator of version 5, which is not cryptographic.
+///
+/// [The type of both versions](crate::version::Komirand) has the rule of a step.
 pub type Komirand = generator::Komirand<5>;
 
 /// Returns the hash of a message of any length with any seed.
+/// It is not for messages that an attacker may choose, whatever the seed is.
 ///
 /// ```
 /// use komihash_rattle::v5::komihash;
 /// assert_eq!(komihash(b"", 0), 0xb7683ea7430132b4);
 /// ```
+#[must_use]
 #[inline]
 pub fn komihash(bytes: &[u8], seed: u64) -> u64 {
     hash::hash_message::<5>(bytes, seed)
@@ -30,15 +61,13 @@ pub fn komihash(bytes: &[u8], seed: u64) -> u64 {
 ///
 /// # Panics
 ///
-/// If `out` is shorter.
+/// If `out.len()` is less than `bytes.len() / 8 + 1`.
 ///
 /// ```
-/// use komihash_rattle::v5::{pad, unpad};
-/// let (mut words, mut message) = ([0; 1], [0; 8]);
+/// use komihash_rattle::v5::pad;
+/// let mut words = [0; 1];
 /// assert_eq!(pad(b"abc", &mut words), 1);
 /// assert_eq!(words, [0x01636261]);
-/// assert_eq!(unpad(&words, &mut message), Some(3));
-/// assert_eq!(message[..3], *b"abc");
 /// ```
 #[inline]
 #[track_caller]
@@ -51,11 +80,20 @@ pub fn pad(bytes: &[u8], out: &mut [u64]) -> usize {
 /// bytes. The rest of `out` is unchanged. `out` needs room for eight bytes for each word.
 ///
 /// Returns `None`, with all of `out` unchanged, if no message has these words in this version.
-/// [`pad`] has an example.
 ///
 /// # Panics
 ///
-/// If `out` is shorter.
+/// If `out.len()` is less than `8 * words.len()`.
+///
+/// ```
+/// use komihash_rattle::v5::unpad;
+/// let mut message = [0; 8];
+/// assert_eq!(unpad(&[0x01636261], &mut message), Some(3));
+/// assert_eq!(message[..3], *b"abc");
+/// assert_eq!(unpad(&[0], &mut message), Some(0));
+/// assert_eq!(unpad(&[1], &mut message), None);
+/// ```
+#[must_use]
 #[inline]
 #[track_caller]
 pub fn unpad(words: &[u64], out: &mut [u8]) -> Option<usize> {

@@ -5,11 +5,11 @@ mod by_name;
 use by_name::{bytes, calls, hexadecimal, number, row, word};
 use komihash_rattle::stream::{Call, KomiStream, LONGEST_TEXT, run, run_on};
 use std::collections::HashMap;
-use std::hash::{BuildHasherDefault, Hash, Hasher};
+use std::hash::{BuildHasher, BuildHasherDefault, Hash, Hasher};
 use std::panic::{catch_unwind, set_hook, take_hook};
 use std::sync::Mutex;
 
-const TABLES: [&str; 2] = [include_str!("../../c/vectors.tsv"), include_str!("../../c/values.tsv")];
+const TABLES: [&str; 2] = [include_str!("vectors.tsv"), include_str!("values.tsv")];
 
 macro_rules! tests {
     ($version:ident, $number:literal) => {
@@ -54,7 +54,8 @@ macro_rules! tests {
             /// Cuts a message into two writes, between which the stream is copied, and saved.
             #[test]
             fn streams_of_two_writes() {
-                let message: Vec<u8> = (0..200).collect();
+                // The bytes fall, so that in version 4 a high byte ends the first block alone.
+                let message: Vec<u8> = (0..200).rev().collect();
                 for (length, cut) in (0..=200).flat_map(|it| (0..=it).map(move |cut| (it, cut))) {
                     let (mut stream, mut out) = (StreamedKomihash::new_with_seed(7), [0xa5; 132]);
                     stream.write(&message[..cut]);
@@ -79,6 +80,11 @@ macro_rules! tests {
                     let mut out = vec![7; 8 * count + 1];
                     assert_eq!(unpad(&words, &mut out), Some(length));
                     assert_eq!(out[..length], message[..length]);
+                    assert!(out[length..].iter().all(|byte| *byte == 7));
+                    words.push(0);
+                    out.resize(8 * words.len(), 7);
+                    let before = out.clone();
+                    assert_eq!((unpad(&words, &mut out), out), (None, before));
                 }
             }
 
@@ -130,9 +136,67 @@ macro_rules! tests {
             }
 
             #[test]
+            fn hashers_of_a_seed() {
+                const SEVEN: (KomiHasher, KomiBuildHasher) =
+                    (KomiHasher::new(7), KomiBuildHasher::new(7));
+                let (mut hasher, build) = SEVEN;
+                assert_eq!((hasher.finish(), build.build_hasher().finish()), (7, 7));
+                hasher.write(b"port");
+                assert_eq!(hasher.finish(), komihash(b"port", 7));
+                let defaults = (KomiHasher::default(), KomiBuildHasher::default().build_hasher());
+                assert_eq!((defaults.0.finish(), defaults.1.finish()), (0, 0));
+                let mut map = HashMap::with_hasher(build);
+                map.insert("port", 443);
+                assert_eq!((map["port"], map.get("host")), (443, None));
+                let mut built: KomiHasher = build.build_hasher();
+                0x80_u8.hash(&mut built);
+                assert_eq!(map.hasher().hash_one(0x80_u8), built.finish());
+            }
+
+            #[test]
             fn types_have_the_traits_that_users_expect() {
                 fn is<T: Send + Sync + Unpin + Clone + std::fmt::Debug>() {}
+                fn is_copied<T: Copy + Default>() {}
                 (is::<StreamedKomihash>(), is::<Komirand>(), is::<KomiHasher>());
+                (is::<KomiBuildHasher>(), is::<Call<'_>>(), is_copied::<KomiBuildHasher>());
+            }
+
+            #[test]
+            fn no_message_is_shown() {
+                let mut stream = StreamedKomihash::new();
+                stream.write(b"secret");
+                assert_eq!(format!("{stream:?}"), "StreamedKomihash { .. }");
+                let calls = [Call::Absorb(b"secret"), Call::Answer];
+                assert_eq!(format!("{calls:?}"), "[Absorb(6), Answer]");
+            }
+
+            /// Copies what is read until an error, after which the stream goes on.
+            #[cfg(feature = "std")]
+            #[test]
+            fn readers_are_copied_into_streams() {
+                use std::io::{Error, ErrorKind, Read, Result, Write, copy};
+
+                /// Gives a byte, is interrupted, gives two, and so on up to five, and then fails.
+                struct Failing(usize);
+                impl Read for Failing {
+                    fn read(&mut self, buffer: &mut [u8]) -> Result<usize> {
+                        self.0 += 1;
+                        match (self.0, self.0 % 2) {
+                            (10.., _) => Err(Error::other("no more")),
+                            (_, 0) => Err(ErrorKind::Interrupted.into()),
+                            (count, _) => {
+                                Ok(buffer[..count / 2 + 1].fill(7)).map(|()| count / 2 + 1)
+                            }
+                        }
+                    }
+                }
+                let mut stream = StreamedKomihash::new_with_seed(3);
+                assert_eq!(copy(&mut Failing(0), &mut stream).unwrap_err().to_string(), "no more");
+                assert_eq!(stream.finish(), komihash(&[7; 15], 3));
+                stream.flush().unwrap();
+                assert_eq!(Write::write(&mut stream, &[7; 100]).unwrap(), 100);
+                assert_eq!(copy(&mut &[7; 9000][..], &mut stream).unwrap(), 9000);
+                assert_eq!(stream.finish(), komihash(&[7; 9115], 3));
             }
 
             #[test]
@@ -142,6 +206,10 @@ macro_rules! tests {
                 panics_here(line!(), || _ = pad(b"12345678", &mut [0; 1]));
                 panics_here(line!(), || _ = unpad(&[0], &mut [0; 7]));
                 panics_here(line!(), || _ = run::<StreamedKomihash>(0, &[Call::Answer], &mut []));
+                // It has no answer to write, but each call needs room.
+                panics_here(line!(), || {
+                    _ = run_on(&mut StreamedKomihash::new(), &[Call::Absorb(b"")], &mut [])
+                });
             }
         }
     };

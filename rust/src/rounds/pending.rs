@@ -5,7 +5,7 @@ use crate::padding::{padding_after, pads_with_two};
 use crate::utils::{last_word, read_partial_word, read_word, word_at, write_first_bytes};
 
 /// Fewer than 64 bytes, stored in eight words, with zeros after the last byte.
-#[derive(Clone, Debug)]
+#[derive(Clone)]
 #[repr(C)]
 pub(crate) struct Pending {
     words: [u64; 8],
@@ -50,8 +50,7 @@ fn store_two_words(words: &mut [u64], chunks: &[[u8; 8]], at: usize) {
 fn store_words(words: &mut [u64], chunks: &[[u8; 8]]) {
     let count = chunks.len();
     store_two_words(words, chunks, 0);
-    let has_four = count >= 4;
-    if has_four {
+    if count >= 4 {
         store_two_words(words, chunks, 2);
         store_two_words(words, chunks, count - 4);
     }
@@ -66,12 +65,10 @@ fn append_whole_words(words: &mut [u64; 8], len: usize, bytes: &[u8]) {
     let over = len % 8;
     // The words after the partial word that are whole with the bytes.
     let (chunks, _) = bytes[8 - over..].as_chunks::<8>();
-    let has_two_more = chunks.len() >= 2;
-    if has_two_more {
+    if chunks.len() >= 2 {
         store_words(&mut words[next..next + chunks.len()], chunks);
     } else {
-        let has_next = chunks.len() == 1 || len + bytes.len() < 64;
-        if has_next {
+        if chunks.len() == 1 || len + bytes.len() < 64 {
             // If only the partial word is whole, the bytes that are left take this word's place.
             words[next] = word_at(bytes, (8 - over).min(bytes.len() - 8));
         }
@@ -83,8 +80,7 @@ fn append_whole_words(words: &mut [u64; 8], len: usize, bytes: &[u8]) {
 fn append_eight_or_more(words: &mut [u64; 8], len: usize, bytes: &[u8]) {
     append_whole_words(words, len, bytes);
     let end = len + bytes.len();
-    let has_remainder = end < 64;
-    if has_remainder {
+    if end < 64 {
         // The shift by 8 comes last, because LLVM would otherwise read seven bytes in three pieces.
         words[word_index(end)] = last_word(bytes) >> (56 - 8 * (end % 8)) >> 8;
     }
@@ -149,15 +145,10 @@ impl Pending {
     /// padding byte.
     #[inline(always)]
     pub(crate) fn final_word<const V: u8>(&self) -> u64 {
-        let over = self.len % 8;
-        let word = self.words[word_index(self.len)];
-        let is_whole = over == 0;
-        let last_byte = if is_whole {
-            (self.words[(self.len / 8 + 7) % 8] >> 56 & 0xff) as u8
-        } else {
-            (word >> (8 * over - 8) & 0xff) as u8
-        };
-        word | padding_after(pads_with_two::<V>(last_byte)) << (8 * over)
+        let last = self.len - 1;
+        let last_byte = (self.words[word_index(last)] >> (8 * (last % 8))) as u8;
+        let padding = padding_after(pads_with_two::<V>(last_byte));
+        self.words[word_index(self.len)] | padding << (8 * (self.len % 8))
     }
 
     /// Writes the bytes to the front of `out`. The rest of `out` is unchanged.

@@ -22,8 +22,8 @@ pub(crate) trait WholeWords {
     fn word(&self, at: usize) -> u64;
 }
 
-/// The whole words of a message's bytes. The impl is for the reference, since no type parameter can
-/// stand for `[u8]`. So callers pass a `&&[u8]`.
+/// The whole words of a message's bytes. The impl is for the reference, because no type parameter
+/// of Rattle can stand for `[u8]`. So callers pass a `&&[u8]`.
 impl WholeWords for &[u8] {
     #[inline(always)]
     fn holds(&self, count: usize) -> bool {
@@ -43,7 +43,7 @@ impl WholeWords for &[u8] {
 }
 
 // Returns the pair after a round on the two words from index `at`. The remaining words hash the
-// same from it. This is stated and proved here once, for three calls.
+// same from it.
 #[inline(always)]
 fn round_at<W: WholeWords>(pair: Pair, left: &W, at: usize) -> Pair {
     pair_round(pair, left.word(at), left.word(at + 1))

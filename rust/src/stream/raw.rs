@@ -1,7 +1,6 @@
-//! The stream that `StreamedKomihash` and the library for C share. Its type does not name the
-//! version, because no generic type can be in an interface for C.
+//! The stream of both versions, whose type does not name the version.
 
-use super::saved::{self, LONGEST_TEXT};
+use super::saved;
 use crate::padding::{has_two, padding_after, pads_with_two};
 use crate::rounds::pending::Pending;
 use crate::rounds::words::hash_from_pair;
@@ -10,7 +9,7 @@ use crate::version::{IsVersion, Versions};
 
 /// A stream of either version, which each call names. The calls do what those of `KomiStream` do.
 /// Rust callers use `StreamedKomihash`, whose type names the version.
-#[derive(Clone, Debug)]
+#[derive(Clone)]
 #[repr(C)]
 pub struct RawStream {
     // This field is first, so that its words have the stream's address, which takes no register.
@@ -43,8 +42,7 @@ impl RawStream {
     where
         Versions: IsVersion<V>,
     {
-        let is_partial = self.pending.len() + bytes.len() < 64;
-        if is_partial {
+        if self.pending.len() + bytes.len() < 64 {
             self.pending.append(bytes);
         } else {
             self.complete_blocks::<V>(bytes);
@@ -62,8 +60,7 @@ impl RawStream {
         self.had_block = true;
         let mut lanes;
         let mut rest = bytes;
-        let none_pending = pending_len == 0;
-        if none_pending {
+        if pending_len == 0 {
             lanes = self.lanes;
         } else {
             let (front, after) = bytes.split_at(64 - pending_len);
@@ -85,8 +82,7 @@ impl RawStream {
         Versions: IsVersion<V>,
     {
         let pair = join(&self.lanes, self.had_block);
-        let none_pending = self.pending.len() == 0;
-        if none_pending {
+        if self.pending.len() == 0 {
             // The padding byte of the last block, or 0 if no block was absorbed.
             let had_block = self.had_block;
             let end = if had_block { padding_after(self.top_bit) } else { 0 };
@@ -100,12 +96,10 @@ impl RawStream {
     /// Writes the saved text to the front of `out`, which needs room for `LONGEST_TEXT` bytes, and
     /// returns its length. The rest of `out` is unchanged.
     #[inline(always)]
-    #[track_caller]
-    pub fn store<const V: u8>(&self, out: &mut [u8]) -> usize
+    pub(crate) fn store<const V: u8>(&self, out: &mut [u8]) -> usize
     where
         Versions: IsVersion<V>,
     {
-        assert!(LONGEST_TEXT <= out.len(), "`out` is too short");
         saved::write_head::<V>(self.had_block, self.top_bit, self.pending.len(), out);
         saved::write_lanes(&self.lanes, out);
         saved::write_pending(&self.pending, out)

@@ -11,20 +11,8 @@ use crate::version::{IsVersion, Versions};
 /// Pieces of a multiple of 64 bytes are best: as long as all are, none is copied. Otherwise a write
 /// copies into the stream the bytes that continue a partial block, and those that begin a new one:
 /// at most 63 of each.
-///
-/// ```
-/// use komihash_rattle::stream::LONGEST_TEXT;
-/// use komihash_rattle::{StreamedKomihash, komihash};
-/// let mut stream = StreamedKomihash::new_with_seed(7);
-/// stream.write(b"p");
-/// let mut text = [0; LONGEST_TEXT];
-/// let length = stream.save(&mut text);
-/// let mut stream = StreamedKomihash::resume(&text[..length]).unwrap();
-/// stream.write(b"ort");
-/// assert_eq!(stream.finish(), komihash(b"port", 7));
-/// ```
 #[repr(transparent)]
-#[derive(Clone, Debug)]
+#[derive(Clone)]
 pub struct StreamedKomihash<const V: u8>
 where
     Versions: IsVersion<V>,
@@ -37,24 +25,44 @@ where
     Versions: IsVersion<V>,
 {
     /// Returns the new stream of seed 0.
+    #[must_use]
     #[inline]
     pub fn new() -> Self {
         StreamedKomihash::new_with_seed(0)
     }
 
     /// Returns the new stream of a seed.
+    ///
+    /// ```
+    /// use komihash_rattle::v5::{StreamedKomihash, komihash};
+    /// let mut stream = StreamedKomihash::new_with_seed(7);
+    /// stream.write(b"p");
+    /// assert_eq!(stream.finish(), komihash(b"p", 7));
+    /// stream.write(b"ort");
+    /// assert_eq!(stream.finish(), komihash(b"port", 7));
+    /// ```
+    #[must_use]
     #[inline]
     pub fn new_with_seed(seed: u64) -> StreamedKomihash<V> {
         StreamedKomihash::start(seed)
     }
 
     /// Absorbs any number of bytes.
-    #[inline(always)]
+    ///
+    /// ```
+    /// use komihash_rattle::v5::{StreamedKomihash, komihash};
+    /// let mut stream = StreamedKomihash::new();
+    /// stream.write(b"po");
+    /// stream.write(b"rt");
+    /// assert_eq!(stream.finish(), komihash(b"port", 0));
+    /// ```
+    #[inline]
     pub fn write(&mut self, bytes: &[u8]) {
         self.absorb(bytes);
     }
 
     /// Returns the hash of all bytes so far. The stream is unchanged, and may absorb more.
+    #[must_use]
     #[inline]
     pub fn finish(&self) -> u64 {
         self.answer()
@@ -64,23 +72,54 @@ where
     /// bytes: 68, and one for each pending byte. The rest of `out` is unchanged.
     ///
     /// `out` needs room for `LONGEST_TEXT` bytes, whatever is pending. `resume` makes the same
-    /// stream from the text, also in another process. The text has the pending bytes as they are.
+    /// stream from the text, also on another machine. The text is bytes, not UTF-8, and has the
+    /// pending ones as they are.
     ///
     /// # Panics
     ///
-    /// If `out` is shorter.
-    #[inline(always)]
+    /// If `out.len()` is less than `LONGEST_TEXT`.
+    ///
+    /// ```
+    /// use komihash_rattle::stream::LONGEST_TEXT;
+    /// use komihash_rattle::v5::{StreamedKomihash, komihash};
+    /// let mut stream = StreamedKomihash::new();
+    /// stream.write(b"p");
+    /// let mut text = [0; LONGEST_TEXT];
+    /// let length = stream.save(&mut text);
+    /// let mut resumed = StreamedKomihash::resume(&text[..length]).unwrap();
+    /// resumed.write(b"ort");
+    /// assert_eq!(resumed.finish(), komihash(b"port", 0));
+    /// ```
+    #[must_use]
+    #[inline]
     #[track_caller]
     pub fn save(&self, out: &mut [u8]) -> usize {
         assert!(LONGEST_TEXT <= out.len(), "`out` is too short");
-        self.store(out)
+        self.raw.store::<V>(out)
     }
 
-    /// Returns the stream that has these bytes as its saved text, or `None`. Accepts any
-    /// well-formed text of this version, even a damaged one.
-    #[inline(always)]
+    /// Returns the stream that has these bytes as its saved text, or `None` if they don't have the
+    /// form of one in this version. There is no checksum: most damaged texts have this form.
+    ///
+    /// ```
+    /// use komihash_rattle::v5::StreamedKomihash;
+    /// let stream = StreamedKomihash::resume(b"not a saved text");
+    /// assert!(stream.is_none());
+    /// ```
+    #[must_use]
+    #[inline]
     pub fn resume(bytes: &[u8]) -> Option<Self> {
         StreamedKomihash::restore(bytes)
+    }
+}
+
+impl<const V: u8> core::fmt::Debug for StreamedKomihash<V>
+where
+    Versions: IsVersion<V>,
+{
+    /// Shows no byte of the message.
+    fn fmt(&self, f: &mut core::fmt::Formatter<'_>) -> core::fmt::Result {
+        f.debug_struct("StreamedKomihash").finish_non_exhaustive()
     }
 }
 
@@ -101,27 +140,29 @@ where
 {
     const VERSION: u8 = V;
 
-    #[inline(always)]
+    #[inline]
     fn start(seed: u64) -> Self {
         StreamedKomihash { raw: RawStream::start::<V>(seed) }
     }
 
-    #[inline(always)]
+    #[inline]
     fn absorb(&mut self, bytes: &[u8]) {
         self.raw.absorb::<V>(bytes);
     }
 
-    #[inline(always)]
+    #[inline]
     fn answer(&self) -> u64 {
         self.raw.answer::<V>()
     }
 
-    #[inline(always)]
+    #[inline]
+    #[track_caller]
     fn store(&self, out: &mut [u8]) -> usize {
+        assert!(LONGEST_TEXT <= out.len(), "`out` is too short");
         self.raw.store::<V>(out)
     }
 
-    #[inline(always)]
+    #[inline]
     fn restore(bytes: &[u8]) -> Option<Self> {
         Some(StreamedKomihash { raw: RawStream::restore::<V>(bytes)? })
     }

@@ -1,5 +1,5 @@
-//! Calls by their names and arguments, as c/values.tsv has them, and some more. compare/ makes them
-//! of the crate `komihash` too.
+//! Calls by their names and arguments, as ../values.tsv has them, and some more. compare/ makes
+//! them of the crate `komihash` too.
 use std::fmt::Write;
 
 /// Returns the value of a call, or none if the call is of another kind.
@@ -23,7 +23,7 @@ pub fn hexadecimal(bytes: &[u8]) -> String {
     })
 }
 
-/// Returns what a row of c/vectors.tsv or c/values.tsv has: version, call, arguments and value.
+/// Returns what a row of ../vectors.tsv or ../values.tsv has: version, call, arguments and value.
 pub fn row(line: &str) -> Option<(&str, &str, Vec<&str>, &str)> {
     match line.split('\t').collect::<Vec<_>>()[..] {
         [version @ ("4" | "5"), ref given @ .., value] => {

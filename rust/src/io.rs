@@ -1,0 +1,30 @@
+//! Streams as writers, with the feature `std`. This file alone is written by hand.
+extern crate std;
+
+use crate::version::{IsVersion, StreamedKomihash, Versions};
+use std::io::{Result, Write};
+
+/// Needs the feature `std`. As a stream has its own `write`, use `write_all` for a result.
+///
+/// ```
+/// use komihash_rattle::{StreamedKomihash, komihash};
+/// let mut stream = StreamedKomihash::new();
+/// std::io::copy(&mut std::fs::File::open("Cargo.toml")?, &mut stream)?;
+/// assert_eq!(stream.finish(), komihash(&std::fs::read("Cargo.toml")?, 0));
+/// # Ok::<(), std::io::Error>(())
+/// ```
+impl<const V: u8> Write for StreamedKomihash<V>
+where
+    Versions: IsVersion<V>,
+{
+    /// Absorbs all of the bytes, and never fails.
+    fn write(&mut self, bytes: &[u8]) -> Result<usize> {
+        StreamedKomihash::write(self, bytes);
+        Ok(bytes.len())
+    }
+
+    /// Does nothing, because nothing waits to be absorbed.
+    fn flush(&mut self) -> Result<()> {
+        Ok(())
+    }
+}
