@@ -125,6 +125,7 @@ TABLE.update({
     'clz': lambda c, i: c.put(i, 0, leading_zeros(c.get(i, 1))),
     'csel': lambda c, i: c.put(i, 0, choose(selector(c, i), c.get(i, 1), c.get(i, 2))),
     'csinc': lambda c, i: c.put(i, 0, choose(selector(c, i), c.get(i, 1), c.get(i, 2) + 1)),
+    'cinc': lambda c, i: c.put(i, 0, choose(selector(c, i), c.get(i, 1) + 1, c.get(i, 1))),
     'cset': lambda c, i: c.put(i, 0, number_of(selector(c, i), c.width(i))),
     'adrp': lambda c, i: c.put(i, 0, LOADED + i.ops[1].imm),
     'dup': lambda c, i: c.put(i, 0, join([c.get(i, 1)] * 2)),

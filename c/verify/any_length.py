@@ -36,14 +36,15 @@ class Blocks(Induction):
 
 
 class Hash(Blocks):
-    """Messages whose length has these low bits, since some code comes before the blocks that needs
-    to know where the last word begins."""
-    FIXED_BITS, FIRST = 3, 1
+    """Messages of two blocks or more, since code may take one without a loop, whose length has
+    these low bits, since some code comes before the blocks that needs to know where the last word
+    begins."""
+    FIXED_BITS, FIRST, LEAST = 3, 1, 2
 
     def at_start(self, least, low, front=256):
         self.fixed = low
         call, seed = self.new_call(), secret('seed')
-        self.length, content = self.long_length(least), named('front', range(front))
+        self.length, content = self.long_length(max(least, self.LEAST)), named('front', range(front))
         self.base = call.base('bytes', self.length)
         self.windows(self.base, content, named('end', range(-64, 0)))
         self.follow(lanes(seed_pair(call.products, seed)), content, self.FIRST)

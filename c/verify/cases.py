@@ -32,9 +32,10 @@ def each(numbers):
 FILLS = each(range(64))
 FUNCTIONS = {
     '': Function('3 + 4*(n//64) + n%64//16', False, {
-        fixed.hash_of: each(range(Hash.GRAIN)),
+        fixed.hash_of: each(range(2 * Hash.GRAIN)),
         Hash: each(range(2**Hash.FIXED_BITS))}),
-    '_start': Function('1', False, {fixed.start_of: [()]}),
+    '_start': Function('1', False, {fixed.start_of: [('_start',)]}),
+    '_init': Function('1', False, {fixed.start_of: [('_init',)]}),
     '_write': Function('4*((f+n)//64)', False, {
         fixed.write_within: [(p, n) for p in range(64) for n in range(64 - p)], Write: FILLS}),
     '_finish': Function('2 + f//16', False, {
@@ -138,7 +139,7 @@ def run_case(case):
     signal.setitimer(signal.ITIMER_VIRTUAL, SECONDS, 1)
     terms.ANSWERS.clear()
     terms.ASKED[0] = 0
-    begin, ran, depth, failure = time.time(), frozenset(), 0, None
+    begin, ran, depth, failure = time.process_time(), frozenset(), 0, None
     try:
         seen = case.run(LIBRARY)
         ran, depth = frozenset(seen.ran), seen.depth
@@ -151,4 +152,4 @@ def run_case(case):
     except Exception as error:
         failure = Unknown(f'{type(error).__name__}: {error}')
     signal.setitimer(signal.ITIMER_VIRTUAL, 0)
-    return Done(case, failure, time.time() - begin, ran, depth, terms.ASKED[0])
+    return Done(case, failure, time.process_time() - begin, ran, depth, terms.ASKED[0])

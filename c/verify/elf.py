@@ -17,7 +17,7 @@ SEGMENT, ENTRY, SYMBOL = struct.Struct('<IIQQQQQQ'), struct.Struct('<QQ'), struc
 WORD, NOTE = struct.Struct('<I'), struct.Struct('<III')
 SHARED, EXECUTE, WRITE, READ = 3, 1, 2, 4
 # By the numbers of processors, the largest pages that Linux has there. No library of this kind
-# needs more segments, memory, names, and bytes of a name.
+# needs more segments, memory (or bytes of a file), names, and bytes of a name.
 PAGES, SEGMENTS, MEMORY, NAMES, LENGTH = {62: 2**12, 183: 2**16}, 64, 2**26, 2**16, 2**10
 # Types of segments.
 LOAD, DYNAMIC, NOTES, TABLE = 1, 2, 4, 6
@@ -49,7 +49,8 @@ class Elf:
 
     def __init__(self, content):
         self.content = content
-        need(len(content) >= HEADER.size, 'the file is too short')
+        need(HEADER.size <= len(content) <= MEMORY, f'the file is too short, or has more than '
+                                                    f'{MEMORY} bytes')
         ident, kind, self.machine, version, _, start, _, _, _, size, count, *_ = \
             HEADER.unpack_from(content)
         for k, byte in enumerate(ident):
@@ -101,6 +102,7 @@ class Elf:
             part = self.part_of(s.start, s.filled)
             need(part and s.offset == self.offset(s.start) and
                  (s.filled == s.size or s.type == RELRO), 'a segment lies elsewhere in the file')
+            need(s.type != DYNAMIC or s.start, 'no loader takes a dynamic table at address 0')
             need(s.type not in (DYNAMIC, RELRO) or part.flags & WRITE and
                  s.start + s.size <= part.start + part.size + 4095 & -4096,
                  'what the loader writes can not be written')

@@ -18,11 +18,14 @@ def hash_of(library, version, length):
     return end
 
 
-def start_of(library, version):
-    call = Call(library, version, '_start')
+def start_of(library, version, name):
+    """A new stream, which `_start` returns and `_init` writes."""
+    call = Call(library, version, name)
     seed = secret('seed')
     wanted = start(call.products, seed)
-    args, result = call.cpu.struct_at(call.stream(None, writable=True))
+    args, result = [call.stream(None, writable=True)], None
+    if name == '_start':
+        args, result = call.cpu.struct_at(*args)
     end = call.one(*args, seed)
     call.layout.check(end, wanted)
     if result is not None:

@@ -90,7 +90,9 @@ class Invariant:
 
     def assume(self, cpu, world, change):
         """Puts a processor into any state that has the forms, of which each term is changed as the
-        function says. Words without a form hold anything."""
+        function says. Words without a form hold anything, and of the stack, nothing else is there:
+        a signal handler may have changed what a call finds there when it begins."""
+        cpu.memory.lose('stack', cpu.ABOVE)
         words = {n: [] for n in cpu.r}
         for (name, k), form in self.forms.items():
             word = cpu.fresh(8 * size_of(cpu, name, k)) if form is None else \

@@ -25,9 +25,8 @@ def cuts(proof):
 
 def find_cuts(proof):
     """The head is the first of the places to which a long call comes more often than a short one,
-    by most. The exit is the first place outside of the loop that a call with one turn or none comes
-    to too."""
-    (few, _), (many, refusal) = places(proof, 1), places(proof, TURNS)
+    by most. The exit is the first place outside of the loop that the short one comes to too."""
+    (few, early), (many, refusal) = places(proof, proof.LEAST), places(proof, TURNS)
     often = collections.Counter(many)
     often.subtract(few)
     head = max(many, key=often.get)
@@ -35,8 +34,10 @@ def find_cuts(proof):
         raise refusal or Unknown(f'{proof.call.name}: no loop was found')
     last = len(many) - 1 - many[::-1].index(head)
     inside = set(many[many.index(head):last])
-    return head, next(pc for pc in many[last:]
-                      if pc not in inside and (head in few or pc in few))
+    for pc in many[last:]:
+        if pc not in inside and (head in few or pc in few):
+            return head, pc
+    raise early or refusal or Unknown(f'{proof.call.name}: {head:#x}: the loop has no exit')
 
 
 def places(proof, q):

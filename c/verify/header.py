@@ -11,7 +11,7 @@ from guesses import witness
 from terms import Facts, Refused, address, bv, join, simple, sym
 
 HEADER = os.path.join(os.path.dirname(os.path.abspath(__file__)), '..', 'komihash_rattle.h')
-PROTOTYPE = r'(\w+) KOMIHASH_CALL\s+{}\((.*?)\);'
+PROTOTYPE = r'(\w+)\s+{}\((.*?)\);'
 # The bytes of an element of an array.
 ELEMENTS = {'void': 1, 'uint64_t': 8}
 
@@ -67,7 +67,7 @@ def allowed(call):
 
 
 def any_state(call, args):
-    """A stream is in some state, since only `start` and `resume` make one, and only calls change
+    """A stream is in some state, since only `start`, `init` and `resume` make one, and only calls change
     it."""
     return [z3.ULT(FILL, 64), z3.ULE(HAD_BLOCK, 1),
             z3.ULE(TOP_BIT, HAD_BLOCK if call.version == 4 else 0), *call.layout.any_more(args)]

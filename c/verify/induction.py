@@ -42,8 +42,9 @@ class Induction:
     - at_exit(rest): a call at the exit, in any state, when so many bytes are left
     - steps(cpu): how many steps were made since, after checking all that they make
     - check_end(cpu): checks a return
-    A step makes PRODUCTS, and FIRST ones come before the loop."""
-    NAME, UNIT, SIZE, GRAIN, PRODUCTS, FIRST = '', 8, 8, 128, 0, 0
+    A step makes PRODUCTS, and FIRST ones come before the loop. Calls with fewer units of GRAIN
+    bytes than LEAST may take another way."""
+    NAME, UNIT, SIZE, GRAIN, PRODUCTS, FIRST, LEAST = '', 8, 8, 128, 0, 0, 1
     # How many low bits of the length a case fixes, and the number that they are.
     FIXED_BITS, fixed = 0, 0
     # Which symbols mean the same at each arrival, beside those that each call has (`stable`).
@@ -116,7 +117,7 @@ class Induction:
         other, _ = next(self.run(one.copy(), self.head))
         self.step = self.SIZE * (self.steps(other) - self.steps(one))
         if self.step <= 0 or self.GRAIN % self.step and self.step % self.GRAIN:
-            raise Unknown(f'{self.call.name}: a turn takes {self.step} bytes')
+            raise Unknown(f'{self.call.name}: {self.head:#x}: a turn takes {self.step} bytes')
         self.invariants[self.head] = Invariant(
             self.stable(), self.arrival(one), self.arrival(other))
 
@@ -193,13 +194,14 @@ class Induction:
     def end(self):
         """Runs what follows the loop, for each remainder of the length."""
         if self.exit not in self.invariants:
-            raise Refused('no turn leads out of the loop')
+            raise Refused(f'{self.head:#x}: no turn leads out of the loop')
         if 'not too much' not in self.invariants[self.head].holding:
-            raise Refused('a turn may begin after more bytes were taken than there are')
+            raise Refused(f'{self.head:#x}: a turn may begin after more than all was taken')
         holding = self.invariants[self.exit].holding
         known = [m for m in self.moduli() if ('the rest is left', m) in holding]
         if not known or 'not too much' not in holding:
-            raise Refused('after the last turn, more bytes or fewer are left than the rest')
+            raise Refused(f'{self.exit:#x}: after the last turn, more bytes or fewer are left than '
+                          'the rest')
         for remainder in range(self.fixed, self.GRAIN, 2**self.FIXED_BITS):
             self.end_with(remainder, remainder % known[0])
 

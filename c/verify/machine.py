@@ -200,12 +200,15 @@ class Cpu:
             raise Refused(f'an address that is not aligned to {size} bytes: {address}')
 
     def move_stack(self):
-        """Loses what now lies below the stack pointer and the red zone, where a signal handler may
-        write at any time."""
+        """Judges where the stack pointer now is. A signal handler may write below it and the red
+        zone at any time, so what lies there is lost, and nothing of the caller may."""
         moved = simple(self.r[self.SP] - self.sp)
         offset = self.facts.unique(moved, self.path)
         if offset is None:
             raise MustSplit(moved)
+        if not -STACK_BYTES <= offset <= self.ABOVE:
+            raise Refused(f'the stack pointer is moved to {offset:+}, out of the stack of the call')
+        self.seen.depth = max(self.seen.depth, self.ABOVE - offset)
         self.r[self.SP] = simple(self.sp + offset)
         self.memory.lose('stack', offset - self.red_zone)
 

@@ -6,13 +6,17 @@ import argparse
 import hashlib
 import os
 import sys
-from cases import NAMES, cases_of, open_library, run_case
+from cases import FUNCTIONS, NAMES, cases_of, open_library, run_case
+from elf import MEMORY
 from layout import Ours
 from progress import Progress
 from streams import check_streams
 from terms import Unknown
 from vectors import check_all_values
 from workers import results
+
+# How many seconds of processor time the cases of a function may take together.
+SECONDS = 1200
 
 
 def names_there(image, names, some):
@@ -27,39 +31,57 @@ def names_there(image, names, some):
     if len(there) < len(names):
         print('Not there, so not checked:', *(name for name in names if name in missing))
     if others:
-        print('It also exports what is not checked:', *others)
+        print('It also exports what is not checked:', *map(ascii, others))
     return there
 
 
-def verify(level, path, args, layout, choose):
-    """Checks a library, and returns it, what was done, and failures by the name of a function."""
-    all_done, failed = [], {}
+def verify(level, path, args, layout):
+    """Checks a library, and returns how many functions are right, and how many wrong."""
+    failed = {}
     with open(path, 'rb') as file:
-        content = file.read()
+        content = file.read(MEMORY + 1)
     image = open_library(content, level, layout, args.red_zone)
     print(f'{path}: {image.processor.NAME}, for {level}, '
+          f'red zone of {image.processor.RED_ZONE * args.red_zone} bytes, '
           f'SHA-256 {hashlib.sha256(content).hexdigest()}')
-    cases = choose([case for name in names_there(image, args.function, args.some)
-                    for case in cases_of(name)], args)
+    names = names_there(image, args.function, args.some)
+    cases = [case for name in names for case in cases_of(name)]
     progress = Progress(cases, args.jobs)
-    cases.sort(key=progress.order)
+    # Those that take longest come first, so that no process is left with one at the end.
+    cases.sort(key=lambda case: not case.has_loop())
     try:
         for done in results(args.jobs, run_case, cases):
             if isinstance(done.failure, Unknown):
                 raise Unknown(f'{done.case}: {done.failure}')
             if done.failure:
                 failed.setdefault(done.case.name, f'{done.case}: {done.failure}')
-            all_done.append(done)
             progress.add(done)
+            if progress.total('seconds', done.case.name) > SECONDS:
+                raise Unknown(f'{done.case.name} takes more than {SECONDS} seconds')
     finally:
         progress.table(failed)
-    return image, all_done, failed
+    return len({*names} - {*failed}), len(failed)
 
 
-def arguments(parser):
+def positive(text):
+    if not text.isdecimal() or not int(text):
+        raise argparse.ArgumentTypeError(f'it must be a number above 0, and is {text!a}')
+    return int(text)
+
+
+def function(name):
+    if name not in NAMES:
+        raise argparse.ArgumentTypeError(
+            f'FUNCTION={name!a} is none of komihash_v4 and komihash_v5, alone and with each of'
+            f'{" ".join(FUNCTIONS)}')
+    return name
+
+
+def arguments(text):
+    parser = argparse.ArgumentParser(prog='verify', description=text, usage=argparse.SUPPRESS)
     add = parser.add_argument
-    add('--function', nargs='+', choices=NAMES, metavar='NAME', default=NAMES)
-    add('--jobs', type=int, default=len(os.sched_getaffinity(0)))
+    add('--function', nargs='+', type=function, metavar='NAME', default=NAMES)
+    add('--jobs', type=positive, default=len(os.sched_getaffinity(0)))
     add('--some', action='store_true', help='a library may have only some of the functions')
     add('--red-zone', action='store_true',
         help='functions may use the 128 bytes below the stack pointer, as on Linux')
@@ -68,24 +90,17 @@ def arguments(parser):
     return parser.parse_args()
 
 
-def main(text, options=lambda parser: None, test=None, layout=Ours,
-         choose=lambda cases, args: cases):
-    """Checks the libraries that the arguments name, and returns a status. Others may add options,
-    test what passed, have streams in memory in another way, and choose some of the cases."""
-    parser = argparse.ArgumentParser(prog='verify', description=text)
-    options(parser)
-    args, path = arguments(parser), 'the definition'
+def main(text, layout=Ours):
+    """Checks the libraries that the arguments name, and returns a status. Others may have streams
+    in memory in another way."""
+    args, path = arguments(text), 'the definition'
     try:
         check_all_values()
         check_streams(args.jobs)
         passed, failed = 1, 0
         for one in args.library:
             level, path = one.split(':', 1)
-            image, done, wrong = verify(level, path, args, layout, choose)
-            right, wrong = len({one.case.name for one in done} - {*wrong}), len(wrong)
-            if test and not wrong:
-                tested = test(image, path, done, args)
-                right, wrong = right + tested[0], wrong + tested[1]
+            right, wrong = verify(level, path, args, layout)
             passed, failed = passed + right, failed + wrong
     # Whatever went wrong, nothing is known then.
     except Exception as error:

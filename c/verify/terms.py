@@ -9,8 +9,12 @@ import z3
 z3.z3.Z3_DEBUG = False
 # Sums and xors of the same parts, in any order, become the same term.
 SIMPLIFY = z3.args2params([], {'bv_sort_ac': True})
-# Z3 may make so many steps for a question, after a few by a solver that is quicker with lengths.
-EFFORT, FEW = 10**9, 10**5
+# The solvers that are asked one after the other, and how many steps each may make. The first is
+# quick with lengths, and the second with shifts of contents.
+SOLVERS = ((z3.Tactic('smt'), 10**5),
+           (z3.Then('simplify', 'propagate-values', 'solve-eqs', 'simplify', 'bit-blast', 'aig',
+                    'sat'), 3 * 10**5),
+           (z3.Tactic('qfbv'), 10**9))
 # What was answered in this case, the models that were found last, and how many questions were
 # asked.
 ANSWERS, MODELS, ASKED = {}, collections.deque(maxlen=16), [0]
@@ -174,8 +178,8 @@ class Facts:
 
     def ask(self, terms):
         ASKED[0] += 1
-        for name, effort in ('smt', FEW), ('qfbv', EFFORT):
-            solver = z3.Tactic(name).solver()
+        for tactic, effort in SOLVERS:
+            solver = tactic.solver()
             solver.set('rlimit', effort)
             solver.add(*terms)
             if (answer := solver.check()) != z3.unknown:

@@ -6,7 +6,8 @@ from definition import (Products, State, is_text, komi, next_pair, padded_words,
 from terms import Unknown, bv, bytes_of, const, simple
 
 # The files of values, which explain their rows, and how many they have.
-FOLDER = os.path.join(os.path.dirname(os.path.abspath(__file__)), '..')
+C = os.path.dirname(os.path.dirname(os.path.abspath(__file__)))
+FOLDER = next(filter(os.path.isdir, (os.path.join(at, 'rust/tests') for at in (C, f'{C}/..'))))
 ROWS = {'vectors.tsv': 95, 'values.tsv': 56}
 
 

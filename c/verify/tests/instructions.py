@@ -99,7 +99,8 @@ def random_memory(r, kind, i):
     """Memory before an instruction, in which an address of it is likely to lie."""
     flags = sum(r.randrange(2) << bit for bit in BITS[kind])
     memory = bytearray(r.randbytes(FLAGS_AT) + flags.to_bytes(8, 'little')).ljust(SIZE, b'\0')
-    values = {name: r.getrandbits(r.choice([6, 64])) for name in places(kind) if name[0] in 'rx'}
+    values = {name: r.choice([r.getrandbits(6), r.getrandbits(64), 0, 2**63, 2**64 - 1])
+              for name in places(kind) if name[0] in 'rx'}
     for m in (op.mem for op in i.ops if op.type == CS_OP_MEM):
         for register, value in ((m.index, r.randrange(16)),
                                 (m.base, POINTER + r.choice([1, 16]) * r.randrange(8) - m.disp)):
