@@ -13,12 +13,13 @@ cd "$(dirname "${BASH_SOURCE[0]}")/../crates/komihash_c"
 # - The module adds 4096 to a null pointer, which takes instructions. The edit adds 0: where a
 #   pointer is null, the length after it is 0, so nothing is read or written by it.
 # - The attribute uwtable asks for unwind tables. It changes no instruction.
-# - The attribute noredzone keeps values out of the memory below the stack pointer, because Windows
-#   may overwrite it.
+# - The attribute noredzone keeps values out of the memory below the stack pointer, because kernels,
+#   which may compile the assembly too, overwrite it.
 # - The module flags ask for what IBT and SHSTK (x86-64) and BTI (ARM64) demand: a note, and at the
 #   start of each function that C calls an instruction that does nothing on other processors.
 # For x86-64, the option slp-threshold makes LLVM store new streams as vectors, which it does by
-# itself for newer processors. Without it, `start` takes 16% longer.
+# itself for newer processors. Without it, `start` takes 16% longer. By align-all-functions, each
+# function begins where 64 bytes do. Elsewhere, hashes of 8 bytes may take 10% longer.
 mkdir "$scratch/bin" "$scratch/made"
 ln -s "$kit"/toolchain/bin/{ld.lld,llvm-ar} "$scratch/bin/"
 ln -s "$kit/toolchain/lib" "$scratch/"
@@ -41,7 +42,8 @@ if [[ " $* " == *' module.bc '* ]]; then
 fi
 set -- "${@/#module.bc/$scratch/module.ll}"
 words=("${@/#-c/-S}")
-! grep -q '"target-cpu"="x86-64"' "$scratch/module.ll" || words+=(-mllvm -slp-threshold=-2)
+! grep -q '"target-cpu"="x86-64"' "$scratch/module.ll" ||
+    words+=(-mllvm -slp-threshold=-2 -mllvm -align-all-functions=6)
 "$clang" "${words[@]/module.o/$scratch/module.s}" -fno-addrsig -fno-verbose-asm
 exec "$clang" "$@"
 END
@@ -66,18 +68,8 @@ assembly_for() {
 $(sed -n 's/.*\.ident.*"rattle logic=\([0-9a-f]*\)".*/ * logic \1/p' "$scratch/module.s")
 $(sed -nE 's/^(commit|compiler) / * &/p' "$kit/WHAT")
  */
-#ifdef _WIN32
-#define ELF_ONLY(...)
-#define WINDOWS_ONLY(...) __VA_ARGS__
-#else
-#define ELF_ONLY(...) __VA_ARGS__
-#define WINDOWS_ONLY(...)
-#endif
 END
-    sed -E '/^\t\.(file|ident|aeabi_[a-z]*)\t/d; s/^\t(\.(section|type|size)\t.*)/\tELF_ONLY(\1)/
-        /\.note\.gnu\.property/,/\.text$/s/^\t(\.(p2align|long|word|asciz)\t.*)/\tELF_ONLY(\1)/
-        s/^\t\.globl\t(.*)/&\n\tWINDOWS_ONLY(.def \1; .scl 2; .type 32; .endef)/' \
-        "$scratch/module.s"
+    sed -E '/^\t\.(file|ident|aeabi_[a-z]*)\t/d' "$scratch/module.s"
 }
 
 # Whether the types of the header have the sizes that the crate proves: size TYPE FILE prints one.

@@ -31,11 +31,11 @@ unsafe fn array_mut<'a, T>(pointer: *mut T, count: usize) -> &'a mut [T] {
 
 /// Exports functions, each by the end of its name, its arguments and result, and its body.
 macro_rules! functions {
-    ($convention:literal, $name:literal:
+    ($name:literal:
         $($end:literal($($argument:ident: $of:ty),*) -> $result:ty = $body:expr;)*) => {
         $(const _: () = {
             #[export_name = concat!($name, $end)]
-            unsafe extern $convention fn function($($argument: $of),*) -> $result {
+            unsafe extern "C" fn function($($argument: $of),*) -> $result {
                 $body
             }
         };)*
@@ -43,7 +43,7 @@ macro_rules! functions {
 }
 
 macro_rules! export {
-    ($convention:literal: $($name:literal $version:ident)*) => {
+    ($($name:literal $version:ident)*) => {
         $(mod $version {
             use super::*;
             use komihash_rattle::$version::{komihash, Komirand, StreamedKomihash};
@@ -53,10 +53,12 @@ macro_rules! export {
             const _: () = assert!(align_of::<StreamedKomihash>() <= align_of::<u64>());
             const _: () = assert!(size_of::<Komirand>() == 16);
 
-            functions! { $convention, $name:
+            functions! { $name:
                 ""(bytes: *const u8, length: usize, seed: u64) -> u64
                     = komihash(array(bytes, length), seed);
                 "_start"(seed: u64) -> StreamedKomihash = StreamedKomihash::new_with_seed(seed);
+                "_init"(stream: *mut StreamedKomihash, seed: u64) -> ()
+                    = stream.write(StreamedKomihash::new_with_seed(seed));
                 "_write"(stream: &mut StreamedKomihash, bytes: *const u8, length: usize) -> ()
                     = stream.write(array(bytes, length));
                 "_finish"(stream: &StreamedKomihash) -> u64 = stream.finish();
@@ -73,7 +75,7 @@ macro_rules! export {
             use komihash_rattle::{stream::LONGEST_TEXT, $version::{pad, unpad}};
 
             #[cfg(not(rust_crate))]
-            functions! { $convention, $name:
+            functions! { $name:
                 "_save"(stream: &StreamedKomihash, out: *mut u8, room: usize) -> usize
                     = if room < LONGEST_TEXT {
                         0
@@ -106,8 +108,4 @@ macro_rules! export {
     };
 }
 
-// The header's calling convention, which is not the one of Windows.
-#[cfg(windows)]
-export!("sysv64": "komihash_v4" v4 "komihash_v5" v5);
-#[cfg(not(windows))]
-export!("C": "komihash_v4" v4 "komihash_v5" v5);
+export!("komihash_v4" v4 "komihash_v5" v5);

@@ -18,7 +18,8 @@ fail() { echo "komihash_rattle for $machine is built from Rust, and $1" >&2; exi
 command -v "${rustc%% *}" > /dev/null || fail "there is no Rust compiler '$rustc'"
 libraries=$($rustc --target "$target" --print target-libdir 2> /dev/null) &&
     ls "$libraries"/libcore[-.]* > /dev/null 2>&1 ||
-    fail "'$rustc' has no core library for $target, which RUST_TARGET may name in another way"
+    fail "'$rustc' has no core library for $target: try 'rustup target add $target', or name
+the target in another way by RUST_TARGET"
 
 scratch=$(mktemp -d)
 trap 'rm -rf "$scratch"' EXIT

@@ -8,7 +8,8 @@ bindir=${BINDIR-${bindir-$prefix/bin}}
 libdir=${LIBDIR-${libdir-$prefix/lib}}
 includedir=${INCLUDEDIR-${includedir-$prefix/include}}
 docdir=${DOCDIR-${docdir-$prefix/share/doc/komihash_rattle}}
-for folder in "$prefix" "$bindir" "$libdir" "$includedir" "$docdir"; do
+mandir=${MANDIR-${mandir-$prefix/share/man}}
+for folder in "$prefix" "$bindir" "$libdir" "$includedir" "$docdir" "$mandir"; do
     case $folder in
     /*) ;;
     [A-Za-z]:/*) [ -d "${folder%%/*}/" ] ;; # a drive, which only Windows has
@@ -25,7 +26,9 @@ each_file() {
     "$1" 644 komihash_rattle.h "$includedir/komihash_rattle.h"
     "$1" 644 komihash_rattle/komihash.h "$includedir/komihash_rattle/komihash.h"
     "$1" 644 "$license" "$docdir/LICENSE"
-    "$1" 644 "$filled/komihash_rattle.pc" "$libdir/pkgconfig/komihash_rattle.pc"
+    "$1" 644 komihashsum.1 "$mandir/man1/komihashsum.1"
+    for file in $programs; do "$1" 755 "$OUT/$file" "$bindir/$file"; done
+    for file in "$filled"/*.pc; do "$1" 644 "$file" "$libdir/pkgconfig/${file##*/}"; done
     for file in "$filled"/*.cmake; do
         "$1" 644 "$file" "$libdir/cmake/komihash_rattle/${file##*/}"
     done
@@ -70,7 +73,7 @@ below_prefix() {
     esac
 }
 for file in templates/*; do
-    case $file in *.pc) special='["\\#]' ;; *) special='^$' ;; esac
+    case $file in *.pc) special="[\"'\\\\# ]" ;; *) special='^$' ;; esac
     sed "s|@VERSION@|$version|; s|@PREFIX@|$(quoted "$prefix")|
         s|@LIBDIR@|$(below_prefix "$libdir")|
         s|@INCLUDEDIR@|$(below_prefix "$includedir")|" "$file" > "$filled/${file##*/}"

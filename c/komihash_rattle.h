@@ -42,15 +42,8 @@
 #endif
 #endif
 
-/* The calling convention of all functions. Windows has one of its own, so pointers to them name it
- * too: uint64_t (KOMIHASH_CALL *hash)(const void *, size_t, uint64_t) = komihash_v5; */
-#if !defined(_WIN32) && !defined(__CYGWIN__)
+/* Sources for versions before 1.3 had this in types of pointers to functions. */
 #define KOMIHASH_CALL
-#elif !defined(__CYGWIN__) && defined(__x86_64__) && defined(__GNUC__)
-#define KOMIHASH_CALL __attribute__((sysv_abi))
-#else
-#error "komihash_rattle cannot be called by this compiler: use gcc or clang of MinGW-w64 for x86-64"
-#endif
 
 /* Marks of functions: the first argument is never null; the result says whether the call failed.
  * The first begins by `__extension__`, because C89 has no bool. */
@@ -67,9 +60,9 @@ extern "C" {
 #endif
 
 /* The version of this library, whose first number is that of the soname. */
-#define KOMIHASH_RATTLE_VERSION "1.2.0"
+#define KOMIHASH_RATTLE_VERSION "1.3.0"
 #define KOMIHASH_RATTLE_VERSION_MAJOR 1
-#define KOMIHASH_RATTLE_VERSION_MINOR 2
+#define KOMIHASH_RATTLE_VERSION_MINOR 3
 #define KOMIHASH_RATTLE_VERSION_PATCH 0
 
 /* What `unpad` returns instead of a length. */
@@ -78,10 +71,10 @@ extern "C" {
 /* The room that `save` needs: the length of the longest saved text. */
 #define KOMIHASH_LONGEST_TEXT 131
 
-/* A stream of each version. Only `start` and `resume` make one: `= {0}` doesn't. It may be copied
- * by assignment, and each copy then goes on by itself. Only the calls below change a stream: after
- * any other change, they may return wrong hashes and access memory outside of it. So store or send
- * its saved text and not the stream itself: `resume` checks the text. */
+/* A stream of each version. Only `start`, `init` and `resume` make one: `= {0}` doesn't. It may be
+ * copied by assignment, and each copy then goes on by itself. Only the calls below change a stream:
+ * after any other change, they may return wrong hashes and access memory outside of it. So store or
+ * send its saved text and not the stream itself: `resume` checks the text. */
 typedef struct { uint64_t state[18]; } komihash_v4_stream;
 typedef struct { uint64_t state[18]; } komihash_v5_stream;
 
@@ -91,84 +84,88 @@ typedef struct { uint64_t state[2]; } komihash_v5_rand;
 
 /* Returns the hash of a message. Any seed will do: use 0 unless you need several hashes of one
  * message. */
-uint64_t KOMIHASH_CALL komihash_v4(const void *bytes, size_t length, uint64_t seed);
-uint64_t KOMIHASH_CALL komihash_v5(const void *bytes, size_t length, uint64_t seed);
+uint64_t komihash_v4(const void *bytes, size_t length, uint64_t seed);
+uint64_t komihash_v5(const void *bytes, size_t length, uint64_t seed);
 
 /* Returns the new stream of a seed. */
-komihash_v4_stream KOMIHASH_CALL komihash_v4_start(uint64_t seed);
-komihash_v5_stream KOMIHASH_CALL komihash_v5_start(uint64_t seed);
+komihash_v4_stream komihash_v4_start(uint64_t seed);
+komihash_v5_stream komihash_v5_start(uint64_t seed);
+
+/* Does the same for `stream`, for languages whose functions can't return a struct. What `stream`
+ * held is not read. */
+KOMIHASH_NONNULL void komihash_v4_init(komihash_v4_stream *stream, uint64_t seed);
+KOMIHASH_NONNULL void komihash_v5_init(komihash_v5_stream *stream, uint64_t seed);
 
 /* Absorbs bytes. However a message is cut, its hash is the same. */
 KOMIHASH_NONNULL
-void KOMIHASH_CALL komihash_v4_write(komihash_v4_stream *stream, const void *bytes, size_t length);
+void komihash_v4_write(komihash_v4_stream *stream, const void *bytes, size_t length);
 KOMIHASH_NONNULL
-void KOMIHASH_CALL komihash_v5_write(komihash_v5_stream *stream, const void *bytes, size_t length);
+void komihash_v5_write(komihash_v5_stream *stream, const void *bytes, size_t length);
 
 /* Returns the hash of all bytes so far. The stream is unchanged, and may absorb more. */
-KOMIHASH_NONNULL uint64_t KOMIHASH_CALL komihash_v4_finish(const komihash_v4_stream *stream);
-KOMIHASH_NONNULL uint64_t KOMIHASH_CALL komihash_v5_finish(const komihash_v5_stream *stream);
+KOMIHASH_NONNULL uint64_t komihash_v4_finish(const komihash_v4_stream *stream);
+KOMIHASH_NONNULL uint64_t komihash_v5_finish(const komihash_v5_stream *stream);
 
 /* Writes the saved text of the stream to the front of `out`, and returns its length, 68 to 131
  * bytes. This text is binary, and can be stored and sent. It has up to 63 bytes of the message as
  * they are, and neither the number of bytes so far nor the seed, which `resume` doesn't need.
  * Returns 0, and writes nothing, if `room` is less than KOMIHASH_LONGEST_TEXT. */
 KOMIHASH_NONNULL KOMIHASH_CHECK_RESULT
-size_t KOMIHASH_CALL komihash_v4_save(const komihash_v4_stream *stream, void *out, size_t room);
+size_t komihash_v4_save(const komihash_v4_stream *stream, void *out, size_t room);
 KOMIHASH_NONNULL KOMIHASH_CHECK_RESULT
-size_t KOMIHASH_CALL komihash_v5_save(const komihash_v5_stream *stream, void *out, size_t room);
+size_t komihash_v5_save(const komihash_v5_stream *stream, void *out, size_t room);
 
 /* Replaces the stream by the one that has this saved text, and returns true. What `stream` held is
  * not read. Returns false, and changes nothing, if no stream of this version has the text: those of
  * the other version are refused. The text has no checksum, so damage that makes it the text of
- * another stream is not noticed. */
+ * another stream is not noticed. The bool is one byte, which is 0 or 1. */
 KOMIHASH_NONNULL KOMIHASH_CHECK_RESULT
-bool KOMIHASH_CALL komihash_v4_resume(komihash_v4_stream *stream, const void *text, size_t length);
+bool komihash_v4_resume(komihash_v4_stream *stream, const void *text, size_t length);
 KOMIHASH_NONNULL KOMIHASH_CHECK_RESULT
-bool KOMIHASH_CALL komihash_v5_resume(komihash_v5_stream *stream, const void *text, size_t length);
+bool komihash_v5_resume(komihash_v5_stream *stream, const void *text, size_t length);
 
 /* Returns the pseudorandom generator Komirand of a seed, which is not cryptographic. */
-komihash_v4_rand KOMIHASH_CALL komihash_v4_rand_init(uint64_t seed);
-komihash_v5_rand KOMIHASH_CALL komihash_v5_rand_init(uint64_t seed);
+komihash_v4_rand komihash_v4_rand_init(uint64_t seed);
+komihash_v5_rand komihash_v5_rand_init(uint64_t seed);
 
 /* Returns the generator of two seeds. If they are equal, it is the generator of that one seed. */
-komihash_v4_rand KOMIHASH_CALL
-komihash_v4_rand_init_with_extra_seed(uint64_t seed, uint64_t extra_seed);
-komihash_v5_rand KOMIHASH_CALL
-komihash_v5_rand_init_with_extra_seed(uint64_t seed, uint64_t extra_seed);
+komihash_v4_rand komihash_v4_rand_init_with_extra_seed(uint64_t seed, uint64_t extra_seed);
+komihash_v5_rand komihash_v5_rand_init_with_extra_seed(uint64_t seed, uint64_t extra_seed);
 
 /* Returns the generator that has the two words as its state. The first outputs of small words are
- * simple patterns; the calls above take four steps to get past them. */
-komihash_v4_rand KOMIHASH_CALL komihash_v4_rand_init_words(uint64_t s1, uint64_t s2);
-komihash_v5_rand KOMIHASH_CALL komihash_v5_rand_init_words(uint64_t s1, uint64_t s2);
+ * simple patterns; the calls above take four steps to get past them. A language whose functions
+ * can't return a struct writes the two words into 16 bytes that are aligned to eight, and calls
+ * `rand_next` four times. They then have the generator of the two seeds, or if both are the same,
+ * of the one. */
+komihash_v4_rand komihash_v4_rand_init_words(uint64_t s1, uint64_t s2);
+komihash_v5_rand komihash_v5_rand_init_words(uint64_t s1, uint64_t s2);
 
 /* Returns the next output. */
-KOMIHASH_NONNULL uint64_t KOMIHASH_CALL komihash_v4_rand_next(komihash_v4_rand *rand);
-KOMIHASH_NONNULL uint64_t KOMIHASH_CALL komihash_v5_rand_next(komihash_v5_rand *rand);
+KOMIHASH_NONNULL uint64_t komihash_v4_rand_next(komihash_v4_rand *rand);
+KOMIHASH_NONNULL uint64_t komihash_v5_rand_next(komihash_v5_rand *rand);
 
 /* Fills `out` with the bytes of the next outputs, the lowest byte of each first. Takes an output
  * for each eight bytes, and one more for a remainder, which gets its lowest bytes; its other bytes
  * are dropped. */
-KOMIHASH_NONNULL void KOMIHASH_CALL
-komihash_v4_rand_fill(komihash_v4_rand *rand, void *out, size_t length);
-KOMIHASH_NONNULL void KOMIHASH_CALL
-komihash_v5_rand_fill(komihash_v5_rand *rand, void *out, size_t length);
+KOMIHASH_NONNULL void komihash_v4_rand_fill(komihash_v4_rand *rand, void *out, size_t length);
+KOMIHASH_NONNULL void komihash_v5_rand_fill(komihash_v5_rand *rand, void *out, size_t length);
 
 /* Writes the padded words of a message to the front of `out`, and returns their number, which is
  * length / 8 + 1. They are the words that the hash reads: different messages have different ones.
  * Returns 0, and writes nothing, if `out` has no room for them. `length` counts bytes, and `room`
  * counts words. */
 KOMIHASH_CHECK_RESULT
-size_t KOMIHASH_CALL komihash_v4_pad(const void *bytes, size_t length, uint64_t *out, size_t room);
+size_t komihash_v4_pad(const void *bytes, size_t length, uint64_t *out, size_t room);
 KOMIHASH_CHECK_RESULT
-size_t KOMIHASH_CALL komihash_v5_pad(const void *bytes, size_t length, uint64_t *out, size_t room);
+size_t komihash_v5_pad(const void *bytes, size_t length, uint64_t *out, size_t room);
 
 /* Writes the message that has these padded words to the front of `out`, and returns its length.
  * Returns KOMIHASH_NONE, and writes nothing, if no message has them, or if `out` has fewer than
  * eight bytes for each word. `length` counts words, and `room` counts bytes. */
-KOMIHASH_CHECK_RESULT size_t KOMIHASH_CALL
-komihash_v4_unpad(const uint64_t *words, size_t length, void *out, size_t room);
-KOMIHASH_CHECK_RESULT size_t KOMIHASH_CALL
-komihash_v5_unpad(const uint64_t *words, size_t length, void *out, size_t room);
+KOMIHASH_CHECK_RESULT
+size_t komihash_v4_unpad(const uint64_t *words, size_t length, void *out, size_t room);
+KOMIHASH_CHECK_RESULT
+size_t komihash_v5_unpad(const uint64_t *words, size_t length, void *out, size_t room);
 
 #ifdef __cplusplus
 }

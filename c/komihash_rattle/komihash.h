@@ -9,6 +9,7 @@
  */
 #ifndef KOMIHASH_INCLUDED
 #define KOMIHASH_INCLUDED
+#define KOMIHASH_RATTLE /* It tells sources which komihash.h was found. */
 
 #include "../komihash_rattle.h"
 #include <string.h> /* which sources may expect here */
@@ -28,7 +29,7 @@ komihash_stream_oneshot(const void *message, size_t length, uint64_t seed) {
 
 /* Makes `ctx` the new stream of a seed. */
 static __inline void komihash_stream_init(komihash_stream_t *ctx, uint64_t seed) {
-    *ctx = komihash_v5_start(seed);
+    komihash_v5_init(ctx, seed);
 }
 
 /* Absorbs bytes. */

@@ -39,7 +39,9 @@ static uint8_t *end_of_memory(void) {
 
 /* Returns the hash of a message by a stream, which is saved and resumed after some of it. */
 static uint64_t streamed(const uint8_t *bytes, size_t length, size_t cut, uint64_t seed) {
-    Stream stream = KOMIHASH(_start)(seed), resumed;
+    Stream stream = KOMIHASH(_start)(seed), begun, resumed;
+    KOMIHASH(_init)(&begun, seed);
+    CHECK(KOMIHASH(_finish)(&begun) == KOMIHASH(_finish)(&stream));
     KOMIHASH(_write)(&stream, bytes, cut);
     CHECK(KOMIHASH(_save)(&stream, out_end - ROOM + 1, ROOM - 1) == 0);
     size_t saved = KOMIHASH(_save)(&stream, out_end - ROOM, ROOM);
@@ -89,7 +91,10 @@ static void print_fills(const char *row) {
     const uint64_t x = strtoull(at, &at, 16), y = has_two ? strtoull(at, &at, 16) : x;
     Rand rand = is_new    ? KOMIHASH(_rand_init_words)(x, y)
                 : has_two ? KOMIHASH(_rand_init_with_extra_seed)(x, y)
-                          : KOMIHASH(_rand_init)(x);
+                          : KOMIHASH(_rand_init)(x), by_words = {{x, y}};
+    for (int i = 0; i < 4 && !is_new; i++)
+        KOMIHASH(_rand_next)(&by_words);
+    CHECK(memcmp(&by_words, &rand, sizeof rand) == 0);
     printf("%.*s", (int)(value - row), row);
     while (at + 1 != value) {
         const size_t length = strtoul(at, &at, 10);

@@ -9,18 +9,19 @@ prefix="$scratch/a & 'b'"
 lib="$prefix/lib"
 archive="$lib/libkomihash_rattle.a"
 linked="$lib/$soname"
-program=$scratch/program$exe
 machine=$($CC -dumpmachine)
 clang=clang
 [ ! "$CROSS" ] || clang="clang --target=$machine -Qunused-arguments"
 case $system in
 Windows)
+    exe=.exe
     linked="$lib/libkomihash_rattle.dll.a" soname=$dll
     clang="$clang -L$(dirname "$($CC -print-libgcc-file-name)")" # which old versions don't find
     ;;
 Darwin) linked="$lib/$dylib" soname=$dylib ;;
 esac
 case $CC in *clang*) clang= ;; esac
+program=$scratch/program${exe=}
 export LD_LIBRARY_PATH="$lib" WINEPATH="Z:$prefix/bin" PKG_CONFIG_PATH="$lib/pkgconfig"
 export DYLD_LIBRARY_PATH="$lib"
 unset MAKEFLAGS PREFIX BINDIR LIBDIR INCLUDEDIR DOCDIR DESTDIR
@@ -70,6 +71,42 @@ marked() {
         test "$(wc -l < "$scratch/marks")" = "$("$NM" -P -g $flag "$1" | grep -c ' T ')"
 }
 without_libraries() { ! "${CROSS}objdump" -p "$OUT/$dll" | grep 'DLL Name'; }
+# Opens the DLL, as other languages do, and looks for a function and its unwind table.
+opened_on_windows() {
+    cat << 'END' | $CC -x c -o "$program" - && $RUN "$program" "Z:$prefix/bin/$dll"
+#include <windows.h>
+#include <stdint.h>
+#include <stdio.h>
+int main(int count, char **arguments) {
+    void *found = GetProcAddress(LoadLibraryA(arguments[count - 1]), "komihash_v5");
+    uint64_t (*hash)(const void *, size_t, uint64_t) = found, base;
+    if (RtlLookupFunctionEntry((uintptr_t)found + 1, &base, NULL))
+        printf("%016I64x\n", hash("port", 4, 7));
+}
+END
+}
+# Compiles calls for the ABI of MSVC, without its libc, and links them with each library.
+for_msvc() {
+    cat > "$scratch/msvc.c" << END
+#include <komihash_rattle.h>
+int start(void) {
+    komihash_v5_stream stream = komihash_v5_start(7), begun;
+    komihash_v5_rand rand = komihash_v5_rand_init_words(1, 2);
+    komihash_v5_init(&begun, 7);
+    komihash_v5_write(&begun, "port", 4);
+    komihash_v5_write(&stream, "port", 4);
+    return komihash_v5("port", 4, 7) != 0x$hash || komihash_v5_finish(&stream) != 0x$hash ||
+        komihash_v5_finish(&begun) != 0x$hash || rand.state[0] != 1 || rand.state[1] != 2;
+}
+END
+    "${CROSS}dlltool" -d "$lib/${dll%.dll}.def" -l "$scratch/made.lib" &&
+        clang --target=x86_64-pc-windows-msvc -ffreestanding -I "$prefix/include" -c \
+            -o "$scratch/msvc.obj" "$scratch/msvc.c" || return
+    for file in "$archive" "$linked" "$scratch/made.lib"; do
+        lld-link -entry:start -subsystem:console -nodefaultlib "-out:$program" \
+            "$scratch/msvc.obj" "$file" && $RUN "$program" || return
+    done
+}
 same_elsewhere() {
     build all "OUT=$scratch/here" && build all "OUT=$scratch/elsewhere" || return
     for file in $shared; do cmp "$scratch/here/$file" "$scratch/elsewhere/$file" || return; done
@@ -77,12 +114,14 @@ same_elsewhere() {
 
 # Compiles a program by $compiler, and runs it.
 runs() { $compiler "$@" -Wall -Wextra -Wpedantic -Werror -o "$program" && $RUN "$program"; }
-runs_by_package() {
-    eval "runs \"\$@\" $(pkg-config --cflags --libs komihash_rattle)" &&
+runs_by_package() { # MODULE ARGUMENT..
+    eval "shift; runs \"\$@\" $(pkg-config --cflags --libs "$1")" &&
         "${CROSS}objdump" -p "$program" | grep -F "$soname" > "$scratch/case"
 }
 tab=$(printf '\t')
-rows() { grep -hE "^((new|init|init_with_extra_seed)$tab)?$1$tab" vectors.tsv values.tsv; }
+# The tables of the crate for Rust, which is in this folder or beside it.
+tables=$(ls -d rust/tests ../rust/tests 2> "$scratch/case" | head -n 1)
+rows() { grep -hE "^((new|init|init_with_extra_seed)$tab)?$1$tab" "$tables"/*.tsv; }
 calls() {
     for number in 4 5; do
         rows $number |
@@ -92,7 +131,12 @@ calls() {
 }
 # Compiles calls that were written for the C original, with these options.
 original() { runs "$@" -I "$prefix/include/komihash_rattle" tests/original.c -x none "$archive"; }
-by_python() { PYTHONPATH=examples python3 -B -W error tests/calls.py < vectors.tsv; }
+# Compiles them beside a copy of the original's header.
+beside_a_copy() {
+    mkdir "$scratch/copy" && : > "$scratch/copy/komihash.h" &&
+        cp tests/original.c "$scratch/copy" &&
+        $CC -fsyntax-only -I "$prefix/include/komihash_rattle" "$scratch/copy/original.c"
+}
 
 # Whether gdb finds its way from each instruction of these versions in a library to main.
 unwinds() { # LIBRARY NUMBER..
@@ -106,6 +150,11 @@ unwinds() { # LIBRARY NUMBER..
     done
 }
 
+refused_header() { # TARGET:REASON
+    fails "${1#*:}" clang "--target=${1%:*}" -x c -ffreestanding -fsyntax-only komihash_rattle.h &&
+        [ "$(grep -c 'error:' "$scratch/printed")" = 1 ]
+}
+
 # Compiles calls that ignore a result, and that pass no stream.
 careless() {
     cat komihash_rattle.h - << 'END' | $CC -x c -Wall -S -o "$program" - 2>&1 |
@@ -116,16 +165,17 @@ END
 }
 
 # Builds a folder by CMake with these definitions, and installs what it made.
+by_cmake="$scratch/by 'CMake'"
 cmake_installs() {
-    rm -rf "$scratch/cmake" "$scratch/by_cmake"
-    cmake -B "$scratch/cmake" -D "CMAKE_C_COMPILER=$CC" -S "$@" -D "KOMIHASH_RATTLE_FROM=$FROM" \
+    rm -rf "$scratch/c 'make'" "$by_cmake"
+    cmake -B "$scratch/c 'make'" -D "CMAKE_C_COMPILER=$CC" -S "$@" -D "KOMIHASH_RATTLE_FROM=$FROM" \
         ${CROSS:+-D "CMAKE_SYSTEM_NAME=$system" -D "CMAKE_SYSTEM_PROCESSOR=${machine%%-*}"} \
-        -D "CMAKE_INSTALL_PREFIX=$scratch/by_cmake" -D CMAKE_INSTALL_LIBDIR=lib >&2 &&
-        cmake --build "$scratch/cmake" >&2 && cmake --install "$scratch/cmake" >&2
+        -D "CMAKE_INSTALL_PREFIX=$by_cmake" -D CMAKE_INSTALL_LIBDIR=lib >&2 &&
+        cmake --build "$scratch/c 'make'" >&2 && cmake --install "$scratch/c 'make'" >&2
 }
-by_cmake() { # Runs hash_file, as CMake installs it.
-    cmake_installs "$@" && export LD_LIBRARY_PATH="$scratch/by_cmake/lib:$LD_LIBRARY_PATH" &&
-        printf a | $RUN "$scratch/by_cmake/bin/hash_file$exe"
+by_cmake() { # Runs komihashsum, as CMake installs it.
+    cmake_installs "$@" && export LD_LIBRARY_PATH="$by_cmake/lib:$LD_LIBRARY_PATH" &&
+        printf a | $RUN "$by_cmake/bin/komihashsum$exe"
 }
 fetched_by_cmake() {
     LD_LIBRARY_PATH=/none
@@ -133,11 +183,15 @@ fetched_by_cmake() {
 }
 files_of() { (cd "$1" && find . ! -type d ! -name '*-config-[!v]*' | sort); }
 installed_by_cmake() {
-    cmake_installs . && mv "$scratch/by_cmake" "$scratch/alone" || return
+    cmake_installs . || return
+    ! command -v pkg-config || PKG_CONFIG_PATH="$by_cmake/lib/pkgconfig" \
+        runs_by_package komihash_rattle_komihash_h tests/original.c || return
+    mv "$by_cmake" "$scratch/alone"
     LD_LIBRARY_PATH="$scratch/alone/lib" WINEPATH="Z:$scratch/alone/bin"
     files_of "$prefix" > "$scratch/files"
     files_of "$scratch/alone" | diff "$scratch/files" - &&
-        prints $hash_of_a by_cmake examples -D "CMAKE_PREFIX_PATH=$scratch/alone"
+        prints "$hash_of_a" by_cmake examples -D "CMAKE_PREFIX_PATH=$scratch/alone" &&
+        by_cmake "$scratch/requested" -D "CMAKE_PREFIX_PATH=$scratch/alone"
 }
 exported_by_cmake() {
     mkdir "$scratch/exported" && cat > "$scratch/exported/CMakeLists.txt" << END
@@ -147,8 +201,8 @@ add_subdirectory("$PWD" library)
 if(NOT komihash_rattle_VERSION VERSION_EQUAL $version)
   message(SEND_ERROR "\${komihash_rattle_VERSION}")
 endif()
-add_library(exported STATIC "$PWD/examples/hash_file.c")
-target_link_libraries(exported PUBLIC komihash_rattle::static)
+add_library(exported STATIC "$PWD/komihashsum.c")
+target_link_libraries(exported PUBLIC komihash_rattle::static komihash_rattle::komihash_h)
 install(TARGETS exported EXPORT exported)
 install(EXPORT exported DESTINATION lib)
 END
@@ -156,7 +210,7 @@ END
 }
 
 # Whether CMake finds the library for each VERSION:1 or RANGE:1, and not for those with 0, and links
-# the static one.
+# the static one, also with the names of the C original.
 requested() {
     mkdir "$scratch/requested" && cat > "$scratch/requested/CMakeLists.txt" << END
 cmake_minimum_required(VERSION 3.19)
@@ -170,20 +224,19 @@ foreach(request $*)
     message(SEND_ERROR \${request})
   endif()
 endforeach()
-add_executable(hash_file "$PWD/examples/hash_file.c")
-target_link_libraries(hash_file komihash_rattle::static)
-install(TARGETS hash_file)
+add_executable(komihashsum "$PWD/komihashsum.c")
+target_link_libraries(komihashsum komihash_rattle::static)
+add_executable(original "$PWD/tests/original.c")
+target_link_libraries(original komihash_rattle::komihash_h komihash_rattle::static)
+install(TARGETS komihashsum original)
 END
     by_cmake "$scratch/requested" -D "CMAKE_PREFIX_PATH=$prefix" &&
-        "$NM" "$scratch/by_cmake/bin/hash_file$exe" | grep 'T komihash_v5$'
+        "$NM" "$by_cmake/bin/komihashsum$exe" | grep 'T komihash_v5$' &&
+        $RUN "$by_cmake/bin/original$exe"
 }
 
-hash_file() { $RUN "$OUT/hash_file$exe" "$@"; }
-ends() { # STATUS ARGUMENT..
-    status=$1
-    shift
-    hash_file "$@" < /dev/null
-    [ $? = "$status" ]
+manual_is_made() {
+    build manual "MANUAL=$scratch/manual" && diff komihashsum.1 "$scratch/manual"
 }
 
 # Whether of what was installed only folders are left that other packages share.
@@ -195,12 +248,14 @@ staged() {
     export PKG_CONFIG_SYSROOT_DIR="$DESTDIR" PKG_CONFIG_PATH="$DESTDIR$LIBDIR/pkgconfig" DOCDIR=/e
     (umask 077 && build install) && test -f "$DESTDIR/e/LICENSE" &&
         test -z "$(find "$DESTDIR" ! -type l ! -perm 755 ! '(' -type f -perm 644 ')')" &&
-        { ! command -v pkg-config || runs_by_package -std=c11 "$scratch/example.c"; } &&
+        { ! command -v pkg-config ||
+            runs_by_package komihash_rattle -std=c11 "$scratch/example.c"; } &&
         build uninstall && gone "$DESTDIR"
 }
 uninstalled() { build uninstall "PREFIX=$prefix" && gone "$prefix"; }
 
-run_case "programs for $machine run here, or in the emulator that RUN names" hash_file < /dev/null
+run_case "programs for $machine run here, or in the emulator that RUN names" \
+    $RUN "$OUT/komihashsum$exe" < /dev/null
 run_case 'the library is installed' build install "PREFIX=$prefix"
 [ "$failed" = 0 ] || { counted; exit 1; }
 run_case 'the numbers in the header are those of its version' test "$version" = \
@@ -214,11 +269,14 @@ while read -r file; do
     [ "$from$system" != assemblyLinux ] ||
         run_case "$name is marked for IBT and SHSTK, or BTI" marked "$file"
 done < "$scratch/libraries"
-[ "$system" != Windows ] || run_case "$dll needs no other library" without_libraries
 run_case 'shared libraries are the same in whichever folder they are built' same_elsewhere
 
-hash=a53b9c6b9eb8afe9 hash_of_a=5117f5064cfd0faa
-vectors_of_5=$(grep ^5 vectors.tsv)
+hash=a53b9c6b9eb8afe9 hash_of_a='5117f5064cfd0faa  -'
+if [ "$system" = Windows ]; then
+    run_case "$dll needs no other library" without_libraries
+    run_case "$dll, by LoadLibrary" prints $hash opened_on_windows
+    needs 'clang lld-link' 'calls for the ABI of MSVC, by clang' for_msvc
+fi
 values=$(rows 4 && rows 5)
 sed -n '/^```c$/,/^```$/{/^```/!p;}' README.md > "$scratch/example.c"
 for compiler in "$CC" ${clang:+"$clang"}; do
@@ -228,10 +286,12 @@ for compiler in "$CC" ${clang:+"$clang"}; do
     run_case "calls.c, by $name" prints "$values" calls "$archive"
     run_case "calls.c, by $name, shared library" prints "$values" calls "$linked"
     run_case "the names of the C original in C89, by $name" original -std=c89
+    needs pkg-config "the names of the C original, by $name and pkg-config" \
+        runs_by_package komihash_rattle_komihash_h tests/original.c
     run_case "the example in C, by $name" prints $hash runs "$scratch/example.c" \
         -std=c11 -I "$prefix/include" "$archive"
     needs pkg-config "the example in C, by $name and pkg-config" \
-        prints $hash runs_by_package -std=c11 "$scratch/example.c"
+        prints $hash runs_by_package komihash_rattle -std=c11 "$scratch/example.c"
 done
 if [ ! "$CROSS" ]; then
     for compiler in "$CXX" clang++; do
@@ -242,48 +302,39 @@ if [ ! "$CROSS" ]; then
     done
     compiler='musl-gcc -static'
     needs musl-gcc 'calls.c with musl' prints "$values" calls "$archive"
-    needs python3 'the module for Python' prints "$vectors_of_5" by_python
     needs gdb 'gdb finds main from each instruction of the library' unwinds "$archive" 4 5
     needs gdb 'gdb finds main where the library has lines of source code' \
         unwinds "$ASSEMBLY/${machine%%-*}.S" 5
 fi
 compiler=$CC
-for target in aarch64_be:big-endian x86_64-linux-gnux32:64-bit x86_64-pc-windows-msvc:MinGW-w64; do
-    needs clang "the header refuses ${target%:*}" fails "${target#*:}" \
-        clang "--target=${target%:*}" -x c -ffreestanding -fsyntax-only komihash_rattle.h
+for target in aarch64_be:big-endian x86_64-linux-gnux32:64-bit; do
+    needs clang "the header refuses ${target%:*}, by one error" refused_header $target
 done
+run_case 'a copy of komihash.h beside the source is noticed' \
+    fails 'another komihash.h was found' beside_a_copy
 run_case 'warnings for an ignored result and a null stream' \
     prints "$(printf '[-W%s\n' nonnull unused-result)" careless
 
 if tar --version | grep GNU > "$scratch/case"; then
     run_case 'the package' build dist "OUT=$scratch"
-    needs cmake 'hash_file, by CMake, with the package' prints $hash_of_a fetched_by_cmake
+    needs cmake 'komihashsum, by CMake, with the package' prints "$hash_of_a" fetched_by_cmake
 else
     skip 'the package, and CMake with it' 'GNU tar'
 fi
-needs cmake 'hash_file, by CMake, with the installed library' \
-    prints $hash_of_a by_cmake examples -D "CMAKE_PREFIX_PATH=$prefix"
-needs cmake 'the files that CMake installs, and hash_file with them' installed_by_cmake
+needs cmake 'komihashsum, by CMake, with the installed library' \
+    prints "$hash_of_a" by_cmake examples -D "CMAKE_PREFIX_PATH=$prefix"
 needs cmake 'a library that CMake exports, with the static one' exported_by_cmake
 needs cmake 'the versions that CMake may ask for, and the static library' requested 1:1 1.0:1 \
     "$version:1" "$version,EXACT:1" 1.0...2:1 '1...<2:1' "0.9...$version:1" \
     0.9:0 2:0 99.0:0 1.0,EXACT:0 "1.0...<$version:0" 2...3:0
+needs cmake 'the files that CMake installs, and komihashsum with them' installed_by_cmake
 
-run_case 'hash_file, bytes that end lines and files elsewhere' \
-    prints 41788abed31c8f17 eval "printf 'a\r\n\032b' | hash_file"
-run_case 'hash_file, files, one of which is not there' \
-    prints "$(hash_file < README.md | tr -d '\r')  README.md
-$hash_of_a  -" eval '! printf a | hash_file README.md none -'
-run_case 'hash_file, an unknown option' ends 2 -c README.md
-run_case 'hash_file, a name that begins with -' ends 1 -- -none
-[ "$system" = Windows ] || run_case 'hash_file, a folder' fails 'Is a directory$' hash_file < /
-run_case 'hash_file, a full output' \
-    fails 'cannot write .*: No space left' eval 'hash_file < /dev/null > /dev/full'
+. ./tests/komihashsum.sh
 run_case 'the paths of the environment' staged
 run_case 'an empty PREFIX' fails "not ''" build install PREFIX=
 run_case 'a relative PREFIX' fails "not 'here'" build install PREFIX=here
 for missing in "no-rustc:there is no Rust compiler 'no-rustc'" \
-    "true:'true' has no core library for sun4-unknown-linux-gnu"; do
+    "true:'true' has no core library for .*: try 'rustup target add sun4-unknown-linux-gnu'"; do
     run_case "another processor, and ${missing#*:}" fails "^komihash_.*${missing#*:}" \
         build machine=sun4-linux "RUSTC=${missing%%:*}" "OUT=$scratch/none"
 done

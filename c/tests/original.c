@@ -1,6 +1,9 @@
 /* Calls komihash_rattle/komihash.h as sources for the C original do, also in C89. Ends with 1 if a
  * function gives something else than the library's own one. */
-#include <komihash.h>
+#include "komihash.h"
+#ifndef KOMIHASH_RATTLE
+#error "another komihash.h was found"
+#endif
 #include <stdio.h>
 #include <stdlib.h>
 

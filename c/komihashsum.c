@@ -1,0 +1,300 @@
+/* SPDX-License-Identifier: MIT
+ * Copyright (c) 2026 the authors of komihash_rattle
+ * Prints hashes of files, or checks them, with the habits of sha256sum. */
+#define _FILE_OFFSET_BITS 64
+#define _POSIX_C_SOURCE 200809L
+#include <errno.h>
+#include <fcntl.h>
+#include <getopt.h>
+#include <inttypes.h>
+#include <komihash_rattle.h>
+#include <stdio.h>
+#include <stdlib.h>
+#include <string.h>
+#include <sys/stat.h>
+#include <time.h>
+#include <unistd.h>
+
+static const char HELP[] =
+    "Usage: komihashsum [OPTION]... [FILE]...\n"
+    "Print or check hashes by komihash, which have 64 bits and are not cryptographic.\n\n"
+    "Without FILE, or if FILE is -, standard input is read.\n\n"
+    "  -4                    hash by version 4 of komihash, in place of version 5\n"
+    "  -s, --seed=SEED       hash with this seed, in place of 0: a number below 2^64,\n"
+    "                        in decimal digits, or in hexadecimal ones after 0x\n"
+    "  -c, --check           check the files that are named in each FILE, in lines\n"
+    "                        that were printed with the same version and seed\n"
+    "      --progress        show on a terminal how much of a file was read\n"
+    "      --help            print this help and exit\n"
+    "      --version         print the version of the library and exit\n\n"
+    "The following options are only for --check:\n\n"
+    "      --ignore-missing  neither fail for files that are missing nor report them\n"
+    "      --quiet           don't print OK for each file that has its hash\n"
+    "      --status          print no results: the exit status has them\n"
+    "      --strict          fail also if there are lines of another form\n\n"
+    "A line has 16 hexadecimal digits, two spaces and a name. If it begins with a\n"
+    "backslash, the name has \\\\, \\n and \\r for backslash, newline and carriage return.\n\n"
+    "This lists a folder: find FOLDER -type f -print0 | xargs -0r komihashsum > LIST\n\n"
+    "For scripts that call sha256sum, -b and -t are taken, and do nothing. Its options\n"
+    "--tag, --warn and --zero are missing.\n\n"
+    "The exit status is 0 if all went well, 1 if a file can't be read or doesn't have\n"
+    "its hash, or the output can't be written, and 2 if the arguments are wrong.\n";
+
+static int version = 5, check, ignore_missing, progress, quiet, status_only, strict;
+static uint64_t seed;
+static unsigned char bytes[131072];
+static const struct option OPTIONS[] = {
+    {"check", no_argument, &check, 1},
+    {"help", no_argument, NULL, 'h'},
+    {"ignore-missing", no_argument, &ignore_missing, 1},
+    {"progress", no_argument, &progress, 1},
+    {"quiet", no_argument, &quiet, 1},
+    {"seed", required_argument, NULL, 's'},
+    {"status", no_argument, &status_only, 1},
+    {"strict", no_argument, &strict, 1},
+    {"version", no_argument, NULL, 'v'},
+    {0},
+};
+
+/* Reports a problem with a file, and returns false. Control characters are escaped as in bash. */
+static bool fail(const char *name, const char *problem) {
+    char *shown = calloc(strlen(name) + 1, sizeof "$'\\377'"), *end = shown;
+    for (; shown && *name; name++)
+        end += sprintf(end, (*name & ~31) == 0 || *name == 127 ? "$'\\%03o'" : "%c", *name);
+    fprintf(stderr, "komihashsum: %s: %s\n", shown ? shown : "", problem);
+    free(shown);
+    return false;
+}
+
+/* Writes what was printed, and returns 0. Ends the program if that fails. */
+static int flush(void) {
+    if (fflush(stdout) != 0 || ferror(stdout)) /* which an earlier write may have set */
+        _exit(!fail("write error", strerror(errno)));
+    return 0;
+}
+
+/* Opens a file, and returns its number, which is 0 for standard input, or -1. */
+static int open_file(const char *name);
+
+/* Shows once a second how much of a file was read, in the place of what was shown before. */
+#define CLEAR "\r%79s\r"
+static void show_progress(int file, const char *name, uint64_t length) {
+    static time_t last;
+    struct stat about;
+    if (!progress || time(NULL) == last)
+        return;
+    last = time(NULL);
+    fprintf(stderr, CLEAR "%" PRIu64, "", length >> 20);
+    if (fstat(file, &about) == 0 && about.st_size)
+        fprintf(stderr, " of %" PRIu64, (uint64_t)about.st_size >> 20);
+    fprintf(stderr, " MiB  %.50s", name);
+}
+
+/* Sets `hash` to that of a file, and returns 0. If the file can't be read, returns why. */
+static int hash_file(const char *name, uint64_t *hash) {
+    komihash_v4_stream stream_4 = komihash_v4_start(seed);
+    komihash_v5_stream stream_5 = komihash_v5_start(seed);
+    const int file = open_file(name);
+    uint64_t total = 0;
+    int length = file;
+    while (file >= 0 && (length = read(file, bytes, sizeof bytes)) > 0) {
+        if (version == 4)
+            komihash_v4_write(&stream_4, bytes, length);
+        else
+            komihash_v5_write(&stream_5, bytes, length);
+        show_progress(file, name, total += length);
+    }
+    const int error = length < 0 ? errno : 0;
+    if (progress)
+        fprintf(stderr, CLEAR, "");
+    if (file > 0)
+        close(file);
+    *hash = version == 4 ? komihash_v4_finish(&stream_4) : komihash_v5_finish(&stream_5);
+    return error;
+}
+
+/* The characters of names that lines don't have, and what they have after a backslash instead. */
+static const char SPECIAL[] = "\\\n\r", LETTERS[] = "\\nr";
+
+/* Prints a line with a name, whose special characters may be escaped, and returns true. */
+static bool print(bool is_escaped, const char *before, const char *name, const char *after) {
+    printf("%s%s", is_escaped ? "\\" : "", before);
+    for (; *name; name++) {
+        const char *found = is_escaped ? strchr(SPECIAL, *name) : NULL;
+        if (found)
+            putchar('\\');
+        putchar(found ? LETTERS[found - SPECIAL] : *name);
+    }
+    puts(after);
+    return flush() == 0;
+}
+
+/* Puts the special characters back, and returns whether the name was well formed. */
+static bool unescape(char *name) {
+    char *end = name;
+    for (; *name; name++) {
+        const char *found = *name != '\\' ? name : *++name ? strchr(LETTERS, *name) : NULL;
+        if (!found)
+            return false;
+        *end++ = found == name ? *name : SPECIAL[found - LETTERS];
+    }
+    *end = 0;
+    return true;
+}
+
+/* Prints the hash of a file, and returns whether it could be read. */
+static bool print_hash(const char *name) {
+    uint64_t hash;
+    char digits[19];
+    const int error = hash_file(name, &hash);
+    if (error)
+        return fail(name, strerror(error));
+    snprintf(digits, sizeof digits, "%016" PRIx64 "  ", hash);
+    return print(strpbrk(name, SPECIAL), digits, name, "");
+}
+
+/* Reads a line without its end, which may be that of Windows, or returns NULL after the last. */
+static char *read_line(FILE *list) {
+    static char *line;
+    static size_t room;
+    size_t length = 0;
+    int byte;
+    while ((byte = getc(list)) != EOF && byte != '\n') {
+        if (length + 1 >= room && !(line = realloc(line, room = 2 * room + 256)))
+            _exit(!fail("a line", strerror(errno)));
+        line[length++] = byte;
+    }
+    if (length == 0)
+        return byte == EOF ? NULL : "";
+    line[length - (line[length - 1] == '\r')] = 0;
+    return line;
+}
+
+/* Returns the name in a line, and sets `hash`. Returns NULL if the line has another form. */
+static char *parse_line(char *line, uint64_t *hash) {
+    line += strspn(line, " \t");
+    const bool is_escaped = *line == '\\';
+    line += is_escaped;
+    if (strspn(line, "0123456789abcdefABCDEF") != 16 || line[16] != ' ' ||
+        (line[17] != ' ' && line[17] != '*') || !line[18] || (is_escaped && !unescape(line + 18)))
+        return NULL;
+    *hash = strtoull(line, NULL, 16);
+    return line + 18;
+}
+
+/* What may come of a line of a list, and what is printed then. */
+enum { MATCHES, DIFFERS, UNREADABLE, MISSING, MALFORMED, RESULTS };
+static const char *const TEXTS[] = {": OK", ": FAILED", ": FAILED open or read"};
+
+/* Checks a file, and returns and prints the result. */
+static int check_file(const char *name, uint64_t wanted) {
+    uint64_t hash;
+    const int error = hash_file(name, &hash);
+    if (error == ENOENT && ignore_missing)
+        return MISSING;
+    if (error)
+        fail(name, strerror(error));
+    const int result = error ? UNREADABLE : hash == wanted ? MATCHES : DIFFERS;
+    if (!status_only && !(quiet && result == MATCHES))
+        print(strchr(name, '\n'), "", name, TEXTS[result]);
+    return result;
+}
+
+static void warn_of(unsigned long count, const char *one, const char *more, const char *what) {
+    if (count && !status_only)
+        fprintf(stderr, "komihashsum: WARNING: %lu %s %s\n", count, count > 1 ? more : one, what);
+}
+
+/* Reports the results of a list, and returns whether there is nothing wrong with it. */
+static bool report(const char *name, const unsigned long *counts) {
+    if (!counts[MATCHES] && !counts[DIFFERS] && !counts[UNREADABLE] && !counts[MISSING])
+        return fail(name, "no properly formatted checksum lines found");
+    warn_of(counts[MALFORMED], "line is", "lines are", "improperly formatted");
+    warn_of(counts[UNREADABLE], "listed file", "listed files", "could not be read");
+    warn_of(counts[DIFFERS], "computed checksum", "computed checksums", "did NOT match");
+    if (ignore_missing && !counts[MATCHES] && !status_only)
+        fail(name, "no file was verified");
+    return counts[MATCHES] && !counts[DIFFERS] && !counts[UNREADABLE] &&
+        !(strict && counts[MALFORMED]);
+}
+
+/* Checks the files that a list names, and returns whether all have their hashes. */
+static bool check_list(const char *name) {
+    const int number = open_file(name);
+    FILE *list = number < 0 ? NULL : number ? fdopen(number, "rb") : stdin;
+    if (!list)
+        return fail(name, strerror(errno));
+    unsigned long counts[RESULTS] = {0};
+    for (char *line; (line = read_line(list));) {
+        uint64_t wanted;
+        const char *file = parse_line(line, &wanted);
+        if (file && (number || strcmp(file, "-")))
+            counts[check_file(file, wanted)]++;
+        else if (*line && *line != '#')
+            counts[MALFORMED]++;
+    }
+    const bool failed = ferror(list);
+    if (number)
+        fclose(list);
+    return failed ? fail(name, "read error") : report(number ? name : "'standard input'", counts);
+}
+
+static bool set_seed(const char *text) {
+    char *end;
+    errno = 0;
+    seed = strtoull(text, &end, strncmp(text, "0x", 2) == 0 ? 16 : 10);
+    return (text[0] >= '0' && text[0] <= '9' && !*end && errno == 0) ||
+        fail(text, "the seed must be a number below 2^64");
+}
+
+static int run(int count, char **arguments) {
+    arguments[0] = "komihashsum"; /* which getopt_long prints */
+    int option = 0;
+    while (option != '?' && option != -1) {
+        switch (option = getopt_long(count, arguments, "4bcs:t", OPTIONS, NULL)) {
+        case '4': version = 4; break;
+        case 'c': check = 1; break;
+        case 'h': fputs(HELP, stdout); return flush();
+        case 'v': puts("komihashsum " KOMIHASH_RATTLE_VERSION); return flush();
+        case 's': option = set_seed(optarg) ? 's' : '?';
+        }
+    }
+    const char *only = ignore_missing ? "--ignore-missing" : quiet ? "--quiet" :
+        status_only ? "--status" : strict ? "--strict" : NULL;
+    if (option == '?' || (!check && only && !fail(only, "this option is only for --check")))
+        return fputs("Try 'komihashsum --help' for more information.\n", stderr), 2;
+    progress = progress && isatty(2);
+    if (optind == count)
+        arguments[--optind] = "-";
+    bool holds = true;
+    for (; optind < count; optind++)
+        holds = (check ? check_list : print_hash)(arguments[optind]) && holds;
+    return !holds;
+}
+
+#ifdef _WIN32 /* Names are UTF-8 in this program, and UTF-16 for the system. */
+#include <windows.h>
+int __wgetmainargs(int *, wchar_t ***, wchar_t ***, int, int *); /* which is documented alone */
+
+static int open_file(const char *name) {
+    static wchar_t wide[32768];
+    wide[MultiByteToWideChar(CP_UTF8, 0, name, -1, wide, 32767)] = 0;
+    return strcmp(name, "-") ? _wopen(wide, _O_RDONLY | _O_BINARY) : 0;
+}
+
+int main(void) {
+    int count, mode = 0;
+    wchar_t **wide, **environment;
+    __wgetmainargs(&count, &wide, &environment, 1, &mode); /* 1 expands `*`, as no shell does. */
+    char **names = calloc(count + 1, sizeof *names);
+    for (int k = 0; names && k < count; k++)
+        if ((names[k] = calloc(wcslen(wide[k]) + 1, 3)))
+            WideCharToMultiByte(CP_UTF8, 0, wide[k], -1, names[k], 3 * wcslen(wide[k]) + 1, 0, 0);
+    _setmode(0, _O_BINARY);
+    _setmode(1, _O_BINARY);
+    return names ? run(count, names) : 1;
+}
+#else
+static int open_file(const char *name) { return strcmp(name, "-") ? open(name, O_RDONLY) : 0; }
+int main(int count, char **arguments) { return run(count, arguments); }
+#endif

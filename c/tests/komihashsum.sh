@@ -1,0 +1,124 @@
+# Tests komihashsum; check.sh sources this file. What it prints, and its status, must differ from
+# those of sha256sum in the hashes and the name alone.
+tree=$scratch/tree
+built=$(realpath "$OUT")/komihashsum$exe
+komihashsum() { $RUN "$built" "$@"; }
+newline='
+'
+
+# Makes files with odd names, and what can't be read.
+plant() {
+    mkdir -p "$tree/folder" && cd "$tree" || return
+    for name in plain ' space ' 'a  b' '*' '#' '\' 'back\slash' '\n' "new${newline}line" \
+        "$newline" "carriage$(printf '\r')" "tab$tab" -dash --help "quote'\"" 'ünïcode' \
+        "$(printf 'no UTF-8\377\300')" folder/file; do
+        printf '%s' "$name" > "./$name" || return
+    done
+    yes line | head -c 1000001 > large
+    ln -s folder/file link && ln -s folder folder_link && ln -s nothing dangling &&
+        ln -s loop loop && touch unreadable && chmod 0 unreadable
+}
+
+# Runs a script in the tree by each program, which it calls $sum, and compares what comes of it.
+beside() {
+    for name in sha256sum komihashsum; do
+        (cd "$tree" && sum=$name list=$scratch/$name && eval "$1"; echo "status $?") \
+            2> "$scratch/errors" > "$scratch/lines"
+        cat "$scratch/errors" "$scratch/lines" | sed -E 's/(sha256|komihash)sum/SUM/g
+            s/(write error): .*/\1/; s/^(\\?)([0-9a-f]{64}|[0-9a-f]{16}) /\1HASH /' \
+            > "$scratch/$name.seen"
+    done
+    diff "$scratch/sha256sum.seen" "$scratch/komihashsum.seen"
+}
+# Makes a list with lines of every kind.
+mixed='{ $sum plain large; echo "# comment"; echo; echo nonsense; $sum large | sed s/large/none/
+    $sum large | sed s/large/plain/; printf " \t"; $sum large; $sum plain | sed "s/^[^ ]*/\U&/"
+    $sum plain | sed "s/  / */"; $sum plain | sed "s/$/\r/"; $sum plain | sed "s/plain//"
+    $sum plain | sed "s/^/\\\\/; s/plain/a\\\\q/"; $sum plain | sed s/^.//; printf ". "; $sum plain
+    $sum plain | sed "s/^/0/"; $sum plain | sed s/plain/folder/; $sum folder link; $sum - < plain
+    $sum large | sed "s|large|.$(printf %3000s | tr " " /)large|"; printf "\r\n"; } > $list 2>&1'
+compared() {
+    run_case 'komihashsum beside sha256sum, odd names' beside '$sum -- *'
+    run_case 'komihashsum beside sha256sum, standard input' \
+        beside 'cat large | $sum; cat large | $sum - link; $sum < folder'
+    run_case 'komihashsum beside sha256sum, what fails' beside '$sum none plain; echo $?
+        $sum /proc/self/mem; echo $?; $sum plain > /dev/full; echo $?; $sum plain >&-'
+    run_case 'komihashsum beside sha256sum, a list of odd names' \
+        beside '$sum -- * > $list 2>&1; $sum --check $list; $sum -c - < $list'
+    for option in '' --quiet --status --strict --ignore-missing '--quiet --strict' \
+        '--ignore-missing --status'; do
+        run_case "komihashsum beside sha256sum, a list with lines of every kind $option" \
+            beside "$mixed; \$sum $option -c \$list < plain; echo \$?
+                \$sum $option -c < \$list; echo \$?; grep none \$list | \$sum $option -c; echo \$?
+                grep 'link$' \$list | \$sum $option -c; echo \$?
+                grep -E 'folder|link$' \$list | \$sum $option -c; echo \$?
+                sed \"s/^[0-9a-f]\{4\}/0000/\" \$list > \$list.1; \$sum -c $option \$list.1 \$list"
+    done
+    run_case 'komihashsum beside sha256sum, lists that are none' beside '$sum -c none; echo $?
+        $sum -c folder; echo $?; $sum -c /dev/null; echo $?; $sum plain | $sum -c - large'
+    run_case 'komihashsum beside sha256sum, a full output at the end of a buffer' \
+        beside 'for length in 4 4077 4091 4094; do name=.$(printf %${length}s /large | tr " " /)
+            $sum $name > $list; $sum -c $list > /dev/full; echo $?; $sum $name > /dev/full
+            echo $?; done'
+}
+
+# Whether the hash of the empty message is the one of these rows, by their versions and seeds.
+seeded() {
+    grep "$tab$tab" "$tables/vectors.tsv" > "$scratch/rows" && while read -r number seed hash; do
+        case $number in 4) version_4=-4 ;; *) version_4= ;; esac
+        prints "$hash  -" komihashsum $version_4 "--seed=0x$seed" < /dev/null || return
+    done < "$scratch/rows"
+}
+ends() { # STATUS ARGUMENT..
+    status=$1
+    shift
+    komihashsum "$@" < /dev/null
+    [ $? = "$status" ]
+}
+refuses() {
+    for wrong; do ends 2 "$wrong" README.md || return; done
+    komihashsum "--seed=$((1 << 31))" README.md &&
+        for option in ignore-missing quiet status strict; do
+            fails "^komihashsum: --$option: .* for --check" komihashsum "--$option" || return
+        done
+}
+# What a terminal gets, between carriage returns.
+shows_progress() {
+    script -qec "$RUN '$built' --progress '$tree/large'" /dev/null \
+        < /dev/null | tr '\r' '\n' > "$scratch/shown"
+    grep '^0 of 0 MiB  .*large' "$scratch/shown" && grep "^$(komihashsum "$tree/large")" \
+        "$scratch/shown" && ! komihashsum --progress "$tree/large" 2>&1 | grep MiB
+}
+odd_on_windows() (
+    export LC_ALL=C.UTF-8
+    mkdir "$scratch/names" && cd "$scratch/names" && printf a > 'жå𝄞.txt' && printf a > b.txt &&
+        komihashsum '*.txt' > list && printf '%s\n' "${hash_of_a%-}b.txt" "${hash_of_a%-}жå𝄞.txt" |
+        diff - list && sed 's/$/\r/' list > lines && komihashsum --quiet --check lines
+)
+
+run_case 'komihashsum, versions and seeds' seeded
+run_case 'komihashsum, a decimal seed' prints '615eba9060114e6f  -' \
+    komihashsum -s 09223372036854775808 < /dev/null
+run_case 'komihashsum, arguments that are wrong' refuses -x --check=1 --seed= --seed=-1 --seed=7x \
+    --seed=0x --seed=0x1g --seed=18446744073709551616 --strict
+run_case 'komihashsum, help' fails '^Usage: komihashsum ' eval '! komihashsum --help'
+run_case 'komihashsum, bytes that end lines elsewhere' \
+    prints '41788abed31c8f17  -' eval "printf 'a\r\n\032b' | komihashsum"
+run_case 'komihashsum, a full output' fails 'write error' eval 'komihashsum README.md > /dev/full'
+run_case 'komihashsum, its version' prints "komihashsum $version" komihashsum --version
+if [ "$system" = Windows ]; then
+    run_case 'komihashsum, names that Windows alone has, and lines without \r' odd_on_windows
+else
+    run_case 'files with odd names' plant
+    if type sha256sum > "$scratch/case" 2>&1; then compared; else
+        skip 'komihashsum beside sha256sum' sha256sum
+    fi
+    run_case 'komihashsum, control characters in messages' fails \
+        "^komihashsum: \\$'\\\\033'\\$'\\\\012'\\$'\\\\177'~: " \
+        komihashsum "$(printf '\033\n\177~')"
+    run_case 'komihashsum, options without effect' \
+        prints "$hash_of_a" eval 'printf a | komihashsum -bt'
+    run_case 'komihashsum, its name in messages' fails "^komihashsum: .* '--no'" komihashsum --no
+    needs script 'komihashsum, progress on a terminal alone' shows_progress
+fi
+[ "$CROSS" ] || needs help2man 'the manual is made of what komihashsum prints' manual_is_made
