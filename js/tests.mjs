@@ -1,0 +1,73 @@
+// Tests the package in Node and in browsers. Reads rows as in rust/tests, and prints how many of
+// their calls the package has, and then the rows and the other tests that fail.
+import { Komihash, Komirand, komihash, v4, v5 } from "komihash_rattle";
+
+const failed = [];
+const test = (name, holds) => holds || failed.push(name);
+function throws(error, call) {
+    try { call(); } catch (thrown) { return thrown instanceof error; }
+}
+
+const number = (digits) => BigInt(`0x${digits}`);
+const pairs = (digits) => digits.match(/../g) ?? [];
+const bytes = (digits) => new Uint8Array(pairs(digits).map((it) => parseInt(it, 16)));
+const digits = (bytes) => Array.from(bytes, (it) => it.toString(16).padStart(2, "0")).join("");
+const fills = (rand, of) => of.map((it) => digits(rand.fill(new Uint8Array(+it)))).join("");
+
+/** Returns a hash, and if streams of two writes give others, these too. */
+function hash(version, seed, message) {
+    const cut = message.length / 3, [head, tail] = [message.slice(0, cut), message.slice(cut)];
+    const stream = new version.Komihash(seed).update(head);
+    const streams = [version.Komihash.resume(stream.save()), stream];
+    const hashes = new Set(streams.map((it) => it.update(tail).hexdigest()));
+    return [...hashes.add(version.komihash(message, seed).toString(16).padStart(16, "0"))].join();
+}
+function value(call, it, [x, y, ...others]) {
+    if (call === "save") return digits(new it.Komihash(number(x)).update(bytes(y)).save());
+    const resume = () => it.Komihash.resume(bytes(x));
+    if (call === "resume") return throws(RangeError, resume) ? "none" : resume().hexdigest();
+    if (call === "new") return fills(it.Komirand.fromWords(number(x), number(y)), others);
+    if (call === "init") return fills(new it.Komirand(number(x)), [y, ...others]);
+    if (call !== "hasher" && call !== "komihash")
+        return fills(new it.Komirand(number(x), number(y)), others);
+    // A hasher takes each hash as the next seed.
+    return [y, ...others].reduce((seed, message) => hash(it, number(seed), bytes(message)), x);
+}
+
+const page = globalThis.document?.body;
+// @ts-ignore: these are no types of Node.
+const table = page?.textContent ?? (await import("node:fs")).readFileSync(0, "utf-8");
+const rows = table.match(/^(?!#|unpad).+/gm);
+for (const row of rows) {
+    const [, call, version, given, wanted] = row.match(/^(?:(\w\w+)\t)?([45])\t(.*)\t(.*)$/);
+    test(row, value(call ?? "komihash", { 4: v4, 5: v5 }[version], given.split("\t")) === wanted);
+}
+
+const long = Uint8Array.from({ length: 1e6 }, (_, at) => at ** 2 / 8);
+test("a long message", !hash(v5, 7n, long).includes(","));
+for (const text of ["", "aß€😀", "€".repeat(2e5)])
+    test("a string", komihash(text, 7n) === komihash(new TextEncoder().encode(text), 7n));
+for (const view of [new DataView(long.buffer, 8, 80), new Uint16Array(long.buffer, 8, 40)])
+    test("a view", komihash(view) === komihash(long.buffer.slice(8, 88)));
+const rand = new Komirand(7n);
+test("outputs", new Komirand(7n).fill(new BigUint64Array(1e5)).every((it) => it === rand.next()));
+
+const seeded = [(it) => komihash("", it), (it) => new Komihash(it), (it) => new Komirand(it)];
+for (const call of [...seeded, (it) => new Komirand(0n, it), (it) => Komirand.fromWords(it, 0n)]) {
+    test("a wrong seed", [-1n, 2n ** 64n].every((it) => throws(RangeError, () => call(it))));
+    test("the highest seed", call(2n ** 64n - 1n) !== undefined);
+}
+for (const seed of [7, "7"])
+    // @ts-expect-error
+    test("no bigint", throws(TypeError, () => komihash("", seed)));
+for (const call of [komihash, (it) => new Komihash().update(it), Komihash.resume])
+    // @ts-expect-error
+    test("no bytes", [null, 7, [7], {}].every((it) => throws(TypeError, () => call(it))));
+test("a wrong text", throws(RangeError, () => Komihash.resume(long)));
+class Counting extends Komihash { count = 0; update(it) { this.count++; return super.update(it); } }
+test("a subclass", new Counting().update(long).count === 1);
+const saved = ["ä", "b"].map((it) => new Komihash().update(it).save());
+test("saved texts", Komihash.resume(saved[0]).digest() === v5.komihash("ä"));
+
+const told = [`${rows.length} rows, ${failed.length} failures`, ...failed].join("\n");
+page ? (page.textContent = told) : console.log(told);

@@ -1,0 +1,59 @@
+"""Builds a module for each version, with the library for C inside."""
+import shlex
+import shutil
+import subprocess
+import sys
+import sysconfig
+import tempfile
+from pathlib import Path
+
+from setuptools import Extension, setup
+from setuptools.command.build_ext import build_ext
+from setuptools.command.sdist import sdist
+
+HERE = Path(__file__).resolve().parent
+# What the library is built from is above this folder, but in a source distribution, in it.
+ABOVE = HERE if (HERE / "c").is_dir() else HERE.parent
+BUILT_FROM = ("c/Makefile", "c/from_rust.sh", "c/exports.rs", "c/komihash_rattle.h", "c/assembly",
+              "rust/Cargo.toml", "rust/README.md", "rust/src")
+
+# From 3.11 on, CPython's stable interface can read bytes, so one build serves all later ones.
+STABLE = sys.version_info >= (3, 11) and not sysconfig.get_config_var("Py_GIL_DISABLED")
+
+
+class Build(build_ext):
+    """Makes the library first, of its assembly, or where there is none, of the crate for Rust."""
+
+    def build_extensions(self):
+        with tempfile.TemporaryDirectory() as folder:
+            library = folder + "/libkomihash_rattle.a"
+            compiler = shlex.join(self.compiler.compiler)
+            subprocess.run(["make", "-C", ABOVE / "c", f"CC={compiler}", f"OUT={folder}", library],
+                           check=True)
+            self.force = True  # Modules that were built before may have an older library.
+            for extension in self.extensions:
+                extension.extra_objects = [library]
+            super().build_extensions()
+
+
+class Distribution(sdist):
+    """Adds what the library is built from."""
+
+    def make_release_tree(self, base_dir, files):
+        super().make_release_tree(base_dir, files)
+        for name in BUILT_FROM:
+            to = Path(base_dir, name)
+            to.parent.mkdir(exist_ok=True)
+            (shutil.copytree if (ABOVE / name).is_dir() else shutil.copy2)(ABOVE / name, to)
+
+
+def module(version):
+    macros = [("VERSION", version)] + STABLE * [("Py_LIMITED_API", "0x030b0000")]
+    hidden = ["-Wl,--exclude-libs,ALL"] if sys.platform.startswith("linux") else []
+    return Extension(f"komihash_rattle.v{version}", ["src/komihash_rattle/version.c"],
+                     include_dirs=[str(ABOVE / "c")], define_macros=macros, extra_link_args=hidden,
+                     py_limited_api=STABLE)
+
+
+setup(ext_modules=[module("4"), module("5")], cmdclass={"build_ext": Build, "sdist": Distribution},
+      options={"bdist_wheel": {"py_limited_api": "cp311"}} if STABLE else {})

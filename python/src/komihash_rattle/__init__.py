@@ -1,0 +1,5 @@
+"""The hash komihash in version 5. `komihash_rattle.v4` has the same names for version 4."""
+from . import v4, v5
+from .v5 import Komirand, komihash, komihash_int
+
+__all__ = ["Komirand", "komihash", "komihash_int", "v4", "v5"]

@@ -1,0 +1,349 @@
+/* A version of komihash, which VERSION names, as a module for CPython: `v4` or `v5`. */
+#define PY_SSIZE_T_CLEAN
+#include <Python.h>
+#include <komihash_rattle.h>
+
+#define JOINED(version, rest) komihash_v##version##rest
+#define NAMED(version, rest) JOINED(version, rest)
+#define KOMIHASH(rest) NAMED(VERSION, rest)
+#define QUOTED(name) #name
+#define NAME_OF(name) QUOTED(name)
+#define PACKAGE "komihash_rattle.v" NAME_OF(VERSION) "."
+
+/* From this many bytes on, other threads run while they are hashed. */
+enum { MANY = 2048 };
+
+/* Other threads run during a long write. The first one makes a lock, which from then on everyone
+ * takes who reads or changes the state. */
+typedef struct {
+    PyObject_HEAD
+    PyThread_type_lock lock;
+    KOMIHASH(_stream) state;
+} Stream;
+
+typedef struct {
+    PyObject_HEAD
+    KOMIHASH(_rand) state;
+} Generator;
+
+static bool is_word(PyObject *number, uint64_t *word) {
+    PyObject *index = PyNumber_Index(number);
+    if (index == NULL)
+        return false;
+    *word = PyLong_AsUnsignedLongLong(index);
+    Py_DECREF(index);
+    return *word != UINT64_MAX || !PyErr_Occurred();
+}
+
+static bool has_bytes(PyObject *data, Py_buffer *bytes) {
+    if (!PyUnicode_Check(data))
+        return PyObject_GetBuffer(data, bytes, PyBUF_SIMPLE) == 0;
+    PyErr_SetString(PyExc_TypeError, "Strings must be encoded before hashing");
+    return false;
+}
+
+static PyObject *hash(PyObject *module, PyObject *const *args, Py_ssize_t count, PyObject *names) {
+    Py_ssize_t all = count + (names == NULL ? 0 : PyTuple_Size(names));
+    Py_buffer bytes;
+    uint64_t seed = 0, hash;
+    if (count < 1 || all > 2 ||
+        (all > count && PyUnicode_CompareWithASCIIString(PyTuple_GetItem(names, 0), "seed") != 0))
+        return PyErr_Format(PyExc_TypeError, "komihash_int takes the arguments (data, seed=0)");
+    if ((all == 2 && !is_word(args[1], &seed)) || !has_bytes(args[0], &bytes))
+        return NULL;
+    PyThreadState *thread = bytes.len < MANY ? NULL : PyEval_SaveThread();
+    hash = KOMIHASH()(bytes.buf, (size_t)bytes.len, seed);
+    if (thread != NULL)
+        PyEval_RestoreThread(thread);
+    PyBuffer_Release(&bytes);
+    return PyLong_FromUnsignedLongLong(hash);
+}
+
+static Stream *locked(PyObject *self) {
+    Stream *stream = (Stream *)self;
+    if (stream->lock != NULL && !PyThread_acquire_lock(stream->lock, NOWAIT_LOCK)) {
+        Py_BEGIN_ALLOW_THREADS
+        PyThread_acquire_lock(stream->lock, WAIT_LOCK);
+        Py_END_ALLOW_THREADS
+    }
+    return stream;
+}
+
+static void unlock(Stream *stream) {
+    if (stream->lock != NULL)
+        PyThread_release_lock(stream->lock);
+}
+
+/* Absorbs many bytes in one thread while others run, as long as there is memory for a lock. */
+static bool absorb(PyObject *self, PyObject *data) {
+    Py_buffer bytes;
+    if (!has_bytes(data, &bytes))
+        return false;
+    if (bytes.len >= MANY && ((Stream *)self)->lock == NULL)
+        ((Stream *)self)->lock = PyThread_allocate_lock();
+    Stream *stream = locked(self);
+    const bool shared = bytes.len >= MANY && stream->lock != NULL;
+    PyThreadState *thread = shared ? PyEval_SaveThread() : NULL;
+    KOMIHASH(_write)(&stream->state, bytes.buf, (size_t)bytes.len);
+    unlock(stream);
+    if (shared)
+        PyEval_RestoreThread(thread);
+    PyBuffer_Release(&bytes);
+    return true;
+}
+
+static KOMIHASH(_stream) state_of(PyObject *self) {
+    Stream *stream = locked(self);
+    KOMIHASH(_stream) state = stream->state;
+    unlock(stream);
+    return state;
+}
+
+static PyObject *new_stream(PyTypeObject *type, PyObject *args, PyObject *names) {
+    Stream *stream = (Stream *)PyType_GenericAlloc(type, 0);
+    if (stream != NULL)
+        stream->state = KOMIHASH(_start)(0);
+    return (PyObject *)stream;
+}
+
+static int start_stream(PyObject *self, PyObject *args, PyObject *names) {
+    static char *known[] = {"data", "seed", "usedforsecurity", NULL};
+    PyObject *data = NULL, *number = NULL;
+    uint64_t seed = 0;
+    int ignored;
+    if (!PyArg_ParseTupleAndKeywords(args, names, "|OO$p:komihash", known, &data, &number,
+                                     &ignored) ||
+        (number != NULL && !is_word(number, &seed)))
+        return -1;
+    Stream *stream = locked(self);
+    stream->state = KOMIHASH(_start)(seed);
+    unlock(stream);
+    return data == NULL || absorb(self, data) ? 0 : -1;
+}
+
+static void drop_stream(PyObject *self) {
+    PyTypeObject *type = Py_TYPE(self);
+    if (((Stream *)self)->lock != NULL)
+        PyThread_free_lock(((Stream *)self)->lock);
+    ((freefunc)PyType_GetSlot(type, Py_tp_free))(self);
+    Py_DECREF(type);
+}
+
+static PyObject *update(PyObject *self, PyObject *data) {
+    return absorb(self, data) ? Py_BuildValue("") : NULL;
+}
+
+static PyObject *intdigest(PyObject *self, PyObject *unused) {
+    KOMIHASH(_stream) state = state_of(self);
+    return PyLong_FromUnsignedLongLong(KOMIHASH(_finish)(&state));
+}
+
+static PyObject *digest(PyObject *self, PyObject *unused) {
+    KOMIHASH(_stream) state = state_of(self);
+    uint64_t hash = KOMIHASH(_finish)(&state);
+    char bytes[8];
+    for (int i = 0; i < 8; i++)
+        bytes[i] = (char)(hash >> (56 - 8 * i));
+    return PyBytes_FromStringAndSize(bytes, sizeof bytes);
+}
+
+static PyObject *hexdigest(PyObject *self, PyObject *unused) {
+    KOMIHASH(_stream) state = state_of(self);
+    char digits[17];
+    uint64_t hash = KOMIHASH(_finish)(&state);
+    for (int i = 0; i < 16; i++)
+        digits[i] = "0123456789abcdef"[hash >> (60 - 4 * i) & 15];
+    digits[16] = 0;
+    return PyUnicode_FromString(digits);
+}
+
+static PyObject *save(PyObject *self, PyObject *unused) {
+    KOMIHASH(_stream) state = state_of(self);
+    char text[KOMIHASH_LONGEST_TEXT];
+    size_t length = KOMIHASH(_save)(&state, text, sizeof text);
+    return PyBytes_FromStringAndSize(text, (Py_ssize_t)length);
+}
+
+static PyObject *resume(PyObject *type, PyObject *text) {
+    Py_buffer bytes;
+    if (PyObject_GetBuffer(text, &bytes, PyBUF_SIMPLE) != 0)
+        return NULL;
+    PyObject *self = new_stream((PyTypeObject *)type, NULL, NULL);
+    if (self != NULL &&
+        !KOMIHASH(_resume)(&((Stream *)self)->state, bytes.buf, (size_t)bytes.len)) {
+        PyErr_SetString(PyExc_ValueError, "the bytes are not what save() of this version returns");
+        Py_CLEAR(self);
+    }
+    PyBuffer_Release(&bytes);
+    return self;
+}
+
+/* Returns the attributes, which objects of subclasses have, or None. */
+static PyObject *attributes(PyObject *self) {
+    PyObject *dictionary = PyObject_GetAttrString(self, "__dict__");
+    if (dictionary != NULL || !PyErr_ExceptionMatches(PyExc_AttributeError))
+        return dictionary;
+    PyErr_Clear();
+    return Py_BuildValue("");
+}
+
+static PyObject *class_method(PyObject *self, const char *name) {
+    return PyObject_GetAttrString((PyObject *)Py_TYPE(self), name);
+}
+
+static PyObject *reduce_stream(PyObject *self, PyObject *unused) {
+    return Py_BuildValue("N(N)N", class_method(self, "resume"), save(self, NULL), attributes(self));
+}
+
+static PyObject *copy(PyObject *self, PyObject *unused) {
+    PyObject *copy = new_stream(Py_TYPE(self), NULL, NULL), *theirs = NULL, *ours = NULL;
+    if (copy != NULL) {
+        ((Stream *)copy)->state = state_of(self);
+        theirs = attributes(self);
+        ours = attributes(copy);
+    }
+    if (theirs == NULL || ours == NULL || (theirs != Py_None && PyDict_Update(ours, theirs) != 0))
+        Py_CLEAR(copy);
+    Py_XDECREF(theirs);
+    Py_XDECREF(ours);
+    return copy;
+}
+
+static PyObject *new_generator(PyTypeObject *type, PyObject *args, PyObject *names) {
+    Generator *generator = (Generator *)PyType_GenericAlloc(type, 0);
+    if (generator != NULL)
+        generator->state = KOMIHASH(_rand_init)(0);
+    return (PyObject *)generator;
+}
+
+static int start_generator(PyObject *self, PyObject *args, PyObject *names) {
+    static char *known[] = {"seed", "extra_seed", NULL};
+    PyObject *number, *extra = Py_None;
+    uint64_t seed, extra_seed;
+    if (!PyArg_ParseTupleAndKeywords(args, names, "O|O:Komirand", known, &number, &extra) ||
+        !is_word(number, &seed) || !is_word(extra == Py_None ? number : extra, &extra_seed))
+        return -1;
+    ((Generator *)self)->state = KOMIHASH(_rand_init_with_extra_seed)(seed, extra_seed);
+    return 0;
+}
+
+static PyObject *from_words(PyObject *type, PyObject *args) {
+    PyObject *numbers[2];
+    uint64_t s1, s2;
+    if (!PyArg_ParseTuple(args, "OO:from_words", &numbers[0], &numbers[1]) ||
+        !is_word(numbers[0], &s1) || !is_word(numbers[1], &s2))
+        return NULL;
+    PyObject *self = new_generator((PyTypeObject *)type, NULL, NULL);
+    if (self != NULL)
+        ((Generator *)self)->state = KOMIHASH(_rand_init_words)(s1, s2);
+    return self;
+}
+
+static PyObject *next(PyObject *self, PyObject *unused) {
+    return PyLong_FromUnsignedLongLong(KOMIHASH(_rand_next)(&((Generator *)self)->state));
+}
+
+static PyObject *fill(PyObject *self, PyObject *number) {
+    Py_ssize_t length = PyNumber_AsSsize_t(number, PyExc_OverflowError);
+    if (length < 0)
+        return PyErr_Occurred() ? NULL : PyErr_Format(PyExc_ValueError, "negative length");
+    PyObject *bytes = PyBytes_FromStringAndSize(NULL, length);
+    if (bytes != NULL)
+        KOMIHASH(_rand_fill)(&((Generator *)self)->state, PyBytes_AsString(bytes), (size_t)length);
+    return bytes;
+}
+
+static PyObject *reduce_generator(PyObject *self, PyObject *unused) {
+    const uint64_t *words = ((Generator *)self)->state.state;
+    return Py_BuildValue("N(KK)N", class_method(self, "from_words"), (unsigned long long)words[0],
+                         (unsigned long long)words[1], attributes(self));
+}
+
+#define DOC(call, text) PyDoc_STR(call "\n--\n\n" text)
+
+static PyMethodDef stream_methods[] = {
+    {"update", update, METH_O, DOC("update($self, data, /)", "Absorb bytes.")},
+    {"digest", digest, METH_NOARGS,
+     DOC("digest($self)", "Return the hash of all bytes so far, as bytes, the highest first.")},
+    {"hexdigest", hexdigest, METH_NOARGS,
+     DOC("hexdigest($self)", "Return the hash of all bytes so far, as 16 digits.")},
+    {"intdigest", intdigest, METH_NOARGS,
+     DOC("intdigest($self)", "Return the hash of all bytes so far, as an int.")},
+    {"copy", copy, METH_NOARGS, DOC("copy($self)", "Return a copy, which goes on by itself.")},
+    {"save", save, METH_NOARGS,
+     DOC("save($self)", "Return the state as at most 131 bytes, which resume() takes.")},
+    {"resume", resume, METH_O | METH_CLASS,
+     DOC("resume($type, text, /)", "Return the stream whose save() returned these bytes.")},
+    {"__reduce__", reduce_stream, METH_NOARGS, NULL},
+    {NULL}};
+
+static PyType_Slot stream_slots[] = {
+    {Py_tp_doc, DOC("komihash(data=b'', seed=0, *, usedforsecurity=True)",
+                    "A stream, which takes a message in pieces.")},
+    {Py_tp_new, new_stream},
+    {Py_tp_init, start_stream},
+    {Py_tp_dealloc, drop_stream},
+    {Py_tp_methods, stream_methods},
+    {0}};
+
+static PyMethodDef generator_methods[] = {
+    {"from_words", from_words, METH_VARARGS | METH_CLASS,
+     DOC("from_words($type, s1, s2, /)", "Return the generator that has these two ints as state.")},
+    {"next", next, METH_NOARGS, DOC("next($self)", "Return the next output, an int below 2**64.")},
+    {"fill", fill, METH_O,
+     DOC("fill($self, length, /)", "Return the bytes of the next outputs, the lowest first.")},
+    {"__reduce__", reduce_generator, METH_NOARGS, NULL},
+    {NULL}};
+
+static PyType_Slot generator_slots[] = {
+    {Py_tp_doc, DOC("Komirand(seed, extra_seed=None)",
+                    "A pseudorandom generator, which is not for secrets.")},
+    {Py_tp_new, new_generator},
+    {Py_tp_init, start_generator},
+    {Py_tp_methods, generator_methods},
+    {0}};
+
+#define TYPE Py_TPFLAGS_DEFAULT | Py_TPFLAGS_BASETYPE
+static PyType_Spec stream_type = {PACKAGE "komihash", sizeof(Stream), 0, TYPE, stream_slots};
+static PyType_Spec generator_type = {PACKAGE "Komirand", sizeof(Generator), 0, TYPE,
+                                     generator_slots};
+
+/* Adds a type to the module, and returns it. */
+static PyObject *add(PyObject *module, const char *name, PyType_Spec *spec) {
+    PyObject *type = PyType_FromSpec(spec);
+    if (type != NULL && PyObject_SetAttrString(module, name, type) != 0)
+        Py_CLEAR(type);
+    return type;
+}
+
+static int set(PyObject *type, const char *name, PyObject *value) {
+    int failed = type == NULL || value == NULL || PyObject_SetAttrString(type, name, value) != 0;
+    Py_XDECREF(value);
+    return failed;
+}
+
+static int fill_module(PyObject *module) {
+    PyObject *stream = add(module, "komihash", &stream_type);
+    PyObject *generator = add(module, "Komirand", &generator_type);
+    int failed = generator == NULL ||
+        set(stream, "name", PyUnicode_FromString("komihash_v" NAME_OF(VERSION))) ||
+        set(stream, "digest_size", PyLong_FromLong(8)) ||
+        set(stream, "block_size", PyLong_FromLong(64));
+    Py_XDECREF(stream);
+    Py_XDECREF(generator);
+    return -failed;
+}
+
+static PyMethodDef functions[] = {
+    {"komihash_int", (PyCFunction)(void (*)(void))hash, METH_FASTCALL | METH_KEYWORDS,
+     DOC("komihash_int($module, data, /, seed=0)", "Return the hash of a message, as an int.")},
+    {NULL}};
+
+static PyModuleDef_Slot slots[] = {{Py_mod_exec, fill_module}, {0}};
+static PyModuleDef definition = {PyModuleDef_HEAD_INIT, .m_name = "v" NAME_OF(VERSION),
+                                 .m_doc = "Version " NAME_OF(VERSION) " of the hash komihash.",
+                                 .m_methods = functions, .m_slots = slots};
+
+#define INIT_OF(version) PyInit_v##version
+#define INIT(version) INIT_OF(version)
+PyMODINIT_FUNC INIT(VERSION)(void) { return PyModuleDef_Init(&definition); }

@@ -1,0 +1,226 @@
+"""Tests the package that is installed, with rows from standard input, as in rust/tests."""
+import array
+import copy
+import gc
+import hashlib
+import io
+import pickle
+import sys
+import threading
+import tracemalloc
+import unittest
+from concurrent.futures import ThreadPoolExecutor
+
+from komihash_rattle import Komirand, komihash, komihash_int, v4, v5
+
+LONG = bytes(range(256)) * 4096
+
+
+class Named(komihash):
+    """A stream with an attribute, and arguments of its own."""
+
+    def __init__(self, name, seed):
+        super().__init__(seed=seed)
+        self.name = name
+
+
+class Generator(Komirand):
+    """A generator that may have attributes."""
+
+
+def copies(original):
+    """Returns an object and its copies."""
+    protocols = range(pickle.HIGHEST_PROTOCOL + 1)
+    pickled = [pickle.loads(pickle.dumps(original, protocol)) for protocol in protocols]
+    return [original, copy.copy(original), copy.deepcopy(original), *pickled]
+
+
+def filled(rand, lengths):
+    """Returns what fills of these lengths write. One of eight bytes is also the next output."""
+    parts = [rand.next().to_bytes(8, "little") if length == "8" else rand.fill(int(length))
+             for length in lengths]
+    return b"".join(parts).hex()
+
+
+def hashed(version, seed, message):
+    """Returns a hash, as long as streams of two writes give the same."""
+    head, tail = message[: len(message) // 3], memoryview(message)[len(message) // 3 :]
+    stream = version.komihash(head, seed)
+    for it in (version.komihash.resume(stream.save()), stream.copy(), stream):
+        it.update(tail)
+        assert it.intdigest() == version.komihash_int(message, seed)
+        assert it.digest() == bytes.fromhex(it.hexdigest())
+    return stream.hexdigest()
+
+
+def resumed(version, text):
+    try:
+        return version.komihash.resume(text).hexdigest()
+    except ValueError:
+        return "none"
+
+
+def value(call, version, given):
+    """Returns the value of a call by its name and arguments, which are in hexadecimal."""
+    if call == "resume":
+        return resumed(version, bytes.fromhex(given[0]))
+    if call == "new":
+        return filled(version.Komirand.from_words(int(given[0], 16), int(given[1], 16)), given[2:])
+    if call == "init_with_extra_seed":
+        return filled(version.Komirand(int(given[0], 16), int(given[1], 16)), given[2:])
+    seed = int(given[0], 16)
+    if call == "init":
+        return filled(version.Komirand(seed), given[1:])
+    messages = [bytes.fromhex(digits) for digits in given[1:]]
+    if call == "save":
+        return version.komihash(messages[0], seed).save().hex()
+    for message in messages:  # A hasher takes its hash as the seed of the next one.
+        seed = int(hashed(version, seed, message), 16)
+    return f"{seed:016x}"
+
+
+class Tests(unittest.TestCase):
+    def test_rows(self):
+        rows = [row for row in sys.stdin.read().splitlines() if not row.startswith(("#", "unpad"))]
+        self.assertGreater(len(rows), 100)
+        for row in rows:
+            row = row if row[0] not in "45" else "komihash\t" + row
+            call, version, *given, wanted = row.split("\t")
+            self.assertEqual(value(call, {"4": v4, "5": v5}[version], given), wanted, row)
+
+    def test_all_kinds_of_bytes(self):
+        for message in b"8 bytes.", LONG:
+            shaped = memoryview(message).cast("B", (2, len(message) // 2))
+            for data in bytearray(message), array.array("Q", message), shaped:
+                self.assertEqual(komihash_int(data), komihash_int(message))
+                self.assertEqual(komihash(data).intdigest(), komihash_int(message))
+
+    def test_arguments(self):
+        self.assertEqual(komihash_int(b"a", 7), komihash_int(b"a", seed=7))
+        stream = komihash(data=b"a", seed=7, usedforsecurity=False)
+        self.assertEqual(stream.intdigest(), komihash_int(b"a", True + 6))
+        self.assertEqual(Komirand(7).next(), Komirand(seed=7, extra_seed=7).next())
+
+    def test_errors(self):
+        with self.assertRaisesRegex(TypeError, "must be encoded"):
+            komihash("text")
+        for call in komihash, komihash_int, komihash().update, komihash.resume:
+            self.assertRaises(TypeError, call, "text")
+            self.assertRaises(TypeError, call, None)
+            self.assertRaises(TypeError, call, b"", 0, 0)
+            self.assertRaises(BufferError, call, memoryview(LONG)[::2])
+        for names in {"data": b""}, {"sead": 0}, {"seed": 0, "data": b""}:
+            self.assertRaises(TypeError, komihash_int, b"", **names)
+        seeded = [lambda seed: komihash(seed=seed), lambda seed: komihash_int(b"", seed), Komirand]
+        seeded += [lambda seed: Komirand(0, seed), lambda seed: Komirand.from_words(0, seed)]
+        for call in seeded:
+            call(2**64 - 1)
+            for seed, error in (-1, OverflowError), (2**64, OverflowError), (0.5, TypeError):
+                self.assertRaises(error, call, seed)
+        self.assertRaises(ValueError, Komirand(0).fill, -1)
+
+    def test_a_failed_call_changes_nothing(self):
+        stream = komihash(b"a")
+        self.assertRaises(TypeError, stream.update, "b")
+        self.assertRaises(OverflowError, stream.__init__, seed=-1)
+        self.assertEqual(stream.intdigest(), komihash_int(b"a"))
+
+    def test_version_5_is_the_default(self):
+        for it in komihash, Komirand, komihash_int:
+            self.assertIs(it, getattr(v5, it.__name__))
+
+    def test_what_hashlib_asks_for(self):
+        for version in v4, v5:
+            stream = version.komihash()
+            self.assertEqual(len(stream.digest()), stream.digest_size)
+            self.assertEqual(stream.block_size, 64)
+            self.assertEqual(stream.name, "komihash_" + version.__name__.split(".")[1])
+        if sys.version_info >= (3, 11):
+            for file in io.BytesIO(LONG), open(__file__, "rb"):
+                with file:
+                    found = hashlib.file_digest(file, komihash).digest()
+                    file.seek(0)
+                    self.assertEqual(found, komihash(file.read()).digest())
+
+    def test_copies_go_on_by_themselves(self):
+        for version in v4, v5:
+            original = version.komihash(b"a", 7)
+            for stream in [*copies(original), original.copy()]:
+                self.assertIs(type(stream), version.komihash)
+                stream.update(b"bc")
+                self.assertEqual(stream.intdigest(), version.komihash_int(b"abc", 7))
+
+    def test_copies_of_generators(self):
+        for version in v4, v5:
+            original = version.Komirand(7)
+            originals = copies(original)
+            outputs = {it.fill(19) for it in originals}
+            self.assertEqual(outputs, {version.Komirand(7).fill(19)})
+            self.assertEqual(len({it.next() for it in originals}), 1)
+
+    def test_subclasses(self):
+        original = Named("a", seed=7)
+        original.update(LONG)
+        generator = Generator(7)
+        generator.name = "a"
+        for it in [*copies(original), original.copy(), *copies(generator)]:
+            self.assertIn(type(it), (Named, Generator))
+            self.assertEqual(vars(it), {"name": "a"})
+        self.assertEqual(original.intdigest(), komihash_int(LONG, 7))
+
+    def test_other_threads_run_while_many_bytes_are_hashed(self):
+        stream = komihash()
+        self.addCleanup(sys.setswitchinterval, sys.getswitchinterval())
+        for call in lambda: komihash_int(LONG), lambda: stream.update(LONG):
+            ran = threading.Event()
+            began = threading.Lock()
+            with began:
+                thread = threading.Thread(target=lambda: began.acquire() and ran.set())
+                thread.start()
+                sys.setswitchinterval(100)
+            for _ in range(10000):
+                if not ran.is_set():
+                    call()
+            self.assertTrue(ran.is_set())
+            thread.join()
+
+    def test_threads_may_share_a_stream(self):
+        stream, parts = komihash(), [b"a" * 2**24, b"a"] * 8
+
+        def update(part):
+            stream.update(part)
+            stream.copy().digest()
+
+        with ThreadPoolExecutor(4) as threads:
+            list(threads.map(update, parts))
+        self.assertEqual(stream.intdigest(), komihash_int(b"".join(parts)))
+
+    def test_nothing_leaks(self):
+        def use():
+            seed = int("9" * 19)
+            stream = Named("a", seed)
+            stream.update(bytearray(4096))
+            stream.__init__("a", seed)
+            komihash_int(bytearray(8), seed)
+            for it in (komihash.resume(bytearray(stream.save())), stream.copy(), *copies(stream)):
+                it.digest()
+                it.hexdigest()
+            for it in (Komirand.from_words(seed, seed), *copies(Komirand(seed, seed))):
+                it.fill(it.next() % 8)
+            self.assertRaises(ValueError, komihash.resume, bytearray(8))
+            self.assertRaises(BufferError, komihash, memoryview(bytearray(8))[::2], seed)
+
+        tracemalloc.start()
+        self.addCleanup(tracemalloc.stop)
+        sizes = []
+        for _ in range(5):
+            for _ in range(200):
+                use()
+            gc.collect()
+            sizes.append(tracemalloc.get_traced_memory()[0])
+        self.assertLess(min(after - before for before, after in zip(sizes, sizes[1:])), 2000)
+        self.assertLess(sys.getrefcount(komihash), 100)
+
+
+if __name__ == "__main__":
+    unittest.main()
