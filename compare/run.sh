@@ -5,7 +5,7 @@
 #   run.sh bench REPEATS WORD   times the rows whose name contains WORD, and prints them
 #   run.sh fuzz SEED N          compares ours with the Rust crate, in N rounds of random calls
 #   run.sh answers              prints sums of hashes of the Rust crate, which a test has
-#   run.sh values < TABLE       prints ../c/vectors.tsv or ../c/values.tsv anew, by the Rust crate
+#   run.sh values < TABLE       prints a table of ../rust/tests anew, by the Rust crate
 #   run.sh verify [OPTION..]    shows that the machine code of the Rust crate, in the folder
 #                               KOMIHASH_CRATE, computes what the definition says: rust_crate.sh
 #

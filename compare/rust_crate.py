@@ -12,7 +12,6 @@ from header import FILL, HAD_BLOCK
 from layout import Ours
 from any_length import Write
 from report import main
-from sample import choose, options
 from terms import bv, join, part, secret, simple, sym
 
 COUNT = sym('any count')
@@ -95,4 +94,4 @@ class CountedWrite(Write):
 if __name__ == '__main__':
     writes = FUNCTIONS['_write'].cases
     writes[CountedWrite] = writes.pop(Write)
-    sys.exit(main(__doc__, options, layout=Crate, choose=choose))
+    sys.exit(main(__doc__, Crate))

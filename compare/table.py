@@ -43,18 +43,13 @@ EACH = {
     for call, count in (("hash", 128), ("new, write and finish", 64))
 }
 
-# The rows of the short tables.
-HASHES = [f"hash of 0 to {greatest} bytes, random lengths" for greatest in (15, 63, 255)]
-SHORT_C = [*HASHES, "hash of 16 bytes", "hash of 1 KiB", "hash of 1 MiB"]
-SHORT_RUST = [
-    *HASHES,
-    "hash of each length of 1 to 128 bytes",
+# The columns and the rows of the short table.
+SHORT_COLUMNS = {head: RUST[head] for head in ("komihash_rattle", "plain", "fat LTO")}
+SHORT_ROWS = [
+    *(f"hash of 0 to {greatest} bytes, random lengths" for greatest in (15, 63, 255)),
     "hash of 1 MiB",
-    "new, write and finish of 0 to 63 bytes, random lengths",
-    "new, write and finish of each length of 1 to 64 bytes",
-    *(f"writes of 1 to {greatest} bytes, random lengths" for greatest in (8, 64, 300)),
-    *(f"lookup in a map by {key}" for key in ("u64", "u32", "text of 8 to 40 bytes")),
-    "output of the generator",
+    "writes of 1 to 64 bytes, random lengths",
+    "lookup in a map by u64",
 ]
 
 
@@ -90,19 +85,17 @@ def ratios(times, row, ours, other):
     return [above / below for above, below in zip(times[row][other], times[row][ours])]
 
 
-def bold(ratio):
-    """Writes a ratio, bold if it is below 1."""
-    return f"**{ratio:.2f}**" if round(ratio, 2) < 1 else f"{ratio:.2f}"
-
-
 def cell(times, row, keys):
-    """Writes a time, or the median, the least and the greatest ratio, if these were timed."""
+    """Writes a time, or the median, the least and the greatest ratio, if these were timed. The
+    median is bold if all are below 1."""
     if any(key not in times[one] for one in EACH.get(row, [row]) for key in keys):
         return ""
     if len(keys) == 1:
         return "" if row in EACH else speed(row, times[row][keys[0]])
     these = ratios(times, row, *keys)
-    return f"{bold(statistics.median(these))} ({min(these):.2f} to {max(these):.2f})"
+    star = "**" * (round(max(these), 2) < 1)
+    median = f"{star}{statistics.median(these):.2f}{star}"
+    return f"{median} ({min(these):.2f} to {max(these):.2f})"
 
 
 def markdown(heads, lines):
@@ -120,7 +113,7 @@ def grids(times):
     """Returns tables with the ratio at each length."""
     for row in EACH:
         for head in ("plain", "fat LTO"):
-            each = [bold(ratio) for ratio in ratios(times, row, *RUST[head])]
+            each = [f"{ratio:.2f}" for ratio in ratios(times, row, *RUST[head])]
             lines = [[f"+ {at}", *each[at : at + 16]] for at in range(0, len(each), 16)]
             yield f"### {row.capitalize()}, {head}"
             yield markdown(["bytes", *map(str, range(1, 17))], lines)
@@ -151,7 +144,7 @@ def rewrite_all(times, measured):
             *("## Beside komihash 0.5.0", table(times, RUST, rows), *grids(times)),
             *("## Beside other hashes", table(times, C, [*times])),
         ],
-        "../README.md": [table(times, RUST, SHORT_RUST), table(times, C, SHORT_C)],
+        "../README.md": [table(times, SHORT_COLUMNS, SHORT_ROWS)],
     }
     for page, tables in pages.items():
         part = "\n\n".join(["<!-- speed -->", *tables, measured, "<!-- /speed -->"])

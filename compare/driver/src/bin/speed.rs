@@ -3,7 +3,7 @@
 mod timing;
 
 use std::collections::HashMap;
-use std::hash::{BuildHasherDefault, Hash};
+use std::hash::{BuildHasher, BuildHasherDefault, Hash};
 use timing::{Lengths, Random, Rows, column, hide, in_turn, random};
 
 /// Times a row in all columns, by the call of a module.
@@ -43,6 +43,18 @@ fn hashes(rows: &Rows, below: &[Lengths]) {
             move || side::komihash(message(), hide(0))
         });
     }
+    arrays::<8>(rows);
+    arrays::<16>(rows);
+    arrays::<32>(rows);
+    arrays::<64>(rows);
+}
+
+/// Times hashes of a length that the compiler knows.
+fn arrays<const N: usize>(rows: &Rows) {
+    row!(rows, format!("hash of an array of {N} bytes"), side => {
+        let array = rows.bytes.first_chunk::<N>().expect("so many bytes");
+        move || side::komihash(&*hide(array), hide(0))
+    });
 }
 
 fn streams(rows: &Rows, below: &[Lengths]) {
@@ -101,8 +113,14 @@ fn map<K: Hash + Eq>(rows: &Rows, name: &str, mut key: impl FnMut() -> K) {
         let pairs = keys.iter().map(|key| (key, ()));
         let map: HashMap<_, _, BuildHasherDefault<side::KomiHasher>> = pairs.collect();
         let (keys, mut turn) = (&keys, in_turn(&turns));
-        move || map.contains_key(&keys[turn()])
+        move || contains(&map, &keys[turn()])
     });
+}
+
+/// Looks a key up. It isn't inlined, because the compiler would do so for one side alone.
+#[inline(never)]
+fn contains<K: Hash + Eq, S: BuildHasher>(map: &HashMap<&K, (), S>, key: &K) -> bool {
+    map.contains_key(key)
 }
 
 fn generators(rows: &Rows, below: &[Lengths]) {

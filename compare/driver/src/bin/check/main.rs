@@ -32,7 +32,7 @@ fn answers() {
     }
 }
 
-/// Prints the rows of c/vectors.tsv or c/values.tsv, which are read from standard input, each with
+/// Prints the rows of a table of rust/tests, which are read from standard input, each with
 /// the value that `komihash` gives. Comments and rows of calls that it lacks stay as they are.
 fn values([v4, v5]: [Calls; 2]) {
     for line in io::stdin().lines() {
