@@ -1,8 +1,7 @@
 #!/usr/bin/env python3
-"""Checks that what stands in two places is the same: each block of Rattle in README and CALLING is
-a part of a file of crates/examples, v4.rt and v5.rt differ in the number alone, crates/komihash,
-which users copy, has the licence, and each link of a page leads to a file that is there, and to a
-heading of it."""
+"""Checks that what stands in two places is the same: each block of Rattle in CALLING is a part of a
+file of crates/examples, v4.rt and v5.rt differ in the number alone, what users take has the
+licence, and each link of a page leads to a file that is there, and to a heading of it."""
 
 import re
 from pathlib import Path
@@ -23,24 +22,25 @@ def leads_somewhere(page, link):
     return anchor in [re.sub(r"[^\w -]", "", head.lower()).replace(" ", "-") for head in heads]
 
 
-readme, calling = ((ROOT / page).read_text("utf-8") for page in ("README.md", "CALLING.md"))
+calling = (ROOT / "CALLING.md").read_text("utf-8")
 kinds = ("src/*.rt", "specs/*.antt", "proofs/**/*.antt")
 files = [file for kind in kinds for file in (ROOT / "crates/examples").glob(kind)]
 examples = [file.read_text("utf-8") for file in files]
 
 checks = []
 for crate in ("komihash", "komihash_c"):
-    twins = {file.stem[1]: re.sub("^//!.*\n", "", file.read_text("utf-8"), flags=re.MULTILINE)
+    head = re.compile("^(?:// Rust: )?//!.*\n", re.MULTILINE)
+    twins = {file.stem[1]: head.sub("", file.read_text("utf-8"))
              for file in (ROOT / f"crates/{crate}/src").glob("v?.rt")}
     same = all(twin == twins["5"].replace("5", n) for n, twin in twins.items())
     checks.append((f"the versions in {crate}", same and len(twins) > 1))
-for folder in ("crates/komihash", "rust"):
+for folder in ("crates/komihash", "rust", "python", "js"):
     licences = {(ROOT / path / "LICENSE").read_text("utf-8") for path in (".", folder)}
     checks.append((f"the licence in {folder}", len(licences) == 1))
-checks.append(("README and CALLING have blocks", all(map(CODE.search, (readme, calling)))))
-for code in CODE.findall(readme + calling):
+checks.append(("CALLING has blocks", CODE.search(calling)))
+for code in CODE.findall(calling):
     checks.append((f"the block `{code.splitlines()[0]}`", any(code in text for text in examples)))
-checks.append(("README and CALLING have links", all(map(LINK.search, (readme, calling)))))
+checks.append(("CALLING has links", LINK.search(calling)))
 names = [page.relative_to(ROOT) for page in ROOT.rglob("*.md")]
 for name in sorted(name for name in names if "out" not in name.parts):
     for link in LINK.findall((ROOT / name).read_text("utf-8")):

@@ -1,7 +1,7 @@
 #!/usr/bin/env bash
-# Tests the library for C as its package is unpacked, with nothing beside it, and the crate for
-# Rust. Also verifies the machine code of both, and of the Rust crate `komihash`, and tests that
-# check.
+# Tests the library for C as its package is unpacked, with nothing beside it, and the packages for
+# Rust, Python and JavaScript. Also verifies the machine code of the library and the crate, and of
+# the Rust crate `komihash`, and tests that check.
 set -uo pipefail
 cd "$(dirname "$0")/.." || exit 1
 . scripts/parts.sh
@@ -21,10 +21,9 @@ from_rust() {
     bash scripts/sysroot.sh "$target" "$scratch/$target" >&2 &&
         in_package "RUSTC=/usr/bin/rustc --sysroot $scratch/$target${1#"$target"}" "${@:2}"
 }
-hashes_of_web() {
+made_of_web() {
     from_rust 'wasm32-unknown-unknown -C linker=wasm-ld' wasm "OUT=$scratch/web" &&
-        node c/examples/vectors.mjs "$scratch/web/komihash_rattle.wasm" < c/vectors.tsv |
-        diff <(grep -v '^#' c/vectors.tsv) -
+        sh js/build.sh "$scratch/web/komihash_rattle.wasm" | cmp - js/komihash_rattle.js
 }
 names_for_macos() {
     local library=$scratch/macos/libkomihash_rattle.1.dylib
@@ -34,10 +33,67 @@ names_for_macos() {
             <(grep -aoE '\b_komihash_v\w+' "$library" | cut -c2- | sort -u)
 }
 
-# Whether the crate for Rust is what the script makes of the source.
+# Whether the crate for Rust is what the script makes of the source, but for the file by hand.
 erased() {
-    python3 -B rust/erase.py crates/komihash/src "$scratch/erased" &&
+    mkdir "$scratch/erased" && cp rust/src/io.rs "$scratch/erased" &&
+        python3 -B rust/erase.py crates/komihash/src "$scratch/erased" &&
         diff -r "$scratch/erased" rust/src
+}
+
+# Unpacks the package of the crate for Rust, which cargo builds first.
+unpack_crate() {
+    mkdir "$scratch/rust" &&
+        cargo package --manifest-path rust/Cargo.toml --offline --allow-dirty &&
+        tar -xzf "$CARGO_TARGET_DIR"/package/*.crate -C "$scratch/rust" --strip-components=1
+}
+in_crate() { (cd "$scratch/rust" && "$@"); }
+pages() {
+    RUSTDOCFLAGS='-D warnings' in_crate cargo doc --offline --no-deps --all-features &&
+        python3 -B rust/tests/pages.py rust/src "$CARGO_TARGET_DIR/doc"
+}
+# Runs the crate's tests for a target, with a standard library that is built from Debian's sources:
+# tests_for TARGET LINKER [RUNNER..]
+tests_for() {
+    local target=CARGO_TARGET_$(tr a-z- A-Z_ <<< "$1")
+    in_crate env RUSTC_BOOTSTRAP=1 RUSTC=/usr/bin/rustc "${target}_LINKER=$2" \
+        "${target}_RUNNER=${*:3}" /usr/bin/cargo test --offline --all-features --tests \
+        -Zbuild-std --target "$1" --config 'source.crates-io.replace-with="sources"' \
+        --config 'source.sources.directory="/usr/lib/rustlib/src/rust/library/vendor"'
+}
+
+# Adds random calls, with the values that the crate for Rust gives.
+random_rows() {
+    cargo run --manifest-path rust/Cargo.toml --offline --release --example random_rows 1 100000 \
+        >> "$scratch/rows"
+}
+
+# Makes the package for Python, and installs and tests it by Debian's tools.
+debian_python() { PYTHONPATH=$scratch/python /usr/bin/python3 -B "$@"; }
+python_package() {
+    (cd python && debian_python setup.py sdist --dist-dir "$scratch/packed") &&
+        debian_python -m pip install --no-index --no-build-isolation --target "$scratch/python" \
+            "$scratch"/packed/*.tar.gz &&
+        debian_python -W error python/tests.py < "$scratch/rows" &&
+        debian_python -m doctest python/README.md
+}
+
+# Makes the package for JavaScript, and installs it in a folder that has nothing else but tests.
+js_package() {
+    mkdir -p "$scratch/packed" "$scratch/js" && cp js/tests.* "$scratch/js" &&
+        sed -n '/^```js$/,/^```$/{/^```/!p;}' js/README.md > "$scratch/js/page.mjs" &&
+        (cd js && npm pack --pack-destination "$scratch/packed") && cd "$scratch/js" &&
+        npm install --offline "$scratch"/packed/*.tgz
+}
+all_right() { diff <(echo "$(grep -cvE '^(#|unpad)' "$scratch/rows") rows, 0 failures") -; }
+js_in_node() {
+    node "$scratch/js/tests.mjs" < "$scratch/rows" | all_right &&
+        node "$scratch/js/page.mjs" | diff <(sed -n 's|.*; // ||p' "$scratch/js/page.mjs") -
+}
+js_in_chromium() {
+    cat js/tests.html "$scratch/rows" > "$scratch/js/rows.html"
+    chromium --headless --no-sandbox --user-data-dir="$scratch/chromium" --dump-dom \
+        --allow-file-access-from-files "file://$scratch/js/rows.html" |
+        sed -nE 's|.*<body>(.*)</body>.*|\1|p' | all_right
 }
 
 # Debian keeps wine64 outside of PATH.
@@ -48,46 +104,71 @@ python=$(sh c/verify/find_python.sh) || python=python3-with-z3-and-capstone
 run_case 'the package of the library for C is made again from itself' unpack
 part in_package check
 arm=aarch64-linux-gnu windows=x86_64-w64-mingw32
-part_with "$windows-gcc wine64" in_package check "CROSS=$windows-" RUN=wine64
+part_with "$windows-gcc wine64 lld-link $debian" from_rust x86_64-pc-windows-gnu \
+    check CROSS=$windows- RUN=wine64
 part_with "$arm-gcc qemu-aarch64" in_package check "CROSS=$arm-" RUN=qemu-aarch64
 part_with rustc in_package check FROM=rust
 part_with "s390x-linux-gnu-gcc qemu-s390x $debian" from_rust s390x-unknown-linux-gnu \
     check CROSS=s390x-linux-gnu- RUN=qemu-s390x
 part_with "i686-linux-gnu-gcc $debian" from_rust i686-unknown-linux-gnu \
     check CROSS=i686-linux-gnu-
-needs "node wasm-ld $debian" 'the library for WebAssembly gives the hashes of vectors.tsv' \
-    hashes_of_web
 needs "clang lld $debian" 'the library for C links for macOS, with the names of the header' \
     names_for_macos
 
-crate=(--manifest-path rust/Cargo.toml --offline)
 needs python3 'erase.py is not misled' python3 -B rust/tests/erase.py
 needs 'python3 rustfmt' 'rust/src is erased from the source' erased
-needs cargo 'the crate for Rust is packed, and builds as it is unpacked' \
-    cargo package "${crate[@]}" --allow-dirty
-needs cargo 'the crate for Rust, with debug assertions' cargo test "${crate[@]}"
+needs cargo 'the crate for Rust is packed, and builds as it is unpacked' unpack_crate
+needs cargo 'the crate for Rust, with debug assertions' in_crate cargo test --offline --all-features
 RUSTFLAGS='-C target-cpu=native' needs cargo 'the crate for Rust, for this processor' \
-    cargo test "${crate[@]}" --release --tests
+    in_crate cargo test --offline --release --tests
 needs cargo-clippy 'the crate for Rust, by clippy (optional)' \
-    cargo clippy "${crate[@]}" --all-targets -- -D warnings
+    in_crate cargo clippy --offline --all-features --all-targets -- -D warnings
+needs rustfmt 'the crate for Rust, by rustfmt' in_crate cargo fmt --check
+needs 'cargo python3' 'the pages of the crate for Rust' pages
+sources='/usr/bin/cargo /usr/lib/rustlib/src/rust/x.py'
+for machine in s390x aarch64 i686; do
+    [ $machine = i686 ] && runner=env || runner="qemu-$machine -L /usr/$machine-linux-gnu"
+    needs "$machine-linux-gnu-gcc ${runner%% *} $sources" "the crate for Rust, for $machine" \
+        tests_for $machine-unknown-linux-gnu $machine-linux-gnu-gcc $runner
+done
 
-# Of the library, the build that every processor can run is verified, a function of it by a second
-# solver too, and the check is tested by flipping bits. Of the crate for Rust, these are the hash,
-# writes and answers of one version for each processor.
-sample() { echo "FUNCTION=komihash_v$1 komihash_v$1_write komihash_v$1_finish"; }
-part_with "$python" in_package verify LEVEL=x86-64 MUTANTS=30
+cat rust/tests/vectors.tsv rust/tests/values.tsv > "$scratch/rows"
+needs cargo 'random calls have values' random_rows
+needs '/usr/bin/pip3 /usr/bin/python3-config' 'the package for Python' python_package
+needs /usr/bin/mypy 'the types of the package for Python' \
+    debian_python -m mypy.stubtest komihash_rattle
+needs npm 'the package for JavaScript is packed and installed' js_package
+needs node 'the package for JavaScript, in Node' js_in_node
+needs chromium 'the package for JavaScript, in Chromium' js_in_chromium
+needs tsc 'the types of the package for JavaScript' tsc --noEmit --allowJs --checkJs \
+    --target es2022 --module es2022 --moduleResolution node16 "$scratch/js/tests.mjs"
+made_by=$(sed -n '$s/.* \/\/ //p' js/komihash_rattle.js)
+if [[ $(/usr/bin/rustc --version) = "$made_by"* ]]; then
+    needs "wasm-ld $debian" 'the WebAssembly in it is made of the crate for Rust' made_of_web
+else
+    skip 'the WebAssembly in it is made of the crate for Rust (optional)' "$made_by"
+fi
+
+# The build of the library that every processor can run is verified, and a function of it by a
+# second solver too. Of the crate for Rust, these are the hash, writes and answers of one version
+# for each processor.
+calls_of() { echo "FUNCTION=komihash_v$1 komihash_v$1_write komihash_v$1_finish"; }
+part_with "$python" in_package verify LEVEL=x86-64
 part_with "cvc5 $python" in_package verify LEVEL=x86-64 SECOND=cvc5 FUNCTION=komihash_v5_save
-part_with "rustc $python" in_package verify FROM=rust EVERY=40 "$(sample 5)" LEVEL=x86-64-v2
-part_with "$arm-gcc $debian $python" from_rust aarch64-unknown-linux-gnu \
-    verify FROM=rust EVERY=40 "$(sample 4)" "CROSS=$arm-"
+part_with "rustc $python" in_package verify FROM=rust LEVEL=x86-64-v2 "$(calls_of 5)"
+part_with "$arm-gcc $debian $python" from_rust aarch64-unknown-linux-gnu verify FROM=rust \
+    "$(calls_of 4)" "CROSS=$arm-"
 
 tests=c/verify/tests out=$(echo "$scratch"/komihash_rattle-*/out) so=libkomihash_rattle.so.1
 libraries=("x86-64:$out/$so" "x86-64-v3:$out/glibc-hwcaps/x86-64-v3/$so")
 [ ! -d "$out/$arm" ] || libraries+=("armv8-a:$out/$arm/$so")
-needs "$python" 'only code that the check can follow is accepted' \
-    bash $tests/accepted_code.sh "$python"
+part_with "$python" "$python" -B $tests/bodies.py x86-64 "${CC:-cc}"
+part_with "$python" "$python" -B $tests/changes.py "$out/$so"
+part_with "$python $arm-gcc qemu-aarch64" \
+    "$python" -B $tests/bodies.py armv8-a $arm-gcc qemu-aarch64 -L /usr/$arm
 needs "$python" 'edits of files are refused' "$python" -B $tests/attacks.py "${libraries[@]}"
 if grep -qw avx2 /proc/cpuinfo; then
+    part_with "$python" "$python" -B $tests/bodies.py x86-64-v3 "${CC:-cc}"
     needs "$python" 'random instructions do in the model what they do on the processor' \
         "$python" -B $tests/instructions.py x86-64-v3 "${CC:-cc}"
 else
@@ -97,9 +178,9 @@ needs "$python $arm-gcc qemu-aarch64" \
     'random instructions of ARM64 do in the model what they do in an emulator' \
     "$python" -B $tests/instructions.py armv8-a $arm-gcc qemu-aarch64 -L /usr/$arm
 
-# Of the Rust crate, a build is verified, and of the writes that complete no block only a part.
+# Of the Rust crate, a build is verified.
 if [ "${KOMIHASH_CRATE:-}" ]; then
-    BUILDS=x86-64-v2:3 part_with "rustc $python" bash compare/run.sh verify --every 40
+    BUILDS=x86-64-v2:3 part_with "rustc $python" bash compare/run.sh verify
 else
     skip 'the machine code of the Rust crate (optional)' 'its folder as KOMIHASH_CRATE'
 fi

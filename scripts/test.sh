@@ -22,6 +22,7 @@ TMPDIR=$scratch nice -n 19 bash scripts/packages.sh > "$scratch/packages" 2>&1 &
 pid=$!
 if part python3 scripts/check_pages.py && part rt ci; then
     run_case 'each must-fail edit is refused' all_refused
+    part python3 scripts/controls.py
     for name in attacks program compare_assembly; do part bash scripts/$name.sh; done
 else
     echo 'FAILED: the parts that need these were not run'
