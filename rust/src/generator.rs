@@ -12,6 +12,7 @@ use crate::version::{IsVersion, Versions};
 /// If low and high are the halves of the product, the new second word is
 /// `s2 + high + 0xaaaaaaaaaaaaaaaa` without a carry out. The new first word is the exclusive or
 /// of low and that word in version 4, and `(low ^ high) + 0x5555555555555555` in version 5.
+/// `Debug` shows both words.
 #[repr(C)]
 #[derive(Debug, Clone)]
 pub struct Komirand<const V: u8>

@@ -8,6 +8,7 @@ use crate::rounds::{
     absorb_blocks, absorb_one_block, close, join, lanes_of, pair_round, seed_pair,
 };
 use crate::utils::{read_partial_word, read_word, word_at};
+use crate::version::{IsVersion, Versions};
 
 #[inline]
 fn hash_of_partial_word<const V: u8>(bytes: &[u8], seed: u64) -> u64 {
@@ -86,4 +87,19 @@ pub(crate) fn hash_message<const V: u8>(bytes: &[u8], seed: u64) -> u64 {
     } else {
         hash_of_blocks::<V>(bytes, seed)
     }
+}
+
+/// Returns the hash of a message of any length with any seed, in version V.
+///
+/// ```
+/// use komihash_rattle::version::komihash;
+/// assert_eq!(komihash::<5>(b"", 0), 0xb7683ea7430132b4);
+/// ```
+#[must_use]
+#[inline]
+pub fn komihash<const V: u8>(bytes: &[u8], seed: u64) -> u64
+where
+    Versions: IsVersion<V>,
+{
+    hash_message::<V>(bytes, seed)
 }

@@ -13,7 +13,7 @@ use core::hash::{BuildHasher, Hasher};
 ///
 /// What a value that implements `Hash` writes depends on the machine and on Rust's version. So
 /// use a hasher for maps alone, whose keys no attacker chooses, and `komihash` for what is
-/// stored, sent or sharded.
+/// stored, sent or sharded. `Debug` shows the number.
 #[derive(Debug, Clone)]
 pub struct KomiHasher<const V: u8>
 where
@@ -75,6 +75,8 @@ where
 ///
 /// A seed changes the order in which a map iterates. It is no protection against keys that an
 /// attacker chooses.
+///
+/// `Debug` shows the seed.
 #[derive(Debug, Clone, Copy)]
 pub struct KomiBuildHasher<const V: u8>
 where

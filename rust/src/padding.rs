@@ -2,6 +2,7 @@
 //! whose padded words are given.
 
 use crate::utils::{last_word, read_partial_word, read_whole_words, write_first_bytes};
+use crate::version::{IsVersion, Versions};
 
 /// Returns whether version V has the padding byte 2.
 #[inline(always)]
@@ -39,10 +40,29 @@ pub(crate) fn final_word_of_many(bytes: &[u8], end: u64) -> u64 {
     (eight >> 1) >> (63 - shift) | end << shift
 }
 
-/// Writes the padded words of a message in version V to the front of `out`, and returns how many
-/// they are.
-#[inline(always)]
-pub(crate) fn pad<const V: u8>(bytes: &[u8], out: &mut [u64]) -> usize {
+/// Writes the padded words of a message in version V, and returns how many they are.
+///
+/// It does what [`pad`](crate::v5::pad) of version V does.
+///
+/// # Panics
+///
+/// If `out.len()` is less than `bytes.len() / 8 + 1`.
+///
+/// ```
+/// use komihash_rattle::version::pad;
+/// let mut words = [0; 1];
+/// assert_eq!(pad::<4>(&[0x80], &mut words), 1);
+/// assert_eq!(words, [0x0280]);
+/// assert_eq!(pad::<5>(&[0x80], &mut words), 1);
+/// assert_eq!(words, [0x0180]);
+/// ```
+#[inline]
+#[track_caller]
+pub fn pad<const V: u8>(bytes: &[u8], out: &mut [u64]) -> usize
+where
+    Versions: IsVersion<V>,
+{
+    assert!(bytes.len() / 8 + 1 <= out.len(), "`out` is too short");
     let whole = bytes.len() / 8;
     let final_word = if whole > 0 {
         final_word_of_many(bytes, padding_byte::<V>(bytes))
@@ -99,8 +119,28 @@ fn message_length<const V: u8>(words: &[u64]) -> Option<usize> {
 
 /// Writes the message that has these padded words in version V to the front of `out`, and returns
 /// its length in bytes. Returns `None`, with `out` unchanged, if no message has these words.
-#[inline(always)]
-pub(crate) fn unpad<const V: u8>(words: &[u64], out: &mut [u8]) -> Option<usize> {
+///
+/// It does what [`unpad`](crate::v5::unpad) of version V does.
+///
+/// # Panics
+///
+/// If `out.len()` is less than `8 * words.len()`.
+///
+/// ```
+/// use komihash_rattle::version::unpad;
+/// let mut message = [0; 8];
+/// assert_eq!(unpad::<4>(&[0x0280], &mut message), Some(1));
+/// assert_eq!(message[0], 0x80);
+/// assert_eq!(unpad::<5>(&[0x0280], &mut message), None);
+/// ```
+#[must_use]
+#[inline]
+#[track_caller]
+pub fn unpad<const V: u8>(words: &[u64], out: &mut [u8]) -> Option<usize>
+where
+    Versions: IsVersion<V>,
+{
+    assert!(8 * words.len() <= out.len(), "`out` is too short");
     let count = message_length::<V>(words)?;
     write_first_bytes(words, count, out);
     Some(count)

@@ -56,7 +56,7 @@ pub type Komirand = generator::Komirand<4>;
 #[must_use]
 #[inline]
 pub fn komihash(bytes: &[u8], seed: u64) -> u64 {
-    hash::hash_message::<4>(bytes, seed)
+    hash::komihash::<4>(bytes, seed)
 }
 
 /// Writes the padded words of a message, and returns how many they are: `bytes.len() / 8 + 1`,
@@ -77,8 +77,9 @@ pub fn komihash(bytes: &[u8], seed: u64) -> u64 {
 /// ```
 #[inline]
 #[track_caller]
-pub fn pad(bytes: &[u8], out: &mut [u64]) -> usize {
-    assert!(bytes.len() / 8 + 1 <= out.len(), "`out` is too short");
+pub fn pad(bytes: &[u8], out: &mut [u64]) -> usize
+// `padding::pad` tests the length of `out`.
+{
     padding::pad::<4>(bytes, out)
 }
 
@@ -102,7 +103,8 @@ pub fn pad(bytes: &[u8], out: &mut [u64]) -> usize {
 #[must_use]
 #[inline]
 #[track_caller]
-pub fn unpad(words: &[u64], out: &mut [u8]) -> Option<usize> {
-    assert!(8 * words.len() <= out.len(), "`out` is too short");
+pub fn unpad(words: &[u64], out: &mut [u8]) -> Option<usize>
+// `padding::unpad` tests the length of `out`.
+{
     padding::unpad::<4>(words, out)
 }

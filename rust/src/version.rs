@@ -1,18 +1,15 @@
-//! The types of both versions, of which [`v4`](crate::v4) and [`v5`](crate::v5) have aliases, for
-//! code that is generic over the version:
+//! The types and functions of both versions, for code that is generic over the version. The
+//! modules [`v4`](crate::v4) and [`v5`](crate::v5) have them by names without one.
 //!
 //! ```
-//! use komihash_rattle::version::{IsVersion, KomiHasher, Versions};
-//! use std::hash::{Hash, Hasher};
-//! fn hash_of<const V: u8>(value: impl Hash) -> u64
+//! use komihash_rattle::version::{IsVersion, Versions, komihash};
+//! fn shard_of<const V: u8>(key: &[u8], shards: u64) -> u64
 //! where
 //!     Versions: IsVersion<V>,
 //! {
-//!     let mut hasher = KomiHasher::<V>::new(0);
-//!     value.hash(&mut hasher);
-//!     hasher.finish()
+//!     komihash::<V>(key, 0) % shards
 //! }
-//! assert_ne!(hash_of::<4>(0x80_u8), hash_of::<5>(0x80_u8));
+//! assert_eq!(shard_of::<5>(b"port", 8), komihash_rattle::v5::komihash(b"port", 0) % 8);
 //! ```
 //!
 //! No other version has a type:
@@ -22,7 +19,9 @@
 //! ```
 
 pub use crate::generator::Komirand;
+pub use crate::hash::komihash;
 pub use crate::hasher::{KomiBuildHasher, KomiHasher};
+pub use crate::padding::{pad, unpad};
 pub use crate::stream::streamed::StreamedKomihash;
 
 /// Says that V is the number of a version.

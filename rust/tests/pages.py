@@ -62,8 +62,9 @@ for text in sources.values():
                 methods.add(f'{"ty" * bool(trait)}method.{method}')
             if public or trait:
                 examples.add(method)
-for module in ('v4', 'v5', 'stream'):
-    for name in re.findall(r'^pub fn (\w+)', sources[module], re.M):
+for module, files in {'v4': ['v4'], 'v5': ['v5'], 'stream': ['stream'],
+                      'version': ['hash', 'padding']}.items():
+    for name in re.findall(r'^pub fn (\w+)', ''.join(map(sources.get, files)), re.M):
         wanted[f'{module}/fn.{name}.html'] = (set(), {name})
 for file, (methods, examples) in wanted.items():
     page = pages.get(crate / file)

@@ -18,6 +18,7 @@ use std::marker::Model;
 // Rust: /// If low and high are the halves of the product, the new second word is
 // Rust: /// `s2 + high + 0xaaaaaaaaaaaaaaaa` without a carry out. The new first word is the exclusive or
 // Rust: /// of low and that word in version 4, and `(low ^ high) + 0x5555555555555555` in version 5.
+// Rust: /// `Debug` shows both words.
 /// `next` of `specs/Generator.antt` has the rule of each version. <!-- Rattle -->
 // Rust: #[repr(C)]
 // Rust: #[derive(Debug)]

@@ -15,6 +15,7 @@ use crate::rounds::{
 };
 use crate::tally::Tally;
 use crate::utils::{read_partial_word, read_word, word_at};
+use crate::version::{IsVersion, Versions};
 
 // Rust instead: #[inline]
 #[inline(never)]
@@ -128,4 +129,20 @@ pub(crate) fn hash_message<const V: u8>(bytes: &[u8], seed: u64, tally: &mut Tal
     } else {
         hash_of_blocks::<V>(bytes, seed, tally)
     }
+}
+
+/// Returns the hash of a message of any length with any seed, in version V.
+// Rust: ///
+// Rust: /// ```
+// Rust: /// use komihash_rattle::version::komihash;
+// Rust: /// assert_eq!(komihash::<5>(b"", 0), 0xb7683ea7430132b4);
+// Rust: /// ```
+// Rust: #[must_use]
+#[inline]
+pub fn komihash<const V: u8>(bytes: &[u8], seed: u64) -> u64
+where
+    Versions: IsVersion<V>,
+    ensures { result ≡ komi V seed bytes.now }
+{
+    hash_message::<V>(bytes, seed, &mut Tally::new())
 }

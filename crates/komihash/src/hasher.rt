@@ -18,7 +18,7 @@ use std::marker::Model;
 // Rust: ///
 // Rust: /// What a value that implements `Hash` writes depends on the machine and on Rust's version. So
 // Rust: /// use a hasher for maps alone, whose keys no attacker chooses, and `komihash` for what is
-// Rust: /// stored, sent or sharded.
+// Rust: /// stored, sent or sharded. `Debug` shows the number.
 // Rust: #[derive(Debug)]
 #[derive(Drop)]
 pub struct KomiHasher<const V: u8>
@@ -99,6 +99,8 @@ where
 ///
 /// A seed changes the order in which a map iterates. It is no protection against keys that an
 /// attacker chooses.
+// Rust: ///
+// Rust: /// `Debug` shows the seed.
 // Rust: #[derive(Debug)]
 #[derive(Clone, Copy)]
 pub struct KomiBuildHasher<const V: u8>

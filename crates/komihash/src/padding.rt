@@ -9,6 +9,7 @@ ghost use Rattle.komihash.specs.Internals.{final_word};
 ghost use Rattle.komihash.specs.Words.{all_bytes};
 
 use crate::utils::{last_word, read_partial_word, read_whole_words, write_first_bytes};
+use crate::version::{IsVersion, Versions};
 
 /// Returns whether version V has the padding byte 2.
 #[inline(always)]
@@ -61,11 +62,27 @@ pub(crate) fn final_word_of_many(bytes: &[u8], end: u64) -> u64
     (eight >> 1) >> (63 - shift) | end << shift
 }
 
-/// Writes the padded words of a message in version V to the front of `out`, and returns how many
-/// they are.
-#[inline(always)]
+/// Writes the padded words of a message in version V, and returns how many they are.
+// Rust: ///
+// Rust: /// It does what [`pad`](crate::v5::pad) of version V does.
+// Rust: ///
+// Rust: /// # Panics
+// Rust: ///
+// Rust: /// If `out.len()` is less than `bytes.len() / 8 + 1`.
+// Rust: ///
+// Rust: /// ```
+// Rust: /// use komihash_rattle::version::pad;
+// Rust: /// let mut words = [0; 1];
+// Rust: /// assert_eq!(pad::<4>(&[0x80], &mut words), 1);
+// Rust: /// assert_eq!(words, [0x0280]);
+// Rust: /// assert_eq!(pad::<5>(&[0x80], &mut words), 1);
+// Rust: /// assert_eq!(words, [0x0180]);
+// Rust: /// ```
+#[inline]
 #[tactic(auto, using(crate::proofs::PaddedWords::pad_laws))]
-pub(crate) fn pad<const V: u8>(bytes: &[u8], out: &mut [u64]) -> usize
+pub fn pad<const V: u8>(bytes: &[u8], out: &mut [u64]) -> usize
+where
+    Versions: IsVersion<V>,
     requires { length bytes.now / 8 + 1 ≤ length out.old }
     ensures { Padded V bytes.now out result }
 {
@@ -154,9 +171,26 @@ fn message_length<const V: u8>(words: &[u64]) -> Option<usize>
 
 /// Writes the message that has these padded words in version V to the front of `out`, and returns
 /// its length in bytes. Returns `None`, with `out` unchanged, if no message has these words.
-#[inline(always)]
+// Rust: ///
+// Rust: /// It does what [`unpad`](crate::v5::unpad) of version V does.
+// Rust: ///
+// Rust: /// # Panics
+// Rust: ///
+// Rust: /// If `out.len()` is less than `8 * words.len()`.
+// Rust: ///
+// Rust: /// ```
+// Rust: /// use komihash_rattle::version::unpad;
+// Rust: /// let mut message = [0; 8];
+// Rust: /// assert_eq!(unpad::<4>(&[0x0280], &mut message), Some(1));
+// Rust: /// assert_eq!(message[0], 0x80);
+// Rust: /// assert_eq!(unpad::<5>(&[0x0280], &mut message), None);
+// Rust: /// ```
+// Rust: #[must_use]
+#[inline]
 #[tactic(auto, using(crate::proofs::Unpadding::unpad_laws))]
-pub(crate) fn unpad<const V: u8>(words: &[u64], out: &mut [u8]) -> Option<usize>
+pub fn unpad<const V: u8>(words: &[u64], out: &mut [u8]) -> Option<usize>
+where
+    Versions: IsVersion<V>,
     requires { 8 * length words.now ≤ length out.old }
     ensures { Unpadded V words.now out result }
 {

@@ -65,7 +65,7 @@ pub type Komirand = generator::Komirand<4>;
 pub fn komihash(bytes: &[u8], seed: u64) -> u64
     ensures { result ≡ komi 4 seed bytes.now }
 {
-    hash::hash_message::<4>(bytes, seed, &mut Tally::new())
+    hash::komihash::<4>(bytes, seed)
 }
 
 // Rattle alone.
@@ -98,7 +98,9 @@ pub fn komihash_counted(bytes: &[u8], seed: u64, tally: &mut Tally) -> u64
 // Rust: /// assert_eq!(words, [0x01636261]);
 // Rust: /// ```
 #[inline]
+// Rust: #[track_caller]
 pub fn pad(bytes: &[u8], out: &mut [u64]) -> usize
+    // Rust instead: // `padding::pad` tests the length of `out`.
     requires { length bytes.now / 8 + 1 ≤ length out.old }
     ensures { Padded 4 bytes.now out result }
 {
@@ -124,7 +126,9 @@ pub fn pad(bytes: &[u8], out: &mut [u64]) -> usize
 // Rust: /// ```
 // Rust: #[must_use]
 #[inline]
+// Rust: #[track_caller]
 pub fn unpad(words: &[u64], out: &mut [u8]) -> Option<usize>
+    // Rust instead: // `padding::unpad` tests the length of `out`.
     requires { 8 * length words.now ≤ length out.old }
     ensures { Unpadded 4 words.now out result }
 {

@@ -59,7 +59,7 @@ pub type Komirand = generator::Komirand<5>;
 pub fn komihash(bytes: &[u8], seed: u64) -> u64
     ensures { result ≡ komi 5 seed bytes.now }
 {
-    hash::hash_message::<5>(bytes, seed, &mut Tally::new())
+    hash::komihash::<5>(bytes, seed)
 }
 
 // Rattle alone.
@@ -92,7 +92,9 @@ pub fn komihash_counted(bytes: &[u8], seed: u64, tally: &mut Tally) -> u64
 // Rust: /// assert_eq!(words, [0x01636261]);
 // Rust: /// ```
 #[inline]
+// Rust: #[track_caller]
 pub fn pad(bytes: &[u8], out: &mut [u64]) -> usize
+    // Rust instead: // `padding::pad` tests the length of `out`.
     requires { length bytes.now / 8 + 1 ≤ length out.old }
     ensures { Padded 5 bytes.now out result }
 {
@@ -118,7 +120,9 @@ pub fn pad(bytes: &[u8], out: &mut [u64]) -> usize
 // Rust: /// ```
 // Rust: #[must_use]
 #[inline]
+// Rust: #[track_caller]
 pub fn unpad(words: &[u64], out: &mut [u8]) -> Option<usize>
+    // Rust instead: // `padding::unpad` tests the length of `out`.
     requires { 8 * length words.now ≤ length out.old }
     ensures { Unpadded 5 words.now out result }
 {

@@ -1,18 +1,15 @@
-// Rust: //! The types of both versions, of which [`v4`](crate::v4) and [`v5`](crate::v5) have aliases, for
-// Rust: //! code that is generic over the version:
+// Rust: //! The types and functions of both versions, for code that is generic over the version. The
+// Rust: //! modules [`v4`](crate::v4) and [`v5`](crate::v5) have them by names without one.
 // Rust: //!
 // Rust: //! ```
-// Rust: //! use komihash_rattle::version::{IsVersion, KomiHasher, Versions};
-// Rust: //! use std::hash::{Hash, Hasher};
-// Rust: //! fn hash_of<const V: u8>(value: impl Hash) -> u64
+// Rust: //! use komihash_rattle::version::{IsVersion, Versions, komihash};
+// Rust: //! fn shard_of<const V: u8>(key: &[u8], shards: u64) -> u64
 // Rust: //! where
 // Rust: //!     Versions: IsVersion<V>,
 // Rust: //! {
-// Rust: //!     let mut hasher = KomiHasher::<V>::new(0);
-// Rust: //!     value.hash(&mut hasher);
-// Rust: //!     hasher.finish()
+// Rust: //!     komihash::<V>(key, 0) % shards
 // Rust: //! }
-// Rust: //! assert_ne!(hash_of::<4>(0x80_u8), hash_of::<5>(0x80_u8));
+// Rust: //! assert_eq!(shard_of::<5>(b"port", 8), komihash_rattle::v5::komihash(b"port", 0) % 8);
 // Rust: //! ```
 // Rust: //!
 // Rust: //! No other version has a type:
@@ -26,7 +23,9 @@ ghost use Rattle.std.specs.Prelude.{◌≡◌, ◌⊎◌};
 ghost use Rattle.std.proofs.Common.{inl, inr, refl};
 
 // Rust: pub use crate::generator::Komirand;
+// Rust: pub use crate::hash::komihash;
 // Rust: pub use crate::hasher::{KomiBuildHasher, KomiHasher};
+// Rust: pub use crate::padding::{pad, unpad};
 // Rust: pub use crate::stream::streamed::StreamedKomihash;
 
 /// Says that V is the number of a version.
