@@ -149,15 +149,13 @@ else
     skip 'the WebAssembly in it is made of the crate for Rust (optional)' "$made_by"
 fi
 
-# The build of the library that every processor can run is verified, and a function of it by a
-# second solver too. Of the crate for Rust, these are the hash, writes and answers of one version
-# for each processor.
-calls_of() { echo "FUNCTION=komihash_v$1 komihash_v$1_write komihash_v$1_finish"; }
+# The builds that every processor can run are verified, and a function by a second solver too. Of
+# the crate for Rust on ARM64, these are the hash, writes and answers of one version.
 part_with "$python" in_package verify LEVEL=x86-64
 part_with "cvc5 $python" in_package verify LEVEL=x86-64 SECOND=cvc5 FUNCTION=komihash_v5_save
-part_with "rustc $python" in_package verify FROM=rust LEVEL=x86-64-v2 "$(calls_of 5)"
+part_with "rustc $python" in_package verify FROM=rust LEVEL=x86-64-v2
 part_with "$arm-gcc $debian $python" from_rust aarch64-unknown-linux-gnu verify FROM=rust \
-    "$(calls_of 4)" "CROSS=$arm-"
+    "CROSS=$arm-" 'FUNCTION=komihash_v4 komihash_v4_write komihash_v4_finish'
 
 tests=c/verify/tests out=$(echo "$scratch"/komihash_rattle-*/out) so=libkomihash_rattle.so.1
 libraries=("x86-64:$out/$so" "x86-64-v3:$out/glibc-hwcaps/x86-64-v3/$so")
