@@ -1,8 +1,7 @@
-/* Calls every function of komihash_rattle.h in the version VERSION, which is 4 or 5. Reads rows as
- * in vectors.tsv, and rows about generators as in values.tsv. Prints those of its version, each
- * with the value that the library gives. If another function does what it must not, prints that
- * and ends. Each array that is passed ends at the end of a page, after which nothing can be
- * accessed. */
+/* Calls every function of komihash_rattle.h in the version VERSION, which is 4 or 5. Reads rows of
+ * vectors.tsv and values.tsv of this version, and prints each with the value that the library gives.
+ * If another function does what it must not, prints that and ends. Each array that is passed ends at
+ * the end of a page, after which nothing can be accessed. */
 #define _DEFAULT_SOURCE
 #include <komihash_rattle.h>
 #include <inttypes.h>
@@ -64,73 +63,106 @@ static void pad_and_unpad(const uint8_t *bytes, size_t length) {
     CHECK(memcmp(copy, bytes, length) == 0);
 }
 
-/* Stores the next output, lowest byte first. */
-static void step(Rand *rand, uint8_t *out) {
-    uint64_t output = KOMIHASH(_rand_next)(rand);
-    for (int i = 0; i < 8; i++, output >>= 8)
-        out[i] = (uint8_t)output;
+/* Stores the bytes of a field so that they end at `end`, and returns how many they are. */
+static size_t stored_before(uint8_t *end, const char *digits) {
+    const size_t length = strlen(digits) / 2;
+    for (uint8_t *at = end - length; at < end; at++, digits += 2)
+        *at = (uint8_t)strtoul((char[3]){digits[0], digits[1]}, NULL, 16);
+    return length;
 }
 
-/* Compares what a fill writes with the outputs of a copy. */
-static void fill_and_step(void) {
-    Rand rand = KOMIHASH(_rand_init)(1), copy = rand;
-    uint8_t outputs[16];
-    step(&copy, outputs);
-    step(&copy, outputs + 8);
-    KOMIHASH(_rand_fill)(&rand, NULL, 0);
-    KOMIHASH(_rand_fill)(&rand, out_end - 11, 11);
-    CHECK(memcmp(out_end - 11, outputs, 11) == 0);
-    CHECK(KOMIHASH(_rand_next)(&rand) == KOMIHASH(_rand_next)(&copy));
+static uint64_t number(const char *digits) { return strtoull(digits, NULL, 16); }
+
+static void print_bytes(const uint8_t *bytes, size_t length) {
+    for (size_t i = 0; i < length; i++)
+        printf("%02x", bytes[i]);
 }
 
-/* Prints a row of `new`, `init` or `init_with_extra_seed`. */
-static void print_fills(const char *row) {
-    const char *value = strrchr(row, '\t') + 1;
-    const bool is_new = row[0] == 'n', has_two = is_new || row[4] == '_';
-    char *at = strchr(row, '\t') + 2;
-    const uint64_t x = strtoull(at, &at, 16), y = has_two ? strtoull(at, &at, 16) : x;
+/* Each of these prints the value of a call with the fields from `given` to `end`. */
+static void print_fills(bool is_new, bool has_two, char **given, char **end) {
+    const uint64_t x = number(*given++), y = has_two ? number(*given++) : x;
     Rand rand = is_new    ? KOMIHASH(_rand_init_words)(x, y)
                 : has_two ? KOMIHASH(_rand_init_with_extra_seed)(x, y)
                           : KOMIHASH(_rand_init)(x), by_words = {{x, y}};
     for (int i = 0; i < 4 && !is_new; i++)
         KOMIHASH(_rand_next)(&by_words);
+    KOMIHASH(_rand_fill)(&by_words, NULL, 0);
     CHECK(memcmp(&by_words, &rand, sizeof rand) == 0);
-    printf("%.*s", (int)(value - row), row);
-    while (at + 1 != value) {
-        const size_t length = strtoul(at, &at, 10);
-        uint8_t *bytes = out_end - length;
-        if (length == 8)
-            step(&rand, bytes);
+    for (; given < end; given++) {
+        const size_t length = strtoul(*given, NULL, 10);
+        if (length != 8)
+            KOMIHASH(_rand_fill)(&rand, out_end - length, length);
         else
-            KOMIHASH(_rand_fill)(&rand, bytes, length);
-        for (size_t i = 0; i < length; i++)
-            printf("%02x", bytes[i]);
+            for (uint64_t i = 8, output = KOMIHASH(_rand_next)(&rand); i; i--, output >>= 8)
+                out_end[-(int)i] = (uint8_t)output;
+        print_bytes(out_end - length, length);
     }
-    puts("");
 }
 
-static void print_row(const char *row) {
-    char *digits;
-    const uint64_t seed = strtoull(row + 2, &digits, 16);
-    const size_t length = strcspn(++digits, "\t") / 2;
-    uint8_t *bytes = message_end - length;
-    for (size_t i = 0; i < length; i++, digits += 2)
-        bytes[i] = (uint8_t)strtoul((char[3]){digits[0], digits[1]}, NULL, 16);
-    const uint64_t hash = KOMIHASH()(length ? bytes : NULL, length, seed);
-    CHECK(streamed(bytes, length, length / 3, seed) == hash);
-    pad_and_unpad(bytes, length);
-    printf("%.*s%016" PRIx64 "\n", (int)(digits + 1 - row), row, hash);
+static void print_hash(char **given, char **end) {
+    uint64_t hash = number(*given);
+    while (++given < end) {
+        const size_t length = stored_before(message_end, *given);
+        const uint8_t *bytes = message_end - length;
+        const uint64_t streams = streamed(bytes, length, length / 3, hash);
+        hash = KOMIHASH()(length ? bytes : NULL, length, hash);
+        CHECK(streams == hash);
+        pad_and_unpad(bytes, length);
+    }
+    printf("%016" PRIx64, hash);
+}
+
+static void print_text(uint64_t seed, size_t length) {
+    Stream stream = KOMIHASH(_start)(seed);
+    KOMIHASH(_write)(&stream, message_end - length, length);
+    print_bytes(out_end - ROOM, KOMIHASH(_save)(&stream, out_end - ROOM, ROOM));
+}
+
+static void print_answer(size_t length) {
+    Stream stream;
+    if (KOMIHASH(_resume)(&stream, message_end - length, length))
+        printf("%016" PRIx64, KOMIHASH(_finish)(&stream));
+    else
+        printf("none");
+}
+
+static void print_message(char **given, char **end) {
+    const size_t room = 8 * (size_t)(end - given);
+    uint64_t *word = (uint64_t *)(out_end - room);
+    while (given < end)
+        *word++ = number(*given++);
+    const size_t length =
+        KOMIHASH(_unpad)((uint64_t *)(out_end - room), room / 8, copy_end - room, room);
+    if (length == KOMIHASH_NONE)
+        printf("none");
+    else
+        print_bytes(copy_end - room, length);
+}
+
+/* Prints the value of a row, whose first field is missing if the call is `komihash`. */
+static void print_value(char **fields, char **end) {
+    switch (fields[0][0]) {
+    case 's': print_text(number(fields[2]), stored_before(message_end, fields[3])); break;
+    case 'r': print_answer(stored_before(message_end, fields[2])); break;
+    case 'u': print_message(fields + 2, end); break;
+    case 'n': print_fills(true, true, fields + 2, end); break;
+    case 'i': print_fills(false, strlen(fields[0]) > 4, fields + 2, end); break;
+    default: print_hash(fields + (fields[0][1] ? 2 : 1), end);
+    }
 }
 
 int main(void) {
-    char row[1024];
+    char row[1024], *fields[16];
     message_end = end_of_memory();
     out_end = end_of_memory();
     copy_end = end_of_memory();
-    fill_and_step();
-    while (fgets(row, sizeof row, stdin) != NULL)
-        if (row[0] == '0' + VERSION)
-            print_row(row);
-        else if (strchr("in", row[0]) && strchr(row, '\t')[1] == '0' + VERSION)
-            print_fills(row);
+    while (fgets(row, sizeof row, stdin) != NULL) {
+        char **end = fields;
+        for (char *at = row, *tab; (tab = strchr(at, '\t')) != NULL; at = tab + 1) {
+            *tab = '\0';
+            printf("%s\t", *end++ = at);
+        }
+        print_value(fields, end);
+        puts("");
+    }
 }

@@ -121,7 +121,7 @@ runs_by_package() { # MODULE ARGUMENT..
 tab=$(printf '\t')
 # The tables of the crate for Rust, which is in this folder or beside it.
 tables=$(ls -d rust/tests ../rust/tests 2> "$scratch/case" | head -n 1)
-rows() { grep -hE "^((new|init|init_with_extra_seed)$tab)?$1$tab" "$tables"/*.tsv; }
+rows() { grep -hE "^([a-z_]+$tab)?$1$tab" "$tables"/*.tsv; }
 calls() {
     for number in 4 5; do
         rows $number |

@@ -184,7 +184,7 @@ def build(path, level, compiler, name, body):
 
 def bears_signals(path, version, compiler, emulator):
     """Whether the calls of calls.c go right with a signal at each instruction."""
-    program, rows, own = f'{path}-signals', '', fr'^(?:(?:new|init\w*)\t)?{version}\t.*\n'
+    program, rows, own = f'{path}-signals', '', fr'^(?:[a-z_]+\t)?{version}\t.*\n'
     for name in ROWS:
         with open(os.path.join(FOLDER, name)) as file:
             rows += ''.join(re.findall(own, file.read(), re.M))
