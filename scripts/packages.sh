@@ -101,7 +101,7 @@ export PATH="$PATH:/usr/lib/wine" WINEPREFIX="$scratch/wine" WINEDEBUG=-all
 export WINEDLLOVERRIDES='mscoree,mshtml=' CARGO_TARGET_DIR=$scratch/crate
 python=$(sh c/verify/find_python.sh) || python=python3-with-z3-and-capstone
 
-run_case 'the package of the library for C is made again from itself' unpack
+always run_case 'the package of the library for C is made again from itself' unpack
 part in_package check
 arm=aarch64-linux-gnu windows=x86_64-w64-mingw32
 part_with "$windows-gcc wine64 lld-link $debian" from_rust x86_64-pc-windows-gnu \
@@ -117,7 +117,7 @@ needs "clang lld $debian" 'the library for C links for macOS, with the names of 
 
 needs python3 'erase.py is not misled' python3 -B rust/tests/erase.py
 needs 'python3 rustfmt' 'rust/src is erased from the source' erased
-needs cargo 'the crate for Rust is packed, and builds as it is unpacked' unpack_crate
+always needs cargo 'the crate for Rust is packed, and builds as it is unpacked' unpack_crate
 needs cargo 'the crate for Rust, with debug assertions' in_crate cargo test --offline --all-features
 RUSTFLAGS='-C target-cpu=native' needs cargo 'the crate for Rust, for this processor' \
     in_crate cargo test --offline --release --tests
@@ -133,11 +133,11 @@ for machine in s390x aarch64 i686; do
 done
 
 cat rust/tests/vectors.tsv rust/tests/values.tsv > "$scratch/rows"
-needs cargo 'random calls have values' random_rows
-needs '/usr/bin/pip3 /usr/bin/python3-config' 'the package for Python' python_package
+always needs cargo 'random calls have values' random_rows
+always needs '/usr/bin/pip3 /usr/bin/python3-config' 'the package for Python' python_package
 needs /usr/bin/mypy 'the types of the package for Python' \
     debian_python -m mypy.stubtest komihash_rattle
-needs npm 'the package for JavaScript is packed and installed' js_package
+always needs npm 'the package for JavaScript is packed and installed' js_package
 needs node 'the package for JavaScript, in Node' js_in_node
 needs chromium 'the package for JavaScript, in Chromium' js_in_chromium
 needs tsc 'the types of the package for JavaScript' tsc --noEmit --allowJs --checkJs \

@@ -4,16 +4,20 @@
 
 # Runs a part, and adds the counts in its last line.
 part() {
+    wanted "$*" || return 0
     local status before=$failed counts='^([0-9]+) passed, ([0-9]+) failed(, ([0-9]+) skipped)?$'
     echo "== $*" | tee -a "$scratch/told"
-    (passed=0 failed=0 skipped=0 && "$@") 2>&1 | tee -a "$scratch/told"
+    (CASE= passed=0 failed=0 skipped=0 && "$@") 2>&1 | tee -a "$scratch/told"
     status=$?
     [[ $(tail -n 1 "$scratch/told") =~ $counts ]] || status=1
     passed=$((passed + ${BASH_REMATCH[1]:-0}))
     failed=$((failed + ${BASH_REMATCH[2]:-0}))
     skipped=$((skipped + ${BASH_REMATCH[4]:-0}))
     [ "$status" = 0 ] || [ "$failed" != "$before" ] || failed=$((failed + 1))
-    [ "$failed" = "$before" ] || { echo "FAILED: $*"; false; }
+    [ "$failed" = "$before" ] && return
+    echo "FAILED: $*"
+    echo "run it alone: CASE=\"$*\" $alone" >> "$scratch/to_run"
+    false
 }
 
 # A part that needs tools: part_with 'TOOL..' COMMAND..

@@ -86,7 +86,7 @@ refuse_memory() {
     run_case "memory for $count allocations: ${*:-no arguments}" \
         diff <(line "$line") <(ran refusing "$request" "$@" < stdin)
 }
-run_case 'refuse.c compiles' \
+always run_case 'refuse.c compiles' \
     "${CC:-cc}" -shared -fPIC -o "$scratch/refuse.so" ../../scripts/refuse.c
 refuse_memory 2 "$(cat stdout)"
 refuse_memory 5 4bde5bdc63771675 4 1f

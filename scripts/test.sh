@@ -5,10 +5,12 @@
 #
 # The last line is 'N passed, M failed', the sum of all parts, with ', K skipped' if a tool is
 # missing; lines above it say which. With REQUIRE_ALL=1 in the environment, skipped is failed, but
-# for cases that are marked (optional), such as those of the Rust crate.
+# for cases that are marked (optional), such as those of the Rust crate. `test.sh NAME` runs only the
+# parts whose commands have NAME in them.
 set -uo pipefail
 cd "$(dirname "$0")/.." || exit 1
 . scripts/parts.sh
+export CASE=${1:-$CASE}
 
 # An edit that can't be applied counts for nothing in `rt ci`, which prints a line for each edit
 # that it tries in this run, and only the number of all where it kept earlier results.
@@ -18,8 +20,10 @@ all_refused() {
         grep "must-fail edits: ${#edits[@]} refused" "$scratch/told"
 }
 
-TMPDIR=$scratch nice -n 19 bash scripts/packages.sh > "$scratch/packages" 2>&1 &
-pid=$!
+if wanted packages; then
+    CASE= TMPDIR=$scratch nice -n 19 bash scripts/packages.sh > "$scratch/packages" 2>&1 &
+fi
+pid=${!:-}
 if part python3 scripts/check_pages.py && part rt ci; then
     run_case 'each must-fail edit is refused' all_refused
     part python3 scripts/controls.py
@@ -32,7 +36,7 @@ ended=$?
 packages() { cat "$scratch/packages"; return $ended; }
 part packages
 
-grep '^skipped: ' "$scratch/told"
+grep -E '^(skipped|run it alone): ' "$scratch/told"
 if [ "${REQUIRE_ALL:-}" = 1 ]; then
     optional=$(grep -c '^skipped: .* (optional), ' "$scratch/told")
     failed=$((failed + skipped - optional)) skipped=$optional

@@ -1,14 +1,26 @@
 # Counts cases, for the scripts that source this file, in sh or bash. The last line of such a script
-# is 'N passed, M failed', with ', K skipped' if there are any.
+# is 'N passed, M failed', with ', K skipped' if there are any. With CASE, only those run whose
+# names have it in them, and those that others need. Above the last line stands how to run alone
+# what failed.
 export LC_ALL=C
-passed=0 failed=0 skipped=0
+passed=0 failed=0 skipped=0 CASE=${CASE:-} alone="bash $0"
 scratch=$(mktemp -d) && scratch=$(realpath "$scratch") || exit
 trap 'rm -rf "$scratch"' EXIT
+: > "$scratch/to_run"
+
+wanted() { case $1 in *"$CASE"*) ;; *) false ;; esac; }
+# Runs a case that others need: always COMMAND..
+always() {
+    only=$CASE CASE=
+    "$@"
+    CASE=$only
+}
 
 # Runs a case, and prints what its command printed if that fails: run_case NAME COMMAND..
 run_case() {
     case_name=$1
     shift
+    wanted "$case_name" || return 0
     if ("$@") > "$scratch/case" 2>&1; then
         passed=$((passed + 1))
         echo "ok: $case_name"
@@ -16,11 +28,13 @@ run_case() {
         failed=$((failed + 1))
         echo "FAILED: $case_name"
         cat "$scratch/case"
+        echo "run it alone: CASE=\"$case_name\" $alone" >> "$scratch/to_run"
     fi
 }
 
 # A case that can't be run, since something is missing: skip NAME WHAT
 skip() {
+    wanted "$1" || return 0
     skipped=$((skipped + 1))
     echo "skipped: $1, which needs $2"
 }
@@ -33,6 +47,7 @@ needs() {
 }
 
 counted() {
+    cat "$scratch/to_run"
     echo "$passed passed, $failed failed$([ "$skipped" = 0 ] || echo ", $skipped skipped")"
     [ "$failed" = 0 ]
 }

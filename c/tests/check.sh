@@ -5,6 +5,7 @@ set -u
 cd "$(dirname "$0")/.." || exit 1
 . ./tests/cases.sh
 
+alone='make check'
 prefix="$scratch/a & 'b'"
 lib="$prefix/lib"
 archive="$lib/libkomihash_rattle.a"
@@ -256,7 +257,7 @@ uninstalled() { build uninstall "PREFIX=$prefix" && gone "$prefix"; }
 
 run_case "programs for $machine run here, or in the emulator that RUN names" \
     $RUN "$OUT/komihashsum$exe" < /dev/null
-run_case 'the library is installed' build install "PREFIX=$prefix"
+always run_case 'the library is installed' build install "PREFIX=$prefix"
 [ "$failed" = 0 ] || { counted; exit 1; }
 run_case 'the numbers in the header are those of its version' test "$version" = \
     "$(sed -n 's/.*_VERSION_[A-Z]* //p' komihash_rattle.h | paste -s -d .)"
@@ -316,7 +317,7 @@ run_case 'warnings for an ignored result and a null stream' \
     prints "$(printf '[-W%s\n' nonnull unused-result)" careless
 
 if tar --version | grep GNU > "$scratch/case"; then
-    run_case 'the package' build dist "OUT=$scratch"
+    always run_case 'the package' build dist "OUT=$scratch"
     needs cmake 'komihashsum, by CMake, with the package' prints "$hash_of_a" fetched_by_cmake
 else
     skip 'the package, and CMake with it' 'GNU tar'

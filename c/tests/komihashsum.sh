@@ -109,7 +109,7 @@ run_case 'komihashsum, its version' prints "komihashsum $version" komihashsum --
 if [ "$system" = Windows ]; then
     run_case 'komihashsum, names that Windows alone has, and lines without \r' odd_on_windows
 else
-    run_case 'files with odd names' plant
+    always run_case 'files with odd names' plant
     if type sha256sum > "$scratch/case" 2>&1; then compared; else
         skip 'komihashsum beside sha256sum' sha256sum
     fi
