@@ -7,7 +7,7 @@ impl of a public trait too; the prover has shown the others at each call. What e
 this script refuses. Comments say what one of the two alone has:
 
     // Rust: LINE             Rust has this line.
-    // Rust instead: LINE     Rust has it in place of the next line.
+    // Rust instead: LINE     Rust has it in place of the next line, or without LINE, nothing.
     // Rattle alone.          Rust lacks the lines up to the next empty one.
     /// .. <!-- Rattle -->    Rust lacks this line of a comment.
 """
@@ -18,7 +18,7 @@ from itertools import count
 from pathlib import Path
 
 CHOICES = {r'^ *// Rattle alone\.\n(?:.+\n)+': '', r'^ *//.*<!-- Rattle -->\n': '',
-           r'^( *)// Rust instead: (.*)\n.+\n': r'\1\2\n', r'^( *)// Rust: (.*)\n': r'\1\2\n'}
+           r'^( *)// Rust instead:(?: (.*))?\n.+\n': r'\1\2\n', r'^( *)// Rust: (.*)\n': r'\1\2\n'}
 RUSTFMT = 'rustfmt', '--edition', '2024', '--config-path', Path(__file__).resolve().parent
 ONLY_RATTLE = 'laws', 'tally', 'tests'  # modules
 # Comments and literals, which become ‹/N› and ‹sN›, so that no pattern sees what is in them.
@@ -42,7 +42,7 @@ ATTRIBUTES = re.compile(r'#!?\[(.*)\]'), re.compile(
     r'inline|inline\((always|never)\)|repr\((C|transparent)\)|track_caller|no_std|must_use|'
     r'derive\((Clone|Clone, Copy|Debug)\)|forbid\(unsafe_code\)|warn\(missing_docs\)|'
     r'allow\([\w:, ]+\)|doc = include_str!\(‹.\d+›\)|doc\(inline\)|cfg\(feature = ‹.\d+›\)')
-MACROS = re.compile(r'(\w+)!(?!=)'), re.compile('assert|unreachable|include_str')
+MACROS = re.compile(r'(\w+)!(?!=)'), re.compile('assert|unreachable|include_str|write')
 # What may not be left.
 NO_RUST = re.compile(r'\b(?:ghost|requires|ensures|tally|Tally|Model|Drop|prove|unsafe|rt|std|'
                      r'static|extern|async|macro_rules|no_mangle|export_name)\b|[^\x00-\x7f‹›]|"')

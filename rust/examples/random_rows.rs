@@ -3,32 +3,35 @@
 #[allow(dead_code)] // Tests use the rest.
 #[path = "../tests/by_name/mod.rs"]
 mod by_name;
-#[path = "../../compare/driver/src/random.rs"]
-mod random;
 
 use by_name::{Calls, calls, hexadecimal};
-use random::Random;
+use komihash_rattle::Komirand;
+
+fn below(random: &mut Komirand, limit: u64) -> usize {
+    (random.next() % limit) as usize
+}
 
 /// Returns the bytes of a message, most of which are short, and few long.
-fn message(random: &mut Random) -> String {
-    let short = [20, 70, 140, 600][random.below(4)];
-    let limit = if random.below(2000) == 0 { 200_000 } else { short };
-    let bytes: Vec<u8> = (0..random.below(limit)).map(|_| random.word() as u8).collect();
+fn message(random: &mut Komirand) -> String {
+    let short = [20, 70, 140, 600][below(random, 4)];
+    let limit = if below(random, 2000) == 0 { 200_000 } else { short };
+    let mut bytes = vec![0; below(random, limit)];
+    random.fill_bytes(&mut bytes);
     hexadecimal(&bytes)
 }
 
 fn main() {
     let mut arguments = std::env::args().skip(1).map(|it| it.parse().expect("a number"));
     let mut number = || arguments.next().expect("two numbers");
-    let (mut random, count) = (Random(number()), number());
+    let (mut random, count) = (Komirand::init(number()), number());
     let versions: [(&str, Calls); 2] =
         [("4", calls!(komihash_rattle::v4)), ("5", calls!(komihash_rattle::v5))];
     for _ in 0..count {
-        let (version, calls) = versions[random.below(2)];
-        let shift = random.below(64);
-        let numbers = [random.word(), random.word() >> shift].map(|it| format!("{it:x}"));
-        let lengths: Vec<_> = (0..4).map(|_| random.below(20).to_string()).collect();
-        let (call, given) = match random.below(8) {
+        let (version, calls) = versions[below(&mut random, 2)];
+        let shift = below(&mut random, 64);
+        let numbers = [random.next(), random.next() >> shift].map(|it| format!("{it:x}"));
+        let lengths: Vec<_> = (0..4).map(|_| below(&mut random, 20).to_string()).collect();
+        let (call, given) = match below(&mut random, 8) {
             0 => ("new", [&numbers[..], &lengths].concat()),
             1 => ("init_with_extra_seed", [&numbers[..], &lengths].concat()),
             2 => ("init", [&numbers[1..], &lengths].concat()),

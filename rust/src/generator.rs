@@ -10,8 +10,8 @@ use crate::version::{IsVersion, Versions};
 /// one version, the same pair always gives the same outputs.
 ///
 /// If low and high are the halves of the product, the new second word is
-/// `s2 + high + 0xaaaaaaaaaaaaaaaa` without a carry out. The new first word is the exclusive or
-/// of low and that word in version 4, and `(low ^ high) + 0x5555555555555555` in version 5.
+/// `s2 + high + 0xaaaaaaaaaaaaaaaa`. The new first word is the exclusive or of low and that word
+/// in version 4, and `(low ^ high) + 0x5555555555555555` in version 5. These sums wrap around.
 /// `Debug` shows both words.
 #[repr(C)]
 #[derive(Debug, Clone)]
@@ -43,8 +43,7 @@ where
         Komirand { s1, s2 }
     }
 
-    /// Returns the generator that has the seed as both words, after four steps, as the Rust
-    /// crate `komihash` does.
+    /// Returns the generator that has the seed as both words, after four steps.
     ///
     /// ```
     /// use komihash_rattle::v5::Komirand;
@@ -75,13 +74,27 @@ where
         generator
     }
 
+    /// Returns the pair of words, from which `new` makes the same generator.
+    ///
+    /// ```
+    /// use komihash_rattle::v5::Komirand;
+    /// let mut generator = Komirand::init(7);
+    /// let (s1, s2) = generator.words();
+    /// assert_eq!(Komirand::new(s1, s2).next(), generator.next());
+    /// ```
+    #[must_use]
+    #[inline]
+    pub const fn words(&self) -> (u64, u64) {
+        (self.s1, self.s2)
+    }
+
     /// Takes one step, and returns its output.
     ///
     /// ```
     /// use komihash_rattle::v5::Komirand;
-    /// let mut dice = Komirand::init(7);
-    /// let throw = 1 + dice.next() % 6;
-    /// assert!((1..=6).contains(&throw));
+    /// let mut generator = Komirand::init(7);
+    /// let coin = generator.next() >> 63;
+    /// assert!(coin < 2);
     /// ```
     #[allow(clippy::should_implement_trait)]
     #[inline]

@@ -89,7 +89,7 @@ impl<const V: u8> KomiBuildHasher<V>
 where
     Versions: IsVersion<V>,
 {
-    /// Returns what makes hashers of a seed.
+    /// Returns the `BuildHasher` of a seed.
     ///
     /// ```
     /// use komihash_rattle::v5::KomiBuildHasher;
@@ -109,7 +109,7 @@ impl<const V: u8> Default for KomiBuildHasher<V>
 where
     Versions: IsVersion<V>,
 {
-    /// Returns what makes hashers of seed 0.
+    /// Returns the `BuildHasher` of seed 0.
     #[inline]
     fn default() -> Self {
         KomiBuildHasher::new(0)

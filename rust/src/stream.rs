@@ -88,7 +88,7 @@ impl core::fmt::Debug for Call<'_> {
     /// Shows how many bytes are absorbed, and none of them.
     fn fmt(&self, f: &mut core::fmt::Formatter<'_>) -> core::fmt::Result {
         match self {
-            Call::Absorb(bytes) => f.debug_tuple("Absorb").field(&bytes.len()).finish(),
+            Call::Absorb(bytes) => write!(f, "Absorb({} bytes)", bytes.len()),
             Call::Answer => f.write_str("Answer"),
         }
     }
@@ -150,9 +150,7 @@ pub fn run_on<S: KomiStream>(stream: &mut S, calls: &[Call<'_>], out: &mut [u64]
 /// assert_eq!(answers[..2], [komihash(b"po", 7), komihash(b"port", 7)]);
 /// ```
 #[track_caller]
-pub fn run<S: KomiStream>(seed: u64, calls: &[Call<'_>], out: &mut [u64]) -> usize
-// `run_on` tests the length of `out`.
-{
+pub fn run<S: KomiStream>(seed: u64, calls: &[Call<'_>], out: &mut [u64]) -> usize {
     let mut stream = S::start(seed);
     run_on(&mut stream, calls, out)
 }

@@ -4,6 +4,9 @@
 //! padding of messages that end in a byte of 128 or more, in the generator's step, and in the saved
 //! texts of streams.
 //!
+//! Both give a message of fewer than 64 bytes the same hash if its last byte is below 128. So
+//! tell by longer messages which version made a hash.
+//!
 //! Examples of methods are those of version 5: write `v4` where they have `v5`.
 
 use crate::{generator, hash, hasher, padding, stream};
@@ -77,9 +80,7 @@ pub fn komihash(bytes: &[u8], seed: u64) -> u64 {
 /// ```
 #[inline]
 #[track_caller]
-pub fn pad(bytes: &[u8], out: &mut [u64]) -> usize
-// `padding::pad` tests the length of `out`.
-{
+pub fn pad(bytes: &[u8], out: &mut [u64]) -> usize {
     padding::pad::<4>(bytes, out)
 }
 
@@ -103,8 +104,6 @@ pub fn pad(bytes: &[u8], out: &mut [u64]) -> usize
 #[must_use]
 #[inline]
 #[track_caller]
-pub fn unpad(words: &[u64], out: &mut [u8]) -> Option<usize>
-// `padding::unpad` tests the length of `out`.
-{
+pub fn unpad(words: &[u64], out: &mut [u8]) -> Option<usize> {
     padding::unpad::<4>(words, out)
 }

@@ -71,9 +71,7 @@ pub fn komihash(bytes: &[u8], seed: u64) -> u64 {
 /// ```
 #[inline]
 #[track_caller]
-pub fn pad(bytes: &[u8], out: &mut [u64]) -> usize
-// `padding::pad` tests the length of `out`.
-{
+pub fn pad(bytes: &[u8], out: &mut [u64]) -> usize {
     padding::pad::<5>(bytes, out)
 }
 
@@ -97,8 +95,6 @@ pub fn pad(bytes: &[u8], out: &mut [u64]) -> usize
 #[must_use]
 #[inline]
 #[track_caller]
-pub fn unpad(words: &[u64], out: &mut [u8]) -> Option<usize>
-// `padding::unpad` tests the length of `out`.
-{
+pub fn unpad(words: &[u64], out: &mut [u8]) -> Option<usize> {
     padding::unpad::<5>(words, out)
 }

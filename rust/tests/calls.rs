@@ -12,7 +12,7 @@ use std::sync::Mutex;
 const TABLES: [&str; 2] = [include_str!("vectors.tsv"), include_str!("values.tsv")];
 
 macro_rules! tests {
-    ($version:ident, $number:literal) => {
+    ($version:ident, $number:literal, $long:literal) => {
         mod $version {
             use super::*;
             use komihash_rattle::$version::*;
@@ -60,7 +60,8 @@ macro_rules! tests {
                     let (mut stream, mut out) = (StreamedKomihash::new_with_seed(7), [0xa5; 132]);
                     stream.write(&message[..cut]);
                     assert_eq!(stream.finish(), komihash(&message[..cut], 7));
-                    let saved = stream.save(&mut out);
+                    let save = [StreamedKomihash::save, StreamedKomihash::store][cut % 2];
+                    let saved = save(&stream, &mut out);
                     assert!(out[saved..].iter().all(|byte| *byte == 0xa5));
                     let resumed = StreamedKomihash::resume(&out[..saved]).unwrap();
                     for mut stream in [stream.clone(), resumed, stream] {
@@ -68,6 +69,25 @@ macro_rules! tests {
                         assert_eq!(stream.finish(), komihash(&message[..length], 7));
                     }
                 }
+            }
+
+            /// Hashes 100,000 bytes, whose hash is that of the crate `komihash`, also in pieces.
+            #[test]
+            fn long_messages() {
+                let mut message = vec![0; 100_000];
+                Komirand::new(1, 2).fill_bytes(&mut message);
+                assert_eq!(komihash(&message, 3), $long);
+                let (mut stream, mut random) =
+                    (StreamedKomihash::new_with_seed(3), Komirand::init(4));
+                let mut rest = &message[..];
+                while !rest.is_empty() {
+                    let longest = 1 << (random.next() % 14);
+                    let length = 1 + random.next() as usize % longest;
+                    let (piece, after) = rest.split_at(length.min(rest.len()));
+                    stream.write(piece);
+                    rest = after;
+                }
+                assert_eq!(stream.finish(), $long);
             }
 
             #[test]
@@ -148,9 +168,9 @@ macro_rules! tests {
                 let mut map = HashMap::with_hasher(build);
                 map.insert("port", 443);
                 assert_eq!((map["port"], map.get("host")), (443, None));
-                let mut built: KomiHasher = build.build_hasher();
-                0x80_u8.hash(&mut built);
-                assert_eq!(map.hasher().hash_one(0x80_u8), built.finish());
+                let hash = map.hasher().hash_one((9_u64, 8_u16));
+                assert_eq!(hash, komihash(&8_u16.to_ne_bytes(), build.hash_one(9_u64)));
+                assert_eq!(build.hash_one(9_u64), komihash(&9_u64.to_ne_bytes(), 7));
             }
 
             #[test]
@@ -167,7 +187,7 @@ macro_rules! tests {
                 stream.write(b"secret");
                 assert_eq!(format!("{stream:?}"), "StreamedKomihash { .. }");
                 let calls = [Call::Absorb(b"secret"), Call::Answer];
-                assert_eq!(format!("{calls:?}"), "[Absorb(6), Answer]");
+                assert_eq!(format!("{calls:?}"), "[Absorb(6 bytes), Answer]");
             }
 
             /// Copies what is read until an error, after which the stream goes on.
@@ -194,9 +214,9 @@ macro_rules! tests {
                 assert_eq!(copy(&mut Failing(0), &mut stream).unwrap_err().to_string(), "no more");
                 assert_eq!(stream.finish(), komihash(&[7; 15], 3));
                 stream.flush().unwrap();
-                assert_eq!(Write::write(&mut stream, &[7; 100]).unwrap(), 100);
+                assert_eq!(Write::write(&mut stream, &[7; 99_000]).unwrap(), 99_000);
                 assert_eq!(copy(&mut &[7; 9000][..], &mut stream).unwrap(), 9000);
-                assert_eq!(stream.finish(), komihash(&[7; 9115], 3));
+                assert_eq!(stream.finish(), komihash(&[7; 108_015], 3));
             }
 
             #[test]
@@ -231,8 +251,8 @@ fn panics_here(line: u32, call: fn()) {
     assert_eq!(REPORTED.lock().unwrap().take(), Some((file!().to_string(), line)));
 }
 
-tests!(v4, "4");
-tests!(v5, "5");
+tests!(v4, "4", 0xe53a6a66c7c514f6);
+tests!(v5, "5", 0x82043deb74778da3);
 
 #[test]
 fn the_root_has_version_5() {

@@ -21,7 +21,7 @@ LEFT = {
     'fn f(x: u8, tally: &mut Tally) { g(x, tally); }': 'fn f(x: u8) { g(x); }',
     'fn f() { g(&mut Tally::new()) }': 'fn f() { g() }',
     '/// Is ghost.\nghost f = { a { b } c };\nfn f() {}': 'fn f() {}',
-    '// Rust instead: const N: u8 = 2;\nconst N: u8 = 1;\nconst M: u8 = 1;':
+    '// Rust instead: const N: u8 = 2;\nconst N: u8 = 1;\n// Rust instead:\nL\nconst M: u8 = 1;':
         'const N: u8 = 2;\nconst M: u8 = 1;',
     '// Rattle alone.\nfn f() {}\nfn g() {}\n\nfn h() {}': 'fn h() {}',
     'fn f() {} /// x <!-- Rattle -->': 'fn f() {} /// x <!-- Rattle -->',

@@ -16,8 +16,8 @@ use std::marker::Model;
 /// one version, the same pair always gives the same outputs.
 // Rust: ///
 // Rust: /// If low and high are the halves of the product, the new second word is
-// Rust: /// `s2 + high + 0xaaaaaaaaaaaaaaaa` without a carry out. The new first word is the exclusive or
-// Rust: /// of low and that word in version 4, and `(low ^ high) + 0x5555555555555555` in version 5.
+// Rust: /// `s2 + high + 0xaaaaaaaaaaaaaaaa`. The new first word is the exclusive or of low and that word
+// Rust: /// in version 4, and `(low ^ high) + 0x5555555555555555` in version 5. These sums wrap around.
 // Rust: /// `Debug` shows both words.
 /// `next` of `specs/Generator.antt` has the rule of each version. <!-- Rattle -->
 // Rust: #[repr(C)]
@@ -63,8 +63,7 @@ where
         Komirand { s1, s2 }
     }
 
-    /// Returns the generator that has the seed as both words, after four steps, as the Rust
-    /// crate `komihash` does.
+    /// Returns the generator that has the seed as both words, after four steps.
     // Rust: ///
     // Rust: /// ```
     // Rust: /// use komihash_rattle::v5::Komirand;
@@ -100,10 +99,20 @@ where
         generator
     }
 
-    // Rattle alone.
-    /// Returns the words, from which `new` makes the same generator, as the library for C does.
+    /// Returns the pair of words, from which `new` makes the same generator.
+    // Rust: ///
+    // Rust: /// ```
+    // Rust: /// use komihash_rattle::v5::Komirand;
+    // Rust: /// let mut generator = Komirand::init(7);
+    // Rust: /// let (s1, s2) = generator.words();
+    // Rust: /// assert_eq!(Komirand::new(s1, s2).next(), generator.next());
+    // Rust: /// ```
+    // Rust: #[must_use]
+    // Rust instead:
     #[doc(hidden)]
+    // Rust instead: #[inline]
     #[inline(always)]
+    // Rust instead: pub const fn words(&self) -> (u64, u64)
     pub fn words(&self) -> (u64, u64)
         ensures { result ≡ self.now }
     {
@@ -114,9 +123,9 @@ where
     // Rust: ///
     // Rust: /// ```
     // Rust: /// use komihash_rattle::v5::Komirand;
-    // Rust: /// let mut dice = Komirand::init(7);
-    // Rust: /// let throw = 1 + dice.next() % 6;
-    // Rust: /// assert!((1..=6).contains(&throw));
+    // Rust: /// let mut generator = Komirand::init(7);
+    // Rust: /// let coin = generator.next() >> 63;
+    // Rust: /// assert!(coin < 2);
     // Rust: /// ```
     // Rust: #[allow(clippy::should_implement_trait)]
     #[inline]

@@ -127,7 +127,7 @@ impl<const V: u8> KomiBuildHasher<V>
 where
     Versions: IsVersion<V>,
 {
-    /// Returns what makes hashers of a seed.
+    /// Returns the `BuildHasher` of a seed.
     // Rust: ///
     // Rust: /// ```
     // Rust: /// use komihash_rattle::v5::KomiBuildHasher;
@@ -152,7 +152,7 @@ where
 {
     ghost is_default = { λ s. s ≡ 0 };
 
-    /// Returns what makes hashers of seed 0.
+    /// Returns the `BuildHasher` of seed 0.
     #[inline]
     fn default() -> Self {
         KomiBuildHasher::new(0)

@@ -132,7 +132,7 @@ pub enum Call<'a> {
 // Rust:     /// Shows how many bytes are absorbed, and none of them.
 // Rust:     fn fmt(&self, f: &mut core::fmt::Formatter<'_>) -> core::fmt::Result {
 // Rust:         match self {
-// Rust:             Call::Absorb(bytes) => f.debug_tuple("Absorb").field(&bytes.len()).finish(),
+// Rust:             Call::Absorb(bytes) => write!(f, "Absorb({} bytes)", bytes.len()),
 // Rust:             Call::Answer => f.write_str("Answer"),
 // Rust:         }
 // Rust:     }
@@ -216,7 +216,7 @@ pub fn run<S: KomiStream>(
     out: &mut [u64],
     tally: &mut Tally,
 ) -> usize
-    // Rust instead: // `run_on` tests the length of `out`.
+    // Rust instead:
     requires { length calls.now ≤ length out.old }
     ensures answers { out.new ≡ answers S.VERSION seed calls.now ++ drop result out.old }
     ensures count { result ≡ length (answers S.VERSION seed calls.now) }

@@ -4,6 +4,9 @@
 //! padding of messages that end in a byte of 128 or more, in the generator's step, and in the saved
 //! texts of streams.
 // Rust: //!
+// Rust: //! Both give a message of fewer than 64 bytes the same hash if its last byte is below 128. So
+// Rust: //! tell by longer messages which version made a hash.
+// Rust: //!
 // Rust: //! Examples of methods are those of version 5: write `v4` where they have `v5`.
 
 ghost use Rattle.std.specs.Prelude.{◌≡◌, ◌+◌, ◌*◌, ◌/◌, ◌≤◌, length};
@@ -100,7 +103,7 @@ pub fn komihash_counted(bytes: &[u8], seed: u64, tally: &mut Tally) -> u64
 #[inline]
 // Rust: #[track_caller]
 pub fn pad(bytes: &[u8], out: &mut [u64]) -> usize
-    // Rust instead: // `padding::pad` tests the length of `out`.
+    // Rust instead:
     requires { length bytes.now / 8 + 1 ≤ length out.old }
     ensures { Padded 4 bytes.now out result }
 {
@@ -128,7 +131,7 @@ pub fn pad(bytes: &[u8], out: &mut [u64]) -> usize
 #[inline]
 // Rust: #[track_caller]
 pub fn unpad(words: &[u64], out: &mut [u8]) -> Option<usize>
-    // Rust instead: // `padding::unpad` tests the length of `out`.
+    // Rust instead:
     requires { 8 * length words.now ≤ length out.old }
     ensures { Unpadded 4 words.now out result }
 {

@@ -94,7 +94,7 @@ pub fn komihash_counted(bytes: &[u8], seed: u64, tally: &mut Tally) -> u64
 #[inline]
 // Rust: #[track_caller]
 pub fn pad(bytes: &[u8], out: &mut [u64]) -> usize
-    // Rust instead: // `padding::pad` tests the length of `out`.
+    // Rust instead:
     requires { length bytes.now / 8 + 1 ≤ length out.old }
     ensures { Padded 5 bytes.now out result }
 {
@@ -122,7 +122,7 @@ pub fn pad(bytes: &[u8], out: &mut [u64]) -> usize
 #[inline]
 // Rust: #[track_caller]
 pub fn unpad(words: &[u64], out: &mut [u8]) -> Option<usize>
-    // Rust instead: // `padding::unpad` tests the length of `out`.
+    // Rust instead:
     requires { 8 * length words.now ≤ length out.old }
     ensures { Unpadded 5 words.now out result }
 {

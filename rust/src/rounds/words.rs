@@ -22,8 +22,7 @@ pub(crate) trait WholeWords {
     fn word(&self, at: usize) -> u64;
 }
 
-/// The whole words of a message's bytes. The impl is for the reference, because no type parameter
-/// of Rattle can stand for `[u8]`. So callers pass a `&&[u8]`.
+/// The whole words of a message's bytes.
 impl WholeWords for &[u8] {
     #[inline(always)]
     fn holds(&self, count: usize) -> bool {

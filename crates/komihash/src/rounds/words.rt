@@ -42,8 +42,9 @@ pub(crate) trait WholeWords {
         ensures { result ≡ slice_index (words self.now) at };
 }
 
-/// The whole words of a message's bytes. The impl is for the reference, because no type parameter
-/// of Rattle can stand for `[u8]`. So callers pass a `&&[u8]`.
+/// The whole words of a message's bytes.
+/// The impl is for the reference, because no type parameter can stand for `[u8]`. <!-- Rattle -->
+/// So callers pass a `&&[u8]`. <!-- Rattle -->
 impl WholeWords for &[u8] {
     ghost words = { λ bytes. whole_words bytes.now };
 

@@ -98,7 +98,7 @@ where
     /// Writes the saved text of the stream to the front of `out`, and returns the text's length in
     /// bytes: 68, and one for each pending byte. The rest of `out` is unchanged.
     ///
-    /// `out` needs room for `LONGEST_TEXT` bytes, whatever is pending. `resume` makes the same
+    /// `out` needs room for [`LONGEST_TEXT`] bytes, whatever is pending. `resume` makes the same
     /// stream from the text, also on another machine. The text is bytes, not UTF-8: one each for
     /// the version, for whether a block was absorbed, for the top bit of that block's last byte in
     /// version 4, and for the number of pending bytes; the eight lanes, the lowest byte first; and
