@@ -1,37 +1,37 @@
-//! Callers whose proofs the search finds. Those with a loop state what it keeps.
+//! Callers whose proofs the search finds, though no example has their form.
 
 ghost use Rattle.std.specs.Borrow.{Bor};
 ghost use Rattle.std.specs.Int.{to_le_bytes, w16, w32, w64};
-ghost use Rattle.std.specs.List.{flat_map};
 ghost use Rattle.std.specs.Prelude.{◌≡◌, ◌+◌, ◌++◌, ◌∷◌, [], ℕ, List, length};
 ghost use Rattle.komihash.specs.Calls.{AreAbsorbs, bytes_of_calls, run_products};
 ghost use Rattle.komihash.specs.Counts.{hash_products};
 ghost use Rattle.komihash.specs.Hash.{komi};
 ghost use Rattle.komihash.specs.Stream.{HasAbsorbed};
 ghost use Rattle.komihash.specs.declared.stream.Call.TheVariants.{Absorb, Answer};
-ghost use Rattle.promises.specs.Entries.{bytes_of_entry};
 
 use komihash::stream::KomiStream;
 use komihash::tally::Tally;
-use komihash::{StreamedKomihash, komihash, laws};
+use komihash::{StreamedKomihash, laws};
 
-/// Four writes in a row.
-pub fn of_four(a: u64, b: u64, c: u64, d: u64) -> u64
-    ensures { result ≡ komi 5 0 (to_le_bytes w64 a ++ to_le_bytes w64 b ++ to_le_bytes w64 c
-        ++ to_le_bytes w64 d) }
+/// Numbers of each width, before and after bytes of any length.
+pub fn around_bytes(a: u64, b: u32, bytes: &[u8], c: u64, d: u16, e: u8) -> u64
+    ensures { result ≡ komi 5 0 (to_le_bytes w64 a ++ to_le_bytes w32 b ++ bytes.now
+        ++ to_le_bytes w64 c ++ to_le_bytes w16 d ++ e ∷ []) }
 {
     let mut stream = StreamedKomihash::new();
     stream.write(&a.to_le_bytes());
     stream.write(&b.to_le_bytes());
+    stream.write(bytes);
     stream.write(&c.to_le_bytes());
     stream.write(&d.to_le_bytes());
+    stream.write(&[e]);
     stream.finish()
 }
 
 /// Eight writes in a row.
-pub fn of_eight(a: u16, b: u16, c: u16, d: u16, e: u16, f: u16, g: u16, h: u16) -> u64
-    ensures { result ≡ komi 5 0 (to_le_bytes w16 a ++ to_le_bytes w16 b ++ to_le_bytes w16 c
-        ++ to_le_bytes w16 d ++ to_le_bytes w16 e ++ to_le_bytes w16 f ++ to_le_bytes w16 g
+pub fn of_eight(a: u16, b: u16, c: u32, d: u32, e: u64, f: u64, g: u16, h: u16) -> u64
+    ensures { result ≡ komi 5 0 (to_le_bytes w16 a ++ to_le_bytes w16 b ++ to_le_bytes w32 c
+        ++ to_le_bytes w32 d ++ to_le_bytes w64 e ++ to_le_bytes w64 f ++ to_le_bytes w16 g
         ++ to_le_bytes w16 h) }
 {
     let mut stream = StreamedKomihash::new();
@@ -43,28 +43,6 @@ pub fn of_eight(a: u16, b: u16, c: u16, d: u16, e: u16, f: u16, g: u16, h: u16) 
     stream.write(&f.to_le_bytes());
     stream.write(&g.to_le_bytes());
     stream.write(&h.to_le_bytes());
-    stream.finish()
-}
-
-/// Writes of another width.
-pub fn of_three(a: u32, b: u32, c: u32) -> u64
-    ensures { result ≡ komi 5 0 (to_le_bytes w32 a ++ to_le_bytes w32 b ++ to_le_bytes w32 c) }
-{
-    let mut stream = StreamedKomihash::new();
-    stream.write(&a.to_le_bytes());
-    stream.write(&b.to_le_bytes());
-    stream.write(&c.to_le_bytes());
-    stream.finish()
-}
-
-/// Writes of three widths, one of a single byte.
-pub fn of_three_widths(a: u64, b: u16, c: u8) -> u64
-    ensures { result ≡ komi 5 0 (to_le_bytes w64 a ++ to_le_bytes w16 b ++ c ∷ []) }
-{
-    let mut stream = StreamedKomihash::new();
-    stream.write(&a.to_le_bytes());
-    stream.write(&b.to_le_bytes());
-    stream.write(&[c]);
     stream.finish()
 }
 
@@ -80,15 +58,6 @@ pub fn of_two_widths<S: KomiStream>(a: u32, b: u64, seed: u64, tally: &mut Tally
     stream.answer(tally)
 }
 
-/// A helper of two writes, after any message.
-pub fn write_two(stream: &mut StreamedKomihash, a: u64, b: u64)
-    ensures { (seed : ℕ) (m : List ℕ) → HasAbsorbed 5 seed stream.old.state m
-        → HasAbsorbed 5 seed stream.new.state (m ++ to_le_bytes w64 a ++ to_le_bytes w64 b) }
-{
-    stream.write(&a.to_le_bytes());
-    stream.write(&b.to_le_bytes());
-}
-
 /// A helper of four writes, after any message.
 pub fn write_four(stream: &mut StreamedKomihash, a: u64, b: u64, c: u64, d: u64)
     ensures { (seed : ℕ) (m : List ℕ) → HasAbsorbed 5 seed stream.old.state m
@@ -102,16 +71,6 @@ pub fn write_four(stream: &mut StreamedKomihash, a: u64, b: u64, c: u64, d: u64)
 }
 
 /// A helper that promises its numbers as one list.
-pub fn write_short_key(stream: &mut StreamedKomihash, key: u16, value: u64)
-    ensures { (seed : ℕ) (m : List ℕ) → HasAbsorbed 5 seed stream.old.state m
-        → HasAbsorbed 5 seed stream.new.state
-        (m ++ (to_le_bytes w16 key ++ to_le_bytes w64 value)) }
-{
-    stream.write(&key.to_le_bytes());
-    stream.write(&value.to_le_bytes());
-}
-
-/// The same, with a wider number.
 pub fn write_key(stream: &mut StreamedKomihash, key: u32, value: u64)
     ensures { (seed : ℕ) (m : List ℕ) → HasAbsorbed 5 seed stream.old.state m
         → HasAbsorbed 5 seed stream.new.state
@@ -121,73 +80,14 @@ pub fn write_key(stream: &mut StreamedKomihash, key: u32, value: u64)
     stream.write(&value.to_le_bytes());
 }
 
-/// The same, with a name for the list.
-#[tactic(auto, unfolding(crate::specs::Entries::bytes_of_entry))]
-pub fn write_entry(stream: &mut StreamedKomihash, entry: (u64, u64))
-    ensures { (seed : ℕ) (m : List ℕ) → HasAbsorbed 5 seed stream.old.state m
-        → HasAbsorbed 5 seed stream.new.state (m ++ bytes_of_entry entry) }
-{
-    stream.write(&entry.0.to_le_bytes());
-    stream.write(&entry.1.to_le_bytes());
-}
-
-/// A loop that calls the helper.
-pub fn of_entries(entries: &[(u64, u64)]) -> u64
-    ensures { result ≡ komi 5 0 (flat_map bytes_of_entry entries.now) }
-{
-    let mut stream = StreamedKomihash::new();
-    for entry in entries {
-        write_entry(&mut stream, *entry);
-    }
-    stream.finish()
-}
-
-/// A loop that writes both numbers.
-pub fn of_pairs(pairs: &[(u64, u64)]) -> u64
-    ensures { result ≡ komi 5 0
-        (flat_map (λ pair. to_le_bytes w64 pair.0 ++ to_le_bytes w64 pair.1) pairs.now) }
-{
-    let mut stream = StreamedKomihash::new();
-    for pair in pairs {
-        stream.write(&pair.0.to_le_bytes());
-        stream.write(&pair.1.to_le_bytes());
-    }
-    stream.finish()
-}
-
 /// Two helpers in a row.
-pub fn of_six(a: u64, b: u64, c: u64, d: u64, e: u64, f: u64) -> u64
+pub fn of_six(a: u64, b: u64, c: u64, d: u64, e: u32, f: u64) -> u64
     ensures { result ≡ komi 5 0 (to_le_bytes w64 a ++ to_le_bytes w64 b ++ to_le_bytes w64 c
-        ++ to_le_bytes w64 d ++ to_le_bytes w64 e ++ to_le_bytes w64 f) }
+        ++ to_le_bytes w64 d ++ to_le_bytes w32 e ++ to_le_bytes w64 f) }
 {
     let mut stream = StreamedKomihash::new();
-    write_two(&mut stream, a, b);
-    write_four(&mut stream, c, d, e, f);
-    stream.finish()
-}
-
-/// Numbers before and after bytes of any length.
-pub fn around_bytes(a: u64, b: u32, bytes: &[u8], c: u64, d: u32) -> u64
-    ensures { result ≡ komi 5 0 (to_le_bytes w64 a ++ to_le_bytes w32 b ++ bytes.now
-        ++ to_le_bytes w64 c ++ to_le_bytes w32 d) }
-{
-    let mut stream = StreamedKomihash::new();
-    stream.write(&a.to_le_bytes());
-    stream.write(&b.to_le_bytes());
-    stream.write(bytes);
-    stream.write(&c.to_le_bytes());
-    stream.write(&d.to_le_bytes());
-    stream.finish()
-}
-
-/// Writes of hashes.
-pub fn of_hashes(left: &[u8], right: &[u8]) -> u64
-    ensures { result ≡ komi 5 0
-        (to_le_bytes w64 (komi 5 0 left.now) ++ to_le_bytes w64 (komi 5 0 right.now)) }
-{
-    let mut stream = StreamedKomihash::new();
-    stream.write(&komihash(left, 0).to_le_bytes());
-    stream.write(&komihash(right, 0).to_le_bytes());
+    write_four(&mut stream, a, b, c, d);
+    write_key(&mut stream, e, f);
     stream.finish()
 }
 
