@@ -49,5 +49,5 @@ needs() {
 counted() {
     cat "$scratch/to_run"
     echo "$passed passed, $failed failed$([ "$skipped" = 0 ] || echo ", $skipped skipped")"
-    [ "$failed" = 0 ]
+    [ "$failed" = 0 ] && [ "$passed$skipped" != 00 ]
 }
