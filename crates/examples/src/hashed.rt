@@ -5,8 +5,8 @@ ghost use Rattle.std.specs.Hash.{le_bytes};
 ghost use Rattle.std.specs.Int.{to_le_bytes, w64};
 ghost use Rattle.komihash.specs.Hash.{komi};
 
+use komihash::KomiHasher;
 use komihash::v5::KomiBuildHasher;
-use komihash::{KomiHasher, laws};
 use std::alloc::{AllocFailed, Global};
 use std::collections::HashMap;
 use std::hash::{Hash, Hasher};
@@ -24,7 +24,6 @@ pub fn hash_of<T: Hash>(value: &T) -> u64
 pub fn hash_of_number(number: u64) -> u64
     ensures { result ≡ komi 5 0 (to_le_bytes w64 number) }
 {
-    laws::bytes_of_integers();
     hash_of(&number)
 }
 

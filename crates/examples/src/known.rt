@@ -14,7 +14,6 @@ pub fn hash_of_a() -> u64
 }
 
 /// Returns the next three outputs of a generator.
-#[tactic(auto, unfolding(komihash::specs::Generator::outputs))]
 pub fn three_outputs(generator: &mut Komirand) -> [u64; 3]
     ensures { result ≡ outputs 5 3 generator.old }
 {

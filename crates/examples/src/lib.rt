@@ -1,5 +1,5 @@
 //! Callers of `komihash`, one file for each subject.
-#![tactic(auto)]
+#![tactic(auto, using(komihash::proofs::LawLemmas::laws))]
 
 pub mod call_lists;
 pub mod checkpoints;

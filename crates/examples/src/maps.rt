@@ -9,7 +9,6 @@ use komihash::StreamedKomihash;
 use std::collections::BTreeMap;
 
 /// Hashes the entries of a map in the order of its keys, eight bytes for each number.
-#[tactic(auto, using(komihash::proofs::LawLemmas::of_items))]
 pub fn hash_of_map(map: &BTreeMap<u64, u64>) -> u64
     ensures { result ≡ komi 5 0
         (flat_map (λ entry. to_le_bytes w64 entry.0 ++ to_le_bytes w64 entry.1) map.now.entries) }

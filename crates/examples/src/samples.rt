@@ -5,14 +5,13 @@ ghost use Rattle.std.specs.Int.{to_le_bytes, w64};
 ghost use Rattle.std.specs.List.{flat_map};
 ghost use Rattle.komihash.specs.Generator.{after_steps, fill, outputs};
 
-use komihash::{Komirand, laws};
+use komihash::Komirand;
 
 /// Writes the next outputs of a generator.
 pub fn draw(generator: &mut Komirand, out: &mut [u64])
     ensures outputs { out.new ≡ outputs 5 (length out.old) generator.old }
     ensures pair { generator.new ≡ after_steps 5 (length out.old) generator.old }
 {
-    laws::step_by_step();
     for number in out {
         *number = generator.next();
     }
@@ -22,7 +21,6 @@ pub fn draw(generator: &mut Komirand, out: &mut [u64])
 pub fn sample_in_two(seed: u64, out: &mut [u8; 128])
     ensures { out.new ≡ fill 5 (after_steps 5 4 (seed, seed)) 128 }
 {
-    laws::fill_cut();
     let (first, second) = out.split_at_mut(64);
     let mut generator = Komirand::init(seed);
     generator.fill_bytes(first);
@@ -33,6 +31,5 @@ pub fn sample_in_two(seed: u64, out: &mut [u8; 128])
 pub fn sample_of_numbers(generator: &mut Komirand, out: &mut [u8; 64])
     ensures { out.new ≡ flat_map (λ number. to_le_bytes w64 number) (outputs 5 8 generator.old) }
 {
-    laws::fill_of_outputs();
     generator.fill_bytes(out);
 }

@@ -1,6 +1,6 @@
 //! Shards of keys.
 
-#![tactic(auto)]
+#![tactic(auto, using(komihash::proofs::LawLemmas::laws))]
 
 ghost use Rattle.std.specs.Prelude.{◌≡◌, ◌%◌, ◌<◌};
 ghost use Rattle.komihash.specs.Hash.{komi};

@@ -6,7 +6,7 @@ ghost use Rattle.komihash.specs.Hash.{komi};
 ghost use Rattle.komihash.specs.Stream.{HasAbsorbed};
 ghost use Rattle.komihash.proofs.Propositions.{HasAbsorbed-prop};
 
-use komihash::{StreamedKomihash, laws, v5};
+use komihash::{StreamedKomihash, v5};
 use std::alloc::{AllocError, Global};
 
 /// Entries, one after the other, and a stream that has absorbed them.
@@ -58,7 +58,6 @@ pub fn are_equal_keys(
     requires right { length right.now / 8 + 1 ≤ length right_words.old }
     ensures { result ≡ true ↔ left.now ≡ right.now }
 {
-    laws::same_words();
     let left_count = v5::pad(left, left_words);
     let right_count = v5::pad(right, right_words);
     left_words[..left_count] == right_words[..right_count]

@@ -6,7 +6,8 @@ use Rattle.std.proofs.lemmas.List.{take-append-drop, take-append-le}
 use Rattle.std.proofs.lemmas.Slice.{take-put_mid, drop-put_mid}
 use borrow.Rule.Slice.PartMut.{put_mid}
 use Rattle.std.proofs.Math.Nat.{div-div-eq-div-mul}
-use Rattle.std.specs.Int.{to_le_bytes}
+use Rattle.std.specs.Hash.{le_bytes}
+use Rattle.std.specs.Int.{to_le_bytes, bytes_low_first}
 use Rattle.std.specs.Simd.Lanes.{digits_l}
 use Rattle.std.proofs.lemmas.Grind.{elements}
 use Rattle.komihash.specs.Internals.{stored_words, whole_words}
@@ -14,6 +15,11 @@ use Rattle.komihash.specs.Words.{AreBytes, AreWords, word_of, all_bytes}
 use Rattle.komihash.proofs.Lists.{Covers, take-append}
 use Rattle.komihash.proofs.WholeWords.{length-whole_words}
 use Rattle.komihash.proofs.WordOf.{AreBytes-drop, word_of-take-lt}
+
+-- the bytes that an integer of n bytes writes to a hasher
+pub le_bytes-digits : (n x : ℕ) → le_bytes n x ≡ bytes_low_first 0 n x
+unfolding le_bytes
+le_bytes-digits n x = refl
 
 pub length-all_bytes : (ws : List ℕ) → length (all_bytes ws) ≡ 8 * length ws
 length-all_bytes [] = refl

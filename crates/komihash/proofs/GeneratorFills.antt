@@ -1,7 +1,7 @@
 -- The generator: its steps in two parts, each of its outputs, and the bytes of outputs that fill a
 -- buffer, in two parts.
-use Rattle.std.proofs.Common.{◌≡◌, ℕ, zero, suc, ◌+◌, ◌*◌, ◌%◌, ◌<◌, ◌∷◌, ◌++◌}
-use Rattle.std.proofs.Common.{length, refl, ap, arith, ◌∙◌, zero-add, suc-add, length-take-le}
+use Rattle.std.proofs.Common.{◌≡◌, ℕ, zero, suc, ◌+◌, ◌-◌, ◌*◌, ◌%◌, ◌<◌, ◌≤◌, [], ◌∷◌, ◌++◌}
+use Rattle.std.proofs.Common.{length, refl, ap, sym, arith, ◌∙◌, zero-add, suc-add, length-take-le}
 use Rattle.std.proofs.Common.{w64, slice_index, bit_xor, Bool, true, false, ◌==◌, ◌^◌, if◌then◌else◌}
 use Rattle.std.proofs.lemmas.List.{append-nil}
 use Rattle.std.proofs.lemmas.Nat.{xor_lt}
@@ -27,6 +27,32 @@ pub outputs-add : (v m n : ℕ) (s : ℕ × ℕ)
 unfolding after_steps outputs
 outputs-add v zero n s = rw zero-add refl
 outputs-add v (suc m) n s = rw suc-add (ap (λ ws. (next v s).0 ∷ ws) (outputs-add v m n (next v s)))
+
+-- ---- few steps, by which a number that is written out is found
+
+pub no_steps : (v : ℕ) (s : ℕ × ℕ) → after_steps v 0 s ≡ s
+unfolding after_steps
+no_steps v s = refl
+
+pub no_outputs : (v : ℕ) (s : ℕ × ℕ) → outputs v 0 s ≡ []
+unfolding outputs
+no_outputs v s = refl
+
+pub few_steps : (v n : ℕ) (s : ℕ × ℕ) → 0 < n → n ≤ 8
+    → after_steps v n s ≡ after_steps v (n - 1) (next v s)
+unfolding after_steps
+few_steps v zero s some few = absurd (omega arith)
+few_steps v (suc n) s some few =
+    let same : n ≡ suc n - 1 = omega arith in
+    ap (λ k. after_steps v k (next v s)) same
+
+pub few_outputs : (v n : ℕ) (s : ℕ × ℕ) → 0 < n → n ≤ 8
+    → outputs v n s ≡ (next v s).0 ∷ outputs v (n - 1) (next v s)
+unfolding outputs
+few_outputs v zero s some few = absurd (omega arith)
+few_outputs v (suc n) s some few =
+    let same : n ≡ suc n - 1 = omega arith in
+    ap (λ k. (next v s).0 ∷ outputs v k (next v s)) same
 
 -- ---- each output
 
@@ -74,6 +100,15 @@ pub fill-add : (v x y : ℕ) (s : ℕ × ℕ) → x % 8 ≡ 0
 fill-add v x y s whole =
     let more = outputs-add v (fill_steps x) (fill_steps y) s in
     grind (arith, elements, length-bytes, more, flat_map-append)
+
+-- the same, found from what is on the other side
+pub fills-joined : (v x y : ℕ) (s : ℕ × ℕ) → x % 8 ≡ 0
+    → fill v s x ++ fill v (after_fill v s x) y ≡ fill v s (x + y)
+fills-joined v x y s whole = sym (fill-add v x y s whole)
+
+pub outputs-filled : (v n : ℕ) (s : ℕ × ℕ)
+    → flat_map (λ output. to_le_bytes w64 output) (outputs v n s) ≡ fill v s (8 * n)
+outputs-filled v n s = sym (fill-whole v n s)
 
 -- ---- one output
 

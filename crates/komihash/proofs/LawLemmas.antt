@@ -1,12 +1,16 @@
 -- Lemmas about the definitions. They prove the laws of `src/laws.rt`, and a caller may name the
 -- ruleset `laws` for what no law states.
-use Rattle.std.proofs.Common.{append_assoc}
+use Rattle.std.proofs.Common.{append-nil, append_assoc, length-append, take_all}
+use Rattle.std.proofs.lemmas.Grind.{take_at_read, take-set_at}
 use Rattle.std.proofs.lemmas.List.{map-append}
 use Rattle.std.proofs.lemmas.List.Concat.{flat_map-append}
 use Rattle.std.proofs.lemmas.List.Sums.{fold-append}
 use Rattle.komihash.proofs.CallLists.{answers_after-append, bytes_of_calls-append}
 use Rattle.komihash.proofs.CallLists.{run_products-pieces, HasAbsorbed-pending}
+use Rattle.komihash.proofs.AllBytes.{le_bytes-digits}
 use Rattle.komihash.proofs.GeneratorFills.{after_steps-add, outputs-add, fill-add, after_fill-add}
+use Rattle.komihash.proofs.GeneratorFills.{no_steps, no_outputs, few_steps, few_outputs}
+use Rattle.komihash.proofs.GeneratorFills.{fills-joined, outputs-filled}
 use Rattle.komihash.proofs.GeneratorFills.{next-lt, fill-one, after_fill-one}
 use Rattle.komihash.proofs.GeneratorFills.{length-outputs, output-at, fill-whole, after_fill-whole}
 use Rattle.komihash.proofs.Unpadding.{same_message}
@@ -16,7 +20,7 @@ use Rattle.komihash.proofs.Streams.{same_state_after, same_text_after}
 use Rattle.komihash.proofs.HashPaths.{komi-same_below_64}
 use Rattle.komihash.proofs.HashWords.{komi-lt}
 
-pub ruleset of_hashes = (komi-lt, komi-same_below_64, fold-append)
+pub ruleset of_hashes = (komi-lt, komi-same_below_64, fold-append, le_bytes-digits)
 
 pub ruleset of_streams = (
   absorb-append,
@@ -25,19 +29,23 @@ pub ruleset of_streams = (
   HasAbsorbed-pending,
   same_state_after,
   same_text_after,
+  length-append,
 )
 
 pub ruleset of_calls = (answers_after-append, bytes_of_calls-append, run_products-pieces)
 
 pub ruleset of_texts_and_words = (same_version, same_state, IsTextAfter-most, same_message)
 
-pub ruleset of_steps = (after_steps-add, outputs-add)
+pub ruleset of_steps =
+    (after_steps-add, outputs-add, no_steps, no_outputs, few_steps, few_outputs)
 
 pub ruleset of_outputs = (
   length-outputs,
   output-at,
   fill-add,
   after_fill-add,
+  fills-joined,
+  outputs-filled,
   fill-whole,
   after_fill-whole,
   next-lt,
@@ -45,8 +53,16 @@ pub ruleset of_outputs = (
   after_fill-one,
 )
 
-pub ruleset laws =
-    (of_hashes, of_streams, of_calls, of_texts_and_words, of_steps, of_outputs)
-
 -- what several writes for each item of a map or another iterator need
-pub ruleset of_items = (flat_map-append, append_assoc, map-append)
+pub ruleset of_items = (
+  flat_map-append,
+  append-nil,
+  append_assoc,
+  map-append,
+  take_at_read,
+  take-set_at,
+  take_all,
+)
+
+pub ruleset laws =
+    (of_hashes, of_streams, of_calls, of_texts_and_words, of_steps, of_outputs, of_items)

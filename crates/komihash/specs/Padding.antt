@@ -1,7 +1,7 @@
 -- The padding of a message: its padding byte, and its padded words.
 use Rattle.std.specs.Prelude.{◌≡◌, ◌↔◌, ℕ, Bool, ◌+◌, ◌-◌, ◌/◌, ◌%◌, ◌==◌, ◌&&◌, nat_le}
 use Rattle.std.specs.Prelude.{List, [], ◌∷◌, ◌++◌, length, take, drop, replicate, slice_index}
-use Rattle.std.specs.Prelude.{Option, IfSome, IfNone, IsSomeAnd, IsNone, if◌then◌else◌}
+use Rattle.std.specs.Prelude.{Option, IfSome, IfNone, IsSome, IsSomeAnd, IsNone, if◌then◌else◌}
 use Rattle.komihash.specs.Borrows.{Mut}
 use Rattle.komihash.specs.Words.{AreBytes, words_of}
 
@@ -45,6 +45,8 @@ ArePadded v ws = (m : List ℕ) × AreBytes m × (padded_words v m ≡ ws)
 pub record Padded (v : ℕ) (bytes : List ℕ) (out : Mut (List ℕ)) (result : ℕ) : Type 0 where
   pub count : result ≡ length bytes / 8 + 1
   pub padded : take result out.exit.now ≡ padded_words v bytes
+  -- no other message has these padded words
+  pub only : (m : List ℕ) → AreBytes m → padded_words v m ≡ padded_words v bytes → m ≡ bytes
   pub rest : drop result out.exit.now ≡ drop result out.entry.now
 
 -- a call writes the message with these padded words to the front of `out`, leaves the rest, and
@@ -56,5 +58,6 @@ pub record Unpadded (v : ℕ) (words : List ℕ) (out : Mut (List ℕ)) (result 
       → IsSomeAnd result (λ n. take n out.exit.now ≡ m)
   pub rest : IfSome result (λ n. drop n out.exit.now ≡ drop n out.entry.now)
   pub length : IfSome result (λ n. n / 8 + 1 ≡ length words)
+  pub some : IsSome result ↔ ArePadded v words
   pub none : IsNone result ↔ ¬ ArePadded v words
   pub unchanged : IfNone result (out.exit.now ≡ out.entry.now)

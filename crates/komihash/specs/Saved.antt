@@ -1,6 +1,6 @@
 -- The saved text of a stream, which is a list of bytes.
 use Rattle.std.specs.Prelude.{ℕ, ◌≡◌, ◌≤◌, ◌↔◌, Bool, List, [], ◌∷◌, ◌++◌, length, take, drop}
-use Rattle.std.specs.Prelude.{Option, IfSome, IsSomeAnd, IsNone, if◌then◌else◌}
+use Rattle.std.specs.Prelude.{Option, IfSome, IsSome, IsSomeAnd, IsNone, if◌then◌else◌}
 use Rattle.komihash.specs.Borrows.{Mut}
 use Rattle.komihash.specs.Rounds.{in_order}
 use Rattle.komihash.specs.Stream.{State, IsState, HasAbsorbed}
@@ -44,6 +44,9 @@ IsTextAfter v seed m bytes = (s : State) × IsState v s × HasAbsorbed v seed s 
 pub record Stored (v : ℕ) (now : State) (out : Mut (List ℕ)) (result : ℕ) : Type 0 where
   pub length : result ≡ length (text v now)
   pub most : result ≤ longest_text
+  -- no other state, of either version, has this text
+  pub version : (w : ℕ) (s : State) → IsState w s → text w s ≡ text v now → w ≡ v
+  pub only : (w : ℕ) (s : State) → IsState w s → text w s ≡ text v now → s ≡ now
   pub text : take result out.exit.now ≡ text v now
   -- so it is a text after the message that the stream has absorbed
   pub message : (seed : ℕ) (m : List ℕ) → HasAbsorbed v seed now m
@@ -63,4 +66,5 @@ pub record Restored {A : Type 0} (v : ℕ) (view : A → State) (bytes : List �
   -- nothing else gives a stream
   pub most : IfSome result (λ _. length bytes ≤ longest_text)
   pub text : IfSome result (λ stream. text v (view stream) ≡ bytes)
+  pub some : IsSome result ↔ IsText v bytes
   pub none : IsNone result ↔ ¬ IsText v bytes

@@ -2,11 +2,11 @@
 //! whose padded words are given.
 
 ghost use Rattle.std.specs.Prelude.{◌≡◌, ◌+◌, ◌*◌, ◌/◌, ◌^◌, ◌<◌, ◌≤◌, ◌↔◌, IsTrue};
-ghost use Rattle.std.specs.Prelude.{IfSome, IfNone, length, take, slice_index};
-ghost use Rattle.komihash.specs.Padding.{ArePadded, Padded, Unpadded, padded_words};
+ghost use Rattle.std.specs.Prelude.{ℕ, List, IfSome, IfNone, length, take, drop, slice_index};
+ghost use Rattle.komihash.specs.Padding.{ArePadded, Unpadded, padded_words};
 ghost use Rattle.komihash.specs.Padding.{has_two, pads_with_two, padding_after, padding_byte};
 ghost use Rattle.komihash.specs.Internals.{final_word};
-ghost use Rattle.komihash.specs.Words.{all_bytes};
+ghost use Rattle.komihash.specs.Words.{AreBytes, all_bytes};
 
 use crate::utils::{last_word, read_partial_word, read_whole_words, write_first_bytes};
 use crate::version::{IsVersion, Versions};
@@ -84,7 +84,11 @@ pub fn pad<const V: u8>(bytes: &[u8], out: &mut [u64]) -> usize
 where
     Versions: IsVersion<V>,
     requires { length bytes.now / 8 + 1 ≤ length out.old }
-    ensures { Padded V bytes.now out result }
+    ensures count { result ≡ length bytes.now / 8 + 1 }
+    ensures padded { take result out.new ≡ padded_words V bytes.now }
+    ensures only { (m : List ℕ) → AreBytes m → padded_words V m ≡ padded_words V bytes.now
+        → m ≡ bytes.now }
+    ensures rest { drop result out.new ≡ drop result out.old }
 {
     let whole = bytes.len() / 8;
     let has_whole_word = whole > 0;

@@ -3,7 +3,7 @@
 -- its arguments, fails here, and needs a new first number of the version.
 use Rattle.std.specs.Prelude.{ℕ, Bool, true, List, [], ◌∷◌, Option, ◌≡◌, ◌↔◌, ◌<◌, ◌≤◌, ◌+◌, ◌/◌}
 use Rattle.std.specs.Prelude.{◌++◌, length, take, drop}
-use Rattle.std.specs.Prelude.{IfSome, IfNone, IsSomeAnd, IsNone}
+use Rattle.std.specs.Prelude.{IfSome, IfNone, IsSome, IsSomeAnd, IsNone}
 use Rattle.komihash.specs.Borrows.{Mut}
 use Rattle.komihash.specs.Calls.{answers_after, answers, onward, bytes_of_calls, AreAbsorbs}
 use Rattle.komihash.specs.Calls.{products_of_answers, onward_products, onward_kept_bytes}
@@ -156,6 +156,11 @@ stored : (v : ℕ) (s : State) (out : Mut (List ℕ)) (n : ℕ) → Stored v s o
     × (drop n out.exit.now ≡ drop n out.entry.now)
 stored v s out n is = (is.length, is.most, is.text, is.message, is.rest)
 
+stored_once : (v : ℕ) (s : State) (out : Mut (List ℕ)) (n : ℕ) → Stored v s out n
+    → (w : ℕ) (t : State) → IsState w t → text w t ≡ text v s → (w ≡ v) × (t ≡ s)
+stored_once v s out n is w t is_state same =
+    (is.version w t is_state same, is.only w t is_state same)
+
 restored : {A : Type 0} (v : ℕ) (view : A → State) (bytes : List ℕ) (result : Option A)
     → Restored v view bytes result
     → IfSome result (λ stream. text v (view stream) ≡ bytes)
@@ -163,20 +168,21 @@ restored : {A : Type 0} (v : ℕ) (view : A → State) (bytes : List ℕ) (resul
     × ((s : State) → IsState v s → text v s ≡ bytes → IsSomeAnd result (λ stream. view stream ≡ s))
     × ((seed : ℕ) (m : List ℕ) → IsTextAfter v seed m bytes
     → IsSomeAnd result (λ stream. HasAbsorbed v seed (view stream) m))
-    × (IsNone result ↔ ¬ IsText v bytes)
-restored v view bytes result is = (is.text, is.most, is.same, is.message, is.none)
+    × (IsSome result ↔ IsText v bytes) × (IsNone result ↔ ¬ IsText v bytes)
+restored v view bytes result is = (is.text, is.most, is.same, is.message, is.some, is.none)
 
 padded_out : (v : ℕ) (bytes : List ℕ) (out : Mut (List ℕ)) (n : ℕ) → Padded v bytes out n
     → (n ≡ length bytes / 8 + 1) × (take n out.exit.now ≡ padded_words v bytes)
+    × ((m : List ℕ) → AreBytes m → padded_words v m ≡ padded_words v bytes → m ≡ bytes)
     × (drop n out.exit.now ≡ drop n out.entry.now)
-padded_out v bytes out n is = (is.count, is.padded, is.rest)
+padded_out v bytes out n is = (is.count, is.padded, is.only, is.rest)
 
 unpadded : (v : ℕ) (words m : List ℕ) (out : Mut (List ℕ)) (result : Option ℕ)
     → Unpadded v words out result
     → IfSome result (λ n. padded_words v (take n out.exit.now) ≡ words)
     × (AreBytes m → padded_words v m ≡ words → IsSomeAnd result (λ n. take n out.exit.now ≡ m))
-    × (IsNone result ↔ ¬ ArePadded v words)
-unpadded v words m out result is = (is.message, is.same m, is.none)
+    × (IsSome result ↔ ArePadded v words) × (IsNone result ↔ ¬ ArePadded v words)
+unpadded v words m out result is = (is.message, is.same m, is.some, is.none)
 
 unpadded_rest : (v : ℕ) (words : List ℕ) (out : Mut (List ℕ)) (result : Option ℕ)
     → Unpadded v words out result

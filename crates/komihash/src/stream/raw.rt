@@ -160,6 +160,10 @@ impl RawStream {
         requires { LONGEST_TEXT ≤ length out.old }
         ensures length { result ≡ length (text V self.now) }
         ensures most { result ≤ LONGEST_TEXT }
+        ensures version { IsState V self.now → (w : ℕ) (s : State) → IsState w s
+            → text w s ≡ text V self.now → w ≡ V }
+        ensures only { IsState V self.now → (w : ℕ) (s : State) → IsState w s
+            → text w s ≡ text V self.now → s ≡ self.now }
         ensures text { take result out.new ≡ text V self.now }
         ensures message { IsState V self.now → (seed : ℕ) (m : List ℕ)
             → HasAbsorbed V seed self.now m → IsTextAfter V seed m (take result out.new) }
