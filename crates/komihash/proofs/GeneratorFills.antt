@@ -92,23 +92,18 @@ pub fill-whole : (v n : ℕ) (s : ℕ × ℕ)
     → fill v s (8 * n) ≡ flat_map (λ output. to_le_bytes w64 output) (outputs v n s)
 fill-whole v n s = grind (arith, elements, length-bytes)
 
+-- the same, which the search finds where the outputs are known
+pub outputs-whole : (v n : ℕ) (s : ℕ × ℕ) → all_bytes (outputs v n s) ≡ fill v s (8 * n)
+outputs-whole v n s = sym (fill-whole v n s)
+
 pub after_fill-whole : (v n : ℕ) (s : ℕ × ℕ) → after_fill v s (8 * n) ≡ after_steps v n s
 after_fill-whole v n s = ap (λ k. after_steps v k s) (omega arith)
 
 pub fill-add : (v x y : ℕ) (s : ℕ × ℕ) → x % 8 ≡ 0
-    → fill v s (x + y) ≡ fill v s x ++ fill v (after_fill v s x) y
+    → fill v s x ++ fill v (after_fill v s x) y ≡ fill v s (x + y)
 fill-add v x y s whole =
     let more = outputs-add v (fill_steps x) (fill_steps y) s in
     grind (arith, elements, length-bytes, more, flat_map-append)
-
--- the same, found from what is on the other side
-pub fills-joined : (v x y : ℕ) (s : ℕ × ℕ) → x % 8 ≡ 0
-    → fill v s x ++ fill v (after_fill v s x) y ≡ fill v s (x + y)
-fills-joined v x y s whole = sym (fill-add v x y s whole)
-
-pub outputs-filled : (v n : ℕ) (s : ℕ × ℕ)
-    → flat_map (λ output. to_le_bytes w64 output) (outputs v n s) ≡ fill v s (8 * n)
-outputs-filled v n s = sym (fill-whole v n s)
 
 -- ---- one output
 

@@ -10,9 +10,9 @@ use Rattle.komihash.proofs.CallLists.{run_products-pieces, HasAbsorbed-pending}
 use Rattle.komihash.proofs.AllBytes.{le_bytes-digits}
 use Rattle.komihash.proofs.GeneratorFills.{after_steps-add, outputs-add, fill-add, after_fill-add}
 use Rattle.komihash.proofs.GeneratorFills.{no_steps, no_outputs, few_steps, few_outputs}
-use Rattle.komihash.proofs.GeneratorFills.{fills-joined, outputs-filled}
 use Rattle.komihash.proofs.GeneratorFills.{next-lt, fill-one, after_fill-one}
-use Rattle.komihash.proofs.GeneratorFills.{length-outputs, output-at, fill-whole, after_fill-whole}
+use Rattle.komihash.proofs.GeneratorFills.{length-outputs, output-at, fill-whole, outputs-whole}
+use Rattle.komihash.proofs.GeneratorFills.{after_fill-whole}
 use Rattle.komihash.proofs.Unpadding.{same_message}
 use Rattle.komihash.proofs.SavedTexts.{same_version, same_state, IsTextAfter-most}
 use Rattle.komihash.proofs.Streams.{absorb-append, absorb-nothing, answer-joined}
@@ -44,9 +44,8 @@ pub ruleset of_outputs = (
   output-at,
   fill-add,
   after_fill-add,
-  fills-joined,
-  outputs-filled,
   fill-whole,
+  outputs-whole,
   after_fill-whole,
   next-lt,
   fill-one,

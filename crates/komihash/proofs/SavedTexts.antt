@@ -158,10 +158,5 @@ pub text-after : (v seed : ℕ) (s : State) (m bytes : List ℕ) → IsState v s
 unfolding IsTextAfter
 text-after v seed s m bytes is after same = search arith
 
--- no other state, of either version, has the text
-pub text-only : (v w : ℕ) (now s : State) → IsState v now → IsState w s → text w s ≡ text v now
-    → s ≡ now
-text-only v w now s is_now is same = same_state w v s now same is.words is_now.words
-
 -- what the proof of `store` needs
-pub ruleset stored = (length-text, text-after, same_version, text-only)
+pub ruleset stored = (length-text, text-after, same_version, same_state)

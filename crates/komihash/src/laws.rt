@@ -121,7 +121,6 @@ pub fn cost_of_pieces()
 
 /// Proves that zero steps output nothing and don't change the pair, and that n + 1 steps are n
 /// steps and one more. A loop that draws numbers needs it.
-#[tactic(auto, unfolding(crate::specs::Generator::after_steps, crate::specs::Generator::outputs), using(crate::proofs::LawLemmas::of_steps))]
 pub fn step_by_step()
     ensures no_step { (v : ℕ) (s : ℕ × ℕ) → after_steps v 0 s ≡ s }
     ensures no_output { (v : ℕ) (s : ℕ × ℕ) → outputs v 0 s ≡ [] }
