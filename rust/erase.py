@@ -19,6 +19,7 @@ from pathlib import Path
 
 CHOICES = {r'^ *// Rattle alone\.\n(?:.+\n)+': '', r'^ *//.*<!-- Rattle -->\n': '',
            r'^( *)// Rust instead:(?: (.*))?\n.+\n': r'\1\2\n', r'^( *)// Rust: (.*)\n': r'\1\2\n'}
+MADE = '// Made by rust/erase.py of crates/komihash/src, where changes belong.\n'
 RUSTFMT = 'rustfmt', '--edition', '2024', '--config-path', Path(__file__).resolve().parent
 ONLY_RATTLE = 'laws', 'tally', 'tests'  # modules
 # Comments and literals, which become ‹/N› and ‹sN›, so that no pattern sees what is in them.
@@ -40,8 +41,9 @@ SPELLED = {'#[derive(Drop)]': '#[derive(Clone)]', 'use std::': 'use core::',
 NAMED = re.compile(r'let (\w+) = ([^;{}]*);\n *((?:let \w+ = |return )?if )\1 (?=\{)')
 ATTRIBUTES = re.compile(r'#!?\[(.*)\]'), re.compile(
     r'inline|inline\((always|never)\)|repr\((C|transparent)\)|track_caller|no_std|must_use|'
-    r'derive\((Clone|Clone, Copy|Debug)\)|forbid\(unsafe_code\)|warn\(missing_docs\)|'
-    r'allow\([\w:, ]+\)|doc = include_str!\(‹.\d+›\)|doc\(inline\)|cfg\(feature = ‹.\d+›\)')
+    r'derive\((Clone|Clone, Copy|Debug|Debug, PartialEq, Eq)\)|forbid\(unsafe_code\)|warn\(missing_docs\)|'
+    r'allow\([\w:, ]+\)|doc = include_str!\(‹.\d+›\)|doc\(inline\)|cfg\(feature = ‹.\d+›\)|'
+    r'diagnostic::on_unimplemented\(message = ‹.\d+›\)')
 MACROS = re.compile(r'(\w+)!(?!=)'), re.compile('assert|unreachable|include_str|write')
 # What may not be left.
 NO_RUST = re.compile(r'\b(?:ghost|requires|ensures|tally|Tally|Model|Drop|prove|unsafe|rt|std|'
@@ -197,7 +199,7 @@ def main(source, out):
     for file, text in texts.items():
         made = (out / file).with_suffix('.rs')
         made.parent.mkdir(parents=True, exist_ok=True)
-        made.write_text(erase(text, traits), 'utf-8')
+        made.write_text(MADE + erase(text, traits), 'utf-8')
     subprocess.run([*RUSTFMT, out / 'lib.rs'], check=True)
 
 

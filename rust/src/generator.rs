@@ -1,3 +1,4 @@
+// Made by rust/erase.py of crates/komihash/src, where changes belong.
 //! The pseudorandom generator of both versions.
 
 use crate::utils::{multiply128, write_partial_word, write_word};
@@ -13,8 +14,9 @@ use crate::version::{IsVersion, Versions};
 /// `s2 + high + 0xaaaaaaaaaaaaaaaa`. The new first word is the exclusive or of low and that word
 /// in version 4, and `(low ^ high) + 0x5555555555555555` in version 5. These sums wrap around.
 /// `Debug` shows both words.
+// The words are laid out as in the library for C.
 #[repr(C)]
-#[derive(Debug, Clone)]
+#[derive(Debug, PartialEq, Eq, Clone)]
 pub struct Komirand<const V: u8>
 where
     Versions: IsVersion<V>,
@@ -80,7 +82,8 @@ where
     /// use komihash_rattle::v5::Komirand;
     /// let mut generator = Komirand::init(7);
     /// let (s1, s2) = generator.words();
-    /// assert_eq!(Komirand::new(s1, s2).next(), generator.next());
+    /// let mut restored = Komirand::new(s1, s2);
+    /// assert_eq!([restored.next(), restored.next()], [generator.next(), generator.next()]);
     /// ```
     #[must_use]
     #[inline]
@@ -93,8 +96,8 @@ where
     /// ```
     /// use komihash_rattle::v5::Komirand;
     /// let mut generator = Komirand::init(7);
-    /// let coin = generator.next() >> 63;
-    /// assert!(coin < 2);
+    /// let throw = 1 + ((u128::from(generator.next()) * 6) >> 64);
+    /// assert!((1..=6).contains(&throw));
     /// ```
     #[allow(clippy::should_implement_trait)]
     #[inline]

@@ -1,3 +1,4 @@
+// Made by rust/erase.py of crates/komihash/src, where changes belong.
 //! The hash of a whole message, which is read without a copy.
 //!
 //! Each range of lengths has a function of its own, so that messages take few jumps.

@@ -1,3 +1,4 @@
+// Made by rust/erase.py of crates/komihash/src, where changes belong.
 //! The hasher of both versions, which chains the hashes of its writes, and what makes one for each
 //! key of a map.
 
@@ -77,7 +78,7 @@ where
 /// attacker chooses.
 ///
 /// `Debug` shows the seed.
-#[derive(Debug, Clone, Copy)]
+#[derive(Debug, PartialEq, Eq, Clone, Copy)]
 pub struct KomiBuildHasher<const V: u8>
 where
     Versions: IsVersion<V>,

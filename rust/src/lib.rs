@@ -1,4 +1,5 @@
 // Made by rust/erase.py of crates/komihash/src, where changes belong.
+
 #![doc = include_str!("../README.md")]
 #![no_std]
 #![forbid(unsafe_code)]

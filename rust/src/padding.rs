@@ -1,3 +1,4 @@
+// Made by rust/erase.py of crates/komihash/src, where changes belong.
 //! The padding of a message: its padding byte, its final word, its padded words, and the message
 //! whose padded words are given.
 

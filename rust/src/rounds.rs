@@ -1,3 +1,4 @@
+// Made by rust/erase.py of crates/komihash/src, where changes belong.
 //! The steps of the hash: seeding, lanes, block rounds, joining, pair rounds, closing.
 //!
 //! Only `places` depends on the version.

@@ -1,3 +1,4 @@
+// Made by rust/erase.py of crates/komihash/src, where changes belong.
 //! The trait of streams, and runs of calls on one.
 
 pub use saved::LONGEST_TEXT;

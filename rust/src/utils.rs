@@ -1,3 +1,4 @@
+// Made by rust/erase.py of crates/komihash/src, where changes belong.
 //! Words of eight bytes, the lowest byte first: read from bytes, written to bytes, multiplied.
 
 #[inline(always)]

@@ -1,3 +1,4 @@
+// Made by rust/erase.py of crates/komihash/src, where changes belong.
 //! Komihash version 4, for hashes that exist already. Version 5 is for new data.
 //!
 //! It differs from version 5 in which words of a block are multiplied with each other, in the
@@ -30,6 +31,14 @@ pub type StreamedKomihash = stream::streamed::StreamedKomihash<4>;
 /// Its writes are not joined: each replaces its number by the hash of the bytes, with the number
 /// as the seed. Use it for maps alone, whose keys no attacker chooses, as
 /// [the type of both versions](crate::version::KomiHasher) explains.
+///
+/// ```
+/// use komihash_rattle::v4::{KomiHasher, komihash};
+/// use std::hash::Hasher;
+/// let mut hasher = KomiHasher::default();
+/// hasher.write(b"port");
+/// assert_eq!(hasher.finish(), komihash(b"port", 0));
+/// ```
 pub type KomiHasher = hasher::KomiHasher<4>;
 
 /// Makes a hasher of version 4 for each key of a map, from one seed.
@@ -47,6 +56,12 @@ pub type KomiBuildHasher = hasher::KomiBuildHasher<4>;
 /// The pseudorandom generator of version 4, which is not cryptographic.
 ///
 /// [The type of both versions](crate::version::Komirand) has the rule of a step.
+///
+/// ```
+/// use komihash_rattle::v4::Komirand;
+/// let mut sample = [0; 100];
+/// Komirand::init(7).fill_bytes(&mut sample);
+/// ```
 pub type Komirand = generator::Komirand<4>;
 
 /// Returns the hash of a message of any length with any seed.
@@ -65,8 +80,9 @@ pub fn komihash(bytes: &[u8], seed: u64) -> u64 {
 /// Writes the padded words of a message, and returns how many they are: `bytes.len() / 8 + 1`,
 /// which is the length that `out` needs.
 ///
-/// They are the bytes of the message, its padding byte, and zeros, eight bytes per word, the lowest
-/// byte first. The empty message has the one word 0. The rest of `out` is unchanged.
+/// They are what the hash reads: the bytes of the message, its padding byte, and zeros, eight bytes
+/// per word, the lowest byte first. The padding byte is 1, or 2 in version 4 after a byte of 128 or
+/// more. The empty message has the one word 0. The rest of `out` is unchanged.
 ///
 /// # Panics
 ///

@@ -1,3 +1,4 @@
+// Made by rust/erase.py of crates/komihash/src, where changes belong.
 //! Komihash version 5, for new data. The crate's root has its hash, stream, hasher and generator.
 
 use crate::{generator, hash, hasher, padding, stream};
@@ -21,6 +22,14 @@ pub type StreamedKomihash = stream::streamed::StreamedKomihash<5>;
 /// Its writes are not joined: each replaces its number by the hash of the bytes, with the number
 /// as the seed. Use it for maps alone, whose keys no attacker chooses, as
 /// [the type of both versions](crate::version::KomiHasher) explains.
+///
+/// ```
+/// use komihash_rattle::v5::{KomiHasher, komihash};
+/// use std::hash::Hasher;
+/// let mut hasher = KomiHasher::default();
+/// hasher.write(b"port");
+/// assert_eq!(hasher.finish(), komihash(b"port", 0));
+/// ```
 pub type KomiHasher = hasher::KomiHasher<5>;
 
 /// Makes a hasher of version 5 for each key of a map, from one seed.
@@ -38,6 +47,12 @@ pub type KomiBuildHasher = hasher::KomiBuildHasher<5>;
 /// The pseudorandom generator of version 5, which is not cryptographic.
 ///
 /// [The type of both versions](crate::version::Komirand) has the rule of a step.
+///
+/// ```
+/// use komihash_rattle::v5::Komirand;
+/// let mut sample = [0; 100];
+/// Komirand::init(7).fill_bytes(&mut sample);
+/// ```
 pub type Komirand = generator::Komirand<5>;
 
 /// Returns the hash of a message of any length with any seed.
@@ -56,8 +71,9 @@ pub fn komihash(bytes: &[u8], seed: u64) -> u64 {
 /// Writes the padded words of a message, and returns how many they are: `bytes.len() / 8 + 1`,
 /// which is the length that `out` needs.
 ///
-/// They are the bytes of the message, its padding byte, and zeros, eight bytes per word, the lowest
-/// byte first. The empty message has the one word 0. The rest of `out` is unchanged.
+/// They are what the hash reads: the bytes of the message, its padding byte, and zeros, eight bytes
+/// per word, the lowest byte first. The padding byte is 1, or 2 in version 4 after a byte of 128 or
+/// more. The empty message has the one word 0. The rest of `out` is unchanged.
 ///
 /// # Panics
 ///

@@ -1,5 +1,6 @@
-//! The types and functions of both versions, for code that is generic over the version. The
-//! modules [`v4`](crate::v4) and [`v5`](crate::v5) have them by names without one.
+// Made by rust/erase.py of crates/komihash/src, where changes belong.
+//! The types and functions of both versions, for code that is generic over the version. For one
+//! version, take those of [`v4`](crate::v4) or [`v5`](crate::v5).
 //!
 //! ```
 //! use komihash_rattle::version::{IsVersion, Versions, komihash};
@@ -15,7 +16,7 @@
 //! No other version has a type:
 //!
 //! ```compile_fail,E0277
-//! komihash_rattle::version::KomiHasher::<9>::new(0);
+//! komihash_rattle::version::KomiHasher::<6>::new(0);
 //! ```
 
 pub use crate::generator::Komirand;
@@ -25,10 +26,11 @@ pub use crate::padding::{pad, unpad};
 pub use crate::stream::streamed::StreamedKomihash;
 
 /// Says that V is the number of a version.
+#[diagnostic::on_unimplemented(message = "komihash has versions 4 and 5 alone")]
 pub trait IsVersion<const V: u8> {}
 
 /// Has an impl of `IsVersion` for each version.
-pub struct Versions;
+pub enum Versions {}
 
 impl IsVersion<4> for Versions {}
 

@@ -9,6 +9,7 @@ use std::hash::{BuildHasher, BuildHasherDefault, Hash, Hasher};
 use std::panic::{catch_unwind, set_hook, take_hook};
 use std::sync::Mutex;
 
+const SEED: u64 = 0xfedc_ba98_7654_3210;
 const TABLES: [&str; 2] = [include_str!("vectors.tsv"), include_str!("values.tsv")];
 
 macro_rules! tests {
@@ -48,6 +49,11 @@ macro_rules! tests {
                 for (_, call, given, value) in rows {
                     let result = calls(call, &given).unwrap_or_else(|| added(call, &given));
                     assert_eq!(result, value, "{call} {given:?}");
+                    if let ("komihash", [seed, message]) = (call, &given[..]) {
+                        let bytes = (0..message.len()).step_by(2).map(|at| &message[at..at + 2]);
+                        let given: Vec<_> = [*seed, ""].into_iter().chain(bytes).collect();
+                        assert!(calls("stream", &given).unwrap().ends_with(value));
+                    }
                 }
             }
 
@@ -57,16 +63,17 @@ macro_rules! tests {
                 // The bytes fall, so that in version 4 a high byte ends the first block alone.
                 let message: Vec<u8> = (0..200).rev().collect();
                 for (length, cut) in (0..=200).flat_map(|it| (0..=it).map(move |cut| (it, cut))) {
-                    let (mut stream, mut out) = (StreamedKomihash::new_with_seed(7), [0xa5; 132]);
+                    let (mut stream, mut out) =
+                        (StreamedKomihash::new_with_seed(SEED), [0xa5; 132]);
                     stream.write(&message[..cut]);
-                    assert_eq!(stream.finish(), komihash(&message[..cut], 7));
+                    assert_eq!(stream.finish(), komihash(&message[..cut], SEED));
                     let save = [StreamedKomihash::save, StreamedKomihash::store][cut % 2];
                     let saved = save(&stream, &mut out);
                     assert!(out[saved..].iter().all(|byte| *byte == 0xa5));
                     let resumed = StreamedKomihash::resume(&out[..saved]).unwrap();
                     for mut stream in [stream.clone(), resumed, stream] {
                         stream.write(&message[cut..length]);
-                        assert_eq!(stream.finish(), komihash(&message[..length], 7));
+                        assert_eq!(stream.finish(), komihash(&message[..length], SEED));
                     }
                 }
             }
@@ -78,7 +85,7 @@ macro_rules! tests {
                 Komirand::new(1, 2).fill_bytes(&mut message);
                 assert_eq!(komihash(&message, 3), $long);
                 let (mut stream, mut random) =
-                    (StreamedKomihash::new_with_seed(3), Komirand::init(4));
+                    (StreamedKomihash::new_with_seed(3), Komirand::init(SEED));
                 let mut rest = &message[..];
                 while !rest.is_empty() {
                     let longest = 1 << (random.next() % 14);
@@ -110,7 +117,8 @@ macro_rules! tests {
 
             #[test]
             fn fills_are_outputs() {
-                const START: Komirand = Komirand::new(1, 2);
+                const START: Komirand = Komirand::new(1, SEED);
+                assert_eq!(START.words(), (1, SEED));
                 for length in 0..40 {
                     let (mut filled, mut stepped, mut bytes) = (START, START, vec![0; length]);
                     filled.fill_bytes(&mut bytes);
@@ -131,14 +139,14 @@ macro_rules! tests {
                     Call::Answer,
                 ];
                 let mut out = [7; 5];
-                assert_eq!(run::<StreamedKomihash>(9, &calls, &mut out), 2);
-                assert_eq!(out[..2], [komihash(b"", 9), komihash(&message[..71], 9)]);
+                assert_eq!(run::<StreamedKomihash>(SEED, &calls, &mut out), 2);
+                assert_eq!(out[..2], [komihash(b"", SEED), komihash(&message[..71], SEED)]);
                 assert_eq!(out[2..], [7; 3]);
-                let mut stream = StreamedKomihash::start(9);
+                let mut stream = StreamedKomihash::start(SEED);
                 stream.absorb(&message[..64]);
                 assert_eq!(run_on(&mut stream, &calls[2..], &mut out), 1);
                 let wanted = [&message[..64], &message[70..71]].concat();
-                assert_eq!((out[0], stream.answer()), (komihash(&wanted, 9), out[0]));
+                assert_eq!((out[0], stream.answer()), (komihash(&wanted, SEED), out[0]));
                 assert_eq!(StreamedKomihash::VERSION.to_string(), $number);
             }
 
@@ -157,12 +165,12 @@ macro_rules! tests {
 
             #[test]
             fn hashers_of_a_seed() {
-                const SEVEN: (KomiHasher, KomiBuildHasher) =
-                    (KomiHasher::new(7), KomiBuildHasher::new(7));
-                let (mut hasher, build) = SEVEN;
-                assert_eq!((hasher.finish(), build.build_hasher().finish()), (7, 7));
+                const SEEDED: (KomiHasher, KomiBuildHasher) =
+                    (KomiHasher::new(SEED), KomiBuildHasher::new(SEED));
+                let (mut hasher, build) = SEEDED;
+                assert_eq!((hasher.finish(), build.build_hasher().finish()), (SEED, SEED));
                 hasher.write(b"port");
-                assert_eq!(hasher.finish(), komihash(b"port", 7));
+                assert_eq!(hasher.finish(), komihash(b"port", SEED));
                 let defaults = (KomiHasher::default(), KomiBuildHasher::default().build_hasher());
                 assert_eq!((defaults.0.finish(), defaults.1.finish()), (0, 0));
                 let mut map = HashMap::with_hasher(build);
@@ -170,7 +178,7 @@ macro_rules! tests {
                 assert_eq!((map["port"], map.get("host")), (443, None));
                 let hash = map.hasher().hash_one((9_u64, 8_u16));
                 assert_eq!(hash, komihash(&8_u16.to_ne_bytes(), build.hash_one(9_u64)));
-                assert_eq!(build.hash_one(9_u64), komihash(&9_u64.to_ne_bytes(), 7));
+                assert_eq!(build.hash_one(9_u64), komihash(&9_u64.to_ne_bytes(), SEED));
             }
 
             #[test]

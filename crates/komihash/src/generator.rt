@@ -19,9 +19,10 @@ use std::marker::Model;
 // Rust: /// `s2 + high + 0xaaaaaaaaaaaaaaaa`. The new first word is the exclusive or of low and that word
 // Rust: /// in version 4, and `(low ^ high) + 0x5555555555555555` in version 5. These sums wrap around.
 // Rust: /// `Debug` shows both words.
+// Rust: // The words are laid out as in the library for C.
 /// `next` of `specs/Generator.antt` has the rule of each version. <!-- Rattle -->
 // Rust: #[repr(C)]
-// Rust: #[derive(Debug)]
+// Rust: #[derive(Debug, PartialEq, Eq)]
 #[derive(Drop)]
 pub struct Komirand<const V: u8>
 where
@@ -105,7 +106,8 @@ where
     // Rust: /// use komihash_rattle::v5::Komirand;
     // Rust: /// let mut generator = Komirand::init(7);
     // Rust: /// let (s1, s2) = generator.words();
-    // Rust: /// assert_eq!(Komirand::new(s1, s2).next(), generator.next());
+    // Rust: /// let mut restored = Komirand::new(s1, s2);
+    // Rust: /// assert_eq!([restored.next(), restored.next()], [generator.next(), generator.next()]);
     // Rust: /// ```
     // Rust: #[must_use]
     // Rust instead:
@@ -124,8 +126,8 @@ where
     // Rust: /// ```
     // Rust: /// use komihash_rattle::v5::Komirand;
     // Rust: /// let mut generator = Komirand::init(7);
-    // Rust: /// let coin = generator.next() >> 63;
-    // Rust: /// assert!(coin < 2);
+    // Rust: /// let throw = 1 + ((u128::from(generator.next()) * 6) >> 64);
+    // Rust: /// assert!((1..=6).contains(&throw));
     // Rust: /// ```
     // Rust: #[allow(clippy::should_implement_trait)]
     #[inline]

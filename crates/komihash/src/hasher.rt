@@ -101,7 +101,7 @@ where
 /// attacker chooses.
 // Rust: ///
 // Rust: /// `Debug` shows the seed.
-// Rust: #[derive(Debug)]
+// Rust: #[derive(Debug, PartialEq, Eq)]
 #[derive(Clone, Copy)]
 pub struct KomiBuildHasher<const V: u8>
 where

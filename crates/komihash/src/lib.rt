@@ -14,7 +14,6 @@
 //! bytes were cut. It is proved to be the hash that the definitions in `specs/` give.
 
 #![tactic(auto)]
-// Rust: // Made by rust/erase.py of crates/komihash/src, where changes belong.
 // Rust: #![doc = include_str!("../README.md")]
 // Rust: #![no_std]
 // Rust: #![forbid(unsafe_code)]

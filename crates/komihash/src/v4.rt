@@ -36,6 +36,14 @@ pub type StreamedKomihash = stream::streamed::StreamedKomihash<4>;
 // Rust: /// Its writes are not joined: each replaces its number by the hash of the bytes, with the number
 // Rust: /// as the seed. Use it for maps alone, whose keys no attacker chooses, as
 // Rust: /// [the type of both versions](crate::version::KomiHasher) explains.
+// Rust: ///
+// Rust: /// ```
+// Rust: /// use komihash_rattle::v4::{KomiHasher, komihash};
+// Rust: /// use std::hash::Hasher;
+// Rust: /// let mut hasher = KomiHasher::default();
+// Rust: /// hasher.write(b"port");
+// Rust: /// assert_eq!(hasher.finish(), komihash(b"port", 0));
+// Rust: /// ```
 pub type KomiHasher = hasher::KomiHasher<4>;
 
 /// Makes a hasher of version 4 for each key of a map, from one seed.
@@ -53,6 +61,12 @@ pub type KomiBuildHasher = hasher::KomiBuildHasher<4>;
 /// The pseudorandom generator of version 4, which is not cryptographic.
 // Rust: ///
 // Rust: /// [The type of both versions](crate::version::Komirand) has the rule of a step.
+// Rust: ///
+// Rust: /// ```
+// Rust: /// use komihash_rattle::v4::Komirand;
+// Rust: /// let mut sample = [0; 100];
+// Rust: /// Komirand::init(7).fill_bytes(&mut sample);
+// Rust: /// ```
 pub type Komirand = generator::Komirand<4>;
 
 /// Returns the hash of a message of any length with any seed.
@@ -87,8 +101,9 @@ pub fn komihash_counted(bytes: &[u8], seed: u64, tally: &mut Tally) -> u64
 /// Writes the padded words of a message, and returns how many they are: `bytes.len() / 8 + 1`,
 /// which is the length that `out` needs.
 ///
-/// They are the bytes of the message, its padding byte, and zeros, eight bytes per word, the lowest
-/// byte first. The empty message has the one word 0. The rest of `out` is unchanged.
+/// They are what the hash reads: the bytes of the message, its padding byte, and zeros, eight bytes
+/// per word, the lowest byte first. The padding byte is 1, or 2 in version 4 after a byte of 128 or
+/// more. The empty message has the one word 0. The rest of `out` is unchanged.
 // Rust: ///
 // Rust: /// # Panics
 // Rust: ///

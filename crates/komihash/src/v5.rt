@@ -27,6 +27,14 @@ pub type StreamedKomihash = stream::streamed::StreamedKomihash<5>;
 // Rust: /// Its writes are not joined: each replaces its number by the hash of the bytes, with the number
 // Rust: /// as the seed. Use it for maps alone, whose keys no attacker chooses, as
 // Rust: /// [the type of both versions](crate::version::KomiHasher) explains.
+// Rust: ///
+// Rust: /// ```
+// Rust: /// use komihash_rattle::v5::{KomiHasher, komihash};
+// Rust: /// use std::hash::Hasher;
+// Rust: /// let mut hasher = KomiHasher::default();
+// Rust: /// hasher.write(b"port");
+// Rust: /// assert_eq!(hasher.finish(), komihash(b"port", 0));
+// Rust: /// ```
 pub type KomiHasher = hasher::KomiHasher<5>;
 
 /// Makes a hasher of version 5 for each key of a map, from one seed.
@@ -44,6 +52,12 @@ pub type KomiBuildHasher = hasher::KomiBuildHasher<5>;
 /// The pseudorandom generator of version 5, which is not cryptographic.
 // Rust: ///
 // Rust: /// [The type of both versions](crate::version::Komirand) has the rule of a step.
+// Rust: ///
+// Rust: /// ```
+// Rust: /// use komihash_rattle::v5::Komirand;
+// Rust: /// let mut sample = [0; 100];
+// Rust: /// Komirand::init(7).fill_bytes(&mut sample);
+// Rust: /// ```
 pub type Komirand = generator::Komirand<5>;
 
 /// Returns the hash of a message of any length with any seed.
@@ -78,8 +92,9 @@ pub fn komihash_counted(bytes: &[u8], seed: u64, tally: &mut Tally) -> u64
 /// Writes the padded words of a message, and returns how many they are: `bytes.len() / 8 + 1`,
 /// which is the length that `out` needs.
 ///
-/// They are the bytes of the message, its padding byte, and zeros, eight bytes per word, the lowest
-/// byte first. The empty message has the one word 0. The rest of `out` is unchanged.
+/// They are what the hash reads: the bytes of the message, its padding byte, and zeros, eight bytes
+/// per word, the lowest byte first. The padding byte is 1, or 2 in version 4 after a byte of 128 or
+/// more. The empty message has the one word 0. The rest of `out` is unchanged.
 // Rust: ///
 // Rust: /// # Panics
 // Rust: ///

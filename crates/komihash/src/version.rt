@@ -1,5 +1,5 @@
-// Rust: //! The types and functions of both versions, for code that is generic over the version. The
-// Rust: //! modules [`v4`](crate::v4) and [`v5`](crate::v5) have them by names without one.
+// Rust: //! The types and functions of both versions, for code that is generic over the version. For one
+// Rust: //! version, take those of [`v4`](crate::v4) or [`v5`](crate::v5).
 // Rust: //!
 // Rust: //! ```
 // Rust: //! use komihash_rattle::version::{IsVersion, Versions, komihash};
@@ -16,7 +16,7 @@
 // Rust instead: //!
 //! Which numbers are versions.
 // Rust: //! ```compile_fail,E0277
-// Rust: //! komihash_rattle::version::KomiHasher::<9>::new(0);
+// Rust: //! komihash_rattle::version::KomiHasher::<6>::new(0);
 // Rust: //! ```
 
 ghost use Rattle.std.specs.Prelude.{◌≡◌, ◌⊎◌};
@@ -29,13 +29,14 @@ ghost use Rattle.std.proofs.Common.{inl, inr, refl};
 // Rust: pub use crate::stream::streamed::StreamedKomihash;
 
 /// Says that V is the number of a version.
+// Rust: #[diagnostic::on_unimplemented(message = "komihash has versions 4 and 5 alone")]
 // Rust instead: pub trait IsVersion<const V: u8> {
 pub(crate) trait IsVersion<const V: u8> {
     ghost is_version: { (V ≡ 4) ⊎ (V ≡ 5) };
 }
 
 /// Has an impl of `IsVersion` for each version.
-// Rust instead: pub struct Versions;
+// Rust instead: pub enum Versions {}
 pub(crate) struct Versions;
 
 impl IsVersion<4> for Versions {

@@ -1,3 +1,4 @@
+// Made by rust/erase.py of crates/komihash/src, where changes belong.
 //! The pending bytes of a stream: those after its last whole block.
 
 use super::words::WholeWords;

@@ -1,3 +1,4 @@
+// Made by rust/erase.py of crates/komihash/src, where changes belong.
 //! Whole words, which the rounds on pairs take from a message's bytes or from a stream, and the end
 //! of each hash, which takes what is left of them.
 

@@ -1,3 +1,4 @@
+// Made by rust/erase.py of crates/komihash/src, where changes belong.
 //! The stream of both versions, whose type does not name the version.
 
 use super::saved;
@@ -8,7 +9,8 @@ use crate::rounds::{Lanes, absorb_blocks, block_round, close, join, lanes_of, pl
 use crate::version::{IsVersion, Versions};
 
 /// A stream of either version, which each call names. The calls do what those of `KomiStream` do.
-/// Rust callers use `StreamedKomihash`, whose type names the version.
+/// Rust callers use `StreamedKomihash`, whose type names the version. It and its parts are laid out
+/// as C does, because it is also the stream of the library for C.
 #[derive(Clone)]
 #[repr(C)]
 pub struct RawStream {

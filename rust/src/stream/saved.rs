@@ -1,3 +1,4 @@
+// Made by rust/erase.py of crates/komihash/src, where changes belong.
 //! The saved text of a stream, part by part: four bytes that describe it, the eight lanes in their
 //! order, and the pending bytes.
 

@@ -1,3 +1,4 @@
+// Made by rust/erase.py of crates/komihash/src, where changes belong.
 //! The stream of both versions.
 
 use super::raw::RawStream;
@@ -48,6 +49,9 @@ where
     }
 
     /// Absorbs any number of bytes.
+    ///
+    /// `ab` and then `c` give the hash of `a` and then `bc`. So where a message has several
+    /// parts, write the length of each before it.
     ///
     /// ```
     /// use komihash_rattle::v5::{StreamedKomihash, komihash};

@@ -72,6 +72,9 @@ where
 
     /// Absorbs any number of bytes.
     // Rust: ///
+    // Rust: /// `ab` and then `c` give the hash of `a` and then `bc`. So where a message has several
+    // Rust: /// parts, write the length of each before it.
+    // Rust: ///
     // Rust: /// ```
     // Rust: /// use komihash_rattle::v5::{StreamedKomihash, komihash};
     // Rust: /// let mut stream = StreamedKomihash::new();
