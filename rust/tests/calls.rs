@@ -13,7 +13,7 @@ const SEED: u64 = 0xfedc_ba98_7654_3210;
 const TABLES: [&str; 2] = [include_str!("vectors.tsv"), include_str!("values.tsv")];
 
 macro_rules! tests {
-    ($version:ident, $number:literal, $long:literal) => {
+    ($version:ident, $number:literal, $sum:literal) => {
         mod $version {
             use super::*;
             use komihash_rattle::$version::*;
@@ -78,14 +78,16 @@ macro_rules! tests {
                 }
             }
 
-            /// Hashes 100,000 bytes, whose hash is that of the crate `komihash`, also in pieces.
+            /// Compares a sum of hashes of many lengths with that of the crate `komihash`, and hashes
+            /// the longest message also in pieces.
             #[test]
-            fn long_messages() {
+            fn many_lengths() {
                 let mut message = vec![0; 100_000];
                 Komirand::new(1, 2).fill_bytes(&mut message);
-                assert_eq!(komihash(&message, 3), $long);
+                let hashes = (0..=300).chain([100_000]).map(|it| komihash(&message[..it], SEED));
+                assert_eq!(hashes.fold(0u64, |sum, hash| sum.rotate_left(1) ^ hash), $sum);
                 let (mut stream, mut random) =
-                    (StreamedKomihash::new_with_seed(3), Komirand::init(SEED));
+                    (StreamedKomihash::new_with_seed(SEED), Komirand::init(4));
                 let mut rest = &message[..];
                 while !rest.is_empty() {
                     let longest = 1 << (random.next() % 14);
@@ -94,7 +96,7 @@ macro_rules! tests {
                     stream.write(piece);
                     rest = after;
                 }
-                assert_eq!(stream.finish(), $long);
+                assert_eq!(stream.finish(), komihash(&message, SEED));
             }
 
             #[test]
@@ -259,8 +261,8 @@ fn panics_here(line: u32, call: fn()) {
     assert_eq!(REPORTED.lock().unwrap().take(), Some((file!().to_string(), line)));
 }
 
-tests!(v4, "4", 0xe53a6a66c7c514f6);
-tests!(v5, "5", 0x82043deb74778da3);
+tests!(v4, "4", 0xd9308356554cf475);
+tests!(v5, "5", 0x481a78b46b0edb90);
 
 #[test]
 fn the_root_has_version_5() {
