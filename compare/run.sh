@@ -4,7 +4,6 @@
 #   run.sh bench [REPEATS]      times all rows, and makes the tables and the picture anew
 #   run.sh bench REPEATS WORD   times the rows whose name contains WORD, and prints them
 #   run.sh fuzz SEED N          compares ours with the Rust crate, in N random calls
-#   run.sh answers              prints sums of hashes of the Rust crate, which a test has
 #   run.sh values < TABLE       prints a table of ../rust/tests anew, by the Rust crate
 #   run.sh verify [OPTION..]    shows that the machine code of the Rust crate, in the folder
 #                               KOMIHASH_CRATE, computes what the definition says: rust_crate.sh
@@ -35,14 +34,14 @@ cd "$here/driver"
 export CARGO_TARGET_DIR=$here/out
 case "$*" in
     bench | 'bench '*) ;;
-    answers | values) exec cargo run "${options[@]}" --bin check -- "$1" ;;
+    values) exec cargo run "${options[@]}" --bin values ;;
     'fuzz '*' '*)
         mkdir -p ../out
         cargo run --quiet --release --manifest-path ../../rust/Cargo.toml --example random_rows \
             "${@:2}" > ../out/rows
         ../run.sh values < ../out/rows | diff ../out/rows -
         exec echo 'There is no difference.' ;;
-    *) sed -n '4,16s/^# \?//p' ../run.sh >&2 && exit 2 ;;
+    *) sed -n '4,15s/^# \?//p' ../run.sh >&2 && exit 2 ;;
 esac
 
 # Builds a program of that name in all layouts.
