@@ -10,7 +10,6 @@ pub mod known;
 pub mod lists;
 pub mod maps;
 pub mod numbers;
-pub mod pieces;
 pub mod random;
 pub mod readers;
 pub mod samples;
