@@ -67,11 +67,11 @@ class Edit:
         """Puts an instruction into a function, after its mark."""
         self.bytes_at(self.function + at, bytes.fromhex(text))
 
-    def note(self, kind, value):
-        """Makes the note of the build one of a property."""
-        start = self.elf.of_type(NOTES)[0].start
+    def note(self, kind, value, other):
+        """Changes the property in the note to which two segments point, and the other of these."""
+        start = self.elf.of_type(elf.PROPERTY)[0].start
         self.bytes_at(start, struct.pack('<III4sIIII', 4, 16, 5, b'GNU\0', kind, 4, value, 0))
-        self.segment(NOTES, 0, (FILLED, 32), (SIZE, 32))
+        self.segment(other, 0, (KIND, FRAMES))
 
 
 def of_header_and_marks(e):
@@ -86,8 +86,9 @@ def of_header_and_marks(e):
         ('the end is cut off', 'too short', e.cut, 600),
         ('a file that is too long', 'more than 67108864', e.content.extend, bytes(2**26)),
         ('a function without a mark', 'has none', e.instruction, nothing, 0),
-        ('marks of an unknown kind', 'unknown: 0xc0', e.note, kind, 64),
-        ('an unknown property', 'unknown: 0xc0008002', e.note, 0xc0008002, 8),
+        ('marks of an unknown kind', 'unknown: 0xc0', e.note, kind, 64, NOTES),
+        ('an unknown property', 'unknown: 0xc0008002', e.note, 0xc0008002, 8,
+         elf.PROPERTY),
         ('a note of another kind', 'of GNU of type 1', e.bytes_at,
          e.elf.of_type(NOTES)[0].start + 8, b'\1')]
 
@@ -103,6 +104,8 @@ def of_parts(e):
         ('code over one page of the next part', 'mapped over another', e.segment, LOAD, e.code_at,
          (FILLED, longer), (SIZE, longer)),
         ('smaller pages', 'not aligned', e.segment, LOAD, 0, (ALIGN, small)),
+        ('another place in a page', 'not aligned', e.segment, LOAD, last,
+         (OFFSET, e.parts[last].offset - 16)),
         ('memory without end', 'more than 67108864', e.segment, LOAD, last, (SIZE, 2**46)),
         ('tables that can not be read', 'can not be read', e.segment, LOAD, 0, (RIGHTS, EXECUTE)),
         ('code that can be written', 'could be written', e.segment, LOAD, e.code_at, (RIGHTS, 7)),
@@ -115,6 +118,9 @@ def of_parts(e):
 def of_segments(e):
     within, before = (START, e.code.start), (OFFSET, e.code.offset)
     elsewhere, last = 'elsewhere in the file', e.parts[-1]
+    frames, = e.elf.of_type(FRAMES)
+    part = e.elf.part_of(frames.start)
+    more = part.start + part.size + 1 - frames.start
     beyond = (last.start + last.size + 4095 & -4096) + 1 - e.elf.of_type(RELRO)[0].start
     return [
         ('a program that loads it', 'unknown type', e.segment, NOTES, 0, (KIND, 3)),
@@ -128,7 +134,8 @@ def of_segments(e):
          (OFFSET, 0)),
         ('another dynamic table in the file', elsewhere, e.segment, DYNAMIC, 0, (OFFSET, 0)),
         ('no dynamic table in the file', elsewhere, e.segment, DYNAMIC, 0, (FILLED, 0)),
-        ('stack frames beyond memory', elsewhere, e.segment, FRAMES, 0, (START, 2**40)),
+        ('stack frames beyond memory', elsewhere, e.segment, FRAMES, 0, (FILLED, more),
+         (SIZE, more)),
         ('another table of segments', 'another one in memory', e.segment, NOTES, 0, (KIND, TABLE)),
         ('a shorter table of segments', 'another one in memory', e.segment, NOTES, 0, (KIND, TABLE),
          (OFFSET, 64), (START, 64), (FILLED, 56), (SIZE, 56)),
@@ -173,7 +180,7 @@ def of_names(e):
          names + 16 + 8 * word, struct.pack('<Q', e.elf.filter[word] & ~bit)),
         ('a name with another hash', f'missing: {NAME}', e.bytes_at, chain + 2,
          bytes([code >> 16 & 255 ^ 1])),
-        ('a number', 'no function', e.symbol, SECTION, 0xff00),
+        *(('no section', 'no function', e.symbol, SECTION, number) for number in (0, 0xff00)),
         ('a function that is hidden', 'no function', e.symbol, OTHER, 2),
         ('a function that is local', 'no function', e.symbol, INFO, 2),
         ('a function that chooses another', 'no function', e.symbol, INFO, 0x1a),

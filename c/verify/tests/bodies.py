@@ -24,9 +24,8 @@ LIBRARY = 'libkomihash_rattle.so.1'
 # whole body of that function, with something before its loop, in each turn, and after.
 X86 = '''
 .macro up by; pop rax; add rsp, \\by; sub rsp, \\by; push rax; .endm
-.macro spoil at, by; push \\at; call body; pop \\at; not byte ptr [\\at + \\by]; ret; .endm
-.macro spoil_if size, length, at, by; push \\size; push \\at; call body; pop \\at; pop \\size
-    cmp \\size, \\length; jne 1f; not byte ptr [\\at + \\by]; 1: ret; .endm
+.macro after code; push rdi; push rsi; push rdx; call body; pop rdx; pop rsi; pop rdi; \\code
+    1: ret; .endm
 .macro long body; cmp rsi, 128; jb .Lshort; \\body; .Lshort:; .endm
 .macro pad before, in, after
     mov r8, rsi; shr r8, 3; xor eax, eax; cmp rcx, r8; jbe .Lend; \\before; xor r9d, r9d
@@ -44,11 +43,11 @@ a call by a register|v5_rand_next|not known for x86-64: call rax|call rax
 a call out of the library|v5_rand_next|not known|call body + 0x100000
 a frame aligned to more than 16 bytes|v5_rand_next|4 ways|mov rax, rsp; and rsp, -64; mov rsp, rax
 the red zone|v5_rand_next||red zone; mov [rsp - 128], rdi; mov rdi, [rsp - 128]
-no red zone|v5_rand_next|below the stack pointer|mov [rsp - 8], rdi
-below the red zone|v5_rand_next|below the stack pointer|red zone; mov [rsp - 136], rdi
-a word that was popped|v5_rand_next|not written|push rdi; pop rdi; sub rsp, 8; pop rdi
+no red zone|v5_rand_next|below the stack pointer|mov [rsp - 1], al
+below the red zone|v5_rand_next|below the stack pointer|red zone; mov [rsp - 129], al
+a byte that was popped|v5_rand_next|not written|push rdi; pop rdi; dec rsp; mov al, [rsp]; inc rsp
 a red zone moved|v5_rand_next|not written|
-    red zone; mov [rsp - 128], al; pop rax; push rax; mov al, [rsp - 128]
+    red zone; mov [rsp - 121], al; pop rax; push rax; mov al, [rsp - 121]
 all of the stack|v5_rand_next||sub rsp, 4096; mov [rsp], rdi; add rsp, 4096
 more than the stack|v5_rand_next|out of the stack|sub rsp, 4104; add rsp, 4104
 a pointer far below the stack|v5_rand_next|out of the stack|
@@ -75,8 +74,9 @@ the highest bit of 0|v5_rand_next|2 ways|
     mov rcx, -1; xor eax, eax; bsr ecx, eax; shr rcx, 32; jne 1f; 1:
 a newer instruction|v5_rand_next|not known for x86-64: vpaddq|vpaddq ymm0, ymm0, ymm0
 a read at address 0|v5_rand_next|in no array|cmp dword ptr [0], 0
-a read of the byte after an array|v5_rand_next|in no array|cmp byte ptr [rdi + 16], 0
-one after a long message|v5|Hash..in no array|long "cmp byte ptr [rdi + 128], 0"
+a write to the byte after an array|v5_rand_next|in no array|
+    mov rax, [rdi + 8]; mov [rdi + 9], rax; mov [rdi + 8], rax
+a read of the byte after a long message|v5|Hash..in no array|long "mov rax, [rdi + 121]"
 a write where there may be no room|v5_save|in no array|mov byte ptr [rsi], 0
 a write to what is only read|v5_save|only read|mov al, [rdi]; mov [rdi], al
 a refused call that writes|v5_save|of out were written|
@@ -90,35 +90,41 @@ a text that is refused and written|v5_resume|of stream were written|
     test rdx, rdx; jne 1f; mov byte ptr [rdi], 0; 1:
 no text, and accepted|v5_resume|result: found 0x1|test rdx, rdx; jne 1f; mov eax, 1; ret; 1:
 a wrong hash|v5|hash: found|cmp rsi, 9; jne body; call body; not rax; ret
-one of a long message|v5|Hash..hash: found|
-    push rsi; call body; pop rsi; cmp rsi, 300; jne 1f; not rax; 1: ret
+one of a long message|v5|Hash..hash: found|after "cmp rsi, 300; jne 1f; not rax"
 one by a stream|v5_finish|hash: found|call body; not rax; ret
-a wrong stream|v5_start|the stream at 64|spoil rdi, 64
+a wrong stream|v5_start|the stream at 64|after "not byte ptr [rdi + 64]"
+one with a wrong lane|v5_init|the stream at 72|after "not byte ptr [rdi + 72]"
+one with the last lane wrong|v5_init|the stream at 128|after "not byte ptr [rdi + 135]"
 another stream|v5_start|address of the struct|call body; inc rax; ret
 one after a write|v5_write|the stream at 136|cmp rdx, 3; jne body; cmp byte ptr [rdi + 64], 5;
-    jne body; spoil rdi, 136
-one after a long write|v5_write|Write..the stream at 0|spoil_if rdx, 300, rdi, 0
+    jne body; after "not byte ptr [rdi + 136]"
+one after a long write|v5_write|Write..the stream at 0|
+    after "cmp rdx, 300; jne 1f; not byte ptr [rdi]"
 one of a text|v5_resume|the stream at 137|
-    push rdi; call body; pop rdi; test al, al; je 1f; or byte ptr [rdi + 137], 2; 1: ret
-a wrong text|v5_save|bytes: found|cmp rdx, 131; jb body; spoil rsi, 0
+    after "test al, al; je 1f; or byte ptr [rdi + 137], 2"
+a wrong text|v5_save|bytes: found|cmp rdx, 131; jb body; after "not byte ptr [rsi]"
 another length of it|v5_save|result: found|call body; inc rax; ret
 a wrong generator|v5_rand_init|s1: found|call body; inc rax; ret
 one with the other word wrong|v5_rand_init_with_extra_seed|s2: found|call body; inc rdx; ret
 a wrong output|v5_rand_next|output: found|call body; inc rax; ret
-one that stays|v5_rand_next|s2: found|spoil rdi, 8
-a wrong fill|v5_rand_fill|bytes: found|cmp rdx, 5; jne body; spoil rsi, 0
-one after which the generator is wrong|v5_rand_fill|s2: found|cmp rdx, 5; jne body; spoil rdi, 8
-a long one|v5_rand_fill|Fill..bytes: found|spoil_if rdx, 301, rsi, 300
-a long one after which the generator is wrong|v5_rand_fill|Fill..s2: found|spoil_if rdx, 301, rdi, 8
-a wrong word|v5_pad|bytes: found|cmp rsi, 9; jne body; cmp rcx, 2; jb body; spoil rdx, 0
+one that stays|v5_rand_next|s2: found|after "not byte ptr [rdi + 8]"
+a wrong fill|v5_rand_fill|bytes: found|after "cmp rdx, 5; jne 1f; not byte ptr [rsi]"
+one after which the generator is wrong|v5_rand_fill|s2: found|
+    after "cmp rdx, 5; jne 1f; not byte ptr [rdi + 8]"
+a long one|v5_rand_fill|Fill..bytes: found|after "cmp rdx, 255; jne 1f; not byte ptr [rsi + 254]"
+a long one after which the generator is wrong|v5_rand_fill|Fill..s2: found|
+    after "cmp rdx, 301; jne 1f; not byte ptr [rdi + 8]"
+one by single words that are wrong|v5_rand_fill|Fill..bytes: found|
+    2: cmp rdx, 8; jae 3f; jmp body; 3: push rdi; push rsi; push rdx; mov edx, 8; call body;
+    pop rdx; pop rsi; pop rdi; not byte ptr [rsi]; add rsi, 8; sub rdx, 8; jmp 2b
+a wrong word|v5_pad|bytes: found|
+    cmp rsi, 9; jne body; after "test rax, rax; je 1f; not byte ptr [rdx]"
 another number of words|v5_pad|result: found|cmp rsi, 9; jne body; call body; inc rax; ret
 a wrong word at the end|v5_pad|Pad..bytes: found|
-    push rsi; push rdx; call body; pop rdx; pop rsi; test rax, rax; je 1f; cmp rsi, 304; jne 1f;
-    not byte ptr [rdx + 304]; 1: ret
-another number of many|v5_pad|Pad..length: found|cmp rsi, 304; jne body; call body; inc rax; ret
+    after "test rax, rax; je 1f; cmp rsi, 304; jne 1f; not byte ptr [rdx + 304]"
+another number of many|v5_pad|Pad..length: found|cmp rsi, 200; jne body; call body; inc rax; ret
 a wrong message|v5_unpad|bytes: found|
-    cmp rsi, 2; jne body; push rdx; call body; pop rdx; cmp rax, -1; je 1f; test rax, rax; je 1f;
-    not byte ptr [rdx]; 1: ret
+    cmp rsi, 2; jne body; after "cmp rax, -1; je 1f; test rax, rax; je 1f; not byte ptr [rdx]"
 another length of it|v5_unpad|result: found|cmp rsi, 2; jne body; call body; inc rax; ret
 that of a long one|v5_unpad|Unpad..length: found|cmp rsi, 40; jne body; call body; inc rax; ret
 a multiplication more|v5_rand_next|the definition does not have|mov rax, rdi; mul rdi
@@ -130,7 +136,16 @@ a result if bytes lie in room that is not written|v5_pad|found 0x4d|
     mov eax, 77; ret; 1:
 a loop|v5_pad||pad "", "", ""
 one wrong from byte 3,200 on|v5_pad|Pad..in no array|pad "", "cmp r9, 400; jne .Lturn; inc r9", ""
+a word of a turn that is wrong|v5_pad|Pad..bytes: found|pad "", "not byte ptr [rdx + 8*r9 - 8]", ""
+a turn that takes nothing|v5_pad|Pad..takes nothing|
+    pad "xor r9d, r9d; jmp 1f", "1: cmp r9, 400; je 1b", ""
 a jump by contents|v5_save|depends on|cmp byte ptr [rdi + 72], 1; jb 1f; 1:
+one after a long write|v5_write|Write..depends on|
+    after "cmp rdx, 300; jne 1f; cmp byte ptr [rdi + 72], 1; jb 1f"
+an address by contents|v5_save|depends on|
+    movzx eax, byte ptr [rdi + 72]; and eax, 1; mov al, [rdi + rax]
+a jump by where the library is|v5_rand_next|2 ways|
+    lea rax, [rip + __ehdr_start]; test eax, 4096; jne 1f; 1:
 a carry that is not there|v5_save|calls that must be refused|
     cmp rsp, 4096; jb 1f; mov r8, rsp; mov rcx, rdx; and ecx, 64; neg rcx; sub rcx, 64;
     xor eax, eax; adc rsp, rcx; mov r9, rsp; mov rsp, r8; sub r9, r8; sub r9, rcx; jne 1f;
@@ -140,7 +155,7 @@ ARM = '.macro up by; add sp, sp, \\by; sub sp, sp, \\by; .endm\n', '''
 a frame|v5_rand_next||stp x0, x1, [sp, -16]!; ldp x0, x1, [sp], 16
 a register in it|v5_rand_next||str x19, [sp, -16]!; mov x19, x0; ldr x19, [sp], 16
 a frame not aligned|v5_rand_next|not aligned to 16|sub sp, sp, 8; str x0, [sp]; add sp, sp, 8
-a word below the stack|v5_rand_next|below the stack pointer|red zone; stur x0, [sp, -16]
+a word below the stack|v5_rand_next|below the stack pointer|sturb w0, [sp, -1]
 a word that was popped|v5_rand_next|not written|
     stp x0, x1, [sp, -16]!; ldp x0, x1, [sp], 16; sub sp, sp, 16; ldr x1, [sp]; add sp, sp, 16
 a stack pointer of the caller|v5_rand_next|out of the stack|signals; up "4095, lsl 12"

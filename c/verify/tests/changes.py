@@ -8,19 +8,21 @@ import fixed_lengths
 import z3
 from calls import Call
 from header import parameters
-from terms import bv
+from terms import bv, join
 
 # By function: which cases, and of which calls, are left out.
-CASES = {'': [(0,), (127,), (7,)], '_finish': [(63, 1)], '_save': [(63,)],
+CASES = {'': [(0,), (127,), (7,)], '_finish': [(63, 0), (63, 1)], '_save': [(63,)],
          '_resume': [(None,), (131,)], '_pad': [(0,), ()], '_unpad': [(16, (7, 3))]}
 CALLS = {
     '': 'seed == 0; bytes == 0; bytes + length == 2**64 - 1; length == 2**63 - 1',
     '_start': 'stream == 2**64 - 152', '_rand_init_words': 's1 == s2',
     '_rand_next': 'rand == 8; rand == 2**64 - 24', '_finish': 'stream == 8; top_bit == 1',
     '_save': 'room == 0; room == 2**63 - 1; out + 131 == stream',
-    '_pad': 'room == 2**60 - 1; bytes + length == out; bytes == out; '
-            'And(length == 9, room == 5, out + 40 == bytes + 1)',
-    '_unpad': 'length == 2**60 - 1; words + 8 * length == out'}
+    '_pad': 'room == 2**60 - 1; bytes + length == out; And(length == 0, bytes == out); '
+            'And(length == 9, room == 1, bytes == out); '
+            'And(length == 9, room == 5, out + 16 == bytes)',
+    '_unpad': 'length == 2**60 - 1; words + 8 * length == out; '
+              'And(length == 2, room == 16, last == 0x100, out + 15 == words)'}
 MISSING = 'no case has the call with'
 # What the definition multiplies more, by where it is called, and the function that is refused.
 MORE = [(any_length, 'block_round', ''), (any_length, 'hash_from_pair', ''),
@@ -33,7 +35,7 @@ def missed(suffix, keeps=lambda case: True, left_out=None):
 
     def begin_some(call, args):
         names = [one for _, one in parameters(name)][-len(args):]
-        given = dict(zip(names, args), And=z3.And)
+        given = dict(zip(names, args), And=z3.And, last=join((call.last_bytes or [bv(0)])[-2:]))
         if call.state:
             given.update(had_block=call.state.had_block, top_bit=call.state.top_bit)
         call.facts.add(z3.Not(eval(left_out, given)))
