@@ -145,9 +145,8 @@ def of_segments(e):
 def of_dynamic_table(e):
     names, written = e.elf.table[elf.HASHES], e.parts[-1].start
     return [
-        ('code that runs when it is loaded', 'do more', e.entry, SONAME, 12, e.code.start),
-        ('relocations', 'do more', e.entry, SONAME, 7, e.code.start),
-        ('another library that is loaded', 'do more', e.entry, SONAME, 1),
+        *((f'{name} when it is loaded', 'do more', e.entry, SONAME, tag, e.code.start)
+          for name, tag in (('code that runs', 12), ('relocations', 7), ('another library', 1))),
         ('a flag by which dlopen fails', 'do more', e.entry, SONAME, elf.FLAGS_1, 0x40),
         *(('a flag of loaders', 'do more', e.entry, SONAME, elf.FLAGS, bit) for bit in (1, 4, 16)),
         ('two tables of symbols', 'twice', e.entry, SONAME, elf.SYMBOLS, e.code.start),
@@ -180,12 +179,10 @@ def of_names(e):
          names + 16 + 8 * word, struct.pack('<Q', e.elf.filter[word] & ~bit)),
         ('a name with another hash', f'missing: {NAME}', e.bytes_at, chain + 2,
          bytes([code >> 16 & 255 ^ 1])),
-        *(('no section', 'no function', e.symbol, SECTION, number) for number in (0, 0xff00)),
-        ('a function that is hidden', 'no function', e.symbol, OTHER, 2),
-        ('a function that is local', 'no function', e.symbol, INFO, 2),
-        ('a function that chooses another', 'no function', e.symbol, INFO, 0x1a),
-        ('a function outside', 'no function', e.symbol, VALUE, 2**40),
-        ('a function at address 0', 'no function', e.symbol, VALUE, 0),
+        *((f'a function that is {name}', 'no function', e.symbol, *change) for name, *change in (
+            ('undefined', SECTION, 0), ('a number', SECTION, 0xff00), ('hidden', OTHER, 2),
+            ('local', INFO, 2), ('another by choice', INFO, 0x1a), ('outside', VALUE, 2**40),
+            ('at address 0', VALUE, 0))),
         ('a function without a name', 'not among the strings', e.symbol, NAMED, 2**20),
         ('two functions with one name', f'missing: {NAME}', e.symbol, NAMED, other),
         ('another function', f'{NAME}, rand_next()', e.symbol, VALUE, elsewhere)]

@@ -37,7 +37,6 @@ X86 = '''
 .endm
 ''', '''
 a call and a return|v5_rand_next||call body; ret
-a jump by a return|v5_rand_next|not the caller|lea rax, [rip + body]; push rax; ret
 a changed return address|v5_rand_next|not the caller|call 1f; ret; 1: add qword ptr [rsp], 1; ret
 a call by a register|v5_rand_next|not known for x86-64: call rax|call rax
 a call out of the library|v5_rand_next|not known|call body + 0x100000
@@ -48,8 +47,10 @@ below the red zone|v5_rand_next|below the stack pointer|red zone; mov [rsp - 129
 a byte that was popped|v5_rand_next|not written|push rdi; pop rdi; dec rsp; mov al, [rsp]; inc rsp
 a red zone moved|v5_rand_next|not written|
     red zone; mov [rsp - 121], al; pop rax; push rax; mov al, [rsp - 121]
+half a word twice|v5_rand_next|does not have|
+    mov rax, [rdi]; push rax; push rax; mov [rsp + 4], rax; pop rax; pop rdx; mov [rdi], rax
 all of the stack|v5_rand_next||sub rsp, 4096; mov [rsp], rdi; add rsp, 4096
-more than the stack|v5_rand_next|out of the stack|sub rsp, 4104; add rsp, 4104
+more than the stack|v5_rand_next|out of the stack|sub rsp, 4097; add rsp, 4097
 a pointer far below the stack|v5_rand_next|out of the stack|
     signals; sub rsp, 0x40000000; add rsp, 0x40000000
 a stack pointer of the caller|v5_rand_next|out of the stack|signals; up 4096
@@ -60,6 +61,10 @@ one in a function that is called|v5_rand_next|out of the stack|
     signals; call 1f; jmp body; 1: pop rax; up 512; push rax; ret
 one in a loop|v5_pad|Pad..out of the stack|signals; pad "", "add rsp, 512; sub rsp, 512", ""
 a return address that a loop loses|v5_pad|Pad..not written|pad "add rsp, 8", "", "sub rsp, 8"
+a register of the caller after a loop|v5_pad|Pad..rbx of the caller is lost|
+    pad "", "", "mov rbx, rdi"
+one in a long call that is refused|v5_pad|Pad..rbx of the caller is lost|
+    long "test rcx, rcx; jne .Lshort; mov rbx, rdi"
 a word that a turn loses|v5_pad|Pad..not written|
     pad "push rsi; xor r11d, r11d", "mov r10, [rsp]; test r11, r11; je 1f; pop r10; sub rsp, 8;
     1: cmp r9, 400; jne 1f; inc r11; 1:", "add rsp, 8"
@@ -74,7 +79,8 @@ the highest bit of 0|v5_rand_next|2 ways|
     mov rcx, -1; xor eax, eax; bsr ecx, eax; shr rcx, 32; jne 1f; 1:
 a newer instruction|v5_rand_next|not known for x86-64: vpaddq|vpaddq ymm0, ymm0, ymm0
 a read at address 0|v5_rand_next|in no array|cmp dword ptr [0], 0
-a write to the byte after an array|v5_rand_next|in no array|
+a write to the byte before an array|v5_rand_next|in no array|mov byte ptr [rdi - 1], 0
+one to the byte after it|v5_rand_next|in no array|
     mov rax, [rdi + 8]; mov [rdi + 9], rax; mov [rdi + 8], rax
 a read of the byte after a long message|v5|Hash..in no array|long "mov rax, [rdi + 121]"
 a write where there may be no room|v5_save|in no array|mov byte ptr [rsi], 0
@@ -88,7 +94,7 @@ a long one that is copied|v5_pad|Pad..a turn of a call that is refused|
     mov r8, -1; cmp rsi, 128; cmovae rcx, r8; pad "", "", ""
 a text that is refused and written|v5_resume|of stream were written|
     test rdx, rdx; jne 1f; mov byte ptr [rdi], 0; 1:
-no text, and accepted|v5_resume|result: found 0x1|test rdx, rdx; jne 1f; mov eax, 1; ret; 1:
+no text, and a bool of 2|v5_resume|result: found 0x2|test rdx, rdx; jne 1f; mov eax, 2; ret; 1:
 a wrong hash|v5|hash: found|cmp rsi, 9; jne body; call body; not rax; ret
 one of a long message|v5|Hash..hash: found|after "cmp rsi, 300; jne 1f; not rax"
 one by a stream|v5_finish|hash: found|call body; not rax; ret
@@ -112,21 +118,16 @@ a wrong fill|v5_rand_fill|bytes: found|after "cmp rdx, 5; jne 1f; not byte ptr [
 one after which the generator is wrong|v5_rand_fill|s2: found|
     after "cmp rdx, 5; jne 1f; not byte ptr [rdi + 8]"
 a long one|v5_rand_fill|Fill..bytes: found|after "cmp rdx, 255; jne 1f; not byte ptr [rsi + 254]"
-a long one after which the generator is wrong|v5_rand_fill|Fill..s2: found|
-    after "cmp rdx, 301; jne 1f; not byte ptr [rdi + 8]"
+a long one after which the generator is wrong|v5_rand_fill|Fill..s1: found|
+    after "cmp rdx, 301; jne 1f; not byte ptr [rdi]"
 one by single words that are wrong|v5_rand_fill|Fill..bytes: found|
     2: cmp rdx, 8; jae 3f; jmp body; 3: push rdi; push rsi; push rdx; mov edx, 8; call body;
     pop rdx; pop rsi; pop rdi; not byte ptr [rsi]; add rsi, 8; sub rdx, 8; jmp 2b
-a wrong word|v5_pad|bytes: found|
-    cmp rsi, 9; jne body; after "test rax, rax; je 1f; not byte ptr [rdx]"
-another number of words|v5_pad|result: found|cmp rsi, 9; jne body; call body; inc rax; ret
 a wrong word at the end|v5_pad|Pad..bytes: found|
     after "test rax, rax; je 1f; cmp rsi, 304; jne 1f; not byte ptr [rdx + 304]"
 another number of many|v5_pad|Pad..length: found|cmp rsi, 200; jne body; call body; inc rax; ret
 a wrong message|v5_unpad|bytes: found|
     cmp rsi, 2; jne body; after "cmp rax, -1; je 1f; test rax, rax; je 1f; not byte ptr [rdx]"
-another length of it|v5_unpad|result: found|cmp rsi, 2; jne body; call body; inc rax; ret
-that of a long one|v5_unpad|Unpad..length: found|cmp rsi, 40; jne body; call body; inc rax; ret
 a multiplication more|v5_rand_next|the definition does not have|mov rax, rdi; mul rdi
 one made twice|v5_rand_next|has made already|mov rax, [rdi]; mul qword ptr [rdi + 8]
 a refusal if no bytes lie where out does|v4_pad|calls that must be refused|
@@ -140,8 +141,7 @@ a word of a turn that is wrong|v5_pad|Pad..bytes: found|pad "", "not byte ptr [r
 a turn that takes nothing|v5_pad|Pad..takes nothing|
     pad "xor r9d, r9d; jmp 1f", "1: cmp r9, 400; je 1b", ""
 a jump by contents|v5_save|depends on|cmp byte ptr [rdi + 72], 1; jb 1f; 1:
-one after a long write|v5_write|Write..depends on|
-    after "cmp rdx, 300; jne 1f; cmp byte ptr [rdi + 72], 1; jb 1f"
+one after a loop|v5_pad|Pad..depends on|pad "", "", "test r10, r10; je 1f; 1:"
 an address by contents|v5_save|depends on|
     movzx eax, byte ptr [rdi + 72]; and eax, 1; mov al, [rdi + rax]
 a jump by where the library is|v5_rand_next|2 ways|
@@ -161,9 +161,6 @@ a word that was popped|v5_rand_next|not written|
 a stack pointer of the caller|v5_rand_next|out of the stack|signals; up "4095, lsl 12"
 a small step above the call|v5_rand_next|out of the stack|up 16
 a pointer far below the stack|v5_rand_next|out of the stack|signals; up "-4095, lsl 12"
-one in long messages|v5_pad|Pad..out of the stack|signals; cmp x1, 128; b.lo 1f; up 208; 1:
-one in refused calls|v5_pad|out of the stack|signals; cbnz x3, 1f; up 1024; 1:
-one in a loop|v5_rand_next|out of the stack|signals; mov x9, 3; 1: up 512; subs x9, x9, 1; b.ne 1b
 one in a function that is called|v5_rand_next|out of the stack|
     signals; mov x9, x30; bl 1f; mov x30, x9; b body; 1: up 512; ret
 a stack that is lower at the end|v5_rand_next|sp is lost|sub sp, sp, 16; ret

@@ -22,7 +22,8 @@ CALLS = {
             'And(length == 9, room == 1, bytes == out); '
             'And(length == 9, room == 5, out + 16 == bytes)',
     '_unpad': 'length == 2**60 - 1; words + 8 * length == out; '
-              'And(length == 2, room == 16, last == 0x100, out + 15 == words)'}
+              'And(length == 2, room == 16, last == 0x100, out + 15 == words); '
+              'And(length == 2, room == 15, last == 0x100, out == words)'}
 MISSING = 'no case has the call with'
 # What the definition multiplies more, by where it is called, and the function that is refused.
 MORE = [(any_length, 'block_round', ''), (any_length, 'hash_from_pair', ''),
@@ -70,10 +71,14 @@ def rows(path):
     for module, name, suffix in MORE:
         yield f'{suffix} with more in {name}', 'products, and not the', \
             with_more(module, name, suffix, content)
-    other = cases.row_of('komihash_v4_start')._replace(multiplications='2')
-    with mock.patch.dict(cases.FUNCTIONS, _start=other):
-        yield 'another number in the table', 'the definition has 1 products', \
-            refusal(content, 'x86-64', 'komihash_v4_start')
+    shown = any_length.proved_write(any_length.Write, cases.LIBRARY, 4).seen.ran
+    write = cases.run_case(cases.Case('komihash_v4_write', any_length.Write, (1,)))
+    yield 'a write runs what all writes run', 'True', shown <= write.ran
+    for suffix, number in ('_start', '2'), ('_rand_fill', '(n+7)//8 + n//255'):
+        other = cases.FUNCTIONS[suffix]._replace(multiplications=number)
+        with mock.patch.dict(cases.FUNCTIONS, {suffix: other}):
+            yield f'{suffix} with another number in the table', 'the definition has', \
+                refusal(content, 'x86-64', f'komihash_v4{suffix}')
 
 
 if __name__ == '__main__':
