@@ -67,8 +67,8 @@ def allowed(call):
 
 
 def any_state(call, args):
-    """A stream is in some state, since only `start`, `init` and `resume` make one, and only calls change
-    it."""
+    """A stream is in some state, since only `start`, `init` and `resume` make one, and only calls
+    change it."""
     return [z3.ULT(FILL, 64), z3.ULE(HAD_BLOCK, 1),
             z3.ULE(TOP_BIT, HAD_BLOCK if call.version == 4 else 0), *call.layout.any_more(args)]
 

@@ -3,7 +3,7 @@
 All of it is trusted: only code that nobody can write is decoded, only encodings that opcodes.py has
 get a meaning, and the marks that a file asks for are there."""
 from capstone import Cs
-from elf import EXECUTE, READ, Elf, need
+from elf import EXECUTE, Elf, need
 from terms import Unknown
 
 LONGEST = 15
@@ -31,10 +31,6 @@ class Image:
             for name, address in self.functions.items() if found == kind and bits & 1 else ():
                 need(self.elf.at(address, len(mark), EXECUTE) == mark,
                      f'the file asks for marks where jumps may go, and {name} has none')
-
-    def read(self, address, length):
-        """Constants of the library, or None."""
-        return self.elf.at(address, length, READ)
 
     def instruction(self, address):
         if address not in self.decoded:

@@ -187,7 +187,7 @@ class Cpu:
     def load(self, address, length):
         if 'library' in symbols(address):
             number = const(simple(address - LOADED))
-            data = self.image.read(number, length) if number is not None else None
+            data = self.image.elf.at(number, length) if number is not None else None
             if data:
                 return bv(int.from_bytes(data, 'little'), 8 * length)
         return self.memory.load(self, address, length)

@@ -32,9 +32,6 @@ class Edit:
         self.code_at = next(k for k, part in enumerate(self.parts) if part.flags & EXECUTE)
         self.code = self.parts[self.code_at]
 
-    def cut(self, size):
-        del self.content[size:]
-
     def put(self, field, number, offset=0):
         """Changes a field of the header, or of what begins at an offset."""
         at, size = field
@@ -83,7 +80,8 @@ def of_header_and_marks(e):
         ('another version of ELF', 'no shared library', e.put, VERSION, 2),
         ('another processor', 'no library for', e.put, MACHINE, 40),
         ('segments without end', 'more than 64', e.put, COUNT, 65535),
-        ('the end is cut off', 'too short', e.cut, 600),
+        ('the end is cut off', 'too short', e.content.__delitem__,
+         slice(600, None)),
         ('a file that is too long', 'more than 67108864', e.content.extend, bytes(2**26)),
         ('a function without a mark', 'has none', e.instruction, nothing, 0),
         ('marks of an unknown kind', 'unknown: 0xc0', e.note, kind, 64, NOTES),
@@ -124,7 +122,6 @@ def of_segments(e):
     beyond = (last.start + last.size + 4095 & -4096) + 1 - e.elf.of_type(RELRO)[0].start
     return [
         ('a program that loads it', 'unknown type', e.segment, NOTES, 0, (KIND, 3)),
-        ('memory of threads', 'unknown type', e.segment, NOTES, 0, (KIND, 7)),
         ('two dynamic tables', 'one dynamic table', e.segment, NOTES, 0, (KIND, DYNAMIC)),
         ('a stack that can run', 'could be executed', e.segment, STACK, 0, (RIGHTS, 7)),
         ('large stacks of threads', 'could be executed', e.segment, STACK, 0, (SIZE, 2**40)),
@@ -151,7 +148,6 @@ def of_dynamic_table(e):
         *(('a flag of loaders', 'do more', e.entry, SONAME, elf.FLAGS, bit) for bit in (1, 4, 16)),
         ('two tables of symbols', 'twice', e.entry, SONAME, elf.SYMBOLS, e.code.start),
         ('no table of hashes', 'no DT_GNU_HASH', e.entry, elf.HASHES, BIND_NOW),
-        ('strings of no size', 'not all that it needs', e.entry, STRINGS_SIZE, BIND_NOW),
         ('strings beyond memory', 'not in memory', e.entry, STRINGS_SIZE, STRINGS_SIZE, 2**40),
         ('strings without an end', 'no end', e.entry, STRINGS_SIZE, STRINGS_SIZE, 10),
         ('a table that can be written', 'only read', e.entry, SONAME, elf.COUNTED, written),

@@ -47,24 +47,19 @@ below the red zone|v5_rand_next|below the stack pointer|red zone; mov [rsp - 129
 a byte that was popped|v5_rand_next|not written|push rdi; pop rdi; dec rsp; mov al, [rsp]; inc rsp
 a red zone moved|v5_rand_next|not written|
     red zone; mov [rsp - 121], al; pop rax; push rax; mov al, [rsp - 121]
-half a word twice|v5_rand_next|does not have|
-    mov rax, [rdi]; push rax; push rax; mov [rsp + 4], rax; pop rax; pop rdx; mov [rdi], rax
 all of the stack|v5_rand_next||sub rsp, 4096; mov [rsp], rdi; add rsp, 4096
 more than the stack|v5_rand_next|out of the stack|sub rsp, 4097; add rsp, 4097
 a pointer far below the stack|v5_rand_next|out of the stack|
     signals; sub rsp, 0x40000000; add rsp, 0x40000000
 a stack pointer of the caller|v5_rand_next|out of the stack|signals; up 4096
 a small step above the call|v5_rand_next|out of the stack|pop rax; inc rsp; dec rsp; push rax
-one in long messages|v5_pad|Pad..out of the stack|signals; long "up 200"
 one in refused calls|v5_pad|out of the stack|signals; test rcx, rcx; jne 1f; up 1024; 1:
 one in a function that is called|v5_rand_next|out of the stack|
     signals; call 1f; jmp body; 1: pop rax; up 512; push rax; ret
 one in a loop|v5_pad|Pad..out of the stack|signals; pad "", "add rsp, 512; sub rsp, 512", ""
 a return address that a loop loses|v5_pad|Pad..not written|pad "add rsp, 8", "", "sub rsp, 8"
-a register of the caller after a loop|v5_pad|Pad..rbx of the caller is lost|
-    pad "", "", "mov rbx, rdi"
-one in a long call that is refused|v5_pad|Pad..rbx of the caller is lost|
-    long "test rcx, rcx; jne .Lshort; mov rbx, rdi"
+rbx after a loop|v5_pad|Pad..rbx of the caller|pad "", "", "mov rbx, rdi"
+rbx in long refusals|v5_pad|Pad..rbx of the caller|long "test rcx, rcx; jne .Lshort; mov rbx, rdi"
 a word that a turn loses|v5_pad|Pad..not written|
     pad "push rsi; xor r11d, r11d", "mov r10, [rsp]; test r11, r11; je 1f; pop r10; sub rsp, 8;
     1: cmp r9, 400; jne 1f; inc r11; 1:", "add rsp, 8"
@@ -80,8 +75,7 @@ the highest bit of 0|v5_rand_next|2 ways|
 a newer instruction|v5_rand_next|not known for x86-64: vpaddq|vpaddq ymm0, ymm0, ymm0
 a read at address 0|v5_rand_next|in no array|cmp dword ptr [0], 0
 a write to the byte before an array|v5_rand_next|in no array|mov byte ptr [rdi - 1], 0
-one to the byte after it|v5_rand_next|in no array|
-    mov rax, [rdi + 8]; mov [rdi + 9], rax; mov [rdi + 8], rax
+one to the byte after it|v5_rand_next|in no array|mov [rdi + 9], rax
 a read of the byte after a long message|v5|Hash..in no array|long "mov rax, [rdi + 121]"
 a write where there may be no room|v5_save|in no array|mov byte ptr [rsi], 0
 a write to what is only read|v5_save|only read|mov al, [rdi]; mov [rdi], al
@@ -126,24 +120,15 @@ one by single words that are wrong|v5_rand_fill|Fill..bytes: found|
 a wrong word at the end|v5_pad|Pad..bytes: found|
     after "test rax, rax; je 1f; cmp rsi, 304; jne 1f; not byte ptr [rdx + 304]"
 another number of many|v5_pad|Pad..length: found|cmp rsi, 200; jne body; call body; inc rax; ret
-a wrong message|v5_unpad|bytes: found|
-    cmp rsi, 2; jne body; after "cmp rax, -1; je 1f; test rax, rax; je 1f; not byte ptr [rdx]"
 a multiplication more|v5_rand_next|the definition does not have|mov rax, rdi; mul rdi
 one made twice|v5_rand_next|has made already|mov rax, [rdi]; mul qword ptr [rdi + 8]
-a refusal if no bytes lie where out does|v4_pad|calls that must be refused|
-    cmp rdi, rdx; jne 1f; xor eax, eax; ret; 1:
-a result if bytes lie in room that is not written|v5_pad|found 0x4d|
-    cmp rcx, 8; jb 1f; test rsi, rsi; je 1f; lea r8, [rdx + 48]; cmp rdi, r8; jne 1f;
-    mov eax, 77; ret; 1:
 a loop|v5_pad||pad "", "", ""
 one wrong from byte 3,200 on|v5_pad|Pad..in no array|pad "", "cmp r9, 400; jne .Lturn; inc r9", ""
 a word of a turn that is wrong|v5_pad|Pad..bytes: found|pad "", "not byte ptr [rdx + 8*r9 - 8]", ""
-a turn that takes nothing|v5_pad|Pad..takes nothing|
-    pad "xor r9d, r9d; jmp 1f", "1: cmp r9, 400; je 1b", ""
+a turn of nothing|v5_pad|Pad..takes nothing|pad "xor r9d, r9d; jmp 1f", "1: cmp r9, 400; je 1b", ""
 a jump by contents|v5_save|depends on|cmp byte ptr [rdi + 72], 1; jb 1f; 1:
 one after a loop|v5_pad|Pad..depends on|pad "", "", "test r10, r10; je 1f; 1:"
-an address by contents|v5_save|depends on|
-    movzx eax, byte ptr [rdi + 72]; and eax, 1; mov al, [rdi + rax]
+one of an address|v5_save|depends|movzx eax, byte ptr [rdi + 72]; and eax, 1; mov al, [rdi + rax]
 a jump by where the library is|v5_rand_next|2 ways|
     lea rax, [rip + __ehdr_start]; test eax, 4096; jne 1f; 1:
 a carry that is not there|v5_save|calls that must be refused|
@@ -152,12 +137,9 @@ a carry that is not there|v5_save|calls that must be refused|
     mov qword ptr [rsi], 0; mov eax, 77; ret; 1:
 '''
 ARM = '.macro up by; add sp, sp, \\by; sub sp, sp, \\by; .endm\n', '''
-a frame|v5_rand_next||stp x0, x1, [sp, -16]!; ldp x0, x1, [sp], 16
-a register in it|v5_rand_next||str x19, [sp, -16]!; mov x19, x0; ldr x19, [sp], 16
+a register in a frame|v5_rand_next||str x19, [sp, -16]!; mov x19, x0; ldr x19, [sp], 16
 a frame not aligned|v5_rand_next|not aligned to 16|sub sp, sp, 8; str x0, [sp]; add sp, sp, 8
 a word below the stack|v5_rand_next|below the stack pointer|sturb w0, [sp, -1]
-a word that was popped|v5_rand_next|not written|
-    stp x0, x1, [sp, -16]!; ldp x0, x1, [sp], 16; sub sp, sp, 16; ldr x1, [sp]; add sp, sp, 16
 a stack pointer of the caller|v5_rand_next|out of the stack|signals; up "4095, lsl 12"
 a small step above the call|v5_rand_next|out of the stack|up 16
 a pointer far below the stack|v5_rand_next|out of the stack|signals; up "-4095, lsl 12"

@@ -18,10 +18,12 @@ CALLS = {
     '_start': 'stream == 2**64 - 152', '_rand_init_words': 's1 == s2',
     '_rand_next': 'rand == 8; rand == 2**64 - 24', '_finish': 'stream == 8; top_bit == 1',
     '_save': 'room == 0; room == 2**63 - 1; out + 131 == stream',
-    '_pad': 'room == 2**60 - 1; bytes + length == out; And(length == 0, bytes == out); '
+    '_pad': 'room == 2**60 - 1; And(length == 0, room == 1, bytes == out); '
             'And(length == 9, room == 1, bytes == out); '
+            'And(length == 9, room == 2, bytes + 9 == out); '
             'And(length == 9, room == 5, out + 16 == bytes)',
-    '_unpad': 'length == 2**60 - 1; words + 8 * length == out; '
+    '_unpad': 'length == 2**60 - 1; '
+              'And(length == 2, room == 16, last == 0x100, words + 16 == out); '
               'And(length == 2, room == 16, last == 0x100, out + 15 == words); '
               'And(length == 2, room == 15, last == 0x100, out == words)'}
 MISSING = 'no case has the call with'

@@ -237,9 +237,8 @@ def main(level, compiler, *emulator):
         for what in differences(kind, cpu, memory):
             failed += 1
             print(f'FAILED: {i.mnemonic} {i.text} ({i.bytes.hex()}): {what}')
-    if len(replies) < len(found):
+    for i, *_ in found[len(replies):][:1]:
         failed += 1
-        i = found[len(replies)][0]
         print(f'FAILED: the program ended at {i.mnemonic} {i.text} ({i.bytes.hex()})')
     print(f'{len(replies)} instructions do in the model what they do really, but for {failed}')
     return failed > 0 or not found
