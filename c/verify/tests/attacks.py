@@ -80,13 +80,11 @@ def of_header_and_marks(e):
         ('another version of ELF', 'no shared library', e.put, VERSION, 2),
         ('another processor', 'no library for', e.put, MACHINE, 40),
         ('segments without end', 'more than 64', e.put, COUNT, 65535),
-        ('the end is cut off', 'too short', e.content.__delitem__,
-         slice(600, None)),
+        ('the end is cut off', 'too short', e.content.__delitem__, slice(600, None)),
         ('a file that is too long', 'more than 67108864', e.content.extend, bytes(2**26)),
         ('a function without a mark', 'has none', e.instruction, nothing, 0),
         ('marks of an unknown kind', 'unknown: 0xc0', e.note, kind, 64, NOTES),
-        ('an unknown property', 'unknown: 0xc0008002', e.note, 0xc0008002, 8,
-         elf.PROPERTY),
+        ('an unknown property', 'unknown: 0xc0008002', e.note, 0xc0008002, 8, elf.PROPERTY),
         ('a note of another kind', 'of GNU of type 1', e.bytes_at,
          e.elf.of_type(NOTES)[0].start + 8, b'\1')]
 
@@ -116,9 +114,8 @@ def of_parts(e):
 def of_segments(e):
     within, before = (START, e.code.start), (OFFSET, e.code.offset)
     elsewhere, last = 'elsewhere in the file', e.parts[-1]
-    frames, = e.elf.of_type(FRAMES)
-    part = e.elf.part_of(frames.start)
-    more = part.start + part.size + 1 - frames.start
+    first, notes = e.parts[0], e.elf.of_type(NOTES)[0]
+    more = first.start + first.size + 1 - notes.start
     beyond = (last.start + last.size + 4095 & -4096) + 1 - e.elf.of_type(RELRO)[0].start
     return [
         ('a program that loads it', 'unknown type', e.segment, NOTES, 0, (KIND, 3)),
@@ -131,8 +128,7 @@ def of_segments(e):
          (OFFSET, 0)),
         ('another dynamic table in the file', elsewhere, e.segment, DYNAMIC, 0, (OFFSET, 0)),
         ('no dynamic table in the file', elsewhere, e.segment, DYNAMIC, 0, (FILLED, 0)),
-        ('stack frames beyond memory', elsewhere, e.segment, FRAMES, 0, (FILLED, more),
-         (SIZE, more)),
+        ('notes beyond memory', elsewhere, e.segment, NOTES, 0, (FILLED, more), (SIZE, more)),
         ('another table of segments', 'another one in memory', e.segment, NOTES, 0, (KIND, TABLE)),
         ('a shorter table of segments', 'another one in memory', e.segment, NOTES, 0, (KIND, TABLE),
          (OFFSET, 64), (START, 64), (FILLED, 56), (SIZE, 56)),

@@ -143,8 +143,6 @@ a word below the stack|v5_rand_next|below the stack pointer|sturb w0, [sp, -1]
 a stack pointer of the caller|v5_rand_next|out of the stack|signals; up "4095, lsl 12"
 a small step above the call|v5_rand_next|out of the stack|up 16
 a pointer far below the stack|v5_rand_next|out of the stack|signals; up "-4095, lsl 12"
-one in a function that is called|v5_rand_next|out of the stack|
-    signals; mov x9, x30; bl 1f; mov x30, x9; b body; 1: up 512; ret
 a stack that is lower at the end|v5_rand_next|sp is lost|sub sp, sp, 16; ret
 '''
 # By level: the assembly, and the marks of functions, after which a body begins; what tells an

@@ -5,10 +5,11 @@ from unittest import mock
 from attacks import cases, count, refusal
 import any_length
 import fixed_lengths
+import streams
 import z3
 from calls import Call
 from header import parameters
-from terms import bv, join
+from terms import Unknown, bv, join
 
 # By function: which cases, and of which calls, are left out.
 CASES = {'': [(0,), (127,), (7,)], '_finish': [(63, 0), (63, 1)], '_save': [(63,)],
@@ -27,9 +28,11 @@ CALLS = {
               'And(length == 2, room == 16, last == 0x100, out + 15 == words); '
               'And(length == 2, room == 15, last == 0x100, out == words)'}
 MISSING = 'no case has the call with'
-# What the definition multiplies more, by where it is called, and the function that is refused.
+# What the definition multiplies more, by where it is called, and the function that is refused, or
+# the length for which streams answer something else.
 MORE = [(any_length, 'block_round', ''), (any_length, 'hash_from_pair', ''),
-        (any_length, 'next_pair', '_rand_fill'), (fixed_lengths, 'next_pair', '_rand_next')]
+        (any_length, 'next_pair', '_rand_fill'), (fixed_lengths, 'next_pair', '_rand_next'),
+        (streams, 'komi', 63), (streams, 'hash_from_lanes', 64)]
 
 
 def missed(suffix, keeps=lambda case: True, left_out=None):
@@ -48,7 +51,7 @@ def missed(suffix, keeps=lambda case: True, left_out=None):
         return cases.run_case(cases.AllCalls(name, None, some)).failure
 
 
-def with_more(module, name, suffix, content):
+def with_more(module, name, where, content):
     """What is found if a function of the definition multiplies once more than it does."""
     do = getattr(module, name)
 
@@ -56,7 +59,11 @@ def with_more(module, name, suffix, content):
         products.new(bv(2), bv(3))
         return do(products, *given)
     with mock.patch.object(module, name, more):
-        return refusal(content, 'x86-64', f'komihash_v4{suffix}')
+        try:
+            return streams.check_length(where) if module is streams else \
+                refusal(content, 'x86-64', f'komihash_v4{where}')
+        except Unknown as unknown:
+            return unknown
 
 
 def rows(path):
@@ -70,9 +77,10 @@ def rows(path):
     for suffix, some in CALLS.items():
         for one in some.split('; '):
             yield f'{suffix} without {one}', MISSING, missed(suffix, left_out=one)
-    for module, name, suffix in MORE:
-        yield f'{suffix} with more in {name}', 'products, and not the', \
-            with_more(module, name, suffix, content)
+    for module, name, where in MORE:
+        yield f'{where} with more in {name}', \
+            'other hashes' if module is streams else 'products, and not the', \
+            with_more(module, name, where, content)
     shown = any_length.proved_write(any_length.Write, cases.LIBRARY, 4).seen.ran
     write = cases.run_case(cases.Case('komihash_v4_write', any_length.Write, (1,)))
     yield 'a write runs what all writes run', 'True', shown <= write.ran
