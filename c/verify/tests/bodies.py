@@ -139,7 +139,7 @@ a carry that is not there|v5_save|calls that must be refused|
 ARM = '.macro up by; add sp, sp, \\by; sub sp, sp, \\by; .endm\n', '''
 a register in a frame|v5_rand_next||str x19, [sp, -16]!; mov x19, x0; ldr x19, [sp], 16
 a frame not aligned|v5_rand_next|not aligned to 16|sub sp, sp, 8; str x0, [sp]; add sp, sp, 8
-a word below the stack|v5_rand_next|below the stack pointer|sturb w0, [sp, -1]
+a word below the stack|v5_rand_next|below the stack pointer|red zone; stur w0, [sp, -4]
 a stack pointer of the caller|v5_rand_next|out of the stack|signals; up "4095, lsl 12"
 a small step above the call|v5_rand_next|out of the stack|up 16
 a pointer far below the stack|v5_rand_next|out of the stack|signals; up "-4095, lsl 12"
