@@ -53,6 +53,7 @@ a pointer far below the stack|v5_rand_next|out of the stack|
     signals; sub rsp, 0x40000000; add rsp, 0x40000000
 a stack pointer of the caller|v5_rand_next|out of the stack|signals; up 4096
 a small step above the call|v5_rand_next|out of the stack|pop rax; inc rsp; dec rsp; push rax
+one in long messages|v5_pad|Pad..out of the stack|signals; long "up 200"
 one in refused calls|v5_pad|out of the stack|signals; test rcx, rcx; jne 1f; up 1024; 1:
 one in a function that is called|v5_rand_next|out of the stack|
     signals; call 1f; jmp body; 1: pop rax; up 512; push rax; ret
@@ -143,6 +144,11 @@ a word below the stack|v5_rand_next|below the stack pointer|red zone; stur w0, [
 a stack pointer of the caller|v5_rand_next|out of the stack|signals; up "4095, lsl 12"
 a small step above the call|v5_rand_next|out of the stack|up 16
 a pointer far below the stack|v5_rand_next|out of the stack|signals; up "-4095, lsl 12"
+one in long messages|v5_pad|Pad..out of the stack|signals; cmp x1, 128; b.lo 1f; up 208; 1:
+one in refused calls|v5_pad|out of the stack|signals; cbnz x3, 1f; up 1024; 1:
+one in a loop|v5_rand_next|out of the stack|signals; mov x9, 3; 1: up 512; subs x9, x9, 1; b.ne 1b
+one in a function that is called|v5_rand_next|out of the stack|
+    signals; mov x9, x30; bl 1f; mov x30, x9; b body; 1: up 512; ret
 a stack that is lower at the end|v5_rand_next|sp is lost|sub sp, sp, 16; ret
 '''
 # By level: the assembly, and the marks of functions, after which a body begins; what tells an
