@@ -1,6 +1,6 @@
 -- The saved text of a stream, which is a list of bytes.
 use Rattle.std.specs.Prelude.{ℕ, ◌≡◌, ◌≤◌, ◌↔◌, Bool, List, [], ◌∷◌, ◌++◌, length, take, drop}
-use Rattle.std.specs.Prelude.{Option, IfSome, IsSome, IsSomeAnd, IsNone, if◌then◌else◌}
+use Rattle.std.specs.Prelude.{Option, IfSome, IsSomeAnd, IsNone, if◌then◌else◌}
 use Rattle.komihash.specs.Borrows.{Mut}
 use Rattle.komihash.specs.Rounds.{in_order}
 use Rattle.komihash.specs.Stream.{State, IsState, HasAbsorbed}
@@ -66,5 +66,4 @@ pub record Restored {A : Type 0} (v : ℕ) (view : A → State) (bytes : List �
   -- nothing else gives a stream
   pub most : IfSome result (λ _. length bytes ≤ longest_text)
   pub text : IfSome result (λ stream. text v (view stream) ≡ bytes)
-  pub some : IsSome result ↔ IsText v bytes
   pub none : IsNone result ↔ ¬ IsText v bytes

@@ -168,8 +168,8 @@ restored : {A : Type 0} (v : ℕ) (view : A → State) (bytes : List ℕ) (resul
     × ((s : State) → IsState v s → text v s ≡ bytes → IsSomeAnd result (λ stream. view stream ≡ s))
     × ((seed : ℕ) (m : List ℕ) → IsTextAfter v seed m bytes
     → IsSomeAnd result (λ stream. HasAbsorbed v seed (view stream) m))
-    × (IsSome result ↔ IsText v bytes) × (IsNone result ↔ ¬ IsText v bytes)
-restored v view bytes result is = (is.text, is.most, is.same, is.message, is.some, is.none)
+    × (IsNone result ↔ ¬ IsText v bytes)
+restored v view bytes result is = (is.text, is.most, is.same, is.message, is.none)
 
 padded_out : (v : ℕ) (bytes : List ℕ) (out : Mut (List ℕ)) (n : ℕ) → Padded v bytes out n
     → (n ≡ length bytes / 8 + 1) × (take n out.exit.now ≡ padded_words v bytes)
