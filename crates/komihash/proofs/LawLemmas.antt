@@ -1,5 +1,5 @@
--- Lemmas about the definitions. They prove the laws of `src/laws.rt`, and a caller may name the
--- ruleset `laws` for what no law states.
+-- Lemmas about the definitions. They prove the laws of `src/laws.rt`, and the search finds most laws
+-- in a crate that names the ruleset `laws` in its root file.
 use Rattle.std.proofs.Common.{append-nil, append_assoc, length-append, take_all}
 use Rattle.std.proofs.lemmas.Grind.{take_at_read, take-set_at}
 use Rattle.std.proofs.lemmas.List.{map-append}
@@ -52,7 +52,7 @@ pub ruleset of_outputs = (
   after_fill-one,
 )
 
--- what several writes for each item of a map or another iterator need
+-- what loops need, also those that write several times for each item
 pub ruleset of_items = (
   flat_map-append,
   append-nil,
