@@ -9,11 +9,13 @@ cd "$(dirname "$0")/../crates/komisum" || exit 1
 program=out/komisum
 long=$(printf '%0300d' 0)
 
-# Runs a command, and then prints its status and its standard error.
+# Runs a command, and then prints its status and its standard error. Cases that CASE leaves out are
+# begun too, beside others.
 ran() {
-    "$@" 2> "$scratch/errors"
+    local errors=$scratch/errors-$BASHPID
+    "$@" 2> "$errors"
     printf 'status %s\n' $?
-    cat "$scratch/errors"
+    cat "$errors"
 }
 
 # Print what `ran` prints for a line and for a fault.
