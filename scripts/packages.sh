@@ -6,10 +6,13 @@ set -uo pipefail
 cd "$(dirname "$0")/.." || exit 1
 . scripts/parts.sh
 
+packed=$scratch/packed
+release() { PYTHON=/usr/bin/python3 bash scripts/release.sh "$packed" "$1"; }
+
 # Unpacks the package of the library for C, and makes it again from what was unpacked.
 unpack() {
-    make -C c dist "OUT=$scratch" && tar -xzf "$scratch"/komihash_rattle-*.tar.gz -C "$scratch" &&
-        in_package dist && cmp "$scratch"/komihash_rattle-*.tar.gz "$scratch"/*/out/*.tar.gz
+    release c && tar -xzf "$packed"/c/*.tar.gz -C "$scratch" && in_package dist &&
+        cmp "$packed"/c/*.tar.gz "$scratch"/komihash_rattle-*/out/*.tar.gz
 }
 in_package() { make -C "$scratch"/komihash_rattle-*/ --no-print-directory "$@"; }
 
@@ -42,9 +45,8 @@ erased() {
 
 # Unpacks the package of the crate for Rust, which cargo builds first.
 unpack_crate() {
-    mkdir "$scratch/rust" &&
-        cargo package --manifest-path rust/Cargo.toml --offline --allow-dirty &&
-        tar -xzf "$CARGO_TARGET_DIR"/package/*.crate -C "$scratch/rust" --strip-components=1
+    release rust && mkdir "$scratch/rust" &&
+        tar -xzf "$packed"/rust/*.crate -C "$scratch/rust" --strip-components=1
 }
 in_crate() { (cd "$scratch/rust" && "$@"); }
 pages() {
@@ -70,19 +72,18 @@ random_rows() {
 # Makes the package for Python, and installs and tests it by Debian's tools.
 debian_python() { PYTHONPATH=$scratch/python /usr/bin/python3 -B "$@"; }
 python_package() {
-    (cd python && debian_python setup.py sdist --dist-dir "$scratch/packed") &&
+    release python &&
         debian_python -m pip install --no-index --no-build-isolation --target "$scratch/python" \
-            "$scratch"/packed/*.tar.gz &&
+            "$packed"/python/*.tar.gz &&
         debian_python -W error python/tests.py < "$scratch/rows" &&
         debian_python -m doctest python/README.md
 }
 
 # Makes the package for JavaScript, and installs it in a folder that has nothing else but tests.
 js_package() {
-    mkdir -p "$scratch/packed" "$scratch/js" && cp js/tests.* "$scratch/js" &&
+    release js && mkdir "$scratch/js" && cp js/tests.* "$scratch/js" &&
         sed -n '/^```js$/,/^```$/{/^```/!p;}' js/README.md > "$scratch/js/page.mjs" &&
-        (cd js && npm pack --pack-destination "$scratch/packed") && cd "$scratch/js" &&
-        npm install --offline "$scratch"/packed/*.tgz
+        cd "$scratch/js" && npm install --offline "$packed"/js/*.tgz
 }
 all_right() { diff <(echo "$(grep -cvE '^(#|unpad)' "$scratch/rows") rows, 0 failures") -; }
 js_in_node() {
