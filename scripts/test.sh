@@ -5,8 +5,8 @@
 #
 # The last line is 'N passed, M failed', the sum of all parts, with ', K skipped' if a tool is
 # missing; lines above it say which. With REQUIRE_ALL=1 in the environment, skipped is failed, but
-# for cases that are marked (optional), such as those of the Rust crate. `test.sh NAME` runs only the
-# parts whose commands have NAME in them.
+# for cases that are marked (optional), such as those of the Rust crate. `test.sh NAME` runs only
+# the parts whose commands have NAME in them.
 set -uo pipefail
 cd "$(dirname "$0")/.." || exit 1
 . scripts/parts.sh
