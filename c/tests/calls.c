@@ -1,6 +1,6 @@
 /* Calls every function of komihash_rattle.h in the version VERSION, which is 4 or 5. Reads rows of
- * vectors.tsv and values.tsv of this version, and prints each with the value that the library gives.
- * If another function does what it must not, prints that and ends. Each array that is passed ends at
+ * vectors.tsv and values.tsv of this version, and prints each with the value of the library. If
+ * another function does what it must not, prints that and ends. Each array that is passed ends at
  * the end of a page, after which nothing can be accessed. */
 #define _DEFAULT_SOURCE
 #include <komihash_rattle.h>

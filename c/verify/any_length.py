@@ -44,7 +44,8 @@ class Hash(Blocks):
     def at_start(self, least, low, front=256):
         self.fixed = low
         call, seed = self.new_call(), secret('seed')
-        self.length, content = self.long_length(max(least, self.LEAST)), named('front', range(front))
+        self.length = self.long_length(max(least, self.LEAST))
+        content = named('front', range(front))
         self.base = call.base('bytes', self.length)
         self.windows(self.base, content, named('end', range(-64, 0)))
         self.follow(lanes(seed_pair(call.products, seed)), content, self.FIRST)

@@ -1,5 +1,5 @@
-//! Prints the rows of a table of rust/tests, which are read from standard input, each with the value
-//! that `komihash` gives. Comments and rows of calls that it lacks stay as they are.
+//! Prints the rows of a table of rust/tests, read from standard input, each with the value that
+//! `komihash` gives. Comments and rows of calls that it lacks stay as they are.
 #[allow(dead_code)] // Tests use the rest.
 #[path = "../../../../rust/tests/by_name/mod.rs"]
 mod by_name;
