@@ -13,7 +13,7 @@ use crate::version::{IsVersion, Versions};
 /// If low and high are the halves of the product, the new second word is
 /// `s2 + high + 0xaaaaaaaaaaaaaaaa`. The new first word is the exclusive or of low and that word
 /// in version 4, and `(low ^ high) + 0x5555555555555555` in version 5. These sums wrap around.
-/// `Debug` shows both words.
+/// `Debug` shows both words. Nothing is claimed of how random its outputs are.
 // The words are laid out as in the library for C.
 #[repr(C)]
 #[derive(Debug, PartialEq, Eq, Clone)]

@@ -15,6 +15,10 @@ pub(crate) mod streamed;
 /// `save` and `resume` do. Use this trait for code that also serves streams of your own type,
 /// which may implement it, and otherwise `version::StreamedKomihash<V>`.
 ///
+/// An implementation keeps three laws: `answer` depends on the seed and the bytes so far alone,
+/// however cut; `restore` of what `store` wrote gives a stream with the same answers, also to
+/// later bytes; and `store` writes at most `LONGEST_TEXT` bytes, and changes no others.
+///
 /// ```
 /// use komihash_rattle::stream::KomiStream;
 /// use komihash_rattle::{v4, v5};

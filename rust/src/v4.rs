@@ -70,6 +70,8 @@ pub type Komirand = generator::Komirand<4>;
 /// ```
 /// use komihash_rattle::v4::komihash;
 /// assert_eq!(komihash(b"", 0), 0xb7683ea7430132b4);
+/// let shard = komihash(&443_u64.to_le_bytes(), 0) % 8;
+/// assert!(shard < 8);
 /// ```
 #[must_use]
 #[inline]

@@ -120,7 +120,8 @@ macro_rules! tests {
             #[test]
             fn fills_are_outputs() {
                 const START: Komirand = Komirand::new(1, SEED);
-                assert_eq!(START.words(), (1, SEED));
+                const WORDS: (u64, u64) = START.words();
+                assert_eq!(WORDS, (1, SEED));
                 for length in 0..40 {
                     let (mut filled, mut stepped, mut bytes) = (START, START, vec![0; length]);
                     filled.fill_bytes(&mut bytes);
@@ -186,9 +187,11 @@ macro_rules! tests {
             #[test]
             fn types_have_the_traits_that_users_expect() {
                 fn is<T: Send + Sync + Unpin + Clone + std::fmt::Debug>() {}
-                fn is_copied<T: Copy + Default>() {}
+                fn is_copied<T: Copy + Default + Eq>() {}
+                fn is_compared<T: Eq>() {}
                 (is::<StreamedKomihash>(), is::<Komirand>(), is::<KomiHasher>());
                 (is::<KomiBuildHasher>(), is::<Call<'_>>(), is_copied::<KomiBuildHasher>());
+                is_compared::<Komirand>();
             }
 
             #[test]
@@ -266,6 +269,9 @@ tests!(v5, "5", 0x481a78b46b0edb90);
 
 #[test]
 fn the_root_has_version_5() {
+    use komihash_rattle::v5;
+    let _: fn(v5::KomiHasher) -> komihash_rattle::KomiHasher = |hasher| hasher;
+    let _: fn(v5::Komirand) -> komihash_rattle::Komirand = |generator| generator;
     let mut stream = komihash_rattle::StreamedKomihash::default();
     stream.write(&[0x80]);
     let hash = komihash_rattle::v5::komihash(&[0x80], 0);

@@ -18,7 +18,7 @@ use std::marker::Model;
 // Rust: /// If low and high are the halves of the product, the new second word is
 // Rust: /// `s2 + high + 0xaaaaaaaaaaaaaaaa`. The new first word is the exclusive or of low and that word
 // Rust: /// in version 4, and `(low ^ high) + 0x5555555555555555` in version 5. These sums wrap around.
-// Rust: /// `Debug` shows both words.
+// Rust: /// `Debug` shows both words. Nothing is claimed of how random its outputs are.
 // Rust: // The words are laid out as in the library for C.
 /// `next` of `specs/Generator.antt` has the rule of each version. <!-- Rattle -->
 // Rust: #[repr(C)]

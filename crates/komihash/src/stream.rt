@@ -28,6 +28,10 @@ pub mod raw;
 // Rust: /// `start`, `absorb`, `answer`, `store` and `restore` do what `new_with_seed`, `write`, `finish`,
 // Rust: /// `save` and `resume` do. Use this trait for code that also serves streams of your own type,
 // Rust: /// which may implement it, and otherwise `version::StreamedKomihash<V>`.
+// Rust: ///
+// Rust: /// An implementation keeps three laws: `answer` depends on the seed and the bytes so far alone,
+// Rust: /// however cut; `restore` of what `store` wrote gives a stream with the same answers, also to
+// Rust: /// later bytes; and `store` writes at most `LONGEST_TEXT` bytes, and changes no others.
 ///  <!-- Rattle -->
 /// `start`, `absorb` and `answer` also count their cost in a tally <!-- Rattle -->
 /// that the caller passes: products of two words, and bytes that <!-- Rattle -->

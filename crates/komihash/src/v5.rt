@@ -67,6 +67,8 @@ pub type Komirand = generator::Komirand<5>;
 // Rust: /// ```
 // Rust: /// use komihash_rattle::v5::komihash;
 // Rust: /// assert_eq!(komihash(b"", 0), 0xb7683ea7430132b4);
+// Rust: /// let shard = komihash(&443_u64.to_le_bytes(), 0) % 8;
+// Rust: /// assert!(shard < 8);
 // Rust: /// ```
 // Rust: #[must_use]
 #[inline]

@@ -52,7 +52,7 @@ impl RawStream {
     }
 
     // Absorbs bytes that complete a block or more. Copies those that complete the partial block, if
-    // there is one, and those after the last block.
+    // there is one, and those after the last block. It stays out of callers, which would get long.
     #[inline(never)]
     fn complete_blocks<const V: u8>(&mut self, bytes: &[u8]) {
         let pending_len = self.pending.len();

@@ -54,11 +54,13 @@ where
     /// parts, write the length of each before it.
     ///
     /// ```
-    /// use komihash_rattle::v5::{StreamedKomihash, komihash};
+    /// use komihash_rattle::v5::StreamedKomihash;
     /// let mut stream = StreamedKomihash::new();
-    /// stream.write(b"po");
-    /// stream.write(b"rt");
-    /// assert_eq!(stream.finish(), komihash(b"port", 0));
+    /// for part in ["po", "rt"] {
+    ///     stream.write(&(part.len() as u64).to_le_bytes());
+    ///     stream.write(part.as_bytes());
+    /// }
+    /// let hash = stream.finish();
     /// ```
     #[inline]
     pub fn write(&mut self, bytes: &[u8]) {

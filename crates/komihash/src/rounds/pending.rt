@@ -135,7 +135,8 @@ fn append_whole_words(words: &mut [u64; 8], len: usize, bytes: &[u8])
     } else {
         let has_next = chunks.len() == 1 || len + bytes.len() < 64;
         if has_next {
-            // If only the partial word is whole, the bytes that are left take this word's place.
+            // If only the partial word is whole, this stores a word that the bytes that are left
+            // replace, because a jump would take longer.
             words[next] = word_at(bytes, (8 - over).min(bytes.len() - 8));
         }
     }

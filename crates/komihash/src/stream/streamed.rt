@@ -76,11 +76,13 @@ where
     // Rust: /// parts, write the length of each before it.
     // Rust: ///
     // Rust: /// ```
-    // Rust: /// use komihash_rattle::v5::{StreamedKomihash, komihash};
+    // Rust: /// use komihash_rattle::v5::StreamedKomihash;
     // Rust: /// let mut stream = StreamedKomihash::new();
-    // Rust: /// stream.write(b"po");
-    // Rust: /// stream.write(b"rt");
-    // Rust: /// assert_eq!(stream.finish(), komihash(b"port", 0));
+    // Rust: /// for part in ["po", "rt"] {
+    // Rust: ///     stream.write(&(part.len() as u64).to_le_bytes());
+    // Rust: ///     stream.write(part.as_bytes());
+    // Rust: /// }
+    // Rust: /// let hash = stream.finish();
     // Rust: /// ```
     #[inline]
     pub fn write(&mut self, bytes: &[u8])
