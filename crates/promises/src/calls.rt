@@ -87,73 +87,117 @@ pub trait Promises: KomiStream {
         ensures default { result.1 ≡ 0 };
 }
 
-macro_rules! promises {
-    ($v:ident) => {
-        impl Promises for $v::StreamedKomihash {
-            fn new_streams(seed: u64) -> (Self, Self, Self) {
-                (Self::new_with_seed(seed), Self::new(), Self::default())
-            }
+impl Promises for v4::StreamedKomihash {
+    fn new_streams(seed: u64) -> (Self, Self, Self) {
+        (Self::new_with_seed(seed), Self::new(), Self::default())
+    }
 
-            fn written(&mut self, bytes: &[u8]) -> u64 {
-                self.write(bytes);
-                self.finish()
-            }
+    fn written(&mut self, bytes: &[u8]) -> u64 {
+        self.write(bytes);
+        self.finish()
+    }
 
-            fn saved(&self, out: &mut [u8]) -> usize {
-                self.save(out)
-            }
+    fn saved(&self, out: &mut [u8]) -> usize {
+        self.save(out)
+    }
 
-            fn resumed(bytes: &[u8]) -> Option<Self> {
-                Self::resume(bytes)
-            }
+    fn resumed(bytes: &[u8]) -> Option<Self> {
+        Self::resume(bytes)
+    }
 
-            fn hashed(bytes: &[u8], seed: u64, tally: &mut Tally) -> (u64, u64) {
-                let hash = $v::komihash(bytes, seed);
-                (hash, $v::komihash_counted(bytes, seed, tally))
-            }
+    fn hashed(bytes: &[u8], seed: u64, tally: &mut Tally) -> (u64, u64) {
+        let hash = v4::komihash(bytes, seed);
+        (hash, v4::komihash_counted(bytes, seed, tally))
+    }
 
-            fn padded(bytes: &[u8], out: &mut [u64]) -> usize {
-                $v::pad(bytes, out)
-            }
+    fn padded(bytes: &[u8], out: &mut [u64]) -> usize {
+        v4::pad(bytes, out)
+    }
 
-            fn unpadded(words: &[u64], out: &mut [u8]) -> Option<usize> {
-                $v::unpad(words, out)
-            }
+    fn unpadded(words: &[u64], out: &mut [u8]) -> Option<usize> {
+        v4::unpad(words, out)
+    }
 
-            fn drawn(
-                s1: u64,
-                s2: u64,
-                buffer: &mut [u8],
-            ) -> ((u64, u64), (u64, u64), u64, (u64, u64)) {
-                let one = $v::Komirand::init(s1);
-                let two = $v::Komirand::init_with_extra_seed(s1, s2);
-                let mut generator = $v::Komirand::new(s1, s2);
-                let output = generator.next();
-                generator.fill_bytes(buffer);
-                (one.words(), two.words(), output, generator.words())
-            }
+    fn drawn(s1: u64, s2: u64, buffer: &mut [u8]) -> ((u64, u64), (u64, u64), u64, (u64, u64)) {
+        let one = v4::Komirand::init(s1);
+        let two = v4::Komirand::init_with_extra_seed(s1, s2);
+        let mut generator = v4::Komirand::new(s1, s2);
+        let output = generator.next();
+        generator.fill_bytes(buffer);
+        (one.words(), two.words(), output, generator.words())
+    }
 
-            fn chained(number: u64, first: &[u8], second: &[u8]) -> (u64, u64) {
-                let mut hasher = $v::KomiHasher::new(number);
-                let mut default = $v::KomiHasher::default();
-                hasher.write(first);
-                default.write(first);
-                default.write(second);
-                (hasher.finish(), default.finish())
-            }
+    fn chained(number: u64, first: &[u8], second: &[u8]) -> (u64, u64) {
+        let mut hasher = v4::KomiHasher::new(number);
+        let mut default = v4::KomiHasher::default();
+        hasher.write(first);
+        default.write(first);
+        default.write(second);
+        (hasher.finish(), default.finish())
+    }
 
-            fn built(seed: u64) -> (u64, u64) {
-                let hasher: $v::KomiHasher = $v::KomiBuildHasher::new(seed).build_hasher();
-                let default: $v::KomiHasher = $v::KomiBuildHasher::default().build_hasher();
-                (hasher.finish(), default.finish())
-            }
-        }
-    };
+    fn built(seed: u64) -> (u64, u64) {
+        let hasher: v4::KomiHasher = v4::KomiBuildHasher::new(seed).build_hasher();
+        let default: v4::KomiHasher = v4::KomiBuildHasher::default().build_hasher();
+        (hasher.finish(), default.finish())
+    }
 }
 
-promises!(v4);
+impl Promises for v5::StreamedKomihash {
+    fn new_streams(seed: u64) -> (Self, Self, Self) {
+        (Self::new_with_seed(seed), Self::new(), Self::default())
+    }
 
-promises!(v5);
+    fn written(&mut self, bytes: &[u8]) -> u64 {
+        self.write(bytes);
+        self.finish()
+    }
+
+    fn saved(&self, out: &mut [u8]) -> usize {
+        self.save(out)
+    }
+
+    fn resumed(bytes: &[u8]) -> Option<Self> {
+        Self::resume(bytes)
+    }
+
+    fn hashed(bytes: &[u8], seed: u64, tally: &mut Tally) -> (u64, u64) {
+        let hash = v5::komihash(bytes, seed);
+        (hash, v5::komihash_counted(bytes, seed, tally))
+    }
+
+    fn padded(bytes: &[u8], out: &mut [u64]) -> usize {
+        v5::pad(bytes, out)
+    }
+
+    fn unpadded(words: &[u64], out: &mut [u8]) -> Option<usize> {
+        v5::unpad(words, out)
+    }
+
+    fn drawn(s1: u64, s2: u64, buffer: &mut [u8]) -> ((u64, u64), (u64, u64), u64, (u64, u64)) {
+        let one = v5::Komirand::init(s1);
+        let two = v5::Komirand::init_with_extra_seed(s1, s2);
+        let mut generator = v5::Komirand::new(s1, s2);
+        let output = generator.next();
+        generator.fill_bytes(buffer);
+        (one.words(), two.words(), output, generator.words())
+    }
+
+    fn chained(number: u64, first: &[u8], second: &[u8]) -> (u64, u64) {
+        let mut hasher = v5::KomiHasher::new(number);
+        let mut default = v5::KomiHasher::default();
+        hasher.write(first);
+        default.write(first);
+        default.write(second);
+        (hasher.finish(), default.finish())
+    }
+
+    fn built(seed: u64) -> (u64, u64) {
+        let hasher: v5::KomiHasher = v5::KomiBuildHasher::new(seed).build_hasher();
+        let default: v5::KomiHasher = v5::KomiBuildHasher::default().build_hasher();
+        (hasher.finish(), default.finish())
+    }
+}
 
 /// Shows that the names of the root are those of version 5.
 pub fn by_the_names_of_the_root(
