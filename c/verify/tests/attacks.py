@@ -3,8 +3,11 @@ something else than a careless reader believes. Each change must be refused for 
 stands beside it: attacks.py LEVEL:LIBRARY.."""
 import os
 import struct
+import subprocess
 import sys
-sys.path.append(os.path.dirname(os.path.dirname(os.path.abspath(__file__))))
+import tempfile
+VERIFY = os.path.dirname(os.path.dirname(os.path.abspath(__file__)))
+sys.path.append(VERIFY)
 import cases
 import elf
 import opcodes
@@ -83,6 +86,8 @@ def of_header_and_marks(e):
         ('the end is cut off', 'too short', e.content.__delitem__, slice(600, None)),
         ('a file that is too long', 'more than 67108864', e.content.extend, bytes(2**26)),
         ('a function without a mark', 'has none', e.instruction, nothing, 0),
+        ('marks of one kind, and a function without', 'has none',
+         lambda: (e.note(kind, 1, NOTES), e.instruction(nothing, 0))),
         ('marks of an unknown kind', 'unknown: 0xc0', e.note, kind, 64, NOTES),
         ('an unknown property', 'unknown: 0xc0008002', e.note, 0xc0008002, 8, elf.PROPERTY),
         ('a note of another kind', 'of GNU of type 1', e.bytes_at,
@@ -165,6 +170,7 @@ def of_names(e):
         ('names without end', 'more than 65536', e.bytes_at, buckets, b'\0\0\1'),
         ('a symbol before the first', 'before its first', e.bytes_at, names + 4, b'\0\0\1'),
         ('a filter beyond memory', 'not in memory', e.bytes_at, names + 8, b'\0\0\1\0'),
+        ('a filter of three words', 'in different ways', e.bytes_at, names + 8, b'\3'),
         ('a shift of 40 bits', 'in different ways', e.bytes_at, names + 12, bytes([40])),
         ('a filter that finds no name', 'missing: komihash_v4', e.bytes_at, names + 16, none),
         ('a filter without the second bit of a name', f'missing: ..{NAME}', e.bytes_at,
@@ -235,6 +241,16 @@ def count(found):
     return failed > 0
 
 
+def told(edit, level):
+    """The last line that the command prints of a file, and its status."""
+    with tempfile.NamedTemporaryFile() as file:
+        file.write(edit.content)
+        file.flush()
+        done = subprocess.run([sys.executable, '-B', VERIFY, '--function', NAME, '--',
+                               f'{level}:{file.name}'], check=False, stdout=subprocess.PIPE)
+    return f'{done.stdout.splitlines()[-1]} {done.returncode}'
+
+
 def rows(libraries):
     for level, path in (one.split(':', 1) for one in libraries):
         with open(path, 'rb') as file:
@@ -244,6 +260,8 @@ def rows(libraries):
             name, reason, change, *args = changes(edit)[k]
             change(*args)
             yield name, reason, refusal(edit.content, level)
+            if name == 'another function':
+                yield name + ', by the command', "b'1 passed, 1 failed' 1", told(edit, level)
     # Decoders refuse it too.
     more = opcodes.written(bytes.fromhex('c5f01007'))
     yield 'one operand more by VEX', 'True', \

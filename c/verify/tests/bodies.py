@@ -73,6 +73,7 @@ bytes copied by halves of addresses|v5_rand_next|not known for x86-64: rep|addr3
 an address not aligned|v5_rand_next|not aligned|paddq xmm0, [rdi]
 the highest bit of 0|v5_rand_next|2 ways|
     mov rcx, -1; xor eax, eax; bsr ecx, eax; shr rcx, 32; jne 1f; 1:
+a sign after a bit test|v5_rand_next|flag s is read|xor eax, eax; bt eax, 0; js 1f; 1:
 a newer instruction|v5_rand_next|not known for x86-64: vpaddq|vpaddq ymm0, ymm0, ymm0
 a read at address 0|v5_rand_next|in no array|cmp dword ptr [0], 0
 a write to the byte before an array|v5_rand_next|in no array|mov byte ptr [rdi - 1], 0
@@ -92,6 +93,7 @@ a text that is refused and written|v5_resume|of stream were written|
 no text, and a bool of 2|v5_resume|result: found 0x2|test rdx, rdx; jne 1f; mov eax, 2; ret; 1:
 a wrong hash|v5|hash: found|cmp rsi, 9; jne body; call body; not rax; ret
 one of a long message|v5|Hash..hash: found|after "cmp rsi, 300; jne 1f; not rax"
+one of whole blocks|v4|Hash..hash: found|after "cmp rsi, 320; jne 1f; not rax"
 one by a stream|v5_finish|hash: found|call body; not rax; ret
 a wrong stream|v5_start|the stream at 64|after "not byte ptr [rdi + 64]"
 one with a wrong lane|v5_init|the stream at 72|after "not byte ptr [rdi + 72]"
@@ -101,11 +103,16 @@ one after a write|v5_write|the stream at 136|cmp rdx, 3; jne body; cmp byte ptr 
     jne body; after "not byte ptr [rdi + 136]"
 one after a long write|v5_write|Write..the stream at 0|
     after "cmp rdx, 300; jne 1f; not byte ptr [rdi]"
+one after a long write to five bytes|v5_write|Write..the stream at 0|
+    xor eax, eax; cmp rdx, 300; jne 2f; cmp byte ptr [rdi + 64], 5; sete al; 2: push rax; push rdi;
+    call body; pop rdi; pop rax; test eax, eax; je 1f; not byte ptr [rdi]; 1: ret
 one of a text|v5_resume|the stream at 137|
     after "test al, al; je 1f; or byte ptr [rdi + 137], 2"
 a wrong text|v5_save|bytes: found|cmp rdx, 131; jb body; after "not byte ptr [rsi]"
 another length of it|v5_save|result: found|call body; inc rax; ret
+one of a refused call|v5_save|result: found|cmp rdx, 131; jae body; mov eax, 1; ret
 a wrong generator|v5_rand_init|s1: found|call body; inc rax; ret
+one of other words|v5_rand_init_words|s1: found|call body; inc rax; ret
 one with the other word wrong|v5_rand_init_with_extra_seed|s2: found|call body; inc rdx; ret
 a wrong output|v5_rand_next|output: found|call body; inc rax; ret
 one that stays|v5_rand_next|s2: found|after "not byte ptr [rdi + 8]"
@@ -120,6 +127,12 @@ one by single words that are wrong|v5_rand_fill|Fill..bytes: found|
     pop rdx; pop rsi; pop rdi; not byte ptr [rsi]; add rsi, 8; sub rdx, 8; jmp 2b
 a wrong word at the end|v5_pad|Pad..bytes: found|
     after "test rax, rax; je 1f; cmp rsi, 304; jne 1f; not byte ptr [rdx + 304]"
+many that are refused|v5_pad|Pad..a return before the end|
+    cmp rsi, 1000; jne body; cmp rcx, 126; jb body; xor eax, eax; ret
+a wrong message|v5_unpad|bytes: found|
+    cmp rsi, 2; jne body; after "cmp rax, -1; je 1f; test rax, rax; je 1f; not byte ptr [rdx]"
+another length of a long one|v5_unpad|Unpad..length: found|
+    cmp rsi, 40; jne body; call body; inc rax; ret
 another number of many|v5_pad|Pad..length: found|cmp rsi, 200; jne body; call body; inc rax; ret
 a multiplication more|v5_rand_next|the definition does not have|mov rax, rdi; mul rdi
 one made twice|v5_rand_next|has made already|mov rax, [rdi]; mul qword ptr [rdi + 8]
@@ -128,6 +141,7 @@ one wrong from byte 3,200 on|v5_pad|Pad..in no array|pad "", "cmp r9, 400; jne .
 a word of a turn that is wrong|v5_pad|Pad..bytes: found|pad "", "not byte ptr [rdx + 8*r9 - 8]", ""
 a turn of nothing|v5_pad|Pad..takes nothing|pad "xor r9d, r9d; jmp 1f", "1: cmp r9, 400; je 1b", ""
 a jump by contents|v5_save|depends on|cmp byte ptr [rdi + 72], 1; jb 1f; 1:
+one in a long message|v5|Hash..depends on|long "cmp byte ptr [rdi], 1; jb .Lshort"
 one after a loop|v5_pad|Pad..depends on|pad "", "", "test r10, r10; je 1f; 1:"
 one of an address|v5_save|depends|movzx eax, byte ptr [rdi + 72]; and eax, 1; mov al, [rdi + rax]
 a jump by where the library is|v5_rand_next|2 ways|
