@@ -91,6 +91,7 @@ pub(crate) fn hash_message<const V: u8>(bytes: &[u8], seed: u64) -> u64 {
 }
 
 /// Returns the hash of a message of any length with any seed, in version V.
+/// It is not for messages that an attacker may choose, whatever the seed is.
 ///
 /// ```
 /// use komihash_rattle::version::komihash;

@@ -15,9 +15,10 @@ pub(crate) mod streamed;
 /// `save` and `resume` do. Use this trait for code that also serves streams of your own type,
 /// which may implement it, and otherwise `version::StreamedKomihash<V>`.
 ///
-/// An implementation keeps three laws: `answer` depends on the seed and the bytes so far alone,
-/// however cut; `restore` of what `store` wrote gives a stream with the same answers, also to
-/// later bytes; and `store` writes at most `LONGEST_TEXT` bytes, and changes no others.
+/// An implementation keeps three laws: `answer` is the hash of version `VERSION` with the seed, of
+/// the bytes so far, however cut; `restore` of what `store` wrote gives a stream with the same
+/// answers, also to later bytes; and `store` writes at most [`LONGEST_TEXT`] bytes, and changes
+/// no others.
 ///
 /// ```
 /// use komihash_rattle::stream::KomiStream;
@@ -103,8 +104,8 @@ impl core::fmt::Debug for Call<'_> {
 /// many there are. The rest of `out` is unchanged.
 ///
 /// `out` needs room for one `u64` for each call. Afterwards the stream has absorbed all bytes of
-/// the calls. If it began from a seed and had absorbed a message before, each answer is the hash of
-/// that message and the bytes since, joined.
+/// the calls. If it had absorbed a message before, each answer is the hash of that message and the
+/// bytes since, joined, unless it was resumed from a damaged text.
 ///
 /// # Panics
 ///

@@ -132,6 +132,7 @@ pub(crate) fn hash_message<const V: u8>(bytes: &[u8], seed: u64, tally: &mut Tal
 }
 
 /// Returns the hash of a message of any length with any seed, in version V.
+// Rust: /// It is not for messages that an attacker may choose, whatever the seed is.
 // Rust: ///
 // Rust: /// ```
 // Rust: /// use komihash_rattle::version::komihash;

@@ -29,9 +29,10 @@ pub mod raw;
 // Rust: /// `save` and `resume` do. Use this trait for code that also serves streams of your own type,
 // Rust: /// which may implement it, and otherwise `version::StreamedKomihash<V>`.
 // Rust: ///
-// Rust: /// An implementation keeps three laws: `answer` depends on the seed and the bytes so far alone,
-// Rust: /// however cut; `restore` of what `store` wrote gives a stream with the same answers, also to
-// Rust: /// later bytes; and `store` writes at most `LONGEST_TEXT` bytes, and changes no others.
+// Rust: /// An implementation keeps three laws: `answer` is the hash of version `VERSION` with the seed, of
+// Rust: /// the bytes so far, however cut; `restore` of what `store` wrote gives a stream with the same
+// Rust: /// answers, also to later bytes; and `store` writes at most [`LONGEST_TEXT`] bytes, and changes
+// Rust: /// no others.
 ///  <!-- Rattle -->
 /// `start`, `absorb` and `answer` also count their cost in a tally <!-- Rattle -->
 /// that the caller passes: products of two words, and bytes that <!-- Rattle -->
@@ -147,8 +148,8 @@ pub enum Call<'a> {
 /// Counts what the calls cost. <!-- Rattle -->
 ///
 /// `out` needs room for one `u64` for each call. Afterwards the stream has absorbed all bytes of
-/// the calls. If it began from a seed and had absorbed a message before, each answer is the hash of
-/// that message and the bytes since, joined.
+/// the calls. If it had absorbed a message before, each answer is the hash of that message and the
+/// bytes since, joined, unless it was resumed from a damaged text.
 // Rust: ///
 // Rust: /// # Panics
 // Rust: ///

@@ -12,6 +12,8 @@ use crate::version::{IsVersion, Versions};
 /// Pieces of a multiple of 64 bytes are best: as long as all are, none is copied. Otherwise a write
 /// copies into the stream the bytes that continue a partial block, and those that begin a new one:
 /// at most 63 of each.
+///
+/// It is not for messages that an attacker may choose, whatever the seed is.
 #[repr(transparent)]
 #[derive(Clone)]
 pub struct StreamedKomihash<const V: u8>

@@ -17,6 +17,8 @@ use std::marker::Model;
 /// Pieces of a multiple of 64 bytes are best: as long as all are, none is copied. Otherwise a write
 /// copies into the stream the bytes that continue a partial block, and those that begin a new one:
 /// at most 63 of each.
+// Rust: ///
+// Rust: /// It is not for messages that an attacker may choose, whatever the seed is.
 // Rust: #[repr(transparent)]
 #[derive(Drop)]
 pub struct StreamedKomihash<const V: u8>
