@@ -12,6 +12,7 @@ import cases
 import elf
 import opcodes
 from elf import DYNAMIC, EXECUTE, FRAMES, LOAD, NOTES, RELRO, SONAME, STACK, STRINGS_SIZE, TABLE
+from report import names_there
 from terms import Unknown
 
 NAME, OTHER_NAME = 'komihash_v5_rand_next', 'komihash_v4_rand_next'
@@ -126,6 +127,7 @@ def of_segments(e):
         ('a program that loads it', 'unknown type', e.segment, NOTES, 0, (KIND, 3)),
         ('two dynamic tables', 'one dynamic table', e.segment, NOTES, 0, (KIND, DYNAMIC)),
         ('a stack that can run', 'could be executed', e.segment, STACK, 0, (RIGHTS, 7)),
+        ('no word about the stack', 'could be executed', e.segment, STACK, 0, (KIND, FRAMES)),
         ('large stacks of threads', 'could be executed', e.segment, STACK, 0, (SIZE, 2**40)),
         ('code that is protected', 'can not be written', e.segment, RELRO, 0, within, before),
         ('the end of memory, and more', 'can not be written', e.segment, RELRO, 0, (SIZE, beyond)),
@@ -172,17 +174,17 @@ def of_names(e):
         ('a filter beyond memory', 'not in memory', e.bytes_at, names + 8, b'\0\0\1\0'),
         ('a filter of three words', 'in different ways', e.bytes_at, names + 8, b'\3'),
         ('a shift of 40 bits', 'in different ways', e.bytes_at, names + 12, bytes([40])),
-        ('a filter that finds no name', 'missing: komihash_v4', e.bytes_at, names + 16, none),
-        ('a filter without the second bit of a name', f'missing: ..{NAME}', e.bytes_at,
+        ('a filter that finds no name', 'lacks..komihash_v4', e.bytes_at, names + 16, none),
+        ('a filter without the second bit of a name', f'lacks..{NAME}', e.bytes_at,
          names + 16 + 8 * word, struct.pack('<Q', e.elf.filter[word] & ~bit)),
-        ('a name with another hash', f'missing: {NAME}', e.bytes_at, chain + 2,
+        ('a name with another hash', f'lacks..{NAME}', e.bytes_at, chain + 2,
          bytes([code >> 16 & 255 ^ 1])),
         *((f'a function that is {name}', 'no function', e.symbol, *change) for name, *change in (
             ('undefined', SECTION, 0), ('a number', SECTION, 0xff00), ('hidden', OTHER, 2),
             ('local', INFO, 2), ('another by choice', INFO, 0x1a), ('outside', VALUE, 2**40),
             ('at address 0', VALUE, 0))),
         ('a function without a name', 'not among the strings', e.symbol, NAMED, 2**20),
-        ('two functions with one name', f'missing: {NAME}', e.symbol, NAMED, other),
+        ('two functions with one name', f'lacks..{NAME}', e.symbol, NAMED, other),
         ('another function', f'{NAME}, rand_next()', e.symbol, VALUE, elsewhere)]
 
 
@@ -220,9 +222,7 @@ def refusal(content, level, name=NAME, red_zone=False):
     """Why a library is refused, as far as one function shows it; or None. Loops come first."""
     try:
         image = cases.open_library(bytes(content), level, red_zone=red_zone)
-        missing = [name for name in cases.NAMES if name not in image.functions]
-        if missing:
-            return f'missing: {" ".join(missing)}'
+        names_there(image, cases.NAMES, False)
     except Unknown as unknown:
         return f'{unknown}'
     some = sorted(cases.cases_of(name), key=lambda case: not case.has_loop())
@@ -241,13 +241,14 @@ def count(found):
     return failed > 0
 
 
-def told(edit, level):
-    """The last line that the command prints of a file, and its status."""
+def told(edit, level, right):
+    """The last line that the command prints of a file and a right one, and its status."""
     with tempfile.NamedTemporaryFile() as file:
         file.write(edit.content)
         file.flush()
         done = subprocess.run([sys.executable, '-B', VERIFY, '--function', NAME, '--',
-                               f'{level}:{file.name}'], check=False, stdout=subprocess.PIPE)
+                               f'{level}:{file.name}', right], check=False,
+                              stdout=subprocess.PIPE)
     return f'{done.stdout.splitlines()[-1]} {done.returncode}'
 
 
@@ -261,7 +262,8 @@ def rows(libraries):
             change(*args)
             yield name, reason, refusal(edit.content, level)
             if name == 'another function':
-                yield name + ', by the command', "b'1 passed, 1 failed' 1", told(edit, level)
+                yield name + ', by the command', "b'2 passed, 1 failed' 1", \
+                    told(edit, level, f'{level}:{path}')
     # Decoders refuse it too.
     more = opcodes.written(bytes.fromhex('c5f01007'))
     yield 'one operand more by VEX', 'True', \

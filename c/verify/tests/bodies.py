@@ -38,6 +38,8 @@ X86 = '''
 ''', '''
 a call and a return|v5_rand_next||call body; ret
 a changed return address|v5_rand_next|not the caller|call 1f; ret; 1: add qword ptr [rsp], 1; ret
+another function that is exported|v5_rand_next|also exports ['memcpy']|
+    .globl memcpy; .type memcpy, @function; memcpy:
 a call by a register|v5_rand_next|not known for x86-64: call rax|call rax
 a call out of the library|v5_rand_next|not known|call body + 0x100000
 a frame aligned to more than 16 bytes|v5_rand_next|4 ways|mov rax, rsp; and rsp, -64; mov rsp, rax
@@ -74,6 +76,7 @@ an address not aligned|v5_rand_next|not aligned|paddq xmm0, [rdi]
 the highest bit of 0|v5_rand_next|2 ways|
     mov rcx, -1; xor eax, eax; bsr ecx, eax; shr rcx, 32; jne 1f; 1:
 a sign after a bit test|v5_rand_next|flag s is read|xor eax, eax; bt eax, 0; js 1f; 1:
+one that older processors take for another|v5_rand_next|not known for x86-64: lzcnt|lzcnt rax, rax
 a newer instruction|v5_rand_next|not known for x86-64: vpaddq|vpaddq ymm0, ymm0, ymm0
 a read at address 0|v5_rand_next|in no array|cmp dword ptr [0], 0
 a write to the byte before an array|v5_rand_next|in no array|mov byte ptr [rdi - 1], 0
@@ -81,6 +84,8 @@ one to the byte after it|v5_rand_next|in no array|mov [rdi + 9], rax
 a read of the byte after a long message|v5|Hash..in no array|long "mov rax, [rdi + 121]"
 a write where there may be no room|v5_save|in no array|mov byte ptr [rsi], 0
 a write to what is only read|v5_save|only read|mov al, [rdi]; mov [rdi], al
+one to a stream that answers|v5_finish|only read|mov al, [rdi]; mov [rdi], al
+one to a message|v5|only read|cmp rsi, 9; jne body; mov al, [rdi]; mov [rdi], al
 a refused call that writes|v5_save|of out were written|
     test rdx, rdx; je 1f; cmp rdx, 131; jae 1f; mov byte ptr [rsi], 0; 1:
 a long one|v5_pad|Pad..refused: the bytes [0]|long "cmp rcx, 1; jne .Lshort; mov byte ptr [rdx], 0"
@@ -95,6 +100,7 @@ a wrong hash|v5|hash: found|cmp rsi, 9; jne body; call body; not rax; ret
 one of a long message|v5|Hash..hash: found|after "cmp rsi, 300; jne 1f; not rax"
 one of whole blocks|v4|Hash..hash: found|after "cmp rsi, 320; jne 1f; not rax"
 one by a stream|v5_finish|hash: found|call body; not rax; ret
+a byte that is not pending|v5_start|the stream at 0|after "not byte ptr [rdi]"
 a wrong stream|v5_start|the stream at 64|after "not byte ptr [rdi + 64]"
 one with a wrong lane|v5_init|the stream at 72|after "not byte ptr [rdi + 72]"
 one with the last lane wrong|v5_init|the stream at 128|after "not byte ptr [rdi + 135]"
@@ -131,17 +137,29 @@ many that are refused|v5_pad|Pad..a return before the end|
     cmp rsi, 1000; jne body; cmp rcx, 126; jb body; xor eax, eax; ret
 a wrong message|v5_unpad|bytes: found|
     cmp rsi, 2; jne body; after "cmp rax, -1; je 1f; test rax, rax; je 1f; not byte ptr [rdx]"
+a byte after a long one|v5_unpad|Unpad..were written|
+    after "cmp rsi, 40; jne 1f; cmp rax, -1; je 1f; mov byte ptr [rdx + 319], 0"
+words of no message|v5_unpad|Unpad..length: found 0x0|
+    cmp rsi, 40; jne body; cmp qword ptr [rdi + 8*rsi - 8], 0; jne body; xor eax, eax; ret
 another length of a long one|v5_unpad|Unpad..length: found|
     cmp rsi, 40; jne body; call body; inc rax; ret
 another number of many|v5_pad|Pad..length: found|cmp rsi, 200; jne body; call body; inc rax; ret
 a multiplication more|v5_rand_next|the definition does not have|mov rax, rdi; mul rdi
+one wrong for a state|v5_rand_next|does not have|
+    mov rax, [rdi]; mov ecx, 6; cmp rax, 5; cmove rax, rcx; mov [rdi], rax
 one made twice|v5_rand_next|has made already|mov rax, [rdi]; mul qword ptr [rdi + 8]
 a loop|v5_pad||pad "", "", ""
 one wrong from byte 3,200 on|v5_pad|Pad..in no array|pad "", "cmp r9, 400; jne .Lturn; inc r9", ""
 a word of a turn that is wrong|v5_pad|Pad..bytes: found|pad "", "not byte ptr [rdx + 8*r9 - 8]", ""
+a loop that may run over the end|v5_pad|Pad..in no array|
+    pad "cmp r8, 16; jb 1f; mov r10, [rdi]; mov [rdx], r10; mov r9d, 1; 2: mov r10, [rdi + 8*r9];
+    mov [rdx + 8*r9], r10; inc r9; mov r10, [rdi + 8*r9]; mov [rdx + 8*r9], r10; inc r9; cmp r9, r8;
+    jne 2b; jmp .Lrest; 1:", "", ""
 a turn of nothing|v5_pad|Pad..takes nothing|pad "xor r9d, r9d; jmp 1f", "1: cmp r9, 400; je 1b", ""
 a jump by contents|v5_save|depends on|cmp byte ptr [rdi + 72], 1; jb 1f; 1:
 one in a long message|v5|Hash..depends on|long "cmp byte ptr [rdi], 1; jb .Lshort"
+a jump after a long write|v5_write|Write..depends on|
+    after "cmp rdx, 300; jb 1f; cmp byte ptr [rdi], 1; je 1f"
 one after a loop|v5_pad|Pad..depends on|pad "", "", "test r10, r10; je 1f; 1:"
 one of an address|v5_save|depends|movzx eax, byte ptr [rdi + 72]; and eax, 1; mov al, [rdi + rax]
 a jump by where the library is|v5_rand_next|2 ways|
