@@ -78,8 +78,8 @@ macro_rules! tests {
                 }
             }
 
-            /// Compares a sum of hashes of many lengths with that of the crate `komihash`, and hashes
-            /// the longest message also in pieces.
+            /// Compares a sum of hashes of many lengths with that of the crate `komihash`, and
+            /// hashes the longest message also in pieces.
             #[test]
             fn many_lengths() {
                 let mut message = vec![0; 100_000];

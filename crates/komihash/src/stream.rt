@@ -122,8 +122,8 @@ pub trait KomiStream: Sized + Drop {
     ghost is_state: { (stream : Self) → IsState VERSION (state stream) };
 }
 
-/// One call on a stream, for `run_on` and `run`, which take lists of calls as data: from a test that
-/// makes them at random, or from a recording.
+/// One call on a stream, for `run_on` and `run`, which take lists of calls as data: from a test
+/// that makes them at random, or from a recording.
 #[derive(Clone, Copy)]
 pub enum Call<'a> {
     /// Absorbs these bytes.
