@@ -41,8 +41,8 @@ SPELLED = {'#[derive(Drop)]': '#[derive(Clone)]', 'use std::': 'use core::',
 NAMED = re.compile(r'let (\w+) = ([^;{}]*);\n *((?:let \w+ = |return )?if )\1 (?=\{)')
 ATTRIBUTES = re.compile(r'#!?\[(.*)\]'), re.compile(
     r'inline|inline\((always|never)\)|repr\((C|transparent)\)|track_caller|no_std|must_use|'
-    r'derive\((Clone|Clone, Copy|Debug|Debug, PartialEq, Eq)\)|forbid\(unsafe_code\)|warn\(missing_docs\)|'
-    r'allow\([\w:, ]+\)|doc = include_str!\(‹.\d+›\)|doc\(inline\)|cfg\(feature = ‹.\d+›\)|'
+    r'derive\((Clone|Clone, Copy|Debug|Debug, PartialEq, Eq)\)|forbid\(unsafe_code\)|'
+    r'warn\(missing_docs\)|allow\([\w:, ]+\)|doc = include_str!\(‹.\d+›\)|doc\(inline\)|cfg\(feature = ‹.\d+›\)|'
     r'diagnostic::on_unimplemented\(message = ‹.\d+›\)')
 MACROS = re.compile(r'(\w+)!(?!=)'), re.compile('assert|unreachable|include_str|write')
 # What may not be left.

@@ -104,8 +104,7 @@ where
     #[inline]
     #[track_caller]
     pub fn save(&self, out: &mut [u8]) -> usize {
-        assert!(LONGEST_TEXT <= out.len(), "`out` is too short");
-        self.raw.store::<V>(out)
+        self.store(out)
     }
 
     /// Returns the stream that has these bytes as its saved text, or `None` if they don't have the

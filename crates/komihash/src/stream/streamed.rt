@@ -128,11 +128,13 @@ where
     // Rust: /// ```
     // Rust: #[must_use]
     #[inline]
+    // Rust: #[track_caller]
     pub fn save(&self, out: &mut [u8]) -> usize
+        // Rust instead:
         requires { LONGEST_TEXT ≤ length out.old }
         ensures { Stored V self.now.state out result }
     {
-        self.raw.store::<V>(out)
+        self.store(out)
     }
 
     /// Returns the stream that has these bytes as its saved text, or `None` if they don't have the
