@@ -32,7 +32,7 @@ def each(numbers):
 FILLS = each(range(64))
 FUNCTIONS = {
     '': Function('3 + 4*(n//64) + n%64//16', False, {
-        fixed.hash_of: each(range(2 * Hash.GRAIN)),
+        fixed.hash_of: each(range(Hash.LEAST * Hash.GRAIN)),
         Hash: each(range(2**Hash.FIXED_BITS))}),
     '_start': Function('1', False, {fixed.start_of: [('_start',)]}),
     '_init': Function('1', False, {fixed.start_of: [('_init',)]}),
