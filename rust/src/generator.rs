@@ -54,7 +54,7 @@ where
     /// ```
     #[must_use]
     #[inline]
-    pub fn init(seed: u64) -> Self {
+    pub const fn init(seed: u64) -> Self {
         Komirand::init_with_extra_seed(seed, seed)
     }
 
@@ -67,7 +67,7 @@ where
     /// ```
     #[must_use]
     #[inline]
-    pub fn init_with_extra_seed(s1: u64, s2: u64) -> Self {
+    pub const fn init_with_extra_seed(s1: u64, s2: u64) -> Self {
         let mut generator = Komirand::new(s1, s2);
         generator.next();
         generator.next();
@@ -101,7 +101,7 @@ where
     /// ```
     #[allow(clippy::should_implement_trait)]
     #[inline]
-    pub fn next(&mut self) -> u64 {
+    pub const fn next(&mut self) -> u64 {
         let (low, high) = multiply128(self.s1, self.s2);
         let sum = self.s2.wrapping_add(high);
         let s2 = sum.wrapping_add(0xaaaa_aaaa_aaaa_aaaa);

@@ -15,7 +15,7 @@ use core::hash::{BuildHasher, Hasher};
 /// What a value that implements `Hash` writes depends on the machine and on Rust's version. So
 /// use a hasher for maps alone, whose keys no attacker chooses, and `komihash` for what is
 /// stored, sent or sharded. `Debug` shows the number.
-#[derive(Debug, Clone)]
+#[derive(Debug, PartialEq, Eq, Clone)]
 pub struct KomiHasher<const V: u8>
 where
     Versions: IsVersion<V>,

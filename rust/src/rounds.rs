@@ -46,25 +46,25 @@ pub(crate) struct Lanes {
 
 /// Mixes the product of `x` and `y` into the word `e`, and returns the pair.
 #[inline(always)]
-pub(crate) fn mix(x: u64, y: u64, e: u64) -> Pair {
+pub(crate) const fn mix(x: u64, y: u64, e: u64) -> Pair {
     let (low, high) = multiply128(x, y);
     Pair(low, e.wrapping_add(high))
 }
 
 #[inline(always)]
-pub(crate) fn seed_words(seed: u64) -> (u64, u64) {
+pub(crate) const fn seed_words(seed: u64) -> (u64, u64) {
     (C1 ^ (seed & 0x5555_5555_5555_5555), C5 ^ (seed & 0xaaaa_aaaa_aaaa_aaaa))
 }
 
 /// Returns the pair that a hash with the seed begins with.
 #[inline(always)]
-pub(crate) fn seed_pair(seed: u64) -> Pair {
+pub(crate) const fn seed_pair(seed: u64) -> Pair {
     let (a, e) = seed_words(seed);
     mix(a, e, e)
 }
 
 #[inline(always)]
-pub(crate) fn lanes_of(pair: Pair) -> Lanes {
+pub(crate) const fn lanes_of(pair: Pair) -> Lanes {
     let Pair(low, e) = pair;
     Lanes {
         fourth: Pair((C4 ^ C7) ^ low, C8 ^ e),
@@ -143,7 +143,7 @@ fn absorb_block<'a, const V: u8>(lanes: &mut Lanes, bytes: &'a [u8]) -> &'a [u8]
     rest
 }
 
-/// Absorbs the one whole block of the bytes, and returns the bytes after it.
+/// Does what `absorb_blocks` does, where one block alone is whole, and so without a loop.
 #[inline(always)]
 pub(crate) fn absorb_one_block<'a, const V: u8>(lanes: &mut Lanes, bytes: &'a [u8]) -> &'a [u8] {
     absorb_block::<V>(lanes, bytes)

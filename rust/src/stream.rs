@@ -13,7 +13,7 @@ pub(crate) mod streamed;
 /// which of the two a call means.
 /// `start`, `absorb`, `answer`, `store` and `restore` do what `new_with_seed`, `write`, `finish`,
 /// `save` and `resume` do. Use this trait for code that also serves streams of your own type,
-/// which may implement it, and otherwise `version::StreamedKomihash<V>`.
+/// which may implement it, and otherwise [`StreamedKomihash<V>`](crate::version::StreamedKomihash).
 ///
 /// An implementation keeps three laws: `answer` is the hash of version `VERSION` with the seed, of
 /// the bytes so far, however cut; `restore` of what `store` wrote gives a stream with the same

@@ -100,7 +100,7 @@ pub(crate) fn write_first_bytes(words: &[u64], count: usize, out: &mut [u8]) {
 /// Returns the low and the high half of the product of two words. No other code of this crate
 /// multiplies two words.
 #[inline(always)]
-pub(crate) fn multiply128(x: u64, y: u64) -> (u64, u64) {
-    let product = u128::from(x) * u128::from(y);
+pub(crate) const fn multiply128(x: u64, y: u64) -> (u64, u64) {
+    let product = x as u128 * y as u128;
     (product as u64, (product >> 64) as u64)
 }

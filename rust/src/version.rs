@@ -13,6 +13,9 @@
 //! assert_eq!(shard_of::<5>(b"port", 8), komihash_rattle::v5::komihash(b"port", 0) % 8);
 //! ```
 //!
+//! A version that is known only at run time takes a `match`, such as
+//! `match version { 4 => Some(v4::komihash(bytes, 0)), 5 => .., _ => None }`.
+//!
 //! No other version has a type:
 //!
 //! ```compile_fail,E0277

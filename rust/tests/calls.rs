@@ -122,6 +122,8 @@ macro_rules! tests {
                 const START: Komirand = Komirand::new(1, SEED);
                 const WORDS: (u64, u64) = START.words();
                 assert_eq!(WORDS, (1, SEED));
+                const OUTPUT: u64 = Komirand::init(1).next();
+                assert_eq!(OUTPUT, Komirand::init_with_extra_seed(1, 1).next());
                 for length in 0..40 {
                     let (mut filled, mut stepped, mut bytes) = (START, START, vec![0; length]);
                     filled.fill_bytes(&mut bytes);
@@ -191,12 +193,13 @@ macro_rules! tests {
                 fn is_compared<T: Eq>() {}
                 (is::<StreamedKomihash>(), is::<Komirand>(), is::<KomiHasher>());
                 (is::<KomiBuildHasher>(), is::<Call<'_>>(), is_copied::<KomiBuildHasher>());
-                is_compared::<Komirand>();
+                (is_compared::<Komirand>(), is_compared::<KomiHasher>());
             }
 
             #[test]
             fn no_message_is_shown() {
-                let mut stream = StreamedKomihash::new();
+                static STREAM: Mutex<StreamedKomihash> = Mutex::new(StreamedKomihash::new());
+                let mut stream = STREAM.lock().unwrap();
                 stream.write(b"secret");
                 assert_eq!(format!("{stream:?}"), "StreamedKomihash { .. }");
                 let calls = [Call::Absorb(b"secret"), Call::Answer];

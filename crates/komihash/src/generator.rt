@@ -73,6 +73,7 @@ where
     // Rust: /// ```
     // Rust: #[must_use]
     #[inline]
+    // Rust instead: pub const fn init(seed: u64) -> Self
     pub fn init(seed: u64) -> Self
         ensures { result ≡ after_steps V 4 (seed, seed) }
     {
@@ -89,6 +90,7 @@ where
     // Rust: #[must_use]
     #[inline]
     #[tactic(auto, unfolding(crate::specs::Generator::after_steps))]
+    // Rust instead: pub const fn init_with_extra_seed(s1: u64, s2: u64) -> Self
     pub fn init_with_extra_seed(s1: u64, s2: u64) -> Self
         ensures { result ≡ after_steps V 4 (s1, s2) }
     {
@@ -132,6 +134,7 @@ where
     // Rust: #[allow(clippy::should_implement_trait)]
     #[inline]
     #[tactic(auto, unfolding(crate::specs::Generator::next))]
+    // Rust instead: pub const fn next(&mut self) -> u64
     pub fn next(&mut self) -> u64
         ensures output { result ≡ (next V self.old).0 }
         ensures pair { self.new ≡ next V self.old }

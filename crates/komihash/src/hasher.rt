@@ -19,7 +19,7 @@ use std::marker::Model;
 // Rust: /// What a value that implements `Hash` writes depends on the machine and on Rust's version. So
 // Rust: /// use a hasher for maps alone, whose keys no attacker chooses, and `komihash` for what is
 // Rust: /// stored, sent or sharded. `Debug` shows the number.
-// Rust: #[derive(Debug)]
+// Rust: #[derive(Debug, PartialEq, Eq)]
 #[derive(Drop)]
 pub struct KomiHasher<const V: u8>
 where

@@ -88,7 +88,7 @@ impl Model for Lanes {
 /// Mixes the product of `x` and `y` into the word `e`, and returns the pair.
 #[inline(always)]
 #[tactic(auto, unfolding(crate::specs::Rounds::mix))]
-pub(crate) fn mix(x: u64, y: u64, e: u64, tally: &mut Tally) -> Pair
+pub(crate) const fn mix(x: u64, y: u64, e: u64, tally: &mut Tally) -> Pair
     ensures pair { pair_of result ≡ mix x y e }
     ensures low { result.0 ≡ low (x * y) }
     ensures raised { result.1 ≡ plus e (high (x * y)) }
@@ -99,7 +99,7 @@ pub(crate) fn mix(x: u64, y: u64, e: u64, tally: &mut Tally) -> Pair
 }
 
 #[inline(always)]
-pub(crate) fn seed_words(seed: u64) -> (u64, u64)
+pub(crate) const fn seed_words(seed: u64) -> (u64, u64)
     ensures { result ≡ seed_words seed }
 {
     (
@@ -110,7 +110,7 @@ pub(crate) fn seed_words(seed: u64) -> (u64, u64)
 
 /// Returns the pair that a hash with the seed begins with.
 #[inline(always)]
-pub(crate) fn seed_pair(seed: u64, tally: &mut Tally) -> Pair
+pub(crate) const fn seed_pair(seed: u64, tally: &mut Tally) -> Pair
     ensures pair { pair_of result ≡ seed_pair seed }
     ensures costs { Costs tally 1 0 }
 {
@@ -119,7 +119,7 @@ pub(crate) fn seed_pair(seed: u64, tally: &mut Tally) -> Pair
 }
 
 #[inline(always)]
-pub(crate) fn lanes_of(pair: Pair) -> Lanes
+pub(crate) const fn lanes_of(pair: Pair) -> Lanes
     ensures { result ≡ lanes (pair_of pair) }
 {
     let Pair(low, e) = pair;
@@ -234,7 +234,7 @@ fn absorb_block<'a, const V: u8>(lanes: &mut Lanes, bytes: &'a [u8], tally: &mut
     rest
 }
 
-/// Absorbs the one whole block of the bytes, and returns the bytes after it.
+/// Does what `absorb_blocks` does, where one block alone is whole, and so without a loop.
 #[inline(always)]
 #[tactic(auto, using(crate::proofs::Blocks::no_block))]
 pub(crate) fn absorb_one_block<'a, const V: u8>(

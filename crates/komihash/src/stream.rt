@@ -27,7 +27,7 @@ pub mod raw;
 /// which of the two a call means.
 // Rust: /// `start`, `absorb`, `answer`, `store` and `restore` do what `new_with_seed`, `write`, `finish`,
 // Rust: /// `save` and `resume` do. Use this trait for code that also serves streams of your own type,
-// Rust: /// which may implement it, and otherwise `version::StreamedKomihash<V>`.
+// Rust: /// which may implement it, and otherwise [`StreamedKomihash<V>`](crate::version::StreamedKomihash).
 // Rust: ///
 // Rust: /// An implementation keeps three laws: `answer` is the hash of version `VERSION` with the seed, of
 // Rust: /// the bytes so far, however cut; `restore` of what `store` wrote gives a stream with the same

@@ -59,7 +59,7 @@ impl Tally {
     /// The body is empty, since there is nothing to do at run time: the handwritten proof changes
     /// the ghost fields.
     #[inline(always)]
-    pub(crate) fn raise(&mut self, _products: usize, _kept_bytes: usize)
+    pub(crate) const fn raise(&mut self, _products: usize, _kept_bytes: usize)
         ensures costs { Costs self _products _kept_bytes }
     {}
 }

@@ -150,13 +150,13 @@ pub(crate) fn write_first_bytes(words: &[u64], count: usize, out: &mut [u8])
 /// Returns the low and the high half of the product of two words. No other code of this crate
 /// multiplies two words.
 #[inline(always)]
-pub(crate) fn multiply128(x: u64, y: u64, tally: &mut Tally) -> (u64, u64)
+pub(crate) const fn multiply128(x: u64, y: u64, tally: &mut Tally) -> (u64, u64)
     ensures low { result.0 ≡ low (x * y) }
     ensures high { result.1 ≡ high (x * y) }
     ensures costs { Costs tally 1 0 }
 {
     tally.raise(1, 0);
-    let product = u128::from(x) * u128::from(y);
+    let product = x as u128 * y as u128;
     (
         // Rust instead: product as u64,
         (product & 0xffff_ffff_ffff_ffff) as u64,

@@ -12,6 +12,9 @@
 // Rust: //! assert_eq!(shard_of::<5>(b"port", 8), komihash_rattle::v5::komihash(b"port", 0) % 8);
 // Rust: //! ```
 // Rust: //!
+// Rust: //! A version that is known only at run time takes a `match`, such as
+// Rust: //! `match version { 4 => Some(v4::komihash(bytes, 0)), 5 => .., _ => None }`.
+// Rust: //!
 // Rust: //! No other version has a type:
 // Rust instead: //!
 //! Which numbers are versions.

@@ -101,7 +101,7 @@ fn append_to_block(words: &mut [u64; 8], len: usize, bytes: &[u8]) {
 
 impl Pending {
     #[inline(always)]
-    pub(crate) fn new() -> Self {
+    pub(crate) const fn new() -> Self {
         Pending { words: [0; 8], len: 0 }
     }
 

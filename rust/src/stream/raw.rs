@@ -26,7 +26,7 @@ pub struct RawStream {
 impl RawStream {
     /// Returns the new stream of a seed.
     #[inline(always)]
-    pub fn start<const V: u8>(seed: u64) -> RawStream
+    pub const fn start<const V: u8>(seed: u64) -> RawStream
     where
         Versions: IsVersion<V>,
     {

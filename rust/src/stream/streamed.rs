@@ -30,7 +30,7 @@ where
     /// Returns the new stream of seed 0.
     #[must_use]
     #[inline]
-    pub fn new() -> Self {
+    pub const fn new() -> Self {
         StreamedKomihash::new_with_seed(0)
     }
 
@@ -46,8 +46,8 @@ where
     /// ```
     #[must_use]
     #[inline]
-    pub fn new_with_seed(seed: u64) -> StreamedKomihash<V> {
-        StreamedKomihash::start(seed)
+    pub const fn new_with_seed(seed: u64) -> StreamedKomihash<V> {
+        StreamedKomihash { raw: RawStream::start::<V>(seed) }
     }
 
     /// Absorbs any number of bytes.

@@ -184,7 +184,7 @@ fn append_to_block(words: &mut [u64; 8], len: usize, bytes: &[u8], tally: &mut T
 
 impl Pending {
     #[inline(always)]
-    pub(crate) fn new() -> Self
+    pub(crate) const fn new() -> Self
         ensures { result ≡ [] }
     {
         Pending {

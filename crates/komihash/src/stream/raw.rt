@@ -56,6 +56,7 @@ impl RawStream {
     /// Returns the new stream of a seed.
     #[inline(always)]
     #[tactic(auto, unfolding(crate::specs::Stream::HasAbsorbed, crate::specs::Stream::absorb))]
+    // Rust instead: pub const fn start<const V: u8>(seed: u64) -> RawStream
     pub fn start<const V: u8>(seed: u64, tally: &mut Tally) -> RawStream
     where
         Versions: IsVersion<V>,

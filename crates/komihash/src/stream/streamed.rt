@@ -48,6 +48,7 @@ where
     /// Returns the new stream of seed 0.
     // Rust: #[must_use]
     #[inline]
+    // Rust instead: pub const fn new() -> Self
     pub fn new() -> Self
         ensures { Started V 0 result.state }
     {
@@ -66,10 +67,13 @@ where
     // Rust: /// ```
     // Rust: #[must_use]
     #[inline]
+    // Rust instead: pub const fn new_with_seed(seed: u64) -> StreamedKomihash<V>
     pub fn new_with_seed(seed: u64) -> StreamedKomihash<V>
         ensures { Started V seed result.state }
     {
-        StreamedKomihash::start(seed, &mut Tally::new())
+        StreamedKomihash {
+            raw: RawStream::start::<V>(seed, &mut Tally::new()),
+        }
     }
 
     /// Absorbs any number of bytes.
