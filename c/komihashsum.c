@@ -35,15 +35,17 @@ static const char HELP[] =
     "A line has 16 hexadecimal digits, two spaces and a name. If it begins with a\n"
     "backslash, the name has \\\\, \\n and \\r for backslash, newline and carriage return.\n\n"
     "This lists a folder: find FOLDER -type f -print0 | xargs -0r komihashsum > LIST\n\n"
-    "For scripts that call sha256sum, -b and -t are taken, and do nothing. Its options\n"
-    "--tag, --warn and --zero are missing.\n\n"
+    "As in sha256sum, the second space is an asterisk with -b or --binary, and a space\n"
+    "with -t or --text. The options --tag, --warn and --zero are missing.\n\n"
     "The exit status is 0 if all went well, 1 if a file can't be read or doesn't have\n"
     "its hash, or the output can't be written, and 2 if the arguments are wrong.\n";
 
 static int version = 5, check, ignore_missing, progress, quiet, status_only, strict;
 static uint64_t seed;
+static char mark = ' '; /* which stands before a name */
 static unsigned char bytes[131072];
 static const struct option OPTIONS[] = {
+    {"binary", no_argument, NULL, 'b'},
     {"check", no_argument, &check, 1},
     {"help", no_argument, NULL, 'h'},
     {"ignore-missing", no_argument, &ignore_missing, 1},
@@ -52,6 +54,7 @@ static const struct option OPTIONS[] = {
     {"seed", required_argument, NULL, 's'},
     {"status", no_argument, &status_only, 1},
     {"strict", no_argument, &strict, 1},
+    {"text", no_argument, NULL, 't'},
     {"version", no_argument, NULL, 'v'},
     {0},
 };
@@ -68,8 +71,10 @@ static bool fail(const char *name, const char *problem) {
 
 /* Writes what was printed, and returns 0. Ends the program if that fails. */
 static int flush(void) {
-    if (fflush(stdout) != 0 || ferror(stdout)) /* which an earlier write may have set */
-        _exit(!fail("write error", strerror(errno)));
+    if (fflush(stdout) != 0 || ferror(stdout)) { /* which an earlier write may have set */
+        fail("write error", strerror(errno));
+        _exit(1);
+    }
     return 0;
 }
 
@@ -149,24 +154,28 @@ static bool print_hash(const char *name) {
     const int error = hash_file(name, &hash);
     if (error)
         return fail(name, strerror(error));
-    snprintf(digits, sizeof digits, "%016" PRIx64 "  ", hash);
+    snprintf(digits, sizeof digits, "%016" PRIx64 " %c", hash, mark);
     return print(strpbrk(name, SPECIAL), digits, name, "");
 }
 
-/* Reads a line without its end, which may be that of Windows, or returns NULL after the last. */
-static char *read_line(FILE *list) {
+/* Reads a line without its end, which may be that of Windows, and sets its length. Returns NULL
+ * after the last line. */
+static char *read_line(FILE *list, size_t *length) {
     static char *line;
     static size_t room;
-    size_t length = 0;
+    size_t count = 0;
     int byte;
     while ((byte = getc(list)) != EOF && byte != '\n') {
-        if (length + 1 >= room && !(line = realloc(line, room = 2 * room + 256)))
-            _exit(!fail("a line", strerror(errno)));
-        line[length++] = byte;
+        if (count + 1 >= room && !(line = realloc(line, room = 2 * room + 256))) {
+            fail("a line", strerror(errno));
+            _exit(1);
+        }
+        line[count++] = byte;
     }
-    if (length == 0)
+    *length = count - (count && line[count - 1] == '\r');
+    if (count == 0)
         return byte == EOF ? NULL : "";
-    line[length - (line[length - 1] == '\r')] = 0;
+    line[*length] = 0;
     return line;
 }
 
@@ -225,12 +234,13 @@ static bool check_list(const char *name) {
     if (!list)
         return fail(name, strerror(errno));
     unsigned long counts[RESULTS] = {0};
-    for (char *line; (line = read_line(list));) {
+    size_t length;
+    for (char *line; (line = read_line(list, &length));) {
         uint64_t wanted;
         const char *file = parse_line(line, &wanted);
         if (file && (number || strcmp(file, "-")))
             counts[check_file(file, wanted)]++;
-        else if (*line && *line != '#')
+        else if (length && *line != '#')
             counts[MALFORMED]++;
     }
     const bool failed = ferror(list);
@@ -253,8 +263,10 @@ static int run(int count, char **arguments) {
     while (option != '?' && option != -1) {
         switch (option = getopt_long(count, arguments, "4bcs:t", OPTIONS, NULL)) {
         case '4': version = 4; break;
+        case 'b': mark = '*'; break;
         case 'c': check = 1; break;
         case 'h': fputs(HELP, stdout); return flush();
+        case 't': mark = ' '; break;
         case 'v': puts("komihashsum " KOMIHASH_RATTLE_VERSION); return flush();
         case 's': option = set_seed(optarg) ? 's' : '?';
         }

@@ -39,11 +39,12 @@ TALLY = re.compile(r'(?:(?<=\()|,\s*)(?:tally(?:: &mut Tally)?|&mut Tally::new\(
 SPELLED = {'#[derive(Drop)]': '#[derive(Clone)]', 'use std::': 'use core::',
            'pub trait KomiStream: Sized + Drop': 'pub trait KomiStream: Sized'}
 NAMED = re.compile(r'let (\w+) = ([^;{}]*);\n *((?:let \w+ = |return )?if )\1 (?=\{)')
-ATTRIBUTES = re.compile(r'#!?\[(.*)\]'), re.compile(
-    r'inline|inline\((always|never)\)|repr\((C|transparent)\)|track_caller|no_std|must_use|'
-    r'derive\((Clone|Clone, Copy|Debug|Debug, PartialEq, Eq)\)|forbid\(unsafe_code\)|'
-    r'warn\(missing_docs\)|allow\([\w:, ]+\)|doc = include_str!\(‹.\d+›\)|doc\(inline\)|cfg\(feature = ‹.\d+›\)|'
-    r'diagnostic::on_unimplemented\(message = ‹.\d+›\)')
+ATTRIBUTES = re.compile(r'#!?\[(.*)\]'), re.compile('|'.join((
+    r'inline(\((always|never)\))?', 'track_caller', 'must_use', r'repr\((C|transparent)\)',
+    r'derive\((Clone|Clone, Copy|Debug|Debug, PartialEq, Eq)\)', r'allow\([\w:, ]+\)',
+    'no_std', r'forbid\(unsafe_code\)', r'warn\(missing_docs\)', r'cfg\(feature = ‹.\d+›\)',
+    r'doc\(inline\)', r'doc = include_str!\(‹.\d+›\)',
+    r'diagnostic::on_unimplemented\(message = ‹.\d+›\)')))
 MACROS = re.compile(r'(\w+)!(?!=)'), re.compile('assert|unreachable|include_str|write')
 # What may not be left.
 NO_RUST = re.compile(r'\b(?:ghost|requires|ensures|tally|Tally|Model|Drop|prove|unsafe|rt|std|'

@@ -30,8 +30,10 @@ with tempfile.TemporaryDirectory() as room:
     while left:
         crate = shutil.copytree(ROOT / "crates", Path(room, "crates"), **files) / left[0].parts[-3]
         made = [edit for edit in left if edit.parts[-3] == crate.name and make(edit, crate)]
-        assert made, f"{left[0]} has no control, or one that can't be made"
-        check = subprocess.run(["rt", "check"], cwd=crate, stdout=-1, stderr=-2, text=True)
+        if not made:
+            raise SystemExit(f"{left[0]} has no control, or one that can't be made")
+        check = subprocess.run(["rt", "check"], cwd=crate, text=True,
+                               stdout=subprocess.PIPE, stderr=subprocess.STDOUT)
         counts[check.returncode != 0] += len(made)
         print(f"{len(made)} in {crate.name}:", check.stdout if check.returncode else "proved")
         left = [edit for edit in left if edit not in made]

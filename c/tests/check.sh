@@ -325,8 +325,8 @@ fi
 needs cmake 'komihashsum, by CMake, with the installed library' \
     prints "$hash_of_a" by_cmake examples -D "CMAKE_PREFIX_PATH=$prefix"
 needs cmake 'a library that CMake exports, with the static one' exported_by_cmake
-needs cmake 'the versions that CMake may ask for, and the static library' requested 1:1 1.0:1 \
-    "$version:1" "$version,EXACT:1" 1.0...2:1 '1...<2:1' "0.9...$version:1" \
+always needs cmake 'the versions that CMake may ask for, and the static library' requested \
+    1:1 1.0:1 "$version:1" "$version,EXACT:1" 1.0...2:1 '1...<2:1' "0.9...$version:1" \
     0.9:0 2:0 99.0:0 1.0,EXACT:0 "1.0...<$version:0" 2...3:0
 needs cmake 'the files that CMake installs, and komihashsum with them' installed_by_cmake
 

@@ -45,6 +45,10 @@ compared() {
         $sum /proc/self/mem; echo $?; $sum plain > /dev/full; echo $?; $sum plain >&-'
     run_case 'komihashsum beside sha256sum, a list of odd names' \
         beside '$sum -- * > $list 2>&1; $sum --check $list; $sum -c - < $list'
+    run_case 'komihashsum beside sha256sum, zero bytes in a list' beside '$sum -b plain > $list
+        printf "\0\0  x\n" >> $list; $sum --strict -c $list'
+    run_case 'komihashsum beside sha256sum, lines with asterisks' \
+        beside 'for marks in -b --binary -t --text -bt -tb; do $sum $marks plain - < large; done'
     for option in '' --quiet --status --strict --ignore-missing '--quiet --strict' \
         '--ignore-missing --status'; do
         run_case "komihashsum beside sha256sum, a list with lines of every kind $option" \
@@ -116,8 +120,6 @@ else
     run_case 'komihashsum, control characters in messages' fails \
         "^komihashsum: \\$'\\\\033'\\$'\\\\012'\\$'\\\\177'~: " \
         komihashsum "$(printf '\033\n\177~')"
-    run_case 'komihashsum, options without effect' \
-        prints "$hash_of_a" eval 'printf a | komihashsum -bt'
     run_case 'komihashsum, its name in messages' fails "^komihashsum: .* '--no'" komihashsum --no
     needs script 'komihashsum, progress on a terminal alone' shows_progress
 fi

@@ -1,6 +1,6 @@
 //! Laws of the definitions that contracts cite. Each function changes nothing: its contract states
-//! a law, which is proved for all messages, seeds and versions. A function that needs a law calls
-//! it.
+//! a law, which is proved for all messages, seeds and versions. Where the search doesn't find a law
+//! by itself, a caller's function calls it.
 
 #![tactic(auto, using(crate::proofs::LawLemmas::laws))]
 
