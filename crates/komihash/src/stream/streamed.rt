@@ -71,9 +71,8 @@ where
     pub fn new_with_seed(seed: u64) -> StreamedKomihash<V>
         ensures { Started V seed result.state }
     {
-        StreamedKomihash {
-            raw: RawStream::start::<V>(seed, &mut Tally::new()),
-        }
+        // Rust instead: StreamedKomihash { raw: RawStream::start::<V>(seed) }
+        StreamedKomihash::start(seed, &mut Tally::new())
     }
 
     /// Absorbs any number of bytes.
