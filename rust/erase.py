@@ -39,12 +39,12 @@ TALLY = re.compile(r'(?:(?<=\()|,\s*)(?:tally(?:: &mut Tally)?|&mut Tally::new\(
 SPELLED = {'#[derive(Drop)]': '#[derive(Clone)]', 'use std::': 'use core::',
            'pub trait KomiStream: Sized + Drop': 'pub trait KomiStream: Sized'}
 NAMED = re.compile(r'let (\w+) = ([^;{}]*);\n *((?:let \w+ = |return )?if )\1 (?=\{)')
-ATTRIBUTES = re.compile(r'#!?\[(.*)\]'), re.compile('|'.join((
+ATTRIBUTES = re.compile(r'#!?\[([^]]*)\]'), re.compile('|'.join((
     r'inline(\((always|never)\))?', 'track_caller', 'must_use', r'repr\((C|transparent)\)',
-    r'derive\((Clone|Clone, Copy|Debug|Debug, PartialEq, Eq)\)', r'allow\([\w:, ]+\)',
+    r'derive\((Clone|Clone, Copy|Debug|(Debug, )?PartialEq, Eq)\)', r'allow\([\w:, ]+\)',
     'no_std', r'forbid\(unsafe_code\)', r'warn\(missing_docs\)', r'cfg\(feature = ‹.\d+›\)',
     r'doc\(inline\)', r'doc = include_str!\(‹.\d+›\)',
-    r'diagnostic::on_unimplemented\(message = ‹.\d+›\)')))
+    r'diagnostic::on_unimplemented\(\s*message = ‹.\d+›,\s*note = ‹.\d+›\s*\)')))
 MACROS = re.compile(r'(\w+)!(?!=)'), re.compile('assert|unreachable|include_str|write')
 # What may not be left.
 NO_RUST = re.compile(r'\b(?:ghost|requires|ensures|tally|Tally|Model|Drop|prove|unsafe|rt|std|'

@@ -1,6 +1,13 @@
 // Made by rust/erase.py of crates/komihash/src, where changes belong.
 
 #![doc = include_str!("../README.md")]
+//! # Where to find
+//!
+//! - to save and resume a stream: [`save`](version::StreamedKomihash::save)
+//! - to seed a map: [`KomiBuildHasher`](v5::KomiBuildHasher)
+//! - to draw random numbers: [`Komirand`]
+//! - for code that is generic over the version: [`version`]
+//! - for lists of calls, and streams of your own type: [`stream`]
 #![no_std]
 #![forbid(unsafe_code)]
 #![warn(missing_docs)]

@@ -81,7 +81,7 @@ pub trait KomiStream: Sized {
 
 /// One call on a stream, for `run_on` and `run`, which take lists of calls as data: from a test
 /// that makes them at random, or from a recording.
-#[derive(Clone, Copy)]
+#[derive(PartialEq, Eq, Clone, Copy)]
 pub enum Call<'a> {
     /// Absorbs these bytes.
     Absorb(&'a [u8]),

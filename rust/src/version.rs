@@ -29,10 +29,14 @@ pub use crate::padding::{pad, unpad};
 pub use crate::stream::streamed::StreamedKomihash;
 
 /// Says that V is the number of a version.
-#[diagnostic::on_unimplemented(message = "komihash has versions 4 and 5 alone")]
+#[diagnostic::on_unimplemented(
+    message = "`{V}` may not be version 4 or 5 of komihash",
+    note = "generic code needs `where Versions: IsVersion<V>`"
+)]
 pub trait IsVersion<const V: u8> {}
 
 /// Has an impl of `IsVersion` for each version.
+#[derive(Debug)]
 pub enum Versions {}
 
 impl IsVersion<4> for Versions {}

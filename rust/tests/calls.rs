@@ -7,7 +7,8 @@ use komihash_rattle::stream::{Call, KomiStream, LONGEST_TEXT, run, run_on};
 use std::collections::HashMap;
 use std::hash::{BuildHasher, BuildHasherDefault, Hash, Hasher};
 use std::panic::{catch_unwind, set_hook, take_hook};
-use std::sync::Mutex;
+use std::sync::{Mutex, PoisonError};
+use std::thread::current;
 
 const SEED: u64 = 0xfedc_ba98_7654_3210;
 const TABLES: [&str; 2] = [include_str!("vectors.tsv"), include_str!("values.tsv")];
@@ -147,12 +148,24 @@ macro_rules! tests {
                 assert_eq!(run::<StreamedKomihash>(SEED, &calls, &mut out), 2);
                 assert_eq!(out[..2], [komihash(b"", SEED), komihash(&message[..71], SEED)]);
                 assert_eq!(out[2..], [7; 3]);
-                let mut stream = StreamedKomihash::start(SEED);
-                stream.absorb(&message[..64]);
-                assert_eq!(run_on(&mut stream, &calls[2..], &mut out), 1);
-                let wanted = [&message[..64], &message[70..71]].concat();
-                assert_eq!((out[0], stream.answer()), (komihash(&wanted, SEED), out[0]));
                 assert_eq!(StreamedKomihash::VERSION.to_string(), $number);
+            }
+
+            #[test]
+            fn lists_of_calls_on_one_stream() {
+                let message: Vec<u8> = (0..200).collect();
+                let lengths = [0, 7, 64, 200, 1, 130];
+                let calls = lengths.map(|it| [Call::Answer, Call::Absorb(&message[..it])]).concat();
+                let (mut stream, mut out) = (StreamedKomihash::start(SEED), [0; 12]);
+                assert_eq!(run_on(&mut stream, &calls, &mut out), 6);
+                let mut joined = Vec::new();
+                for (answer, length) in out.iter().zip(lengths) {
+                    assert_eq!(*answer, komihash(&joined, SEED));
+                    joined.extend(&message[..length]);
+                }
+                assert_eq!(run_on(&mut stream, &[Call::Absorb(b"more")], &mut out), 0);
+                joined.extend(b"more");
+                assert_eq!(stream.answer(), komihash(&joined, SEED));
             }
 
             #[test]
@@ -173,6 +186,7 @@ macro_rules! tests {
                 const SEEDED: (KomiHasher, KomiBuildHasher) =
                     (KomiHasher::new(SEED), KomiBuildHasher::new(SEED));
                 let (mut hasher, build) = SEEDED;
+                let _: KomiHasher = build.build_hasher();
                 assert_eq!((hasher.finish(), build.build_hasher().finish()), (SEED, SEED));
                 hasher.write(b"port");
                 assert_eq!(hasher.finish(), komihash(b"port", SEED));
@@ -186,6 +200,25 @@ macro_rules! tests {
                 assert_eq!(build.hash_one(9_u64), komihash(&9_u64.to_ne_bytes(), SEED));
             }
 
+            /// Compares with a hasher that has no more than the trait asks for.
+            #[test]
+            fn hashers_of_values() {
+                struct Plain(u64);
+                impl Hasher for Plain {
+                    fn finish(&self) -> u64 {
+                        self.0
+                    }
+                    fn write(&mut self, bytes: &[u8]) {
+                        self.0 = komihash(bytes, self.0);
+                    }
+                }
+                let signed = (-1_i8, -2_i16, -3_i32, -4_i64, -5_i128, -6_isize);
+                let value = (1_u8, 2_u16, 3_u32, 4_u64, 5_u128, 6_usize, signed, 'x', "text");
+                let mut plain = Plain(SEED);
+                value.hash(&mut plain);
+                assert_eq!(KomiBuildHasher::new(SEED).hash_one(value), plain.finish());
+            }
+
             #[test]
             fn types_have_the_traits_that_users_expect() {
                 fn is<T: Send + Sync + Unpin + Clone + std::fmt::Debug>() {}
@@ -193,7 +226,13 @@ macro_rules! tests {
                 fn is_compared<T: Eq>() {}
                 (is::<StreamedKomihash>(), is::<Komirand>(), is::<KomiHasher>());
                 (is::<KomiBuildHasher>(), is::<Call<'_>>(), is_copied::<KomiBuildHasher>());
-                (is_compared::<Komirand>(), is_compared::<KomiHasher>());
+                (is_compared::<Komirand>(), is_compared::<KomiHasher>(), is_compared::<Call<'_>>());
+                assert!(KomiHasher::new(1) != KomiHasher::new(2));
+                assert!(KomiBuildHasher::new(1) != KomiBuildHasher::new(2));
+                assert_eq!(format!("{:?}", KomiHasher::new(1)), "KomiHasher { number: 1 }");
+                assert_eq!(format!("{:?}", Komirand::new(1, 2)), "Komirand { s1: 1, s2: 2 }");
+                let (stream, default) = (StreamedKomihash::new(), StreamedKomihash::default());
+                assert_eq!([stream.finish(), default.finish()], [komihash(b"", 0); 2]);
             }
 
             #[test]
@@ -240,7 +279,10 @@ macro_rules! tests {
                 panics_here(line!(), || _ = StreamedKomihash::new().save(&mut [0; 130]));
                 panics_here(line!(), || _ = StreamedKomihash::new().store(&mut [0; 130]));
                 panics_here(line!(), || _ = pad(b"12345678", &mut [0; 1]));
+                panics_here(line!(), || _ = pad(b"", &mut []));
                 panics_here(line!(), || _ = unpad(&[0], &mut [0; 7]));
+                panics_here(line!(), || _ = unpad(&[1], &mut [0; 7]));
+                panics_here(line!(), || _ = unpad(&[1, 1], &mut [0; 15]));
                 panics_here(line!(), || _ = run::<StreamedKomihash>(0, &[Call::Answer], &mut []));
                 // It has no answer to write, but each call needs room.
                 panics_here(line!(), || {
@@ -255,9 +297,12 @@ macro_rules! tests {
 fn panics_here(line: u32, call: fn()) {
     static HOOK: Mutex<()> = Mutex::new(());
     static REPORTED: Mutex<Option<(String, u32)>> = Mutex::new(None);
-    let _one_by_one = HOOK.lock().unwrap();
-    let hook = take_hook();
-    set_hook(Box::new(|info| {
+    let _one_by_one = HOOK.lock().unwrap_or_else(PoisonError::into_inner);
+    let (hook, here) = (take_hook(), current().id());
+    set_hook(Box::new(move |info| {
+        if current().id() != here {
+            return eprintln!("{info}");
+        }
         let place = info.location().unwrap();
         *REPORTED.lock().unwrap() = Some((place.file().to_string(), place.line()));
     }));

@@ -137,6 +137,7 @@ pub(crate) fn hash_message<const V: u8>(bytes: &[u8], seed: u64, tally: &mut Tal
 // Rust: /// ```
 // Rust: /// use komihash_rattle::version::komihash;
 // Rust: /// assert_eq!(komihash::<5>(b"", 0), 0xb7683ea7430132b4);
+// Rust: /// assert_ne!(komihash::<4>(&[0x80], 0), komihash::<5>(&[0x80], 0));
 // Rust: /// ```
 // Rust: #[must_use]
 #[inline]

@@ -15,6 +15,13 @@
 
 #![tactic(auto)]
 // Rust: #![doc = include_str!("../README.md")]
+// Rust: //! # Where to find
+// Rust: //!
+// Rust: //! - to save and resume a stream: [`save`](version::StreamedKomihash::save)
+// Rust: //! - to seed a map: [`KomiBuildHasher`](v5::KomiBuildHasher)
+// Rust: //! - to draw random numbers: [`Komirand`]
+// Rust: //! - for code that is generic over the version: [`version`]
+// Rust: //! - for lists of calls, and streams of your own type: [`stream`]
 // Rust: #![no_std]
 // Rust: #![forbid(unsafe_code)]
 // Rust: #![warn(missing_docs)]

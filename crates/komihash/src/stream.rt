@@ -124,6 +124,7 @@ pub trait KomiStream: Sized + Drop {
 
 /// One call on a stream, for `run_on` and `run`, which take lists of calls as data: from a test
 /// that makes them at random, or from a recording.
+// Rust: #[derive(PartialEq, Eq)]
 #[derive(Clone, Copy)]
 pub enum Call<'a> {
     /// Absorbs these bytes.

@@ -32,13 +32,17 @@ ghost use Rattle.std.proofs.Common.{inl, inr, refl};
 // Rust: pub use crate::stream::streamed::StreamedKomihash;
 
 /// Says that V is the number of a version.
-// Rust: #[diagnostic::on_unimplemented(message = "komihash has versions 4 and 5 alone")]
+// Rust: #[diagnostic::on_unimplemented(
+// Rust:     message = "`{V}` may not be version 4 or 5 of komihash",
+// Rust:     note = "generic code needs `where Versions: IsVersion<V>`"
+// Rust: )]
 // Rust instead: pub trait IsVersion<const V: u8> {
 pub(crate) trait IsVersion<const V: u8> {
     ghost is_version: { (V ≡ 4) ⊎ (V ≡ 5) };
 }
 
 /// Has an impl of `IsVersion` for each version.
+// Rust: #[derive(Debug)]
 // Rust instead: pub enum Versions {}
 pub(crate) struct Versions;
 

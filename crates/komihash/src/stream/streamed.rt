@@ -111,8 +111,8 @@ where
     /// `out` needs room for [`LONGEST_TEXT`] bytes, whatever is pending. `resume` makes the same
     /// stream from the text, also on another machine. The text is bytes, not UTF-8: one each for
     /// the version, for whether a block was absorbed, for the top bit of that block's last byte in
-    /// version 4, and for the number of pending bytes; the eight lanes, the lowest byte first; and
-    /// the pending bytes as they are.
+    /// version 4 (0 in version 5), and for the number of pending bytes; the eight lanes, the lowest
+    /// byte first; and the pending bytes as they are.
     // Rust: ///
     // Rust: /// # Panics
     // Rust: ///
