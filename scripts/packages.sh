@@ -94,7 +94,7 @@ js_in_chromium() {
     cat js/tests.html "$scratch/rows" > "$scratch/js/rows.html"
     chromium --headless --no-sandbox --user-data-dir="$scratch/chromium" --dump-dom \
         --allow-file-access-from-files "file://$scratch/js/rows.html" |
-        sed -nE 's|.*<body>(.*)</body>.*|\1|p' | all_right
+        sed -nE 's|.*<body hidden="">(.*)</body>.*|\1|p' | all_right
 }
 
 # Debian keeps wine64 outside of PATH.

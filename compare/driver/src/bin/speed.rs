@@ -95,6 +95,7 @@ fn maps(rows: &Rows) {
     let mut draw = || random.word();
     map(rows, "u64", &mut draw);
     map(rows, "u32", || draw() as u32);
+    map(rows, "(u64, u32)", || (draw(), draw() as u32));
     map(rows, "16 bytes", || [0; 16].map(|_: u8| draw() as u8));
     for (least, greatest) in [(4, 12), (8, 40)] {
         let mut text = || {
