@@ -19,9 +19,10 @@ in_package() { make -C "$scratch"/komihash_rattle-*/ --no-print-directory "$@"; 
 # Makes something from Rust for another processor: by Debian's compiler, with a core library that is
 # made here: from_rust 'TARGET [OPTION..]' ARGUMENT..
 debian='/usr/bin/rustc /usr/lib/rustlib/src/rust/x.py'
+sysroot() { [ -d "$scratch/$1" ] || bash scripts/sysroot.sh "$1" "$scratch/$1" >&2; }
 from_rust() {
     local target=${1%% *}
-    bash scripts/sysroot.sh "$target" "$scratch/$target" >&2 &&
+    sysroot "$target" &&
         in_package "RUSTC=/usr/bin/rustc --sysroot $scratch/$target${1#"$target"}" "${@:2}"
 }
 made_of_web() {
@@ -49,6 +50,11 @@ unpack_crate() {
         tar -xzf "$packed"/rust/*.crate -C "$scratch/rust" --strip-components=1
 }
 in_crate() { (cd "$scratch/rust" && "$@"); }
+without_std() {
+    sysroot wasm32-unknown-unknown && in_crate /usr/bin/rustc --target wasm32-unknown-unknown \
+        --sysroot "$scratch/wasm32-unknown-unknown" --edition 2024 --crate-type lib \
+        --out-dir "$scratch" src/lib.rs
+}
 pages() {
     RUSTDOCFLAGS='-D warnings' in_crate cargo doc --offline --no-deps --all-features &&
         python3 -B rust/tests/pages.py rust/src "$CARGO_TARGET_DIR/doc"
@@ -121,10 +127,11 @@ needs 'python3 rustfmt' 'rust/src is erased from the source' erased
 always needs cargo 'the crate for Rust is packed, and builds as it is unpacked' unpack_crate
 needs cargo 'the crate for Rust, with debug assertions' in_crate cargo test --offline --all-features
 RUSTFLAGS='-C target-cpu=native' needs cargo 'the crate for Rust, for this processor' \
-    in_crate cargo test --offline --release --tests
+    in_crate cargo test --offline --release --all-features --tests
 needs cargo-clippy 'the crate for Rust, by clippy (optional)' \
     in_crate cargo clippy --offline --all-features --all-targets -- -D warnings
 needs rustfmt 'the crate for Rust, by rustfmt' in_crate cargo fmt --check
+needs "$debian" 'the crate for Rust needs core alone' without_std
 needs 'cargo python3' 'the pages of the crate for Rust' pages
 sources='/usr/bin/cargo /usr/lib/rustlib/src/rust/x.py'
 for machine in s390x aarch64 i686; do

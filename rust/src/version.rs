@@ -30,7 +30,7 @@ pub use crate::stream::streamed::StreamedKomihash;
 
 /// Says that V is the number of a version.
 #[diagnostic::on_unimplemented(
-    message = "`{V}` may not be version 4 or 5 of komihash",
+    message = "`{V}` is not known to be a version of komihash, 4 or 5",
     note = "generic code needs `where Versions: IsVersion<V>`"
 )]
 pub trait IsVersion<const V: u8> {}

@@ -33,7 +33,7 @@ ghost use Rattle.std.proofs.Common.{inl, inr, refl};
 
 /// Says that V is the number of a version.
 // Rust: #[diagnostic::on_unimplemented(
-// Rust:     message = "`{V}` may not be version 4 or 5 of komihash",
+// Rust:     message = "`{V}` is not known to be a version of komihash, 4 or 5",
 // Rust:     note = "generic code needs `where Versions: IsVersion<V>`"
 // Rust: )]
 // Rust instead: pub trait IsVersion<const V: u8> {

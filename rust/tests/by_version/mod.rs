@@ -7,7 +7,7 @@ use crate::{NUMBER, SUM};
 use komihash_rattle::stream::{Call, KomiStream, LONGEST_TEXT, run, run_on};
 use std::collections::HashMap;
 use std::hash::{BuildHasher, BuildHasherDefault, Hash, Hasher};
-use std::panic::{catch_unwind, set_hook, take_hook};
+use std::panic::{AssertUnwindSafe, catch_unwind, set_hook, take_hook};
 use std::sync::{Mutex, PoisonError};
 use std::thread::current;
 
@@ -139,6 +139,46 @@ fn lists_of_calls() {
     assert_eq!(StreamedKomihash::VERSION.to_string(), NUMBER);
 }
 
+/// Notes the bytes of each call, and answers how many there were.
+struct Recorder(Vec<String>);
+
+impl KomiStream for Recorder {
+    const VERSION: u8 = 5;
+
+    fn start(seed: u64) -> Self {
+        Recorder(vec![seed.to_string()])
+    }
+
+    fn absorb(&mut self, bytes: &[u8]) {
+        self.0.push(hexadecimal(bytes));
+    }
+
+    fn answer(&self) -> u64 {
+        self.0.len() as u64
+    }
+
+    fn store(&self, _: &mut [u8]) -> usize {
+        unreachable!()
+    }
+
+    fn restore(_: &[u8]) -> Option<Self> {
+        unreachable!()
+    }
+}
+
+#[test]
+fn each_call_of_a_list_is_made_once() {
+    let calls = [&[Call::Absorb(b""), Call::Answer][..]; 9].concat();
+    let (mut stream, mut out) = (Recorder::start(7), [0; 18]);
+    assert_eq!(run_on(&mut stream, &calls, &mut out), 9);
+    assert_eq!(out[..9], [2, 3, 4, 5, 6, 7, 8, 9, 10]);
+    assert_eq!(run_on(&mut stream, &[Call::Absorb(b"port")], &mut out), 0);
+    assert_eq!([&stream.0[0], &stream.0[10]], ["7", "706f7274"]);
+    assert_eq!((run::<Recorder>(7, &calls, &mut out), out[8]), (9, 10));
+    let refused = catch_unwind(AssertUnwindSafe(|| run_on(&mut stream, &calls, &mut out[..1])));
+    assert!(refused.is_err() && stream.0.len() == 11);
+}
+
 #[test]
 fn lists_of_calls_on_one_stream() {
     let message: Vec<u8> = (0..200).collect();
@@ -218,8 +258,11 @@ fn types_have_the_traits_that_users_expect() {
     is_compared::<KomiBuildHasher>();
     is_compared::<Call<'_>>();
     is_copied::<KomiBuildHasher>();
-    assert!(KomiHasher::new(1) != KomiHasher::new(2));
+    assert!(KomiHasher::new(1) == KomiHasher::new(1) && KomiHasher::new(1) != KomiHasher::new(2));
+    assert_eq!([1, 2].map(KomiBuildHasher::new), [1, 2].map(KomiBuildHasher::new));
     assert!(KomiBuildHasher::new(1) != KomiBuildHasher::new(2));
+    assert!(Komirand::new(1, 1) == Komirand::new(1, 1));
+    assert!([(1, 2), (2, 1)].iter().all(|it| Komirand::new(it.0, it.1) != Komirand::new(1, 1)));
     assert_eq!(format!("{:?}", KomiHasher::new(1)), "KomiHasher { number: 1 }");
     assert_eq!(format!("{:?}", Komirand::new(1, 2)), "Komirand { s1: 1, s2: 2 }");
     let (stream, default) = (StreamedKomihash::new(), StreamedKomihash::default());
@@ -268,6 +311,7 @@ fn readers_are_copied_into_streams() {
 
 #[test]
 fn too_little_room_is_reported_at_the_caller() {
+    assert_eq!(LONGEST_TEXT, 131);
     panics_here(line!(), || _ = StreamedKomihash::new().save(&mut [0; 130]));
     panics_here(line!(), || _ = StreamedKomihash::new().store(&mut [0; 130]));
     panics_here(line!(), || _ = pad(b"12345678", &mut [0; 1]));
@@ -284,7 +328,7 @@ fn too_little_room_is_reported_at_the_caller() {
 /// Whether a call panics, and reports this line of this file.
 fn panics_here(line: u32, call: fn()) {
     static HOOK: Mutex<()> = Mutex::new(());
-    static REPORTED: Mutex<Option<(String, u32)>> = Mutex::new(None);
+    static REPORTED: Mutex<Option<String>> = Mutex::new(None);
     let _one_by_one = HOOK.lock().unwrap_or_else(PoisonError::into_inner);
     let (hook, here) = (take_hook(), current().id());
     set_hook(Box::new(move |info| {
@@ -292,10 +336,12 @@ fn panics_here(line: u32, call: fn()) {
             return eprintln!("{info}");
         }
         let place = info.location().unwrap();
-        *REPORTED.lock().unwrap() = Some((place.file().to_string(), place.line()));
+        let message = info.payload().downcast_ref::<&str>().unwrap();
+        *REPORTED.lock().unwrap() = Some(format!("{}:{}: {message}", place.file(), place.line()));
     }));
     let panicked = catch_unwind(call).is_err();
     set_hook(hook);
     assert!(panicked);
-    assert_eq!(REPORTED.lock().unwrap().take(), Some((file!().to_string(), line)));
+    let wanted = format!("{}:{line}: `out` is too short", file!());
+    assert_eq!(REPORTED.lock().unwrap().take(), Some(wanted));
 }
