@@ -2121,8 +2121,8 @@ komihash_v4_finish:
 	eor	x0, x8, x9
 	ret
 .LBB15_10:
-	umulh	x9, x8, x10
-	mul	x10, x8, x10
+	umulh	x9, x10, x8
+	mul	x10, x10, x8
 	add	x8, x8, x9
 	eor	x9, x8, x10
 	umulh	x10, x9, x8
@@ -3217,8 +3217,8 @@ komihash_v5_finish:
 	eor	x0, x8, x9
 	ret
 .LBB29_10:
-	umulh	x9, x8, x10
-	mul	x10, x8, x10
+	umulh	x9, x10, x8
+	mul	x10, x10, x8
 	add	x8, x8, x9
 	eor	x9, x8, x10
 	umulh	x10, x9, x8

@@ -2228,11 +2228,12 @@ komihash_v4_finish:
 	xorq	%rsi, %rax
 	xorq	%r9, %rax
 	xorq	%rsi, %rcx
+	mulq	%rcx
 	jmp	.LBB15_4
 .LBB15_3:
-	movq	%rsi, %rax
+	movq	%rcx, %rax
+	mulq	%rsi
 .LBB15_4:
-	mulq	%rcx
 	movq	%rdx, %rcx
 	addq	%rsi, %rcx
 	xorq	%rcx, %rax
@@ -3379,92 +3380,93 @@ komihash_v5:
 komihash_v5_finish:
 	.cfi_startproc
 	endbr64
-	movq	80(%rdi), %r8
-	movq	88(%rdi), %rdx
-	movq	96(%rdi), %rcx
+	movq	80(%rdi), %rdx
+	movq	88(%rdi), %rcx
+	movq	96(%rdi), %rsi
 	cmpb	$1, 136(%rdi)
 	jne	.LBB29_4
 	movq	128(%rdi), %r9
-	movq	64(%rdi), %rsi
+	movq	64(%rdi), %r8
 	movq	120(%rdi), %rax
 	xorq	104(%rdi), %rax
 	xorq	72(%rdi), %rax
 	xorq	112(%rdi), %r9
-	xorq	%rdx, %rax
-	xorq	%r8, %rcx
-	xorq	%r9, %rcx
-	testq	%rsi, %rsi
+	xorq	%rcx, %rax
+	xorq	%rdx, %rsi
+	xorq	%r9, %rsi
+	testq	%r8, %r8
 	jne	.LBB29_6
-	movzbl	137(%rdi), %edx
-	incq	%rdx
-	xorq	%rcx, %rdx
-	xorq	%rax, %rdx
+	movzbl	137(%rdi), %ecx
+	incq	%rcx
+	xorq	%rsi, %rcx
+	xorq	%rax, %rcx
 	jmp	.LBB29_3
 .LBB29_4:
-	xorq	%r8, %rdx
-	movq	64(%rdi), %rsi
-	testq	%rsi, %rsi
+	xorq	%rdx, %rcx
+	movq	64(%rdi), %r8
+	testq	%r8, %r8
 	je	.LBB29_3
-	xorq	%rcx, %rdx
-	movq	%rdx, %rax
+	xorq	%rsi, %rcx
+	movq	%rcx, %rax
 .LBB29_6:
-	leal	56(%rsi), %edx
-	andl	$56, %edx
-	movq	(%rdi,%rdx), %r8
-	movl	%esi, %edx
-	andl	$56, %edx
-	movq	(%rdi,%rdx), %r9
-	leal	(,%rsi,8), %edx
-	btsq	%rdx, %r9
-	cmpq	$16, %rsi
+	leal	56(%r8), %ecx
+	andl	$56, %ecx
+	movq	(%rdi,%rcx), %r9
+	movl	%r8d, %ecx
+	andl	$56, %ecx
+	movq	(%rdi,%rcx), %r10
+	leal	(,%r8,8), %ecx
+	btsq	%rcx, %r10
+	cmpq	$16, %r8
 	jb	.LBB29_10
-	movq	(%rdi), %rdx
-	xorq	%rcx, %rdx
-	xorq	%rax, %rdx
-	movq	8(%rdi), %r10
-	xorq	%rcx, %r10
-	movq	%rdx, %rax
-	mulq	%r10
-	addq	%rdx, %rcx
-	cmpq	$32, %rsi
+	movq	(%rdi), %rcx
+	xorq	%rsi, %rcx
+	xorq	%rax, %rcx
+	movq	8(%rdi), %rdx
+	xorq	%rsi, %rdx
+	movq	%rcx, %rax
+	mulq	%rdx
+	addq	%rdx, %rsi
+	cmpq	$32, %r8
 	jb	.LBB29_10
 	xorq	16(%rdi), %rax
-	xorq	%rcx, %rax
-	movq	24(%rdi), %rdx
-	xorq	%rcx, %rdx
-	mulq	%rdx
-	addq	%rdx, %rcx
-	cmpq	$48, %rsi
+	xorq	%rsi, %rax
+	movq	24(%rdi), %rcx
+	xorq	%rsi, %rcx
+	mulq	%rcx
+	addq	%rdx, %rsi
+	cmpq	$48, %r8
 	jb	.LBB29_10
 	xorq	32(%rdi), %rax
-	xorq	%rcx, %rax
-	movq	40(%rdi), %rdx
-	xorq	%rcx, %rdx
-	mulq	%rdx
-	addq	%rdx, %rcx
+	xorq	%rsi, %rax
+	movq	40(%rdi), %rcx
+	xorq	%rsi, %rcx
+	mulq	%rcx
+	addq	%rdx, %rsi
 .LBB29_10:
-	movq	%rsi, %rdx
-	shlq	$60, %rdx
-	sarq	$63, %rdx
-	testb	$8, %sil
-	cmoveq	%r9, %r8
-	andq	%r9, %rdx
-	xorq	%rcx, %rax
-	xorq	%r8, %rax
-	xorq	%rcx, %rdx
+	movq	%r8, %rcx
+	shlq	$60, %rcx
+	sarq	$63, %rcx
+	testb	$8, %r8b
+	cmoveq	%r10, %r9
+	andq	%r10, %rcx
+	xorq	%rsi, %rax
+	xorq	%r9, %rax
+	xorq	%rsi, %rcx
+	mulq	%rcx
 	jmp	.LBB29_11
 .LBB29_3:
 	movq	%rcx, %rax
-.LBB29_11:
-	mulq	%rdx
-	movq	%rdx, %rsi
-	addq	%rcx, %rsi
-	xorq	%rsi, %rax
 	mulq	%rsi
-	movq	%rax, %rcx
-	movq	%rdx, %rax
-	addq	%rsi, %rax
+.LBB29_11:
+	movq	%rdx, %rcx
+	addq	%rsi, %rcx
 	xorq	%rcx, %rax
+	mulq	%rcx
+	movq	%rax, %rsi
+	movq	%rdx, %rax
+	addq	%rcx, %rax
+	xorq	%rsi, %rax
 	retq
 .Lfunc_end29:
 	.size	komihash_v5_finish, .Lfunc_end29-komihash_v5_finish

@@ -1989,8 +1989,8 @@ komihash_v4_finish:
 	.cfi_startproc
 	endbr64
 	movq	80(%rdi), %r8
-	movq	88(%rdi), %rcx
-	movq	96(%rdi), %rax
+	movq	88(%rdi), %rax
+	movq	96(%rdi), %rcx
 	cmpb	$1, 136(%rdi)
 	jne	.LBB15_5
 	movq	128(%rdi), %r9
@@ -1999,87 +1999,88 @@ komihash_v4_finish:
 	xorq	104(%rdi), %rdx
 	xorq	72(%rdi), %rdx
 	xorq	112(%rdi), %r9
-	xorq	%rcx, %rdx
-	xorq	%r8, %rax
-	xorq	%r9, %rax
+	xorq	%rax, %rdx
+	xorq	%r8, %rcx
+	xorq	%r9, %rcx
 	testq	%rsi, %rsi
 	jne	.LBB15_7
-	movzbl	137(%rdi), %ecx
-	incq	%rcx
-	xorq	%rax, %rcx
-	xorq	%rdx, %rcx
+	movzbl	137(%rdi), %eax
+	incq	%rax
+	xorq	%rcx, %rax
+	xorq	%rdx, %rax
 	jmp	.LBB15_3
 .LBB15_5:
-	xorq	%r8, %rcx
+	xorq	%r8, %rax
 	movq	64(%rdi), %rsi
 	testq	%rsi, %rsi
 	je	.LBB15_3
-	xorq	%rax, %rcx
-	movq	%rcx, %rdx
+	xorq	%rcx, %rax
+	movq	%rax, %rdx
 .LBB15_7:
-	leal	56(%rsi), %ecx
-	andl	$56, %ecx
-	movq	(%rdi,%rcx), %r8
-	leaq	-1(%rsi), %rcx
-	movl	%ecx, %r9d
+	leal	56(%rsi), %eax
+	andl	$56, %eax
+	movq	(%rdi,%rax), %r8
+	leaq	-1(%rsi), %rax
+	movl	%eax, %r9d
 	andl	$56, %r9d
 	addq	%rdi, %r9
-	andl	$7, %ecx
+	andl	$7, %eax
 	xorl	%r10d, %r10d
-	cmpb	$0, (%rcx,%r9)
+	cmpb	$0, (%rax,%r9)
 	sets	%r10b
 	incq	%r10
-	movl	%esi, %ecx
-	andl	$56, %ecx
+	movl	%esi, %eax
+	andl	$56, %eax
 	leal	(,%rsi,8), %r9d
 	shlxq	%r9, %r10, %r9
-	orq	(%rdi,%rcx), %r9
+	orq	(%rdi,%rax), %r9
 	cmpq	$16, %rsi
 	jb	.LBB15_11
-	movq	(%rdi), %rcx
-	xorq	%rax, %rcx
-	xorq	%rdx, %rcx
+	movq	(%rdi), %rax
+	xorq	%rcx, %rax
+	xorq	%rdx, %rax
 	movq	8(%rdi), %r10
-	xorq	%rax, %r10
-	movq	%rcx, %rdx
-	mulxq	%r10, %rdx, %rcx
-	addq	%rcx, %rax
+	xorq	%rcx, %r10
+	movq	%rax, %rdx
+	mulxq	%r10, %rdx, %rax
+	addq	%rax, %rcx
 	cmpq	$32, %rsi
 	jb	.LBB15_11
 	xorq	16(%rdi), %rdx
-	xorq	%rax, %rdx
-	movq	24(%rdi), %rcx
-	xorq	%rax, %rcx
-	mulxq	%rcx, %rdx, %rcx
-	addq	%rcx, %rax
+	xorq	%rcx, %rdx
+	movq	24(%rdi), %rax
+	xorq	%rcx, %rax
+	mulxq	%rax, %rdx, %rax
+	addq	%rax, %rcx
 	cmpq	$48, %rsi
 	jb	.LBB15_11
 	xorq	32(%rdi), %rdx
-	xorq	%rax, %rdx
-	movq	40(%rdi), %rcx
-	xorq	%rax, %rcx
-	mulxq	%rcx, %rdx, %rcx
-	addq	%rcx, %rax
+	xorq	%rcx, %rdx
+	movq	40(%rdi), %rax
+	xorq	%rcx, %rax
+	mulxq	%rax, %rdx, %rax
+	addq	%rax, %rcx
 .LBB15_11:
-	movq	%rsi, %rcx
-	shlq	$60, %rcx
-	sarq	$63, %rcx
+	movq	%rsi, %rax
+	shlq	$60, %rax
+	sarq	$63, %rax
 	testb	$8, %sil
 	cmoveq	%r9, %r8
-	andq	%r9, %rcx
-	xorq	%rax, %rdx
+	andq	%r9, %rax
+	xorq	%rcx, %rdx
 	xorq	%r8, %rdx
-	xorq	%rax, %rcx
+	xorq	%rcx, %rax
+	mulxq	%rax, %rdx, %rsi
 	jmp	.LBB15_4
 .LBB15_3:
 	movq	%rax, %rdx
+	mulxq	%rcx, %rdx, %rsi
 .LBB15_4:
-	mulxq	%rcx, %rdx, %rcx
-	addq	%rax, %rcx
-	xorq	%rcx, %rdx
-	mulxq	%rcx, %rdx, %rax
-	addq	%rcx, %rax
-	xorq	%rdx, %rax
+	addq	%rcx, %rsi
+	xorq	%rsi, %rdx
+	mulxq	%rsi, %rcx, %rax
+	addq	%rsi, %rax
+	xorq	%rcx, %rax
 	retq
 .Lfunc_end15:
 	.size	komihash_v4_finish, .Lfunc_end15-komihash_v4_finish
@@ -3288,8 +3289,8 @@ komihash_v5_finish:
 	.cfi_startproc
 	endbr64
 	movq	80(%rdi), %r8
-	movq	88(%rdi), %rcx
-	movq	96(%rdi), %rax
+	movq	88(%rdi), %rax
+	movq	96(%rdi), %rcx
 	cmpb	$1, 136(%rdi)
 	jne	.LBB29_4
 	movq	128(%rdi), %r9
@@ -3298,78 +3299,79 @@ komihash_v5_finish:
 	xorq	104(%rdi), %rdx
 	xorq	72(%rdi), %rdx
 	xorq	112(%rdi), %r9
-	xorq	%rcx, %rdx
-	xorq	%r8, %rax
-	xorq	%r9, %rax
+	xorq	%rax, %rdx
+	xorq	%r8, %rcx
+	xorq	%r9, %rcx
 	testq	%rsi, %rsi
 	jne	.LBB29_6
-	movzbl	137(%rdi), %ecx
-	incq	%rcx
-	xorq	%rax, %rcx
-	xorq	%rdx, %rcx
+	movzbl	137(%rdi), %eax
+	incq	%rax
+	xorq	%rcx, %rax
+	xorq	%rdx, %rax
 	jmp	.LBB29_3
 .LBB29_4:
-	xorq	%r8, %rcx
+	xorq	%r8, %rax
 	movq	64(%rdi), %rsi
 	testq	%rsi, %rsi
 	je	.LBB29_3
-	xorq	%rax, %rcx
-	movq	%rcx, %rdx
+	xorq	%rcx, %rax
+	movq	%rax, %rdx
 .LBB29_6:
-	leal	56(%rsi), %ecx
-	andl	$56, %ecx
-	movq	(%rdi,%rcx), %r8
-	movl	%esi, %ecx
-	andl	$56, %ecx
-	movq	(%rdi,%rcx), %r9
-	leal	(,%rsi,8), %ecx
-	btsq	%rcx, %r9
+	leal	56(%rsi), %eax
+	andl	$56, %eax
+	movq	(%rdi,%rax), %r8
+	movl	%esi, %eax
+	andl	$56, %eax
+	movq	(%rdi,%rax), %r9
+	leal	(,%rsi,8), %eax
+	btsq	%rax, %r9
 	cmpq	$16, %rsi
 	jb	.LBB29_10
-	movq	(%rdi), %rcx
-	xorq	%rax, %rcx
-	xorq	%rdx, %rcx
+	movq	(%rdi), %rax
+	xorq	%rcx, %rax
+	xorq	%rdx, %rax
 	movq	8(%rdi), %r10
-	xorq	%rax, %r10
-	movq	%rcx, %rdx
-	mulxq	%r10, %rdx, %rcx
-	addq	%rcx, %rax
+	xorq	%rcx, %r10
+	movq	%rax, %rdx
+	mulxq	%r10, %rdx, %rax
+	addq	%rax, %rcx
 	cmpq	$32, %rsi
 	jb	.LBB29_10
 	xorq	16(%rdi), %rdx
-	xorq	%rax, %rdx
-	movq	24(%rdi), %rcx
-	xorq	%rax, %rcx
-	mulxq	%rcx, %rdx, %rcx
-	addq	%rcx, %rax
+	xorq	%rcx, %rdx
+	movq	24(%rdi), %rax
+	xorq	%rcx, %rax
+	mulxq	%rax, %rdx, %rax
+	addq	%rax, %rcx
 	cmpq	$48, %rsi
 	jb	.LBB29_10
 	xorq	32(%rdi), %rdx
-	xorq	%rax, %rdx
-	movq	40(%rdi), %rcx
-	xorq	%rax, %rcx
-	mulxq	%rcx, %rdx, %rcx
-	addq	%rcx, %rax
+	xorq	%rcx, %rdx
+	movq	40(%rdi), %rax
+	xorq	%rcx, %rax
+	mulxq	%rax, %rdx, %rax
+	addq	%rax, %rcx
 .LBB29_10:
-	movq	%rsi, %rcx
-	shlq	$60, %rcx
-	sarq	$63, %rcx
+	movq	%rsi, %rax
+	shlq	$60, %rax
+	sarq	$63, %rax
 	testb	$8, %sil
 	cmoveq	%r9, %r8
-	andq	%r9, %rcx
-	xorq	%rax, %rdx
+	andq	%r9, %rax
+	xorq	%rcx, %rdx
 	xorq	%r8, %rdx
-	xorq	%rax, %rcx
+	xorq	%rcx, %rax
+	mulxq	%rax, %rdx, %rsi
 	jmp	.LBB29_11
 .LBB29_3:
 	movq	%rax, %rdx
+	mulxq	%rcx, %rdx, %rsi
 .LBB29_11:
-	mulxq	%rcx, %rdx, %rcx
-	addq	%rax, %rcx
-	xorq	%rcx, %rdx
-	mulxq	%rcx, %rdx, %rax
-	addq	%rcx, %rax
-	xorq	%rdx, %rax
+	addq	%rcx, %rsi
+	xorq	%rsi, %rdx
+	mulxq	%rsi, %rcx, %rax
+	addq	%rsi, %rax
+	xorq	%rcx, %rax
 	retq
 .Lfunc_end29:
 	.size	komihash_v5_finish, .Lfunc_end29-komihash_v5_finish

@@ -193,6 +193,5 @@ fn mix_again(pair: Pair) -> u64 {
 /// Returns the hash from a pair and the two words that are left, or the one that is left and 0.
 #[inline(always)]
 pub(crate) fn close(pair: Pair, first: u64, second: u64) -> u64 {
-    let Pair(low, e) = pair;
-    mix_again(mix((low ^ first) ^ e, e ^ second, e))
+    mix_again(pair_round(pair, first, second))
 }

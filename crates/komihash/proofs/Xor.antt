@@ -1,11 +1,10 @@
 -- Laws of xor: orders of words, words that cancel, and two masks.
-use Rattle.std.proofs.Common.{◌≡◌, ℕ, ◌+◌, ◌^◌, ◌<◌, ap, ◌∙◌, sym, arith, lit<, refl}
+use Rattle.std.proofs.Common.{◌≡◌, ℕ, ◌+◌, ◌^◌, ◌<◌, ap, ◌∙◌, sym, arith, lit<}
 use Rattle.std.proofs.Math.Nat.{mul_comm}
 use Rattle.std.proofs.lemmas.Nat.{and_comm, and_assoc, and-not}
 use Rattle.std.specs.Prelude.{bit_xor, bit_and}
-use Rattle.komihash.specs.Rounds.{mix}
 use Rattle.komihash.specs.Internals.{xor_again}
-use Rattle.std.specs.Int.Bits.{xor_assoc, xor_comm, xor_disjoint, xor_zero_r}
+use Rattle.std.specs.Int.Bits.{xor_assoc, xor_comm, xor_disjoint}
 
 -- the first two change places
 pub xor_swap : (a b c : ℕ) → bit_xor a (bit_xor b c) ≡ bit_xor b (bit_xor a c)
@@ -18,18 +17,8 @@ ruleset order = (xor_assoc, xor_comm, xor_swap)
 pub xor_late : (w low e : ℕ) → bit_xor (bit_xor w low) e ≡ bit_xor w (bit_xor e low)
 xor_late w low e = simp order
 
-pub xor_late_left : (w low e : ℕ) → bit_xor (bit_xor low w) e ≡ bit_xor (bit_xor e low) w
-xor_late_left w low e = simp order
-
--- the factors of a product change places
-pub mix_swap : (x y e : ℕ) → mix x y e ≡ mix y x e
-unfolding mix
-mix_swap x y e = rw (mul_comm x y) refl
-
--- what block rounds and the closing need
+-- what block rounds need
 pub ruleset reorder = (xor_late, mul_comm)
-
-pub ruleset factors = (xor_late_left, xor_zero_r, mix_swap)
 
 -- the middle ones change places
 pub xor_middle : (a b c d : ℕ)

@@ -121,6 +121,6 @@ mix_again s = (mix s.0 s.1 s.1).0
 
 -- the hash from a pair and the one or two words that are left; there are never more or fewer
 abbrev pub closing : ℕ × ℕ → List ℕ → ℕ
-closing s (p ∷ []) = mix_again (mix (bit_xor s.0 p) s.1 s.1)
-closing s (w ∷ p ∷ []) = mix_again (mix (bit_xor s.1 p) (bit_xor s.0 w) s.1)
+closing s (w0 ∷ []) = mix_again (mix (bit_xor w0 s.0) s.1 s.1)
+closing s (w0 ∷ w1 ∷ []) = mix_again (pair_round s w0 w1)
 closing s _ = 0

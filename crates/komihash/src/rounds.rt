@@ -315,12 +315,10 @@ fn mix_again(pair: Pair, tally: &mut Tally) -> u64
 
 /// Returns the hash from a pair and the two words that are left, or the one that is left and 0.
 #[inline(always)]
-#[tactic(auto, using(crate::proofs::Xor::factors))]
 pub(crate) fn close(pair: Pair, first: u64, second: u64, tally: &mut Tally) -> u64
     ensures hash { result ≡ closing (pair_of pair) (first ∷ second ∷ []) }
     ensures alone { second ≡ 0 → result ≡ closing (pair_of pair) (first ∷ []) }
     ensures costs { Costs tally 2 0 }
 {
-    let Pair(low, e) = pair;
-    mix_again(mix((low ^ first) ^ e, e ^ second, e, tally), tally)
+    mix_again(pair_round(pair, first, second, tally), tally)
 }

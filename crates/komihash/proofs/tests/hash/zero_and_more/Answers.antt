@@ -6,7 +6,7 @@ use Rattle.komihash.proofs.tests.hash.zero_and_more.Goals as goal
 
 closing-zero : (a p : ℕ) → closing (a, 0) (p ∷ []) ≡ 0
 unfolding mix
-closing-zero a p = let none : bit_xor a p * 0 ≡ 0 = omega arith in rw none refl
+closing-zero a p = let none : bit_xor p a * 0 ≡ 0 = omega arith in rw none refl
 
 pub returns : goal.returns
 unfolding mix
