@@ -1,6 +1,7 @@
 //! The functions of komihash_rattle.h, by the crate for Rust; with `--cfg rust_crate`, those that
 //! the crate `komihash` has, by that one. Each `unsafe` here rests on the first comment of that
-//! header, which says what callers see to.
+//! header, which says what callers see to. Where it lets room overlap an input, `out` overlaps a
+//! shared slice, but what overlaps is never written, or read through `out`.
 #![no_std]
 #![allow(improper_ctypes_definitions)] // Callers see streams and generators as arrays of words.
 use core::mem::{align_of, size_of};

@@ -21,7 +21,8 @@
  *
  * What holds of every call:
  * - No jump and no address depends on a seed, on the bytes of a message, or on words made of them,
- *   except in `resume` and `unpad`. That does not promise equal times.
+ *   except in `resume` and `unpad`. That does not promise equal times. It is shown of the builds
+ *   that `make verify` reads, and likely elsewhere.
  * - It allocates no memory and doesn't set errno. The library has no global state, so threads and
  *   signal handlers may make calls at the same time.
  */

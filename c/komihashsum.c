@@ -246,7 +246,8 @@ static bool check_list(const char *name) {
     const bool failed = ferror(list);
     if (number)
         fclose(list);
-    return failed ? fail(name, "read error") : report(number ? name : "'standard input'", counts);
+    name = number ? name : "'standard input'";
+    return failed ? fail(name, "read error") : report(name, counts);
 }
 
 static bool set_seed(const char *text) {
@@ -308,5 +309,9 @@ int main(void) {
 }
 #else
 static int open_file(const char *name) { return strcmp(name, "-") ? open(name, O_RDONLY) : 0; }
-int main(int count, char **arguments) { return run(count, arguments); }
+int main(int count, char **arguments) {
+    if (fcntl(0, F_GETFD) < 0)
+        open("/dev/null", O_WRONLY); /* so that no file gets the number of standard input */
+    return run(count, arguments);
+}
 #endif

@@ -1,7 +1,7 @@
 #!/usr/bin/env python3
 """Checks that what stands in two places is the same: each block of Rattle in CALLING is a part of a
-file of crates/examples, v4.rt and v5.rt differ in the number alone, what users take has the
-licence, and each link of a page leads to a file that is there, and to a heading of it."""
+file of crates/examples, what twins say of the two versions differs in the number alone, what users
+take has the licence, and each link of a page leads to a file that is there, and to a heading of it."""
 
 import re
 from pathlib import Path
@@ -34,6 +34,10 @@ for crate in ("komihash", "komihash_c"):
              for file in (ROOT / f"crates/{crate}/src").glob("v?.rt")}
     same = all(twin == twins["5"].replace("5", n) for n, twin in twins.items())
     checks.append((f"the versions in {crate}", same and len(twins) > 1))
+promises = (ROOT / "crates/promises/src/calls.rt").read_text("utf-8")
+impls = re.findall(r"^impl Promises for v(\d)(.*?)^}", promises, re.DOTALL | re.MULTILINE)
+same = len({body.replace(f"v{n}", "v") for n, body in impls}) == 1
+checks.append(("the versions in promises", same and len(impls) > 1))
 for folder in ("crates/komihash", "rust", "python", "js"):
     licences = {(ROOT / path / "LICENSE").read_text("utf-8") for path in (".", folder)}
     checks.append((f"the licence in {folder}", len(licences) == 1))

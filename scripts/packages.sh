@@ -1,7 +1,6 @@
 #!/usr/bin/env bash
 # Tests the library for C as its package is unpacked, with nothing beside it, and the packages for
-# Rust, Python and JavaScript. Also verifies the machine code of the library and the crate, and of
-# the Rust crate `komihash`, and tests that check.
+# Rust, Python and JavaScript. verified.sh then verifies machine code.
 set -uo pipefail
 cd "$(dirname "$0")/.." || exit 1
 . scripts/parts.sh
@@ -157,37 +156,5 @@ else
     skip 'the WebAssembly in it is made of the crate for Rust (optional)' "$made_by"
 fi
 
-# The builds that every processor can run are verified, and a function by a second solver too. Of
-# the crate for Rust on ARM64, these are the hash, writes and answers of one version.
-part_with "$python" in_package verify LEVEL=x86-64
-part_with "cvc5 $python" in_package verify LEVEL=x86-64 SECOND=cvc5 FUNCTION=komihash_v5_save
-part_with "rustc $python" in_package verify FROM=rust LEVEL=x86-64-v2
-part_with "$arm-gcc $debian $python" from_rust aarch64-unknown-linux-gnu verify FROM=rust \
-    "CROSS=$arm-" 'FUNCTION=komihash_v4 komihash_v4_write komihash_v4_finish'
-
-tests=c/verify/tests out=$(echo "$scratch"/komihash_rattle-*/out) so=libkomihash_rattle.so.1
-libraries=("x86-64:$out/$so" "x86-64-v3:$out/glibc-hwcaps/x86-64-v3/$so")
-[ ! -d "$out/$arm" ] || libraries+=("armv8-a:$out/$arm/$so")
-part_with "$python" "$python" -B $tests/bodies.py x86-64 "${CC:-cc}"
-part_with "$python" "$python" -B $tests/changes.py "$out/$so"
-part_with "$python $arm-gcc qemu-aarch64" \
-    "$python" -B $tests/bodies.py armv8-a $arm-gcc qemu-aarch64 -L /usr/$arm
-needs "$python" 'edits of files are refused' "$python" -B $tests/attacks.py "${libraries[@]}"
-if grep -qw avx2 /proc/cpuinfo; then
-    part_with "$python" "$python" -B $tests/bodies.py x86-64-v3 "${CC:-cc}"
-    needs "$python" 'random instructions do in the model what they do on the processor' \
-        "$python" -B $tests/instructions.py x86-64-v3 "${CC:-cc}"
-else
-    skip 'random instructions (optional)' 'a processor with AVX2'
-fi
-needs "$python $arm-gcc qemu-aarch64" \
-    'random instructions of ARM64 do in the model what they do in an emulator' \
-    "$python" -B $tests/instructions.py armv8-a $arm-gcc qemu-aarch64 -L /usr/$arm
-
-# Of the Rust crate, a build is verified.
-if [ "${KOMIHASH_CRATE:-}" ]; then
-    BUILDS=x86-64-v2:3 part_with "rustc $python" bash compare/run.sh verify
-else
-    skip 'the machine code of the Rust crate (optional)' 'its folder as KOMIHASH_CRATE'
-fi
+. scripts/verified.sh
 counted

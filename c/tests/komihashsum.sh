@@ -40,7 +40,10 @@ mixed='{ $sum plain large; echo "# comment"; echo; echo nonsense; $sum large | s
 compared() {
     run_case 'komihashsum beside sha256sum, odd names' beside '$sum -- *'
     run_case 'komihashsum beside sha256sum, standard input' \
-        beside 'cat large | $sum; cat large | $sum - link; $sum < folder'
+        beside 'cat large | $sum; cat large | $sum - link; $sum < folder; $sum -c < folder'
+    run_case 'komihashsum beside sha256sum, a closed standard input' \
+        beside 'exec 2> /dev/null; $sum <&-; echo $?; $sum plain - link <&-; echo $?
+            $sum plain - < plain > $list; $sum -c $list <&-; echo $?; $sum -c - <&-'
     run_case 'komihashsum beside sha256sum, what fails' beside '$sum none plain; echo $?
         $sum /proc/self/mem; echo $?; $sum plain > /dev/full; echo $?; $sum plain >&-'
     run_case 'komihashsum beside sha256sum, a list of odd names' \

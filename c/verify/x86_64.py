@@ -273,23 +273,23 @@ def vector(c, i):
 
 # For each, how many bits a piece and a half or the whole have, and how the pieces of its sources
 # and its number give those of its result.
-VECTORS = {
+SSE = {
     'paddq': (64, 128, lambda a, b, n: [x + y for x, y in zip(a, b)]),
     'palignr': (8, 128, lambda a, b, n: (b + a)[n:n + 16]),
     **dict.fromkeys(('pxor', 'xorps'), (64, 128, lambda a, b, n: [x ^ y for x, y in zip(a, b)])),
     **dict.fromkeys(('punpcklqdq', 'movlhps'), (64, 128, lambda a, b, n: [a[0], b[0]])),
     **dict.fromkeys(('punpckhqdq', 'unpckhpd'), (64, 128, lambda a, b, n: [a[1], b[1]]))}
 # The processor checks the addresses of these, if no v comes before.
-ALIGNED = {'movaps', 'movdqa', *VECTORS}
-VECTORS['pextrq'] = 64, 128, lambda a, b, n: [b[n & 1]]
-TABLE.update({prefix + name: vector for prefix in ('', 'v') for name in VECTORS})
-VECTORS.update({
+ALIGNED = {'movaps', 'movdqa', *SSE}
+UNALIGNED = {'pextrq': (64, 128, lambda a, b, n: [b[n & 1]])}
+AVX = {
     'extracti128': (128, 256, lambda a, b, n: [b[n & 1]]),
     'inserti128': (128, 256, lambda a, b, n: [a[0], b[0]] if n & 1 else [b[0], a[1]]),
     'blendps': (32, 256, lambda a, b, n: [(b if n >> k & 1 else a)[k] for k in range(len(a))]),
     **dict.fromkeys(('permq', 'permpd'),
-                    (64, 256, lambda a, b, n: [b[n >> 2 * k & 3] for k in range(4)]))})
-TABLE.update({f'v{name}': vector for name in VECTORS})
+                    (64, 256, lambda a, b, n: [b[n >> 2 * k & 3] for k in range(4)]))}
+VECTORS = {**SSE, **UNALIGNED, **AVX}
+TABLE.update(dict.fromkeys((*SSE, *UNALIGNED, *(f'v{name}' for name in VECTORS)), vector))
 
 
 @means(TABLE, 'vzeroupper')

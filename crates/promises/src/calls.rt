@@ -298,19 +298,24 @@ pub fn run_of_further_calls<S: KomiStream>(
 
 fn can_cross_threads<T: Send + Sync>() {}
 
-/// Streams, hashers and generators can be sent to other threads, and shared with them.
+/// Streams, hashers, what makes them, and generators can be sent to other threads, and shared with
+/// them.
 pub fn all_can_cross_threads() {
     can_cross_threads::<v4::StreamedKomihash>();
     can_cross_threads::<v5::StreamedKomihash>();
     can_cross_threads::<v4::KomiHasher>();
     can_cross_threads::<v5::KomiHasher>();
+    can_cross_threads::<v4::KomiBuildHasher>();
+    can_cross_threads::<v5::KomiBuildHasher>();
     can_cross_threads::<v4::Komirand>();
     can_cross_threads::<v5::Komirand>();
 }
 
 fn can_be_copied<T: Copy>() {}
 
-/// A call can be copied.
-pub fn calls_can_be_copied() {
+/// A call can be copied, and so can what makes hashers.
+pub fn these_can_be_copied() {
     can_be_copied::<Call<'_>>();
+    can_be_copied::<v4::KomiBuildHasher>();
+    can_be_copied::<v5::KomiBuildHasher>();
 }

@@ -48,7 +48,7 @@ static PyObject *hash(PyObject *module, PyObject *const *args, Py_ssize_t count,
     uint64_t seed = 0, hash;
     if (count < 1 || all > 2 ||
         (all > count && PyUnicode_CompareWithASCIIString(PyTuple_GetItem(names, 0), "seed") != 0))
-        return PyErr_Format(PyExc_TypeError, "komihash_int takes the arguments (data, seed=0)");
+        return PyErr_Format(PyExc_TypeError, "komihash_int takes the arguments (data, /, seed=0)");
     if ((all == 2 && !is_word(args[1], &seed)) || !has_bytes(args[0], &bytes))
         return NULL;
     PyThreadState *thread = bytes.len < MANY ? NULL : PyEval_SaveThread();
