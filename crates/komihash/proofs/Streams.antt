@@ -82,9 +82,6 @@ absorb-few v s bytes few = grind (arith, absorb-blocks, blocks_state-few)
 
 -- ---- it stays a state
 
-pads_with_two-version : (v b : ℕ) → pads_with_two v b ≡ true → KeepsTopBit v
-pads_with_two-version v b h = grind (arith)
-
 -- a new stream's state, and the state after bytes
 pub IsState-start : (v seed : ℕ) → IsState v (start seed)
 IsState-start v seed = grind (arith, AreWords-seed_pair)
