@@ -45,7 +45,11 @@ for (const row of rows) {
 
 const long = Uint8Array.from({ length: 1e6 }, (_, at) => at ** 2 / 8);
 test("a long message", !hash(v5, 7n, long).includes(","));
-for (const text of ["", "aß€😀", "€".repeat(2e5)])
+for (const more of [-1, 0, 1])
+    test("a message near a piece", !hash(v5, 7n, long.slice(0, 2 ** 18 + more)).includes(","));
+const Shared = globalThis.SharedArrayBuffer ?? ArrayBuffer; // which pages may lack
+test("shared memory", komihash(new Shared(9)) === komihash(new Uint8Array(9)));
+for (const text of ["", "aß€😀", "€".repeat(1e5), "€".repeat(2e5)])
     test("a string", komihash(text, 7n) === komihash(new TextEncoder().encode(text), 7n));
 for (const view of [new DataView(long.buffer, 8, 80), new Uint16Array(long.buffer, 8, 40)])
     test("a view", komihash(view) === komihash(long.buffer.slice(8, 88)));
@@ -53,7 +57,8 @@ const rand = new Komirand(7n);
 test("outputs", new Komirand(7n).fill(new BigUint64Array(1e5)).every((it) => it === rand.next()));
 
 const seeded = [(it) => komihash("", it), (it) => new Komihash(it), (it) => new Komirand(it)];
-for (const call of [...seeded, (it) => new Komirand(0n, it), (it) => Komirand.fromWords(it, 0n)]) {
+seeded.push((it) => Komirand.fromWords(it, 0n), (it) => Komirand.fromWords(0n, it));
+for (const call of [...seeded, (it) => new Komirand(0n, it)]) {
     test("a wrong seed", [-1n, 2n ** 64n].every((it) => throws(RangeError, () => call(it))));
     test("the highest seed", call(2n ** 64n - 1n) !== undefined);
 }

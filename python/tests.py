@@ -113,6 +113,7 @@ class Tests(unittest.TestCase):
             self.assertRaises(TypeError, komihash_int, b"", **names)
         seeded = [lambda seed: komihash(seed=seed), lambda seed: komihash_int(b"", seed), Komirand]
         seeded += [lambda seed: Komirand(0, seed), lambda seed: Komirand.from_words(0, seed)]
+        seeded += [lambda seed: Komirand.from_words(seed, 0)]
         for call in seeded:
             call(2**64 - 1)
             for seed, error in (-1, OverflowError), (2**64, OverflowError), (0.5, TypeError):
@@ -123,6 +124,7 @@ class Tests(unittest.TestCase):
         stream = komihash(b"a")
         self.assertRaises(TypeError, stream.update, "b")
         self.assertRaises(OverflowError, stream.__init__, seed=-1)
+        self.assertRaises(TypeError, stream.__init__, "b", 7)
         self.assertEqual(stream.intdigest(), komihash_int(b"a"))
 
     def test_version_5_is_the_default(self):
@@ -186,14 +188,17 @@ class Tests(unittest.TestCase):
 
     def test_threads_may_share_a_stream(self):
         stream, parts = komihash(), [b"a" * 2**24, b"a"] * 8
-
-        def update(part):
-            stream.update(part)
-            stream.copy().digest()
-
         with ThreadPoolExecutor(4) as threads:
-            list(threads.map(update, parts))
-        self.assertEqual(stream.intdigest(), komihash_int(b"".join(parts)))
+            list(threads.map(stream.update, parts))
+        whole = b"".join(parts)
+        self.assertEqual(stream.intdigest(), komihash_int(whole))
+
+        stream, seen = komihash(b"a"), set()
+        with ThreadPoolExecutor(1) as threads:
+            update = threads.submit(stream.update, whole)
+            while not update.done():
+                seen.add(stream.copy().intdigest())
+        self.assertLessEqual(seen, {komihash_int(b"a"), komihash_int(b"a" + whole)})
 
     def test_nothing_leaks(self):
         def use():

@@ -128,7 +128,8 @@ needs cargo 'the crate for Rust, with debug assertions' in_crate cargo test --of
 RUSTFLAGS='-C target-cpu=native' needs cargo 'the crate for Rust, for this processor' \
     in_crate cargo test --offline --release --all-features --tests
 needs cargo-clippy 'the crate for Rust, by clippy (optional)' \
-    in_crate cargo clippy --offline --all-features --all-targets -- -D warnings
+    in_crate cargo clippy --offline --all-features --all-targets -- -D warnings \
+    -D clippy::must_use_candidate
 needs rustfmt 'the crate for Rust, by rustfmt' in_crate cargo fmt --check
 needs "$debian" 'the crate for Rust needs core alone' without_std
 needs 'cargo python3' 'the pages of the crate for Rust' pages

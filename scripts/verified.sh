@@ -31,6 +31,7 @@ needs "$python $arm-gcc qemu-aarch64" \
 # Of the Rust crate, a build is verified.
 if [ "${KOMIHASH_CRATE:-}" ]; then
     BUILDS=x86-64-v2:3 part_with "rustc $python" bash compare/run.sh verify
+    needs cargo 'random calls have the values of the Rust crate' bash compare/run.sh fuzz 1 2000
 else
-    skip 'the machine code of the Rust crate (optional)' 'its folder as KOMIHASH_CRATE'
+    skip 'what the Rust crate computes (optional)' 'its folder as KOMIHASH_CRATE'
 fi

@@ -1,5 +1,5 @@
-# Tests komihashsum; check.sh sources this file. What it prints, and its status, must differ from
-# those of sha256sum in the hashes and the name alone.
+# Tests komihashsum; check.sh sources this file. In the cases beside sha256sum, what it prints, and
+# its status, must differ from those of sha256sum in the hashes and the name alone.
 tree=$scratch/tree
 built=$(realpath "$OUT")/komihashsum$exe
 komihashsum() { $RUN "$built" "$@"; }
@@ -96,6 +96,7 @@ shows_progress() {
     grep '^0 of 0 MiB  .*large' "$scratch/shown" && grep "^$(komihashsum "$tree/large")" \
         "$scratch/shown" && ! komihashsum --progress "$tree/large" 2>&1 | grep MiB
 }
+one_space() { (cd "$tree" && komihashsum plain | sed 's/  / /' | komihashsum --check); }
 odd_on_windows() (
     export LC_ALL=C.UTF-8
     mkdir "$scratch/names" && cd "$scratch/names" && printf a > 'жå𝄞.txt' && printf a > b.txt &&
@@ -120,6 +121,9 @@ else
     if type sha256sum > "$scratch/case" 2>&1; then compared; else
         skip 'komihashsum beside sha256sum' sha256sum
     fi
+    run_case 'komihashsum beside sha256sum, more files than can be open' beside 'ulimit -n 16
+        $sum plain plain plain plain plain plain plain plain plain plain plain plain plain plain'
+    run_case 'komihashsum, one space before a name' fails 'no properly formatted' one_space
     run_case 'komihashsum, control characters in messages' fails \
         "^komihashsum: \\$'\\\\033'\\$'\\\\012'\\$'\\\\177'~: " \
         komihashsum "$(printf '\033\n\177~')"

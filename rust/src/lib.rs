@@ -4,7 +4,8 @@
 //! # Where to find
 //!
 //! - to save and resume a stream: [`save`](version::StreamedKomihash::save)
-//! - to seed a map: [`KomiBuildHasher`](v5::KomiBuildHasher)
+//! - to seed a map: [`KomiBuildHasher`]
+//! - to hash a file: with the feature `std`, [`StreamedKomihash`] is a `std::io::Write`
 //! - to draw random numbers: [`Komirand`]
 //! - for code that is generic over the version: [`version`]
 //! - for lists of calls, and streams of your own type: [`stream`]
@@ -14,7 +15,7 @@
 #![allow(clippy::int_plus_one, clippy::manual_is_multiple_of)]
 
 #[doc(inline)]
-pub use v5::{KomiHasher, Komirand, StreamedKomihash, komihash};
+pub use v5::{KomiBuildHasher, KomiHasher, Komirand, StreamedKomihash, komihash};
 
 mod generator;
 mod hash;

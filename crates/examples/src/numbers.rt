@@ -1,8 +1,8 @@
-//! Numbers, in a list and one by one.
+//! Lists of numbers.
 
 ghost use Rattle.std.specs.Int.{to_le_bytes, w64};
 ghost use Rattle.std.specs.List.{flat_map};
-ghost use Rattle.std.specs.Prelude.{◌≡◌, ◌++◌};
+ghost use Rattle.std.specs.Prelude.{◌≡◌};
 ghost use Rattle.komihash.specs.Hash.{komi};
 
 use komihash::StreamedKomihash;
@@ -15,15 +15,5 @@ pub fn hash_of_numbers(numbers: &[u64]) -> u64
     for number in numbers {
         stream.write(&number.to_le_bytes());
     }
-    stream.finish()
-}
-
-/// Hashes two numbers.
-pub fn hash_of_two(left: u64, right: u64) -> u64
-    ensures { result ≡ komi 5 0 (to_le_bytes w64 left ++ to_le_bytes w64 right) }
-{
-    let mut stream = StreamedKomihash::new();
-    stream.write(&left.to_le_bytes());
-    stream.write(&right.to_le_bytes());
     stream.finish()
 }

@@ -4,15 +4,17 @@ ghost use Rattle.std.specs.Prelude.{◌≡◌};
 ghost use Rattle.komihash.specs.Hash.{komi};
 ghost use Rattle.examples.specs.Trees.{node};
 
-use crate::numbers::hash_of_two;
-use komihash::komihash;
+use komihash::{StreamedKomihash, komihash};
 
 /// Hashes two hashes.
 #[tactic(auto, unfolding(crate::specs::Trees::node))]
 pub fn hash_of_node(left: u64, right: u64) -> u64
     ensures { result ≡ node left right }
 {
-    hash_of_two(left, right)
+    let mut stream = StreamedKomihash::new();
+    stream.write(&left.to_le_bytes());
+    stream.write(&right.to_le_bytes());
+    stream.finish()
 }
 
 /// Hashes the tree of four leaves.

@@ -8,7 +8,7 @@ use Rattle.std.proofs.lemmas.Bool.{cases_lt}
 use Rattle.std.proofs.lemmas.Bool.Decides.{nat_tests}
 use Rattle.std.proofs.lemmas.Grind.{elements}
 use Rattle.komihash.specs.Hash.{komi, hash_from_pair}
-use Rattle.komihash.specs.Padding.{KeepsTopBit, pads_with_two, padding_byte}
+use Rattle.komihash.specs.Padding.{pads_with_two, padding_byte}
 use Rattle.komihash.specs.Rounds.{join, closing}
 use Rattle.komihash.specs.Saved.{IsTextAfter}
 use Rattle.komihash.specs.Internals.{stored_words, whole_words, block_lanes, after_blocks, tail_end}

@@ -18,7 +18,8 @@
 // Rust: //! # Where to find
 // Rust: //!
 // Rust: //! - to save and resume a stream: [`save`](version::StreamedKomihash::save)
-// Rust: //! - to seed a map: [`KomiBuildHasher`](v5::KomiBuildHasher)
+// Rust: //! - to seed a map: [`KomiBuildHasher`]
+// Rust: //! - to hash a file: with the feature `std`, [`StreamedKomihash`] is a `std::io::Write`
 // Rust: //! - to draw random numbers: [`Komirand`]
 // Rust: //! - for code that is generic over the version: [`version`]
 // Rust: //! - for lists of calls, and streams of your own type: [`stream`]
@@ -28,6 +29,7 @@
 // Rust: #![allow(clippy::int_plus_one, clippy::manual_is_multiple_of)]
 
 // Rust: #[doc(inline)]
+// Rust instead: pub use v5::{KomiBuildHasher, KomiHasher, Komirand, StreamedKomihash, komihash};
 pub use v5::{KomiHasher, Komirand, StreamedKomihash, komihash};
 
 mod generator;

@@ -63,8 +63,9 @@ pub fn run<R: Read, W: Write>(
     requires output { output.old.failed ≡ false }
     ensures ended { IfOk input.old (λ old. IsOkAnd input.new (λ new.
         EndsAsAsked result asked R.remaining old new W.contents output.old output.new)) }
-    ensures no_buffer { IsErr input.old → (result ≡ Ending.Refused Refusal.NoMemory)
-        × (input.new ≡ input.old) × (output.new ≡ output.old) }
+    ensures no_memory { IsErr input.old → result ≡ Ending.Refused Refusal.NoMemory }
+    ensures unread { IsErr input.old → input.new ≡ input.old }
+    ensures unwritten { IsErr input.old → output.new ≡ output.old }
 {
     let Ok(input) = input else {
         return Ending::Refused(Refusal::NoMemory);

@@ -99,6 +99,12 @@ static KOMIHASH(_stream) state_of(PyObject *self) {
     return state;
 }
 
+static void set_state(PyObject *self, KOMIHASH(_stream) state) {
+    Stream *stream = locked(self);
+    stream->state = state;
+    unlock(stream);
+}
+
 static PyObject *new_stream(PyTypeObject *type, PyObject *args, PyObject *names) {
     Stream *stream = (Stream *)PyType_GenericAlloc(type, 0);
     if (stream != NULL)
@@ -115,10 +121,12 @@ static int start_stream(PyObject *self, PyObject *args, PyObject *names) {
                                      &ignored) ||
         (number != NULL && !is_word(number, &seed)))
         return -1;
-    Stream *stream = locked(self);
-    stream->state = KOMIHASH(_start)(seed);
-    unlock(stream);
-    return data == NULL || absorb(self, data) ? 0 : -1;
+    const KOMIHASH(_stream) before = state_of(self);
+    set_state(self, KOMIHASH(_start)(seed));
+    if (data == NULL || absorb(self, data))
+        return 0;
+    set_state(self, before);
+    return -1;
 }
 
 static void drop_stream(PyObject *self) {

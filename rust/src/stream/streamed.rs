@@ -28,6 +28,13 @@ where
     Versions: IsVersion<V>,
 {
     /// Returns the new stream of seed 0.
+    ///
+    /// ```
+    /// use komihash_rattle::StreamedKomihash;
+    /// use std::sync::Mutex;
+    /// static LOG: Mutex<StreamedKomihash> = Mutex::new(StreamedKomihash::new());
+    /// LOG.lock().unwrap().write(b"port");
+    /// ```
     #[must_use]
     #[inline]
     pub const fn new() -> Self {

@@ -251,19 +251,22 @@ fn hashers_of_values() {
 fn types_have_the_traits_that_users_expect() {
     fn is<T: Send + Sync + Unpin + Clone + std::fmt::Debug>() {}
     fn is_compared<T: Send + Sync + Unpin + Clone + std::fmt::Debug + Eq>() {}
-    fn is_copied<T: Copy + Default>() {}
+    fn is_copied<T: Copy>() {}
     is::<StreamedKomihash>();
     is_compared::<Komirand>();
     is_compared::<KomiHasher>();
     is_compared::<KomiBuildHasher>();
     is_compared::<Call<'_>>();
     is_copied::<KomiBuildHasher>();
+    is_copied::<Call<'_>>();
+    assert!(Call::Answer != Call::Absorb(b"") && Call::Absorb(b"a") != Call::Absorb(b"b"));
     assert!(KomiHasher::new(1) == KomiHasher::new(1) && KomiHasher::new(1) != KomiHasher::new(2));
     assert_eq!([1, 2].map(KomiBuildHasher::new), [1, 2].map(KomiBuildHasher::new));
     assert!(KomiBuildHasher::new(1) != KomiBuildHasher::new(2));
     assert!(Komirand::new(1, 1) == Komirand::new(1, 1));
     assert!([(1, 2), (2, 1)].iter().all(|it| Komirand::new(it.0, it.1) != Komirand::new(1, 1)));
     assert_eq!(format!("{:?}", KomiHasher::new(1)), "KomiHasher { number: 1 }");
+    assert_eq!(format!("{:?}", KomiBuildHasher::new(1)), "KomiBuildHasher { seed: 1 }");
     assert_eq!(format!("{:?}", Komirand::new(1, 2)), "Komirand { s1: 1, s2: 2 }");
     let (stream, default) = (StreamedKomihash::new(), StreamedKomihash::default());
     assert_eq!([stream.finish(), default.finish()], [komihash(b"", 0); 2]);
@@ -304,6 +307,7 @@ fn readers_are_copied_into_streams() {
     assert_eq!(copy(&mut Failing(0), &mut stream).unwrap_err().to_string(), "no more");
     assert_eq!(stream.finish(), komihash(&[7; 15], 3));
     stream.flush().unwrap();
+    assert_eq!(Write::write(&mut stream, &[]).unwrap(), 0);
     assert_eq!(Write::write(&mut stream, &[7; 99_000]).unwrap(), 99_000);
     assert_eq!(copy(&mut &[7; 9000][..], &mut stream).unwrap(), 9000);
     assert_eq!(stream.finish(), komihash(&[7; 108_015], 3));
@@ -321,8 +325,8 @@ fn too_little_room_is_reported_at_the_caller() {
     panics_here(line!(), || _ = unpad(&[1, 1], &mut [0; 15]));
     panics_here(line!(), || _ = run::<StreamedKomihash>(0, &[Call::Answer], &mut []));
     // It has no answer to write, but each call needs room.
-    const ABSORB: [Call<'_>; 1] = [Call::Absorb(b"")];
-    panics_here(line!(), || _ = run_on(&mut StreamedKomihash::new(), &ABSORB, &mut []));
+    const ABSORB: [Call<'_>; 2] = [Call::Absorb(b""); 2];
+    panics_here(line!(), || _ = run_on(&mut StreamedKomihash::new(), &ABSORB, &mut [0]));
 }
 
 /// Whether a call panics, and reports this line of this file.

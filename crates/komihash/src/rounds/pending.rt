@@ -70,6 +70,7 @@ fn append_below_eight(words: &mut [u64; 8], len: usize, bytes: &[u8])
 }
 
 // Appends those of eight or more bytes that complete the partial word.
+// The words from `gap` on and below `gap_end`, as callers choose, are missing. <!-- Rattle -->
 #[inline(always)]
 fn append_within_word(words: &mut [u64; 8], len: usize, bytes: &[u8])
     requires pending { ArePending words.old len }

@@ -5,7 +5,7 @@
 
 ghost use Rattle.std.specs.Prelude.{◌≡◌, ◌+◌, ◌<◌, ◌≤◌, ℕ, List, IfSome, length, take, drop};
 ghost use Rattle.komihash.specs.Counts.{Costs, absorb_products, answer_products, absorb_kept_bytes};
-ghost use Rattle.komihash.specs.Saved.{Stored, Restored};
+ghost use Rattle.komihash.specs.Saved.{text, IsTextAfter, Restored};
 ghost use Rattle.komihash.specs.Stream.{State, IsState, HasAbsorbed, absorb};
 ghost use Rattle.komihash.specs.Stream.{Started, Absorbed, Answered};
 
@@ -160,7 +160,16 @@ impl RawStream {
     where
         Versions: IsVersion<V>,
         requires { LONGEST_TEXT ≤ length out.old }
-        ensures { IsState V self.now → Stored V self.now out result }
+        ensures length { result ≡ length (text V self.now) }
+        ensures most { result ≤ LONGEST_TEXT }
+        ensures version { IsState V self.now → (w : ℕ) (s : State) → IsState w s
+            → text w s ≡ text V self.now → w ≡ V }
+        ensures only { IsState V self.now → (w : ℕ) (s : State) → IsState w s
+            → text w s ≡ text V self.now → s ≡ self.now }
+        ensures text { take result out.new ≡ text V self.now }
+        ensures message { IsState V self.now → (seed : ℕ) (m : List ℕ)
+            → HasAbsorbed V seed self.now m → IsTextAfter V seed m (take result out.new) }
+        ensures rest { drop result out.new ≡ drop result out.old }
     {
         saved::write_head::<V>(self.had_block, self.top_bit, self.pending.len(), out);
         saved::write_lanes(&self.lanes, out);

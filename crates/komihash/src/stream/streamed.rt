@@ -46,6 +46,13 @@ where
     Versions: IsVersion<V>,
 {
     /// Returns the new stream of seed 0.
+    // Rust: ///
+    // Rust: /// ```
+    // Rust: /// use komihash_rattle::StreamedKomihash;
+    // Rust: /// use std::sync::Mutex;
+    // Rust: /// static LOG: Mutex<StreamedKomihash> = Mutex::new(StreamedKomihash::new());
+    // Rust: /// LOG.lock().unwrap().write(b"port");
+    // Rust: /// ```
     // Rust: #[must_use]
     #[inline]
     // Rust instead: pub const fn new() -> Self

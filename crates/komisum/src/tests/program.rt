@@ -70,8 +70,9 @@ fn ran_as_promised<R: Read, W: Write>(
         × (output.new ≡ output.old)))) }
     ensures begun { IfOk input.old (λ _. MatchResult asked
         (λ _. (refusal : Refusal) → result ≢ Ending.Refused refusal) (λ _. ⊤)) }
-    ensures no_buffer { IsErr input.old → (result ≡ Ending.Refused Refusal.NoMemory)
-        × (input.new ≡ input.old) × (output.new ≡ output.old) }
+    ensures no_memory { IsErr input.old → result ≡ Ending.Refused Refusal.NoMemory }
+    ensures unread { IsErr input.old → input.new ≡ input.old }
+    ensures unwritten { IsErr input.old → output.new ≡ output.old }
 {
     run(asked, input, output)
 }
