@@ -124,7 +124,10 @@ needs "clang lld $debian" 'the library for C links for macOS, with the names of 
 needs python3 'erase.py is not misled' python3 -B rust/tests/erase.py
 needs 'python3 rustfmt' 'rust/src is erased from the source' erased
 always needs cargo 'the crate for Rust is packed, and builds as it is unpacked' unpack_crate
-needs cargo 'the crate for Rust, with debug assertions' in_crate cargo test --offline --all-features
+for features in '' --all-features; do
+    needs cargo "the crate for Rust, with debug assertions $features" \
+        in_crate cargo test --offline $features
+done
 RUSTFLAGS='-C target-cpu=native' needs cargo 'the crate for Rust, for this processor' \
     in_crate cargo test --offline --release --all-features --tests
 needs cargo-clippy 'the crate for Rust, by clippy (optional)' \

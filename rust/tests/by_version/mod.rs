@@ -158,7 +158,7 @@ impl KomiStream for Recorder {
     }
 
     fn store(&self, _: &mut [u8]) -> usize {
-        unreachable!()
+        panic!("`out` is too short")
     }
 
     fn restore(_: &[u8]) -> Option<Self> {
@@ -191,7 +191,9 @@ fn lists_of_calls_on_one_stream() {
         assert_eq!(*answer, komihash(&joined, SEED));
         joined.extend(&message[..length]);
     }
+    out.fill(7);
     assert_eq!(run_on(&mut stream, &[Call::Absorb(b"more")], &mut out), 0);
+    assert_eq!(out, [7; 12]);
     joined.extend(b"more");
     assert_eq!(stream.answer(), komihash(&joined, SEED));
 }
@@ -259,7 +261,7 @@ fn types_have_the_traits_that_users_expect() {
     is_compared::<Call<'_>>();
     is_copied::<KomiBuildHasher>();
     is_copied::<Call<'_>>();
-    assert!(Call::Answer != Call::Absorb(b"") && Call::Absorb(b"a") != Call::Absorb(b"b"));
+    assert!(Call::Answer != Call::Absorb(b"") && Call::Absorb(b"ab") != Call::Absorb(b"ac"));
     assert!(KomiHasher::new(1) == KomiHasher::new(1) && KomiHasher::new(1) != KomiHasher::new(2));
     assert_eq!([1, 2].map(KomiBuildHasher::new), [1, 2].map(KomiBuildHasher::new));
     assert!(KomiBuildHasher::new(1) != KomiBuildHasher::new(2));
@@ -308,9 +310,10 @@ fn readers_are_copied_into_streams() {
     assert_eq!(stream.finish(), komihash(&[7; 15], 3));
     stream.flush().unwrap();
     assert_eq!(Write::write(&mut stream, &[]).unwrap(), 0);
-    assert_eq!(Write::write(&mut stream, &[7; 99_000]).unwrap(), 99_000);
+    let long = vec![7; (2 << 20) + 1];
+    assert_eq!(Write::write(&mut stream, &long).unwrap(), long.len());
     assert_eq!(copy(&mut &[7; 9000][..], &mut stream).unwrap(), 9000);
-    assert_eq!(stream.finish(), komihash(&[7; 108_015], 3));
+    assert_eq!(stream.finish(), komihash(&[&long[..], &[7; 9015]].concat(), 3));
 }
 
 #[test]
@@ -318,6 +321,7 @@ fn too_little_room_is_reported_at_the_caller() {
     assert_eq!(LONGEST_TEXT, 131);
     panics_here(line!(), || _ = StreamedKomihash::new().save(&mut [0; 130]));
     panics_here(line!(), || _ = StreamedKomihash::new().store(&mut [0; 130]));
+    panics_here(line!(), || _ = Recorder(vec![]).store(&mut []));
     panics_here(line!(), || _ = pad(b"12345678", &mut [0; 1]));
     panics_here(line!(), || _ = pad(b"", &mut []));
     panics_here(line!(), || _ = unpad(&[0], &mut [0; 7]));
