@@ -59,13 +59,20 @@ static const struct option OPTIONS[] = {
     {0},
 };
 
-/* Reports a problem with a file, and returns false. Control characters are escaped as in bash. */
-static bool fail(const char *name, const char *problem) {
+/* Writes a name to standard error. Control characters are escaped as in bash. */
+static void show(const char *before, const char *name, const char *after) {
     char *shown = calloc(strlen(name) + 1, sizeof "$'\\377'"), *end = shown;
     for (; shown && *name; name++)
         end += sprintf(end, (*name & ~31) == 0 || *name == 127 ? "$'\\%03o'" : "%c", *name);
-    fprintf(stderr, "komihashsum: %s: %s\n", shown ? shown : "", problem);
+    fprintf(stderr, "%s%s%s", before, shown ? shown : "", after);
     free(shown);
+}
+
+/* Reports a problem with a file, and returns false. */
+static bool fail(const char *name, const char *problem) {
+    char after[256];
+    snprintf(after, sizeof after, ": %s\n", problem);
+    show("komihashsum: ", name, after);
     return false;
 }
 
@@ -92,7 +99,9 @@ static void show_progress(int file, const char *name, uint64_t length) {
     fprintf(stderr, CLEAR "%" PRIu64, "", length >> 20);
     if (fstat(file, &about) == 0 && about.st_size)
         fprintf(stderr, " of %" PRIu64, (uint64_t)about.st_size >> 20);
-    fprintf(stderr, " MiB  %.50s", name);
+    char part[51];
+    snprintf(part, sizeof part, "%s", name);
+    show(" MiB  ", part, "");
 }
 
 /* Sets `hash` to that of a file, and returns 0. If the file can't be read, returns why. */

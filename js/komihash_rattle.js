@@ -14,12 +14,20 @@ const bytes = new Uint8Array(memory.buffer);
 const room = bytes.subarray(piece, piece + ROOM);
 const encoder = new TextEncoder();
 
+// These take buffers of any page or worker, and throw for anything else.
+const lengths = [ArrayBuffer, globalThis.SharedArrayBuffer].filter((it) => it !== undefined)
+    .map((it) => Object.getOwnPropertyDescriptor(it.prototype, "byteLength").get);
+function isBuffer(data) {
+    return lengths.some((length) => {
+        try { return length.call(data) >= 0; } catch { return false; }
+    });
+}
+
 /** Returns the bytes of anything but a string. */
 function viewed(data) {
     if (ArrayBuffer.isView(data))
         return new Uint8Array(data.buffer, data.byteOffset, data.byteLength);
-    if (/^\[object (Shared)?ArrayBuffer\]$/.test(Object.prototype.toString.call(data)))
-        return new Uint8Array(data);
+    if (isBuffer(data)) return new Uint8Array(data);
     throw new TypeError("the data must be an ArrayBuffer, a view of one, or for a hash a string");
 }
 

@@ -65,9 +65,10 @@ for (const call of [...seeded, (it) => new Komirand(0n, it)]) {
 for (const seed of [7, "7"])
     // @ts-expect-error
     test("no bigint", throws(TypeError, () => komihash("", seed)));
+const lying = { [Symbol.toStringTag]: "ArrayBuffer" };
 for (const call of [komihash, (it) => new Komihash().update(it), Komihash.resume])
     // @ts-expect-error
-    test("no bytes", [null, 7, [7], {}].every((it) => throws(TypeError, () => call(it))));
+    test("no bytes", [null, 7, [7], {}, lying].every((it) => throws(TypeError, () => call(it))));
 test("a wrong text", throws(RangeError, () => Komihash.resume(long)));
 class Counting extends Komihash { count = 0; update(it) { this.count++; return super.update(it); } }
 test("a subclass", new Counting().update(long).count === 1);

@@ -1,7 +1,8 @@
 #!/usr/bin/env python3
 """Checks that what stands in two places is the same: each block of Rattle in CALLING is a part of a
 file of crates/examples, what twins say of the two versions differs in the number alone, what users
-take has the licence, and each link of a page leads to a file that is there, and to a heading of it."""
+take has the licence, the lemmas that CLAIMS names are there, and each link of a page leads to a
+file that is there, and to a heading of it."""
 
 import re
 from pathlib import Path
@@ -20,6 +21,12 @@ def leads_somewhere(page, link):
         return target.exists()
     heads = re.findall("^#+ (.*)", FENCED.sub("", target.read_text("utf-8")), re.MULTILINE)
     return anchor in [re.sub(r"[^\w -]", "", head.lower()).replace(" ", "-") for head in heads]
+
+
+def proved(file, name):
+    """Whether a file of proofs has a lemma or a ruleset of this name, for others."""
+    text = (ROOT / f"crates/komihash/proofs/{file}.antt").read_text("utf-8")
+    return re.search(rf"^ *pub (?:ruleset )?{re.escape(name)}\b", text, re.MULTILINE)
 
 
 calling = (ROOT / "CALLING.md").read_text("utf-8")
@@ -45,6 +52,10 @@ checks.append(("CALLING has blocks", CODE.search(calling)))
 for code in CODE.findall(calling):
     checks.append((f"the block `{code.splitlines()[0]}`", any(code in text for text in examples)))
 checks.append(("CALLING has links", LINK.search(calling)))
+claims = (ROOT / "docs/CLAIMS.md").read_text("utf-8")
+lemmas = re.findall(r"`([A-Z]\w+)::([\w-]+)`[^|\n]*\|$", claims, re.MULTILINE)
+checks.append(("CLAIMS names lemmas", lemmas))
+checks += [(f"{file} has {name}", proved(file, name)) for file, name in lemmas]
 names = [page.relative_to(ROOT) for page in ROOT.rglob("*.md")]
 for name in sorted(name for name in names if "out" not in name.parts):
     for link in LINK.findall((ROOT / name).read_text("utf-8")):

@@ -91,10 +91,11 @@ refuses() {
 }
 # What a terminal gets, between carriage returns.
 shows_progress() {
-    script -qec "$RUN '$built' --progress '$tree/large'" /dev/null \
+    odd=$scratch/large$(printf '\033') && ln -s tree/large "$odd" || return
+    script -qec "$RUN '$built' --progress '$odd'" /dev/null \
         < /dev/null | tr '\r' '\n' > "$scratch/shown"
-    grep '^0 of 0 MiB  .*large' "$scratch/shown" && grep "^$(komihashsum "$tree/large")" \
-        "$scratch/shown" && ! komihashsum --progress "$tree/large" 2>&1 | grep MiB
+    grep "^0 of 0 MiB  .*large\$'.033'" "$scratch/shown" && grep "^$(komihashsum "$odd")" \
+        "$scratch/shown" && ! komihashsum --progress "$odd" 2>&1 | grep MiB
 }
 one_space() { (cd "$tree" && komihashsum plain | sed 's/  / /' | komihashsum --check); }
 odd_on_windows() (
