@@ -7,6 +7,7 @@
 #include <fcntl.h>
 #include <getopt.h>
 #include <inttypes.h>
+#include <limits.h>
 #include <komihash_rattle.h>
 #include <stdio.h>
 #include <stdlib.h>
@@ -59,12 +60,12 @@ static const struct option OPTIONS[] = {
     {0},
 };
 
-/* Writes a name to standard error. Control characters are escaped as in bash. */
-static void show(const char *before, const char *name, const char *after) {
+/* Writes a name to standard error, at most so many bytes of it. Control characters are escaped. */
+static void show(const char *before, const char *name, int most, const char *after) {
     char *shown = calloc(strlen(name) + 1, sizeof "$'\\377'"), *end = shown;
     for (; shown && *name; name++)
         end += sprintf(end, (*name & ~31) == 0 || *name == 127 ? "$'\\%03o'" : "%c", *name);
-    fprintf(stderr, "%s%s%s", before, shown ? shown : "", after);
+    fprintf(stderr, "%s%.*s%s", before, most, shown ? shown : "", after);
     free(shown);
 }
 
@@ -72,7 +73,7 @@ static void show(const char *before, const char *name, const char *after) {
 static bool fail(const char *name, const char *problem) {
     char after[256];
     snprintf(after, sizeof after, ": %s\n", problem);
-    show("komihashsum: ", name, after);
+    show("komihashsum: ", name, INT_MAX, after);
     return false;
 }
 
@@ -99,9 +100,7 @@ static void show_progress(int file, const char *name, uint64_t length) {
     fprintf(stderr, CLEAR "%" PRIu64, "", length >> 20);
     if (fstat(file, &about) == 0 && about.st_size)
         fprintf(stderr, " of %" PRIu64, (uint64_t)about.st_size >> 20);
-    char part[51];
-    snprintf(part, sizeof part, "%s", name);
-    show(" MiB  ", part, "");
+    show(" MiB  ", name, 50, "");
 }
 
 /* Sets `hash` to that of a file, and returns 0. If the file can't be read, returns why. */

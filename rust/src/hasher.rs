@@ -14,7 +14,8 @@ use core::hash::{BuildHasher, Hasher};
 ///
 /// What a value that implements `Hash` writes depends on the machine and on Rust's version. So
 /// use a hasher for maps alone, whose keys no attacker chooses, and `komihash` for what is
-/// stored, sent or sharded. `Debug` shows the number.
+/// stored, sent or sharded. A tuple costs a hash for each field, and a text two, so hashers that
+/// are made for maps are faster. `Debug` shows the number.
 #[derive(Debug, PartialEq, Eq, Clone)]
 pub struct KomiHasher<const V: u8>
 where

@@ -35,6 +35,32 @@ pub(crate) mod streamed;
 /// let five = hash_of_pieces::<v5::StreamedKomihash>(&[b"p", b"ort"]);
 /// assert_eq!(five, v5::komihash(b"port", 0));
 /// ```
+///
+/// A stream of your own may count what another one absorbs:
+///
+/// ```
+/// use komihash_rattle::stream::KomiStream;
+/// struct Counted<S>(S, u64);
+/// impl<S: KomiStream> KomiStream for Counted<S> {
+///     const VERSION: u8 = S::VERSION;
+///     fn start(seed: u64) -> Self {
+///         Counted(S::start(seed), 0)
+///     }
+///     fn absorb(&mut self, bytes: &[u8]) {
+///         self.1 += bytes.len() as u64;
+///         self.0.absorb(bytes);
+///     }
+///     fn answer(&self) -> u64 {
+///         self.0.answer()
+///     }
+///     fn store(&self, out: &mut [u8]) -> usize {
+///         self.0.store(out)
+///     }
+///     fn restore(bytes: &[u8]) -> Option<Self> {
+///         Some(Counted(S::restore(bytes)?, 0))
+///     }
+/// }
+/// ```
 pub trait KomiStream: Sized {
     /// The version: 4 or 5.
     const VERSION: u8;

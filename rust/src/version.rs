@@ -13,8 +13,19 @@
 //! assert_eq!(shard_of::<5>(b"port", 8), komihash_rattle::v5::komihash(b"port", 0) % 8);
 //! ```
 //!
-//! A version that is known only at run time takes a `match`, such as
-//! `match version { 4 => Some(v4::komihash(bytes, 0)), 5 => .., _ => None }`.
+//! A version that is known only at run time takes a `match`:
+//!
+//! ```
+//! use komihash_rattle::{v4, v5};
+//! fn hash(version: u8, message: &[u8]) -> Option<u64> {
+//!     match version {
+//!         4 => Some(v4::komihash(message, 0)),
+//!         5 => Some(v5::komihash(message, 0)),
+//!         _ => None,
+//!     }
+//! }
+//! assert_eq!(hash(6, b"port"), None);
+//! ```
 //!
 //! No other version has a type:
 //!

@@ -18,7 +18,8 @@ use std::marker::Model;
 // Rust: ///
 // Rust: /// What a value that implements `Hash` writes depends on the machine and on Rust's version. So
 // Rust: /// use a hasher for maps alone, whose keys no attacker chooses, and `komihash` for what is
-// Rust: /// stored, sent or sharded. `Debug` shows the number.
+// Rust: /// stored, sent or sharded. A tuple costs a hash for each field, and a text two, so hashers that
+// Rust: /// are made for maps are faster. `Debug` shows the number.
 // Rust: #[derive(Debug, PartialEq, Eq)]
 #[derive(Drop)]
 pub struct KomiHasher<const V: u8>

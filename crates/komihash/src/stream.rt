@@ -54,6 +54,32 @@ pub mod raw;
 // Rust: /// let five = hash_of_pieces::<v5::StreamedKomihash>(&[b"p", b"ort"]);
 // Rust: /// assert_eq!(five, v5::komihash(b"port", 0));
 // Rust: /// ```
+// Rust: ///
+// Rust: /// A stream of your own may count what another one absorbs:
+// Rust: ///
+// Rust: /// ```
+// Rust: /// use komihash_rattle::stream::KomiStream;
+// Rust: /// struct Counted<S>(S, u64);
+// Rust: /// impl<S: KomiStream> KomiStream for Counted<S> {
+// Rust: ///     const VERSION: u8 = S::VERSION;
+// Rust: ///     fn start(seed: u64) -> Self {
+// Rust: ///         Counted(S::start(seed), 0)
+// Rust: ///     }
+// Rust: ///     fn absorb(&mut self, bytes: &[u8]) {
+// Rust: ///         self.1 += bytes.len() as u64;
+// Rust: ///         self.0.absorb(bytes);
+// Rust: ///     }
+// Rust: ///     fn answer(&self) -> u64 {
+// Rust: ///         self.0.answer()
+// Rust: ///     }
+// Rust: ///     fn store(&self, out: &mut [u8]) -> usize {
+// Rust: ///         self.0.store(out)
+// Rust: ///     }
+// Rust: ///     fn restore(bytes: &[u8]) -> Option<Self> {
+// Rust: ///         Some(Counted(S::restore(bytes)?, 0))
+// Rust: ///     }
+// Rust: /// }
+// Rust: /// ```
 pub trait KomiStream: Sized + Drop {
     /// The version: 4 or 5.
     const VERSION: u8;

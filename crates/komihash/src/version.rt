@@ -12,8 +12,19 @@
 // Rust: //! assert_eq!(shard_of::<5>(b"port", 8), komihash_rattle::v5::komihash(b"port", 0) % 8);
 // Rust: //! ```
 // Rust: //!
-// Rust: //! A version that is known only at run time takes a `match`, such as
-// Rust: //! `match version { 4 => Some(v4::komihash(bytes, 0)), 5 => .., _ => None }`.
+// Rust: //! A version that is known only at run time takes a `match`:
+// Rust: //!
+// Rust: //! ```
+// Rust: //! use komihash_rattle::{v4, v5};
+// Rust: //! fn hash(version: u8, message: &[u8]) -> Option<u64> {
+// Rust: //!     match version {
+// Rust: //!         4 => Some(v4::komihash(message, 0)),
+// Rust: //!         5 => Some(v5::komihash(message, 0)),
+// Rust: //!         _ => None,
+// Rust: //!     }
+// Rust: //! }
+// Rust: //! assert_eq!(hash(6, b"port"), None);
+// Rust: //! ```
 // Rust: //!
 // Rust: //! No other version has a type:
 // Rust instead: //!

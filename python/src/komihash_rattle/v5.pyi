@@ -2,12 +2,13 @@ from typing import ClassVar, SupportsIndex, TypeVar
 
 from _typeshed import ReadableBuffer
 
-_Stream = TypeVar("_Stream", bound=komihash)
-_Generator = TypeVar("_Generator", bound=Komirand)
+_Stream = TypeVar("_Stream", bound=_Komihash)
+_Generator = TypeVar("_Generator", bound=_Komirand)
 
 def komihash_int(data: ReadableBuffer, /, seed: SupportsIndex = 0) -> int: ...
 
-class komihash:
+# What the classes of both versions have, of which none is a subclass of another.
+class _Komihash:
     name: ClassVar[str]
     digest_size: ClassVar[int]
     block_size: ClassVar[int]
@@ -27,7 +28,7 @@ class komihash:
     @classmethod
     def resume(cls: type[_Stream], text: ReadableBuffer, /) -> _Stream: ...
 
-class Komirand:
+class _Komirand:
     def __init__(self, seed: SupportsIndex, extra_seed: SupportsIndex | None = None) -> None: ...
     @classmethod
     def from_words(
@@ -35,3 +36,6 @@ class Komirand:
     ) -> _Generator: ...
     def next(self) -> int: ...
     def fill(self, length: SupportsIndex, /) -> bytes: ...
+
+class komihash(_Komihash): ...
+class Komirand(_Komirand): ...

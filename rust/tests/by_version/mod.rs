@@ -207,6 +207,7 @@ fn hashers_of_maps() {
     let (mut one, mut other) = (KomiHasher::new(1), KomiHasher::new(1));
     (7u64, "port").hash(&mut one);
     one.clone().write(b"more");
+    assert_eq!(one.clone().finish(), one.finish());
     (7u64, "port").hash(&mut other);
     assert_eq!(one.finish(), other.finish());
 }
@@ -225,6 +226,7 @@ fn hashers_of_a_seed() {
     let mut map = HashMap::with_hasher(build);
     map.insert("port", 443);
     assert_eq!((map["port"], map.get("host")), (443, None));
+    assert_eq!(map.clone()["port"], 443);
     let hash = map.hasher().hash_one((9_u64, 8_u16));
     assert_eq!(hash, komihash(&8_u16.to_ne_bytes(), build.hash_one(9_u64)));
     assert_eq!(build.hash_one(9_u64), komihash(&9_u64.to_ne_bytes(), SEED));
