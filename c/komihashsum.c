@@ -60,7 +60,7 @@ static const struct option OPTIONS[] = {
     {0},
 };
 
-/* Writes a name to standard error, at most so many bytes of it. Control characters are escaped. */
+/* Writes a name to standard error with control characters escaped, and at most so many bytes. */
 static void show(const char *before, const char *name, int most, const char *after) {
     char *shown = calloc(strlen(name) + 1, sizeof "$'\\377'"), *end = shown;
     for (; shown && *name; name++)

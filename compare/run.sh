@@ -8,7 +8,7 @@
 #   run.sh verify [OPTION..]    shows that the machine code of the Rust crate, in the folder
 #                               KOMIHASH_CRATE, computes what the definition says: rust_crate.sh
 #
-# REPEATS is 201 if not given. LAYOUTS says in how many layouts of the machine code `bench` runs, 8
+# REPEATS is 151 if not given. LAYOUTS says in how many layouts of the machine code `bench` runs, 8
 # if unset, and BUILDS names some of the builds plain, fat, x86-64 and x86-64-v3. KOMIHASH_CRATE is
 # a folder with the Rust crate, where cargo has no registry, and RATTLE_CRATE one with another copy
 # of ../rust. CC compiles C, and RUSTFLAGS are for all Rust.
@@ -58,7 +58,7 @@ build() {
     LINK_TO=$here/out/$1 cargo rustc "${options[@]}" --bin "$bin" -- "${flags[@]}"
 }
 
-repeats=${2:-201} files=()
+repeats=${2:-151} files=()
 for build in ${BUILDS:-plain fat x86-64 x86-64-v3}; do
     (build "$build")
     for ((layout = 1; layout <= layouts; layout++)); do
