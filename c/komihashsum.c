@@ -60,29 +60,32 @@ static const struct option OPTIONS[] = {
     {0},
 };
 
-/* Writes a name to standard error with control characters escaped, and at most so many bytes. */
-static void show(const char *before, const char *name, int most, const char *after) {
+/* Prints to standard error at most so many bytes of a name, with control characters escaped, and
+ * a problem, where the format has them. */
+static void show(const char *format, int most, const char *name, const char *problem) {
     char *shown = calloc(strlen(name) + 1, sizeof "$'\\377'"), *end = shown;
     for (; shown && *name; name++)
         end += sprintf(end, (*name & ~31) == 0 || *name == 127 ? "$'\\%03o'" : "%c", *name);
-    fprintf(stderr, "%s%.*s%s", before, most, shown ? shown : "", after);
+    fprintf(stderr, format, most, shown ? shown : "", problem);
     free(shown);
 }
 
 /* Reports a problem with a file, and returns false. */
 static bool fail(const char *name, const char *problem) {
-    char after[256];
-    snprintf(after, sizeof after, ": %s\n", problem);
-    show("komihashsum: ", name, INT_MAX, after);
+    show("komihashsum: %.*s: %s\n", INT_MAX, name, problem);
     return false;
+}
+
+/* Reports what the system refused, and ends the program. */
+static void stop(const char *what) {
+    fail(what, strerror(errno));
+    _exit(1);
 }
 
 /* Writes what was printed, and returns 0. Ends the program if that fails. */
 static int flush(void) {
-    if (fflush(stdout) != 0 || ferror(stdout)) { /* which an earlier write may have set */
-        fail("write error", strerror(errno));
-        _exit(1);
-    }
+    if (fflush(stdout) != 0 || ferror(stdout)) /* which an earlier write may have set */
+        stop("write error");
     return 0;
 }
 
@@ -100,7 +103,7 @@ static void show_progress(int file, const char *name, uint64_t length) {
     fprintf(stderr, CLEAR "%" PRIu64, "", length >> 20);
     if (fstat(file, &about) == 0 && about.st_size)
         fprintf(stderr, " of %" PRIu64, (uint64_t)about.st_size >> 20);
-    show(" MiB  ", name, 50, "");
+    show(" MiB  %.*s%s", 50, name, "");
 }
 
 /* Sets `hash` to that of a file, and returns 0. If the file can't be read, returns why. */
@@ -174,10 +177,8 @@ static char *read_line(FILE *list, size_t *length) {
     size_t count = 0;
     int byte;
     while ((byte = getc(list)) != EOF && byte != '\n') {
-        if (count + 1 >= room && !(line = realloc(line, room = 2 * room + 256))) {
-            fail("a line", strerror(errno));
-            _exit(1);
-        }
+        if (count + 1 >= room && !(line = realloc(line, room = 2 * room + 256)))
+            stop("a line");
         line[count++] = byte;
     }
     *length = count - (count && line[count - 1] == '\r');

@@ -56,9 +56,10 @@ for (const view of [new DataView(long.buffer, 8, 80), new Uint16Array(long.buffe
 const rand = new Komirand(7n);
 test("outputs", new Komirand(7n).fill(new BigUint64Array(1e5)).every((it) => it === rand.next()));
 
-const seeded = [(it) => komihash("", it), (it) => new Komihash(it), (it) => new Komirand(it)];
-seeded.push((it) => Komirand.fromWords(it, 0n), (it) => Komirand.fromWords(0n, it));
-for (const call of [...seeded, (it) => new Komirand(0n, it)]) {
+const seeded = [(it) => komihash("", it), (it) => new Komihash(it)];
+const drawn = [(it) => new Komirand(it), (it) => new Komirand(0n, it)];
+const ofWords = [(it) => Komirand.fromWords(it, 0n), (it) => Komirand.fromWords(0n, it)];
+for (const call of [...seeded, ...drawn, ...ofWords]) {
     test("a wrong seed", [-1n, 2n ** 64n].every((it) => throws(RangeError, () => call(it))));
     test("the highest seed", call(2n ** 64n - 1n) !== undefined);
 }

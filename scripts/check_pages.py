@@ -35,16 +35,17 @@ files = [file for kind in kinds for file in (ROOT / "crates/examples").glob(kind
 examples = [file.read_text("utf-8") for file in files]
 
 checks = []
-for crate in ("komihash", "komihash_c"):
-    head = re.compile("^(?:// Rust: )?//!.*\n", re.MULTILINE)
-    twins = {file.stem[1]: head.sub("", file.read_text("utf-8"))
-             for file in (ROOT / f"crates/{crate}/src").glob("v?.rt")}
-    same = all(twin == twins["5"].replace("5", n) for n, twin in twins.items())
-    checks.append((f"the versions in {crate}", same and len(twins) > 1))
+head = re.compile("^(?:// Rust: )?//!.*\n", re.MULTILINE)
 promises = (ROOT / "crates/promises/src/calls.rt").read_text("utf-8")
-impls = re.findall(r"^impl Promises for v(\d)(.*?)^}", promises, re.DOTALL | re.MULTILINE)
-same = len({body.replace(f"v{n}", "v") for n, body in impls}) == 1
-checks.append(("the versions in promises", same and len(impls) > 1))
+versions = {"promises": re.findall(r"^impl Promises for v(\d)(.*?)^}", promises,
+                                   re.DOTALL | re.MULTILINE)}
+for crate in ("komihash", "komihash_c"):
+    versions[crate] = [(file.stem[1], head.sub("", file.read_text("utf-8")))
+                       for file in (ROOT / f"crates/{crate}/src").glob("v?.rt")]
+for crate, texts in versions.items():
+    five = dict(texts)["5"]
+    same = all(text == five.replace("5", n) for n, text in texts)
+    checks.append((f"the versions in {crate}", same and len(texts) > 1))
 for folder in ("crates/komihash", "rust", "python", "js"):
     licences = {(ROOT / path / "LICENSE").read_text("utf-8") for path in (".", folder)}
     checks.append((f"the licence in {folder}", len(licences) == 1))
@@ -53,7 +54,8 @@ for code in CODE.findall(calling):
     checks.append((f"the block `{code.splitlines()[0]}`", any(code in text for text in examples)))
 checks.append(("CALLING has links", LINK.search(calling)))
 claims = (ROOT / "docs/CLAIMS.md").read_text("utf-8")
-lemmas = re.findall(r"`([A-Z]\w+)::([\w-]+)`[^|\n]*\|$", claims, re.MULTILINE)
+lemmas = [lemma for cell in re.findall(r"\|([^|\n]*)\|$", claims, re.MULTILINE)
+          for lemma in re.findall(r"`([A-Z]\w+)::([\w-]+)`", cell)]
 checks.append(("CLAIMS names lemmas", lemmas))
 checks += [(f"{file} has {name}", proved(file, name)) for file, name in lemmas]
 names = [page.relative_to(ROOT) for page in ROOT.rglob("*.md")]

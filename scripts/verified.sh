@@ -1,6 +1,6 @@
 # Verifies machine code of the library for C and of both crates for Rust, and tests that check.
-# packages.sh sources this file, which uses its variables `scratch`, `python`, `arm` and `debian`, and
-# its functions `in_package` and `from_rust`.
+# packages.sh sources this file, which uses its functions `in_package` and `from_rust`, and its
+# variables `scratch`, `python`, `arm` and `debian`.
 
 # These are the builds that every processor can run, and a function by a second solver too. Of the
 # crate for Rust on ARM64, it is the hash, writes and answers of one version.

@@ -185,8 +185,9 @@ fn lists_of_calls_on_one_stream() {
     let lengths = [0, 7, 64, 200, 1, 130];
     let calls = lengths.map(|it| [Call::Answer, Call::Absorb(&message[..it])]).concat();
     let (mut stream, mut out) = (StreamedKomihash::start(SEED), [0; 12]);
+    stream.absorb(&message[..64]);
     assert_eq!(run_on(&mut stream, &calls, &mut out), 6);
-    let mut joined = Vec::new();
+    let mut joined = message[..64].to_vec();
     for (answer, length) in out.iter().zip(lengths) {
         assert_eq!(*answer, komihash(&joined, SEED));
         joined.extend(&message[..length]);
