@@ -19,7 +19,8 @@ cd "$(dirname "${BASH_SOURCE[0]}")/../crates/komihash_c"
 #   start of each function that C calls an instruction that does nothing on other processors.
 # For x86-64, the option slp-threshold makes LLVM store new streams as vectors, which it does by
 # itself for newer processors. Without it, `start` takes 16% longer. By align-all-functions, each
-# function begins where 64 bytes do. Elsewhere, hashes of 8 bytes may take 10% longer.
+# function begins where 64 bytes do. Elsewhere, hashes of 8 bytes may take 10% longer. On ARM64, x18
+# belongs to the platform, which may keep something there, so the assembly leaves it alone.
 mkdir "$scratch/bin" "$scratch/made"
 ln -s "$kit"/toolchain/bin/{ld.lld,llvm-ar} "$scratch/bin/"
 ln -s "$kit/toolchain/lib" "$scratch/"
@@ -44,6 +45,7 @@ set -- "${@/#module.bc/$scratch/module.ll}"
 words=("${@/#-c/-S}")
 ! grep -q '"target-cpu"="x86-64"' "$scratch/module.ll" ||
     words+=(-mllvm -slp-threshold=-2 -mllvm -align-all-functions=6)
+! grep -q 'target triple = "aarch64' "$scratch/module.ll" || words+=(-ffixed-x18)
 "$clang" "${words[@]/module.o/$scratch/module.s}" -fno-addrsig -fno-verbose-asm
 exec "$clang" "$@"
 END

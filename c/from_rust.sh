@@ -28,9 +28,13 @@ case $file in
 *.s) kind=staticlib files=link=$scratch/all.a,asm=$file ;;
 *) kind=staticlib files=link=$scratch/all.a,obj=$file ;;
 esac
-compile() { # LLVM would make calls of memcpy from loops that copy.
+# LLVM would make calls of memcpy from loops that copy, and on ARM64 use x18, in which platforms may
+# keep something.
+llvm='-disable-loop-idiom-memcpy'
+case $target in aarch64*) llvm="$llvm -reserve-regs-for-regalloc=X18" ;; esac
+compile() {
     $rustc --target "$target" --cap-lints allow -C opt-level=3 -C codegen-units=1 -C panic=abort \
-        -C force-unwind-tables=yes -C llvm-args=-disable-loop-idiom-memcpy "$@"
+        -C force-unwind-tables=yes -C "llvm-args=$llvm" "$@"
 }
 compile "$@" --edition "$(sed -n 's/^edition = "\(.*\)"/\1/p' "$crate/Cargo.toml")" \
     --crate-name komihash_rattle --crate-type rlib --out-dir "$scratch" "$crate/src/lib.rs"

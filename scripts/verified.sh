@@ -2,10 +2,12 @@
 # packages.sh sources this file, which uses its functions `in_package` and `from_rust`, and its
 # variables `scratch`, `python`, `arm` and `debian`.
 
-# These are the builds that every processor can run, and a function by a second solver too. Of the
-# crate for Rust on ARM64, it is the hash, writes and answers of one version.
-part_with "$python" in_package verify LEVEL=x86-64
-part_with "cvc5 $python" in_package verify LEVEL=x86-64 SECOND=cvc5 FUNCTION=komihash_v5_save
+# These are all builds of the assembly, some functions by a second solver too, and the crate for
+# Rust, of which on ARM64 it is the hash, writes and answers of one version.
+part_with "$python" in_package verify
+part_with "$arm-gcc $python" in_package verify "CROSS=$arm-"
+part_with "cvc5 $python" in_package verify LEVEL=x86-64 SECOND=cvc5 \
+    'FUNCTION=komihash_v5 komihash_v5_finish komihash_v5_save'
 part_with "rustc $python" in_package verify FROM=rust LEVEL=x86-64-v2
 part_with "$arm-gcc $debian $python" from_rust aarch64-unknown-linux-gnu verify FROM=rust \
     "CROSS=$arm-" 'FUNCTION=komihash_v4 komihash_v4_write komihash_v4_finish'
@@ -25,6 +27,8 @@ if grep -qw avx2 /proc/cpuinfo; then
 else
     skip 'random instructions (optional)' 'a processor with AVX2'
 fi
+needs "$python $arm-gcc qemu-aarch64" 'unsound changes of the check are noticed' \
+    "$python" -B $tests/mutants.py "${libraries[@]}"
 needs "$python $arm-gcc qemu-aarch64" \
     'random instructions of ARM64 do in the model what they do in an emulator' \
     "$python" -B $tests/instructions.py armv8-a $arm-gcc qemu-aarch64 -L /usr/$arm

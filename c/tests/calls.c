@@ -165,4 +165,5 @@ int main(void) {
         print_value(fields, end);
         puts("");
     }
+    return 0;
 }

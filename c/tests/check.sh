@@ -139,6 +139,14 @@ beside_a_copy() {
         $CC -fsyntax-only -I "$prefix/include/komihash_rattle" "$scratch/copy/original.c"
 }
 
+# Whether programs keep their shadow call stack, which only ARM64 has, in calls of both versions.
+keeps_shadow_stack() {
+    for number in 4 5; do
+        compiler=$clang runs -O1 -fsanitize=shadow-call-stack -ffixed-x18 -D "VERSION=$number" \
+            -I "$prefix/include" tests/shadow.c "$archive" || return
+    done
+}
+
 # Whether gdb finds its way from each instruction of these versions in a library to main.
 unwinds() { # LIBRARY NUMBER..
     library=$1
@@ -307,6 +315,9 @@ if [ ! "$CROSS" ]; then
     needs gdb 'gdb finds main where the library has lines of source code' \
         unwinds "$ASSEMBLY/${machine%%-*}.S" 5
 fi
+case $machine in aarch64*)
+    needs clang 'programs with a shadow call stack' keeps_shadow_stack
+esac
 compiler=$CC
 for target in aarch64_be:big-endian x86_64-linux-gnux32:64-bit; do
     needs clang "the header refuses ${target%:*}, by one error" refused_header $target

@@ -27,8 +27,8 @@ class Arm(Cpu):
     NAME = 'ARM64'
     DECODER = CS_ARCH_ARM64, CS_MODE_ARM
     ARGS, RESULTS = [f'x{n}' for n in range(8)], ('x0', 'x1')
-    SAVED = [*(f'x{n}' for n in range(19, 30)), 'sp']
-    SP, ABOVE, RED_ZONE, TABLE = 'sp', 0, 0, TABLE
+    SAVED = [*(f'x{n}' for n in range(18, 30)), 'sp']
+    SP, ABOVE, RED_ZONE, STEP, TABLE = 'sp', 0, 0, 4, TABLE
     LEVELS, is_known = ('armv8-a',), staticmethod(is_known)
     # The property of which features a file has marks for, those that are known (BTI, PAC), and the
     # mark of the first.
@@ -74,7 +74,7 @@ class Arm(Cpu):
         return a, self.get(i, k + 1, a.size())
 
     def put(self, i, k, value):
-        value = simple(value)
+        value = self.products.named(value)
         n, size = register(i.reg_name(i.ops[k].reg))
         if value.size() != size:
             raise unknown(i)

@@ -79,6 +79,13 @@ class Write(Blocks):
     NAME = '_write'
     STABLE = frozenset({'stream', 'last'})
 
+    def guess(self):
+        """What holds at the head for one number of pending bytes alone is dropped at once."""
+        super().guess()
+        case, self.case = self.case, (SOME_FILL + 1,)
+        self.begin()
+        self.case, self.invariants = case, {self.head: self.invariants[self.head]}
+
     def stable(self):
         """The turns are those of any write, so q, the bytes and their length mean nothing there."""
         return super().stable() - symbols(self.q)

@@ -137,7 +137,6 @@ def run_case(case):
     """Checks a case. Nothing may be claimed after an error of this program, either."""
     signal.signal(signal.SIGVTALRM, give_up)
     signal.setitimer(signal.ITIMER_VIRTUAL, SECONDS, 1)
-    terms.ANSWERS.clear()
     terms.ASKED[0] = 0
     begin, ran, depth, failure = time.process_time(), frozenset(), 0, None
     try:

@@ -17,10 +17,21 @@ class Products:
 
     Nothing is known of these symbols, so what is shown holds for any halves, also for the right
     ones. Code that multiplies the factors of a product here gets the same halves as the definition,
-    so it is given the same symbols. Therefore nothing needs to be known of multiplication."""
+    so it is given the same symbols. Therefore nothing needs to be known of multiplication. In the
+    same way, other values have symbols, by the numbers that Z3 gives their terms: so terms stay
+    small."""
 
     def __init__(self):
-        self.list = []
+        self.list, self.values = [], {}
+
+    def symbol(self, term):
+        term, symbol = simple(term), secret(f'value {len(self.values)} between products')
+        return self.values.setdefault(term.get_id(), (symbol, term))[0]
+
+    def named(self, term):
+        """The symbol of a term that code computes, or if it has none, the term."""
+        term = simple(term)
+        return self.values.get(term.get_id(), (term,))[0]
 
     def new(self, x, y):
         k = len(self.list)
@@ -30,21 +41,22 @@ class Products:
 
     def find(self, facts, a, b, made):
         """The number of the product with these factors, which is none of those already made."""
-        for k, (x, y, _, _) in enumerate(self.list):
-            for u, v in ((x, y), (y, x)):
-                if k not in made and facts.same(a, u) and facts.same(b, v):
-                    return k
+        for same in z3.eq, lambda one, other: facts.holds((), one == other):
+            for k, (x, y, _, _) in enumerate(self.list):
+                for u, v in ((x, y), (y, x)):
+                    if k not in made and same(a, u) and same(b, v):
+                        return k
         raise Refused('a product that the definition does not have, or has made already')
 
 
 def mix(products, x, y, e):
     low, high = products.new(x, y)
-    e = simple(e + high)
+    e = products.symbol(e + high)
     return simple(e ^ low), e
 
 
 def seed_pair(products, seed):
-    x, y = PI[0] ^ (seed & FIVES), PI[4] ^ (seed & TENS)
+    x, y = PI[0] ^ (seed & FIVES), products.symbol(PI[4] ^ (seed & TENS))
     return mix(products, x, y, y)
 
 
@@ -56,7 +68,7 @@ def block_round(products, version, s, block):
     w = [block[k] for k in PLACES[version]]
     r = [products.new(w[2 * k] ^ s[k], w[2 * k + 1] ^ s[4 + k]) for k in range(4)]
     # The new s5 to s8; before the first comes the last.
-    t = [simple(s[4 + k] + r[k][1]) for k in range(4)]
+    t = [products.symbol(s[4 + k] + r[k][1]) for k in range(4)]
     return [simple(t[k - 1] ^ r[k][0]) for k in range(4)] + t
 
 

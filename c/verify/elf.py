@@ -8,6 +8,7 @@ All of it is trusted: if a loader maps other bytes, or finds another address, th
 what was checked."""
 import collections
 import functools
+import re
 import struct
 from terms import Unknown
 
@@ -172,7 +173,7 @@ class Elf:
         self.symbols = [(self.string(name), *more) for name, *more in
                         self.array(SYMBOL, table[SYMBOLS], end + 1)]
         name = self.string(table.get(SONAME, 0))
-        need(SONAME not in table or name.startswith(b'libkomihash'),
+        need(SONAME not in table or re.fullmatch(rb'libkomihash[\w.-]*', name),
              f'a loader would take it for {name}')
 
     def read_hashes(self, at):

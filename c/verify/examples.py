@@ -1,5 +1,6 @@
 """Examples of what is wrong. Nothing here needs trust: it only words a refusal."""
-from terms import SYMBOLS, at_point, bv, choose, put_for, symbols
+import random
+from terms import SYMBOLS, bv, choose, part, put_for, resize, symbols
 
 
 def difference(end, found, wanted):
@@ -23,8 +24,11 @@ def example(end, found, wanted):
 
     def of_model(name):
         return model.eval(SYMBOLS.term[name], model_completion=True)
-    for number_of in (of_model, lambda name: at_point(0, name)[1],
-                      lambda name: at_point(1, name)[1]):
+
+    def at_random(name):
+        size = SYMBOLS.term[name].size()
+        return bv(random.getrandbits(size), size)
+    for number_of in of_model, at_random, at_random:
         one, other, values = evaluated(end.products, number_of, found, wanted)
         if one != other:
             break
@@ -36,13 +40,14 @@ def example(end, found, wanted):
 
 def evaluated(products, number_of, *terms):
     """The values of terms, and of the symbols in them by name."""
-    values = {}
+    values, made = {}, {str(symbol): term for symbol, term in products.values.values()}
+    for x, y, *halves in products.list:
+        product = resize(x, 128) * resize(y, 128)
+        made.update((str(half), part(product, 64 * k, 64)) for k, half in enumerate(halves))
 
     def value(term):
-        numbers = ((SYMBOLS.term[name], values.setdefault(name, number_of(name)))
-                   for name in symbols(term))
-        return put_for(term, *numbers).as_long()
-    for x, y, low, high in products.list:
-        product = value(x) * value(y)
-        values.update({str(low): bv(product & 2**64 - 1), str(high): bv(product >> 64)})
+        for name in symbols(term) - values.keys():
+            values[name] = bv(value(made[name])) if name in made else number_of(name)
+        return put_for(term, *((SYMBOLS.term[name], values[name])
+                               for name in symbols(term))).as_long()
     return *map(value, terms), values

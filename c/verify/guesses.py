@@ -71,8 +71,8 @@ def form_of(places, stable, first, second, word):
     for key in [*zip(count), *itertools.combinations(count, 2)]:
         def xored(words):
             return functools.reduce(operator.xor, (words[k] for k in key))
-        if first.facts.same(a, simple(xored(one.words))) and \
-                first.facts.same(b, simple(xored(other.words))):
+        if first.facts.holds((), a == xored(one.words)) and \
+                first.facts.holds((), b == xored(other.words)):
             return xored(places[3:])
     return None
 

@@ -34,6 +34,7 @@ class Image:
 
     def instruction(self, address):
         if address not in self.decoded:
+            need(address % self.processor.STEP == 0, f'{address:#x}: code that is not aligned')
             code = next(filter(None, (self.elf.at(address, size, EXECUTE)
                                       for size in range(LONGEST, 0, -1))), b'')
             i = next(self.decoder.disasm(code, address), None)

@@ -61,10 +61,10 @@ class Cpu:
     way is left out only if the solver finds that its condition contradicts the path.
 
     ABOVE is how many bytes a call has put on the stack, and RED_ZONE how many below the stack
-    pointer no signal handler writes. TABLE has the meaning of instructions by their names: a
-    function returns None to go on, an address to jump to, RETURN, or for a jump with a condition,
-    this and the address."""
-    NAME = DECODER = ARGS = RESULTS = SAVED = SP = ABOVE = RED_ZONE = TABLE = None
+    pointer no signal handler writes. Instructions lie at multiples of STEP. TABLE has their meaning
+    by their names: a function returns None to go on, an address to jump to, RETURN, or for a jump
+    with a condition, this and the address."""
+    NAME = DECODER = ARGS = RESULTS = SAVED = SP = ABOVE = RED_ZONE = STEP = TABLE = None
 
     def __init__(self, library, products):
         # All paths share these.

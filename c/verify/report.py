@@ -6,7 +6,7 @@ import argparse
 import hashlib
 import os
 import sys
-from cases import FUNCTIONS, NAMES, cases_of, open_library, run_case
+from cases import NAMES, cases_of, open_library, run_case
 from elf import MEMORY
 from layout import Ours
 from progress import Progress
@@ -63,25 +63,11 @@ def verify(level, path, args, layout):
     return len({*names} - {*failed}), len(failed)
 
 
-def positive(text):
-    if not text.isdecimal() or not int(text):
-        raise argparse.ArgumentTypeError(f'it must be a number above 0, and is {text!a}')
-    return int(text)
-
-
-def function(name):
-    if name not in NAMES:
-        raise argparse.ArgumentTypeError(
-            f'FUNCTION={name!a} is none of komihash_v4 and komihash_v5, alone and with each of'
-            f'{" ".join(FUNCTIONS)}')
-    return name
-
-
 def arguments(text):
     parser = argparse.ArgumentParser(prog='verify', description=text, usage=argparse.SUPPRESS)
     add = parser.add_argument
-    add('--function', nargs='+', type=function, metavar='NAME', default=NAMES)
-    add('--jobs', type=positive, default=len(os.sched_getaffinity(0)))
+    add('--function', nargs='+', choices=NAMES, metavar='NAME', default=NAMES)
+    add('--jobs', type=int, default=len(os.sched_getaffinity(0)))
     add('--some', action='store_true', help='a library may have only some of the functions')
     add('--red-zone', action='store_true',
         help='functions may use the 128 bytes below the stack pointer, as on Linux')

@@ -1,22 +1,22 @@
 """Terms: bit vectors of Z3 over symbols; and Facts, which asks Z3 what holds of them."""
 import collections
 import functools
-import random
+import os
 import second
 import z3
 
-# Z3 itself checks what it is passed, and raises an error; its Python module need not do so first.
-z3.z3.Z3_DEBUG = False
+# Z3 itself checks what it is passed. Its Python module need not do so first, nor ask for errors
+# after each call, since an error ends this process, and nothing is claimed then.
+z3.z3.Z3_DEBUG, z3.z3core.Elementaries.Check = False, lambda *_: None
+HANDLER = z3.Z3_set_error_handler(z3.main_ctx().ref(), lambda *_: (
+    os.write(2, b'verify: nothing is claimed: Z3 reports an error\n'), os._exit(2)))
 # Sums and xors of the same parts, in any order, become the same term.
 SIMPLIFY = z3.args2params([], {'bv_sort_ac': True})
 # The solvers that are asked one after the other, and how many steps each may make. The first is
 # quick with lengths, and the second with shifts of contents.
 SOLVERS = ((z3.Tactic('smt'), 10**5),
-           (z3.Then('simplify', 'propagate-values', 'solve-eqs', 'simplify', 'bit-blast', 'aig',
-                    'sat'), 3 * 10**5),
-           (z3.Tactic('qfbv'), 10**9))
-# What was answered in this case, the models that were found last, and how many questions were
-# asked.
+           (z3.Then('simplify', 'solve-eqs', 'simplify', 'bit-blast', 'sat'), 10**9))
+# What was answered, the models that were found last, and how many questions were asked in this case.
 ANSWERS, MODELS, ASKED = {}, collections.deque(maxlen=16), [0]
 
 
@@ -79,10 +79,22 @@ def is_public(term):
     return not symbols(term) & SYMBOLS.secret
 
 
+def coerced(a, b, context=None):
+    """The operands of an operator of two terms, as Z3's module has them. It makes objects for their
+    sorts first, which takes long."""
+    if isinstance(a, z3.BitVecRef) and isinstance(b, (int, z3.BitVecRef)):
+        return a, bv(b, width_of(a)) if isinstance(b, int) else b
+    return COERCED(a, b, context)
+
+
+COERCED, z3.z3._coerce_exprs = z3.z3._coerce_exprs, coerced
+
+
 def simple(term):
-    context = term.ctx
-    ast = z3.Z3_simplify_ex(context.ref(), term.as_ast(), SIMPLIFY.params)
-    return z3.z3._to_expr_ref(ast, context)
+    if isinstance(term, z3.BitVecNumRef):
+        return term
+    ast = z3.Z3_simplify_ex(term.ctx_ref(), term.as_ast(), SIMPLIFY.params)
+    return z3.z3._to_expr_ref(ast, term.ctx)
 
 
 def const(term):
@@ -124,10 +136,8 @@ def resize(term, width):
 
 
 def put_for(term, *pairs):
-    """A term with values in place of symbols: z3.substitute without its checks, which take long."""
-    of, to = ((z3.Ast * len(pairs))(*(pair[k].ast for pair in pairs)) for k in (0, 1))
-    ast = z3.Z3_substitute(term.ctx_ref(), term.as_ast(), len(pairs), of, to)
-    return simple(z3.z3._to_expr_ref(ast, term.ctx))
+    """A term with values in place of symbols."""
+    return simple(z3.substitute(term, *pairs))
 
 
 def choose(cond, yes, no):
@@ -143,20 +153,13 @@ def leading_zeros(term):
     return result
 
 
-@functools.lru_cache(maxsize=None)
-def at_point(point, name):
-    """The value of a symbol at a random point."""
-    term = SYMBOLS.term[name]
-    return term, bv(random.Random(f'{point} {name}').getrandbits(term.size()), term.size())
-
-
 class Facts:
     """What holds for the symbols. Conditions are asked on a path, a list of conditions that hold
     there too. The symbols stand for all values that the facts allow: what is shown, is shown by
     finding that its opposite has no model."""
 
     def __init__(self):
-        self.list, self.points = [], {}
+        self.list = []
 
     def add(self, *facts):
         self.list.extend(facts)
@@ -209,20 +212,6 @@ class Facts:
     def holding(self, path, conds):
         """The names of those conditions that hold on this path."""
         return {name for name, cond in conds.items() if self.holds(path, cond)}
-
-    def point(self, term):
-        """The values of a term at three random points."""
-        known = self.points.get(term.get_id())
-        if known is None:
-            names = symbols(term)
-            values = [const(put_for(term, *(at_point(k, n) for n in names))) for k in range(3)]
-            known = self.points[term.get_id()] = term, tuple(values)
-        return known[1]
-
-    def same(self, a, b):
-        """Whether two terms are equal. The answer is no, at no cost, if they differ at a random
-        point. The facts may leave that point out, so some are missed."""
-        return self.point(a) == self.point(b) and (z3.eq(a, b) or self.holds((), a == b))
 
     def values(self, term, path, most):
         """The values that a term can have on this path; None if there are more."""

@@ -18,6 +18,9 @@ class Numbers(Products):
         product = const(simple(x)) * const(simple(y))
         return bv(product & 2**64 - 1), bv(product >> 64)
 
+    def symbol(self, term):
+        return simple(term)
+
 
 NUMBERS = Numbers()
 
@@ -81,20 +84,15 @@ CALLS = {
     'init_with_extra_seed': lambda version, *given: fills(version, *given[:2], 32, *given[2:])[64:]}
 
 
-def check_values(name, count):
-    """Computes the values of a file."""
-    with open(os.path.join(FOLDER, name)) as file:
-        rows = [line.rstrip('\n').split('\t') for line in file if line[0] != '#']
-    if len(rows) != count:
-        raise Unknown(f'{name} has {len(rows)} values, and not {count}')
-    for row in rows:
-        call, version, *given, wanted = row if row[0] in CALLS else ['komihash', *row]
-        found = CALLS[call](int(version), *given)
-        if found != wanted:
-            raise Unknown(f'the definition gives {found} and not {wanted} for {call} {given}')
-    print(f'the definition gives the {count} values of {name}')
-
-
 def check_all_values():
     for name, count in ROWS.items():
-        check_values(name, count)
+        with open(os.path.join(FOLDER, name)) as file:
+            rows = [line.rstrip('\n').split('\t') for line in file if line[0] != '#']
+        if len(rows) != count:
+            raise Unknown(f'{name} has {len(rows)} values, and not {count}')
+        for row in rows:
+            call, version, *given, wanted = row if row[0] in CALLS else ['komihash', *row]
+            found = CALLS[call](int(version), *given)
+            if found != wanted:
+                raise Unknown(f'the definition gives {found} and not {wanted} for {call} {given}')
+        print(f'the definition gives the {count} values of {name}')

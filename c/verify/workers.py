@@ -12,7 +12,7 @@ def results(jobs, do, tasks, begin=None):
         try:
             yield from (one.result() for one in as_completed(pool.submit(do, t) for t in tasks))
         except BrokenProcessPool:
-            raise Unknown('a process was killed, perhaps because memory ran out') from None
+            raise Unknown('a process ended, perhaps because memory ran out') from None
         finally:
             for process in multiprocessing.active_children():
                 process.terminate()

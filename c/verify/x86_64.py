@@ -32,7 +32,7 @@ class X86(Cpu):
     DECODER = CS_ARCH_X86, CS_MODE_64
     ARGS, RESULTS = ('rdi', 'rsi', 'rdx', 'rcx', 'r8', 'r9'), ('rax', 'rdx')
     SAVED = 'rbx', 'rbp', 'r12', 'r13', 'r14', 'r15'
-    SP, ABOVE, RED_ZONE, TABLE = 'rsp', 8, 128, TABLE
+    SP, ABOVE, RED_ZONE, STEP, TABLE = 'rsp', 8, 128, 1, TABLE
     LEVELS, is_known = tuple(KNOWN_X86), staticmethod(is_known)
     # The property of which features a file has marks for, those that are known (IBT, SHSTK), and
     # the mark of the first; and properties that only tell of a file.
@@ -80,7 +80,7 @@ class X86(Cpu):
         return part(self.r[n], low, min(size, width or size))
 
     def put(self, i, k, value):
-        op, value = i.ops[k], simple(value)
+        op, value = i.ops[k], self.products.named(value)
         if op.type == X.X86_OP_MEM:
             if value.size() != 8 * op.size:
                 raise unknown(i)
@@ -244,6 +244,9 @@ def pop(c):
 
 @means(TABLE, 'call')
 def call(c, i):
+    # The processor puts nothing on a shadow stack for a call of the next instruction.
+    if i.ops[0].imm == i.address + i.size:
+        raise unknown(i)
     push(c, c.note_call(i))
     return i.ops[0].imm
 
@@ -267,7 +270,7 @@ def vector(c, i):
     for low in range(0, b.size(), span):
         halves = ([part(term, k, bits) for k in range(low, min(low + span, term.size()), bits)]
                   for term in (a, b))
-        pieces += do(*halves, i.ops[-1].imm if has_number else 0)
+        pieces += map(c.products.named, do(*halves, i.ops[-1].imm if has_number else 0))
     c.put(i, 0, join(pieces))
 
 

@@ -1,94 +1,103 @@
-"""Leaves out calls of a right library, which must be missed, and has the definition multiply more,
-for which the library must be refused: changes.py LIBRARY, for x86-64."""
+"""Leaves out calls of a right library, which must be missed, and changes the definition and what
+else a claim needs, after which nothing may be claimed: changes.py LIBRARY, for x86-64."""
+import os
 import sys
 from unittest import mock
-from attacks import cases, count, refusal
+from attacks import cases, count, is_wanted, refusal
 import any_length
-import fixed_lengths
 import streams
+import vectors
 import z3
 from calls import Call
 from header import parameters
 from terms import Unknown, bv, join
+from workers import results
 
-# By function: which cases, and of which calls, are left out.
-CASES = {'': [(0,), (127,), (7,)], '_finish': [(63, 0), (63, 1)], '_save': [(63,)],
-         '_resume': [(None,), (131,)], '_pad': [(0,), ()], '_unpad': [(16, (7, 3))]}
+# By function, the calls that are left out.
 CALLS = {
-    '': 'seed == 0; bytes == 0; bytes + length == 2**64 - 1; length == 2**63 - 1',
-    '_start': 'stream == 2**64 - 152', '_rand_init_words': 's1 == s2',
-    '_rand_next': 'rand == 8; rand == 2**64 - 24', '_finish': 'stream == 8; top_bit == 1',
-    '_save': 'room == 0; room == 2**63 - 1; out + 131 == stream',
-    '_pad': 'room == 2**60 - 1; And(length == 0, room == 1, bytes == out); '
-            'And(length == 9, room == 1, bytes == out); '
+    '': 'bytes == 0; And(length == 9, bytes == 2**64 - 10); length == 127; length == 2**63 - 1',
+    '_start': 'stream == 2**64 - 152', '_rand_next': 'rand == 2**64 - 24',
+    '_finish': 'stream == 8; top_bit == 1; fill == 63', '_save': 'out + 131 == stream',
+    '_pad': 'And(length == 0, room == 1, bytes == out); And(length == 9, room == 1, bytes == out); '
             'And(length == 9, room == 2, bytes + 9 == out); '
             'And(length == 9, room == 5, out + 16 == bytes)',
-    '_unpad': 'length == 2**60 - 1; '
-              'And(length == 2, room == 16, last == 0x100, words + 16 == out); '
+    '_unpad': 'And(length == 16, last > 0x200); '
               'And(length == 2, room == 16, last == 0x100, out + 15 == words); '
               'And(length == 2, room == 15, last == 0x100, out == words)'}
-MISSING = 'no case has the call with'
-# What the definition multiplies more, by where it is called, and the function that is refused, or
-# the length for which streams answer something else.
-MORE = [(any_length, 'block_round', ''), (any_length, 'hash_from_pair', ''),
-        (any_length, 'next_pair', '_rand_fill'), (fixed_lengths, 'next_pair', '_rand_next'),
-        (streams, 'komi', 63), (streams, 'hash_from_lanes', 64)]
 
 
-def missed(suffix, keeps=lambda case: True, left_out=None):
-    """What is found if not all cases of a function are there, or not all of their calls."""
-    name, begin = f'komihash_v4{suffix}', Call.begin
+def with_products(suffix, formula):
+    """The table of functions, in which one makes other multiplications."""
+    other = cases.FUNCTIONS[suffix]._replace(multiplications=formula)
+    return cases, 'FUNCTIONS', {**cases.FUNCTIONS, suffix: other}
 
+
+def without(suffix, left_out, begin=Call.begin):
+    """What begins those calls of a function for which a condition doesn't hold."""
     def begin_some(call, args):
-        names = [one for _, one in parameters(name)][-len(args):]
-        given = dict(zip(names, args), And=z3.And, last=join((call.last_bytes or [bv(0)])[-2:]))
-        if call.state:
-            given.update(had_block=call.state.had_block, top_bit=call.state.top_bit)
+        names = [one for _, one in parameters(f'komihash_v4{suffix}')][-len(args):]
+        given = dict(zip(names, args), And=z3.And, last=join((call.last_bytes or [bv(0)])[-2:]),
+                     top_bit=call.state and call.state.top_bit,
+                     fill=bv(len(call.state.pending) if call.state else 0))
         call.facts.add(z3.Not(eval(left_out, given)))
         begin(call, args)
-    some = [case for case in cases.cases_of(name)[1:] if keeps(case)]
-    with mock.patch.object(Call, 'begin', begin_some if left_out else begin):
-        return cases.run_case(cases.AllCalls(name, None, some)).failure
+    return Call, 'begin', begin_some
 
 
-def with_more(module, name, where, content):
-    """What is found if a function of the definition multiplies once more than it does."""
-    do = getattr(module, name)
+def with_more(module, name, size=None):
+    """A function that multiplies once more than that of the definition, for one size or any."""
+    def more(products, *given, do=getattr(module, name)):
+        found = do(products, *given)
+        if size is None or size == len(given[2]):
+            products.new(bv(2), bv(3))
+        return found
+    return module, name, more
 
-    def more(products, *given):
-        products.new(bv(2), bv(3))
-        return do(products, *given)
-    with mock.patch.object(module, name, more):
-        try:
-            return streams.check_length(where) if module is streams else \
-                refusal(content, 'x86-64', f'komihash_v4{where}')
-        except Unknown as unknown:
-            return unknown
+
+def changes(content):
+    """Each change: a name, the reason for which it is refused, a name that has another value, and
+    what finds that then."""
+    def judge(suffix, among):
+        return lambda: refusal(content, 'x86-64', f'komihash_v4{suffix}', among=among)
+
+    def definition():
+        vectors.check_all_values()
+        streams.check_streams(1)
+    return [
+        *((f'{suffix} without {one}', 'no case has the call with', without(suffix, one),
+           judge(suffix, 'all calls')) for suffix in CALLS for one in CALLS[suffix].split('; ')),
+        ('a case of no calls', 'contradict', without('_rand_next', 'True'),
+         judge('_rand_next', 'rand_next()')),
+        ('products', 'the definition has', with_products('_start', '2'), judge('_start', '')),
+        ('products of a long call', 'the definition has',
+         with_products('_rand_fill', '(n+7)//8 + n//255'), judge('_rand_fill', 'Fill')),
+        *((f'one more by {name}', 'products, and not the', with_more(any_length, name),
+           judge('', 'Hash(0,)')) for name in ('block_round', 'hash_from_pair')),
+        ('one more by streams', 'for 120', with_more(streams, 'hash_from_lanes', 16), definition),
+        ('another hash of streams', 'for 0 bytes',
+         (streams, 'komi', lambda *given, do=streams.komi: do(*given) + 1), definition),
+        ('the definition', 'None', (), definition),
+        ('other words', 'gives none', (vectors, 'padded_words', lambda *_: []), definition),
+        ('jumps by contents', "['_resume', '_unpad']", (),
+         lambda: [name for name, one in cases.FUNCTIONS.items() if one.by_contents]),
+        ('no solver', 'not answer', (cases.terms, 'SOLVERS', ()), judge('_rand_next', '')),
+        ('an error', 'Unknown(', (),
+         lambda: repr(cases.run_case(cases.Case('komihash_v4', lambda *_: 1 // 0, ())).failure)),
+        ('a process that is killed', 'a process ended', (), lambda: [*results(1, os._exit, [0])])]
 
 
 def rows(path):
     with open(path, 'rb') as file:
         content = file.read()
     cases.open_library(content, 'x86-64')
-    for suffix, some in CASES.items():
-        for args in some:
-            yield f'{suffix} without {args}', MISSING, \
-                missed(suffix, lambda case, args=args: case.args != args)
-    for suffix, some in CALLS.items():
-        for one in some.split('; '):
-            yield f'{suffix} without {one}', MISSING, missed(suffix, left_out=one)
-    for module, name, where in MORE:
-        yield f'{where} with more in {name}', \
-            'other hashes' if module is streams else 'products, and not the', \
-            with_more(module, name, where, content)
-    shown = any_length.proved_write(any_length.Write, cases.LIBRARY, 4).seen.ran
-    write = cases.run_case(cases.Case('komihash_v4_write', any_length.Write, (1,)))
-    yield 'a write runs what all writes run', 'True', shown <= write.ran
-    for suffix, number in ('_start', '2'), ('_rand_fill', '(n+7)//8 + n//255'):
-        other = cases.FUNCTIONS[suffix]._replace(multiplications=number)
-        with mock.patch.dict(cases.FUNCTIONS, {suffix: other}):
-            yield f'{suffix} with another number in the table', 'the definition has', \
-                refusal(content, 'x86-64', f'komihash_v4{suffix}')
+    for name, reason, change, find in changes(content):
+        if is_wanted(name):
+            with mock.patch.object(*change or (cases, 'SECONDS', cases.SECONDS)):
+                try:
+                    found = find()
+                except Unknown as unknown:
+                    found = unknown
+            yield name, reason, found
 
 
 if __name__ == '__main__':

@@ -1,74 +1,102 @@
 """Compares single instructions with the processor: random encodings that opcodes.py allows are run
-in the model and really, on random registers, flags and memory, and must do the same. Jumps, and
-what moves the stack pointer, are left to the libraries that are verified, and run by calls.c.
+in the model and really, and must leave the same registers, flags and memory, and go on at the same
+address. Each instruction that has a meaning must be compared, each conditional jump both ways. With
+ROW in the environment, only those of this mnemonic are.
 
 instructions.py LEVEL COMPILER [EMULATOR], where the level is x86-64-v3 or armv8-a."""
 import collections
-import os
 import random
 import re
 import subprocess
 import sys
 import tempfile
-sys.path.append(os.path.dirname(os.path.dirname(os.path.abspath(__file__))))
-import z3
+import types
+from attacks import is_wanted
 import aarch64
+import machine
 import x86_64
-from capstone import CS_OP_MEM, Cs
-from calls import Library
-from cases import PROCESSORS
-from layout import Ours
+import z3
+from capstone import CS_OP_IMM, CS_OP_MEM, Cs
+from cases import PROCESSORS, Library, Ours
+from definition import Products
 from memory import MustSplit
-from opcodes import KNOWN_ARM64, KNOWN_X86, MAP_OF_VEX, PREFIX_OF_VEX
+from opcodes import KNOWN_ARM64, KNOWN_X86, MAP_OF_VEX, PREFIX_OF_VEX, PREFIXES
 from terms import Refused, Unknown, bv, const, simple
 
-# How many encodings are tried, and how many of each name are compared.
-TRIES, OF_EACH_NAME = 6000, 40
-# Memory is at BASE, and the stack pointer at POINTER. Memory before the index SAVED is what
-# instructions access. From there on it has the registers, the flags, and the stack pointer of the
-# caller.
-BASE, SIZE, SAVED = 2**32, 4096, 512
-POINTER, FLAGS_AT, STACK_AT = BASE + 256, SAVED + 2048, SAVED + 2056
-# Calls each function on the memory that it reads for it, and writes what is left.
-PROGRAM = f'''
-#include <setjmp.h>
-#include <stdio.h>
-#include <sys/mman.h>
-
-extern void (*const functions[])(void *);
-static jmp_buf before;
-void finish(void) {{ longjmp(before, 1); }}
-
-int main(void) {{
-    static int k;
-    static void *memory;
-    memory = mmap((void *){BASE}, {SIZE}, PROT_READ | PROT_WRITE,
-                  MAP_PRIVATE | MAP_ANONYMOUS | MAP_FIXED, -1, 0);
-    for (; functions[k] && fread(memory, {SIZE}, 1, stdin); k++) {{
-        if (!setjmp(before))
-            functions[k]((void *){POINTER});
-        fwrite(memory, {SIZE}, 1, stdout);
-    }}
-}}
-'''
+# How many codes are tried for an encoding, of which one in NEAR only resembles it and most often
+# must be refused; and how many are compared, FEW, or MANY if it jumps. On ARM64, such an encoding
+# has a condition or the number of a bit in it.
 X86, ARM = PROCESSORS.values()
+TRIES, NEAR, FEW, MANY = 6000, 7, {X86: 16, ARM: 20}, {X86: 32, ARM: 384}
+NEVER = {'bti', 'hint'}  # A version of capstone prints only one of these two.
+# The program reads and writes images. An image lies at the address BASE. It has memory that an
+# instruction may access, from SAVED on the registers, and from CODE on the instruction, which runs
+# at the address START. The stack pointer is POINTER before most instructions.
+BASE, SAVED, CODE, SIZE = 2**32, 512, 2032, 2048
+POINTER, START = BASE + 256, BASE + 2**16 + 2048
+# The bytes around the instruction are no instructions, and no other code is near. So wherever it
+# goes on, the processor stops with a signal. The handler finds the registers in the context of the
+# signal, writes the image with them, and replaces them by those of the next image.
+PROGRAM = '''
+#include <signal.h>
+#include <stdio.h>
+#include <stdlib.h>
+#include <string.h>
+#include <sys/mman.h>
+static char *const image = (char *)BASE, *const code = (char *)START, stack[1 << 16];
+
+static void next(int number, siginfo_t *info, void *of) {
+    mcontext_t *context = &((ucontext_t *)of)->uc_mcontext;
+#ifdef __x86_64__
+    char *vectors = (char *)context->fpregs;
+    vectors[512] |= 7; /* The parts of vectors that the system restores. */
+    struct { void *at; size_t size; } parts[] = {
+        {context->gregs, 18 * 8}, {vectors + 160, 256}, {vectors + 576, 256}};
+#else
+    memset(context->__reserved + 528, 0, 8); /* Vectors are restored from this record alone. */
+    struct { void *at; size_t size; } parts[] = {
+        {context->regs, 34 * 8}, {context->__reserved + 16, 512}, {NULL, 0}};
+#endif
+    for (int in = 0; in < 2; in++) {
+        if (in && !(fwrite(image, SIZE, 1, stdout) && fread(image, SIZE, 1, stdin))) exit(0);
+        char *saved = image + SAVED;
+        for (int k = 0; k < 3; saved += parts[k++].size)
+            memcpy(in ? parts[k].at : saved, in ? saved : parts[k].at, parts[k].size);
+    }
+    memcpy(code, image + CODE, SIZE - CODE);
+    __builtin___clear_cache(code, code + SIZE - CODE);
+}
+
+int main(void) {
+    int signals[] = {SIGILL, SIGSEGV, SIGBUS}, flags = MAP_PRIVATE | MAP_ANONYMOUS | MAP_FIXED;
+    struct sigaction action = {.sa_sigaction = next, .sa_flags = SA_SIGINFO | SA_ONSTACK};
+    sigaltstack(&(stack_t){.ss_sp = stack, .ss_size = sizeof stack}, NULL);
+    for (int k = 0; k < 3; k++) sigaction(signals[k], &action, NULL);
+    setbuf(stdout, NULL);
+    mmap(image, 4096, PROT_READ | PROT_WRITE, flags, -1, 0);
+    mmap(code - 2048, 4096, PROT_READ | PROT_WRITE | PROT_EXEC, flags, -1, 0);
+    memset(code - 2048, STOP, 4096), raise(SIGILL);
+}
+'''
 WHOLE = {X86: lambda name: x86_64.NAMES.get(name, [None])[0],
          ARM: lambda name: aarch64.register(name)[0]}
-# The bits of zero, sign, carry and overflow.
-BITS = {X86: (6, 7, 0, 11), ARM: (30, 31, 29, 28)}
-ENCODINGS = sorted(set().union(*KNOWN_X86['x86-64-v3'].values()))
-PATTERNS = sorted(set('|'.join(known.pattern for known in KNOWN_ARM64.values()).split('|')))
+# The bits of zero, sign, carry and overflow; a byte that begins no instruction; and the order in
+# which an image has registers of 64 bits, the address of the next instruction, and the flags.
+BITS, STOP = {X86: (6, 7, 0, 11), ARM: (30, 31, 29, 28)}, {X86: 6, ARM: 0}
+WORDS = {X86: 'r8 r9 r10 r11 r12 r13 r14 r15 rdi rsi rbp rbx rdx rax rcx rsp at flags'.split(),
+         ARM: [*(f'x{n}' for n in range(31)), 'sp', 'at', 'flags']}
+# The encodings that are allowed, by mnemonic.
+KNOWN = {X86: {name.replace('_', ' '): some for name, some in KNOWN_X86['x86-64-v3'].items()},
+         ARM: {name: some.pattern.split('|') for name, some in KNOWN_ARM64.items()}}
+KNOWN[ARM].update((f'b.{name}', KNOWN[ARM]['b.']) for name in
+                  'eq ne hs lo mi pl hi ls ge lt gt le'.split())
+# The code lies where its addresses say, so that all of them are numbers.
+machine.LOADED = x86_64.LOADED = aarch64.LOADED = bv(0)
 
 
-def places(kind):
-    """The registers, each with its index in memory."""
-    names = [name for name in kind.registers(None) if name != kind.SP]
-    return {name: SAVED + 32 * k for k, name in enumerate(names)}
-
-
-def x86_code(r):
-    """Bytes with a random encoding of x86-64, in the notation of opcodes.py."""
-    head, _, opcode = r.choice(ENCODINGS).rpartition(':')
+def x86_code(r, encoding, number):
+    """Bytes for an encoding of x86-64, in the notation of opcodes.py."""
+    head, _, opcode = encoding.rpartition(':')
     opcode, _, reg = opcode.partition('/')
     prefix, wide = re.sub('[vL.W]', '', head), 'W' in head
     if head.startswith('v'):
@@ -81,167 +109,171 @@ def x86_code(r):
         # Without a byte REX, some registers are the high bytes of others.
         rex = bytes([0x40 | wide << 3 | r.randrange(16)]) if wide or r.randrange(4) else b''
         code = bytes.fromhex(prefix) + rex
-    number = bytearray.fromhex(opcode.rstrip('+'))
-    number[-1] |= r.randrange(8) if opcode.endswith('+') else 0
-    operands = r.randrange(256) & 0xc7 | (int(reg) if reg else r.randrange(8)) << 3
-    return code + number + bytes([operands, *r.randbytes(9)])
+    opcode, plus = bytearray.fromhex(opcode.rstrip('+')), opcode.endswith('+')
+    opcode[-1] |= r.randrange(8) if plus else 0
+    operands = r.choice([*r.randbytes(2), 0xc4]) & 0xc7
+    operands |= (int(reg) if reg else r.randrange(8)) << 3
+    near = bytes([r.choice(PREFIXES)]) if number % NEAR == 0 else b''
+    return near + code + opcode + bytes([operands, *r.randbytes(9)])
 
 
-def random_code(r, kind):
-    """Bytes that may be an instruction."""
-    if kind is X86:
-        return x86_code(r)
-    bits = ''.join(r.choice('01') if bit == '.' else bit for bit in r.choice(PATTERNS))
-    return int(bits, 2).to_bytes(4, 'little')
+def arm_code(r, encoding, number):
+    """Bytes for an encoding of ARM64. The first six bits of operands have all values in turn. The
+    last registers are often the stack pointer, or the one whose number is in those bits."""
+    for bit in f'{number * 37 % 64:06b}':
+        encoding = encoding.replace('.', bit, 1)
+    operands, same = r.getrandbits(32), 33 * r.choice([31, number * 37 % 32])
+    operands = f'{r.choice([operands, operands & -1024 | same]):032b}'
+    bits = ''.join(bit if given == '.' else given for given, bit in zip(encoding, operands))
+    return (int(bits, 2) ^ (number % NEAR == 0) << r.randrange(32)).to_bytes(4, 'little')
 
 
-def random_memory(r, kind, i):
-    """Memory before an instruction, in which an address of it is likely to lie."""
-    flags = sum(r.randrange(2) << bit for bit in BITS[kind])
-    memory = bytearray(r.randbytes(FLAGS_AT) + flags.to_bytes(8, 'little')).ljust(SIZE, b'\0')
-    values = {name: r.choice([r.getrandbits(6), r.getrandbits(64), 0, 2**63, 2**64 - 1])
-              for name in places(kind) if name[0] in 'rx'}
+def random_image(r, kind, i, flags, some):
+    """An image before an instruction, in which an address of it is likely to lie. The bits of a
+    number say which flags are set, and the rest of memory and of vectors is random bytes."""
+    number = [*(op.imm for op in i.ops if op.type == CS_OP_IMM), 0][0]
+    likely = [0, 2**32, 2**63, 2**64 - 1, POINTER, number, *[1 << number % 64] * 2]
+    values = {name: r.choice([*likely, ~likely[-1], r.getrandbits(6), *[r.getrandbits(64)] * 3])
+              for name in WORDS[kind]}
+    back = POINTER + 4 * r.randrange(-50, 50)
+    values.update({kind.SP: POINTER, 'x30': back, 'at': START, 'flags': sum(
+        (flags >> k & 1) << bit for k, bit in enumerate(BITS[kind]))})
     for m in (op.mem for op in i.ops if op.type == CS_OP_MEM):
         for register, value in ((m.index, r.randrange(16)),
                                 (m.base, POINTER + r.choice([1, 16]) * r.randrange(8) - m.disp)):
             values[WHOLE[kind](i.reg_name(register)) if register else None] = value
-    for name in values.keys() & places(kind).keys():
-        at = places(kind)[name]
-        memory[at:at + 8] = (values[name] % 2**64).to_bytes(8, 'little')
-    return bytes(memory)
+    words = b''.join((values[name] % 2**64).to_bytes(8, 'little') for name in WORDS[kind])
+    image = some[:POINTER - BASE] + back.to_bytes(8, 'little')
+    image += some[len(image):SAVED] + words
+    return image + some[len(image):] + bytes(i.bytes).ljust(SIZE - CODE, bytes([STOP[kind]]))
 
 
-def flags_in(kind, memory):
-    """The flags as the model has them: on ARM64, carry means that nothing was borrowed."""
-    number = int.from_bytes(memory[FLAGS_AT:FLAGS_AT + 8], 'little')
-    zero, sign, carry, overflow = (bool(number >> bit & 1) for bit in BITS[kind])
-    return {'z': zero, 's': sign, 'c': carry == (kind is X86), 'l': sign != overflow}
+def numbers(kind, image):
+    """What an image holds, by name: registers, the memory, flags as the model has them, and the
+    address to which a call returns. On ARM64, carry means that nothing was borrowed."""
+    def number(at, size):
+        return int.from_bytes(image[at:at + size], 'little')
+    found = {name: number(SAVED + 8 * k, 8) for k, name in enumerate(WORDS[kind])}
+    zero, sign, carry, overflow = (found['flags'] >> bit & 1 for bit in BITS[kind])
+    v = [number(SAVED + 8 * len(found) + at, 16) for at in range(0, 512, 16)]
+    found.update({f'v{k}': v[k] for k in range(32)} if kind is ARM else
+                 {f'ymm{k}': v[k] | v[k + 16] << 128 for k in range(16)})
+    found['return'] = found['x30'] if kind is ARM else number(found['rsp'] - BASE, 8)
+    return {**found, 'memory': number(0, SAVED),
+            'z': zero, 's': sign, 'c': carry ^ (kind is ARM), 'l': sign ^ overflow}
 
 
-def on_numbers(kind):
-    """A processor that multiplies, and has nothing but the memory before SAVED."""
-    class OnNumbers(kind):
-        def multiply(self, a, b, halves):
-            product = const(a) * const(b)
-            return [bv(product >> 64 * half & 2**64 - 1) for half in halves]
+class OnNumbers:
+    """A processor that has nothing but the memory of an image, and notes if a jump is taken."""
+    taken = None
 
-        def offset(self, address, length):
-            at = const(address)
-            if at is None or not BASE <= at <= BASE + SAVED - length:
-                raise Refused('another address')
-            return at
+    def branch(self, cond, yes, no, todo):
+        self.taken = z3.is_true(simple(cond))
+        return super().branch(cond, yes, no, todo)
 
-        def load(self, address, length):
-            return self.memory.content('arrays', self.offset(address, length), length)
+    def multiply(self, a, b, halves):
+        return [bv(const(a) * const(b) >> 64 * half & 2**64 - 1) for half in halves]
 
-        def store(self, address, value):
-            self.memory.put('arrays', self.offset(address, value.size() // 8), value)
-    return OnNumbers
+    def offset(self, address, length):
+        at = const(address)
+        if at is None or not BASE <= at <= BASE + SAVED - length:
+            raise Refused('another address')
+        return at
 
+    def load(self, address, length):
+        return self.memory.content('image', self.offset(address, length), length)
 
-def in_model(kind, i, memory):
-    """The processor after an instruction."""
-    cpu, registers = on_numbers(kind)(Library(None, Ours, False), None), places(kind)
-    for k in range(SAVED if '[' in i.text else 0):
-        cpu.memory.put('arrays', BASE + k, bv(memory[k], 8))
-    for name, at in registers.items():
-        size = cpu.r[name].size()
-        cpu.r[name] = bv(int.from_bytes(memory[at:at + size // 8], 'little'), size)
-    cpu.r[cpu.SP] = bv(POINTER)
-    cpu.flags = {name: z3.BoolVal(flag) for name, flag in flags_in(kind, memory).items()}
-    before, cpu.stack_pointer = dict(cpu.r), cpu.r[cpu.SP]
-    went = cpu.TABLE[i.mnemonic](cpu, i)
-    if went is not None or any(cpu.r[name] is not before[name] for name in {*cpu.r} - {*registers}):
-        raise Refused('a jump, or another register')
-    return cpu
+    def store(self, address, value):
+        self.memory.put('image', self.offset(address, value.size() // 8), value)
 
 
-def chosen(r, kind, level):
-    """Instructions, the memory before each, and the model after it."""
-    decoder, count = Cs(*kind.DECODER), collections.Counter()
+KINDS = {kind: type(kind.NAME, (OnNumbers, kind), {}) for kind in (X86, ARM)}
+
+
+def in_model(kind, i, image):
+    """Runs an instruction in the model, in a function that was called. Returns whether a jump was
+    taken, and the numbers as of an image, or None for what is undefined."""
+    library = Library(types.SimpleNamespace(instruction=lambda _: i), Ours, False)
+    cpu, before = KINDS[kind](library, Products()), numbers(kind, image)
+    cpu.sp, before['ssp'] = bv(POINTER + 2048), 2**64 - 8
+    cpu.r = {name: bv(before[name], term.size()) for name, term in cpu.r.items()}
+    cpu.flags = {name: z3.BoolVal(before[name] == 1) for name in 'zscl'}
+    given = {**cpu.r, **cpu.flags, 'memory': bv(before['memory'], 8 * SAVED)}
+    cpu.memory.put('image', BASE, given['memory'])
+    cpu.memory.put('shadow', -8, bv(before['return']))
+    at = cpu.next(START, [])
+    if at in range(START, START + i.size):
+        raise Refused('it may never end')
+    terms = {**cpu.r, **cpu.flags, 'memory': cpu.memory.content('image', BASE, SAVED)}
+    if const(terms.pop('ssp')) == 2**64 - 16:
+        terms['return'] = cpu.memory.content('shadow', -16, 8)
+    # If there is no next address, the model returns from a call that was not made.
+    after = {**before, **dict.fromkeys(('flags', 'return', *'zscl')), 'at': at or 0}
+    for name, term in terms.items():
+        changed = machine.number_of(term, 8) if name in cpu.flags else term
+        after[name] = before[name] if term is given.get(name) else const(simple(changed))
+    return cpu.taken, after
+
+
+def chosen(r, kind, level, ways):
+    """Yields instructions, images before and numbers after them, and notes which ways they go."""
+    decoder, code = Cs(*kind.DECODER), x86_code if kind is X86 else arm_code
     decoder.detail = True
-    for _ in range(TRIES):
-        i = next(decoder.disasm(random_code(r, kind), BASE), None)
-        if i is None or not kind.is_known(i, level) or count[i.mnemonic] == OF_EACH_NAME:
-            continue
-        i.ops, i.text = i.operands, i.op_str
-        memory = random_memory(r, kind, i)
-        try:
-            cpu = in_model(kind, i, memory)
-        except (KeyError, IndexError, MustSplit, Refused, Unknown, z3.Z3Exception):
-            continue
-        count[i.mnemonic] += 1
-        yield i, memory, cpu
-    print(f'{len(count)} names, and never', *sorted(set(kind.TABLE) - set(count)))
+    for encoding in sorted({one for name in ways for one in KNOWN[kind][name]}):
+        count, some = collections.Counter(), r.randbytes(CODE)
+        for number in range(TRIES):
+            i = next(decoder.disasm(code(r, encoding, number), START), None)
+            if i is None or not kind.is_known(i, level) or i.mnemonic not in ways:
+                continue
+            i.ops, i.text, name = i.operands, i.op_str, i.mnemonic
+            image = random_image(r, kind, i, count[name], some)
+            try:
+                taken, after = in_model(kind, i, image)
+            except (MustSplit, Refused, Unknown, z3.Z3Exception):
+                continue
+            ways[name].add(taken)
+            yield i, image, after
+            count[name] += number % NEAR > 0
+            jumps = taken is not None or after['at'] != START + i.size
+            if number % NEAR and count.total() == (MANY if jumps else FEW)[kind]:
+                break
 
 
-def function(kind, number, code):
-    """A function that loads the registers, runs an instruction, and saves them."""
-    flags, stack = FLAGS_AT - 256, STACK_AT - 256
-    if kind is X86:
-        moves = [('mov' if name[0] == 'r' else 'vmovdqu', f'{at - 256}(%rsp)', f'%{name}')
-                 for name, at in places(kind).items()]
-        load = [f'{move} {place}, {register}' for move, place, register in moves]
-        save = [f'{move} {register}, {place}' for move, place, register in moves]
-        start = f'push {flags}(%rdi); popf; mov %rsp, {stack}(%rdi); mov %rdi, %rsp'
-        end = f'mov %rsp, %rdi; mov {stack}(%rdi), %rsp; pushf; pop {flags}(%rdi); jmp finish'
-    else:
-        load = [f'ldr {name.replace("v", "q")}, [sp, {at - 256}]'
-                for name, at in places(kind).items()]
-        save = ['str' + one.removeprefix('ldr') for one in load]
-        start = f'mov x1, sp; str x1, [x0, {stack}]; mov sp, x0; ldr x1, [sp, {flags}]; ' \
-            'msr nzcv, x1'
-        end = f'mrs x1, nzcv; str x1, [sp, {flags}]; ldr x1, [sp, {stack}]; mov sp, x1; b finish'
-    code = '.byte ' + ', '.join(map(hex, code))
-    return '\n'.join([f'i{number}:', start, *load, code, *save, end, ''])
-
-
-def differences(kind, cpu, memory):
-    """What differs after an instruction: the model, and the memory that the processor left."""
-    found = [(name, simple(cpu.r[name]), at) for name, at in places(kind).items()]
-    found += [(f'byte {k - BASE}', cpu.memory.content('arrays', k, 1), k - BASE)
-              for k in cpu.memory.written('arrays')]
-    for name, term, at in found:
-        real = int.from_bytes(memory[at:at + term.size() // 8], 'little')
-        if const(term) not in (None, real):
-            yield f'{name}: {const(term):#x} in the model, {real:#x} really'
-    for name, real in flags_in(kind, memory).items():
-        flag = simple(cpu.flags.get(name, z3.Bool('undefined')))
-        if z3.is_true(flag) != real and (z3.is_true(flag) or z3.is_false(flag)):
-            yield f'flag {name}: {flag} in the model, {real} really'
-
-
-def replies_of(kind, found, compiler, emulator):
-    """What the processor leaves of each memory."""
-    memories = b''.join(memory for _, memory, _ in found)
+def replies_of(kind, images, compiler, emulator):
+    """What the processor leaves of each image."""
+    values = dict(BASE=BASE, START=START, SAVED=SAVED, CODE=CODE, SIZE=SIZE, STOP=STOP[kind])
     with tempfile.TemporaryDirectory() as folder:
-        code, program = (os.path.join(folder, name) for name in ('code.s', 'program'))
-        with open(code, 'w') as file:
-            file.write('.section .note.GNU-stack, "", %progbits\n.text\n')
-            file.writelines(function(kind, k, i.bytes) for k, (i, _, _) in enumerate(found))
-            file.write('.section .data.rel.ro\n.globl functions\nfunctions:\n')
-            file.writelines(f'.quad i{k}\n' for k in range(len(found)))
-            file.write('.quad 0\n')
-        subprocess.run([compiler, '-o', program, code, '-x', 'c', '-'], input=PROGRAM.encode(),
-                       check=True)
-        done = subprocess.run(['timeout', '60', *emulator, program], input=memories,
+        program = f'{folder}/program'
+        subprocess.run([compiler, *(f'-D{name}={value}' for name, value in values.items()), '-xc',
+                        '-D_GNU_SOURCE', '-o', program, '-'], input=PROGRAM.encode(), check=True)
+        done = subprocess.run(['timeout', '60', *emulator, program], input=b''.join(images),
                               stdout=subprocess.PIPE, check=False).stdout
-    return [done[k:k + SIZE] for k in range(0, len(done) - SIZE + 1, SIZE)]
+    # The first is what the program left before it ran an instruction.
+    return [done[k:k + SIZE] for k in range(SIZE, len(done) - SIZE + 1, SIZE)]
+
+
+def failures(kind, found, replies, ways):
+    """What differs, and what was not compared."""
+    texts = [f'{i.mnemonic} {i.text} ({i.bytes.hex()})' for i, *_ in found]
+    for text, (_, _, after), image in zip(texts, found, replies):
+        for what, real in numbers(kind, image).items():
+            if after[what] not in (None, real):
+                yield f'{text}: {what} is {after[what]:#x} in the model, and {real:#x} really'
+    yield from (f'the program ended at {text}' for text in texts[len(replies):][:1])
+    for name in sorted(ways.keys() - NEVER):
+        if ways[name] not in ({None}, {True, False}):
+            yield f'{name}: of whether a jump is taken, only this is compared: {ways[name]}'
 
 
 def main(level, compiler, *emulator):
     kind = next(kind for kind in PROCESSORS.values() if level in kind.LEVELS)
-    found = list(chosen(random.Random(1), kind, level))
-    replies, failed = replies_of(kind, found, compiler, emulator), 0
-    for (i, _, cpu), memory in zip(found, replies):
-        for what in differences(kind, cpu, memory):
-            failed += 1
-            print(f'FAILED: {i.mnemonic} {i.text} ({i.bytes.hex()}): {what}')
-    for i, *_ in found[len(replies):][:1]:
-        failed += 1
-        print(f'FAILED: the program ended at {i.mnemonic} {i.text} ({i.bytes.hex()})')
-    print(f'{len(replies)} instructions do in the model what they do really, but for {failed}')
-    return failed > 0 or not found
+    ways = {name: set() for name in kind.TABLE if name in KNOWN[kind] and is_wanted(name)}
+    found = list(chosen(random.Random(1), kind, level, ways))
+    replies = replies_of(kind, [image for _, image, _ in found], compiler, emulator)
+    failed = list(failures(kind, found, replies, ways))
+    print(*(f'FAILED: {one}\n' for one in failed), f'{len(replies)} instructions of {len(ways)} '
+          f'names do in the model what they do really, but for {len(failed)}', sep='')
+    return bool(failed)
 
 
 if __name__ == '__main__':
