@@ -26,8 +26,7 @@ def example(end, found, wanted):
         return model.eval(SYMBOLS.term[name], model_completion=True)
 
     def at_random(name):
-        size = SYMBOLS.term[name].size()
-        return bv(random.getrandbits(size), size)
+        return bv(random.getrandbits(64), SYMBOLS.term[name].size())
     for number_of in of_model, at_random, at_random:
         one, other, values = evaluated(end.products, number_of, found, wanted)
         if one != other:
