@@ -135,8 +135,8 @@ def give_up(*_):
 
 def run_case(case):
     """Checks a case. Nothing may be claimed after an error of this program, either."""
-    signal.signal(signal.SIGVTALRM, give_up)
-    signal.setitimer(signal.ITIMER_VIRTUAL, SECONDS, 1)
+    signal.signal(signal.SIGPROF, give_up)
+    signal.setitimer(signal.ITIMER_PROF, SECONDS, 1)
     terms.ASKED[0] = 0
     begin, ran, depth, failure = time.process_time(), frozenset(), 0, None
     try:
@@ -150,5 +150,5 @@ def run_case(case):
         failure = f'{refused}'
     except Exception as error:
         failure = Unknown(f'{type(error).__name__}: {error}')
-    signal.setitimer(signal.ITIMER_VIRTUAL, 0)
+    signal.setitimer(signal.ITIMER_PROF, 0)
     return Done(case, failure, time.process_time() - begin, ran, depth, terms.ASKED[0])

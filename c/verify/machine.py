@@ -125,7 +125,7 @@ class Cpu:
                 try:
                     pc = cpu.next(pc, todo)
                 except MustSplit as split:
-                    # Nothing may stay of what the instruction did, since it is run again.
+                    # It is run again, so nothing of it may stay. It splits before it stores.
                     cpu.r, cpu.flags, cpu.halves = before
                     todo += [(other, pc) for other in cpu.with_values(split.args[0])]
                     break

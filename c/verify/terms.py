@@ -16,7 +16,7 @@ SIMPLIFY = z3.args2params([], {'bv_sort_ac': True})
 # quick with lengths, and the second with shifts of contents.
 SOLVERS = ((z3.Tactic('smt'), 10**5),
            (z3.Then('simplify', 'solve-eqs', 'simplify', 'bit-blast', 'sat'), 10**9))
-# What was answered, the models that were found last, and how many questions were asked in this case.
+# What was answered, the models found last, and how many questions were asked in this case.
 ANSWERS, MODELS, ASKED = {}, collections.deque(maxlen=16), [0]
 
 
