@@ -3,13 +3,10 @@
 
 Erased is what only the prover reads: contracts, ghost items, tallies, laws, tests, labels, and the
 names of conditions that are tested once. A condition of a public function becomes a test, in each
-impl of a public trait too; the prover has shown the others at each call. What else is not Rust,
-this script refuses. Comments say what one of the two alone has:
-
-    // Rust: LINE             Rust has this line.
-    // Rust instead: LINE     Rust has it in place of the next line, or without LINE, nothing.
-    // Rattle alone.          Rust lacks the lines up to the next empty one.
-    /// .. <!-- Rattle -->    Rust lacks this line of a comment.
+impl of a public trait too; the prover has shown the others at each call. A function that has
+`#[track_caller]` in the source leaves the test to one that it calls. Below, CONST and DERIVED say
+what Rust has besides, and the head of src/lib.rt which marks say more. What else is not Rust, this
+script refuses.
 """
 import re
 import subprocess
@@ -17,11 +14,19 @@ import sys
 from itertools import count
 from pathlib import Path
 
-CHOICES = {r'^ *// Rattle alone\.\n(?:.+\n)+': '', r'^ *//.*<!-- Rattle -->\n': '',
-           r'^( *)// Rust instead:(?: (.*))?\n.+\n': r'\1\2\n', r'^( *)// Rust: (.*)\n': r'\1\2\n'}
+CHOICES = {r'^ *// Rattle alone\.\n(?:.+\n)+': '',
+           r'^( *)// Rust instead:(?: (.*))?\n.+\n': r'\1\2\n'}
+# Public functions that are const in Rust, and types that derive traits there.
+CONST = 'init', 'init_with_extra_seed', 'new', 'new_with_seed', 'next', 'start', 'words'
+DERIVED = {'Call': 'PartialEq, Eq'} | dict.fromkeys(
+    ('KomiBuildHasher', 'KomiHasher', 'Komirand'), 'Debug, PartialEq, Eq')
+ADDED = {rf'^( *pub )(?=fn {name}\b)': r'\1const ' for name in CONST} | {
+    rf'^(?=pub (?:enum|struct) {name}\b)': f'#[derive({traits})]\n'
+    for name, traits in DERIVED.items()}
 MADE = '// Made by rust/erase.py of crates/komihash/src, where changes belong.\n'
 RUSTFMT = 'rustfmt', '--edition', '2024', '--config-path', Path(__file__).resolve().parent
 ONLY_RATTLE = 'laws', 'tally', 'tests'  # modules
+BY_HAND = 'lib', 'version'  # modules that Rust has in a file of its own
 # Comments and literals, which become ‹/N› and ‹sN›, so that no pattern sees what is in them.
 HIDDEN = re.compile(r'''//[^\n]*|"(?:[^"\\\n]|\\.)*"|b?'(?:[^'\\\n]|\\.[^'\n]*)'(?!\w)''')
 COMMENTS = r'(?:‹/\d+›\s*)*'
@@ -29,26 +34,25 @@ COMMENTS = r'(?:‹/\d+›\s*)*'
 FUNCTION = re.compile(r'^ *(pub )?(?:pub\(crate\) )?(?:const )?fn (\w+)', re.M)
 OWNER = re.compile(r'^(?:(pub )?(?:pub\(crate\) )?trait (\w+)|'
                    r'impl\b(?:[^{;]*?(\w+)(?:<[^<>{;]*>)?\s+for\b)?)', re.M)
-CLAUSE = re.compile(r',?\n *(requires|ensures)(?: \w+)? \Z')
+CLAUSE = re.compile(rf',?\n *{COMMENTS}(requires|ensures)(?: \w+)? \Z')
+DELEGATES = re.compile(r'#\[track_caller\]\s*(?:(?:#\[.*\]|‹/\d+›)\s*)*\Z')
 CONDITION = re.compile(r'\{ ((?:length \w+\.\w+|[A-Z_]+|\d+|[ +*/])+) ≤ length (\w+)\.old \}')
 # Lines that only the prover reads, and what Rust spells in another way.
 LINES = (r'ghost use [^;]*;', r'#!?\[tactic\(.*\)\]', r'tally\.raise\([^;]*\);',
-         r'use std::marker::(?:Model|\{Model, PhantomData\});', r'use crate::tally::Tally;',
-         rf'(?:pub )?mod (?:{"|".join(ONLY_RATTLE)});', r'#\[cfg\(test\)\](?=\n *mod tests;)')
+         r'use std::marker::(?:Model|\{Model, PhantomData\});', r'use crate::tally::Tally;')
 TALLY = re.compile(r'(?:(?<=\()|,\s*)(?:tally(?:: &mut Tally)?|&mut Tally::new\(\))(?=,?\s*\))')
 SPELLED = {'#[derive(Drop)]': '#[derive(Clone)]', 'use std::': 'use core::',
            'pub trait KomiStream: Sized + Drop': 'pub trait KomiStream: Sized'}
 NAMED = re.compile(r'let (\w+) = ([^;{}]*);\n *((?:let \w+ = |return )?if )\1 (?=\{)')
 ATTRIBUTES = re.compile(r'#!?\[([^]]*)\]'), re.compile('|'.join((
     r'inline(\((always|never)\))?', 'track_caller', 'must_use', r'repr\((C|transparent)\)',
-    r'derive\((Clone|Clone, Copy|Debug|(Debug, )?PartialEq, Eq)\)', r'allow\([\w:, ]+\)',
-    'no_std', r'forbid\(unsafe_code\)', r'warn\(missing_docs\)', r'cfg\(feature = ‹.\d+›\)',
-    r'doc\(inline\)', r'doc = include_str!\(‹.\d+›\)',
-    r'diagnostic::on_unimplemented\(\s*message = ‹.\d+›,\s*note = ‹.\d+›\s*\)')))
-MACROS = re.compile(r'(\w+)!(?!=)'), re.compile('assert|unreachable|include_str|write')
+    r'derive\((Clone|Clone, Copy)\)', r'allow\([\w:, ]+\)')))
+MACROS = (re.compile(r'\b(?!(?:if|while|match|return|in)\b)(\w+)\s*!(?!=)'),
+          re.compile('assert|unreachable'))
 # What may not be left.
-NO_RUST = re.compile(r'\b(?:ghost|requires|ensures|tally|Tally|Model|Drop|prove|unsafe|rt|std|'
-                     r'static|extern|async|macro_rules|no_mangle|export_name)\b|[^\x00-\x7f‹›]|"')
+NO_RUST = re.compile(r'\b(?:ghost|requires|ensures|decreases|invariant|tally|Tally|Model|Drop|prove|'
+                     r'unsafe|rt|std|static|extern|async|macro_rules|no_mangle|export_name)\b|'
+                     r"(?:break|continue)\s+'|[^\x00-\x7f‹›]|\"")
 COUNTED = re.compile(r'\b(?:fn|requires|ensures)\b')
 
 
@@ -93,6 +97,7 @@ def contract(text, at):
 
 def functions(text):
     """Each function's head, the trait or impl that it stands in, and its contract."""
+    end = 0
     for it in re.finditer(r'\b(?:fn|(impl|trait))\b', text):
         start = text.rfind('\n', 0, it.start()) + 1
         head = (OWNER if it[1] else FUNCTION).match(text, start)
@@ -101,7 +106,11 @@ def functions(text):
         if it[1]:
             owner = head
         else:
-            yield head, head[0].startswith(' ') and owner, contract(text, head.end())
+            clauses, body, conditions = contract(text, head.end())
+            if start < end:
+                refuse('a function in a function', text, start)
+            end = end_of(text, body) if text[body] == '{' else body
+            yield head, head[0].startswith(' ') and owner, (clauses, body, conditions)
 
 
 def test_of(condition):
@@ -125,6 +134,8 @@ def without_contracts(text, traits):
             refuse('a condition that nobody tests', text, head.start())
         if not head[1] and not (owner and owner[1]):
             conditions = owner and traits.get((owner[3], head[2])) or []
+        if DELEGATES.search(text, done, head.start()):
+            conditions = []
         parts += [text[done:head.start()], '#[track_caller]\n' * bool(conditions)]
         done = head.start()
         for start, end in [*clauses, (body, body)]:
@@ -186,14 +197,20 @@ def erase(text, traits):
             known.fullmatch(it[1]) or refuse('an unknown attribute or macro', text, it.start())
     for it in NO_RUST.finditer(text):
         refuse('a word that is no Rust', text, it.start())
+    for place, addition in ADDED.items():
+        text = re.sub(place, addition, text, flags=re.M)
     text = re.sub(r'‹m(\w+)›', r'"`\1` is too short"', text)
+    # In examples, the crate has its name in Rust.
+    hidden = [re.sub(r'\bkomihash::(?=[\w{])', 'komihash_rattle::', it) for it in hidden]
     return re.sub(r'‹.(\d+)›', lambda it: hidden[int(it[1])], text)
 
 
 def main(source, out):
     files = [file.relative_to(source) for file in source.rglob('*.rt')]
     texts = {file: (source / file).read_text('utf-8') for file in files
-             if file.parts[0].removesuffix('.rt') not in ONLY_RATTLE}
+             if file.parts[0].removesuffix('.rt') not in (*ONLY_RATTLE, *BY_HAND)}
+    for place in ADDED:
+        any(re.search(place, it, re.M) for it in texts.values()) or refuse('nothing has', place)
     traits = {}
     for text in texts.values():
         traits |= traits_in(chosen(text)[0])
@@ -201,7 +218,7 @@ def main(source, out):
         made = (out / file).with_suffix('.rs')
         made.parent.mkdir(parents=True, exist_ok=True)
         made.write_text(MADE + erase(text, traits), 'utf-8')
-    subprocess.run([*RUSTFMT, out / 'lib.rs'], check=True)
+    subprocess.run([*RUSTFMT, *out.rglob('*.rs')], check=True)
 
 
 if __name__ == '__main__':

@@ -1,11 +1,12 @@
 #!/usr/bin/env python3
 """Checks that what stands in two places is the same: each block of Rattle in CALLING is a part of a
-file of crates/examples, what twins say of the two versions differs in the number alone, what users
-take has the licence, the lemmas that CLAIMS names are there, and each link of a page leads to a
+file of crates/examples, both versions say the same, what users take has the licence, the lemmas that CLAIMS names are there, and each link of a page leads to a
 file that is there, and to a heading of it."""
 
 import re
 from pathlib import Path
+
+from twins import twin, twins
 
 ROOT = Path(__file__).resolve().parent.parent
 CODE = re.compile(r"^```(?:rust|antt)\n(.*?)^```", re.DOTALL | re.MULTILINE)
@@ -35,17 +36,10 @@ files = [file for kind in kinds for file in (ROOT / "crates/examples").glob(kind
 examples = [file.read_text("utf-8") for file in files]
 
 checks = []
-head = re.compile("^(?:// Rust: )?//!.*\n", re.MULTILINE)
 promises = (ROOT / "crates/promises/src/calls.rt").read_text("utf-8")
-versions = {"promises": re.findall(r"^impl Promises for v(\d)(.*?)^}", promises,
-                                   re.DOTALL | re.MULTILINE)}
-for crate in ("komihash", "komihash_c"):
-    versions[crate] = [(file.stem[1], head.sub("", file.read_text("utf-8")))
-                       for file in (ROOT / f"crates/{crate}/src").glob("v?.rt")]
-for crate, texts in versions.items():
-    five = dict(texts)["5"]
-    same = all(text == five.replace("5", n) for n, text in texts)
-    checks.append((f"the versions in {crate}", same and len(texts) > 1))
+impls = dict(re.findall(r"^impl Promises for v(\d)(.*?)^}", promises, re.DOTALL | re.MULTILINE))
+checks.append(("the versions in promises", impls["4"] == twin(impls["5"])))
+checks += [(f"{file.relative_to(ROOT)}", file.read_text("utf-8") == made) for file, made in twins()]
 for folder in ("crates/komihash", "rust", "python", "js"):
     licences = {(ROOT / path / "LICENSE").read_text("utf-8") for path in (".", folder)}
     checks.append((f"the licence in {folder}", len(licences) == 1))

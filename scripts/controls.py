@@ -1,6 +1,6 @@
 #!/usr/bin/env python3
-"""Proves the control of each must-fail edit: the same edit, with each line `right:` in place of
-the `new:` above it, on a copy of the crates. Makes as many at once as stand in different places."""
+"""Proves the control of each must-fail edit, on a copy of the crates: the same edit, whose last
+`new:` is replaced by its line in the crate's controls.txt. Makes as many at once as stand in different places."""
 
 import re
 import shutil
@@ -16,11 +16,14 @@ def make(edit, crate):
     text = edit.read_text("utf-8")
     file = crate / text.split()[1]
     code = file.read_text("utf-8")
-    for old, new, right in re.findall("old: (.*)\nnew: (.*)(?:\nright: (.*))?", text):
+    rights = (edit.parents[1] / "controls.txt").read_text("utf-8")
+    right = re.search(rf"^{edit.stem}: (.*)", rights, re.MULTILINE)
+    changes = re.findall("old: (.*)\nnew: (.*)", text)
+    for old, new in [*changes[:-1], (changes[-1][0], right and right[1])]:
         if code.count(old) != 1 or code[: code.index(old)].count("/**/") % 2:
             return False
-        code = code.replace(old, f"/**/{right or new}/**/")
-    return "\nright: " in text and file.write_text(code, "utf-8") > 0
+        code = code.replace(old, f"/**/{new}/**/")
+    return right and file.write_text(code, "utf-8") > 0
 
 
 left, counts = sorted(ROOT.glob("crates/*/must-fail/*.edit")), [0, 0]

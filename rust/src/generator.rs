@@ -16,7 +16,7 @@ use crate::version::{IsVersion, Versions};
 /// `Debug` shows both words. Nothing is claimed of how random its outputs are.
 // The words are laid out as in the library for C.
 #[repr(C)]
-#[derive(Debug, PartialEq, Eq, Clone)]
+#[derive(Clone, Debug, PartialEq, Eq)]
 pub struct Komirand<const V: u8>
 where
     Versions: IsVersion<V>,
@@ -86,7 +86,7 @@ where
     /// assert_eq!([restored.next(), restored.next()], [generator.next(), generator.next()]);
     /// ```
     #[must_use]
-    #[inline]
+    #[inline(always)]
     pub const fn words(&self) -> (u64, u64) {
         (self.s1, self.s2)
     }

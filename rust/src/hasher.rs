@@ -16,7 +16,7 @@ use core::hash::{BuildHasher, Hasher};
 /// use a hasher for maps alone, whose keys no attacker chooses, and `komihash` for what is
 /// stored, sent or sharded. A tuple costs a hash for each field, and a text two, so hashers that
 /// are made for maps are faster. `Debug` shows the number.
-#[derive(Debug, PartialEq, Eq, Clone)]
+#[derive(Clone, Debug, PartialEq, Eq)]
 pub struct KomiHasher<const V: u8>
 where
     Versions: IsVersion<V>,
@@ -79,7 +79,7 @@ where
 /// attacker chooses.
 ///
 /// `Debug` shows the seed.
-#[derive(Debug, PartialEq, Eq, Clone, Copy)]
+#[derive(Clone, Copy, Debug, PartialEq, Eq)]
 pub struct KomiBuildHasher<const V: u8>
 where
     Versions: IsVersion<V>,

@@ -1,4 +1,4 @@
-//! Streams as writers, with the feature `std`. This file alone is written by hand.
+//! Streams as writers, with the feature `std`.
 extern crate std;
 
 use crate::version::{IsVersion, StreamedKomihash, Versions};

@@ -1,5 +1,3 @@
-// Made by rust/erase.py of crates/komihash/src, where changes belong.
-
 #![doc = include_str!("../README.md")]
 //! # Where to find
 //!
@@ -25,6 +23,7 @@ mod io;
 mod padding;
 mod rounds;
 pub mod stream;
+mod traits;
 mod utils;
 pub mod v4;
 pub mod v5;

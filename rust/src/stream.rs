@@ -107,23 +107,13 @@ pub trait KomiStream: Sized {
 
 /// One call on a stream, for `run_on` and `run`, which take lists of calls as data: from a test
 /// that makes them at random, or from a recording.
-#[derive(PartialEq, Eq, Clone, Copy)]
+#[derive(Clone, Copy, PartialEq, Eq)]
 pub enum Call<'a> {
     /// Absorbs these bytes.
     Absorb(&'a [u8]),
 
     /// Answers the hash of all bytes so far.
     Answer,
-}
-
-impl core::fmt::Debug for Call<'_> {
-    /// Shows how many bytes are absorbed, and none of them.
-    fn fmt(&self, f: &mut core::fmt::Formatter<'_>) -> core::fmt::Result {
-        match self {
-            Call::Absorb(bytes) => write!(f, "Absorb({} bytes)", bytes.len()),
-            Call::Answer => f.write_str("Answer"),
-        }
-    }
 }
 
 /// Makes calls on a stream, in order, writes the answers to the front of `out`, and returns how

@@ -49,7 +49,7 @@ pub(crate) fn read_partial_word(bytes: &[u8], end: u64) -> u64 {
 
 /// Fills `out`, of eight bytes, with the bytes of a word.
 ///
-/// Assigns an array, which is one store.
+/// Assigns an array, which is one store. Rattle's `copy_from_slice` also compares addresses.
 #[inline(always)]
 pub(crate) fn write_word(word: u64, out: &mut [u8]) {
     let Some(chunk) = out.first_chunk_mut::<8>() else { unreachable!() };
@@ -102,5 +102,5 @@ pub(crate) fn write_first_bytes(words: &[u64], count: usize, out: &mut [u8]) {
 #[inline(always)]
 pub(crate) const fn multiply128(x: u64, y: u64) -> (u64, u64) {
     let product = x as u128 * y as u128;
-    (product as u64, (product >> 64) as u64)
+    ((product & 0xffff_ffff_ffff_ffff) as u64, (product >> 64) as u64)
 }

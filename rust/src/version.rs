@@ -1,4 +1,3 @@
-// Made by rust/erase.py of crates/komihash/src, where changes belong.
 //! The types and functions of both versions, for code that is generic over the version. For one
 //! version, take those of [`v4`](crate::v4) or [`v5`](crate::v5).
 //!

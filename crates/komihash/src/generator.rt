@@ -10,19 +10,16 @@ use std::marker::Model;
 
 /// A pseudorandom generator of version V, which is not cryptographic.
 ///
-/// Contracts see a generator as its pair of words. <!-- Rattle -->
 /// A step multiplies the words, and replaces them by sums and exclusive ors of the second word, the
 /// halves of the product, and constants of alternating bits. Its output is the new first word. In
 /// one version, the same pair always gives the same outputs.
-// Rust: ///
-// Rust: /// If low and high are the halves of the product, the new second word is
-// Rust: /// `s2 + high + 0xaaaaaaaaaaaaaaaa`. The new first word is the exclusive or of low and that word
-// Rust: /// in version 4, and `(low ^ high) + 0x5555555555555555` in version 5. These sums wrap around.
-// Rust: /// `Debug` shows both words. Nothing is claimed of how random its outputs are.
-// Rust: // The words are laid out as in the library for C.
-/// `next` of `specs/Generator.antt` has the rule of each version. <!-- Rattle -->
-// Rust: #[repr(C)]
-// Rust: #[derive(Debug, PartialEq, Eq)]
+///
+/// If low and high are the halves of the product, the new second word is
+/// `s2 + high + 0xaaaaaaaaaaaaaaaa`. The new first word is the exclusive or of low and that word
+/// in version 4, and `(low ^ high) + 0x5555555555555555` in version 5. These sums wrap around.
+/// `Debug` shows both words. Nothing is claimed of how random its outputs are.
+// The words are laid out as in the library for C.
+#[repr(C)]
 #[derive(Drop)]
 pub struct Komirand<const V: u8>
 where
@@ -49,15 +46,14 @@ where
     ///
     /// Any words are allowed. The first outputs of small ones are simple patterns: in version 5
     /// `new(0, 0)` outputs 0x5555555555555555 first. `init` takes four steps to get past them.
-    // Rust: ///
-    // Rust: /// ```
-    // Rust: /// use komihash_rattle::v5::Komirand;
-    // Rust: /// const START: Komirand = Komirand::new(0, 0);
-    // Rust: /// assert_eq!(START.clone().next(), 0x5555555555555555);
-    // Rust: /// ```
-    // Rust: #[must_use]
+    ///
+    /// ```
+    /// use komihash::v5::Komirand;
+    /// const START: Komirand = Komirand::new(0, 0);
+    /// assert_eq!(START.clone().next(), 0x5555555555555555);
+    /// ```
+    #[must_use]
     #[inline]
-    // Rust instead: pub const fn new(s1: u64, s2: u64) -> Self
     pub fn new(s1: u64, s2: u64) -> Self
         ensures { result ≡ (s1, s2) }
     {
@@ -65,15 +61,14 @@ where
     }
 
     /// Returns the generator that has the seed as both words, after four steps.
-    // Rust: ///
-    // Rust: /// ```
-    // Rust: /// use komihash_rattle::v5::Komirand;
-    // Rust: /// let (mut one, mut other) = (Komirand::init(1), Komirand::init_with_extra_seed(1, 1));
-    // Rust: /// assert_eq!(one.next(), other.next());
-    // Rust: /// ```
-    // Rust: #[must_use]
+    ///
+    /// ```
+    /// use komihash::v5::Komirand;
+    /// let (mut one, mut other) = (Komirand::init(1), Komirand::init_with_extra_seed(1, 1));
+    /// assert_eq!(one.next(), other.next());
+    /// ```
+    #[must_use]
     #[inline]
-    // Rust instead: pub const fn init(seed: u64) -> Self
     pub fn init(seed: u64) -> Self
         ensures { result ≡ after_steps V 4 (seed, seed) }
     {
@@ -81,16 +76,15 @@ where
     }
 
     /// Returns the generator of two seeds after four steps.
-    // Rust: ///
-    // Rust: /// ```
-    // Rust: /// use komihash_rattle::v5::Komirand;
-    // Rust: /// let (mut one, mut other) = (Komirand::init(1), Komirand::init_with_extra_seed(1, 2));
-    // Rust: /// assert_ne!(one.next(), other.next());
-    // Rust: /// ```
-    // Rust: #[must_use]
+    ///
+    /// ```
+    /// use komihash::v5::Komirand;
+    /// let (mut one, mut other) = (Komirand::init(1), Komirand::init_with_extra_seed(1, 2));
+    /// assert_ne!(one.next(), other.next());
+    /// ```
+    #[must_use]
     #[inline]
     #[tactic(auto, unfolding(crate::specs::Generator::after_steps))]
-    // Rust instead: pub const fn init_with_extra_seed(s1: u64, s2: u64) -> Self
     pub fn init_with_extra_seed(s1: u64, s2: u64) -> Self
         ensures { result ≡ after_steps V 4 (s1, s2) }
     {
@@ -103,20 +97,18 @@ where
     }
 
     /// Returns the pair of words, from which `new` makes the same generator.
-    // Rust: ///
-    // Rust: /// ```
-    // Rust: /// use komihash_rattle::v5::Komirand;
-    // Rust: /// let mut generator = Komirand::init(7);
-    // Rust: /// let (s1, s2) = generator.words();
-    // Rust: /// let mut restored = Komirand::new(s1, s2);
-    // Rust: /// assert_eq!([restored.next(), restored.next()], [generator.next(), generator.next()]);
-    // Rust: /// ```
-    // Rust: #[must_use]
+    ///
+    /// ```
+    /// use komihash::v5::Komirand;
+    /// let mut generator = Komirand::init(7);
+    /// let (s1, s2) = generator.words();
+    /// let mut restored = Komirand::new(s1, s2);
+    /// assert_eq!([restored.next(), restored.next()], [generator.next(), generator.next()]);
+    /// ```
+    #[must_use]
     // Rust instead:
     #[doc(hidden)]
-    // Rust instead: #[inline]
     #[inline(always)]
-    // Rust instead: pub const fn words(&self) -> (u64, u64)
     pub fn words(&self) -> (u64, u64)
         ensures { result ≡ self.now }
     {
@@ -124,17 +116,16 @@ where
     }
 
     /// Takes one step, and returns its output.
-    // Rust: ///
-    // Rust: /// ```
-    // Rust: /// use komihash_rattle::v5::Komirand;
-    // Rust: /// let mut generator = Komirand::init(7);
-    // Rust: /// let throw = 1 + ((u128::from(generator.next()) * 6) >> 64);
-    // Rust: /// assert!((1..=6).contains(&throw));
-    // Rust: /// ```
-    // Rust: #[allow(clippy::should_implement_trait)]
+    ///
+    /// ```
+    /// use komihash::v5::Komirand;
+    /// let mut generator = Komirand::init(7);
+    /// let throw = 1 + ((u128::from(generator.next()) * 6) >> 64);
+    /// assert!((1..=6).contains(&throw));
+    /// ```
+    #[allow(clippy::should_implement_trait)]
     #[inline]
     #[tactic(auto, unfolding(crate::specs::Generator::next))]
-    // Rust instead: pub const fn next(&mut self) -> u64
     pub fn next(&mut self) -> u64
         ensures output { result ≡ (next V self.old).0 }
         ensures pair { self.new ≡ next V self.old }
@@ -155,16 +146,16 @@ where
     ///
     /// Takes one step for each eight bytes, and one more for a remainder, which gets the lowest
     /// bytes of its output; its other bytes are dropped. Takes no step if the buffer is empty.
-    // Rust: ///
-    // Rust: /// ```
-    // Rust: /// use komihash_rattle::v5::Komirand;
-    // Rust: /// let mut generator = Komirand::init(1);
-    // Rust: /// let (first, second) = (generator.next(), generator.next());
-    // Rust: /// let mut bytes = [0; 11];
-    // Rust: /// Komirand::init(1).fill_bytes(&mut bytes);
-    // Rust: /// assert_eq!(bytes[..8], first.to_le_bytes());
-    // Rust: /// assert_eq!(bytes[8..], second.to_le_bytes()[..3]);
-    // Rust: /// ```
+    ///
+    /// ```
+    /// use komihash::v5::Komirand;
+    /// let mut generator = Komirand::init(1);
+    /// let (first, second) = (generator.next(), generator.next());
+    /// let mut bytes = [0; 11];
+    /// Komirand::init(1).fill_bytes(&mut bytes);
+    /// assert_eq!(bytes[..8], first.to_le_bytes());
+    /// assert_eq!(bytes[8..], second.to_le_bytes()[..3]);
+    /// ```
     #[inline]
     #[tactic(auto, unfolding(crate::specs::Generator::after_steps))]
     pub fn fill_bytes(&mut self, buffer: &mut [u8])

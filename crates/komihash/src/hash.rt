@@ -132,14 +132,14 @@ pub(crate) fn hash_message<const V: u8>(bytes: &[u8], seed: u64, tally: &mut Tal
 }
 
 /// Returns the hash of a message of any length with any seed, in version V.
-// Rust: /// It is not for messages that an attacker may choose, whatever the seed is.
-// Rust: ///
-// Rust: /// ```
-// Rust: /// use komihash_rattle::version::komihash;
-// Rust: /// assert_eq!(komihash::<5>(b"", 0), 0xb7683ea7430132b4);
-// Rust: /// assert_ne!(komihash::<4>(&[0x80], 0), komihash::<5>(&[0x80], 0));
-// Rust: /// ```
-// Rust: #[must_use]
+/// It is not for messages that an attacker may choose, whatever the seed is.
+///
+/// ```
+/// use komihash::version::komihash;
+/// assert_eq!(komihash::<5>(b"", 0), 0xb7683ea7430132b4);
+/// assert_ne!(komihash::<4>(&[0x80], 0), komihash::<5>(&[0x80], 0));
+/// ```
+#[must_use]
 #[inline]
 pub fn komihash<const V: u8>(bytes: &[u8], seed: u64) -> u64
 where

@@ -15,12 +15,11 @@ use std::marker::Model;
 ///
 /// So writes are not joined: the number after two writes is not the hash of all their bytes. A
 /// write of no bytes replaces the number too.
-// Rust: ///
-// Rust: /// What a value that implements `Hash` writes depends on the machine and on Rust's version. So
-// Rust: /// use a hasher for maps alone, whose keys no attacker chooses, and `komihash` for what is
-// Rust: /// stored, sent or sharded. A tuple costs a hash for each field, and a text two, so hashers that
-// Rust: /// are made for maps are faster. `Debug` shows the number.
-// Rust: #[derive(Debug, PartialEq, Eq)]
+///
+/// What a value that implements `Hash` writes depends on the machine and on Rust's version. So
+/// use a hasher for maps alone, whose keys no attacker chooses, and `komihash` for what is
+/// stored, sent or sharded. A tuple costs a hash for each field, and a text two, so hashers that
+/// are made for maps are faster. `Debug` shows the number.
 #[derive(Drop)]
 pub struct KomiHasher<const V: u8>
 where
@@ -43,18 +42,17 @@ where
     Versions: IsVersion<V>,
 {
     /// Returns the hasher of a number, which is the seed of its first write.
-    // Rust: ///
-    // Rust: /// ```
-    // Rust: /// use komihash_rattle::v5::{KomiHasher, komihash};
-    // Rust: /// use std::hash::Hasher;
-    // Rust: /// let mut hasher = KomiHasher::new(7);
-    // Rust: /// hasher.write(b"po");
-    // Rust: /// hasher.write(b"rt");
-    // Rust: /// assert_eq!(hasher.finish(), komihash(b"rt", komihash(b"po", 7)));
-    // Rust: /// ```
-    // Rust: #[must_use]
+    ///
+    /// ```
+    /// use komihash::v5::{KomiHasher, komihash};
+    /// use std::hash::Hasher;
+    /// let mut hasher = KomiHasher::new(7);
+    /// hasher.write(b"po");
+    /// hasher.write(b"rt");
+    /// assert_eq!(hasher.finish(), komihash(b"rt", komihash(b"po", 7)));
+    /// ```
+    #[must_use]
     #[inline]
-    // Rust instead: pub const fn new(seed: u64) -> Self
     pub fn new(seed: u64) -> Self
         ensures { result ≡ seed }
     {
@@ -100,9 +98,8 @@ where
 ///
 /// A seed changes the order in which a map iterates. It is no protection against keys that an
 /// attacker chooses.
-// Rust: ///
-// Rust: /// `Debug` shows the seed.
-// Rust: #[derive(Debug, PartialEq, Eq)]
+///
+/// `Debug` shows the seed.
 #[derive(Clone, Copy)]
 pub struct KomiBuildHasher<const V: u8>
 where
@@ -129,17 +126,16 @@ where
     Versions: IsVersion<V>,
 {
     /// Returns the `BuildHasher` of a seed.
-    // Rust: ///
-    // Rust: /// ```
-    // Rust: /// use komihash_rattle::v5::KomiBuildHasher;
-    // Rust: /// use std::collections::HashMap;
-    // Rust: /// let mut ports = HashMap::with_hasher(KomiBuildHasher::new(7));
-    // Rust: /// ports.insert("https", 443);
-    // Rust: /// assert_eq!(ports["https"], 443);
-    // Rust: /// ```
-    // Rust: #[must_use]
+    ///
+    /// ```
+    /// use komihash::v5::KomiBuildHasher;
+    /// use std::collections::HashMap;
+    /// let mut ports = HashMap::with_hasher(KomiBuildHasher::new(7));
+    /// ports.insert("https", 443);
+    /// assert_eq!(ports["https"], 443);
+    /// ```
+    #[must_use]
     #[inline]
-    // Rust instead: pub const fn new(seed: u64) -> Self
     pub fn new(seed: u64) -> Self
         ensures { result ≡ seed }
     {

@@ -63,21 +63,21 @@ pub(crate) fn final_word_of_many(bytes: &[u8], end: u64) -> u64
 }
 
 /// Writes the padded words of a message in version V, and returns how many they are.
-// Rust: ///
-// Rust: /// It does what [`pad`](crate::v5::pad) of version V does.
-// Rust: ///
-// Rust: /// # Panics
-// Rust: ///
-// Rust: /// If `out.len()` is less than `bytes.len() / 8 + 1`.
-// Rust: ///
-// Rust: /// ```
-// Rust: /// use komihash_rattle::version::pad;
-// Rust: /// let mut words = [0; 1];
-// Rust: /// assert_eq!(pad::<4>(&[0x80], &mut words), 1);
-// Rust: /// assert_eq!(words, [0x0280]);
-// Rust: /// assert_eq!(pad::<5>(&[0x80], &mut words), 1);
-// Rust: /// assert_eq!(words, [0x0180]);
-// Rust: /// ```
+///
+/// It does what [`pad`](crate::v5::pad) of version V does.
+///
+/// # Panics
+///
+/// If `out.len()` is less than `bytes.len() / 8 + 1`.
+///
+/// ```
+/// use komihash::version::pad;
+/// let mut words = [0; 1];
+/// assert_eq!(pad::<4>(&[0x80], &mut words), 1);
+/// assert_eq!(words, [0x0280]);
+/// assert_eq!(pad::<5>(&[0x80], &mut words), 1);
+/// assert_eq!(words, [0x0180]);
+/// ```
 #[inline]
 #[tactic(auto, using(crate::proofs::PaddedWords::pad_laws))]
 pub fn pad<const V: u8>(bytes: &[u8], out: &mut [u64]) -> usize
@@ -175,21 +175,21 @@ fn message_length<const V: u8>(words: &[u64]) -> Option<usize>
 
 /// Writes the message that has these padded words in version V to the front of `out`, and returns
 /// its length in bytes. Returns `None`, with `out` unchanged, if no message has these words.
-// Rust: ///
-// Rust: /// It does what [`unpad`](crate::v5::unpad) of version V does.
-// Rust: ///
-// Rust: /// # Panics
-// Rust: ///
-// Rust: /// If `out.len()` is less than `8 * words.len()`.
-// Rust: ///
-// Rust: /// ```
-// Rust: /// use komihash_rattle::version::unpad;
-// Rust: /// let mut message = [0; 8];
-// Rust: /// assert_eq!(unpad::<4>(&[0x0280], &mut message), Some(1));
-// Rust: /// assert_eq!(message[0], 0x80);
-// Rust: /// assert_eq!(unpad::<5>(&[0x0280], &mut message), None);
-// Rust: /// ```
-// Rust: #[must_use]
+///
+/// It does what [`unpad`](crate::v5::unpad) of version V does.
+///
+/// # Panics
+///
+/// If `out.len()` is less than `8 * words.len()`.
+///
+/// ```
+/// use komihash::version::unpad;
+/// let mut message = [0; 8];
+/// assert_eq!(unpad::<4>(&[0x0280], &mut message), Some(1));
+/// assert_eq!(message[0], 0x80);
+/// assert_eq!(unpad::<5>(&[0x0280], &mut message), None);
+/// ```
+#[must_use]
 #[inline]
 #[tactic(auto, using(crate::proofs::Unpadding::unpad_laws))]
 pub fn unpad<const V: u8>(words: &[u64], out: &mut [u8]) -> Option<usize>

@@ -79,8 +79,7 @@ pub(crate) fn read_partial_word(bytes: &[u8], end: u64) -> u64
 
 /// Fills `out`, of eight bytes, with the bytes of a word.
 ///
-/// Assigns an array, which is one store.
-/// Rattle's `copy_from_slice` also compares addresses. <!-- Rattle -->
+/// Assigns an array, which is one store. Rattle's `copy_from_slice` also compares addresses.
 #[inline(always)]
 pub(crate) fn write_word(word: u64, out: &mut [u8])
     requires { length out.old ≡ 8 }
@@ -112,7 +111,7 @@ pub(crate) fn write_partial_word(word: u64, out: &mut [u8])
 }
 
 /// Writes the whole words of `bytes` to the front of `out`.
-// Rust: #[allow(clippy::needless_range_loop)]
+#[allow(clippy::needless_range_loop)]
 #[inline(always)]
 #[tactic(auto, using(crate::proofs::WholeWords::read_words))]
 pub(crate) fn read_whole_words(bytes: &[u8], out: &mut [u64])
@@ -158,7 +157,6 @@ pub(crate) const fn multiply128(x: u64, y: u64, tally: &mut Tally) -> (u64, u64)
     tally.raise(1, 0);
     let product = x as u128 * y as u128;
     (
-        // Rust instead: product as u64,
         (product & 0xffff_ffff_ffff_ffff) as u64,
         (product >> 64) as u64,
     )

@@ -3,11 +3,12 @@
 //! It differs from version 5 in which words of a block are multiplied with each other, in the
 //! padding of messages that end in a byte of 128 or more, in the generator's step, and in the saved
 //! texts of streams.
-// Rust: //!
-// Rust: //! Both give a message of fewer than 64 bytes the same hash if its last byte is below 128. So
-// Rust: //! tell by longer messages which version made a hash.
-// Rust: //!
-// Rust: //! Examples of methods are those of version 5: write `v4` where they have `v5`.
+//!
+//! Both give a message of fewer than 64 bytes the same hash if its last byte is below 128. So
+//! tell by longer messages which version made a hash.
+//!
+//! Examples of methods are those of version 5: write `v4` where they have `v5`.
+// Made of v5.rt by scripts/twins.py, except for the comment above.
 
 ghost use Rattle.std.specs.Prelude.{◌≡◌, ◌+◌, ◌*◌, ◌/◌, ◌≤◌, length};
 ghost use Rattle.komihash.specs.Counts.{Costs, hash_products};
@@ -18,68 +19,67 @@ use crate::tally::Tally;
 use crate::{generator, hash, hasher, padding, stream};
 
 /// The stream of version 4, which hashes bytes that come in pieces.
-// Rust: ///
-// Rust: /// However the bytes are cut, the hash is that of [`komihash`]. Pieces of a multiple of 64 bytes
-// Rust: /// are best, as [the type of both versions](crate::version::StreamedKomihash) explains.
-// Rust: ///
-// Rust: /// ```
-// Rust: /// use komihash_rattle::v4::{StreamedKomihash, komihash};
-// Rust: /// let mut stream = StreamedKomihash::new();
-// Rust: /// stream.write(b"po");
-// Rust: /// stream.write(b"rt");
-// Rust: /// assert_eq!(stream.finish(), komihash(b"port", 0));
-// Rust: /// ```
+///
+/// However the bytes are cut, the hash is that of [`komihash`]. Pieces of a multiple of 64 bytes
+/// are best, as [the type of both versions](crate::version::StreamedKomihash) explains.
+///
+/// ```
+/// use komihash::v4::{StreamedKomihash, komihash};
+/// let mut stream = StreamedKomihash::new();
+/// stream.write(b"po");
+/// stream.write(b"rt");
+/// assert_eq!(stream.finish(), komihash(b"port", 0));
+/// ```
 pub type StreamedKomihash = stream::streamed::StreamedKomihash<4>;
 
 /// The hasher of version 4, which chains the hashes of its writes.
-// Rust: ///
-// Rust: /// Its writes are not joined: each replaces its number by the hash of the bytes, with the number
-// Rust: /// as the seed. Use it for maps alone, whose keys no attacker chooses, as
-// Rust: /// [the type of both versions](crate::version::KomiHasher) explains.
-// Rust: ///
-// Rust: /// ```
-// Rust: /// use komihash_rattle::v4::{KomiHasher, komihash};
-// Rust: /// use std::hash::Hasher;
-// Rust: /// let mut hasher = KomiHasher::default();
-// Rust: /// hasher.write(b"port");
-// Rust: /// assert_eq!(hasher.finish(), komihash(b"port", 0));
-// Rust: /// ```
+///
+/// Its writes are not joined: each replaces its number by the hash of the bytes, with the number
+/// as the seed. Use it for maps alone, whose keys no attacker chooses, as
+/// [the type of both versions](crate::version::KomiHasher) explains.
+///
+/// ```
+/// use komihash::v4::{KomiHasher, komihash};
+/// use std::hash::Hasher;
+/// let mut hasher = KomiHasher::default();
+/// hasher.write(b"port");
+/// assert_eq!(hasher.finish(), komihash(b"port", 0));
+/// ```
 pub type KomiHasher = hasher::KomiHasher<4>;
 
 /// Makes a hasher of version 4 for each key of a map, from one seed.
-// Rust: ///
-// Rust: /// A seed is no protection against keys that an attacker chooses.
-// Rust: ///
-// Rust: /// ```
-// Rust: /// use komihash_rattle::v4::KomiBuildHasher;
-// Rust: /// use std::collections::HashMap;
-// Rust: /// let mut ports = HashMap::with_hasher(KomiBuildHasher::new(7));
-// Rust: /// ports.insert("https", 443);
-// Rust: /// ```
+///
+/// A seed is no protection against keys that an attacker chooses.
+///
+/// ```
+/// use komihash::v4::KomiBuildHasher;
+/// use std::collections::HashMap;
+/// let mut ports = HashMap::with_hasher(KomiBuildHasher::new(7));
+/// ports.insert("https", 443);
+/// ```
 pub type KomiBuildHasher = hasher::KomiBuildHasher<4>;
 
 /// The pseudorandom generator of version 4, which is not cryptographic.
-// Rust: ///
-// Rust: /// [The type of both versions](crate::version::Komirand) has the rule of a step.
-// Rust: ///
-// Rust: /// ```
-// Rust: /// use komihash_rattle::v4::Komirand;
-// Rust: /// let mut sample = [0; 100];
-// Rust: /// Komirand::init(7).fill_bytes(&mut sample);
-// Rust: /// ```
+///
+/// [The type of both versions](crate::version::Komirand) has the rule of a step.
+///
+/// ```
+/// use komihash::v4::Komirand;
+/// let mut sample = [0; 100];
+/// Komirand::init(7).fill_bytes(&mut sample);
+/// ```
 pub type Komirand = generator::Komirand<4>;
 
 /// Returns the hash of a message of any length with any seed.
-/// It is `komi` of `specs/Hash.antt`. <!-- Rattle -->
-// Rust: /// It is not for messages that an attacker may choose, whatever the seed is.
-// Rust: ///
-// Rust: /// ```
-// Rust: /// use komihash_rattle::v4::komihash;
-// Rust: /// assert_eq!(komihash(b"", 0), 0xb7683ea7430132b4);
-// Rust: /// let shard = komihash(&443_u64.to_le_bytes(), 0) % 8;
-// Rust: /// assert!(shard < 8);
-// Rust: /// ```
-// Rust: #[must_use]
+/// It is not for messages that an attacker may choose, whatever the seed is.
+///
+/// ```
+/// use komihash::v4::komihash;
+/// assert_eq!(komihash(b"", 0), 0xb7683ea7430132b4);
+/// let shard = komihash(&443_u64.to_le_bytes(), 0) % 8;
+/// assert!(shard < 8);
+/// ```
+#[must_use]
 #[inline]
 pub fn komihash(bytes: &[u8], seed: u64) -> u64
     ensures { result ≡ komi 4 seed bytes.now }
@@ -106,21 +106,20 @@ pub fn komihash_counted(bytes: &[u8], seed: u64, tally: &mut Tally) -> u64
 /// They are what the hash reads: the bytes of the message, its padding byte, and zeros, eight bytes
 /// per word, the lowest byte first. The padding byte is 1, or 2 in version 4 after a byte of 128 or
 /// more. The empty message has the one word 0. The rest of `out` is unchanged.
-// Rust: ///
-// Rust: /// # Panics
-// Rust: ///
-// Rust: /// If `out.len()` is less than `bytes.len() / 8 + 1`.
-// Rust: ///
-// Rust: /// ```
-// Rust: /// use komihash_rattle::v4::pad;
-// Rust: /// let mut words = [0; 1];
-// Rust: /// assert_eq!(pad(b"abc", &mut words), 1);
-// Rust: /// assert_eq!(words, [0x01636261]);
-// Rust: /// ```
+///
+/// # Panics
+///
+/// If `out.len()` is less than `bytes.len() / 8 + 1`.
+///
+/// ```
+/// use komihash::v4::pad;
+/// let mut words = [0; 1];
+/// assert_eq!(pad(b"abc", &mut words), 1);
+/// assert_eq!(words, [0x01636261]);
+/// ```
 #[inline]
-// Rust: #[track_caller]
+#[track_caller]
 pub fn pad(bytes: &[u8], out: &mut [u64]) -> usize
-    // Rust instead:
     requires { length bytes.now / 8 + 1 ≤ length out.old }
     ensures { Padded 4 bytes.now out result }
 {
@@ -131,24 +130,23 @@ pub fn pad(bytes: &[u8], out: &mut [u64]) -> usize
 /// bytes. The rest of `out` is unchanged. `out` needs room for eight bytes for each word.
 ///
 /// Returns `None`, with all of `out` unchanged, if no message has these words in this version.
-// Rust: ///
-// Rust: /// # Panics
-// Rust: ///
-// Rust: /// If `out.len()` is less than `8 * words.len()`.
-// Rust: ///
-// Rust: /// ```
-// Rust: /// use komihash_rattle::v4::unpad;
-// Rust: /// let mut message = [0; 8];
-// Rust: /// assert_eq!(unpad(&[0x01636261], &mut message), Some(3));
-// Rust: /// assert_eq!(message[..3], *b"abc");
-// Rust: /// assert_eq!(unpad(&[0], &mut message), Some(0));
-// Rust: /// assert_eq!(unpad(&[1], &mut message), None);
-// Rust: /// ```
-// Rust: #[must_use]
+///
+/// # Panics
+///
+/// If `out.len()` is less than `8 * words.len()`.
+///
+/// ```
+/// use komihash::v4::unpad;
+/// let mut message = [0; 8];
+/// assert_eq!(unpad(&[0x01636261], &mut message), Some(3));
+/// assert_eq!(message[..3], *b"abc");
+/// assert_eq!(unpad(&[0], &mut message), Some(0));
+/// assert_eq!(unpad(&[1], &mut message), None);
+/// ```
+#[must_use]
 #[inline]
-// Rust: #[track_caller]
+#[track_caller]
 pub fn unpad(words: &[u64], out: &mut [u8]) -> Option<usize>
-    // Rust instead:
     requires { 8 * length words.now ≤ length out.old }
     ensures { Unpadded 4 words.now out result }
 {

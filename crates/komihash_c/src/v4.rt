@@ -1,4 +1,5 @@
 //! The functions of version 4, as C calls them. `komihash_rattle.h` declares them.
+// Made of v5.rt by scripts/twins.py, except for the comment above.
 
 ghost use Rattle.std.specs.Prelude.{◌≡◌, ◌-◌, ◌*◌, ◌/◌, ◌<◌, ◌≤◌, ◌^◌, ◌↔◌, true, false};
 ghost use Rattle.std.specs.Prelude.{length, Some};

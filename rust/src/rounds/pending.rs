@@ -148,7 +148,7 @@ impl Pending {
     #[inline(always)]
     pub(crate) fn final_word<const V: u8>(&self) -> u64 {
         let last = self.len - 1;
-        let last_byte = (self.words[word_index(last)] >> (8 * (last % 8))) as u8;
+        let last_byte = (self.words[word_index(last)] >> (8 * (last % 8)) & 0xff) as u8;
         let padding = padding_after(pads_with_two::<V>(last_byte));
         self.words[word_index(self.len)] | padding << (8 * (self.len % 8))
     }

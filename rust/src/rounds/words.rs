@@ -24,6 +24,7 @@ pub(crate) trait WholeWords {
 }
 
 /// The whole words of a message's bytes.
+// It is for the reference, because no type parameter of Rattle stands for `[u8]`.
 impl WholeWords for &[u8] {
     #[inline(always)]
     fn holds(&self, count: usize) -> bool {

@@ -1,5 +1,6 @@
 // Made by rust/erase.py of crates/komihash/src, where changes belong.
-//! The stream of both versions, whose type does not name the version.
+//! The stream that `StreamedKomihash` and the library for C share. Its type does not name the
+//! version, because no generic type can be in an interface for C.
 
 use super::saved;
 use crate::padding::{has_two, padding_after, pads_with_two};

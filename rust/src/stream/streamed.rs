@@ -129,16 +129,6 @@ where
     }
 }
 
-impl<const V: u8> core::fmt::Debug for StreamedKomihash<V>
-where
-    Versions: IsVersion<V>,
-{
-    /// Shows no byte of the message.
-    fn fmt(&self, f: &mut core::fmt::Formatter<'_>) -> core::fmt::Result {
-        f.debug_struct("StreamedKomihash").finish_non_exhaustive()
-    }
-}
-
 impl<const V: u8> Default for StreamedKomihash<V>
 where
     Versions: IsVersion<V>,

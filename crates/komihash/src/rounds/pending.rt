@@ -69,11 +69,11 @@ fn append_below_eight(words: &mut [u64; 8], len: usize, bytes: &[u8])
 }
 
 // Appends those of eight or more bytes that complete the partial word.
-// The words from `gap` on and below `gap_end`, as callers choose, are missing. <!-- Rattle -->
 #[inline(always)]
 fn append_within_word(words: &mut [u64; 8], len: usize, bytes: &[u8])
     requires pending { ArePending words.old len }
     requires at_least_8 { 8 ≤ length bytes.now }
+    // The words from `gap` on and below `gap_end`, as callers choose, are missing.
     ensures { (gap gap_end : ℕ)
         → (gap ≤ len / 8 + 1) × (gap_end < 8 → len + length bytes.now ≤ 8 * gap_end)
         → StoresBut words.new (pending_bytes words.old len ++ bytes.now) gap gap_end }
@@ -259,7 +259,6 @@ impl Pending {
         ensures { result ≡ final_word self.now (padding_byte V self.now) }
     {
         let last = self.len - 1;
-        // Rust instead: let last_byte = (self.words[word_index(last)] >> (8 * (last % 8))) as u8;
         let last_byte = (self.words[word_index(last)] >> (8 * (last % 8)) & 0xff) as u8;
         let padding = padding_after(pads_with_two::<V>(last_byte));
         self.words[word_index(self.len)] | padding << (8 * (self.len % 8))

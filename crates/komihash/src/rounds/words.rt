@@ -43,8 +43,7 @@ pub(crate) trait WholeWords {
 }
 
 /// The whole words of a message's bytes.
-/// The impl is for the reference, because no type parameter can stand for `[u8]`. <!-- Rattle -->
-/// So callers pass a `&&[u8]`. <!-- Rattle -->
+// It is for the reference, because no type parameter of Rattle stands for `[u8]`.
 impl WholeWords for &[u8] {
     ghost words = { λ bytes. whole_words bytes.now };
 
@@ -67,7 +66,6 @@ impl WholeWords for &[u8] {
 
 // Returns the pair after a round on the two words from index `at`. The remaining words hash the
 // same from it.
-// This is stated and proved here once, for three calls. <!-- Rattle -->
 #[inline(always)]
 #[tactic(auto, using(crate::proofs::HashPaths::hash_from_pair_two))]
 fn round_at<W: WholeWords>(pair: Pair, left: &W, at: usize, tally: &mut Tally) -> Pair

@@ -1,7 +1,5 @@
-// Rust: //! The stream of both versions, whose type does not name the version.
-//! The stream that `StreamedKomihash` and the library for C share. Its <!-- Rattle -->
-//! type does not name the version, because no generic type can be in an <!-- Rattle -->
-//! interface for C. <!-- Rattle -->
+//! The stream that `StreamedKomihash` and the library for C share. Its type does not name the
+//! version, because no generic type can be in an interface for C.
 
 ghost use Rattle.std.specs.Prelude.{◌≡◌, ◌+◌, ◌<◌, ◌≤◌, ℕ, List, IfSome, length, take, drop};
 ghost use Rattle.komihash.specs.Counts.{Costs, absorb_products, answer_products, absorb_kept_bytes};
@@ -56,7 +54,6 @@ impl RawStream {
     /// Returns the new stream of a seed.
     #[inline(always)]
     #[tactic(auto, unfolding(crate::specs::Stream::HasAbsorbed, crate::specs::Stream::absorb))]
-    // Rust instead: pub const fn start<const V: u8>(seed: u64) -> RawStream
     pub fn start<const V: u8>(seed: u64, tally: &mut Tally) -> RawStream
     where
         Versions: IsVersion<V>,

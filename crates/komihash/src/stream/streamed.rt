@@ -17,9 +17,9 @@ use std::marker::Model;
 /// Pieces of a multiple of 64 bytes are best: as long as all are, none is copied. Otherwise a write
 /// copies into the stream the bytes that continue a partial block, and those that begin a new one:
 /// at most 63 of each.
-// Rust: ///
-// Rust: /// It is not for messages that an attacker may choose, whatever the seed is.
-// Rust: #[repr(transparent)]
+///
+/// It is not for messages that an attacker may choose, whatever the seed is.
+#[repr(transparent)]
 #[derive(Drop)]
 pub struct StreamedKomihash<const V: u8>
 where
@@ -46,16 +46,15 @@ where
     Versions: IsVersion<V>,
 {
     /// Returns the new stream of seed 0.
-    // Rust: ///
-    // Rust: /// ```
-    // Rust: /// use komihash_rattle::StreamedKomihash;
-    // Rust: /// use std::sync::Mutex;
-    // Rust: /// static LOG: Mutex<StreamedKomihash> = Mutex::new(StreamedKomihash::new());
-    // Rust: /// LOG.lock().unwrap().write(b"port");
-    // Rust: /// ```
-    // Rust: #[must_use]
+    ///
+    /// ```
+    /// use komihash::StreamedKomihash;
+    /// use std::sync::Mutex;
+    /// static LOG: Mutex<StreamedKomihash> = Mutex::new(StreamedKomihash::new());
+    /// LOG.lock().unwrap().write(b"port");
+    /// ```
+    #[must_use]
     #[inline]
-    // Rust instead: pub const fn new() -> Self
     pub fn new() -> Self
         ensures { Started V 0 result.state }
     {
@@ -63,39 +62,39 @@ where
     }
 
     /// Returns the new stream of a seed.
-    // Rust: ///
-    // Rust: /// ```
-    // Rust: /// use komihash_rattle::v5::{StreamedKomihash, komihash};
-    // Rust: /// let mut stream = StreamedKomihash::new_with_seed(7);
-    // Rust: /// stream.write(b"p");
-    // Rust: /// assert_eq!(stream.finish(), komihash(b"p", 7));
-    // Rust: /// stream.write(b"ort");
-    // Rust: /// assert_eq!(stream.finish(), komihash(b"port", 7));
-    // Rust: /// ```
-    // Rust: #[must_use]
+    ///
+    /// ```
+    /// use komihash::v5::{StreamedKomihash, komihash};
+    /// let mut stream = StreamedKomihash::new_with_seed(7);
+    /// stream.write(b"p");
+    /// assert_eq!(stream.finish(), komihash(b"p", 7));
+    /// stream.write(b"ort");
+    /// assert_eq!(stream.finish(), komihash(b"port", 7));
+    /// ```
+    #[must_use]
     #[inline]
-    // Rust instead: pub const fn new_with_seed(seed: u64) -> StreamedKomihash<V>
     pub fn new_with_seed(seed: u64) -> StreamedKomihash<V>
         ensures { Started V seed result.state }
     {
-        // Rust instead: StreamedKomihash { raw: RawStream::start::<V>(seed) }
-        StreamedKomihash::start(seed, &mut Tally::new())
+        StreamedKomihash {
+            raw: RawStream::start::<V>(seed, &mut Tally::new()),
+        }
     }
 
     /// Absorbs any number of bytes.
-    // Rust: ///
-    // Rust: /// `ab` and then `c` give the hash of `a` and then `bc`. So where a message has several
-    // Rust: /// parts, write the length of each before it.
-    // Rust: ///
-    // Rust: /// ```
-    // Rust: /// use komihash_rattle::v5::StreamedKomihash;
-    // Rust: /// let mut stream = StreamedKomihash::new();
-    // Rust: /// for part in ["po", "rt"] {
-    // Rust: ///     stream.write(&(part.len() as u64).to_le_bytes());
-    // Rust: ///     stream.write(part.as_bytes());
-    // Rust: /// }
-    // Rust: /// let hash = stream.finish();
-    // Rust: /// ```
+    ///
+    /// `ab` and then `c` give the hash of `a` and then `bc`. So where a message has several
+    /// parts, write the length of each before it.
+    ///
+    /// ```
+    /// use komihash::v5::StreamedKomihash;
+    /// let mut stream = StreamedKomihash::new();
+    /// for part in ["po", "rt"] {
+    ///     stream.write(&(part.len() as u64).to_le_bytes());
+    ///     stream.write(part.as_bytes());
+    /// }
+    /// let hash = stream.finish();
+    /// ```
     #[inline]
     pub fn write(&mut self, bytes: &[u8])
         ensures { Absorbed V (λ stream. stream.state) self bytes.now }
@@ -104,7 +103,7 @@ where
     }
 
     /// Returns the hash of all bytes so far. The stream is unchanged, and may absorb more.
-    // Rust: #[must_use]
+    #[must_use]
     #[inline]
     pub fn finish(&self) -> u64
         ensures { Answered V self.now.state result }
@@ -120,27 +119,26 @@ where
     /// the version, for whether a block was absorbed, for the top bit of that block's last byte in
     /// version 4 (0 in version 5), and for the number of pending bytes; the eight lanes, the lowest
     /// byte first; and the pending bytes as they are.
-    // Rust: ///
-    // Rust: /// # Panics
-    // Rust: ///
-    // Rust: /// If `out.len()` is less than `LONGEST_TEXT`.
-    // Rust: ///
-    // Rust: /// ```
-    // Rust: /// use komihash_rattle::stream::LONGEST_TEXT;
-    // Rust: /// use komihash_rattle::v5::{StreamedKomihash, komihash};
-    // Rust: /// let mut stream = StreamedKomihash::new();
-    // Rust: /// stream.write(b"p");
-    // Rust: /// let mut text = [0; LONGEST_TEXT];
-    // Rust: /// let length = stream.save(&mut text);
-    // Rust: /// let mut resumed = StreamedKomihash::resume(&text[..length]).unwrap();
-    // Rust: /// resumed.write(b"ort");
-    // Rust: /// assert_eq!(resumed.finish(), komihash(b"port", 0));
-    // Rust: /// ```
-    // Rust: #[must_use]
+    ///
+    /// # Panics
+    ///
+    /// If `out.len()` is less than `LONGEST_TEXT`.
+    ///
+    /// ```
+    /// use komihash::stream::LONGEST_TEXT;
+    /// use komihash::v5::{StreamedKomihash, komihash};
+    /// let mut stream = StreamedKomihash::new();
+    /// stream.write(b"p");
+    /// let mut text = [0; LONGEST_TEXT];
+    /// let length = stream.save(&mut text);
+    /// let mut resumed = StreamedKomihash::resume(&text[..length]).unwrap();
+    /// resumed.write(b"ort");
+    /// assert_eq!(resumed.finish(), komihash(b"port", 0));
+    /// ```
+    #[must_use]
     #[inline]
-    // Rust: #[track_caller]
+    #[track_caller]
     pub fn save(&self, out: &mut [u8]) -> usize
-        // Rust instead:
         requires { LONGEST_TEXT ≤ length out.old }
         ensures { Stored V self.now.state out result }
     {
@@ -149,14 +147,13 @@ where
 
     /// Returns the stream that has these bytes as its saved text, or `None` if they don't have the
     /// form of one in this version. There is no checksum: most damaged texts have this form.
-    /// The format is `text` in `specs/Saved.antt`. <!-- Rattle -->
-    // Rust: ///
-    // Rust: /// ```
-    // Rust: /// use komihash_rattle::v5::StreamedKomihash;
-    // Rust: /// let stream = StreamedKomihash::resume(b"not a saved text");
-    // Rust: /// assert!(stream.is_none());
-    // Rust: /// ```
-    // Rust: #[must_use]
+    ///
+    /// ```
+    /// use komihash::v5::StreamedKomihash;
+    /// let stream = StreamedKomihash::resume(b"not a saved text");
+    /// assert!(stream.is_none());
+    /// ```
+    #[must_use]
     #[inline]
     pub fn resume(bytes: &[u8]) -> Option<Self>
         ensures { Restored V (λ stream. stream.state) bytes.now result }
@@ -164,16 +161,6 @@ where
         StreamedKomihash::restore(bytes)
     }
 }
-
-// Rust: impl<const V: u8> core::fmt::Debug for StreamedKomihash<V>
-// Rust: where
-// Rust:     Versions: IsVersion<V>,
-// Rust: {
-// Rust:     /// Shows no byte of the message.
-// Rust:     fn fmt(&self, f: &mut core::fmt::Formatter<'_>) -> core::fmt::Result {
-// Rust:         f.debug_struct("StreamedKomihash").finish_non_exhaustive()
-// Rust:     }
-// Rust: }
 
 impl<const V: u8> Default for StreamedKomihash<V>
 where
