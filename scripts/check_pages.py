@@ -1,7 +1,8 @@
 #!/usr/bin/env python3
 """Checks that what stands in two places is the same: each block of Rattle in CALLING is a part of a
-file of crates/examples, both versions say the same, what users take has the licence, the lemmas that CLAIMS names are there, and each link of a page leads to a
-file that is there, and to a heading of it."""
+file of crates/examples, both versions say the same, what users take has the licence, the lemmas
+that CLAIMS names are there, and each link of a page leads to a file that is there, and to a heading
+of it."""
 
 import re
 from pathlib import Path

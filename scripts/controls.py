@@ -1,6 +1,7 @@
 #!/usr/bin/env python3
 """Proves the control of each must-fail edit, on a copy of the crates: the same edit, whose last
-`new:` is replaced by its line in the crate's controls.txt. Makes as many at once as stand in different places."""
+`new:` is replaced by its line in crates/controls.txt. Makes as many at once as stand in different
+places."""
 
 import re
 import shutil
@@ -9,6 +10,7 @@ import tempfile
 from pathlib import Path
 
 ROOT = Path(__file__).resolve().parent.parent
+CONTROLS = (ROOT / "crates/controls.txt").read_text("utf-8")
 
 
 def make(edit, crate):
@@ -16,8 +18,7 @@ def make(edit, crate):
     text = edit.read_text("utf-8")
     file = crate / text.split()[1]
     code = file.read_text("utf-8")
-    rights = (edit.parents[1] / "controls.txt").read_text("utf-8")
-    right = re.search(rf"^{edit.stem}: (.*)", rights, re.MULTILINE)
+    right = re.search(rf"^{crate.name}/{edit.stem}: (.*)", CONTROLS, re.MULTILINE)
     changes = re.findall("old: (.*)\nnew: (.*)", text)
     for old, new in [*changes[:-1], (changes[-1][0], right and right[1])]:
         if code.count(old) != 1 or code[: code.index(old)].count("/**/") % 2:

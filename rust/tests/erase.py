@@ -18,7 +18,15 @@ LEFT = {
     '// Rust instead:\nfn f() {}\nfn g() {}': 'fn g() {}',
     "fn f() { ['\\'', '\"'] } // \"\nfn g()\n    ensures { x }\n{ }":
         "fn f() { ['\\'', '\"'] } // \"\nfn g() { }",
-    'fn f() {} /// x <!-- Rattle -->': 'fn f() {} /// x <!-- Rattle -->',
+    'fn f()\n    // {\n    ensures { x }\n    // y\n    ensures y { y }\n{ if !(a) { } }':
+        'fn f() { if !(a) { } }',
+    # One that is marked leaves the test to the function that it calls.
+    f'/// x\n#[track_caller]\n#[inline]\npub {DECLARED}\n{{ }}\npub {DECLARED}\n{{ }}':
+        '/// x\n#[track_caller]\n#[inline]\npub fn f(out: &mut [u8]) { }\n'
+        f'{TEST.replace("fn f", "pub fn f")}',
+    'pub struct Komirand;\nimpl Komirand {\n    pub fn next() {}\n    fn new() {}\n}':
+        '#[derive(Debug, PartialEq, Eq)]\npub struct Komirand;\n'
+        'impl Komirand {\n pub const fn next() {}\n fn new() {}\n}',
     # A condition of a public trait is tested in each impl.
     f'pub trait T {{\n    {DECLARED};\n}}\n'
     'impl<const V: u8> T\nfor S {\n    fn f(out: &mut [u8]) { }\n}':
@@ -35,7 +43,9 @@ REFUSED = [
     f'impl T\nfor S {{\n    {DECLARED}\n    {{ }}\n}}', 'pub  fn f() {}', 'pub async fn f() {}',
     'fn f(\n    fn (u8),\n) {}', 'fn f(g: fn(u8)) {}',
     'fn f() { (x, tally) }', 'impl Model for S {\n    fn f() {}\n}', 'ghost f = { ensures { x } };',
-    'fn f() { std::mem::swap(a, b) }', 'pub trait T: Drop {}',
+    'fn f() { std::mem::swap(a, b) }', 'pub trait T: Drop {}', 'fn f() {\n    fn g() {}\n}',
+    'fn f() { panic !() }', "fn f() { 'a: loop { break 'a; } }", "fn f() { continue 'a }",
+    'fn f() { while x invariant { y } { } }', 'fn f() { loop decreases { y } { } }',
 ]
 
 

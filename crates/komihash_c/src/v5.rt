@@ -56,7 +56,6 @@ pub extern "C" fn komihash_v5_unpad(words: &[u64], out: &mut [u8]) -> usize
         → Unpadded 5 words.now out (Some result) }
     ensures unchanged { result ≡ 2 ^ 64 - 1 → out.new ≡ out.old }
     ensures no_room { length out.old < 8 * length words.now → result ≡ 2 ^ 64 - 1 }
-    ensures none { ¬ ArePadded 5 words.now → result ≡ 2 ^ 64 - 1 }
     ensures found { 8 * length words.now ≤ length out.old → ArePadded 5 words.now
         → result < 2 ^ 64 - 1 }
 {
@@ -124,7 +123,7 @@ pub extern "C" fn komihash_v5_save(stream: &Stream, out: &mut [u8]) -> usize
 pub extern "C" fn komihash_v5_resume(stream: &mut Stream, bytes: &[u8]) -> bool
     ensures restored { result ≡ true
         → Restored 5 (λ state. state) bytes.now (Some stream.new.raw) }
-    ensures refused { result ≡ false ↔ ¬ IsText 5 bytes.now }
+    ensures accepted { IsText 5 bytes.now → result ≡ true }
     ensures same { result ≡ false → stream.new ≡ stream.old }
 {
     match RawStream::restore::<5>(bytes) {
