@@ -90,7 +90,8 @@ where
     /// stream from the text, also on another machine. The text is bytes, not UTF-8: one each for
     /// the version, for whether a block was absorbed, for the top bit of that block's last byte in
     /// version 4 (0 in version 5), and for the number of pending bytes; the eight lanes, the lowest
-    /// byte first; and the pending bytes as they are.
+    /// byte first; and the pending bytes as they are. Before 64 bytes were absorbed, the seed can be
+    /// calculated from the lanes, so whoever may read the text may hash with this seed.
     ///
     /// # Panics
     ///
