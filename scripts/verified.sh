@@ -17,11 +17,9 @@ libraries=("x86-64:$out/$so" "x86-64-v3:$out/glibc-hwcaps/x86-64-v3/$so")
 [ ! -d "$out/$arm" ] || libraries+=("armv8-a:$out/$arm/$so")
 part_with "$python" "$python" -B $tests/bodies.py x86-64 "${CC:-cc}"
 part_with "$python" "$python" -B $tests/changes.py "$out/$so"
-part_with "$python $arm-gcc qemu-aarch64" \
-    "$python" -B $tests/bodies.py armv8-a $arm-gcc qemu-aarch64 -L /usr/$arm
+part_with "$python $arm-gcc" "$python" -B $tests/bodies.py armv8-a $arm-gcc
 needs "$python" 'edits of files are refused' "$python" -B $tests/attacks.py "${libraries[@]}"
 if grep -qw avx2 /proc/cpuinfo; then
-    part_with "$python" "$python" -B $tests/bodies.py x86-64-v3 "${CC:-cc}"
     needs "$python" 'random instructions do in the model what they do on the processor' \
         "$python" -B $tests/instructions.py x86-64-v3 "${CC:-cc}"
 else

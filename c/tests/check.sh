@@ -139,6 +139,16 @@ beside_a_copy() {
         $CC -fsyntax-only -I "$prefix/include/komihash_rattle" "$scratch/copy/original.c"
 }
 
+# Calls both versions in a shared library, with a signal at each of its instructions.
+with_signals() {
+    mkdir -p "$scratch/only" && cp "$1" "$scratch/only" || return
+    LD_LIBRARY_PATH="$scratch/only"
+    for number in 4 5; do
+        rows $number | runs -D "VERSION=$number" -I "$prefix/include" tests/signals.c \
+            "$scratch/only/$soname" || return
+    done
+}
+
 # Whether programs keep their shadow call stack, which only ARM64 has, in calls of both versions.
 keeps_shadow_stack() {
     for number in 4 5; do
@@ -319,6 +329,11 @@ case $machine in aarch64*)
     needs clang 'programs with a shadow call stack' keeps_shadow_stack
 esac
 compiler=$CC
+[ "$from$system" != assemblyLinux ] || while read -r file; do
+    case $file in *.a) continue ;; */x86-64-v3/*) grep -qw avx2 /proc/cpuinfo || continue ;; esac
+    run_case "${file#"$prefix/"} with a signal at each instruction" \
+        prints "$values" with_signals "$file"
+done < "$scratch/libraries"
 for target in aarch64_be:big-endian x86_64-linux-gnux32:64-bit; do
     needs clang "the header refuses ${target%:*}, by one error" refused_header $target
 done

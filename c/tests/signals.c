@@ -32,7 +32,7 @@ static void put(uint32_t *at, uint32_t instruction) {
 }
 static void begin(void) {
     Dl_info library;
-    CHECK(dladdr((void *)KOMIHASH(), &library));
+    CHECK(dladdr((void *)(uintptr_t)KOMIHASH(), &library));
     FILE *const content = fopen(library.dli_fname, "rb");
     const size_t size = fread(file, 1, sizeof file, content);
     CHECK(size && size < sizeof file);

@@ -2,8 +2,8 @@
 import copy
 import z3
 from memory import Array, Memory, MustSplit
-from terms import (Facts, Refused, Unknown, bv, const, is_public, secret, signed, simple, sym,
-                   symbols)
+from terms import (SYMBOLS, Facts, Refused, Unknown, bv, const, is_public, secret, signed, simple,
+                   sym, symbols)
 
 # Limits: the bytes of a call's stack, the instructions of a case, and the values of a number for
 # which a path is split.
@@ -180,7 +180,7 @@ class Cpu:
 
     def note_time(self, term):
         if not is_public(term):
-            self.seen.by_contents.update(symbols(term))
+            self.seen.by_contents.update(symbols(term) & SYMBOLS.secret)
 
     # Memory
 

@@ -78,11 +78,14 @@ class Edit:
         self.symbol(VALUE, self.place + at)
         self.level = cases.PROCESSORS[self.elf.machine].LEVELS[-1]
 
-    def note(self, kind, value, other):
-        """Changes the property in the note to which two segments point, and the other of these."""
-        start = self.elf.of_type(elf.PROPERTY)[0].start
-        self.bytes_at(start, struct.pack('<III4sIIII', 4, 16, 5, b'GNU\0', kind, 4, value, 0))
-        self.segment(other, 0, (KIND, FRAMES))
+    def note(self, into, kind, *notes):
+        """Puts notes, each with properties of these values, into one segment, and no other."""
+        packed = b''.join(struct.pack('<III4s', 4, 16 * len(one), 5, b'GNU\0') + b''.join(
+            struct.pack('<IIII', kind, 4, value, 0) for value in one) for one in notes)
+        self.bytes_at(self.elf.of_type(elf.PROPERTY)[0].start, packed)
+        for other in ((elf.PROPERTY, 0), (NOTES, 0), (NOTES, 1)):
+            self.segment(*other, *[(field, len(packed)) for field in (FILLED, SIZE)]
+                         if other == (into, 0) else [(KIND, FRAMES)])
 
 
 def of_header_and_marks(e):
@@ -95,10 +98,11 @@ def of_header_and_marks(e):
         ('another version of ELF', 'no shared library', e.put, (20, 4), 2),
         ('the end is cut off', 'too short', e.content.__delitem__, slice(600, None)),
         ('a function without a mark', 'has none', e.bytes_at, *nothing),
-        ('marks of one kind, and a function without', 'has none',
-         lambda: (e.note(kind, 1, NOTES), e.bytes_at(*nothing))),
-        ('marks of an unknown kind', 'unknown: 0xc0', e.note, kind, 64, NOTES),
-        ('an unknown property', 'unknown: 0xc0008002', e.note, 0xc0008002, 8, elf.PROPERTY),
+        *((f'marks {notes}, and a function without', 'has none',
+           lambda notes=notes: (e.note(elf.PROPERTY, kind, *notes), e.bytes_at(*nothing)))
+          for notes in ([[1]], [[0, 1]], [[0], [1]])),
+        ('marks of an unknown kind', 'unknown: 0xc0', e.note, elf.PROPERTY, kind, [64]),
+        ('an unknown property', 'unknown: 0xc0008002', e.note, NOTES, 0xc0008002, [8]),
         ('a note of another kind', 'of GNU of type 1', e.bytes_at, of_notes + 8, b'\1')]
 
 
@@ -159,8 +163,7 @@ def of_names(e):
     chains, code = buckets + 4 * len(e.elf.buckets), e.elf.chains[at]
     every, numbers = b'\xff' * len(none), [*e.elf.buckets, *e.elf.chains]
     three = struct.pack(f'<II24s{len(numbers)}I', 3, e.elf.shift, every, *numbers)
-    word, bit = code // 64 % len(e.elf.filter), 1 << (code >> e.elf.shift) % 64
-    without = struct.pack('<Q', e.elf.filter[word] & ~bit)
+    word, bits = code // 64 % len(e.elf.filter), (3 << (code & 62), 1 << (code >> e.elf.shift) % 64)
     early = next(k for k, one in enumerate(e.elf.chains) if not one & 1)
     return [(name, reason, e.bytes_at, *change) for name, reason, *change in (
         ('the name of another library', 'would take it for', soname, b'libc.so.6\0'),
@@ -168,8 +171,10 @@ def of_names(e):
         ('a symbol before the first', 'before its first', names + 4, b'\0\0\1'),
         ('a filter of three words', 'in different ways', names + 8, three),
         ('a shift of 40 bits', 'in different ways', names + 12, bytes([40, 0, 0, 0]) + every),
-        ('a filter that finds no name', 'lacks..komihash_v4', names + 16, none),
-        ('a filter without the second bit', f'lacks..{NAME}', names + 16 + 8 * word, without),
+        ('a name of no function', 'lacks..also exports', e.elf.table[elf.STRINGS] +
+         e.elf.strings.index(b'komihash_v4_pad\0'), b's'),
+        *((f'a filter without bit {k}', f'lacks..{NAME}', names + 16 + 8 * word,
+           struct.pack('<Q', e.elf.filter[word] & ~bit)) for k, bit in enumerate(bits)),
         ('another hash', f'lacks..{NAME}', chains + 4 * at + 2, bytes([code >> 16 & 255 ^ 1])),
         ('a chain that ends early', 'lacks', chains + 4 * early,
          bytes([e.elf.chains[early] & 255 | 1])))] + [
@@ -190,14 +195,17 @@ INSTRUCTIONS = {62: {
     'a prefix before VEX': '66 c5 f0 57 c9',
     'a wide vector move by VEX': 'c4 c2 fd 19 cb',
     'a jump of 16 bits': '66 e9 00 00'}, 183: {'a jump to no fixed place': '20 00 1f d6'}}
-# What the command tells of some changes, of which only the first has a verdict.
-TOLD = {'another function': "b'4 passed, 1 failed' 1", 'a jump of 16 bits': "processes' 2"}
+# What the command tells of some changes.
+TOLD = {**dict.fromkeys(('another function', 'a byte below the stack'), '4 passed, 1 failed\n1'),
+        'a jump of 16 bits': 'processes\n2', 'a name of no function': 'also exports'}
 
 
 def changes(e):
     return [*of_header_and_marks(e), *of_segments(e), *of_dynamic_table(e), *of_names(e),
             *((name, ' known ', e.instruction, code)
               for name, code in INSTRUCTIONS[e.elf.machine].items()),
+            ('a byte below the stack', 'below the stack pointer', e.instruction,
+             {62: '884424ff', 183: 'e0c31fb8'}[e.elf.machine]),
             ('code that is not aligned', 'None' if e.elf.machine == 62 else 'that is not aligned',
              e.instruction, '', 10)]
 
@@ -233,13 +241,13 @@ def count(found):
 
 
 def told(edit, level, right):
-    """The last line that the command prints of a file and a right one, and its status."""
+    """What the command prints of a file and a right one, and its status."""
     with tempfile.NamedTemporaryFile(buffering=0) as file:
         file.write(edit.content)
-        done = subprocess.run([sys.executable, '-B', VERIFY, '--function', OTHER_NAME, NAME, '--',
-                               f'{level}:{file.name}', right], check=False,
+        done = subprocess.run([sys.executable, '-B', VERIFY, '--some', '--function', OTHER_NAME,
+                               NAME, '--', f'{level}:{file.name}', right], check=False, text=True,
                               stdout=subprocess.PIPE, stderr=subprocess.DEVNULL)
-    return f'{done.stdout.splitlines()[-1]} {done.returncode}'
+    return f'{done.stdout}{done.returncode}'
 
 
 def rows(libraries):

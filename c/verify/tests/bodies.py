@@ -1,28 +1,25 @@
 """Puts small bodies before those of functions of the library. Each must be refused for the reason
-that stands beside it, or if there is none, pass. Where it says so, `signals.c` must find it too.
+that stands beside it, or if there is none, pass.
 
-bodies.py LEVEL COMPILER [EMULATOR], where the level is x86-64, x86-64-v3 or armv8-a."""
+bodies.py LEVEL COMPILER, where the level is x86-64 or armv8-a."""
 import functools
 import os
 import pathlib
 import re
-import resource
 import subprocess
 import sys
 import tempfile
 C = pathlib.Path(__file__).resolve().parent.parent.parent
 from attacks import NAME, count, is_wanted, refusal
-from definition import VERSIONS
-from vectors import FOLDER, ROWS
 from workers import results
 
 LIBRARY = 'libkomihash_rattle.so.1'
 # A name, a function (or that of NAME), why it is refused, if it is, and a body, before which `red
-# zone` and `signals` may stand. If the name of a case and `..` come before the reason, only such
-# cases are run: those of a class are proofs of any length. `pad` is a whole body of that function,
-# with something before its loop, in each turn, and after.
+# zone` may stand. If the name of a case and `..` come before the reason, only such cases are run:
+# those of a class are proofs of any length. `pad` is a whole body of that function, with something
+# before its loop, in each turn, and after. What follows `turn:` or `next:` goes into the function's
+# own loop, to where a turn begins, or before the test whether there is another.
 X86 = '''
-.macro up by; pop rax; add rsp, \\by; sub rsp, \\by; push rax; .endm
 .macro after code; push rdi; push rsi; push rdx; call body; pop rdx; pop rsi; pop rdi; \\code
     1: ret; .endm
 .macro swap a, b; mov r8, [\\a]; mov r9, [\\b]; mov [\\a], r9; mov [\\b], r8; .endm
@@ -38,22 +35,18 @@ another function||also exports ['memcpy']|.globl memcpy; .type memcpy, @function
 a call of the next||no meaning|xor eax, eax; call 1f; 1: inc eax; cmp eax, 2; jae 1f; ret; 1:
 a frame aligned to more than 16 bytes||4 ways|mov rax, rsp; and rsp, -64; mov rsp, rax
 the red zone|||red zone; mov [rsp - 128], rdi; mov rdi, [rsp - 128]
-no red zone||below the stack pointer|mov [rsp - 1], al
 below the red zone||below the stack pointer|red zone; mov [rsp - 129], al
 a byte that was popped||not written|push rdi; pop rdi; dec rsp; mov al, [rsp]; inc rsp
 a red zone moved||not written|red zone; mov [rsp - 121], al; pop rax; push rax; mov al, [rsp - 121]
 all of the stack|||sub rsp, 4096; mov [rsp], rdi; add rsp, 4096
 more than the stack||out of the stack|sub rsp, 4097; add rsp, 4097
-a pointer far below the stack||out of the stack|signals; sub rsp, 0x40000000; add rsp, 0x40000000
-a stack pointer of the caller||out of the stack|signals; up 4096
+a pointer far below the stack||out of the stack|sub rsp, 0x40000000; add rsp, 0x40000000
+a stack pointer of the caller||out of the stack|pop rax; add rsp, 4096; sub rsp, 4096; push rax
 a small step above the call||out of the stack|pop rax; inc rsp; dec rsp; push rax
-one in a loop|v5_pad|Pad..out of the stack|signals; pad "", "add rsp, 512; sub rsp, 512", ""
+one in a loop|v5_pad|Pad..out of the stack|pad "", "add rsp, 512; sub rsp, 512", ""
 a return address that a loop loses|v5_pad|Pad..not written|pad "add rsp, 8", "", "sub rsp, 8"
 rbx after a loop|v5_pad|Pad..rbx of the caller|pad "", "", "mov rbx, rdi"
 rbx in long refusals|v5_pad|Pad..rbx of the caller|test rcx, rcx; jne body; mov rbx, rdi
-a word that a turn loses|v5_pad|Pad..not written|
-    pad "push rsi; xor r11d, r11d", "mov r10, [rsp]; test r11, r11; je 1f; pop r10; sub rsp, 8; 1:
-    cmp r9, 400; jne 1f; inc r11; 1:", "add rsp, 8"
 a stack that is lower at the end||not where the caller left it|push [rsp]
 an address not aligned||not aligned|paddq xmm0, [rdi]
 a bit in another word||no meaning|mov eax, 200; bt [rdi], rax
@@ -62,8 +55,7 @@ a shift by a byte||does not have|mov cl, [rdi]; or cl, 32; mov eax, 1; shl eax, 
 code where nothing can run||not known|jmp 1f; .pushsection .rodata; 1: jmp body; .popsection
 the highest bit of 0||2 ways|mov rcx, -1; xor eax, eax; bsr ecx, eax; shr rcx, 32; jne 1f; 1:
 a sign after a bit test||flag s is read|xor eax, eax; bt eax, 0; js 1f; 1:
-one that older processors take for another||not known for x86-64: lzcnt|lzcnt rax, rax
-a word over the end, by a number|v5|Hash(0,)..in no array|mov rax, [rdi + 121]
+a byte above the call||in no array|mov [rsp + 8], al
 one over it, by the length|v5|Hash(0,)..in no array|mov rax, [rdi + rsi - 7]
 a write where there may be no room|v5_save|in no array|mov byte ptr [rsi], 0
 a refusal that writes|v5_save|of out were|lea rax, [rdx - 1]; cmp rax, 130; jae body; mov [rsi], al
@@ -95,6 +87,20 @@ a loop that may run over the end|v5_pad|Pad..in no array|
     mov [rdx + 8*r9], r10; inc r9; mov r10, [rdi + 8*r9]; mov [rdx + 8*r9], r10; inc r9; cmp r9,
     r8; jne 2b; jmp .Lrest; 1:", "", ""
 a turn of nothing|v5_pad|Pad..takes nothing|pad "xor r9d, r9d; jmp 1f", "1: cmp r9, 400; je 1b", ""
+two registers that turns change|v5_pad|Pad..many values|
+    pad "", "mov rax, r10; not rax", "xor r10, rax; add r8, r10"
+a byte after the last block|v5_write|Write(13,)..in no array|
+    mov r9, [rdi + 64]; lea r10, [rdx + r9]; and r10, -64; sub r10, r9; mov al, [rsi + r10]
+a byte that may not be there|v5_write|Write(13,)..in no array|
+    turn: 8: cmp [rsi], al; cmp r13, 127; jbe 9f; next: jmp 8b; 9:
+a word of 160 bytes of one|v5_rand_fill|Fill..bytes: found|
+    next: cmp r8, 160; jne 1f; not byte ptr [rsi + 8*r14 - 8]; 1:
+a hash of 150 bytes|v5|Hash(6,)..does not have|
+    push rsi; call body; pop rsi; ret; next: cmp qword ptr [rsp + 64], 150; jne 1f; not rbx; 1:
+a word of 160 bytes|v5_pad|Pad..bytes: found|
+    pad "", "cmp rsi, 160; jne .Lturn; not byte ptr [rdx + 8*r9 - 8]", ""
+a jump by the seed|v5|Hash(0,)..depends on seed|cmp rdx, 5; jb 1f; 1:
+a jump by the top bit|v4_save|save(5,)..depends on top bit|cmp byte ptr [rdi + 137], 1; jb 1f; 1:
 a jump by contents|v5_save|save(5,)..depends on|cmp byte ptr [rdi + 72], 1; jb 1f; 1:
 a jump after a long write|v5_write|Write(13,)..depends on|after "cmp byte ptr [rdi], 1; je 1f"
 one of an address|v5_save|save(5,)..depends|mov al, [rdi + 72]; and eax, 1; mov al, [rdi + rax]
@@ -104,7 +110,7 @@ a carry that is not there|v5_save|calls that must be refused|
     eax; adc rsp, rcx; mov r9, rsp; mov rsp, r8; sub r9, r8; sub r9, rcx; jne 1f; mov qword ptr
     [rsi], 0; mov eax, 77; ret; 1:
 '''
-ARM = '.macro up by; add sp, sp, \\by; sub sp, sp, \\by; .endm\n', '''
+ARM = '', '''
 a register in a frame|||str x19, [sp, -16]!; mov x19, x0; ldr x19, [sp], 16
 a frame not aligned||not aligned to 16|sub sp, sp, 8; str x0, [sp]; add sp, sp, 8
 a store of the register that it moves||no meaning|
@@ -112,33 +118,36 @@ a store of the register that it moves||no meaning|
 a hint that changes a register||not known|hint 25
 an index of 32 bits||not known|add x9, x0, 8; mov x10, -8; ldr x9, [x9, w10, uxtw]
 a word below the stack||below the stack pointer|red zone; stur w0, [sp, -4]
-a stack pointer of the caller||out of the stack|signals; up "4095, lsl 12"
-a small step above the call||out of the stack|up 16
-a pointer far below the stack||out of the stack|signals; up "-4095, lsl 12"
+a small step above the call||out of the stack|add sp, sp, 16; sub sp, sp, 16
+a byte above the call||in no array|strb w0, [sp]
 a stack that is lower at the end||sp is lost|sub sp, sp, 16
 whole blocks that are wrong|v5_write|Write(13,)..the stream at 0|stp x0, x30, [sp, -16]!; bl body;
     ldp x0, x30, [sp], 16; ldr x9, [x0, 64]; cbnz x9, 1f; mov w9, 1; strb w9, [x0]; 1: ret
 '''
-# The registers that a call must preserve, by the calling conventions of System V and of Arm. On
-# ARM64, x18 belongs to the platform, and of vector registers, the low halves are preserved.
-SAVED = {'x86-64': [(one, f'mov {one}, rdi') for one in 'rbx rbp r12 r13 r14 r15'.split()],
-         'armv8-a': [*((f'x{n}', f'mov x{n}, x0') for n in range(18, 30)),
-                     *((f'd{n}', f'movi v{n}.2d, 0') for n in range(8, 16))]}
+# The registers that a call must preserve, by the calling conventions of System V and of Arm, where
+# x18 is the platform's, and the low halves of vectors are preserved. Bit 32 of each is changed.
+SAVED = {'x86-64': [(one, f'bts {one}, 32') for one in 'rbx rbp r12 r13 r14 r15'.split()],
+         'armv8-a': [*((f'x{n}', f'eor x{n}, x{n}, 1 << 32') for n in range(18, 30)),
+                     *((f'd{n}', f'mov x9, 1 << 32; dup v0.2d, x9; eor v{n}.16b, v{n}.16b, v0.16b')
+                       for n in range(8, 16))]}
+# Instructions that processors of the first level lack, or take for others.
+LATER = 'palignr xmm0, xmm0, 1; lzcnt rax, rax; mulx rax, rcx, rdx; vpxor xmm0, xmm0, xmm0'
 # Arrays on x86-64: a function, the name of a case, and for each array, what may be done with bytes
 # of it, the register of its address, and how many there are, as a number and by registers. What is
 # done may stand in instructions, as `_`. Beside it, each array gets rows that must be refused.
 ACCESS = {'read': 'cmp [{}], al', 'write': 'mov [{}], al', 'both': 'or byte ptr [{}], 0'}
 ARRAYS = '''
 v5|hash_of(9,)|read rdi 9 rsi
-v5|Hash(0,)|read rdi 128 rsi
+v5|Hash(0,)|read rdi 128 rsi|read rdi 128 rsi: turn: cmp rsi, 5000; jne 1f; _; 1:
 v5_init|start_of|write rdi 144
 v5_write|write_within(5, 9)|both rdi 144|read rsi 9 rdx
-v5_write|Write(13,)|both rdi 144|read rsi 50
+v5_write|Write(13,)|both rdi 144|read rsi 50|read rsi 128: turn: cmp r13, 5000; jne 1f; _; 1:
 v5_finish|finish(5, 1)|read rdi 144
 v5_save|save(5,)|read rdi 144|write rsi 73: cmp rdx, 131; jb body; _
 v5_resume|resume(68,)|write rdi 144: after "test al, al; je 1f; _"|read rsi 68 rdx
 v5_rand_next|rand_next()|both rdi 16
 v5_rand_fill|rand_fill(5,)|both rdi 16|write rsi 5 rdx
+v5_rand_fill|Fill|both rdi 16|write rsi+8*r14 8: turn: cmp r14, 500; jne 1f; _; 1:
 v5_pad|pad(9,)|read rdi 9 rsi|write rdx 16: cmp rcx, 2; jb body; _
 v5_unpad|unpad(2, (0, 1))|read rdi 16 8*rsi|both rdx 8: after "cmp rax, -1; je 1f; _"
 v5_unpad|Unpad((0, 1),)|read rdi 136 8*rsi
@@ -158,7 +167,7 @@ v5_finish|finish(5, 1)|hash: xor al, [rdi + 143]
 v5_save|save(5,)|bytes: test al, al; je 1f; swap rsi+4, rsi+12|result: inc rax|
     result: cmp rax, 1; adc eax, 0
 v5_resume|resume(68,)|at 137: test al, al; je 1f; or byte ptr [rdi + 137], 2
-v5_rand_init_with_extra_seed|rand_init|s2: inc rdx
+v5_rand_init_with_extra_seed|rand_init|s1: inc rax|s2: inc rdx
 v5_rand_next|rand_next|output: inc rax|s2: not byte ptr [rdi + 8]
 v5_rand_fill|rand_fill(16,)|bytes: swap rsi, rsi+8|s2: not byte ptr [rdi + 8]
 v5_rand_fill|Fill|s1: cmp rdx, 256; jne 1f; mov [rdi], dl|s1: cmp rdx, 383; jne 1f; mov [rdi], dl|
@@ -170,20 +179,22 @@ v5_unpad|Unpad(None,)|length: cmp rsi, 40; jne 1f; inc rax
 v5_unpad|Unpad((7, 1),)|length: cmp rsi, 33; jne 1f; or al, 128|
     length: cmp rsi, 48; jne 1f; or al, 128
 '''
+# Where functions have their loops.
+LOOPS = {'v5': 'komihash::hash::hash_of_blocks::<=5>', 'v5_rand_fill': 'komihash_v5_rand_fill',
+         'v5_write': 'komihash::stream::raw::RawStream::complete_blocks::<=5>'}
 # By level: the assembly, and the marks of functions, after which a body begins; what tells an
 # assembler of the syntax of bodies, and of the rest; and macros and rows.
 KINDS = {'x86-64': ('x86_64', '\tendbr64\n', '.intel_syntax noprefix\n', '.att_syntax\n', X86),
-         'x86-64-v3': ('x86_64_v3', '\tendbr64\n', '', '', ('', '')),
          'armv8-a': ('aarch64', '\thint\t#34\n', '', '', ARM)}
 
 
 def rows(level):
-    """The name, function, reason and body of each row. The first two are the library as it is."""
-    return [*(['the library', f'v{version}_rand_next', '', 'signals'] for version in VERSIONS),
-            *lines(KINDS[level][-1][1]),
+    """The name, function, reason and body of each row."""
+    return [*lines(KINDS[level][-1][1]),
             *([f'{one} of the caller', '', f'{one} of the caller is lost', body]
-              for one, body in SAVED.get(level, ())),
-            *([*of_arrays(), *of_outputs()] if level == 'x86-64' else ())]
+              for one, body in SAVED[level]),
+            *([*([one, '', 'not known for x86-64', one] for one in LATER.split('; ')),
+               *of_arrays(), *of_outputs()] if level == 'x86-64' else ())]
 
 
 def lines(table):
@@ -207,55 +218,44 @@ def of_arrays():
             rows = [(f'{kind} {base}', '', '; '.join(access(f'{end} - 1') for end in ends)),
                     *((f'{kind} {place}', 'in no array', access(place))
                       for place in (f'{base} - 1', *ends)),
-                    (f'write {base}', 'only read', ACCESS['both'].format(base))]
-            for name, why, do in rows[:None if kind == 'read' else -1]:
-                yield f'{function}, {case}: {name}', function, f'{case}..{why}', \
-                    (body or '_').replace('_', do)
+                    *((f'write {place}', 'only read', ACCESS['both'].format(place))
+                      for place in (base, f'{ends[-1]} - 1') if kind == 'read')]
+            for name, why, do in rows:
+                yield f'{function}, {case}: {"turn " * body.startswith("turn")}{name}', function, \
+                    f'{case}..{why}', (body or '_').replace('_', do)
 
 
 def build(path, level, compiler, name, body):
     """Builds the library with a body before that of a function."""
     source, mark, begin, end, (macros, _) = KINDS[level]
     whole = (C / f'assembly/{source}.S').read_text()
+    body, *parts = re.split('(?:^|; )(turn|next): ', body)
+    for part, code in zip(parts[::2], parts[1::2]):
+        loop = r'(\.L\w+):\n(?P<turn>)(?:.*\n)*?(?P<next>).*\n\tj\w+\t\1\n'
+        at = re.search(f'\n"?{LOOPS[name]}"?:\n(?:.*\n)*?{loop}', whole).start(part)
+        whole = f'{whole[:at]}{begin}{code}\n{end}{whole[at:]}'
     before, mark, after = re.split(f'(\nkomihash_{name}:\n.*\n{mark})', whole, 1)
     code = f'{begin}{macros}{end}{before}{mark}{begin}{body}\nbody:\n{end}{after}'
     subprocess.run([compiler, '-shared', '-nostdlib', '-Wl,-soname,' + LIBRARY, '-o', path,
                     '-x', 'assembler-with-cpp', '-'], input=code.encode(), check=True)
 
 
-def bears_signals(path, version, compiler, emulator):
-    """Whether the calls of calls.c go right with a signal at each instruction."""
-    program, values = f'{path}-signals', ''.join(pathlib.Path(FOLDER, n).read_text() for n in ROWS)
-    rows = ''.join(re.findall(fr'^(?:[a-z_]+\t)?{version}\t.*\n', values, re.M))
-    subprocess.run([compiler, '-O0', f'-DVERSION={version}', '-I', C, '-o', program,
-                    C / 'tests/signals.c', path], check=True)
-    done = subprocess.run(
-        ['timeout', '60', *emulator, program], input=rows.encode(), check=False,
-        stdout=subprocess.PIPE, stderr=subprocess.DEVNULL,
-        env={**os.environ, 'LD_LIBRARY_PATH': os.path.dirname(path)})
-    return done.stdout == rows.encode() and not done.returncode
-
-
-def judge(level, compiler, emulator, row):
+def judge(level, compiler, row):
     """The name of a row, its reason, and what is found."""
     name, function, reason, body = row
-    function = function or NAME.removeprefix('komihash_')
-    red_zone, signals, body = re.match('(red zone; )?(signals(?:; )?)?(.*)', body).groups()
+    function, (among, _, wanted) = function or NAME[len('komihash_'):], reason.rpartition('..')
     with tempfile.TemporaryDirectory() as folder:
-        path, (among, _, wanted) = os.path.join(folder, LIBRARY), reason.rpartition('..')
-        build(path, level, compiler, function, body)
+        path = os.path.join(folder, LIBRARY)
+        build(path, level, compiler, function, body.removeprefix('red zone; '))
         why = refusal(pathlib.Path(path).read_bytes(), level, f'komihash_{function}',
-                      bool(red_zone), among)
-        if signals and (why is None) != bears_signals(path, function[1], compiler, emulator):
-            reason = wanted = 'the same with signals'
+                      body.startswith('red zone'), among)
     return name, reason if wanted else 'None', why
 
 
-def main(level, compiler, *emulator):
-    resource.setrlimit(resource.RLIMIT_CORE, (0, 0))
-    judged = functools.partial(judge, level, compiler, emulator)
+def main(level, compiler):
     wanted = [row for row in rows(level) if is_wanted(row[0])]
-    return count(results(len(os.sched_getaffinity(0)), judged, wanted))
+    return count(results(len(os.sched_getaffinity(0)), functools.partial(judge, level, compiler),
+                         wanted))
 
 
 if __name__ == '__main__':
