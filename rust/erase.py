@@ -24,7 +24,7 @@ ADDED = {rf'^( *pub )(?=fn {name}\b)': r'\1const ' for name in CONST} | {
     rf'^(?=pub (?:enum|struct) {name}\b)': f'#[derive({traits})]\n'
     for name, traits in DERIVED.items()}
 MADE = '// Made by rust/erase.py of crates/komihash/src, where changes belong.\n'
-RUSTFMT = 'rustfmt', '--edition', '2024', '--config-path', Path(__file__).resolve().parent
+RUSTFMT = 'rustfmt', '--edition', '2024', '--config', 'use_small_heuristics=Max'
 ONLY_RATTLE = 'laws', 'tally', 'tests'  # modules
 BY_HAND = 'lib', 'version'  # modules that Rust has in a file of its own
 # Comments and literals, which become ‹/N› and ‹sN›, so that no pattern sees what is in them.
