@@ -1003,34 +1003,35 @@
 "komihash::hash::hash_of_partial_word::<=5>":
 	.cfi_startproc
 	cmp	x1, #4
-	add	x8, x0, x1
 	b.lo	.LBB7_2
-	ldur	w8, [x8, #-4]
+	add	x8, x0, x1
 	lsl	x9, x1, #3
 	ldr	w10, [x0]
-	orr	x8, x8, #0x100000000
+	ldur	w8, [x8, #-4]
 	neg	x9, x9
+	orr	x8, x8, #0x100000000
 	lsr	x8, x8, x9
 	orr	x8, x10, x8, lsl #32
 	b	.LBB7_5
 .LBB7_2:
 	cbz	x1, .LBB7_4
-	lsr	x9, x1, #1
+	lsr	x8, x1, #1
+	add	x9, x0, x1
 	lsl	x10, x1, #3
-	ldurb	w8, [x8, #-1]
+	ldurb	w9, [x9, #-1]
 	mov	w11, #1
 	cmp	x1, #1
-	ldrb	w9, [x0, x9]
+	ldrb	w8, [x0, x8]
 	lsl	x10, x11, x10
-	lsl	x8, x8, #16
 	ldrb	w11, [x0]
-	lsl	x9, x9, #8
+	lsl	x9, x9, #16
+	lsl	x8, x8, #8
 	orr	x10, x10, x11
-	csel	x9, xzr, x9, eq
+	csel	x8, xzr, x8, eq
 	cmp	x1, #3
-	csel	x8, x8, xzr, eq
-	orr	x8, x10, x8
-	orr	x8, x8, x9
+	csel	x9, x9, xzr, eq
+	orr	x9, x10, x9
+	orr	x8, x9, x8
 	b	.LBB7_5
 .LBB7_4:
 	mov	w8, #1

@@ -38,6 +38,7 @@ fn hash_of_16_bytes<const V: u8>(bytes: &[u8], seed: u64) -> u64 {
 fn hash_of_words<const V: u8>(bytes: &[u8], seed: u64) -> u64 {
     let pair = seed_pair(seed);
     let final_word = final_word_of_many(bytes, padding_byte::<V>(bytes));
+    // A `&&[u8]`, because a `&[u8]` is what has `WholeWords`.
     hash_from_pair(pair, &bytes, last_whole_word(bytes), final_word)
 }
 
@@ -54,6 +55,10 @@ fn hash_of_one_block<const V: u8>(bytes: &[u8], seed: u64) -> u64 {
 
 #[inline(never)]
 fn hash_of_blocks<const V: u8>(bytes: &[u8], seed: u64) -> u64 {
+    // The compiler then tests no index below.
+    if bytes.len() < 128 {
+        unreachable!()
+    }
     let pair = seed_pair(seed);
     let final_word = final_word_of_many(bytes, padding_byte::<V>(bytes));
     let mut lanes = lanes_of(pair);

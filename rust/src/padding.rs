@@ -26,7 +26,8 @@ pub(crate) fn padding_after(top_bit: bool) -> u64 {
 /// Returns the padding byte of a message that isn't empty.
 #[inline(always)]
 pub(crate) fn padding_byte<const V: u8>(message: &[u8]) -> u64 {
-    padding_after(pads_with_two::<V>(message[message.len() - 1]))
+    // Version 5 reads no byte for it.
+    if has_two::<V>() { padding_after(pads_with_two::<V>(message[message.len() - 1])) } else { 1 }
 }
 
 /// Returns the final word of eight or more bytes: the bytes after the last whole word, and `end`.

@@ -56,17 +56,25 @@ pub(crate) fn write_word(word: u64, out: &mut [u8]) {
     *chunk = word.to_le_bytes();
 }
 
+// Fills `out`, of N bytes, with N bytes. Assigns an array too.
+#[inline(always)]
+fn copy_array<const N: usize>(bytes: &[u8], out: &mut [u8]) {
+    let Some(array) = bytes.first_chunk::<N>() else { unreachable!() };
+    let Some(chunk) = out.first_chunk_mut::<N>() else { unreachable!() };
+    *chunk = *array;
+}
+
 /// Fills `out`, of at most seven bytes, with the lowest bytes of a word.
 #[inline(always)]
 pub(crate) fn write_partial_word(word: u64, out: &mut [u8]) {
     let bytes = word.to_le_bytes();
     let n = out.len();
     if n >= 4 {
-        out[..4].copy_from_slice(&bytes[..4]);
-        out[n - 4..].copy_from_slice(&bytes[n - 4..n]);
+        copy_array::<4>(&bytes[..4], &mut out[..4]);
+        copy_array::<4>(&bytes[n - 4..n], &mut out[n - 4..]);
     } else if n >= 2 {
-        out[..2].copy_from_slice(&bytes[..2]);
-        out[n - 2..].copy_from_slice(&bytes[n - 2..n]);
+        copy_array::<2>(&bytes[..2], &mut out[..2]);
+        copy_array::<2>(&bytes[n - 2..n], &mut out[n - 2..]);
     } else if n == 1 {
         out[0] = bytes[0];
     }

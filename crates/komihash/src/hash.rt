@@ -67,6 +67,7 @@ fn hash_of_words<const V: u8>(bytes: &[u8], seed: u64, tally: &mut Tally) -> u64
 {
     let pair = seed_pair(seed, tally);
     let final_word = final_word_of_many(bytes, padding_byte::<V>(bytes));
+    // A `&&[u8]`, because a `&[u8]` is what has `WholeWords`.
     hash_from_pair(pair, &bytes, last_whole_word(bytes), final_word, tally)
 }
 
@@ -88,10 +89,14 @@ fn hash_of_one_block<const V: u8>(bytes: &[u8], seed: u64, tally: &mut Tally) ->
 
 #[inline(never)]
 fn hash_of_blocks<const V: u8>(bytes: &[u8], seed: u64, tally: &mut Tally) -> u64
-    requires { 64 ≤ length bytes.now }
+    requires { 128 ≤ length bytes.now }
     ensures hash { result ≡ komi V seed bytes.now }
     ensures costs { Costs tally (hash_products (length bytes.now)) 0 }
 {
+    // The compiler then tests no index below.
+    if bytes.len() < 128 {
+        unreachable!()
+    }
     let pair = seed_pair(seed, tally);
     let final_word = final_word_of_many(bytes, padding_byte::<V>(bytes));
     let mut lanes = lanes_of(pair);

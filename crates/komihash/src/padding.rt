@@ -42,7 +42,13 @@ pub(crate) fn padding_byte<const V: u8>(message: &[u8]) -> u64
     ensures byte { result ≡ padding_byte V message.now }
     ensures small { result < 4 }
 {
-    padding_after(pads_with_two::<V>(message[message.len() - 1]))
+    // Version 5 reads no byte for it.
+    let has_two = has_two::<V>();
+    if has_two {
+        padding_after(pads_with_two::<V>(message[message.len() - 1]))
+    } else {
+        1
+    }
 }
 
 /// Returns the final word of eight or more bytes: the bytes after the last whole word, and `end`.

@@ -14,6 +14,7 @@ use crate::version::{IsVersion, Versions};
 /// at most 63 of each.
 ///
 /// It is not for messages that an attacker may choose, whatever the seed is.
+// It is laid out as C has it.
 #[repr(transparent)]
 #[derive(Clone)]
 pub struct StreamedKomihash<const V: u8>

@@ -19,6 +19,7 @@ use std::marker::Model;
 /// at most 63 of each.
 ///
 /// It is not for messages that an attacker may choose, whatever the seed is.
+// It is laid out as C has it.
 #[repr(transparent)]
 #[derive(Drop)]
 pub struct StreamedKomihash<const V: u8>
@@ -215,6 +216,7 @@ where
         })
     }
 
+    // What `Versions` has an impl for is 4 or 5.
     ghost versions = { ⟦<Versions as IsVersion<V>>⟧.is_version };
 
     ghost is_state = { λ s. s.is_state };

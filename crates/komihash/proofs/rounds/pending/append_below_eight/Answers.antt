@@ -32,11 +32,13 @@ returns c =
     let over = c.args.len % 8 in
     let fit = 8 - over in
     let at = (c.args.len / 8 + 1) % 8 in
+    -- the word of the bytes, of which the partial word takes those that fit
     let are = AreBytes-typed bytes c.type_inv.bytes in
     let word = c.read_partial_word-word.ensures ∙ word_of-zeros bytes 1 in
     let first = word ∙ ap word_of (sym (take_all 8 bytes (omega arith))) in
     let partial = partial_stored c.requires.pending bytes _ (c.args.len / 8 + 1)
     ((c.args.len + length bytes + 7) / 8) are first (omega arith) in
+    -- the difference of the code is the word of those that don't fit
     let parts = rotated _ (8 * over) (8 * fit) c.read_partial_word-word.type_inv (omega arith) in
     let left = c.read_partial_word-word.result * 2 ^ (8 * over) % 2 ^ 64 in
     let rest : c.rotate_left.result - left ≡ word_of (drop fit bytes) =

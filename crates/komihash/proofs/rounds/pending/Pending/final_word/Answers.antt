@@ -30,10 +30,12 @@ returns g c =
     let len = c.self.inside.len in
     let xs = pending_bytes c.self.inside.words len in
     let some : 0 < len = omega (arith, ap length c.self.view_is) in
+    -- the byte that the code reads is the last one
     let last = byte_at are (len - 1) (omega arith) in
     let padding : c.padding_after-padding.result ≡ padding_byte g.row.V xs =
     rw (c.padding_after-padding.ensures, c.pads_with_two.ensures, c.word_index.ensures, last, are.count)
     refl in
+    -- the word that it reads is that of the bytes after the last whole word
     let size = length-partial are in
     let whole = take_all 8 (partial are) (omega arith) in
     let after : take 8 (partial are) ≡ after_words xs = rw are.count whole in
