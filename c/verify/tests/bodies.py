@@ -50,6 +50,7 @@ rbx in long refusals|v5_pad|Pad..rbx of the caller|test rcx, rcx; jne body; mov 
 a stack that is lower at the end||not where the caller left it|push [rsp]
 an address not aligned||not aligned|paddq xmm0, [rdi]
 a bit in another word||no meaning|mov eax, 200; bt [rdi], rax
+a loop without end||more than 20000|1: jmp 1b
 a flag after a shift||flag z is read|cmp rdi, rdi; mov ecx, [rdi]; shl rax, cl; jne 1f; 1:
 a shift by a byte||does not have|mov cl, [rdi]; or cl, 32; mov eax, 1; shl eax, cl; xor [rdi], rax
 code where nothing can run||not known|jmp 1f; .pushsection .rodata; 1: jmp body; .popsection
