@@ -39,6 +39,6 @@ for build in ${BUILDS:-x86-64-v2:3 x86-64-v2:s x86-64-v3:3 x86-64-v3:s}; do
     build "${build%:*}" "${build#*:}"
 done
 calls=('' _start _write _finish _rand_{init{,_with_extra_seed,_words},next,fill})
-python=$(sh verify/find_python.sh)
+python=$(make -s python)
 exec "$python" -B ../compare/rust_crate.py --some --red-zone \
     --function "${calls[@]/#/komihash_v4}" "${calls[@]/#/komihash_v5}" "$@" -- "${libraries[@]}"

@@ -104,7 +104,7 @@ js_in_chromium() {
 # Debian keeps wine64 outside of PATH.
 export PATH="$PATH:/usr/lib/wine" WINEPREFIX="$scratch/wine" WINEDEBUG=-all
 export WINEDLLOVERRIDES='mscoree,mshtml=' CARGO_TARGET_DIR=$scratch/crate
-python=$(sh c/verify/find_python.sh) || python=python3-with-z3-and-capstone
+python=$(make -s -C c python) || python=python3-with-z3-and-capstone
 
 always run_case 'the package of the library for C is made again from itself' unpack
 part in_package check

@@ -88,8 +88,29 @@ refuse_memory() {
     run_case "memory for $count allocations: ${*:-no arguments}" \
         diff <(line "$line") <(ran refusing "$request" "$@" < stdin)
 }
-always run_case 'refuse.c compiles' \
-    "${CC:-cc}" -shared -fPIC -o "$scratch/refuse.so" ../../scripts/refuse.c
+# Makes a library that refuses all requests for memory from the one that REFUSE_FROM counts, from 1.
+refuses() {
+    "${CC:-cc}" -x c -shared -fPIC -o "$scratch/refuse.so" - << 'END'
+#include <stdlib.h>
+
+void *__libc_malloc(size_t size);
+void *__libc_calloc(size_t count, size_t size);
+void *__libc_realloc(void *old, size_t size);
+
+static int refuses(void) {
+    static unsigned long requests;
+    const char *first = getenv("REFUSE_FROM");
+    return ++requests >= (first ? strtoul(first, NULL, 10) : 1);
+}
+
+void *malloc(size_t size) { return refuses() ? NULL : __libc_malloc(size); }
+
+void *calloc(size_t count, size_t size) { return refuses() ? NULL : __libc_calloc(count, size); }
+
+void *realloc(void *old, size_t size) { return refuses() ? NULL : __libc_realloc(old, size); }
+END
+}
+always run_case 'what refuses memory compiles' refuses
 refuse_memory 2 "$(cat stdout)"
 refuse_memory 5 4bde5bdc63771675 4 1f
 
