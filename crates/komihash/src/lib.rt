@@ -9,13 +9,13 @@
 //! assert_eq!(rt; stream.finish(), komihash(b"hello world", 42));
 //! ```
 //!
-//! In one version, `komihash` and streams give the same bytes and seed the same hash, however the
-//! bytes were cut. It is proved to be the hash that the definitions in `specs/` give.
+//! In one version, `komihash` and streams return the same hash for the same bytes and seed, however
+//! the bytes were cut. It is proved to be the hash that the definitions in `specs/` give.
 
-// The crate for Rust is made of these files, and their documentation is its own too: Rust's are the
-// examples, `# Panics`, `#[track_caller]`, and what is said of `const`, `Debug`, `version` and clippy.
-// It lacks what stands after `Rattle alone.`, up to an empty line, and `Rust instead:` says what it
-// has in place of the next line.
+// The crate for Rust is made of the other files, and their documentation is its own too: of Rust are
+// the examples, which pass no tally, `# Panics`, and what is said of `Debug`, `version` and clippy. It
+// lacks what stands after `Rattle alone.`, up to an empty line, and `Rust instead:` says what it has
+// in place of the next line.
 
 #![tactic(auto)]
 

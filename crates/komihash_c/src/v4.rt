@@ -1,7 +1,7 @@
 //! The functions of version 4, as C calls them. `komihash_rattle.h` declares them.
 // Made of v5.rt by scripts/twins.py, except for the comment above.
 
-ghost use Rattle.std.specs.Prelude.{◌≡◌, ◌-◌, ◌*◌, ◌/◌, ◌<◌, ◌≤◌, ◌^◌, ◌↔◌, true, false};
+ghost use Rattle.std.specs.Prelude.{◌≡◌, ◌-◌, ◌*◌, ◌/◌, ◌<◌, ◌≤◌, ◌^◌, true, false};
 ghost use Rattle.std.specs.Prelude.{length, Some};
 ghost use Rattle.komihash.specs.Generator.{next, after_steps, fill, after_fill};
 ghost use Rattle.komihash.specs.Hash.{komi};
@@ -168,6 +168,7 @@ pub extern "C" fn komihash_v4_rand_next(rand: &mut Rand) -> u64
     ensures output { result ≡ (next 4 rand.old).0 }
     ensures pair { rand.new ≡ next 4 rand.old }
 {
+    // A `Komirand` names its version, so C can't have one.
     let mut generator = Komirand::new(rand.s1, rand.s2);
     let output = generator.next();
     (rand.s1, rand.s2) = generator.words();

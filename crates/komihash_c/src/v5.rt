@@ -1,6 +1,6 @@
 //! The functions of version 5, as C calls them. `komihash_rattle.h` declares them.
 
-ghost use Rattle.std.specs.Prelude.{◌≡◌, ◌-◌, ◌*◌, ◌/◌, ◌<◌, ◌≤◌, ◌^◌, ◌↔◌, true, false};
+ghost use Rattle.std.specs.Prelude.{◌≡◌, ◌-◌, ◌*◌, ◌/◌, ◌<◌, ◌≤◌, ◌^◌, true, false};
 ghost use Rattle.std.specs.Prelude.{length, Some};
 ghost use Rattle.komihash.specs.Generator.{next, after_steps, fill, after_fill};
 ghost use Rattle.komihash.specs.Hash.{komi};
@@ -167,6 +167,7 @@ pub extern "C" fn komihash_v5_rand_next(rand: &mut Rand) -> u64
     ensures output { result ≡ (next 5 rand.old).0 }
     ensures pair { rand.new ≡ next 5 rand.old }
 {
+    // A `Komirand` names its version, so C can't have one.
     let mut generator = Komirand::new(rand.s1, rand.s2);
     let output = generator.next();
     (rand.s1, rand.s2) = generator.words();

@@ -24,6 +24,17 @@ const _: () = prove!(LONGEST_TEXT == 131);
 
 const _: () = prove!(size_of::<Tally>() == 0);
 
+/// The words of generators that begin with one seed and with two, an output with the words after it,
+/// and the words after a fill.
+#[derive(Clone, Copy)]
+pub struct Drawn {
+    one: (u64, u64),
+    two: (u64, u64),
+    output: u64,
+    next: (u64, u64),
+    filled: (u64, u64),
+}
+
 /// The promises of a version, for the methods of its stream, and for what stands beside it.
 pub trait Promises: KomiStream {
     /// Returns the new stream of a seed, and the two of seed 0.
@@ -63,16 +74,15 @@ pub trait Promises: KomiStream {
         requires { 8 * length words.now ≤ length out.old }
         ensures { Unpadded Self.VERSION words.now out result };
 
-    /// Returns the words of the generators of a seed and of two seeds. Takes a step from the words
-    /// `s1` and `s2`, fills the buffer, and returns the output and the words.
-    fn drawn(s1: u64, s2: u64, buffer: &mut [u8]) -> ((u64, u64), (u64, u64), u64, (u64, u64))
-        ensures one { result.0 ≡ after_steps Self.VERSION 4 (s1, s1) }
-        ensures two { result.1 ≡ after_steps Self.VERSION 4 (s1, s2) }
-        ensures output { result.2 ≡ (next Self.VERSION (s1, s2)).0 }
-        ensures bytes { buffer.new
-            ≡ fill Self.VERSION (next Self.VERSION (s1, s2)) (length buffer.old) }
-        ensures pair { result.3
-            ≡ after_fill Self.VERSION (next Self.VERSION (s1, s2)) (length buffer.old) };
+    /// Returns the words of the generators of a seed and of two seeds, and what a step and a fill do
+    /// from any words.
+    fn drawn(s1: u64, s2: u64, buffer: &mut [u8]) -> Drawn
+        ensures one { result.one ≡ after_steps Self.VERSION 4 (s1, s1) }
+        ensures two { result.two ≡ after_steps Self.VERSION 4 (s1, s2) }
+        ensures output { result.output ≡ (next Self.VERSION (s1, s2)).0 }
+        ensures next { result.next ≡ next Self.VERSION (s1, s2) }
+        ensures bytes { buffer.new ≡ fill Self.VERSION (s1, s2) (length buffer.old) }
+        ensures filled { result.filled ≡ after_fill Self.VERSION (s1, s2) (length buffer.old) };
 
     /// Returns the number of the hasher of a number after a write, and that of the default hasher
     /// after two.
@@ -118,13 +128,18 @@ impl Promises for v4::StreamedKomihash {
         v4::unpad(words, out)
     }
 
-    fn drawn(s1: u64, s2: u64, buffer: &mut [u8]) -> ((u64, u64), (u64, u64), u64, (u64, u64)) {
-        let one = v4::Komirand::init(s1);
-        let two = v4::Komirand::init_with_extra_seed(s1, s2);
-        let mut generator = v4::Komirand::new(s1, s2);
-        let output = generator.next();
-        generator.fill_bytes(buffer);
-        (one.words(), two.words(), output, generator.words())
+    fn drawn(s1: u64, s2: u64, buffer: &mut [u8]) -> Drawn {
+        let mut next = v4::Komirand::new(s1, s2);
+        let mut filled = v4::Komirand::new(s1, s2);
+        let output = next.next();
+        filled.fill_bytes(buffer);
+        Drawn {
+            one: v4::Komirand::init(s1).words(),
+            two: v4::Komirand::init_with_extra_seed(s1, s2).words(),
+            output,
+            next: next.words(),
+            filled: filled.words(),
+        }
     }
 
     fn chained(number: u64, first: &[u8], second: &[u8]) -> (u64, u64) {
@@ -174,13 +189,18 @@ impl Promises for v5::StreamedKomihash {
         v5::unpad(words, out)
     }
 
-    fn drawn(s1: u64, s2: u64, buffer: &mut [u8]) -> ((u64, u64), (u64, u64), u64, (u64, u64)) {
-        let one = v5::Komirand::init(s1);
-        let two = v5::Komirand::init_with_extra_seed(s1, s2);
-        let mut generator = v5::Komirand::new(s1, s2);
-        let output = generator.next();
-        generator.fill_bytes(buffer);
-        (one.words(), two.words(), output, generator.words())
+    fn drawn(s1: u64, s2: u64, buffer: &mut [u8]) -> Drawn {
+        let mut next = v5::Komirand::new(s1, s2);
+        let mut filled = v5::Komirand::new(s1, s2);
+        let output = next.next();
+        filled.fill_bytes(buffer);
+        Drawn {
+            one: v5::Komirand::init(s1).words(),
+            two: v5::Komirand::init_with_extra_seed(s1, s2).words(),
+            output,
+            next: next.words(),
+            filled: filled.words(),
+        }
     }
 
     fn chained(number: u64, first: &[u8], second: &[u8]) -> (u64, u64) {

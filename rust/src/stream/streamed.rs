@@ -14,7 +14,7 @@ use crate::version::{IsVersion, Versions};
 /// at most 63 of each.
 ///
 /// It is not for messages that an attacker may choose, whatever the seed is.
-// It is laid out as C has it.
+// Rust needs this layout for C.
 #[repr(transparent)]
 #[derive(Clone)]
 pub struct StreamedKomihash<const V: u8>
@@ -55,6 +55,7 @@ where
     #[must_use]
     #[inline]
     pub const fn new_with_seed(seed: u64) -> StreamedKomihash<V> {
+        // In Rust, this is `const`, which no method of a trait is.
         StreamedKomihash { raw: RawStream::start::<V>(seed) }
     }
 

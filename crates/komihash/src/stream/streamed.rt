@@ -19,7 +19,7 @@ use std::marker::Model;
 /// at most 63 of each.
 ///
 /// It is not for messages that an attacker may choose, whatever the seed is.
-// It is laid out as C has it.
+// Rust needs this layout for C.
 #[repr(transparent)]
 #[derive(Drop)]
 pub struct StreamedKomihash<const V: u8>
@@ -77,6 +77,7 @@ where
     pub fn new_with_seed(seed: u64) -> StreamedKomihash<V>
         ensures { Started V seed result.state }
     {
+        // In Rust, this is `const`, which no method of a trait is.
         StreamedKomihash {
             raw: RawStream::start::<V>(seed, &mut Tally::new()),
         }
@@ -216,7 +217,7 @@ where
         })
     }
 
-    // What `Versions` has an impl for is 4 or 5.
+    // `⟦..⟧` names the impl of `IsVersion` for V, which says that V is 4 or 5.
     ghost versions = { ⟦<Versions as IsVersion<V>>⟧.is_version };
 
     ghost is_state = { λ s. s.is_state };
