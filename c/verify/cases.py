@@ -107,8 +107,7 @@ class AllCalls(Case):
         return header.check_all(library, self.args).seen
 
 
-# What a case gave: why it failed, or the instructions that ran and how deep the stack was; and how
-# many questions were asked.
+# What a case gave: why it failed, or what ran and how deep the stack was; and how much was asked.
 Done = collections.namedtuple('Done', 'case failure seconds ran depth asked')
 
 

@@ -5,8 +5,7 @@ from memory import Array, Memory, MustSplit
 from terms import (SYMBOLS, Facts, Refused, Unknown, bv, const, is_public, secret, signed, simple,
                    sym, symbols)
 
-# Limits: the bytes of a call's stack, the instructions of a case, and the values of a number for
-# which a path is split.
+# Limits: bytes of a call's stack, instructions of a case, values of a number that splits a path.
 STACK_BYTES, STEPS, VALUES = 4096, 20000, 64
 # Where the loader puts the library: anywhere, at the start of a page.
 LOADED = sym('library')

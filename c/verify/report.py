@@ -46,7 +46,7 @@ def verify(level, path, args, layout):
           f'SHA-256 {hashlib.sha256(content).hexdigest()}')
     names = names_there(image, args.function, args.some)
     cases = [case for name in names for case in cases_of(name)]
-    progress = Progress(cases, args.jobs)
+    progress, left = Progress(cases, args.jobs), len(cases)
     # Those that take longest come first, so that no process is left with one at the end.
     cases.sort(key=lambda case: not case.has_loop())
     try:
@@ -56,10 +56,13 @@ def verify(level, path, args, layout):
             if done.failure:
                 failed.setdefault(done.case.name, f'{done.case}: {done.failure}')
             progress.add(done)
+            left -= 1
             if progress.total('seconds', done.case.name) > SECONDS:
                 raise Unknown(f'{done.case.name} takes more than {SECONDS} seconds')
     finally:
         progress.table(failed)
+    if left:
+        raise Unknown(f'{left} cases were not run')
     return len({*names} - {*failed}), len(failed)
 
 
@@ -88,7 +91,6 @@ def main(text, layout=Ours):
             level, path = one.split(':', 1)
             right, wrong = verify(level, path, args, layout)
             passed, failed = passed + right, failed + wrong
-    # Whatever went wrong, nothing is known then.
     except Exception as error:
         kind = '' if isinstance(error, (OSError, Unknown)) else f'{type(error).__name__}: '
         print(f'verify: nothing is claimed: {path}: {kind}{error}', file=sys.stderr)

@@ -14,7 +14,7 @@ use crate::version::{IsVersion, Versions};
 /// `s2 + high + 0xaaaaaaaaaaaaaaaa`. The new first word is the exclusive or of low and that word
 /// in version 4, and `(low ^ high) + 0x5555555555555555` in version 5. These sums wrap around.
 /// `Debug` shows both words. Nothing is claimed of how random its outputs are.
-// Rust needs this layout for C.
+// In Rust, `c/exports.rs` needs this layout.
 #[repr(C)]
 #[derive(Clone, Debug, PartialEq, Eq)]
 pub struct Komirand<const V: u8>

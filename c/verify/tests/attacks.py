@@ -69,14 +69,14 @@ class Edit:
         offset = self.elf.offset(address)
         self.content[offset:offset + len(new)] = new
 
-    def instruction(self, text, at=8):
+    def instruction(self, text, at=8, levels=None):
         """Moves the function into another one, with an instruction after its mark, for the newest
-        processors."""
+        of so many levels of processors."""
         offset = self.elf.offset(self.function)
         code = self.content[offset:offset + self.elf.symbols[self.elf.find(NAME.encode())][5]]
         self.bytes_at(self.place + at, code[:4] + bytes.fromhex(text) + code[4:])
         self.symbol(VALUE, self.place + at)
-        self.level = cases.PROCESSORS[self.elf.machine].LEVELS[-1]
+        self.level = cases.PROCESSORS[self.elf.machine].LEVELS[:levels][-1]
 
     def note(self, into, kind, *notes):
         """Puts notes, each with properties of these values, into one segment, and no other."""
@@ -95,7 +95,6 @@ def of_header_and_marks(e):
     return [
         *((f'another byte {k}', f'byte {k} is 0x3', e.put, (k, 1), 3) for k in range(16)),
         ('a program', 'no shared library', e.put, (16, 2), 2),
-        ('another version of ELF', 'no shared library', e.put, (20, 4), 2),
         ('the end is cut off', 'too short', e.content.__delitem__, slice(600, None)),
         ('a function without a mark', 'has none', e.bytes_at, *nothing),
         *((f'marks {notes}, and a function without', 'has none',
@@ -107,21 +106,21 @@ def of_header_and_marks(e):
 
 
 def of_segments(e):
-    code, last, relro = e.code, e.parts[-1], e.elf.of_type(RELRO)[0]
+    code, last, relro, after = e.code, e.parts[-1], e.elf.of_type(RELRO)[0], e.parts[e.code_at + 1]
     here, align = ((START, code.start), (OFFSET, code.offset)), (ALIGN, code.align)
     small, at_64 = {62: 2**11, 183: 2**15}[e.elf.machine], ((OFFSET, 64), (START, 64))
     nothing = (OFFSET, 0), (START, 2**20), (FILLED, 0), (SIZE, 0), align
     beyond = (last.start + last.size + 4095 & -4096) + 1 - relro.start
     return [(name, reason, e.segment, *change) for name, reason, *change in (
+        ('a part over the last page of code', 'mapped over', LOAD, e.code_at + 1,
+         (START, code.start + code.size - 1 & -code.align | after.offset % code.align)),
         ('an empty part', 'a part is empty', NOTES, 0, (KIND, LOAD), *nothing),
-        ('a part over code', 'mapped over', NOTES, 0, (KIND, LOAD), here[0], (OFFSET, 0), align),
         ('smaller pages', 'not aligned', LOAD, 0, (ALIGN, small)),
         ('memory without end', 'more than 67108864', LOAD, -1, (SIZE, 2**46)),
         ('tables that can not be read', 'can not be read', LOAD, 0, (RIGHTS, EXECUTE)),
         ('code that can be written', 'could be written', LOAD, e.code_at, (RIGHTS, 7)),
         ('a longer part in the file', 'longer in memory', LOAD, -1, (FILLED, last.size + 8)),
         ('zeros after the code', 'longer in memory', LOAD, e.code_at, (FILLED, code.size - 1)),
-        ('a program that loads it', 'unknown type', NOTES, 0, (KIND, 3)),
         ('variables of threads', 'unknown type', NOTES, 0, (KIND, 7)),
         ('two dynamic tables', 'one dynamic table', NOTES, 0, (KIND, DYNAMIC)),
         ('a stack that can run', 'could be executed', STACK, 0, (RIGHTS, 7)),
@@ -149,6 +148,7 @@ def of_dynamic_table(e):
         *((f'a flag {1 << bit:#x} of {tag:#x}', 'do more', elf.FLAGS, tag, 1 << bit)
           for tag, bits in BITS.items() for bit in bits),
         ('no table of hashes', 'no DT_GNU_HASH', elf.HASHES, BIND_NOW),
+        ('two of them', 'twice', SONAME, elf.HASHES, code),
         ('a table beyond memory', 'not in memory', SONAME, elf.COUNTED, 2**40),
         ('a count of other symbols', 'counts other', SONAME, elf.COUNTED, names))] + [
             ('a table that can be written', 'only read',
@@ -206,6 +206,7 @@ def changes(e):
               for name, code in INSTRUCTIONS[e.elf.machine].items()),
             ('a byte below the stack', 'below the stack pointer', e.instruction,
              {62: '884424ff', 183: 'e0c31fb8'}[e.elf.machine]),
+            ('lzcnt on older processors', ' known ', e.instruction, 'f3480fbdc0', 8, 2),
             ('code that is not aligned', 'None' if e.elf.machine == 62 else 'that is not aligned',
              e.instruction, '', 10)]
 

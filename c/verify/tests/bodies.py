@@ -31,17 +31,13 @@ X86 = '''
     dec esi; jne .Lbyte; .Lstore: mov [rdx + 8*r8], r10; lea rax, [r8 + 1]; .Lend: ret; .endm
 ''', '''
 a changed return address||not the caller|call 1f; nop; jmp body; 1: inc qword ptr [rsp]; ret
-another function||also exports ['memcpy']|.globl memcpy; .type memcpy, @function; memcpy:
 a call of the next||no meaning|xor eax, eax; call 1f; 1: inc eax; cmp eax, 2; jae 1f; ret; 1:
 a frame aligned to more than 16 bytes||4 ways|mov rax, rsp; and rsp, -64; mov rsp, rax
 the red zone|||red zone; mov [rsp - 128], rdi; mov rdi, [rsp - 128]
 below the red zone||below the stack pointer|red zone; mov [rsp - 129], al
-a byte that was popped||not written|push rdi; pop rdi; dec rsp; mov al, [rsp]; inc rsp
 a red zone moved||not written|red zone; mov [rsp - 121], al; pop rax; push rax; mov al, [rsp - 121]
 all of the stack|||sub rsp, 4096; mov [rsp], rdi; add rsp, 4096
 more than the stack||out of the stack|sub rsp, 4097; add rsp, 4097
-a pointer far below the stack||out of the stack|sub rsp, 0x40000000; add rsp, 0x40000000
-a stack pointer of the caller||out of the stack|pop rax; add rsp, 4096; sub rsp, 4096; push rax
 a small step above the call||out of the stack|pop rax; inc rsp; dec rsp; push rax
 one in a loop|v5_pad|Pad..out of the stack|pad "", "add rsp, 512; sub rsp, 512", ""
 a return address that a loop loses|v5_pad|Pad..not written|pad "add rsp, 8", "", "sub rsp, 8"
@@ -55,8 +51,12 @@ a flag after a shift||flag z is read|cmp rdi, rdi; mov ecx, [rdi]; shl rax, cl; 
 a shift by a byte||does not have|mov cl, [rdi]; or cl, 32; mov eax, 1; shl eax, cl; xor [rdi], rax
 code where nothing can run||not known|jmp 1f; .pushsection .rodata; 1: jmp body; .popsection
 the highest bit of 0||2 ways|mov rcx, -1; xor eax, eax; bsr ecx, eax; shr rcx, 32; jne 1f; 1:
-a sign after a bit test||flag s is read|xor eax, eax; bt eax, 0; js 1f; 1:
 a byte above the call||in no array|mov [rsp + 8], al
+a word half below the stack||below the stack pointer|mov [rsp - 4], rdi
+a byte far below||not written|
+    sub rsp, 256; mov [rsp], al; add rsp, 256; sub rsp, 256; mov al, [rsp]; add rsp, 256
+a jump by a register of the caller|v5_save|save(5,)..depends on r10|test r10, r10; je 1f; 1:
+a jump by a product|v5|Hash(0,)..depends on|call body; test dl, dl; je 1f; 1: ret
 one over it, by the length|v5|Hash(0,)..in no array|mov rax, [rdi + rsi - 7]
 a write where there may be no room|v5_save|in no array|mov byte ptr [rsi], 0
 a refusal that writes|v5_save|of out were|lea rax, [rdx - 1]; cmp rax, 130; jae body; mov [rsi], al
@@ -74,7 +74,6 @@ a hash that is not finished|v5|Hash(4,)..before the end|cmp rsi, 300; jne body; 
 a write of nothing|v5_write|Write(13,)..before the end|cmp rdx, 300; jne body; xor eax, eax;
     mov [rdi], rax; mov [rdi + 8], rax; mov [rdi + 64], rax; mov byte ptr [rdi + 136], 1; ret
 a refusal|v5_pad|Pad..before the end|cmp rsi, 304; jne body; cmp rcx, 39; jb body; xor eax, eax; ret
-words in another order||s2: found|swap rdi, rdi+8
 a multiplication more||the definition does not have|mov rax, rdi; mul rdi
 one wrong for a state||does not have|cmp qword ptr [rdi], 5; sete al; movzx eax, al; add [rdi], rax
 one made twice||has made already|mov rax, [rdi]; mul qword ptr [rdi + 8]
@@ -82,7 +81,6 @@ a loop|v5_pad|Pad..|pad "", "", ""
 one wrong from byte 3,200 on|v5_pad|Pad..in no array|pad "", "cmp r9, 400; jne .Lturn; inc r9", ""
 one that leaves its loop there|v5_pad|Pad..the rest|pad "", "cmp r9, 400; je .Lrest", ""
 a loop begun late|v5_pad|Pad..in no array|pad "cmp rsi, 304; mov r9d, 1; je .Lturn", "", ""
-a word of a turn that is wrong|v5_pad|Pad..bytes: found|pad "", "not byte ptr [rdx + 8*r9 - 8]", ""
 a loop that may run over the end|v5_pad|Pad..in no array|
     pad "cmp r8, 16; jb 1f; mov r10, [rdi]; mov [rdx], r10; mov r9d, 1; 2: mov r10, [rdi + 8*r9];
     mov [rdx + 8*r9], r10; inc r9; mov r10, [rdi + 8*r9]; mov [rdx + 8*r9], r10; inc r9; cmp r9,
@@ -102,7 +100,6 @@ a word of 160 bytes|v5_pad|Pad..bytes: found|
     pad "", "cmp rsi, 160; jne .Lturn; not byte ptr [rdx + 8*r9 - 8]", ""
 a jump by the seed|v5|Hash(0,)..depends on seed|cmp rdx, 5; jb 1f; 1:
 a jump by the top bit|v4_save|save(5,)..depends on top bit|cmp byte ptr [rdi + 137], 1; jb 1f; 1:
-a jump by contents|v5_save|save(5,)..depends on|cmp byte ptr [rdi + 72], 1; jb 1f; 1:
 a jump after a long write|v5_write|Write(13,)..depends on|after "cmp byte ptr [rdi], 1; je 1f"
 one of an address|v5_save|save(5,)..depends|mov al, [rdi + 72]; and eax, 1; mov al, [rdi + rax]
 a jump by where the library is||2 ways|lea rax, [rip + __ehdr_start]; test eax, 4096; jne 1f; 1:
@@ -117,7 +114,6 @@ a frame not aligned||not aligned to 16|sub sp, sp, 8; str x0, [sp]; add sp, sp, 
 a store of the register that it moves||no meaning|
     sub sp, sp, 16; mov x9, sp; .inst 0xf8008529; add sp, sp, 16
 a hint that changes a register||not known|hint 25
-an index of 32 bits||not known|add x9, x0, 8; mov x10, -8; ldr x9, [x9, w10, uxtw]
 a word below the stack||below the stack pointer|red zone; stur w0, [sp, -4]
 a small step above the call||out of the stack|add sp, sp, 16; sub sp, sp, 16
 a byte above the call||in no array|strb w0, [sp]
@@ -131,18 +127,20 @@ SAVED = {'x86-64': [(one, f'bts {one}, 32') for one in 'rbx rbp r12 r13 r14 r15'
          'armv8-a': [*((f'x{n}', f'eor x{n}, x{n}, 1 << 32') for n in range(18, 30)),
                      *((f'd{n}', f'mov x9, 1 << 32; dup v0.2d, x9; eor v{n}.16b, v{n}.16b, v0.16b')
                        for n in range(8, 16))]}
-# Instructions that processors of the first level lack, or take for others.
-LATER = 'palignr xmm0, xmm0, 1; lzcnt rax, rax; mulx rax, rcx, rdx; vpxor xmm0, xmm0, xmm0'
+# Instructions that processors of the level lack, or take for others, or with an index of 32 bits.
+UNKNOWN = {'x86-64': ['palignr xmm0, xmm0, 1', 'lzcnt rax, rax', 'mulx rax, rcx, rdx'],
+           'armv8-a': [f'{one} w9, [x0, w10, uxtw]' for one in ('ldr', 'ldrb', 'ldrh', 'str')]}
 # Arrays on x86-64: a function, the name of a case, and for each array, what may be done with bytes
 # of it, the register of its address, and how many there are, as a number and by registers. What is
 # done may stand in instructions, as `_`. Beside it, each array gets rows that must be refused.
-ACCESS = {'read': 'cmp [{}], al', 'write': 'mov [{}], al', 'both': 'or byte ptr [{}], 0'}
+ACCESS = {'read': 'cmp {} ptr [{}], 0', 'write': 'mov {} ptr [{}], 0', 'both': 'or {} ptr [{}], 0'}
 ARRAYS = '''
 v5|hash_of(9,)|read rdi 9 rsi
-v5|Hash(0,)|read rdi 128 rsi|read rdi 128 rsi: turn: cmp rsi, 5000; jne 1f; _; 1:
+v5|Hash(0,)|read rdi 128 rsi|read rdi+rsi-64 64|read rdi 128 rsi: turn: cmp rsi, 5000; jne 1f; _; 1:
 v5_init|start_of|write rdi 144
 v5_write|write_within(5, 9)|both rdi 144|read rsi 9 rdx
-v5_write|Write(13,)|both rdi 144|read rsi 50|read rsi 128: turn: cmp r13, 5000; jne 1f; _; 1:
+v5_write|Write(13,)|both rdi 144|read rsi 50|read rsi 128: turn: cmp r13, 5000; jne 1f; _; 1:|
+    read rsi+r9-1 1: after "mov r9, rdx; sub r9, [rdi + 64]; _"
 v5_finish|finish(5, 1)|read rdi 144
 v5_save|save(5,)|read rdi 144|write rsi 73: cmp rdx, 131; jb body; _
 v5_resume|resume(68,)|write rdi 144: after "test al, al; je 1f; _"|read rsi 68 rdx
@@ -150,6 +148,7 @@ v5_rand_next|rand_next()|both rdi 16
 v5_rand_fill|rand_fill(5,)|both rdi 16|write rsi 5 rdx
 v5_rand_fill|Fill|both rdi 16|write rsi+8*r14 8: turn: cmp r14, 500; jne 1f; _; 1:
 v5_pad|pad(9,)|read rdi 9 rsi|write rdx 16: cmp rcx, 2; jb body; _
+v5_pad|Pad|read rdi+rsi-128 128
 v5_unpad|unpad(2, (0, 1))|read rdi 16 8*rsi|both rdx 8: after "cmp rax, -1; je 1f; _"
 v5_unpad|Unpad((0, 1),)|read rdi 136 8*rsi
 '''
@@ -159,8 +158,6 @@ OUTPUTS = '''
 v5|hash_of(9,)|hash: not rax
 v5|Hash(0,)|hash: cmp rsi, 256; jne 1f; not rax
 v5|Hash(7,)|hash: cmp rsi, 319; jne 1f; not rax
-v5_start|start_of|at 0: not byte ptr [rdi]|at 64: not byte ptr [rdi + 64]|address: inc rax
-v5_init|start_of|at 128: not byte ptr [rdi + 135]
 v5_write|write_within(5, 3)|at 136: not byte ptr [rdi + 136]
 v5_write|Write(13,)|at 0: cmp byte ptr [rdi + 64], 0; jne 1f; not byte ptr [rdi]|
     at 0: cmp byte ptr [rdi + 64], 63; jne 1f; not byte ptr [rdi]
@@ -183,8 +180,10 @@ v5_unpad|Unpad((7, 1),)|length: cmp rsi, 33; jne 1f; or al, 128|
 # Where functions have their loops.
 LOOPS = {'v5': 'komihash::hash::hash_of_blocks::<=5>', 'v5_rand_fill': 'komihash_v5_rand_fill',
          'v5_write': 'komihash::stream::raw::RawStream::complete_blocks::<=5>'}
-# By level: the assembly, and the marks of functions, after which a body begins; what tells an
-# assembler of the syntax of bodies, and of the rest; and macros and rows.
+OUTPUTS += 'v5_start|start_of|address: inc rax' + ''.join(
+    f'|at {k}: not byte ptr [rdi + {k}]' for k in range(0, 137, 8))
+# The assembly, the marks of functions, after which a body begins, what tells an assembler of the
+# syntax of bodies, and of the rest, and macros and rows.
 KINDS = {'x86-64': ('x86_64', '\tendbr64\n', '.intel_syntax noprefix\n', '.att_syntax\n', X86),
          'armv8-a': ('aarch64', '\thint\t#34\n', '', '', ARM)}
 
@@ -194,8 +193,8 @@ def rows(level):
     return [*lines(KINDS[level][-1][1]),
             *([f'{one} of the caller', '', f'{one} of the caller is lost', body]
               for one, body in SAVED[level]),
-            *([*([one, '', 'not known for x86-64', one] for one in LATER.split('; ')),
-               *of_arrays(), *of_outputs()] if level == 'x86-64' else ())]
+            *([one, '', f'not known for {level}', one] for one in UNKNOWN[level]),
+            *([*of_arrays(), *of_outputs()] if level == 'x86-64' else ())]
 
 
 def lines(table):
@@ -216,10 +215,12 @@ def of_arrays():
         for words, _, body in (array.partition(': ') for array in arrays):
             kind, base, *sizes = words.split()
             ends, access = [f'{base} + {size}' for size in sizes], ACCESS[kind].format
-            rows = [(f'{kind} {base}', '', '; '.join(access(f'{end} - 1') for end in ends)),
-                    *((f'{kind} {place}', 'in no array', access(place))
+            rows = [(f'{kind} {base}', '', '; '.join(access('byte', f'{end} - 1') for end in ends)),
+                    *((f'{kind} {place}', 'in no array', access('byte', place))
                       for place in (f'{base} - 1', *ends)),
-                    *((f'write {place}', 'only read', ACCESS['both'].format(place))
+                    *((f'{kind} over {end}', 'in no array', access('qword', f'{end} - 7'))
+                      for end in ends),
+                    *((f'write {place}', 'only read', ACCESS['both'].format('byte', place))
                       for place in (base, f'{ends[-1]} - 1') if kind == 'read')]
             for name, why, do in rows:
                 yield f'{function}, {case}: {"turn " * body.startswith("turn")}{name}', function, \
@@ -254,9 +255,8 @@ def judge(level, compiler, row):
 
 
 def main(level, compiler):
-    wanted = [row for row in rows(level) if is_wanted(row[0])]
-    return count(results(len(os.sched_getaffinity(0)), functools.partial(judge, level, compiler),
-                         wanted))
+    jobs, do = len(os.sched_getaffinity(0)), functools.partial(judge, level, compiler)
+    return count(results(jobs, do, [row for row in rows(level) if is_wanted(row[0])]))
 
 
 if __name__ == '__main__':

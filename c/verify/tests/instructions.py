@@ -23,9 +23,8 @@ from memory import MustSplit
 from opcodes import KNOWN_ARM64, KNOWN_X86, MAP_OF_VEX, PREFIX_OF_VEX, PREFIXES
 from terms import Refused, Unknown, bv, const, simple
 
-# How many codes are tried for an encoding, of which one in NEAR only resembles it and most often
-# must be refused; and how many are compared, FEW, or MANY if it jumps. On ARM64, such an encoding
-# has a condition or the number of a bit in it.
+# How many codes are tried for an encoding, of which one in NEAR only resembles it; and how many are
+# compared: FEW, or MANY if it jumps, since a jump of ARM64 may have the number of a bit in it.
 X86, ARM = PROCESSORS.values()
 TRIES, NEAR, FEW, MANY = 6000, 7, {X86: 16, ARM: 20}, {X86: 32, ARM: 384}
 NEVER = {'bti', 'hint'}  # A version of capstone prints only one of these two.

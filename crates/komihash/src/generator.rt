@@ -18,7 +18,7 @@ use std::marker::Model;
 /// `s2 + high + 0xaaaaaaaaaaaaaaaa`. The new first word is the exclusive or of low and that word
 /// in version 4, and `(low ^ high) + 0x5555555555555555` in version 5. These sums wrap around.
 /// `Debug` shows both words. Nothing is claimed of how random its outputs are.
-// Rust needs this layout for C.
+// In Rust, `c/exports.rs` needs this layout.
 #[repr(C)]
 #[derive(Drop)]
 pub struct Komirand<const V: u8>

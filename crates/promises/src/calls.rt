@@ -24,8 +24,8 @@ const _: () = prove!(LONGEST_TEXT == 131);
 
 const _: () = prove!(size_of::<Tally>() == 0);
 
-/// The words of generators that begin with one seed and with two, an output with the words after it,
-/// and the words after a fill.
+/// The words of generators that begin with one seed and with two, an output with the words after
+/// it, and the words after a fill.
 #[derive(Clone, Copy)]
 pub struct Drawn {
     one: (u64, u64),
@@ -74,8 +74,8 @@ pub trait Promises: KomiStream {
         requires { 8 * length words.now ≤ length out.old }
         ensures { Unpadded Self.VERSION words.now out result };
 
-    /// Returns the words of the generators of a seed and of two seeds, and what a step and a fill do
-    /// from any words.
+    /// Returns the words of the generators of a seed and of two seeds, and what a step and a fill
+    /// do from any words.
     fn drawn(s1: u64, s2: u64, buffer: &mut [u8]) -> Drawn
         ensures one { result.one ≡ after_steps Self.VERSION 4 (s1, s1) }
         ensures two { result.two ≡ after_steps Self.VERSION 4 (s1, s2) }

@@ -19,7 +19,7 @@ use std::marker::Model;
 /// at most 63 of each.
 ///
 /// It is not for messages that an attacker may choose, whatever the seed is.
-// Rust needs this layout for C.
+// In Rust, `c/exports.rs` needs this layout.
 #[repr(transparent)]
 #[derive(Drop)]
 pub struct StreamedKomihash<const V: u8>
@@ -77,7 +77,7 @@ where
     pub fn new_with_seed(seed: u64) -> StreamedKomihash<V>
         ensures { Started V seed result.state }
     {
-        // In Rust, this is `const`, which no method of a trait is.
+        // In Rust, this is `const`, so it can't call `start`, a method of a trait.
         StreamedKomihash {
             raw: RawStream::start::<V>(seed, &mut Tally::new()),
         }
@@ -120,8 +120,8 @@ where
     /// stream from the text, also on another machine. The text is bytes, not UTF-8: one each for
     /// the version, for whether a block was absorbed, for the top bit of that block's last byte in
     /// version 4 (0 in version 5), and for the number of pending bytes; the eight lanes, the lowest
-    /// byte first; and the pending bytes as they are. Before 64 bytes were absorbed, the seed can be
-    /// calculated from the lanes, so whoever may read the text may hash with this seed.
+    /// byte first; and the pending bytes as they are. Before 64 bytes were absorbed, the seed can
+    /// be calculated from the lanes, so whoever may read the text may hash with this seed.
     ///
     /// # Panics
     ///
