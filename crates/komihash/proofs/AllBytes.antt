@@ -39,13 +39,20 @@ take-all_bytes (w ∷ ws) zero over lt le = take-append-le over (to_le_bytes w64
 take-all_bytes (w ∷ ws) (suc i) over lt le =
     grind (arith, drop-drop (8 * i) 8 (all_bytes (w ∷ ws)), take-all_bytes ws i over)
 
--- one more word is written: its lowest j bytes
-pub Covers-more : (ws out new old : List ℕ) (i j k n : ℕ) → Covers (8 * i) out (all_bytes ws) old
-    → new ≡ take j (to_le_bytes w64 (get_or ws i 0)) → i < length ws → j ≤ 8 → 8 * i + j ≡ n
-    → 8 * i + k ≡ n → n ≤ length out
-    → Covers n (put_mid (8 * i) k out new) (all_bytes ws) old
-Covers-more ws out new old i j k n so is lt le sum room fits =
-    grind (arith, elements, take-all_bytes, take-put_mid, take-add, drop-put_mid)
+-- the lowest j bytes of word i are written over k bytes of `out`, up to byte n
+pub record WordWritten (ws out new : List ℕ) (i j k n : ℕ) : Type 0 where
+  pub bytes : new ≡ take j (to_le_bytes w64 (get_or ws i 0))
+  pub is_word : i < length ws
+  pub at_most_8 : j ≤ 8
+  pub end : 8 * i + j ≡ n
+  pub replaced : 8 * i + k ≡ n
+  pub room : n ≤ length out
+
+pub Covers-more : {ws out new old : List ℕ} {i j k n : ℕ} → Covers (8 * i) out (all_bytes ws) old
+    → WordWritten ws out new i j k n → Covers n (put_mid (8 * i) k out new) (all_bytes ws) old
+Covers-more so word =
+    grind (arith, elements, take-all_bytes, take-put_mid, take-add, drop-put_mid, word.bytes,
+    word.is_word, word.at_most_8, word.end, word.replaced, word.room)
 
 -- a word's first digits are the bytes that it was made of
 digits-word_of : (n : ℕ) (xs : List ℕ) → AreBytes xs

@@ -37,23 +37,33 @@ pub word_after : (xs bytes : List ℕ) (at from : ℕ) → length xs + from ≡ 
     → word_of (take 8 (drop from bytes)) ≡ stored_word (xs ++ bytes) at
 word_after xs bytes at from place = rw (← place, drop-append-add xs bytes from) refl
 
--- the words of all chunks of the bytes from `from` on, which are put after others
-pub words_stored : (xs bytes piece out : List ℕ) (chunks : List (List ℕ)) (from n end : ℕ)
-    → chunks ≡ first_chunks 8 (length piece / 8) piece → piece ≡ drop from bytes
-    → {ws : List ℕ} {at gap_end : ℕ} → StoresBut ws (xs ++ bytes) at gap_end
-    → (length xs + from ≡ 8 * at) × (length chunks ≡ length piece / 8)
-    × (length chunks ≡ n) × (length out ≡ n) × (end ≡ at + n) × (end ≤ 8)
-    → ((k : ℕ) → k < length chunks → slice_index out k ≡ chunk_word chunks k)
+-- `out` has the n words of the chunks of a piece, which is the bytes from `from` on. After the
+-- bytes xs, these are the words from `at` to `end`.
+pub record ChunkWords (xs bytes piece out : List ℕ) (chunks : List (List ℕ)) (from n at end : ℕ)
+    : Type 0 where
+  pub front : chunks ≡ first_chunks 8 (length piece / 8) piece
+  pub tail : piece ≡ drop from bytes
+  pub begin : length xs + from ≡ 8 * at
+  pub count : length chunks ≡ length piece / 8
+  pub number : length chunks ≡ n
+  pub size : length out ≡ n
+  pub last : end ≡ at + n
+  pub most : end ≤ 8
+  pub words : (k : ℕ) → k < length chunks → slice_index out k ≡ chunk_word chunks k
+
+-- they are stored where nothing was yet
+pub words_stored : {xs bytes piece out : List ℕ} {chunks : List (List ℕ)} {from n at end : ℕ}
+    {ws : List ℕ} {gap_end : ℕ} → StoresBut ws (xs ++ bytes) at gap_end
+    → ChunkWords xs bytes piece out chunks from n at end
     → StoresBut (put_mid at n ws out) (xs ++ bytes) end gap_end
-words_stored xs bytes piece out chunks from n end is tail {ws} {at} but places are =
-    let (place, count, few, size, ends, most) = places in
-    record {
-      size = grind (arith, elements);
-      words = λ k lt after.
-          let read = word_of-chunk (length piece / 8) (k - at) piece in
-          let stored = word_after xs bytes k (from + 8 * (k - at)) in
-          grind (arith, elements);
-    }
+words_stored {xs} {bytes} {piece} {out} {chunks} {from} {n} {at} but are = record {
+  size = grind (arith, elements, are.size, are.last, are.most);
+  words = λ k lt after.
+      let read = word_of-chunk (length piece / 8) (k - at) piece in
+      let stored = word_after xs bytes k (from + 8 * (k - at)) in
+      grind (arith, elements, are.front, are.tail, are.begin, are.count, are.number, are.size,
+      are.last, are.most, are.words);
+}
 
 -- ---- the pending bytes, which are the first of those that words store
 

@@ -11,9 +11,14 @@ words-preserved g c =
     let (word, pair, size) =
     next_output g.row.V i steps c.args.self.now _ (omega arith) c.words.invariant.pair in
     record {
-      bytes = Covers-more _ _ _ _ i 8 _ _ c.words.invariant.bytes
-          (rw (c.next-word.ensures.output, word) at c.write_word.ensures) size (omega arith)
-          (omega arith) (omega arith) (omega arith);
+      bytes = Covers-more {i = i} {j = 8} c.words.invariant.bytes record {
+        bytes = rw (c.next-word.ensures.output, word) at c.write_word.ensures;
+        is_word = size;
+        at_most_8 = omega arith;
+        end = omega arith;
+        replaced = omega arith;
+        room = omega arith;
+      };
       pair = c.next-word.ensures.pair ∙ pair;
     }
 
@@ -29,7 +34,13 @@ returns-then-has_remainder g c =
     let bytes = rw (c.next-output.ensures.output, word) at c.write_partial_word.ensures in
     record {
       bytes = sym (take_all n _ (search (rules, arith)))
-          ∙ (Covers-more _ _ _ _ (n / 8) _ _ n is.bytes bytes size (search (rules, arith))
-          (search (rules, arith)) (omega arith) (omega arith)).front;
+          ∙ (Covers-more {i = n / 8} {n = n} is.bytes record {
+            bytes = bytes;
+            is_word = size;
+            at_most_8 = search (rules, arith);
+            end = search (rules, arith);
+            replaced = omega arith;
+            room = omega arith;
+          }).front;
       pair = rw last (c.next-output.ensures.pair ∙ pair);
     }

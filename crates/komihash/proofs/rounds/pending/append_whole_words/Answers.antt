@@ -8,18 +8,28 @@ use Rattle.komihash.proofs.rounds.pending.append_whole_words.Goals as goal
 
 pub returns-then-has_two_more : goal.returns-then-has_two_more
 returns-then-has_two_more c =
+    let xs = pending_bytes c.args.words.now c.args.len in
+    let bytes = c.args.bytes.now in
     let at = c.args.len / 8 + 1 in
-    let end = (c.args.len + length c.args.bytes.now) / 8 in
+    let end = (c.args.len + length bytes) / 8 in
     let from = 8 - c.args.len % 8 in
     let n = length c.as_chunks.result.0.now in
-    let count = length-drop from c.args.bytes.now in
+    let count = length-drop from bytes in
     let partial = c.append_within_word.ensures at (end + 1) (omega arith) in
     let width : at + n - at ≡ n = omega arith in
-    let rest = drop from c.args.bytes.now in
-    let piece = take_all (length c.args.bytes.now - from) rest (omega arith) in
+    let piece = take_all (length bytes - from) (drop from bytes) (omega arith) in
     rw (c.word_index-next.ensures, width)
-    (words_stored _ c.args.bytes.now _ _ _ from n end c.as_chunks.ensures.front piece partial
-    (omega arith) c.store_words.ensures.words)
+    (words_stored {xs = xs} {bytes = bytes} {from = from} {n = n} {end = end} partial record {
+      front = c.as_chunks.ensures.front;
+      tail = piece;
+      begin = omega arith;
+      count = omega arith;
+      number = omega arith;
+      size = omega arith;
+      last = omega arith;
+      most = omega arith;
+      words = c.store_words.ensures.words;
+    })
 
 pub returns-then-has_next : goal.returns-then-has_next
 returns-then-has_next c =
