@@ -1,6 +1,5 @@
-"""Changes the file of a library or bytes of its code, one at a time, so that a processor would do
-something else than a careless reader believes. Each change must be refused for the reason that
-stands beside it: attacks.py LEVEL:LIBRARY.."""
+"""Changes the file of a library or bytes of its code, one at a time. Each must be refused for the
+reason that stands beside it: attacks.py LEVEL:LIBRARY.."""
 import os
 import struct
 import subprocess
@@ -116,6 +115,8 @@ def of_segments(e):
          (START, code.start + code.size - 1 & -code.align | after.offset % code.align)),
         ('an empty part', 'a part is empty', NOTES, 0, (KIND, LOAD), *nothing),
         ('smaller pages', 'not aligned', LOAD, 0, (ALIGN, small)),
+        ('another place in a page', 'not aligned', LOAD, -1, (OFFSET, last.offset - 16)),
+        ('pages of another size', 'not aligned', LOAD, 0, (ALIGN, code.align * 5 // 4)),
         ('memory without end', 'more than 67108864', LOAD, -1, (SIZE, 2**46)),
         ('tables that can not be read', 'can not be read', LOAD, 0, (RIGHTS, EXECUTE)),
         ('code that can be written', 'could be written', LOAD, e.code_at, (RIGHTS, 7)),
@@ -132,9 +133,6 @@ def of_segments(e):
         ('another table of parts', 'another', NOTES, 0, (KIND, TABLE), (FILLED, 999), (SIZE, 999)),
         ('a shorter table of parts', 'another one', NOTES, 0, (KIND, TABLE), *at_64),
         ('a table of parts that can change', 'another one', LOAD, 0, (RIGHTS, 6)))] + [
-            ('another place in a page', 'not aligned', lambda: (
-                e.content.__delitem__(slice(last.offset - 16, last.offset)), *(
-                    e.segment(k, -1, (OFFSET, last.offset - 16)) for k in (LOAD, DYNAMIC, RELRO)))),
             ('another dynamic table in the file', 'elsewhere in', lambda: (
                 e.segment(DYNAMIC, 0, (OFFSET, len(e.content))),
                 e.content.extend(e.content[last.offset:last.offset + 256])))]

@@ -36,7 +36,6 @@ a frame aligned to more than 16 bytes||4 ways|mov rax, rsp; and rsp, -64; mov rs
 the red zone|||red zone; mov [rsp - 128], rdi; mov rdi, [rsp - 128]
 below the red zone||below the stack pointer|red zone; mov [rsp - 129], al
 a red zone moved||not written|red zone; mov [rsp - 121], al; pop rax; push rax; mov al, [rsp - 121]
-all of the stack|||sub rsp, 4096; mov [rsp], rdi; add rsp, 4096
 more than the stack||out of the stack|sub rsp, 4097; add rsp, 4097
 a small step above the call||out of the stack|pop rax; inc rsp; dec rsp; push rax
 one in a loop|v5_pad|Pad..out of the stack|pad "", "add rsp, 512; sub rsp, 512", ""
@@ -56,7 +55,11 @@ a word half below the stack||below the stack pointer|mov [rsp - 4], rdi
 a byte far below||not written|
     sub rsp, 256; mov [rsp], al; add rsp, 256; sub rsp, 256; mov al, [rsp]; add rsp, 256
 a jump by a register of the caller|v5_save|save(5,)..depends on r10|test r10, r10; je 1f; 1:
-a jump by a product|v5|Hash(0,)..depends on|call body; test dl, dl; je 1f; 1: ret
+a jump by a high half|v5|Hash(0,)..depends on|call body; test dl, dl; je 1f; 1: ret
+a jump by a low half|v5|Hash(0,)..depends on low|call body; test rcx, rcx; je 1f; 1: ret
+a jump by a lane|v5|Hash(6,)..depends on|next: test rcx, rcx; je 1f; 1:
+a jump by what a loop lost|v5_pad|Pad..depends on undefined|
+    pad "", "cmp rsi, 5000; jne .Lturn; test rax, rax; je 1f; 1: mov rax, r10", ""
 one over it, by the length|v5|Hash(0,)..in no array|mov rax, [rdi + rsi - 7]
 a write where there may be no room|v5_save|in no array|mov byte ptr [rsi], 0
 a refusal that writes|v5_save|of out were|lea rax, [rdx - 1]; cmp rax, 130; jae body; mov [rsi], al
@@ -109,7 +112,6 @@ a carry that is not there|v5_save|calls that must be refused|
     [rsi], 0; mov eax, 77; ret; 1:
 '''
 ARM = '', '''
-a register in a frame|||str x19, [sp, -16]!; mov x19, x0; ldr x19, [sp], 16
 a frame not aligned||not aligned to 16|sub sp, sp, 8; str x0, [sp]; add sp, sp, 8
 a store of the register that it moves||no meaning|
     sub sp, sp, 16; mov x9, sp; .inst 0xf8008529; add sp, sp, 16
@@ -117,6 +119,8 @@ a hint that changes a register||not known|hint 25
 a word below the stack||below the stack pointer|red zone; stur w0, [sp, -4]
 a small step above the call||out of the stack|add sp, sp, 16; sub sp, sp, 16
 a byte above the call||in no array|strb w0, [sp]
+a jump by a register of the caller|v5_save|save(5,)..depends on x9|cbz x9, 1f; nop; 1:
+a product|v5_rand_fill|Fill..products|cmp x2, 200; b.ne body; ldp x9, x10, [x0]; mul x9, x9, x10
 a stack that is lower at the end||sp is lost|sub sp, sp, 16
 whole blocks that are wrong|v5_write|Write(13,)..the stream at 0|stp x0, x30, [sp, -16]!; bl body;
     ldp x0, x30, [sp], 16; ldr x9, [x0, 64]; cbnz x9, 1f; mov w9, 1; strb w9, [x0]; 1: ret
@@ -128,8 +132,9 @@ SAVED = {'x86-64': [(one, f'bts {one}, 32') for one in 'rbx rbp r12 r13 r14 r15'
                      *((f'd{n}', f'mov x9, 1 << 32; dup v0.2d, x9; eor v{n}.16b, v{n}.16b, v0.16b')
                        for n in range(8, 16))]}
 # Instructions that processors of the level lack, or take for others, or with an index of 32 bits.
-UNKNOWN = {'x86-64': ['palignr xmm0, xmm0, 1', 'lzcnt rax, rax', 'mulx rax, rcx, rdx'],
-           'armv8-a': [f'{one} w9, [x0, w10, uxtw]' for one in ('ldr', 'ldrb', 'ldrh', 'str')]}
+UNKNOWN = {'x86-64': ['palignr xmm0, xmm0, 1', 'pextrq rax, xmm0, 0', 'lzcnt rax, rax'],
+           'armv8-a': [f'{one}{size} w9, [x0, w10, {how}]' for one in ('ldr', 'str')
+                       for size in ('', 'b', 'h') for how in ('uxtw', 'sxtw')]}
 # Arrays on x86-64: a function, the name of a case, and for each array, what may be done with bytes
 # of it, the register of its address, and how many there are, as a number and by registers. What is
 # done may stand in instructions, as `_`. Beside it, each array gets rows that must be refused.

@@ -28,14 +28,12 @@ from terms import Refused, Unknown, bv, const, simple
 X86, ARM = PROCESSORS.values()
 TRIES, NEAR, FEW, MANY = 6000, 7, {X86: 16, ARM: 20}, {X86: 32, ARM: 384}
 NEVER = {'bti', 'hint'}  # A version of capstone prints only one of these two.
-# The program reads and writes images. An image lies at the address BASE. It has memory that an
-# instruction may access, from SAVED on the registers, and from CODE on the instruction, which runs
-# at the address START. The stack pointer is POINTER before most instructions.
+# The program reads and writes images, at BASE: memory that an instruction may access, from SAVED on
+# registers, from CODE on the instruction, which runs at START, and most often with POINTER as sp.
 BASE, SAVED, CODE, SIZE = 2**32, 512, 2032, 2048
 POINTER, START = BASE + 256, BASE + 2**16 + 2048
-# The bytes around the instruction are no instructions, and no other code is near. So wherever it
-# goes on, the processor stops with a signal. The handler finds the registers in the context of the
-# signal, writes the image with them, and replaces them by those of the next image.
+# Around the instruction is no code, so wherever it goes on, the processor stops with a signal. Its
+# handler writes the image, with the registers of the signal's context, and takes the next image.
 PROGRAM = '''
 #include <signal.h>
 #include <stdio.h>

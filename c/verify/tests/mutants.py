@@ -1,7 +1,6 @@
 """Makes the unsound changes of mutants.tsv, each in a copy of the check, and runs the row of the
-tests that stands beside it, which must fail: mutants.py LEVEL:LIBRARY.., for x86-64 and armv8-a. A
-line has a file of the check, what stands there once, what comes in its place, and the script, the
-level and the row that must notice it. A row of instructions.py is a mnemonic."""
+tests that must notice it: mutants.py LEVEL:LIBRARY.., for x86-64 and armv8-a. A line has a file,
+what stands there once, what is put for it, and the script, the level and the row, or mnemonic."""
 import functools
 import os
 import pathlib
