@@ -61,8 +61,19 @@ words_stored {xs} {bytes} {piece} {out} {chunks} {from} {n} {at} but are = recor
   words = λ k lt after.
       let read = word_of-chunk (length piece / 8) (k - at) piece in
       let stored = word_after xs bytes k (from + 8 * (k - at)) in
-      grind (arith, elements, are.front, are.tail, are.begin, are.count, are.number, are.size,
-      are.last, are.most, are.words);
+      grind (
+        arith,
+        elements,
+        are.front,
+        are.tail,
+        are.begin,
+        are.count,
+        are.number,
+        are.size,
+        are.last,
+        are.most,
+        are.words,
+      );
 }
 
 -- ---- the pending bytes, which are the first of those that words store
