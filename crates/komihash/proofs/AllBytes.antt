@@ -51,20 +51,7 @@ pub record WordWritten (ws out new : List ℕ) (i j k n : ℕ) : Type 0 where
 pub Covers-more : {ws out new old : List ℕ} {i j k n : ℕ} → Covers (8 * i) out (all_bytes ws) old
     → WordWritten ws out new i j k n → Covers n (put_mid (8 * i) k out new) (all_bytes ws) old
 Covers-more so word =
-    grind (
-      arith,
-      elements,
-      take-all_bytes,
-      take-put_mid,
-      take-add,
-      drop-put_mid,
-      word.bytes,
-      word.is_word,
-      word.at_most_8,
-      word.end,
-      word.replaced,
-      word.room,
-    )
+    grind (arith, elements, take-all_bytes, take-put_mid, take-add, drop-put_mid)
 
 -- a word's first digits are the bytes that it was made of
 digits-word_of : (n : ℕ) (xs : List ℕ) → AreBytes xs

@@ -57,23 +57,11 @@ pub words_stored : {xs bytes piece out : List ℕ} {chunks : List (List ℕ)} {f
     → ChunkWords xs bytes piece out chunks from n at end
     → StoresBut (put_mid at n ws out) (xs ++ bytes) end gap_end
 words_stored {xs} {bytes} {piece} {out} {chunks} {from} {n} {at} but are = record {
-  size = grind (arith, elements, are.size, are.last, are.most);
+  size = grind (arith, elements);
   words = λ k lt after.
       let read = word_of-chunk (length piece / 8) (k - at) piece in
       let stored = word_after xs bytes k (from + 8 * (k - at)) in
-      grind (
-        arith,
-        elements,
-        are.front,
-        are.tail,
-        are.begin,
-        are.count,
-        are.number,
-        are.size,
-        are.last,
-        are.most,
-        are.words,
-      );
+      grind (arith, elements);
 }
 
 -- ---- the pending bytes, which are the first of those that words store
