@@ -50,8 +50,8 @@ ATTRIBUTES = re.compile(r'#!?\[([^]]*)\]'), re.compile('|'.join((
 MACROS = (re.compile(r'\b(?!(?:if|while|match|return|in)\b)(\w+)\s*!(?!=)'),
           re.compile('assert|unreachable'))
 # What may not be left.
-NO_RUST = re.compile(r'\b(?:ghost|requires|ensures|decreases|invariant|tally|Tally|Model|Drop|prove|'
-                     r'unsafe|rt|std|static|extern|async|macro_rules|no_mangle|export_name)\b|'
+NO_RUST = re.compile(r'\b(?:ghost|requires|ensures|decreases|invariant|tally|Tally|Model|Drop|'
+                     r'prove|unsafe|rt|std|static|extern|async|macro_rules|no_mangle|export_name)\b|'
                      r"(?:break|continue)\s+'|[^\x00-\x7f‹›]|\"")
 COUNTED = re.compile(r'\b(?:fn|requires|ensures)\b')
 

@@ -7,7 +7,7 @@ of it."""
 import re
 from pathlib import Path
 
-from twins import twin, twins
+from twins import twins
 
 ROOT = Path(__file__).resolve().parent.parent
 CODE = re.compile(r"^```(?:rust|antt)\n(.*?)^```", re.DOTALL | re.MULTILINE)
@@ -37,10 +37,8 @@ files = [file for kind in kinds for file in (ROOT / "crates/examples").glob(kind
 examples = [file.read_text("utf-8") for file in files]
 
 checks = []
-promises = (ROOT / "crates/promises/src/calls.rt").read_text("utf-8")
-impls = dict(re.findall(r"^impl Promises for v(\d)(.*?)^}", promises, re.DOTALL | re.MULTILINE))
-checks.append(("the versions in promises", impls["4"] == twin(impls["5"])))
-checks += [(f"{file.relative_to(ROOT)}", file.read_text("utf-8") == made) for file, made in twins()]
+checks += [(f"the versions in {file.relative_to(ROOT)}", file.read_text("utf-8") == made)
+           for file, made in twins()]
 for folder in ("crates/komihash", "rust", "python", "js"):
     licences = {(ROOT / path / "LICENSE").read_text("utf-8") for path in (".", folder)}
     checks.append((f"the licence in {folder}", len(licences) == 1))

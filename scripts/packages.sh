@@ -132,7 +132,8 @@ RUSTFLAGS='-C target-cpu=native' needs cargo 'the crate for Rust, for this proce
 needs cargo-clippy 'the crate for Rust, by clippy (optional)' \
     in_crate cargo clippy --offline --all-features --all-targets -- -D warnings \
     -D clippy::must_use_candidate
-needs rustfmt 'the crate for Rust, by rustfmt' in_crate cargo fmt --check -- --config use_small_heuristics=Max
+needs rustfmt 'the crate for Rust, by rustfmt' \
+    in_crate cargo fmt --check -- --config use_small_heuristics=Max
 needs "$debian" 'the crate for Rust needs core alone' without_std
 needs 'cargo python3' 'the pages of the crate for Rust' pages
 sources='/usr/bin/cargo /usr/lib/rustlib/src/rust/x.py'

@@ -1,11 +1,14 @@
 #!/usr/bin/env python3
-"""Makes v4.rt of v5.rt in `komihash` and `komihash_c`. Only its first comment is written by hand."""
+"""Makes v4.rt of v5.rt in `komihash` and `komihash_c`, but for its first comment, and in `promises`
+the impl for version 4 of that for version 5."""
 import re
 from pathlib import Path
 
 CRATES = Path(__file__).resolve().parent.parent / "crates"
 HEAD = re.compile("^//!.*\n", re.MULTILINE)
 NOTE = "// Made of v5.rt by scripts/twins.py, except for the comment above.\n"
+IMPLS = re.compile(r"^impl Promises for v4.*?^(?=(impl Promises for v5.*?^}\n))",
+                   re.DOTALL | re.MULTILINE)
 VERSION = re.compile(r"((?<![a-zA-Z\d])v|\bversion |<|\b[A-Z]\w+ |\b(?:komi|next|fill|after_\w+) )5"
                      r"(?![a-zA-Z\d])")
 
@@ -19,13 +22,15 @@ def twin(five):
 
 
 def twins():
-    """Each v4.rt, and what it should be."""
+    """Each file that has what is made, and what it should be."""
     for five in CRATES.glob("*/src/v5.rt"):
         four = five.with_name("v4.rt")
         head = "".join(HEAD.findall(four.read_text("utf-8")))
         yield four, head + NOTE + twin(HEAD.sub("", five.read_text("utf-8")))
+    calls = CRATES / "promises/src/calls.rt"
+    yield calls, IMPLS.sub(lambda five: f"{twin(five[1])}\n", calls.read_text("utf-8"))
 
 
 if __name__ == "__main__":
-    for four, text in twins():
-        four.write_text(text, "utf-8")
+    for file, text in twins():
+        file.write_text(text, "utf-8")

@@ -123,11 +123,10 @@ tab=$(printf '\t')
 # The tables of the crate for Rust, which is in this folder or beside it.
 tables=$(ls -d rust/tests ../rust/tests 2> "$scratch/case" | head -n 1)
 rows() { grep -hE "^([a-z_]+$tab)?$1$tab" "$tables"/*.tsv; }
-calls() {
+calls() { # LIBRARY [SOURCE]
     for number in 4 5; do
-        rows $number |
-            runs -std=c11 -D "VERSION=$number" -I "$prefix/include" tests/calls.c "$1" ||
-            return
+        rows $number | runs -std=c11 -D "VERSION=$number" -I "$prefix/include" \
+            "tests/${2:-calls.c}" "$1" || return
     done
 }
 # Compiles calls that were written for the C original, with these options.
@@ -143,10 +142,7 @@ beside_a_copy() {
 with_signals() {
     mkdir -p "$scratch/only" && cp "$1" "$scratch/only" || return
     LD_LIBRARY_PATH="$scratch/only"
-    for number in 4 5; do
-        rows $number | runs -D "VERSION=$number" -I "$prefix/include" tests/signals.c \
-            "$scratch/only/$soname" || return
-    done
+    calls "$scratch/only/$soname" signals.c
 }
 
 # Whether programs keep their shadow call stack, which only ARM64 has, in calls of both versions.

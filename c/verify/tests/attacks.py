@@ -156,10 +156,10 @@ def of_dynamic_table(e):
 def of_names(e):
     names, soname = e.elf.table[elf.HASHES], e.elf.table[elf.STRINGS] + e.elf.table.get(SONAME, 0)
     other = e.elf.strings.index(OTHER_NAME.encode() + b'\0')
-    none, elsewhere = bytes(8 * len(e.elf.filter)), e.elf.functions([OTHER_NAME])[0][OTHER_NAME]
-    buckets, at = names + 16 + len(none), e.elf.find(NAME.encode()) - e.elf.first
+    size, elsewhere = 8 * len(e.elf.filter), e.elf.functions([OTHER_NAME])[0][OTHER_NAME]
+    buckets, at = names + 16 + size, e.elf.find(NAME.encode()) - e.elf.first
     chains, code = buckets + 4 * len(e.elf.buckets), e.elf.chains[at]
-    every, numbers = b'\xff' * len(none), [*e.elf.buckets, *e.elf.chains]
+    every, numbers = b'\xff' * size, [*e.elf.buckets, *e.elf.chains]
     three = struct.pack(f'<II24s{len(numbers)}I', 3, e.elf.shift, every, *numbers)
     word, bits = code // 64 % len(e.elf.filter), (3 << (code & 62), 1 << (code >> e.elf.shift) % 64)
     early = next(k for k, one in enumerate(e.elf.chains) if not one & 1)

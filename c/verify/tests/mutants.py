@@ -19,7 +19,7 @@ def told(c, libraries, script, level, row):
     """What a row fails with. After an error of Python, it has shown nothing."""
     args = [one for one in libraries if one.startswith(f'{level}:')]
     if script in ('bodies', 'instructions'):
-        args = level, *(ARM[:4 * (script == 'instructions') or 1] if level == 'armv8-a' else ['cc'])
+        args = (level, *(ARM if level == 'armv8-a' else ['cc']))[:2 if script == 'bodies' else None]
     elif script == 'changes':
         args = [args[0].removeprefix(f'{level}:')]
     done = subprocess.run([sys.executable, '-B', c / f'verify/tests/{script}.py', *args],
