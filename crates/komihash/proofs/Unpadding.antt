@@ -9,7 +9,7 @@ use Rattle.std.proofs.lemmas.Grind.{elements}
 use Rattle.std.proofs.lemmas.List.{length-replicate, get_or_past}
 use Rattle.std.proofs.lemmas.Simd.{Each1-from_get_or}
 use Rattle.std.specs.Int.{to_le_bytes}
-use Rattle.komihash.specs.Internals.{padding_or_zero}
+use Rattle.komihash.specs.Internals.{IsHighestByte, padding_or_zero}
 use Rattle.komihash.specs.Padding.{ArePadded, pads_with_two, padding_after, padded_words}
 use Rattle.komihash.specs.Padding.{padding_byte, padded_bytes}
 use Rattle.komihash.specs.Words.{AreBytes, word_of, all_bytes}
@@ -104,8 +104,7 @@ module _ (v : ℕ) (ws : List ℕ) (fit : (k : ℕ) → Fits w64 (get_or ws k 0)
       grind (arith, bytes, back, word)
 
   -- the message that would end below index r of the last word
-  module _ (r : ℕ) (below : r < 8) (some : 0 < length ws)
-      (above_0 : 0 < last / 2 ^ (8 * r)) (byte : last / 2 ^ (8 * r) < 256) where
+  module _ {r : ℕ} (some : 0 < length ws) (is_highest : IsHighestByte last r) where
     abbrev size : ℕ
     size = 8 * (length ws - 1) + r
 
@@ -137,14 +136,13 @@ module _ (v : ℕ) (ws : List ℕ) (fit : (k : ℕ) → Fits w64 (get_or ws k 0)
     pub one_place : ArePadded v ws → (0 < size) × (last / 2 ^ (8 * r) ≡ padding_byte v message)
     one_place (m, are, is) =
         let ends = same_end message m _ _ (7 - length message % 8) (7 - length m % 8) in
-        let same = ends (λ _. above_0) (λ some. (padding_or_zero-some v m some).1) in
+        let same = ends (λ _. is_highest.some) (λ some. (padding_or_zero-some v m some).1) in
         grind (arith, same, split, bytes_of_padded v m are is)
 
 -- ---- what the code finds
 
-pub highest : (w bit : ℕ) → 2 ^ bit ≤ w → w < 2 * 2 ^ bit
-    → (0 < w / 2 ^ (8 * (bit / 8))) × (w / 2 ^ (8 * (bit / 8)) < 256)
-highest w bit low high =
+pub highest : (w bit : ℕ) → bit < 64 → 2 ^ bit ≤ w → w < 2 * 2 ^ bit → IsHighestByte w (bit / 8)
+highest w bit few low high =
     let at = 8 * (bit / 8) in
     let le : 2 ^ at ≤ 2 ^ bit = pow_mono (omega arith) in
     let lt : 2 ^ (1 + bit) ≤ 2 ^ (8 + at) = pow_mono (omega arith) in

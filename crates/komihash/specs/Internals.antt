@@ -1,6 +1,6 @@
 -- How the code reads and stores what the other definitions speak of. An auditor may skip this file:
 -- no public contract cites it. Private contracts do, and lemmas prove that both say the same.
-use Rattle.std.specs.Prelude.{ℕ, zero, suc, Bool, ◌≡◌, ◌-◌, ◌*◌, ◌/◌, ◌%◌, ◌<◌, ◌≤◌, bit_xor}
+use Rattle.std.specs.Prelude.{ℕ, zero, suc, Bool, ◌≡◌, ◌-◌, ◌*◌, ◌/◌, ◌%◌, ◌^◌, ◌<◌, ◌≤◌, bit_xor}
 use Rattle.std.specs.Int.{from_le_bytes, w64}
 use Rattle.std.specs.Int.Bits.{xor_assoc, xor_self, xor_zero_l}
 use Rattle.std.proofs.Common.{ap, ◌∙◌, sym}
@@ -34,6 +34,12 @@ after_words bytes = drop (8 * (length bytes / 8)) bytes
 abbrev pub padding_or_zero : ℕ → List ℕ → ℕ
 padding_or_zero v [] = 0
 padding_or_zero v (b ∷ m) = padding_byte v (b ∷ m)
+
+-- r is the index of a word's highest byte that is not 0, counted from the lowest byte
+pub record IsHighestByte (word r : ℕ) : Type 0 where
+  pub place : r < 8
+  pub some : 0 < word / 2 ^ (8 * r)
+  pub last : word / 2 ^ (8 * r) < 256
 
 -- the word of the bytes after the last whole word and of the byte that ends them
 abbrev pub final_word : List ℕ → ℕ → ℕ

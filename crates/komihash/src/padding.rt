@@ -5,7 +5,7 @@ ghost use Rattle.std.specs.Prelude.{◌≡◌, ◌+◌, ◌*◌, ◌/◌, ◌^�
 ghost use Rattle.std.specs.Prelude.{ℕ, List, IfSome, IfNone, length, take, drop, slice_index};
 ghost use Rattle.komihash.specs.Padding.{ArePadded, Unpadded, padded_words};
 ghost use Rattle.komihash.specs.Padding.{has_two, pads_with_two, padding_after, padding_byte};
-ghost use Rattle.komihash.specs.Internals.{final_word};
+ghost use Rattle.komihash.specs.Internals.{IsHighestByte, final_word};
 ghost use Rattle.komihash.specs.Words.{AreBytes, all_bytes};
 
 use crate::utils::{last_word, read_partial_word, read_whole_words, write_first_bytes};
@@ -110,14 +110,12 @@ where
     whole + 1
 }
 
-// Returns the index of a word's highest byte that is not 0, counted from the lowest byte.
+// Returns the index of a word's highest byte that is not 0.
 #[inline(always)]
 #[tactic(auto, using(crate::proofs::Unpadding::highest))]
 fn highest_place(word: u64) -> usize
     requires { 0 < word }
-    ensures place { result < 8 }
-    ensures some { 0 < word / 2 ^ (8 * result) }
-    ensures last { word / 2 ^ (8 * result) < 256 }
+    ensures { IsHighestByte word result }
 {
     (word.ilog2() / 8) as usize
 }

@@ -10,16 +10,12 @@ returns-else-is_one_word-clause-none g c p =
 
 pub returns-then-is_without_bytes-clause-none : goal.returns-then-is_without_bytes-clause-none
 returns-then-is_without_bytes-clause-none g c p =
-    let place = c.highest_place-place in
-    let found = one_place g.row.V _ c.type_inv.words place.result place.ensures.place
-    (omega arith) place.ensures.some place.ensures.last p in
+    let found = one_place g.row.V _ c.type_inv.words (omega arith) c.highest_place-place.ensures p in
     omega (arith, found.0)
 
 pub returns-then-is_padding_byte-clause-message : goal.returns-then-is_padding_byte-clause-message
 returns-then-is_padding_byte-clause-message g c =
-    let place = c.highest_place-place in
-    unpadded g.row.V _ c.type_inv.words place.result place.ensures.place (omega arith)
-    place.ensures.some place.ensures.last (omega arith)
+    unpadded g.row.V _ c.type_inv.words (omega arith) c.highest_place-place.ensures (omega arith)
     (c.is_padding_byte.ensures.0 c.if-is_padding_byte.true)
 
 pub returns-else-is_padding_byte-clause-none : goal.returns-else-is_padding_byte-clause-none
