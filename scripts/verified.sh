@@ -16,7 +16,7 @@ tests=c/verify/tests out=$(echo "$scratch"/komihash_rattle-*/out) so=libkomihash
 libraries=("x86-64:$out/$so" "x86-64-v3:$out/glibc-hwcaps/x86-64-v3/$so")
 [ ! -d "$out/$arm" ] || libraries+=("armv8-a:$out/$arm/$so")
 part_with "$python" "$python" -B $tests/bodies.py x86-64 "${CC:-cc}"
-part_with "$python" "$python" -B $tests/changes.py "$out/$so"
+part_with "$python" "$python" -B $tests/changes.py "x86-64:$out/$so"
 part_with "$python $arm-gcc" "$python" -B $tests/bodies.py armv8-a $arm-gcc
 needs "$python" 'edits of files are refused' "$python" -B $tests/attacks.py "${libraries[@]}"
 if grep -qw avx2 /proc/cpuinfo; then

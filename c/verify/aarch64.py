@@ -74,7 +74,7 @@ class Arm(Cpu):
         return a, self.get(i, k + 1, a.size())
 
     def put(self, i, k, value):
-        value = self.products.named(value)
+        value = self.products.symbol_of(value)
         n, size = register(i.reg_name(i.ops[k].reg))
         if value.size() != size:
             raise unknown(i)

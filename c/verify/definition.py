@@ -28,7 +28,7 @@ class Products:
         term, symbol = simple(term), secret(f'value {len(self.values)} between products')
         return self.values.setdefault(term.get_id(), (symbol, term))[0]
 
-    def named(self, term):
+    def symbol_of(self, term):
         """The symbol of a term that code computes, or if it has none, the term."""
         term = simple(term)
         return self.values.get(term.get_id(), (term,))[0]
@@ -73,9 +73,8 @@ def block_round(products, version, s, block):
 
 
 def joined(had_block, s):
-    if const(had_block) == 0:
-        return s[0], s[4]
-    return [simple(functools.reduce(lambda x, y: x ^ y, half)) for half in (s[:4], s[4:])]
+    folded = [simple(functools.reduce(lambda x, y: x ^ y, half)) for half in (s[:4], s[4:])]
+    return {0: [s[0], s[4]], 1: folded}[const(had_block)]
 
 
 def words_of(content):
@@ -133,7 +132,7 @@ class State:
 
     def answer(self, products, version):
         words = padded_words(version, self.pending)
-        if const(self.had_block) and not self.pending:
+        if {0: False, 1: True}[const(self.had_block)] and not self.pending:
             words = words_of([simple(self.top_bit + 1)])
         return hash_from_pair(products, joined(self.had_block, self.lanes), words)
 

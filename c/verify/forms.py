@@ -35,11 +35,11 @@ class Arrival:
 
     def __init__(self, cpu, world, conditions):
         self.facts, self.path, self.world = cpu.facts, cpu.path, world
-        self.words = words_of(cpu)
+        self.words = words_in(cpu)
         self.holding = self.facts.holding(self.path, conditions)
 
 
-def words_of(cpu):
+def words_in(cpu):
     """The words of registers, of both stacks and of a stream, and the flags of a stream."""
     found = {(n, low // 64): part(term, low, 64)
              for n, term in cpu.r.items() for low in range(0, width_of(term), 64)}

@@ -30,7 +30,7 @@ FILL, HAD_BLOCK, TOP_BIT = sym('any fill'), sym('any had_block', 8), sym('any to
 LAST_BYTES = sym('any last bytes', 72)
 
 
-def written(call, length, room):
+def size_written(call, length, room):
     """How many bytes of `out` a call of `pad` or `unpad` writes. Only these must not overlap."""
     if not call.name.endswith('_unpad'):
         words = z3.LShR(length, 3) + 1
@@ -62,7 +62,7 @@ def allowed(call):
             sizes.append(size)
     # No case of other functions asks how their arrays lie.
     if call.name.endswith('pad'):
-        conditions.append(apart(args[2], written(call, args[1], args[3]), args[0], sizes[0]))
+        conditions.append(apart(args[2], size_written(call, args[1], args[3]), args[0], sizes[0]))
     return args, conditions
 
 

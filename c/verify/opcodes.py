@@ -72,7 +72,7 @@ def by_vex(code):
     return with_opcode(heads, MAP_OF_VEX.get(table, '?'), code)
 
 
-def written(code):
+def encodings_of(code):
     """The ways to write the encoding of an instruction of x86-64. Padding is skipped: 2e means
     nothing, nor does 66 before an instruction that does nothing."""
     code, prefixes, wide = bytes(code) + bytes(4), '', ''
@@ -141,7 +141,7 @@ KNOWN_X86, KNOWN_ARM64 = dict(of_x86()), of_arm64()
 def is_known(i, level):
     """Whether an instruction of x86-64 is one that this level of processors runs as decoded."""
     name = i.mnemonic.replace(' ', '_')
-    return not written(i.bytes).isdisjoint(KNOWN_X86[level].get(name, ()))
+    return not encodings_of(i.bytes).isdisjoint(KNOWN_X86[level].get(name, ()))
 
 
 def is_known_arm64(i, _):

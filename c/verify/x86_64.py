@@ -80,7 +80,7 @@ class X86(Cpu):
         return part(self.r[n], low, min(size, width or size))
 
     def put(self, i, k, value):
-        op, value = i.ops[k], self.products.named(value)
+        op, value = i.ops[k], self.products.symbol_of(value)
         if op.type == X.X86_OP_MEM:
             if value.size() != 8 * op.size:
                 raise unknown(i)
@@ -270,7 +270,7 @@ def vector(c, i):
     for low in range(0, b.size(), span):
         halves = ([part(term, k, bits) for k in range(low, min(low + span, term.size()), bits)]
                   for term in (a, b))
-        pieces += map(c.products.named, do(*halves, i.ops[-1].imm if has_number else 0))
+        pieces += map(c.products.symbol_of, do(*halves, i.ops[-1].imm if has_number else 0))
     c.put(i, 0, join(pieces))
 
 

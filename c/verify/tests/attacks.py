@@ -33,7 +33,7 @@ class Edit:
     """The bytes of a library, and where its tables are."""
 
     def __init__(self, content, level):
-        self.content, self.level = bytearray(content), level
+        self.content = bytearray(content)
         self.elf = cases.open_library(content, level).elf
         self.function, self.place = self.elf.functions([NAME, LONG_NAME])[0].values()
         self.parts = self.elf.of_type(LOAD)
@@ -68,14 +68,12 @@ class Edit:
         offset = self.elf.offset(address)
         self.content[offset:offset + len(new)] = new
 
-    def instruction(self, text, at=8, levels=None):
-        """Moves the function into another one, with an instruction after its mark, for the newest
-        of so many levels of processors."""
+    def instruction(self, text, at=8):
+        """Moves the function into another one, with an instruction after its mark."""
         offset = self.elf.offset(self.function)
         code = self.content[offset:offset + self.elf.symbols[self.elf.find(NAME.encode())][5]]
         self.bytes_at(self.place + at, code[:4] + bytes.fromhex(text) + code[4:])
         self.symbol(VALUE, self.place + at)
-        self.level = cases.PROCESSORS[self.elf.machine].LEVELS[:levels][-1]
 
     def note(self, into, kind, *notes):
         """Puts notes, each with properties of these values, into one segment, and no other."""
@@ -185,14 +183,6 @@ def of_names(e):
                  ('another function', f'{NAME}, rand_next()', VALUE, elsewhere))]
 
 
-# Instructions that a decoder prints as others, that some processors lack, or whose outcome varies.
-INSTRUCTIONS = {62: {
-    'an address of 32 bits': '67 48 8d 04 25 ff ff ff ff',
-    'an address in the memory of a thread': '64 26 48 8b 4f 08',
-    'a prefix that xorps does not have': 'f3 0f 57 c9',
-    'a prefix before VEX': '66 c5 f0 57 c9',
-    'a wide vector move by VEX': 'c4 c2 fd 19 cb',
-    'a jump of 16 bits': '66 e9 00 00'}, 183: {'a jump to no fixed place': '20 00 1f d6'}}
 # What the command tells of some changes.
 TOLD = {**dict.fromkeys(('another function', 'a byte below the stack'), '4 passed, 1 failed\n1'),
         'a jump of 16 bits': 'processes\n2', 'a name of no function': 'also exports'}
@@ -200,11 +190,9 @@ TOLD = {**dict.fromkeys(('another function', 'a byte below the stack'), '4 passe
 
 def changes(e):
     return [*of_header_and_marks(e), *of_segments(e), *of_dynamic_table(e), *of_names(e),
-            *((name, ' known ', e.instruction, code)
-              for name, code in INSTRUCTIONS[e.elf.machine].items()),
+            *[('a jump of 16 bits', ' known ', e.instruction, '66 e9')] * (e.elf.machine == 62),
             ('a byte below the stack', 'below the stack pointer', e.instruction,
              {62: '884424ff', 183: 'e0c31fb8'}[e.elf.machine]),
-            ('lzcnt on older processors', ' known ', e.instruction, 'f3480fbdc0', 8, 2),
             ('code that is not aligned', 'None' if e.elf.machine == 62 else 'that is not aligned',
              e.instruction, '', 10)]
 
@@ -229,10 +217,11 @@ def is_wanted(name):
 
 
 def count(found):
-    """Prints the names of rows, and whether the reason of each, in parts at `..`, was found."""
+    """Prints the names of rows, and whether each part of a reason was found, or one in its place:
+    `..` stands between parts, and `/` between those that may stand for one."""
     passed = failed = 0
     for name, reason, why in found:
-        fits = all(part in f'{why}' for part in reason.split('..'))
+        fits = all(any(one in f'{why}' for one in part.split('/')) for part in reason.split('..'))
         passed, failed = passed + fits, failed + (not fits)
         print(f'{"ok" if fits else "FAILED"}: {name}: {why}', flush=True)
     print(f'{passed} passed, {failed} failed')
@@ -255,10 +244,10 @@ def rows(libraries):
             content = file.read()
         edit = Edit(content, level)
         for name, reason, change, *args in changes(edit):
-            edit.content[:], edit.level = content, level
+            edit.content[:] = content
             change(*args)
             if is_wanted(name):
-                yield name, reason, refusal(edit.content, edit.level)
+                yield name, reason, refusal(edit.content, level)
             if name in TOLD and is_wanted(f'{name}, by the command'):
                 yield f'{name}, by the command', TOLD[name], told(edit, level, f'{level}:{path}')
 

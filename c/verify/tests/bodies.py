@@ -1,7 +1,5 @@
 """Puts small bodies before those of functions of the library. Each must be refused for the reason
-that stands beside it, or if there is none, pass.
-
-bodies.py LEVEL COMPILER, where the level is x86-64 or armv8-a."""
+beside it, or if there is none, pass: bodies.py LEVEL COMPILER, for x86-64 or armv8-a."""
 import functools
 import os
 import pathlib
@@ -22,7 +20,6 @@ LIBRARY = 'libkomihash_rattle.so.1'
 X86 = '''
 .macro after code; push rdi; push rsi; push rdx; call body; pop rdx; pop rsi; pop rdi; \\code
     1: ret; .endm
-.macro swap a, b; mov r8, [\\a]; mov r9, [\\b]; mov [\\a], r9; mov [\\b], r8; .endm
 .macro pad before, in, after; mov r8, rsi; shr r8, 3; xor eax, eax; cmp rcx, r8; jbe .Lend
     \\before; xor r9d, r9d
     .Lturn: cmp r9, r8; jae .Lrest; mov r10, [rdi + 8*r9]; mov [rdx + 8*r9], r10; inc r9; \\in
@@ -38,19 +35,16 @@ below the red zone||below the stack pointer|red zone; mov [rsp - 129], al
 a red zone moved||not written|red zone; mov [rsp - 121], al; pop rax; push rax; mov al, [rsp - 121]
 more than the stack||out of the stack|sub rsp, 4097; add rsp, 4097
 a small step above the call||out of the stack|pop rax; inc rsp; dec rsp; push rax
-one in a loop|v5_pad|Pad..out of the stack|pad "", "add rsp, 512; sub rsp, 512", ""
 a return address that a loop loses|v5_pad|Pad..not written|pad "add rsp, 8", "", "sub rsp, 8"
 rbx after a loop|v5_pad|Pad..rbx of the caller|pad "", "", "mov rbx, rdi"
 rbx in long refusals|v5_pad|Pad..rbx of the caller|test rcx, rcx; jne body; mov rbx, rdi
 a stack that is lower at the end||not where the caller left it|push [rsp]
-an address not aligned||not aligned|paddq xmm0, [rdi]
-a bit in another word||no meaning|mov eax, 200; bt [rdi], rax
 a loop without end||more than 20000|1: jmp 1b
-a flag after a shift||flag z is read|cmp rdi, rdi; mov ecx, [rdi]; shl rax, cl; jne 1f; 1:
-a shift by a byte||does not have|mov cl, [rdi]; or cl, 32; mov eax, 1; shl eax, cl; xor [rdi], rax
 code where nothing can run||not known|jmp 1f; .pushsection .rodata; 1: jmp body; .popsection
 the highest bit of 0||2 ways|mov rcx, -1; xor eax, eax; bsr ecx, eax; shr rcx, 32; jne 1f; 1:
 a byte above the call||in no array|mov [rsp + 8], al
+an address of 32 bits||not known|.byte 0x67; lea rax, [-1]
+an instruction of newer processors||not known for x86-64|palignr xmm0, xmm0, 1
 a word half below the stack||below the stack pointer|mov [rsp - 4], rdi
 a byte far below||not written|
     sub rsp, 256; mov [rsp], al; add rsp, 256; sub rsp, 256; mov al, [rsp]; add rsp, 256
@@ -60,7 +54,6 @@ a jump by a low half|v5|Hash(0,)..depends on low|call body; test rcx, rcx; je 1f
 a jump by a lane|v5|Hash(6,)..depends on|next: test rcx, rcx; je 1f; 1:
 a jump by what a loop lost|v5_pad|Pad..depends on undefined|
     pad "", "cmp rsi, 5000; jne .Lturn; test rax, rax; je 1f; 1: mov rax, r10", ""
-one over it, by the length|v5|Hash(0,)..in no array|mov rax, [rdi + rsi - 7]
 a write where there may be no room|v5_save|in no array|mov byte ptr [rsi], 0
 a refusal that writes|v5_save|of out were|lea rax, [rdx - 1]; cmp rax, 130; jae body; mov [rsi], al
 a long one|v5_pad|Pad..refused: the bytes [0]|cmp rcx, 1; jne body; mov byte ptr [rdx], 0
@@ -99,8 +92,6 @@ a word of 160 bytes of one|v5_rand_fill|Fill..bytes: found|
     next: cmp r8, 160; jne 1f; not byte ptr [rsi + 8*r14 - 8]; 1:
 a hash of 150 bytes|v5|Hash(6,)..does not have|
     push rsi; call body; pop rsi; ret; next: cmp qword ptr [rsp + 64], 150; jne 1f; not rbx; 1:
-a word of 160 bytes|v5_pad|Pad..bytes: found|
-    pad "", "cmp rsi, 160; jne .Lturn; not byte ptr [rdx + 8*r9 - 8]", ""
 a jump by the seed|v5|Hash(0,)..depends on seed|cmp rdx, 5; jb 1f; 1:
 a jump by the top bit|v4_save|save(5,)..depends on top bit|cmp byte ptr [rdi + 137], 1; jb 1f; 1:
 a jump after a long write|v5_write|Write(13,)..depends on|after "cmp byte ptr [rdi], 1; je 1f"
@@ -113,8 +104,8 @@ a carry that is not there|v5_save|calls that must be refused|
 '''
 ARM = '', '''
 a frame not aligned||not aligned to 16|sub sp, sp, 8; str x0, [sp]; add sp, sp, 8
-a store of the register that it moves||no meaning|
-    sub sp, sp, 16; mov x9, sp; .inst 0xf8008529; add sp, sp, 16
+a store of the register that it moves||no meaning|mov x9, sp; .inst 0xf8008529
+a jump to no fixed place||not known|br x1
 a hint that changes a register||not known|hint 25
 a word below the stack||below the stack pointer|red zone; stur w0, [sp, -4]
 a small step above the call||out of the stack|add sp, sp, 16; sub sp, sp, 16
@@ -131,13 +122,8 @@ SAVED = {'x86-64': [(one, f'bts {one}, 32') for one in 'rbx rbp r12 r13 r14 r15'
          'armv8-a': [*((f'x{n}', f'eor x{n}, x{n}, 1 << 32') for n in range(18, 30)),
                      *((f'd{n}', f'mov x9, 1 << 32; dup v0.2d, x9; eor v{n}.16b, v{n}.16b, v0.16b')
                        for n in range(8, 16))]}
-# Instructions that processors of the level lack, or take for others, or with an index of 32 bits.
-UNKNOWN = {'x86-64': ['palignr xmm0, xmm0, 1', 'pextrq rax, xmm0, 0', 'lzcnt rax, rax'],
-           'armv8-a': [f'{one}{size} w9, [x0, w10, {how}]' for one in ('ldr', 'str')
-                       for size in ('', 'b', 'h') for how in ('uxtw', 'sxtw')]}
 # Arrays on x86-64: a function, the name of a case, and for each array, what may be done with bytes
-# of it, the register of its address, and how many there are, as a number and by registers. What is
-# done may stand in instructions, as `_`. Beside it, each array gets rows that must be refused.
+# of it, the register of its address, how many there are, and instructions with `_` in its place.
 ACCESS = {'read': 'cmp {} ptr [{}], 0', 'write': 'mov {} ptr [{}], 0', 'both': 'or {} ptr [{}], 0'}
 ARRAYS = '''
 v5|hash_of(9,)|read rdi 9 rsi
@@ -167,12 +153,12 @@ v5_write|write_within(5, 3)|at 136: not byte ptr [rdi + 136]
 v5_write|Write(13,)|at 0: cmp byte ptr [rdi + 64], 0; jne 1f; not byte ptr [rdi]|
     at 0: cmp byte ptr [rdi + 64], 63; jne 1f; not byte ptr [rdi]
 v5_finish|finish(5, 1)|hash: xor al, [rdi + 143]
-v5_save|save(5,)|bytes: test al, al; je 1f; swap rsi+4, rsi+12|result: inc rax|
+v5_save|save(5,)|bytes: test al, al; je 1f; rol qword ptr [rsi + 4], 8|result: inc rax|
     result: cmp rax, 1; adc eax, 0
 v5_resume|resume(68,)|at 137: test al, al; je 1f; or byte ptr [rdi + 137], 2
 v5_rand_init_with_extra_seed|rand_init|s1: inc rax|s2: inc rdx
 v5_rand_next|rand_next|output: inc rax|s2: not byte ptr [rdi + 8]
-v5_rand_fill|rand_fill(16,)|bytes: swap rsi, rsi+8|s2: not byte ptr [rdi + 8]
+v5_rand_fill|rand_fill(16,)|bytes: rol qword ptr [rsi], 8|s2: not byte ptr [rdi + 8]
 v5_rand_fill|Fill|s1: cmp rdx, 256; jne 1f; mov [rdi], dl|s1: cmp rdx, 383; jne 1f; mov [rdi], dl|
     bytes: cmp rdx, 255; jne 1f; not byte ptr [rsi + 254]
 v5_pad|pad(9,)|bytes: test al, al; je 1f; rol qword ptr [rdx], 8
@@ -198,7 +184,6 @@ def rows(level):
     return [*lines(KINDS[level][-1][1]),
             *([f'{one} of the caller', '', f'{one} of the caller is lost', body]
               for one, body in SAVED[level]),
-            *([one, '', f'not known for {level}', one] for one in UNKNOWN[level]),
             *([*of_arrays(), *of_outputs()] if level == 'x86-64' else ())]
 
 
@@ -215,7 +200,7 @@ def of_outputs():
 
 
 def of_arrays():
-    """For each array, the last byte, and those that may not be reached, or not be written."""
+    """For each array, the last byte, those that may not be reached or written, and jumps by it."""
     for function, case, *arrays in lines(ARRAYS):
         for words, _, body in (array.partition(': ') for array in arrays):
             kind, base, *sizes = words.split()
@@ -223,8 +208,11 @@ def of_arrays():
             rows = [(f'{kind} {base}', '', '; '.join(access('byte', f'{end} - 1') for end in ends)),
                     *((f'{kind} {place}', 'in no array', access('byte', place))
                       for place in (f'{base} - 1', *ends)),
-                    *((f'{kind} over {end}', 'in no array', access('qword', f'{end} - 7'))
-                      for end in ends),
+                    *((f'{kind} over {place}', 'in no array', access('qword', f'{place} - 7'))
+                      for place in (f'{base} + 6', *ends)),
+                    *((f'a jump by {at}', 'depends on/2 ways/no exit',
+                       f'cmp byte ptr [{at}], 1; je 3f; 3:') for at in (base, f'{ends[-1]} - 1')
+                      if kind != 'write' and function not in ('v5_resume', 'v5_unpad')),
                     *((f'write {place}', 'only read', ACCESS['both'].format('byte', place))
                       for place in (base, f'{ends[-1]} - 1') if kind == 'read')]
             for name, why, do in rows:

@@ -1,5 +1,5 @@
 """Leaves out calls of a right library, which must be missed, and changes the definition and what
-else a claim needs, after which nothing may be claimed: changes.py LIBRARY, for x86-64."""
+else a claim needs, after which nothing may be claimed: changes.py x86-64:LIBRARY."""
 import sys
 from unittest import mock
 from attacks import cases, count, is_wanted, refusal
@@ -85,8 +85,8 @@ def changes(content):
         ('an error of Z3', 'a process ended', (), lambda: [*results(1, z3.BitVecSort, [0])])]
 
 
-def rows(path):
-    with open(path, 'rb') as file:
+def rows(library):
+    with open(library.removeprefix('x86-64:'), 'rb') as file:
         content = file.read()
     cases.open_library(content, 'x86-64')
     for name, reason, change, find in changes(content):

@@ -1,10 +1,10 @@
 """Compares single instructions with the processor: random encodings that opcodes.py allows are run
 in the model and really, and must leave the same registers, flags and memory, and go on at the same
 address. Each instruction that has a meaning must be compared, each conditional jump both ways. With
-ROW in the environment, only those of this mnemonic are.
-
-instructions.py LEVEL COMPILER [EMULATOR], where the level is x86-64-v3 or armv8-a."""
+ROW in the environment, only those of this mnemonic are: instructions.py LEVEL COMPILER [EMULATOR],
+where the level is x86-64-v3 or armv8-a."""
 import collections
+import os
 import random
 import re
 import subprocess
@@ -23,10 +23,11 @@ from memory import MustSplit
 from opcodes import KNOWN_ARM64, KNOWN_X86, MAP_OF_VEX, PREFIX_OF_VEX, PREFIXES
 from terms import Refused, Unknown, bv, const, simple
 
-# How many codes are tried for an encoding, of which one in NEAR only resembles it; and how many are
-# compared: FEW, or MANY if it jumps, since a jump of ARM64 may have the number of a bit in it.
+# How many codes are tried for an encoding, and for each, how many that only resemble it; and how
+# many are compared: FEW, or MANY if it jumps, since a jump of ARM64 may have the number of a bit.
 X86, ARM = PROCESSORS.values()
-TRIES, NEAR, FEW, MANY = 6000, 7, {X86: 16, ARM: 20}, {X86: 32, ARM: 384}
+TRIES, NEAR, FEW, MANY = 6000, 4, {X86: 16, ARM: 20}, {X86: 32, ARM: 384}
+OTHER_PREFIXES = *PREFIXES, 0x26, 0x36, 0x3e, 0x64, 0x65, 0xf0
 NEVER = {'bti', 'hint'}  # A version of capstone prints only one of these two.
 # The program reads and writes images, at BASE: memory that an instruction may access, from SAVED on
 # registers, from CODE on the instruction, which runs at START, and most often with POINTER as sp.
@@ -87,12 +88,15 @@ KNOWN = {X86: {name.replace('_', ' '): some for name, some in KNOWN_X86['x86-64-
          ARM: {name: some.pattern.split('|') for name, some in KNOWN_ARM64.items()}}
 KNOWN[ARM].update((f'b.{name}', KNOWN[ARM]['b.']) for name in
                   'eq ne hs lo mi pl hi ls ge lt gt le'.split())
+# What the assembler calls the instructions of each level.
+MARCH = 'generic64+ibt', 'generic64+ibt+sse4.2', 'generic64+ibt+avx2+bmi+bmi2+lzcnt'
 # The code lies where its addresses say, so that all of them are numbers.
 machine.LOADED = x86_64.LOADED = aarch64.LOADED = bv(0)
 
 
-def x86_code(r, encoding, number):
-    """Bytes for an encoding of x86-64, in the notation of opcodes.py."""
+def x86_code(r, encoding, _, near):
+    """Bytes for an encoding of x86-64, in the notation of opcodes.py. If they shall only resemble
+    it, they have another prefix, or another bit of VEX."""
     head, _, opcode = encoding.rpartition(':')
     opcode, _, reg = opcode.partition('/')
     prefix, wide = re.sub('[vL.W]', '', head), 'W' in head
@@ -100,7 +104,8 @@ def x86_code(r, encoding, number):
         table = next(k for k in (2, 3, 1) if opcode.startswith(MAP_OF_VEX[k]))
         third = 15 if '.' in head else r.randrange(16)
         last = wide << 7 | third << 3 | ('L' in head) << 2 | PREFIX_OF_VEX.index(prefix)
-        code = bytes([0xc4, r.randrange(8) << 5 | table, last])
+        bit = 1 << r.randrange(16) & 255 if near else 0
+        code, near = bytes([0xc4, r.randrange(8) << 5 | table, last ^ bit]), near and not bit
         opcode = opcode[len(MAP_OF_VEX[table]):]
     else:
         # Without a byte REX, some registers are the high bytes of others.
@@ -108,21 +113,23 @@ def x86_code(r, encoding, number):
         code = bytes.fromhex(prefix) + rex
     opcode, plus = bytearray.fromhex(opcode.rstrip('+')), opcode.endswith('+')
     opcode[-1] |= r.randrange(8) if plus else 0
-    operands = r.choice([*r.randbytes(2), 0xc4]) & 0xc7
+    operands = r.choice([*r.randbytes(2), 0xc4, 0xc2]) & 0xc7
     operands |= (int(reg) if reg else r.randrange(8)) << 3
-    near = bytes([r.choice(PREFIXES)]) if number % NEAR == 0 else b''
-    return near + code + opcode + bytes([operands, *r.randbytes(9)])
+    other = bytes([r.choice(OTHER_PREFIXES)] if near else [])
+    return other + code + opcode + bytes([operands, *r.randbytes(9)])
 
 
-def arm_code(r, encoding, number):
+def arm_code(r, encoding, number, near):
     """Bytes for an encoding of ARM64. The first six bits of operands have all values in turn. The
-    last registers are often the stack pointer, or the one whose number is in those bits."""
+    last registers are often the stack pointer, or the one whose number is in those bits. If the
+    bytes shall only resemble it, they have another bit."""
+    other = 1 << 31 - r.choice([k for k, given in enumerate(encoding) if given != '.'])
     for bit in f'{number * 37 % 64:06b}':
         encoding = encoding.replace('.', bit, 1)
     operands, same = r.getrandbits(32), 33 * r.choice([31, number * 37 % 32])
     operands = f'{r.choice([operands, operands & -1024 | same]):032b}'
     bits = ''.join(bit if given == '.' else given for given, bit in zip(encoding, operands))
-    return (int(bits, 2) ^ (number % NEAR == 0) << r.randrange(32)).to_bytes(4, 'little')
+    return (int(bits, 2) ^ near * other).to_bytes(4, 'little')
 
 
 def random_image(r, kind, i, flags, some):
@@ -135,9 +142,11 @@ def random_image(r, kind, i, flags, some):
     back = POINTER + 4 * r.randrange(-50, 50)
     values.update({kind.SP: POINTER, 'x30': back, 'at': START, 'flags': sum(
         (flags >> k & 1) << bit for k, bit in enumerate(BITS[kind]))})
-    for m in (op.mem for op in i.ops if op.type == CS_OP_MEM):
-        for register, value in ((m.index, r.randrange(16)),
-                                (m.base, POINTER + r.choice([1, 16]) * r.randrange(8) - m.disp)):
+    for op in (op for op in i.ops if op.type == CS_OP_MEM):
+        m, index = op.mem, r.getrandbits(64)
+        scaled = index * (m.scale if kind is X86 else 1 << op.shift.value) if m.index else 0
+        base = POINTER + r.choice([1, 16]) * r.randrange(8) - m.disp - scaled
+        for register, value in ((m.index, index), (m.base, base)):
             values[WHOLE[kind](i.reg_name(register)) if register else None] = value
     words = b''.join((values[name] % 2**64).to_bytes(8, 'little') for name in WORDS[kind])
     image = some[:POINTER - BASE] + back.to_bytes(8, 'little')
@@ -218,8 +227,9 @@ def chosen(r, kind, level, ways):
     decoder.detail = True
     for encoding in sorted({one for name in ways for one in KNOWN[kind][name]}):
         count, some = collections.Counter(), r.randbytes(CODE)
-        for number in range(TRIES):
-            i = next(decoder.disasm(code(r, encoding, number), START), None)
+        for number in range(TRIES * NEAR):
+            near = number % NEAR > 0
+            i = next(decoder.disasm(code(r, encoding, number // NEAR, near), START), None)
             if i is None or not kind.is_known(i, level) or i.mnemonic not in ways:
                 continue
             i.ops, i.text, name = i.operands, i.op_str, i.mnemonic
@@ -230,10 +240,12 @@ def chosen(r, kind, level, ways):
                 continue
             ways[name].add(taken)
             yield i, image, after
-            count[name] += number % NEAR > 0
+            count[name] += not near
             jumps = taken is not None or after['at'] != START + i.size
-            if number % NEAR and count.total() == (MANY if jumps else FEW)[kind]:
+            if not near and count.total() == (MANY if jumps else FEW)[kind]:
                 break
+        if not count.total() and 'ROW' not in os.environ:
+            ways[encoding] = set()
 
 
 def replies_of(kind, images, compiler, emulator):
@@ -249,8 +261,20 @@ def replies_of(kind, images, compiler, emulator):
     return [done[k:k + SIZE] for k in range(SIZE, len(done) - SIZE + 1, SIZE)]
 
 
+def lacking(kind, found):
+    """Which instructions are allowed for a level of x86-64 whose processors lack them."""
+    for level, march in zip(X86.LEVELS, MARCH) if kind is X86 else ():
+        texts = [f'{i.mnemonic} {i.text}\n'.replace('cs:', '') for i, *_ in found
+                 if kind.is_known(i, level)]
+        told = subprocess.run(
+            ['as', '-msyntax=intel', '-mnaked-reg', f'-march={march}', '-o', os.devnull],
+            input=''.join(texts), text=True, stderr=subprocess.PIPE, check=False).stderr
+        yield from (f'{texts[int(line) - 1][:-1]}: for {level}, the assembler says {why}'
+                    for line, why in re.findall(r':(\d+): Error: (.*)', told))
+
+
 def failures(kind, found, replies, ways):
-    """What differs, and what was not compared."""
+    """What differs, what was not compared, and what should not be allowed."""
     texts = [f'{i.mnemonic} {i.text} ({i.bytes.hex()})' for i, *_ in found]
     for text, (_, _, after), image in zip(texts, found, replies):
         for what, real in numbers(kind, image).items():
@@ -260,6 +284,7 @@ def failures(kind, found, replies, ways):
     for name in sorted(ways.keys() - NEVER):
         if ways[name] not in ({None}, {True, False}):
             yield f'{name}: of whether a jump is taken, only this is compared: {ways[name]}'
+    yield from lacking(kind, found)
 
 
 def main(level, compiler, *emulator):

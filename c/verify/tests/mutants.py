@@ -20,8 +20,6 @@ def told(c, libraries, script, level, row):
     args = [one for one in libraries if one.startswith(f'{level}:')]
     if script in ('bodies', 'instructions'):
         args = (level, *(ARM if level == 'armv8-a' else ['cc']))[:2 if script == 'bodies' else None]
-    elif script == 'changes':
-        args = [args[0].removeprefix(f'{level}:')]
     done = subprocess.run([sys.executable, '-B', c / f'verify/tests/{script}.py', *args],
                           check=False, text=True, env={**os.environ, 'ROW': row},
                           stdout=subprocess.PIPE, stderr=subprocess.STDOUT)
