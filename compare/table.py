@@ -44,7 +44,7 @@ EACH = {
 }
 
 # The columns and the rows of the short table.
-SHORT_COLUMNS = {"komihash_rattle": RUST["komihash_rattle"], "times as long": RUST["plain"]}
+SHORT_COLUMNS = {"ours": RUST["komihash_rattle"], "theirs / ours": RUST["plain"]}
 SHORT_ROWS = [
     *(f"hash of 0 to {greatest} bytes, random lengths" for greatest in (15, 63, 255)),
     "hash of 1 MiB",

@@ -1,7 +1,7 @@
 #!/usr/bin/env python3
-"""Proves the control of each must-fail edit, on a copy of the crates: the same edit, whose last
-`new:` is replaced by its line in crates/controls.txt. Makes as many at once as stand in different
-places."""
+"""Proves the control of each must-fail edit, on a copy of the crates: the same edit, but for what
+its line in crates/controls.txt replaces in its last `new:`. Makes as many at once as stand in
+different places."""
 
 import re
 import shutil
@@ -18,13 +18,15 @@ def make(edit, crate):
     text = edit.read_text("utf-8")
     file = crate / text.split()[1]
     code = file.read_text("utf-8")
-    right = re.search(rf"^{crate.name}/{edit.stem}: (.*)", CONTROLS, re.MULTILINE)
-    changes = re.findall("old: (.*)\nnew: (.*)", text)
-    for old, new in [*changes[:-1], (changes[-1][0], right and right[1])]:
+    control = re.search(rf"^{crate.name}/{edit.stem}: (.*) ==> (.*)", CONTROLS, re.MULTILINE)
+    *changes, (last, wrong) = re.findall("old: (.*)\nnew: (.*)", text)
+    if not control or wrong.count(control[1]) != 1:
+        return False
+    for old, new in [*changes, (last, wrong.replace(*control.groups()))]:
         if code.count(old) != 1 or code[: code.index(old)].count("/**/") % 2:
             return False
         code = code.replace(old, f"/**/{new}/**/")
-    return right and file.write_text(code, "utf-8") > 0
+    return file.write_text(code, "utf-8") > 0
 
 
 left, counts = sorted(ROOT.glob("crates/*/must-fail/*.edit")), [0, 0]

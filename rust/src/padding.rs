@@ -78,7 +78,7 @@ where
     whole + 1
 }
 
-// Returns the index of a word's highest byte that is not 0, counted from the lowest byte.
+// Returns the index of a word's highest byte that is not 0.
 #[inline(always)]
 fn highest_place(word: u64) -> usize {
     (word.ilog2() / 8) as usize

@@ -20,11 +20,12 @@ use Rattle.komihash.proofs.WordOf.{word_of-join}
 
 -- ---- words that are stored one by one, some of them out of order or more than once
 
--- a word that is stored at its index, or in place of one that is missing still
-pub put_word : {ws zs : List ℕ} {gap gap_end : ℕ} → StoresBut ws zs gap gap_end → (i n x : ℕ)
-    → (i ≤ gap) × (n ≤ i + 1) → ((n ≤ i → gap_end ≤ i) → x ≡ stored_word zs i)
-    → StoresBut (set ws i x) zs n gap_end
-put_word but i n x within is = grind (arith, elements)
+-- A word is put at index i, after which those from `next` on are missing. It is the word that
+-- belongs there, unless it is one of these.
+pub put_word : {ws zs : List ℕ} {gap gap_end : ℕ} → StoresBut ws zs gap gap_end → (i next word : ℕ)
+    → (i ≤ gap) × (next ≤ i + 1) → ((next ≤ i → gap_end ≤ i) → word ≡ stored_word zs i)
+    → StoresBut (set ws i word) zs next gap_end
+put_word but i next word within is = grind (arith, elements)
 
 -- none is missing
 pub all_stored : {ws zs : List ℕ} {gap gap_end : ℕ} → StoresBut ws zs gap gap_end
@@ -37,29 +38,27 @@ pub word_after : (xs bytes : List ℕ) (at from : ℕ) → length xs + from ≡ 
     → word_of (take 8 (drop from bytes)) ≡ stored_word (xs ++ bytes) at
 word_after xs bytes at from place = rw (← place, drop-append-add xs bytes from) refl
 
--- `out` has the n words of the chunks of a piece, which is the bytes from `from` on. After the
--- bytes xs, these are the words from `at` to `end`.
-pub record ChunkWords (xs bytes piece out : List ℕ) (chunks : List (List ℕ)) (from n at end : ℕ)
+-- `out` has the words of the chunks of the bytes from `from` on. After the bytes xs, these are the
+-- words from `at` to `end`.
+pub record ChunkWords (xs bytes out : List ℕ) (chunks : List (List ℕ)) (from at end : ℕ)
     : Type 0 where
-  pub front : chunks ≡ first_chunks 8 (length piece / 8) piece
-  pub tail : piece ≡ drop from bytes
+  pub front : chunks ≡ first_chunks 8 (length (drop from bytes) / 8) (drop from bytes)
+  pub count : length chunks ≡ length (drop from bytes) / 8
   pub begin : length xs + from ≡ 8 * at
-  pub count : length chunks ≡ length piece / 8
-  pub number : length chunks ≡ n
-  pub size : length out ≡ n
-  pub last : end ≡ at + n
+  pub last : end ≡ at + length chunks
   pub most : end ≤ 8
+  pub size : length out ≡ length chunks
   pub words : (k : ℕ) → k < length chunks → slice_index out k ≡ chunk_word chunks k
 
 -- they are stored where nothing was yet
-pub words_stored : {xs bytes piece out : List ℕ} {chunks : List (List ℕ)} {from n at end : ℕ}
+pub words_stored : {xs bytes out : List ℕ} {chunks : List (List ℕ)} {from at end : ℕ}
     {ws : List ℕ} {gap_end : ℕ} → StoresBut ws (xs ++ bytes) at gap_end
-    → ChunkWords xs bytes piece out chunks from n at end
-    → StoresBut (put_mid at n ws out) (xs ++ bytes) end gap_end
-words_stored {xs} {bytes} {piece} {out} {chunks} {from} {n} {at} but are = record {
+    → ChunkWords xs bytes out chunks from at end
+    → StoresBut (put_mid at (length chunks) ws out) (xs ++ bytes) end gap_end
+words_stored {xs} {bytes} {out} {chunks} {from} {at} but are = record {
   size = grind (arith, elements);
   words = λ k lt after.
-      let read = word_of-chunk (length piece / 8) (k - at) piece in
+      let read = word_of-chunk (length (drop from bytes) / 8) (k - at) (drop from bytes) in
       let stored = word_after xs bytes k (from + 8 * (k - at)) in
       grind (arith, elements);
 }

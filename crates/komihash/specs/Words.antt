@@ -9,7 +9,7 @@ use Rattle.std.specs.Prelude.{ℕ, ◌+◌, ◌*◌, ◌^◌, ◌<◌, List, [],
 abbrev pub AreBytes : List ℕ → Type 0
 AreBytes xs = (k : ℕ) → slice_index xs k < 256
 
--- each number of a list is a word
+-- each number of a list is a word: `Each1` says it of one after the other, which suits lanes
 abbrev pub AreWords : List ℕ → Type 0
 AreWords ws = Each1 (λ w. w < 2 ^ 64) ws
 

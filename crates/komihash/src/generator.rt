@@ -106,7 +106,7 @@ where
     /// assert_eq!([restored.next(), restored.next()], [generator.next(), generator.next()]);
     /// ```
     #[must_use]
-    // The library for C needs it. In Rattle, it isn't stable.
+    // The library for C needs it. In Rattle, it isn't stable, and Rust doesn't hide it.
     // Rust instead:
     #[doc(hidden)]
     #[inline(always)]

@@ -12,11 +12,12 @@
 //! In one version, `komihash` and streams return the same hash for the same bytes and seed, however
 //! the bytes were cut. It is proved to be the hash that the definitions in `specs/` give.
 
-// The crate for Rust is made of the other files, and their documentation is its own too. Rust's are
-// examples, which pass no tally, `# Panics`, `#[track_caller]`, where a function leaves the test of
-// a length to one that it calls, and what is said of `Debug`, `version` and clippy. Rust lacks what
-// follows `Rattle alone.`, up to an empty line, and `Rust instead:` says what it has in place
-// of the next line.
+// `rust/erase.py` makes the crate for Rust of the other files. In them,
+// - `Rattle alone.` begins what Rust lacks, up to an empty line;
+// - `Rust instead:` says what Rust has in place of the next line, perhaps nothing;
+// - for Rust alone are examples, which pass no tally, `# Panics`, `#[track_caller]`, where a
+//   function leaves the test of a length to one that it calls, and what is said of `Debug`,
+//   `version` and clippy.
 
 #![tactic(auto)]
 

@@ -3,8 +3,13 @@
 //!
 //! C passes a slice as two arguments, a pointer and a length. The pointer to an empty slice may be
 //! null.
+//!
+//! Only these calls change a stream, as the header asks. So `is_state` of a `Stream` always holds.
 #![tactic(auto)]
 
 mod rand;
 mod v4;
 mod v5;
+
+// What `unpad` returns in place of a length, which the header calls `KOMIHASH_NONE`.
+const NONE: usize = usize::MAX;

@@ -1,7 +1,7 @@
 //! The functions of version 4, as C calls them. `komihash_rattle.h` declares them.
 // Made of v5.rt by scripts/twins.py, except for the comment above.
 
-ghost use Rattle.std.specs.Prelude.{◌≡◌, ◌-◌, ◌*◌, ◌/◌, ◌<◌, ◌≤◌, ◌^◌, true, false};
+ghost use Rattle.std.specs.Prelude.{◌≡◌, ◌*◌, ◌/◌, ◌<◌, ◌≤◌, true, false};
 ghost use Rattle.std.specs.Prelude.{length, Some};
 ghost use Rattle.komihash.specs.Generator.{next, after_steps, fill, after_fill};
 ghost use Rattle.komihash.specs.Hash.{komi};
@@ -9,6 +9,7 @@ ghost use Rattle.komihash.specs.Padding.{ArePadded, Padded, Unpadded};
 ghost use Rattle.komihash.specs.Saved.{IsText, Stored, Restored};
 ghost use Rattle.komihash.specs.Stream.{IsState, Started, Absorbed, Answered};
 
+use super::NONE;
 use super::rand::Rand;
 use komihash::stream::LONGEST_TEXT;
 use komihash::stream::raw::RawStream;
@@ -49,23 +50,20 @@ pub extern "C" fn komihash_v4_pad(bytes: &[u8], out: &mut [u64]) -> usize
 }
 
 /// Writes the message that has these padded words to the front of `out`, and returns its length.
-/// Returns `usize::MAX` if no message has them, or if `out` has fewer than eight bytes for each
-/// word.
+/// Returns `NONE` if no message has them, or if `out` has fewer than eight bytes for each word.
 #[unsafe(no_mangle)]
 pub extern "C" fn komihash_v4_unpad(words: &[u64], out: &mut [u8]) -> usize
-    ensures unpadded { result < 2 ^ 64 - 1
-        → Unpadded 4 words.now out (Some result) }
-    ensures unchanged { result ≡ 2 ^ 64 - 1 → out.new ≡ out.old }
-    ensures no_room { length out.old < 8 * length words.now → result ≡ 2 ^ 64 - 1 }
-    ensures found { 8 * length words.now ≤ length out.old → ArePadded 4 words.now
-        → result < 2 ^ 64 - 1 }
+    ensures unpadded { result < NONE → Unpadded 4 words.now out (Some result) }
+    ensures unchanged { result ≡ NONE → out.new ≡ out.old }
+    ensures no_room { length out.old < 8 * length words.now → result ≡ NONE }
+    ensures found { 8 * length words.now ≤ length out.old → ArePadded 4 words.now → result < NONE }
 {
     if out.len() / 8 < words.len() {
-        return usize::MAX;
+        return NONE;
     }
     match v4::unpad(words, out) {
         Some(length) => length,
-        None => usize::MAX,
+        None => NONE,
     }
 }
 

@@ -1,6 +1,6 @@
 //! The functions of version 5, as C calls them. `komihash_rattle.h` declares them.
 
-ghost use Rattle.std.specs.Prelude.{◌≡◌, ◌-◌, ◌*◌, ◌/◌, ◌<◌, ◌≤◌, ◌^◌, true, false};
+ghost use Rattle.std.specs.Prelude.{◌≡◌, ◌*◌, ◌/◌, ◌<◌, ◌≤◌, true, false};
 ghost use Rattle.std.specs.Prelude.{length, Some};
 ghost use Rattle.komihash.specs.Generator.{next, after_steps, fill, after_fill};
 ghost use Rattle.komihash.specs.Hash.{komi};
@@ -8,6 +8,7 @@ ghost use Rattle.komihash.specs.Padding.{ArePadded, Padded, Unpadded};
 ghost use Rattle.komihash.specs.Saved.{IsText, Stored, Restored};
 ghost use Rattle.komihash.specs.Stream.{IsState, Started, Absorbed, Answered};
 
+use super::NONE;
 use super::rand::Rand;
 use komihash::stream::LONGEST_TEXT;
 use komihash::stream::raw::RawStream;
@@ -48,23 +49,20 @@ pub extern "C" fn komihash_v5_pad(bytes: &[u8], out: &mut [u64]) -> usize
 }
 
 /// Writes the message that has these padded words to the front of `out`, and returns its length.
-/// Returns `usize::MAX` if no message has them, or if `out` has fewer than eight bytes for each
-/// word.
+/// Returns `NONE` if no message has them, or if `out` has fewer than eight bytes for each word.
 #[unsafe(no_mangle)]
 pub extern "C" fn komihash_v5_unpad(words: &[u64], out: &mut [u8]) -> usize
-    ensures unpadded { result < 2 ^ 64 - 1
-        → Unpadded 5 words.now out (Some result) }
-    ensures unchanged { result ≡ 2 ^ 64 - 1 → out.new ≡ out.old }
-    ensures no_room { length out.old < 8 * length words.now → result ≡ 2 ^ 64 - 1 }
-    ensures found { 8 * length words.now ≤ length out.old → ArePadded 5 words.now
-        → result < 2 ^ 64 - 1 }
+    ensures unpadded { result < NONE → Unpadded 5 words.now out (Some result) }
+    ensures unchanged { result ≡ NONE → out.new ≡ out.old }
+    ensures no_room { length out.old < 8 * length words.now → result ≡ NONE }
+    ensures found { 8 * length words.now ≤ length out.old → ArePadded 5 words.now → result < NONE }
 {
     if out.len() / 8 < words.len() {
-        return usize::MAX;
+        return NONE;
     }
     match v5::unpad(words, out) {
         Some(length) => length,
-        None => usize::MAX,
+        None => NONE,
     }
 }
 

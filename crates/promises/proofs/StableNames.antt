@@ -2,8 +2,10 @@
 -- file by file, and then the records with their fields. The change that takes one away, or changes
 -- its arguments, fails here, and needs a new first number of the version.
 use Rattle.std.specs.Prelude.{ℕ, Bool, true, List, [], ◌∷◌, Option, ◌≡◌, ◌↔◌, ◌<◌, ◌≤◌, ◌+◌, ◌/◌}
-use Rattle.std.specs.Prelude.{◌++◌, length, take, drop}
+use Rattle.std.specs.Prelude.{◌++◌, ◌^◌, length, take, drop, slice_index}
 use Rattle.std.specs.Prelude.{IfSome, IfNone, IsSome, IsSomeAnd, IsNone}
+use Rattle.std.proofs.Common.{refl}
+use Rattle.std.proofs.lemmas.Simd.{Each1-from_get_or}
 use Rattle.komihash.specs.Borrows.{Mut}
 use Rattle.komihash.specs.Calls.{answers_after, answers, onward, bytes_of_calls, AreAbsorbs}
 use Rattle.komihash.specs.Calls.{products_of_answers, onward_products, onward_kept_bytes}
@@ -29,80 +31,78 @@ use Rattle.komihash.specs.declared.stream.Call.{Call}
 use Rattle.komihash.specs.declared.tally.Tally.{Tally}
 use Rattle.komihash.proofs.Propositions.{HasAbsorbed-prop}
 
-words_and_bytes : (List ℕ → ℕ) × (List ℕ → List ℕ) × (List ℕ → List ℕ)
-words_and_bytes = (word_of, words_of, all_bytes)
+-- ---- by file of specs/
 
-are_words : (List ℕ → Type 0) × (List ℕ → Type 0)
-are_words = (AreBytes, AreWords)
+of_words : (List ℕ → Type 0) × (List ℕ → Type 0) × (List ℕ → ℕ) × (List ℕ → List ℕ)
+    × (List ℕ → List ℕ)
+of_words = (AreBytes, AreWords, word_of, words_of, all_bytes)
 
-versions_with_two : (ℕ → Bool) × (ℕ → Type 0)
-versions_with_two = (has_two, KeepsTopBit)
+are_bytes_if : (xs : List ℕ) → ((k : ℕ) → slice_index xs k < 256) → AreBytes xs
+are_bytes_if xs fits = fits
 
-padding : (ℕ → ℕ → Bool) × (Bool → ℕ) × (ℕ → List ℕ → ℕ) × (ℕ → List ℕ → List ℕ)
-padding = (pads_with_two, padding_after, padding_byte, padded_bytes)
+are_words_if : (ws : List ℕ) → ((k : ℕ) → slice_index ws k < 2 ^ 64) → AreWords ws
+are_words_if ws fits = Each1-from_get_or _ ws 0 (λ k _. fits k)
 
-padded : (ℕ → List ℕ → List ℕ) × (ℕ → List ℕ → Type 0)
-padded = (padded_words, ArePadded)
+of_padding : (ℕ → Bool) × (ℕ → Type 0) × (ℕ → ℕ → Bool) × (Bool → ℕ) × (ℕ → List ℕ → ℕ)
+    × (ℕ → List ℕ → List ℕ) × (ℕ → List ℕ → List ℕ) × (ℕ → List ℕ → Type 0)
+of_padding = (
+  has_two,
+  KeepsTopBit,
+  pads_with_two,
+  padding_after,
+  padding_byte,
+  padded_bytes,
+  padded_words,
+  ArePadded,
+)
 
-constants : List ℕ × (ℕ → ℕ) × (ℕ → ℕ) × (ℕ → ℕ) × (ℕ → ℕ → ℕ)
-constants = (fraction_of_pi, constant, low, high, plus)
+of_rounds : List ℕ × (ℕ → ℕ) × (ℕ → ℕ) × (ℕ → ℕ) × (ℕ → ℕ → ℕ) × (ℕ → ℕ → ℕ → ℕ × ℕ)
+of_rounds = (fraction_of_pi, constant, low, high, plus, mix)
 
-seeds : (ℕ → ℕ → ℕ → ℕ × ℕ) × (ℕ → ℕ × ℕ) × (ℕ → ℕ × ℕ) × (ℕ × ℕ → Lanes)
-seeds = (mix, seed_words, seed_pair, lanes)
+of_rounds_on_lanes : (Lanes → List ℕ) × (ℕ × ℕ → Lanes) × (ℕ → List ℕ)
+    × (List ℕ → Lanes → List ℕ → Lanes) × (ℕ → Lanes → List ℕ → Lanes) × (Bool → Lanes → ℕ × ℕ)
+of_rounds_on_lanes = (in_order, lanes, places, block_round_by, block_round, join)
 
-lanes_as_list : (Lanes → List ℕ) × (List ℕ → Lanes → List ℕ → Lanes)
-lanes_as_list = (in_order, block_round_by)
+of_rounds_on_pairs : (ℕ → ℕ × ℕ) × (ℕ → ℕ × ℕ) × (ℕ × ℕ → ℕ → ℕ → ℕ × ℕ) × (ℕ × ℕ → ℕ)
+    × (ℕ × ℕ → List ℕ → ℕ)
+of_rounds_on_pairs = (seed_words, seed_pair, pair_round, mix_again, closing)
 
-blocks : (ℕ → List ℕ) × (ℕ → Lanes → List ℕ → Lanes) × (Bool → Lanes → ℕ × ℕ)
-blocks = (places, block_round, join)
+of_hash : (ℕ → ℕ → List ℕ → ℕ) × (ℕ → Lanes → Bool → List ℕ → ℕ) × (ℕ × ℕ → List ℕ → ℕ)
+of_hash = (komi, hash_from_lanes, hash_from_pair)
 
-pairs : (ℕ × ℕ → ℕ → ℕ → ℕ × ℕ) × (ℕ × ℕ → ℕ) × (ℕ × ℕ → List ℕ → ℕ)
-pairs = (pair_round, mix_again, closing)
+of_hasher : ℕ → ℕ → List (List ℕ) → ℕ
+of_hasher = number_after
 
-hashes : (ℕ → ℕ → List ℕ → ℕ) × (ℕ → Lanes → Bool → List ℕ → ℕ) × (ℕ × ℕ → List ℕ → ℕ)
-hashes = (komi, hash_from_lanes, hash_from_pair)
+of_generator : (ℕ → ℕ × ℕ → ℕ × ℕ) × (ℕ → ℕ → ℕ × ℕ → ℕ × ℕ) × (ℕ → ℕ → ℕ × ℕ → List ℕ)
+    × (ℕ → ℕ) × (ℕ → ℕ × ℕ → ℕ → List ℕ) × (ℕ → ℕ × ℕ → ℕ → ℕ × ℕ)
+of_generator = (next, after_steps, outputs, fill_steps, fill, after_fill)
 
-hasher : ℕ → ℕ → List (List ℕ) → ℕ
-hasher = number_after
-
-generator : (ℕ → ℕ × ℕ → ℕ × ℕ) × (ℕ → ℕ → ℕ × ℕ → ℕ × ℕ) × (ℕ → ℕ → ℕ × ℕ → List ℕ)
-generator = (next, after_steps, outputs)
-
-fills : (ℕ → ℕ) × (ℕ → ℕ × ℕ → ℕ → List ℕ) × (ℕ → ℕ × ℕ → ℕ → ℕ × ℕ)
-fills = (fill_steps, fill, after_fill)
-
-streams : (ℕ → State) × (ℕ → State → ℕ → State) × (ℕ → State → List ℕ → State)
-streams = (start, absorb_byte, absorb)
-
-ends : (Bool → Bool → ℕ) × (ℕ → List ℕ → Bool → Bool → List ℕ) × (ℕ → State → ℕ)
-ends = (end_after_blocks, tail_of, answer)
-
-texts : ℕ × ℕ × ℕ × (Bool → ℕ) × (ℕ → State → List ℕ) × (ℕ → State → List ℕ)
-texts = (lanes_at, pending_at, longest_text, flag_byte, head, text)
-
-after_a_message : (ℕ → ℕ → State → List ℕ → Type 0) × (ℕ → ℕ → List ℕ → List ℕ → Type 0)
-after_a_message = (HasAbsorbed, IsTextAfter)
+of_stream : (ℕ → State) × (ℕ → State → ℕ → State) × (ℕ → State → List ℕ → State)
+    × (ℕ → ℕ → State → List ℕ → Type 0) × (Bool → Bool → ℕ)
+    × (ℕ → List ℕ → Bool → Bool → List ℕ) × (ℕ → State → ℕ)
+of_stream = (start, absorb_byte, absorb, HasAbsorbed, end_after_blocks, tail_of, answer)
 
 absorbed_once : (v seed : ℕ) (s : State) (m : List ℕ) → IsProp (HasAbsorbed v seed s m)
 absorbed_once = HasAbsorbed-prop
 
-are_texts : ℕ → List ℕ → Type 0
-are_texts = IsText
+of_saved : ℕ × ℕ × ℕ × (Bool → ℕ) × (ℕ → State → List ℕ) × (ℕ → State → List ℕ)
+    × (ℕ → List ℕ → Type 0) × (ℕ → ℕ → List ℕ → List ℕ → Type 0)
+of_saved = (lanes_at, pending_at, longest_text, flag_byte, head, text, IsText, IsTextAfter)
 
-calls : ((List ℕ → ℕ) → List ℕ → List Call → List ℕ) × (ℕ → ℕ → List Call → List ℕ)
-calls = (answers_after, answers)
+is_text_if : (v : ℕ) (s : State) → IsState v s → IsText v (text v s)
+is_text_if v s is = (s, is, refl)
 
-further_calls : (ℕ → State → List Call → List ℕ) × (List Call → List ℕ) × (List Call → Type 0)
-further_calls = (onward, bytes_of_calls, AreAbsorbs)
+of_calls : ((List ℕ → ℕ) → List ℕ → List Call → List ℕ) × (ℕ → ℕ → List Call → List ℕ)
+    × (ℕ → State → List Call → List ℕ) × (List Call → List ℕ) × (List Call → Type 0)
+of_calls = (answers_after, answers, onward, bytes_of_calls, AreAbsorbs)
 
-costs : (ℕ → ℕ) × (ℕ → ℕ) × (ℕ → ℕ → ℕ) × (ℕ → ℕ → ℕ)
-costs = (hash_products, answer_products, absorb_products, absorb_kept_bytes)
+of_calls_costs : (ℕ → List Call → ℕ) × (ℕ → List Call → ℕ) × (ℕ → List Call → ℕ)
+    × (List Call → ℕ) × (List Call → ℕ)
+of_calls_costs =
+    (products_of_answers, onward_products, onward_kept_bytes, run_products, run_kept_bytes)
 
-costs_of_calls : (ℕ → List Call → ℕ) × (ℕ → List Call → ℕ) × (ℕ → List Call → ℕ)
-costs_of_calls = (products_of_answers, onward_products, onward_kept_bytes)
-
-costs_of_runs : (List Call → ℕ) × (List Call → ℕ)
-costs_of_runs = (run_products, run_kept_bytes)
+of_counts : (ℕ → ℕ) × (ℕ → ℕ) × (ℕ → ℕ → ℕ) × (ℕ → ℕ → ℕ)
+of_counts = (hash_products, answer_products, absorb_products, absorb_kept_bytes)
 
 -- ---- records, by each of their fields
 

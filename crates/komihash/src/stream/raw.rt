@@ -157,6 +157,7 @@ impl RawStream {
     where
         Versions: IsVersion<V>,
         requires { LONGEST_TEXT ≤ length out.old }
+        // These are the fields of `Stored`, of which the search finds more proofs one by one.
         ensures length { result ≡ length (text V self.now) }
         ensures most { result ≤ LONGEST_TEXT }
         ensures version { IsState V self.now → (w : ℕ) (s : State) → IsState w s

@@ -19,15 +19,13 @@ returns-then-has_two_more c =
     let width : at + n - at ≡ n = omega arith in
     let piece = take_all (length bytes - from) (drop from bytes) (omega arith) in
     rw (c.word_index-next.ensures, width)
-    (words_stored {xs = xs} {bytes = bytes} {from = from} {n = n} {end = end} partial record {
-      front = c.as_chunks.ensures.front;
-      tail = piece;
-      begin = omega arith;
+    (words_stored {xs = xs} {bytes = bytes} {from = from} {end = end} partial record {
+      front = rw piece at c.as_chunks.ensures.front;
       count = omega arith;
-      number = omega arith;
-      size = omega arith;
+      begin = omega arith;
       last = omega arith;
       most = omega arith;
+      size = omega arith;
       words = c.store_words.ensures.words;
     })
 
