@@ -18,10 +18,12 @@ CHOICES = {r'^ *// Rattle alone\.\n(?:.+\n)+': '',
            r'^( *)// Rust instead:(?: (.*))?\n.+\n': r'\1\2\n'}
 # Public functions that are const in Rust, and types that derive traits there.
 CONST = 'init', 'init_with_extra_seed', 'new', 'new_with_seed', 'next', 'start', 'words'
-DERIVED = {'Call': 'PartialEq, Eq'} | dict.fromkeys(
-    ('KomiBuildHasher', 'KomiHasher', 'Komirand'), 'Debug, PartialEq, Eq')
+DERIVED = dict.fromkeys(('Call', 'StreamedKomihash', 'RawStream', 'Lanes', 'Pair', 'Pending'),
+                        'PartialEq, Eq') | {
+    'KomiHasher': 'Copy, Debug, PartialEq, Eq, Hash',
+    **dict.fromkeys(('KomiBuildHasher', 'Komirand'), 'Debug, PartialEq, Eq')}
 ADDED = {rf'^( *pub )(?=fn {name}\b)': r'\1const ' for name in CONST} | {
-    rf'^(?=pub (?:enum|struct) {name}\b)': f'#[derive({traits})]\n'
+    rf'^(?=pub(?:\(crate\))? (?:enum|struct) {name}\b)': f'#[derive({traits})]\n'
     for name, traits in DERIVED.items()}
 MADE = '// Made by rust/erase.py of crates/komihash/src, where changes belong.\n'
 RUSTFMT = 'rustfmt', '--edition', '2024', '--config', 'use_small_heuristics=Max'

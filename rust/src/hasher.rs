@@ -16,7 +16,7 @@ use core::hash::{BuildHasher, Hasher};
 /// use a hasher for maps alone, whose keys no attacker chooses, and `komihash` for what is
 /// stored, sent or sharded. A tuple costs a hash for each field, and a text two, so hashers that
 /// are made for maps are faster. `Debug` shows the number.
-#[derive(Clone, Debug, PartialEq, Eq)]
+#[derive(Clone, Copy, Debug, PartialEq, Eq, Hash)]
 pub struct KomiHasher<const V: u8>
 where
     Versions: IsVersion<V>,

@@ -13,6 +13,7 @@ use std::io::{Result, Write};
 /// assert_eq!(stream.finish(), komihash(&std::fs::read("Cargo.toml")?, 0));
 /// # Ok::<(), std::io::Error>(())
 /// ```
+#[cfg_attr(docsrs, doc(cfg(feature = "std")))]
 impl<const V: u8> Write for StreamedKomihash<V>
 where
     Versions: IsVersion<V>,

@@ -8,6 +8,7 @@
 //! - for code that is generic over the version: [`version`]
 //! - for lists of calls, and streams of your own type: [`stream`]
 #![no_std]
+#![cfg_attr(docsrs, feature(doc_cfg))]
 #![forbid(unsafe_code)]
 #![warn(missing_docs)]
 #![allow(clippy::int_plus_one, clippy::manual_is_multiple_of)]

@@ -31,6 +31,10 @@
 //! ```compile_fail,E0277
 //! komihash_rattle::version::KomiHasher::<6>::new(0);
 //! ```
+//!
+//! ```compile_fail,E0277
+//! komihash_rattle::version::KomiHasher::<3>::new(0);
+//! ```
 
 pub use crate::generator::Komirand;
 pub use crate::hash::komihash;

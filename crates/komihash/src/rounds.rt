@@ -38,16 +38,16 @@ const C8: u64 = 0x3f84_d5b5_b547_0917;
 
 /// A pair (a, e) as the code stores it: a xor e, and e. After a `mix`, a xor e is the low half of
 /// the product. The word a itself is computed only for a factor, and as the hash.
-#[derive(Clone, Copy)]
 #[repr(C)]
+#[derive(Clone, Copy)]
 pub(crate) struct Pair(u64, u64);
 
 /// The eight lanes as the code stores them: four pairs in a ring, one for each product of a block.
 ///
 /// s5 to s8 are the words e of the pairs. s1 to s4 are the low halves, each xor the word e of the
 /// pair before it. The fourth pair is the one before the first, so it stands there.
-#[derive(Clone, Copy)]
 #[repr(C)]
+#[derive(Clone, Copy)]
 pub(crate) struct Lanes {
     fourth: Pair,
     first: Pair,

@@ -6,8 +6,8 @@ use crate::padding::{padding_after, pads_with_two};
 use crate::utils::{last_word, read_partial_word, read_word, word_at, write_first_bytes};
 
 /// Fewer than 64 bytes, stored in eight words, with zeros after the last byte.
-#[derive(Clone)]
 #[repr(C)]
+#[derive(Clone, PartialEq, Eq)]
 pub(crate) struct Pending {
     words: [u64; 8],
     len: usize,

@@ -16,7 +16,7 @@ use crate::version::{IsVersion, Versions};
 /// It is not for messages that an attacker may choose, whatever the seed is.
 // In Rust, `c/exports.rs` needs this layout.
 #[repr(transparent)]
-#[derive(Clone)]
+#[derive(Clone, PartialEq, Eq)]
 pub struct StreamedKomihash<const V: u8>
 where
     Versions: IsVersion<V>,
@@ -54,7 +54,7 @@ where
     /// ```
     #[must_use]
     #[inline]
-    pub const fn new_with_seed(seed: u64) -> StreamedKomihash<V> {
+    pub const fn new_with_seed(seed: u64) -> Self {
         // In Rust, this is `const`, so it can't call `start`, a method of a trait.
         StreamedKomihash { raw: RawStream::start::<V>(seed) }
     }
@@ -79,6 +79,14 @@ where
     }
 
     /// Returns the hash of all bytes so far. The stream is unchanged, and may absorb more.
+    ///
+    /// ```
+    /// use komihash_rattle::v5::{StreamedKomihash, komihash};
+    /// let mut stream = StreamedKomihash::new();
+    /// assert_eq!(stream.finish(), komihash(b"", 0));
+    /// stream.write(b"port");
+    /// assert_eq!([stream.finish(), stream.finish()], [komihash(b"port", 0); 2]);
+    /// ```
     #[must_use]
     #[inline]
     pub fn finish(&self) -> u64 {

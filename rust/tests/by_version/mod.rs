@@ -252,21 +252,56 @@ fn hashers_of_values() {
     assert_eq!(KomiBuildHasher::new(SEED).hash_one(value), plain.finish());
 }
 
+/// Whether a type has no impl of a trait: an impl hides the constant of the trait `Otherwise`.
+macro_rules! lacks {
+    ($type:ty: $trait:path) => {{
+        #[allow(dead_code)]
+        trait Otherwise {
+            const LACKS: bool = true;
+        }
+        struct Probe<T>(T);
+        impl<T> Otherwise for Probe<T> {}
+        #[allow(dead_code)]
+        impl<T: $trait> Probe<T> {
+            const LACKS: bool = false;
+        }
+        Probe::<$type>::LACKS
+    }};
+}
+
+#[test]
+fn streams_are_equal_in_equal_states() {
+    let streamed = |pieces: &[&[u8]]| {
+        let mut stream = StreamedKomihash::new();
+        pieces.iter().for_each(|piece| stream.write(piece));
+        stream
+    };
+    let message = [7; 200];
+    assert!(streamed(&[&message]) == streamed(&[&message[..1], &[], &message[1..]]));
+    assert!(streamed(&[&message[..63]]) != streamed(&[&message[..62], &[8]]));
+    assert!(streamed(&[&message[..1]]) != streamed(&[&message[..1], &[0]]));
+    assert!(streamed(&[&message]) != streamed(&[&message[1..], &[8]]));
+    assert!(StreamedKomihash::new() != StreamedKomihash::new_with_seed(1));
+}
+
 #[test]
 fn types_have_the_traits_that_users_expect() {
-    fn is<T: Send + Sync + Unpin + Clone + std::fmt::Debug>() {}
-    fn is_compared<T: Send + Sync + Unpin + Clone + std::fmt::Debug + Eq>() {}
+    fn is<T: Send + Sync + Unpin + Clone + std::fmt::Debug + Eq>() {}
     fn is_copied<T: Copy>() {}
     is::<StreamedKomihash>();
-    is_compared::<Komirand>();
-    is_compared::<KomiHasher>();
-    is_compared::<KomiBuildHasher>();
-    is_compared::<Call<'_>>();
+    is::<Komirand>();
+    is::<KomiHasher>();
+    is::<KomiBuildHasher>();
+    is::<Call<'_>>();
     is_copied::<KomiBuildHasher>();
+    is_copied::<KomiHasher>();
     is_copied::<Call<'_>>();
     assert!(Call::Answer != Call::Absorb(b"") && Call::Absorb(b"ab") != Call::Absorb(b"ac"));
-    assert!(KomiHasher::new(1) == KomiHasher::new(1) && KomiHasher::new(1) != KomiHasher::new(2));
-    assert_eq!([1, 2].map(KomiBuildHasher::new), [1, 2].map(KomiBuildHasher::new));
+    assert!(lacks!(Komirand: Copy) && lacks!(Call<'_>: Ord) && lacks!(Call<'_>: Hash));
+    assert!(KomiHasher::new(1) == KomiHasher::from(1) && KomiHasher::new(1) != KomiHasher::new(2));
+    let build = KomiBuildHasher::new(0);
+    assert!([1, 2].iter().all(|it| build.hash_one(KomiHasher::new(*it)) == build.hash_one(it)));
+    assert_eq!([1, 2].map(KomiBuildHasher::new), [1, 2].map(KomiBuildHasher::from));
     assert!(KomiBuildHasher::new(1) != KomiBuildHasher::new(2));
     assert!(Komirand::new(1, 1) == Komirand::new(1, 1));
     assert!([(1, 2), (2, 1)].iter().all(|it| Komirand::new(it.0, it.1) != Komirand::new(1, 1)));
@@ -283,8 +318,8 @@ fn no_message_is_shown() {
     let mut stream = STREAM.lock().unwrap();
     stream.write(b"secret");
     assert_eq!(format!("{stream:?}"), "StreamedKomihash { .. }");
-    let calls = [Call::Absorb(b"secret"), Call::Answer];
-    assert_eq!(format!("{calls:?}"), "[Absorb(6 bytes), Answer]");
+    let calls = [Call::Absorb(b"secret"), Call::Absorb(&[7; 1000]), Call::Answer];
+    assert_eq!(format!("{calls:?}"), "[Absorb(6 bytes), Absorb(1000 bytes), Answer]");
 }
 
 /// Copies what is read until an error, after which the stream goes on.

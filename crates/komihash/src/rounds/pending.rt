@@ -17,8 +17,8 @@ use crate::utils::{last_word, read_partial_word, read_word, word_at, write_first
 use std::marker::Model;
 
 /// Fewer than 64 bytes, stored in eight words, with zeros after the last byte.
-#[derive(Drop)]
 #[repr(C)]
+#[derive(Drop)]
 pub(crate) struct Pending {
     words: [u64; 8],
     len: usize,

@@ -20,8 +20,8 @@ use std::marker::Model;
 /// A stream of either version, which each call names. The calls do what those of `KomiStream` do.
 /// Rust callers use `StreamedKomihash`, whose type names the version. It and its parts are laid out
 /// as C does, because it is also the stream of the library for C.
-#[derive(Drop)]
 #[repr(C)]
+#[derive(Drop)]
 pub struct RawStream {
     // This field is first, so that its words have the stream's address, which takes no register.
     pending: Pending,

@@ -74,7 +74,7 @@ where
     /// ```
     #[must_use]
     #[inline]
-    pub fn new_with_seed(seed: u64) -> StreamedKomihash<V>
+    pub fn new_with_seed(seed: u64) -> Self
         ensures { Started V seed result.state }
     {
         // In Rust, this is `const`, so it can't call `start`, a method of a trait.
@@ -105,6 +105,14 @@ where
     }
 
     /// Returns the hash of all bytes so far. The stream is unchanged, and may absorb more.
+    ///
+    /// ```
+    /// use komihash::v5::{StreamedKomihash, komihash};
+    /// let mut stream = StreamedKomihash::new();
+    /// assert_eq!(stream.finish(), komihash(b"", 0));
+    /// stream.write(b"port");
+    /// assert_eq!([stream.finish(), stream.finish()], [komihash(b"port", 0); 2]);
+    /// ```
     #[must_use]
     #[inline]
     pub fn finish(&self) -> u64
