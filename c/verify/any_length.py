@@ -2,7 +2,7 @@
 import copy
 import functools
 import z3
-from calls import NONE, apart, generator, named, padded_content, some_lanes, some_state
+from calls import NO_MESSAGE, apart, generator, named, padded_content, some_lanes, some_state
 from checks import accepted, check, check_bytes, check_generator
 from definition import (TRUE, State, block_round, hash_from_pair, joined, lanes, next_pair,
                         padded_words, padding_byte, seed_pair, top_bit, words_of)
@@ -13,7 +13,7 @@ from terms import bv, bytes_of, join, secret, simple, sym, symbols
 
 # A number of pending bytes for which writes are proved first: some of a block, so that the call has
 # all that it can have before its loop.
-SOME_FILL = 13
+SOME_PENDING = 13
 
 
 class Blocks(Induction):
@@ -82,7 +82,7 @@ class Write(Blocks):
     def guess(self):
         """What holds at the head for one number of pending bytes alone is dropped at once."""
         super().guess()
-        case, self.case = self.case, (SOME_FILL + 1,)
+        case, self.case = self.case, (SOME_PENDING + 1,)
         self.begin()
         self.case, self.invariants = case, {self.head: self.invariants[self.head]}
 
@@ -93,17 +93,17 @@ class Write(Blocks):
     def rest(self, modulus=64):
         return z3.ZeroExt(58, self.r)
 
-    def at_start(self, least, fill, front=256):
+    def at_start(self, least, count, front=256):
         call = self.new_call()
-        self.length, content = simple(self.long_length(least) - fill), named('front', range(front))
-        state = some_state(self.version, fill)
+        self.length, content = simple(self.long_length(least) - count), named('front', range(front))
+        state = some_state(self.version, count)
         stream = call.stream(state, writable=True)
         self.base = call.base('bytes', self.length)
         call.memory.add(Array('front', self.base, 0, front, limit=self.length), content)
         after = simple(self.base + self.length - self.rest())
         call.memory.add(Array('last', after, -1, 0), [secret('last', 8)], -1)
         self.follow(state.lanes, state.pending + content)
-        self.units = bv(-fill % 2**64)
+        self.units = bv(-count % 2**64)
         return stream, self.base, self.length
 
     def open(self):
@@ -160,7 +160,7 @@ class Write(Blocks):
 @functools.lru_cache(maxsize=None)
 def proved_write(kind, library, version):
     """The writes with some number of pending bytes, proved."""
-    return Induction.prove(kind(library, version, SOME_FILL))
+    return Induction.prove(kind(library, version, SOME_PENDING))
 
 
 class Fill(Induction):
@@ -296,7 +296,7 @@ class Pad(Copy):
 class Unpad(Copy):
     """The words but the last one are copied, and then some bytes of that. The length counts the
     bytes of those words, so its low bits are 0."""
-    NAME, REFUSED, MORE, FIXED_BITS = '_unpad', NONE, 8, 3
+    NAME, REFUSED, MORE, FIXED_BITS = '_unpad', NO_MESSAGE, 8, 3
 
     def pass_arrays(self, last):
         self.size, ends = simple(self.length + 8), named('end', range(-self.GRAIN - 8, 0))

@@ -6,7 +6,7 @@ from memory import Array
 from terms import Unknown, address, bv, choose, secret, simple, sym
 
 # What `unpad` returns instead of a length.
-NONE = bv(2**64 - 1)
+NO_MESSAGE = bv(2**64 - 1)
 
 
 def apart(base, size, other, length):
@@ -110,13 +110,13 @@ def some_lanes():
     return [secret(f'lane s{k}') for k in range(1, 9)]
 
 
-def some_state(version, fill, had_block=None):
+def some_state(version, pending, had_block=None):
     """Any state with this number of pending bytes, and this flag or any."""
     if had_block is None:
         had_block = flag_byte(sym('had_block', 1))
     top_bit = flag_byte(secret('top bit', 1)) if version == 4 else bv(0, 8)
     top_bit = simple(top_bit & had_block)
-    return State(some_lanes(), named('pending', range(fill)), had_block, top_bit)
+    return State(some_lanes(), named('pending', range(pending)), had_block, top_bit)
 
 
 def flag_byte(bit):

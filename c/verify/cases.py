@@ -29,7 +29,7 @@ def each(numbers):
 
 # Most cases are one length, remainder or number of pending bytes. A class stands for all calls that
 # are longer than the cases before it.
-FILLS = each(range(64))
+PENDING = each(range(64))
 FUNCTIONS = {
     '': Function('3 + 4*(n//64) + n%64//16', False, {
         fixed.hash_of: each(range(Hash.LEAST * Hash.GRAIN)),
@@ -37,10 +37,10 @@ FUNCTIONS = {
     '_start': Function('1', False, {fixed.start_of: [('_start',)]}),
     '_init': Function('1', False, {fixed.start_of: [('_init',)]}),
     '_write': Function('4*((f+n)//64)', False, {
-        fixed.write_within: [(p, n) for p in range(64) for n in range(64 - p)], Write: FILLS}),
+        fixed.write_within: [(p, n) for p in range(64) for n in range(64 - p)], Write: PENDING}),
     '_finish': Function('2 + f//16', False, {
         fixed.finish: [(p, b) for p in range(64) for b in (0, 1)]}),
-    '_save': Function('0', False, {fixed.save: FILLS}),
+    '_save': Function('0', False, {fixed.save: PENDING}),
     '_resume': Function('0', True, {fixed.resume: each([None, *range(132)])}),
     '_rand_init': Function('4', False, {fixed.rand_init: [('_rand_init', 1, 4)]}),
     '_rand_init_with_extra_seed': Function('4', False, {
@@ -80,7 +80,7 @@ class Case(collections.namedtuple('Case', 'name check args')):
         else:
             sizes = dict(zip(self.check.__code__.co_varnames[2:], self.args))
             self.check_products(len(done.products.list), sizes.get('length') or 0,
-                                sizes.get('fill', 0))
+                                sizes.get('pending', 0))
         return done.seen
 
     def check_products(self, count, n, f):
@@ -116,8 +116,7 @@ def row_of(name):
 
 
 def cases_of(name):
-    cases = [Case(name, check, args)
-             for check, some in row_of(name).cases.items() for args in some]
+    cases = [Case(name, check, args) for check, some in row_of(name).cases.items() for args in some]
     return [AllCalls(name, None, cases), *cases]
 
 

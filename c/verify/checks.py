@@ -1,7 +1,7 @@
 """What is asked where a call ends: whether what it returns and stores is what the definition says.
 `end` is the processor there, on its path."""
 import examples
-from terms import join
+from terms import bv, choose, join
 
 
 def check(end, what, found, wanted):
@@ -23,7 +23,7 @@ def accepted(end, cond):
     """Whether a call is accepted on its path, which must decide it."""
     decided = end.facts.decide(end.path, cond)
     if decided is None:
-        inputs = examples.inputs_with(end, cond)
+        *_, inputs = examples.example(end, choose(cond, bv(1), bv(0)), bv(1))
         end.refuse(f'calls that must be refused end here, as for {inputs}, and others too')
     return decided
 

@@ -1,6 +1,6 @@
 """Examples of what is wrong. Nothing here needs trust: it only words a refusal."""
 import random
-from terms import SYMBOLS, bv, choose, part, put_for, resize, symbols
+from terms import SYMBOLS, bv, part, put_for, resize, symbols
 
 
 def difference(end, found, wanted):
@@ -9,11 +9,6 @@ def difference(end, found, wanted):
     if one == other:
         return 'not shown to be what is expected, and no example was found'
     return f'found {one:#x}, expected {other:#x}, for {inputs}'
-
-
-def inputs_with(end, cond):
-    """Inputs for which a condition is wrong."""
-    return example(end, choose(cond, bv(1), bv(0)), bv(1))[2]
 
 
 def example(end, found, wanted):

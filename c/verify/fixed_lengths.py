@@ -2,7 +2,7 @@
 for all contents, asks whether what it returns and stores is what the definition says, and returns
 the processor at the end."""
 import z3
-from calls import NONE, Call, apart, generator, named, padded_content, some_state
+from calls import NO_MESSAGE, Call, apart, generator, named, padded_content, some_state
 from checks import accepted, check, check_bytes, check_generator
 from definition import State, is_text, komi, next_pair, padded_words, start, words_of
 from terms import bv, bytes_of, join, part, secret, sym
@@ -33,10 +33,10 @@ def start_of(library, version, name):
     return end
 
 
-def write_within(library, version, fill, length):
+def write_within(library, version, pending, length):
     """A write of a fixed length. Those in cases.py complete no block."""
     call = Call(library, version, '_write')
-    state = some_state(version, fill)
+    state = some_state(version, pending)
     stream = call.stream(state, writable=True)
     address, message = call.message(length)
     wanted = state.absorb(call.products, version, message)
@@ -45,9 +45,9 @@ def write_within(library, version, fill, length):
     return end
 
 
-def finish(library, version, fill, had_block):
+def finish(library, version, pending, had_block):
     call = Call(library, version, '_finish')
-    state = some_state(version, fill, bv(had_block, 8))
+    state = some_state(version, pending, bv(had_block, 8))
     wanted = state.answer(call.products, version)
     end = call.one(call.stream(state))
     check(end, 'hash', end.result(), wanted)
@@ -64,13 +64,13 @@ def check_out(ends, cond, result, refused, content):
     return end
 
 
-def save(library, version, fill):
+def save(library, version, pending):
     """With any room: the text, or nothing if there is no room for the longest."""
     call = Call(library, version, '_save')
-    state, room = some_state(version, fill), sym('room')
+    state, room = some_state(version, pending), sym('room')
     stream = call.stream(state)
-    out = call.array('out', room, high=68 + fill, writable=True)
-    return check_out(call.run(stream, out, room), z3.UGE(room, 131), bv(68 + fill), bv(0),
+    out = call.array('out', room, high=68 + pending, writable=True)
+    return check_out(call.run(stream, out, room), z3.UGE(room, 131), bv(68 + pending), bv(0),
                      bytes_of(state.text(version)))
 
 
@@ -155,5 +155,5 @@ def unpad(library, version, count, last):
     out = call.array('out', room, high=length, writable=True)
     fits = z3.And(fits, z3.UGE(room, 8 * count))
     call.facts.add(z3.Implies(fits, apart(out, bv(length), words, bv(8 * count))))
-    return check_out(call.run(words, bv(count), out, room), fits, bv(length), NONE,
+    return check_out(call.run(words, bv(count), out, room), fits, bv(length), NO_MESSAGE,
                      content[:length])

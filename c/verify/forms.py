@@ -13,7 +13,7 @@ from terms import join, part, put_for, sym, symbols, width_of
 
 # In a form, the units, the base and the length, and then the words of a world.
 PLACES = [sym(f'place {k} of a world') for k in range(12)]
-NAMES = frozenset().union(*map(symbols, PLACES))
+COUNTS = frozenset().union(*map(symbols, PLACES))
 
 
 class World:
@@ -25,7 +25,7 @@ class World:
 
     def value(self, form):
         """The term that a form is in this world."""
-        if symbols(form).isdisjoint(NAMES):
+        if symbols(form).isdisjoint(COUNTS):
             return form
         return put_for(form, *zip(PLACES, [self.units, self.base, self.length, *self.words]))
 
@@ -69,7 +69,7 @@ class Invariant:
         self.holding = first.holding & second.holding
         guessed = ((word, form_of(PLACES, stable, first, second, word))
                    for word in first.words if word in second.words)
-        self.forms = {word: form if form is not None and symbols(form) <= stable | NAMES else None
+        self.forms = {word: form if form is not None and symbols(form) <= stable | COUNTS else None
                       for word, form in guessed}
 
     def admit(self, arrival):

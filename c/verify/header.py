@@ -8,7 +8,7 @@ import z3
 from calls import apart
 from definition import padding_byte
 from guesses import witness
-from terms import Facts, Refused, address, bv, join, simple, sym
+from terms import Facts, Refused, address, bv, const, join, simple, sym
 
 HEADER = os.path.join(os.path.dirname(os.path.abspath(__file__)), '..', 'komihash_rattle.h')
 PROTOTYPE = r'(\w+)\s+{}\((.*?)\);'
@@ -26,7 +26,7 @@ def parameters(name):
 
 
 # What matters of contents: the state of a stream, and the last nine bytes of some words.
-FILL, HAD_BLOCK, TOP_BIT = sym('any fill'), sym('any had_block', 8), sym('any top_bit', 8)
+PENDING, HAD_BLOCK, TOP_BIT = sym('any pending'), sym('any had_block', 8), sym('any top_bit', 8)
 LAST_BYTES = sym('any last bytes', 72)
 
 
@@ -69,7 +69,7 @@ def allowed(call):
 def any_state(call, args):
     """A stream is in some state, since only `start`, `init` and `resume` make one, and only calls
     change it."""
-    return [z3.ULT(FILL, 64), z3.ULE(HAD_BLOCK, 1),
+    return [z3.ULT(PENDING, 64), z3.ULE(HAD_BLOCK, 1),
             z3.ULE(TOP_BIT, HAD_BLOCK if call.version == 4 else 0), *call.layout.any_more(args)]
 
 
@@ -77,16 +77,23 @@ class Begun(Exception):
     """A call of a case, before its first instruction."""
 
 
-def stop(call):
-    raise Begun(call)
-
-
 def beginning(library, case):
     """The call of a case, which doesn't run."""
+    def stop(call):
+        raise Begun(call)
     try:
         case.begin(library._replace(before=stop))
     except Begun as begun:
         return begun.args[0]
+
+
+def has_any_contents(call):
+    """Whether each lane and byte that a case passes is a symbol of its own, but in `unpad`."""
+    parts = [*(call.state.lanes + call.state.pending if call.state else ()), *(
+        term for (name, _), (term, k, _) in call.memory.data.items()
+        if k == 0 and name not in ('stream', 'stack', 'shadow'))]
+    free = {part.get_id() for part in parts if z3.is_const(part) and const(part) is None}
+    return call.last_bytes or len(free) == len(parts)
 
 
 def condition(call, wanted):
@@ -95,7 +102,7 @@ def condition(call, wanted):
     given = [address('stream'), *call.args][-len(wanted):]
     pairs = list(zip(given, wanted, strict=True))
     if call.state:
-        pairs += [(bv(len(call.state.pending)), FILL), (call.state.had_block, HAD_BLOCK),
+        pairs += [(bv(len(call.state.pending)), PENDING), (call.state.had_block, HAD_BLOCK),
                   (call.state.top_bit, TOP_BIT)]
     pairs += call.layout.more
     if call.last_bytes:
@@ -111,14 +118,16 @@ def check_all(library, cases):
     """Whether the cases of a function are all calls that the header allows. Each number of pending
     bytes is asked by itself. Returns the processor before one of the calls."""
     calls, facts = [beginning(library, case) for case in cases], Facts()
+    if not all(map(has_any_contents, calls)):
+        raise Refused('what a case passes is not any')
     wanted, conditions = allowed(calls[0])
     groups = {None: calls}
     if calls[0].state:
         conditions += any_state(calls[0], wanted)
-        groups = {fill: [call for call in calls if len(call.state.pending) == fill]
-                  for fill in range(64)}
-    for fill, some in groups.items():
-        among = [] if fill is None else [FILL == fill]
+        groups = {pending: [call for call in calls if len(call.state.pending) == pending]
+                  for pending in range(64)}
+    for pending, some in groups.items():
+        among = [] if pending is None else [PENDING == pending]
         model = facts.model(conditions, *among, *(z3.Not(condition(c, wanted)) for c in some))
         if model is not None:
             raise Refused('no case has the call with ' + ', '.join(

@@ -9,8 +9,7 @@ class Progress:
     """What was done of the cases, told as it goes."""
 
     def __init__(self, cases, jobs):
-        self.jobs, self.begin = jobs, time.time()
-        self.told = self.begin
+        self.jobs, self.begin, self.told = jobs, time.time(), time.time()
         self.all = collections.Counter(case.name for case in cases)
         self.done = collections.defaultdict(list)
 

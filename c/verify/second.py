@@ -8,8 +8,8 @@ NAME = os.environ.get('SECOND', '')
 def objection(solver, answer):
     """Why the second solver doesn't give the same answer, if it doesn't."""
     text = '(set-logic QF_BV)\n' + solver.to_smt2()
-    command = [NAME, '--lang=smt2', '--tlimit=600000']
-    done = subprocess.run(command, input=text, capture_output=True, text=True, timeout=660)
+    done = subprocess.run([NAME, '--lang=smt2', '--tlimit=600000'], input=text,
+                          capture_output=True, text=True, timeout=660)
     second = done.stdout.strip()
     if second not in ('sat', 'unsat'):
         return f'{NAME} does not answer: {second or done.stderr.strip()}'

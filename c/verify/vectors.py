@@ -1,8 +1,7 @@
 """The definition against values of the Rust crate and of the C original."""
 import os
 import z3
-from definition import (Products, State, is_text, komi, next_pair, padded_words, start,
-                        words_of)
+from definition import Products, State, is_text, komi, next_pair, padded_words, start, words_of
 from terms import Unknown, bv, bytes_of, const, simple
 
 # The files of values, which explain their rows, and how many they have.

@@ -24,7 +24,7 @@ def registers():
     return names
 
 
-NAMES = registers()
+REGISTERS = registers()
 
 
 class X86(Cpu):
@@ -40,7 +40,7 @@ class X86(Cpu):
 
     def registers(self):
         return {name: secret(f'{name} of the caller', width)
-                for name, (whole, _, width) in NAMES.items() if name == whole}
+                for name, (whole, _, width) in REGISTERS.items() if name == whole}
 
     def put_return(self):
         self.memory.put('stack', 0, sym('return'))
@@ -76,7 +76,7 @@ class X86(Cpu):
             return bv(op.imm % 2**(width or 64), width or 64)
         if op.type == X.X86_OP_MEM:
             return self.load(self.aligned_address(i, op), (width or 8 * op.size) // 8)
-        n, low, size = NAMES[i.reg_name(op.reg)]
+        n, low, size = REGISTERS[i.reg_name(op.reg)]
         return part(self.r[n], low, min(size, width or size))
 
     def put(self, i, k, value):
@@ -85,7 +85,7 @@ class X86(Cpu):
             if value.size() != 8 * op.size:
                 raise unknown(i)
             return self.store(self.aligned_address(i, op), value)
-        n, low, size = NAMES[i.reg_name(op.reg)]
+        n, low, size = REGISTERS[i.reg_name(op.reg)]
         whole = self.r[n].size()
         if value.size() != size:
             raise unknown(i)
@@ -205,7 +205,7 @@ def bit_test(c, i):
 @means(TABLE, 'bsr')
 def highest_bit(c, i):
     """If there is none, the whole register is undefined, also where its high half else is 0."""
-    a, (whole, _, _) = c.get(i, 1), NAMES[i.reg_name(i.ops[0].reg)]
+    a, (whole, _, _) = c.get(i, 1), REGISTERS[i.reg_name(i.ops[0].reg)]
     found = resize(a.size() - 1 - leading_zeros(a), 64)
     c.r[whole] = choose(a == 0, c.fresh(), found)
     c.flags = {'z': a == 0}

@@ -92,6 +92,7 @@ def of_header_and_marks(e):
     return [
         *((f'another byte {k}', f'byte {k} is 0x3', e.put, (k, 1), 3) for k in range(16)),
         ('a program', 'no shared library', e.put, (16, 2), 2),
+        ('longer segments', 'no shared library', e.put, (54, 2), 112),
         ('the end is cut off', 'too short', e.content.__delitem__, slice(600, None)),
         ('a function without a mark', 'has none', e.bytes_at, *nothing),
         *((f'marks {notes}, and a function without', 'has none',
@@ -183,14 +184,14 @@ def of_names(e):
                  ('another function', f'{NAME}, rand_next()', VALUE, elsewhere))]
 
 
-# What the command tells of some changes.
 TOLD = {**dict.fromkeys(('another function', 'a byte below the stack'), '4 passed, 1 failed\n1'),
-        'a jump of 16 bits': 'processes\n2', 'a name of no function': 'also exports'}
+        'a jump of 16 bits': 'processes\n2', 'a name of no function': '58 val..is cut..also exports'}
 
 
 def changes(e):
     return [*of_header_and_marks(e), *of_segments(e), *of_dynamic_table(e), *of_names(e),
-            *[('a jump of 16 bits', ' known ', e.instruction, '66 e9')] * (e.elf.machine == 62),
+            *((f'a {what} of 16 bits', ' known ', e.instruction, code) for what, code in (
+                ('jump', '66 e9'), ('return', '66 c3')) if e.elf.machine == 62),
             ('a byte below the stack', 'below the stack pointer', e.instruction,
              {62: '884424ff', 183: 'e0c31fb8'}[e.elf.machine]),
             ('code that is not aligned', 'None' if e.elf.machine == 62 else 'that is not aligned',
@@ -217,8 +218,7 @@ def is_wanted(name):
 
 
 def count(found):
-    """Prints the names of rows, and whether each part of a reason was found, or one in its place:
-    `..` stands between parts, and `/` between those that may stand for one."""
+    """Prints rows, and whether each part of a reason was found: `..` parts them, `/` choices."""
     passed = failed = 0
     for name, reason, why in found:
         fits = all(any(one in f'{why}' for one in part.split('/')) for part in reason.split('..'))

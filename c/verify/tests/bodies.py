@@ -13,16 +13,15 @@ from workers import results
 
 LIBRARY = 'libkomihash_rattle.so.1'
 # A name, a function (or that of NAME), why it is refused, if it is, and a body, before which `red
-# zone` may stand. If the name of a case and `..` come before the reason, only such cases are run:
-# those of a class are proofs of any length. `pad` is a whole body of that function, with something
-# before its loop, in each turn, and after. What follows `turn:` or `next:` goes into the function's
-# own loop, to where a turn begins, or before the test whether there is another.
+# zone` may stand. If the name of a case and `..` come before the reason, only such cases are run.
+# `pad` is a whole body of that function, with something before its loop, in each turn, and after.
+# What follows `turn:` or `next:` goes to where a turn of the function's own loop begins, or ends.
 X86 = '''
 .macro after code; push rdi; push rsi; push rdx; call body; pop rdx; pop rsi; pop rdi; \\code
     1: ret; .endm
+.macro word; mov r10, [rdi + 8*r9]; mov [rdx + 8*r9], r10; inc r9; .endm
 .macro pad before, in, after; mov r8, rsi; shr r8, 3; xor eax, eax; cmp rcx, r8; jbe .Lend
-    \\before; xor r9d, r9d
-    .Lturn: cmp r9, r8; jae .Lrest; mov r10, [rdi + 8*r9]; mov [rdx + 8*r9], r10; inc r9; \\in
+    \\before; xor r9d, r9d; .Lturn: cmp r9, r8; jae .Lrest; word; \\in
     jmp .Lturn; .Lrest: \\after; xor r10d, r10d; cmp r10, rsi; adc r10d, 0; and esi, 7; je .Lstore
     .Lbyte: shl r10, 8; lea r11, [rdi + 8*r8]; movzx r11d, byte ptr [r11 + rsi - 1]; or r10, r11
     dec esi; jne .Lbyte; .Lstore: mov [rdx + 8*r8], r10; lea rax, [r8 + 1]; .Lend: ret; .endm
@@ -36,13 +35,15 @@ a red zone moved||not written|red zone; mov [rsp - 121], al; pop rax; push rax; 
 more than the stack||out of the stack|sub rsp, 4097; add rsp, 4097
 a small step above the call||out of the stack|pop rax; inc rsp; dec rsp; push rax
 a return address that a loop loses|v5_pad|Pad..not written|pad "add rsp, 8", "", "sub rsp, 8"
-rbx after a loop|v5_pad|Pad..rbx of the caller|pad "", "", "mov rbx, rdi"
-rbx in long refusals|v5_pad|Pad..rbx of the caller|test rcx, rcx; jne body; mov rbx, rdi
+rbx after a turn|v5_pad|Pad..rbx of the caller|pad "", "cmp r9, 400; jne .Lturn; bts rbx, 63", ""
+a word that a loop loses|v5_pad|Pad..not written|
+    pad "sub rsp, 8; cmp rsi, 5000; jb 1f; mov [rsp], rsi; 1:", "", "mov r11, [rsp]; add rsp, 8"
 a stack that is lower at the end||not where the caller left it|push [rsp]
 a loop without end||more than 20000|1: jmp 1b
 code where nothing can run||not known|jmp 1f; .pushsection .rodata; 1: jmp body; .popsection
 the highest bit of 0||2 ways|mov rcx, -1; xor eax, eax; bsr ecx, eax; shr rcx, 32; jne 1f; 1:
 a byte above the call||in no array|mov [rsp + 8], al
+what may be written||in no array|.pushsection .data; 2: .quad 0; .popsection; mov rax, [rip + 2b]
 an address of 32 bits||not known|.byte 0x67; lea rax, [-1]
 an instruction of newer processors||not known for x86-64|palignr xmm0, xmm0, 1
 a word half below the stack||below the stack pointer|mov [rsp - 4], rdi
@@ -71,16 +72,16 @@ a write of nothing|v5_write|Write(13,)..before the end|cmp rdx, 300; jne body; x
     mov [rdi], rax; mov [rdi + 8], rax; mov [rdi + 64], rax; mov byte ptr [rdi + 136], 1; ret
 a refusal|v5_pad|Pad..before the end|cmp rsi, 304; jne body; cmp rcx, 39; jb body; xor eax, eax; ret
 a multiplication more||the definition does not have|mov rax, rdi; mul rdi
-one wrong for a state||does not have|cmp qword ptr [rdi], 5; sete al; movzx eax, al; add [rdi], rax
+one wrong in a high bit||does not have|mov rax, [rdi]; bts rax, 63; mov [rdi], rax
 one made twice||has made already|mov rax, [rdi]; mul qword ptr [rdi + 8]
 a loop|v5_pad|Pad..|pad "", "", ""
 one wrong from byte 3,200 on|v5_pad|Pad..in no array|pad "", "cmp r9, 400; jne .Lturn; inc r9", ""
 one that leaves its loop there|v5_pad|Pad..the rest|pad "", "cmp r9, 400; je .Lrest", ""
 a loop begun late|v5_pad|Pad..in no array|pad "cmp rsi, 304; mov r9d, 1; je .Lturn", "", ""
-a loop that may run over the end|v5_pad|Pad..in no array|
-    pad "cmp r8, 16; jb 1f; mov r10, [rdi]; mov [rdx], r10; mov r9d, 1; 2: mov r10, [rdi + 8*r9];
-    mov [rdx + 8*r9], r10; inc r9; mov r10, [rdi + 8*r9]; mov [rdx + 8*r9], r10; inc r9; cmp r9,
-    r8; jne 2b; jmp .Lrest; 1:", "", ""
+a loop that may run over the end|v5_pad|Pad..in no array|pad "cmp r8, 16; jb 1f; xor r9d, r9d;
+    word; 2: word; word; cmp r9, r8; jne 2b; jmp .Lrest; 1:", "", ""
+a word of 300 bytes|v5_pad|Pad..bytes: found|
+    pad "", "cmp rsi, 300; jne .Lturn; not qword ptr [rdx + 8*r9 - 8]", ""
 a turn of nothing|v5_pad|Pad..takes nothing|pad "xor r9d, r9d; jmp 1f", "1: cmp r9, 400; je 1b", ""
 two registers that turns change|v5_pad|Pad..many values|
     pad "", "mov rax, r10; not rax", "xor r10, rax; add r8, r10"
@@ -106,7 +107,8 @@ ARM = '', '''
 a frame not aligned||not aligned to 16|sub sp, sp, 8; str x0, [sp]; add sp, sp, 8
 a store of the register that it moves||no meaning|mov x9, sp; .inst 0xf8008529
 a jump to no fixed place||not known|br x1
-a hint that changes a register||not known|hint 25
+a hint that changes x30||not known|hint 25
+another one||not known|hint 7
 a word below the stack||below the stack pointer|red zone; stur w0, [sp, -4]
 a small step above the call||out of the stack|add sp, sp, 16; sub sp, sp, 16
 a byte above the call||in no array|strb w0, [sp]
@@ -146,9 +148,9 @@ v5_unpad|Unpad((0, 1),)|read rdi 136 8*rsi
 # Wrong outputs on x86-64: a function, the name of a case, and for each, what is found to be wrong,
 # and by which instructions after the call. Of a loop, the first remainder is wrong, and the last.
 OUTPUTS = '''
-v5|hash_of(9,)|hash: not rax
-v5|Hash(0,)|hash: cmp rsi, 256; jne 1f; not rax
-v5|Hash(7,)|hash: cmp rsi, 319; jne 1f; not rax
+v5|hash_of(9,)|hash: bts rax, 63
+v5|Hash(0,)|hash: cmp rsi, 256; jne 1f; bts rax, 63
+v5|Hash(7,)|hash: cmp rsi, 319; jne 1f; bts rax, 63
 v5_write|write_within(5, 3)|at 136: not byte ptr [rdi + 136]
 v5_write|Write(13,)|at 0: cmp byte ptr [rdi + 64], 0; jne 1f; not byte ptr [rdi]|
     at 0: cmp byte ptr [rdi + 64], 63; jne 1f; not byte ptr [rdi]
@@ -168,13 +170,11 @@ v5_unpad|Unpad(None,)|length: cmp rsi, 40; jne 1f; inc rax
 v5_unpad|Unpad((7, 1),)|length: cmp rsi, 33; jne 1f; or al, 128|
     length: cmp rsi, 48; jne 1f; or al, 128
 '''
-# Where functions have their loops.
 LOOPS = {'v5': 'komihash::hash::hash_of_blocks::<=5>', 'v5_rand_fill': 'komihash_v5_rand_fill',
          'v5_write': 'komihash::stream::raw::RawStream::complete_blocks::<=5>'}
 OUTPUTS += 'v5_start|start_of|address: inc rax' + ''.join(
-    f'|at {k}: not byte ptr [rdi + {k}]' for k in range(0, 137, 8))
-# The assembly, the marks of functions, after which a body begins, what tells an assembler of the
-# syntax of bodies, and of the rest, and macros and rows.
+    f'|at {k & -8}: not byte ptr [rdi + {k}]' for k in (*range(7, 136, 8), 136))
+# Assembly, marks after which bodies begin, the syntax of bodies and of the rest, macros and rows.
 KINDS = {'x86-64': ('x86_64', '\tendbr64\n', '.intel_syntax noprefix\n', '.att_syntax\n', X86),
          'armv8-a': ('aarch64', '\thint\t#34\n', '', '', ARM)}
 

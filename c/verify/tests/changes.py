@@ -8,6 +8,7 @@ import streams
 import vectors
 import z3
 from calls import Call
+from definition import State
 from header import parameters
 from terms import Unknown, bv, join
 from workers import results
@@ -16,11 +17,12 @@ from workers import results
 CALLS = {
     '': 'bytes == 0; And(length == 9, bytes == 2**64 - 10); length == 127; length == 2**63 - 1',
     '_start': 'stream == 2**64 - 152', '_rand_next': 'rand == 2**64 - 24',
-    '_finish': 'stream == 8; top_bit == 1; fill == 63', '_save': 'out + 131 == stream',
+    '_finish': 'stream == 8; had_block == 0; top_bit == 1; pending == 63',
+    '_save': 'out + 131 == stream',
     '_pad': 'And(length == 0, room == 1, bytes == out); And(length == 9, room == 1, bytes == out); '
-            'And(length == 9, room == 2, bytes + 9 == out); '
+            'And(length == 9, room == 2, bytes + 9 == out); room == 2**60 - 1; '
             'And(length == 9, room == 5, out + 16 == bytes)',
-    '_unpad': 'And(length == 16, last > 0x200); '
+    '_unpad': 'And(length == 16, last > 0x200); length == 2**60 - 1; '
               'And(length == 2, room == 16, last == 0x100, out + 15 == words); '
               'And(length == 2, room == 15, last == 0x100, out == words)'}
 
@@ -36,8 +38,8 @@ def without(suffix, left_out, begin=Call.begin):
     def begin_some(call, args):
         names = [one for _, one in parameters(f'komihash_v4{suffix}')][-len(args):]
         given = dict(zip(names, args), And=z3.And, last=join((call.last_bytes or [bv(0)])[-2:]),
-                     top_bit=call.state and call.state.top_bit,
-                     fill=bv(len(call.state.pending) if call.state else 0))
+                     **vars(call.state or State(())))
+        given['pending'] = bv(len(given['pending']))
         call.facts.add(z3.Not(eval(left_out, given)))
         begin(call, args)
     return Call, 'begin', begin_some
@@ -67,6 +69,8 @@ def changes(content):
            judge(suffix, 'all calls')) for suffix in CALLS for one in CALLS[suffix].split('; ')),
         ('a case of no calls', 'contradict', without('_rand_next', 'True'),
          judge('_rand_next', 'rand_next()')),
+        ('a message of zeros', 'is not any', (Call, 'message', lambda call, n, zero=[bv(0, 8)]: (
+            call.array('bytes', n, zero * n), zero * n)), judge('', 'all calls')),
         ('products', 'the definition has', with_products('_start', '2'), judge('_start', '')),
         ('products of a long call', 'the definition has',
          with_products('_rand_fill', '(n+7)//8 + n//255'), judge('_rand_fill', 'Fill')),
@@ -77,8 +81,6 @@ def changes(content):
          (streams, 'komi', lambda *given, do=streams.komi: do(*given) + 1), definition),
         ('the definition', 'None', (), definition),
         ('other words', 'gives none', (vectors, 'padded_words', lambda *_: []), definition),
-        ('jumps by contents', "['_resume', '_unpad']", (),
-         lambda: [name for name, one in cases.FUNCTIONS.items() if one.by_contents]),
         ('no solver', 'not answer', (cases.terms, 'SOLVERS', ()), judge('_rand_next', '')),
         ('an error', 'Unknown(', (),
          lambda: repr(cases.run_case(cases.Case('komihash_v4', lambda *_: 1 // 0, ())).failure)),

@@ -76,7 +76,7 @@ int main(void) {
     memset(code - 2048, STOP, 4096), raise(SIGILL);
 }
 '''
-WHOLE = {X86: lambda name: x86_64.NAMES.get(name, [None])[0],
+WHOLE = {X86: lambda name: x86_64.REGISTERS.get(name, [None])[0],
          ARM: lambda name: aarch64.register(name)[0]}
 # The bits of zero, sign, carry and overflow; a byte that begins no instruction; and the order in
 # which an image has registers of 64 bits, the address of the next instruction, and the flags.
@@ -95,8 +95,7 @@ machine.LOADED = x86_64.LOADED = aarch64.LOADED = bv(0)
 
 
 def x86_code(r, encoding, _, near):
-    """Bytes for an encoding of x86-64, in the notation of opcodes.py. If they shall only resemble
-    it, they have another prefix, or another bit of VEX."""
+    """Bytes for an encoding of x86-64, or near it, with another prefix or another bit of VEX."""
     head, _, opcode = encoding.rpartition(':')
     opcode, _, reg = opcode.partition('/')
     prefix, wide = re.sub('[vL.W]', '', head), 'W' in head
@@ -120,9 +119,8 @@ def x86_code(r, encoding, _, near):
 
 
 def arm_code(r, encoding, number, near):
-    """Bytes for an encoding of ARM64. The first six bits of operands have all values in turn. The
-    last registers are often the stack pointer, or the one whose number is in those bits. If the
-    bytes shall only resemble it, they have another bit."""
+    """Bytes for an encoding of ARM64, or near it, with another bit. The first six bits of operands
+    have all values in turn. The last registers are often sp, or those whose number is in them."""
     other = 1 << 31 - r.choice([k for k, given in enumerate(encoding) if given != '.'])
     for bit in f'{number * 37 % 64:06b}':
         encoding = encoding.replace('.', bit, 1)
