@@ -8,7 +8,7 @@ import terms
 from cases import FUNCTIONS
 from checks import check
 from definition import FALSE, TRUE
-from header import FILL, HAD_BLOCK
+from header import HAD_BLOCK, PENDING
 from layout import Ours
 from any_length import Write
 from report import main
@@ -34,12 +34,12 @@ class Crate(Ours):
 
     def store(self, call, state):
         super().store(call, state)
-        fill = len(state.pending)
+        pending = len(state.pending)
         if self.write:
             count = self.write.count_before()
         else:
-            count = simple(z3.Concat(sym('blocks', 58), bv(fill, 6)))
-        call.facts.add(count & 63 == fill, z3.UGE(count, 64) == (state.had_block == TRUE))
+            count = simple(z3.Concat(sym('blocks', 58), bv(pending, 6)))
+        call.facts.add(count & 63 == pending, z3.UGE(count, 64) == (state.had_block == TRUE))
         if self.version == 4:
             call.memory.put('stream', 128, last_word(state))
         call.memory.put('stream', self.count_at, count)
@@ -57,7 +57,7 @@ class Crate(Ours):
 
     def any_more(self, args):
         """The count fits the state. It must not overflow by a write."""
-        return [COUNT & 63 == FILL, z3.UGE(COUNT, 64) == (HAD_BLOCK == 1),
+        return [COUNT & 63 == PENDING, z3.UGE(COUNT, 64) == (HAD_BLOCK == 1),
                 *(z3.ULE(COUNT, COUNT + length) for length in args[2:])]
 
 
