@@ -18,7 +18,7 @@ from x86_64 import X86
 PROCESSORS = {62: X86, 183: Arm}
 # What is checked, and the limit of time of a case.
 LIBRARY, SECONDS = None, 600
-# The row of a function: the definition's multiplications for n bytes with f bytes pending, whether
+# The row of a function: the definition's multiplications for n bytes with p bytes pending, whether
 # jumps may depend on contents, and its cases by how they are checked.
 Function = collections.namedtuple('Function', 'multiplications by_contents cases')
 
@@ -36,9 +36,9 @@ FUNCTIONS = {
         Hash: each(range(2**Hash.FIXED_BITS))}),
     '_start': Function('1', False, {fixed.start_of: [('_start',)]}),
     '_init': Function('1', False, {fixed.start_of: [('_init',)]}),
-    '_write': Function('4*((f+n)//64)', False, {
+    '_write': Function('4*((p+n)//64)', False, {
         fixed.write_within: [(p, n) for p in range(64) for n in range(64 - p)], Write: PENDING}),
-    '_finish': Function('2 + f//16', False, {
+    '_finish': Function('2 + p//16', False, {
         fixed.finish: [(p, b) for p in range(64) for b in (0, 1)]}),
     '_save': Function('0', False, {fixed.save: PENDING}),
     '_resume': Function('0', True, {fixed.resume: each([None, *range(132)])}),
@@ -83,10 +83,10 @@ class Case(collections.namedtuple('Case', 'name check args')):
                                 sizes.get('pending', 0))
         return done.seen
 
-    def check_products(self, count, n, f):
+    def check_products(self, count, n, p):
         """Whether the definition has so many products as its row says."""
-        if count != eval(row_of(self.name).multiplications, {'n': n, 'f': f}):
-            raise Refused(f'the definition has {count} products for {n} bytes and {f} pending')
+        if count != eval(row_of(self.name).multiplications, {'n': n, 'p': p}):
+            raise Refused(f'the definition has {count} products for {n} bytes and {p} pending')
 
     def begin(self, library):
         """Begins the call, or if there are calls of any length, one of these."""

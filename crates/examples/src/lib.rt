@@ -10,6 +10,7 @@ pub mod known;
 pub mod lists;
 pub mod maps;
 pub mod numbers;
+pub mod own_streams;
 pub mod random;
 pub mod readers;
 pub mod samples;

@@ -102,13 +102,13 @@ pub record CallFirst (v : ℕ) (s next : State) (call : Call) (calls : List Call
       ≡ onward_kept_bytes (length s.pending) (call ∷ [])
       + onward_kept_bytes (length next.pending) calls
 
-pub call_first : (v : ℕ) (s next : State) (call : Call) (calls : List Call)
+pub onward-first : (v : ℕ) (s next : State) (call : Call) (calls : List Call)
     → length s.pending < 64 → next ≡ absorb v s (bytes_of_calls (call ∷ []))
     → CallFirst v s next call calls
-call_first v s next (Absorb bytes) calls few is =
+onward-first v s next (Absorb bytes) calls few is =
     let size = length-append bytes.now (bytes_of_calls calls) in
     let pending = pending-absorb v s bytes.now few in
     let rest = costs-modulo (length s.pending + length bytes.now)
     (length (absorb v s bytes.now).pending) calls (omega arith) in
     grind (arith, append-nil, answers_after-same, absorb-append)
-call_first v s next Answer calls few is = grind (arith, absorb-nothing)
+onward-first v s next Answer calls few is = grind (arith, absorb-nothing)

@@ -30,27 +30,27 @@ outputs-add v (suc m) n s = rw suc-add (ap (λ ws. (next v s).0 ∷ ws) (outputs
 
 -- ---- few steps, by which a number that is written out is found
 
-pub no_steps : (v : ℕ) (s : ℕ × ℕ) → after_steps v 0 s ≡ s
+pub after_steps-none : (v : ℕ) (s : ℕ × ℕ) → after_steps v 0 s ≡ s
 unfolding after_steps
-no_steps v s = refl
+after_steps-none v s = refl
 
-pub no_outputs : (v : ℕ) (s : ℕ × ℕ) → outputs v 0 s ≡ []
+pub outputs-none : (v : ℕ) (s : ℕ × ℕ) → outputs v 0 s ≡ []
 unfolding outputs
-no_outputs v s = refl
+outputs-none v s = refl
 
-pub few_steps : (v n : ℕ) (s : ℕ × ℕ) → 0 < n → n ≤ 8
+pub after_steps-few : (v n : ℕ) (s : ℕ × ℕ) → 0 < n → n ≤ 8
     → after_steps v n s ≡ after_steps v (n - 1) (next v s)
 unfolding after_steps
-few_steps v zero s some few = absurd (omega arith)
-few_steps v (suc n) s some few =
+after_steps-few v zero s some few = absurd (omega arith)
+after_steps-few v (suc n) s some few =
     let same : n ≡ suc n - 1 = omega arith in
     ap (λ k. after_steps v k (next v s)) same
 
-pub few_outputs : (v n : ℕ) (s : ℕ × ℕ) → 0 < n → n ≤ 8
+pub outputs-few : (v n : ℕ) (s : ℕ × ℕ) → 0 < n → n ≤ 8
     → outputs v n s ≡ (next v s).0 ∷ outputs v (n - 1) (next v s)
 unfolding outputs
-few_outputs v zero s some few = absurd (omega arith)
-few_outputs v (suc n) s some few =
+outputs-few v zero s some few = absurd (omega arith)
+outputs-few v (suc n) s some few =
     let same : n ≡ suc n - 1 = omega arith in
     ap (λ k. (next v s).0 ∷ outputs v k (next v s)) same
 
@@ -69,11 +69,11 @@ output-at v (suc n) zero s lt = refl
 output-at v (suc n) (suc k) s lt = output-at v n k (next v s) (omega arith)
 
 -- output k, from the pair before it
-pub next_output : (v k n : ℕ) (s now : ℕ × ℕ) → k < n → now ≡ after_steps v k s
+pub outputs-next : (v k n : ℕ) (s now : ℕ × ℕ) → k < n → now ≡ after_steps v k s
     → ((next v now).0 ≡ slice_index (outputs v n s) k) × (next v now ≡ after_steps v (k + 1) s)
     × (k < length (outputs v n s))
 unfolding after_steps
-next_output v k n s now lt is = grind (arith, output-at, after_steps-add v k 1 s, length-outputs)
+outputs-next v k n s now lt is = grind (arith, output-at, after_steps-add v k 1 s, length-outputs)
 
 length-bytes : (v n : ℕ) (s : ℕ × ℕ) → length (all_bytes (outputs v n s)) ≡ 8 * n
 length-bytes v n s = length-all_bytes (outputs v n s) ∙ ap (λ k. 8 * k) (length-outputs v n s)

@@ -12,8 +12,7 @@ use Rattle.komihash.specs.Internals.{padding_or_zero, block_lanes, after_blocks}
 use Rattle.komihash.specs.Words.{word_of}
 use Rattle.komihash.proofs.Blocks.{after_words-whole_words, length-after_blocks}
 use Rattle.komihash.specs.Padding.{padding_byte}
-use Rattle.komihash.proofs.PaddedWords.{padded_words-by_tail}
-use Rattle.komihash.proofs.PaddedWords.{final_word_whole}
+use Rattle.komihash.proofs.PaddedWords.{padded_words-by_tail, final_word-whole}
 use Rattle.komihash.proofs.WholeWords.{length-whole_words, whole_words-few}
 
 -- a pair round takes two words that are followed by the final word
@@ -30,28 +29,29 @@ hash_from_pair_two s ws at last le = absurd (omega arith)
 -- ---- lanes and blocks
 
 -- fewer than eight words and the final word make no block
-without_block : (v : ℕ) (s : Lanes) (ws : List ℕ) (last : ℕ) → length ws < 8
+hash_from_lanes-without_block : (v : ℕ) (s : Lanes) (ws : List ℕ) (last : ℕ) → length ws < 8
     → hash_from_lanes v s false (ws ++ last ∷ []) ≡ hash_from_pair (join false s) (ws ++ last ∷ [])
-without_block v s (w0 ∷ w1 ∷ w2 ∷ w3 ∷ w4 ∷ w5 ∷ w6 ∷ w7 ∷ ws) last lt = absurd (omega arith)
-without_block v s ws last lt = refl
+hash_from_lanes-without_block v s (w0 ∷ w1 ∷ w2 ∷ w3 ∷ w4 ∷ w5 ∷ w6 ∷ w7 ∷ ws) last lt =
+    absurd (omega arith)
+hash_from_lanes-without_block v s ws last lt = refl
 
 -- once a block was absorbed: the blocks that follow it, and then what is left
-after_block : (v : ℕ) (s : Lanes) (ws : List ℕ) (last : ℕ)
+hash_from_lanes-after_block : (v : ℕ) (s : Lanes) (ws : List ℕ) (last : ℕ)
     → hash_from_lanes v s true (ws ++ last ∷ [])
     ≡ hash_from_pair (join true (block_lanes v s ws)) (after_words ws ++ last ∷ [])
-after_block v s (w0 ∷ w1 ∷ w2 ∷ w3 ∷ w4 ∷ w5 ∷ w6 ∷ w7 ∷ w ∷ ws) last =
+hash_from_lanes-after_block v s (w0 ∷ w1 ∷ w2 ∷ w3 ∷ w4 ∷ w5 ∷ w6 ∷ w7 ∷ w ∷ ws) last =
     let block = w0 ∷ w1 ∷ w2 ∷ w3 ∷ w4 ∷ w5 ∷ w6 ∷ w7 ∷ [] in
     let drops = drop-drop (8 * (length (w ∷ ws) / 8)) 8 (block ++ w ∷ ws) in
-    let more = after_block v (block_round v s block) (w ∷ ws) last in
+    let more = hash_from_lanes-after_block v (block_round v s block) (w ∷ ws) last in
     grind (arith, drops, more)
-after_block v s ws last = refl
+hash_from_lanes-after_block v s ws last = refl
 
 -- with eight words or more one is
-first_block : (v : ℕ) (s : Lanes) (ws : List ℕ) (last : ℕ) → 8 ≤ length ws
+hash_from_lanes-first_block : (v : ℕ) (s : Lanes) (ws : List ℕ) (last : ℕ) → 8 ≤ length ws
     → hash_from_lanes v s false (ws ++ last ∷ []) ≡ hash_from_lanes v s true (ws ++ last ∷ [])
-first_block v s (w0 ∷ w1 ∷ w2 ∷ w3 ∷ w4 ∷ w5 ∷ w6 ∷ w7 ∷ []) last le = refl
-first_block v s (w0 ∷ w1 ∷ w2 ∷ w3 ∷ w4 ∷ w5 ∷ w6 ∷ w7 ∷ w ∷ ws) last le = refl
-first_block v s ws last le = absurd (omega arith)
+hash_from_lanes-first_block v s (w0 ∷ w1 ∷ w2 ∷ w3 ∷ w4 ∷ w5 ∷ w6 ∷ w7 ∷ []) last le = refl
+hash_from_lanes-first_block v s (w0 ∷ w1 ∷ w2 ∷ w3 ∷ w4 ∷ w5 ∷ w6 ∷ w7 ∷ w ∷ ws) last le = refl
+hash_from_lanes-first_block v s ws last le = absurd (omega arith)
 
 -- ---- the hash of a message, by its length
 
@@ -62,25 +62,26 @@ module _ (v seed : ℕ) (m : List ℕ) where
   abbrev last : ℕ
   last = final_word m (padding_byte v m)
 
-  pub komi_few : length m < 64
+  pub komi-few : length m < 64
       → komi v seed m
       ≡ hash_from_pair pair (whole_words m ++ final_word m (padding_or_zero v m) ∷ [])
   unfolding komi
-  komi_few lt =
+  komi-few lt =
       rw (padded_words-by_tail v m)
-      (without_block v (lanes pair) (whole_words m) _ (omega (arith, length-whole_words m)))
+      (hash_from_lanes-without_block v (lanes pair) (whole_words m) _
+      (omega (arith, length-whole_words m)))
 
-  pub komi_short : 1 ≤ length m → length m < 64
+  pub komi-short : 1 ≤ length m → length m < 64
       → komi v seed m ≡ hash_from_pair pair (whole_words m ++ last ∷ [])
-  komi_short some lt = grind (arith, komi_few)
+  komi-short some lt = grind (arith, komi-few)
 
-  pub komi_long : 64 ≤ length m
+  pub komi-long : 64 ≤ length m
       → komi v seed m ≡ hash_from_pair (join true (block_lanes v (lanes pair) (whole_words m)))
       (whole_words (after_blocks m) ++ last ∷ [])
   unfolding komi
-  komi_long le =
-      let first = first_block v (lanes pair) (whole_words m) last in
-      let rest = after_block v (lanes pair) (whole_words m) last in
+  komi-long le =
+      let first = hash_from_lanes-first_block v (lanes pair) (whole_words m) last in
+      let rest = hash_from_lanes-after_block v (lanes pair) (whole_words m) last in
       let padded = padded_words-by_tail v m in
       let words = after_words-whole_words m in
       let count = length-whole_words m in
@@ -88,31 +89,31 @@ module _ (v seed : ℕ) (m : List ℕ) where
 
   -- ---- a law for each function of `src/hash.rt`
 
-  pub komi_partial_word : 1 ≤ length m → length m < 8
+  pub komi-partial_word : 1 ≤ length m → length m < 8
       → komi v seed m ≡ closing pair (word_of (m ++ padding_byte v m ∷ []) ∷ [])
   unfolding stored_words
-  komi_partial_word some lt = grind (arith, komi_short)
+  komi-partial_word some lt = grind (arith, komi-short)
 
-  pub komi_one_word : 8 ≤ length m → length m < 16
+  pub komi-one_word : 8 ≤ length m → length m < 16
       → komi v seed m ≡ closing pair (word_of (take 8 m) ∷ last ∷ [])
   unfolding stored_words
-  komi_one_word le lt =
+  komi-one_word le lt =
       let count : length m / 8 ≡ 1 = omega arith in
-      rw (komi_short (omega arith) (omega arith), count) refl
+      rw (komi-short (omega arith) (omega arith), count) refl
 
-  pub komi_two_words : 16 ≤ length m → length m < 24
+  pub komi-two_words : 16 ≤ length m → length m < 24
       → komi v seed m
       ≡ closing (pair_round pair (word_of (take 8 m)) (word_of (take 8 (drop 8 m)))) (last ∷ [])
   unfolding stored_words
-  komi_two_words le lt =
+  komi-two_words le lt =
       let count : length m / 8 ≡ 2 = omega arith in
-      rw (komi_short (omega arith) (omega arith), count) refl
+      rw (komi-short (omega arith) (omega arith), count) refl
 
-pub komi_blocks : (v seed : ℕ) (m : List ℕ) → 64 ≤ length m → length m % 64 < 8
+pub komi-blocks : (v seed : ℕ) (m : List ℕ) → 64 ≤ length m → length m % 64 < 8
     → komi v seed m
     ≡ closing (join true (block_lanes v (lanes (seed_pair seed)) (whole_words m)))
     (final_word m (padding_byte v m) ∷ [])
-komi_blocks v seed m le lt = grind (arith, whole_words-few, length-after_blocks, komi_long)
+komi-blocks v seed m le lt = grind (arith, whole_words-few, length-after_blocks, komi-long)
 
 -- where a whole word is left after the blocks, it is the message's last one
 pub last_word-after_blocks : (m : List ℕ) → 0 < length (whole_words (after_blocks m))
@@ -125,28 +126,28 @@ last_word-after_blocks m some =
     let few = length-whole_words (after_blocks m) in
     grind (arith, elements, words, count, left, few)
 
-pub komi_empty : (v seed : ℕ) (m : List ℕ) → length m ≡ 0
+pub komi-empty : (v seed : ℕ) (m : List ℕ) → length m ≡ 0
     → komi v seed m ≡ closing (seed_pair seed) (0 ∷ [])
 unfolding komi
-komi_empty v seed m none = grind arith
+komi-empty v seed m none = grind arith
 
 -- ---- two versions: they pad with the same byte after a byte below 128
 
 pub komi-same_below_64 : (seed : ℕ) (m : List ℕ) → length m < 64
     → slice_index m (length m - 1) < 128 → komi 4 seed m ≡ komi 5 seed m
-komi-same_below_64 seed m few low = grind (arith, komi_few)
+komi-same_below_64 seed m few low = grind (arith, komi-few)
 
 -- what the proofs of `src/hash.rt` need
 pub ruleset hash_laws = (
-  komi_empty,
-  komi_partial_word,
-  komi_one_word,
-  komi_two_words,
-  final_word_whole,
-  komi_short,
-  komi_long,
+  komi-empty,
+  komi-partial_word,
+  komi-one_word,
+  komi-two_words,
+  final_word-whole,
+  komi-short,
+  komi-long,
   last_word-after_blocks,
-  komi_blocks,
+  komi-blocks,
   length-whole_words,
   eqb-true,
 )

@@ -9,14 +9,15 @@ use Rattle.komihash.proofs.CallLists.{answers_after-append, bytes_of_calls-appen
 use Rattle.komihash.proofs.CallLists.{run_products-pieces, HasAbsorbed-pending}
 use Rattle.komihash.proofs.AllBytes.{le_bytes-digits}
 use Rattle.komihash.proofs.GeneratorFills.{after_steps-add, outputs-add, fill-add, after_fill-add}
-use Rattle.komihash.proofs.GeneratorFills.{no_steps, no_outputs, few_steps, few_outputs}
+use Rattle.komihash.proofs.GeneratorFills.{after_steps-none, outputs-none}
+use Rattle.komihash.proofs.GeneratorFills.{after_steps-few, outputs-few}
 use Rattle.komihash.proofs.GeneratorFills.{next-lt, fill-one, after_fill-one}
 use Rattle.komihash.proofs.GeneratorFills.{length-outputs, output-at, fill-whole, outputs-whole}
 use Rattle.komihash.proofs.GeneratorFills.{after_fill-whole}
 use Rattle.komihash.proofs.Unpadding.{same_message}
-use Rattle.komihash.proofs.SavedTexts.{same_version, same_state, IsTextAfter-most}
+use Rattle.komihash.proofs.SavedTexts.{text-same_version, text-same_state, IsTextAfter-most}
 use Rattle.komihash.proofs.Streams.{absorb-append, absorb-nothing, answer-joined}
-use Rattle.komihash.proofs.Streams.{same_state_after, same_text_after}
+use Rattle.komihash.proofs.Streams.{HasAbsorbed-same_state, IsTextAfter-same_text}
 use Rattle.komihash.proofs.HashPaths.{komi-same_below_64}
 use Rattle.komihash.proofs.HashWords.{komi-lt}
 
@@ -27,17 +28,18 @@ pub ruleset of_streams = (
   absorb-nothing,
   answer-joined,
   HasAbsorbed-pending,
-  same_state_after,
-  same_text_after,
+  HasAbsorbed-same_state,
+  IsTextAfter-same_text,
   length-append,
 )
 
 pub ruleset of_calls = (answers_after-append, bytes_of_calls-append, run_products-pieces)
 
-pub ruleset of_texts_and_words = (same_version, same_state, IsTextAfter-most, same_message)
+pub ruleset of_texts_and_words =
+    (text-same_version, text-same_state, IsTextAfter-most, same_message)
 
 pub ruleset of_steps =
-    (after_steps-add, outputs-add, no_steps, no_outputs, few_steps, few_outputs)
+    (after_steps-add, outputs-add, after_steps-none, outputs-none, after_steps-few, outputs-few)
 
 pub ruleset of_outputs = (
   length-outputs,

@@ -51,8 +51,8 @@ final_word_many xs end typed many small =
     grind (arith, shifts, last, push, size)
 
 -- where no byte stands after the last whole word
-pub final_word_whole : (xs : List ℕ) (end : ℕ) → length xs % 8 ≡ 0 → final_word xs end ≡ end
-final_word_whole xs end whole = grind (arith, drop_all)
+pub final_word-whole : (xs : List ℕ) (end : ℕ) → length xs % 8 ≡ 0 → final_word xs end ≡ end
+final_word-whole xs end whole = grind (arith, drop_all)
 
 -- what the proof of `pad` needs
 pub ruleset pad_laws = (padded_words-by_tail, elements, nat_tests, common_steps)

@@ -22,21 +22,21 @@ use Rattle.komihash.proofs.WordOf.{word_of-join}
 
 -- A word is put at index i, after which those from `next` on are missing. It is the word that
 -- belongs there, unless it is one of these.
-pub put_word : {ws zs : List ℕ} {gap gap_end : ℕ} → StoresBut ws zs gap gap_end → (i next word : ℕ)
-    → (i ≤ gap) × (next ≤ i + 1) → ((next ≤ i → gap_end ≤ i) → word ≡ stored_word zs i)
+pub StoresBut-put : {ws zs : List ℕ} {gap gap_end : ℕ} → StoresBut ws zs gap gap_end
+    → (i next word : ℕ) → (i ≤ gap) × (next ≤ i + 1) → ((next ≤ i → gap_end ≤ i) → word ≡ stored_word zs i)
     → StoresBut (set ws i word) zs next gap_end
-put_word but i next word within is = grind (arith, elements)
+StoresBut-put but i next word within is = grind (arith, elements)
 
 -- none is missing
-pub all_stored : {ws zs : List ℕ} {gap gap_end : ℕ} → StoresBut ws zs gap gap_end
+pub StoresBut-all : {ws zs : List ℕ} {gap gap_end : ℕ} → StoresBut ws zs gap gap_end
     → (gap < 8 → gap_end ≤ gap) → ws ≡ stored_words 8 zs
-all_stored but none =
+StoresBut-all but none =
     grind (arith, elements, length-stored_words, get_or-stored_words)
 
 -- a word of bytes that are put after others
-pub word_after : (xs bytes : List ℕ) (at from : ℕ) → length xs + from ≡ 8 * at
+pub stored_word-after : (xs bytes : List ℕ) (at from : ℕ) → length xs + from ≡ 8 * at
     → word_of (take 8 (drop from bytes)) ≡ stored_word (xs ++ bytes) at
-word_after xs bytes at from place = rw (← place, drop-append-add xs bytes from) refl
+stored_word-after xs bytes at from place = rw (← place, drop-append-add xs bytes from) refl
 
 -- `out` has the words of the chunks of the bytes from `from` on. After the bytes xs, these are the
 -- words from `at` to `end`.
@@ -51,23 +51,23 @@ pub record ChunkWords (xs bytes out : List ℕ) (chunks : List (List ℕ)) (from
   pub words : (k : ℕ) → k < length chunks → slice_index out k ≡ chunk_word chunks k
 
 -- they are stored where nothing was yet
-pub words_stored : {xs bytes out : List ℕ} {chunks : List (List ℕ)} {from at end : ℕ}
+pub StoresBut-chunks : {xs bytes out : List ℕ} {chunks : List (List ℕ)} {from at end : ℕ}
     {ws : List ℕ} {gap_end : ℕ} → StoresBut ws (xs ++ bytes) at gap_end
     → ChunkWords xs bytes out chunks from at end
     → StoresBut (put_mid at (length chunks) ws out) (xs ++ bytes) end gap_end
-words_stored {xs} {bytes} {out} {chunks} {from} {at} but are = record {
+StoresBut-chunks {xs} {bytes} {out} {chunks} {from} {at} but are = record {
   size = grind (arith, elements);
   words = λ k lt after.
       let read = word_of-chunk (length (drop from bytes) / 8) (k - at) (drop from bytes) in
-      let stored = word_after xs bytes k (from + 8 * (k - at)) in
+      let stored = stored_word-after xs bytes k (from + 8 * (k - at)) in
       grind (arith, elements);
 }
 
 -- ---- the pending bytes, which are the first of those that words store
 
-pub ArePending_none : ArePending (0 ∷ 0 ∷ 0 ∷ 0 ∷ 0 ∷ 0 ∷ 0 ∷ 0 ∷ []) 0
+pub ArePending-none : ArePending (0 ∷ 0 ∷ 0 ∷ 0 ∷ 0 ∷ 0 ∷ 0 ∷ 0 ∷ []) 0
 unfolding stored_words
-ArePending_none = record { few = omega arith; count = refl; words = refl }
+ArePending-none = record { few = omega arith; count = refl; words = refl }
 
 ruleset bytes_typed =
     (AreBytes-append, AreBytes-take, AreBytes-drop, AreBytes-typed, AreBytes-all_bytes)
@@ -79,22 +79,22 @@ module _ {ws : List ℕ} {len : ℕ} (are : ArePending ws len) where
   -- bytes put after them
   module _ (new bytes : List ℕ) (typed : (k : ℕ) → Fits w8 (get_or bytes k 0))
       (is : new ≡ stored_words 8 (pending ++ bytes)) where
-    pub bytes_put : len + length bytes < 64
+    pub pending_bytes-put : len + length bytes < 64
         → pending_bytes new (len + length bytes) ≡ pending ++ bytes
-    bytes_put few =
+    pending_bytes-put few =
         let typed_bytes : AreBytes (pending ++ bytes) = search bytes_typed in
         let stored = bytes-stored_words 8 (pending ++ bytes) typed_bytes in
         let size = length-append pending bytes in
         grind (arith, stored, size)
 
-    pub ArePending_put : len + length bytes < 64 → ArePending new (len + length bytes)
-    ArePending_put few = grind (arith, bytes_put few, length-append pending bytes)
+    pub ArePending-put : len + length bytes < 64 → ArePending new (len + length bytes)
+    ArePending-put few = grind (arith, pending_bytes-put few, length-append pending bytes)
 
     -- the first of them fill a block
-    pub words_put : 64 ≤ len + length bytes
+    pub whole_words-put : 64 ≤ len + length bytes
         → new ≡ whole_words (pending ++ take (64 - len) bytes)
     unfolding stored_words
-    words_put full =
+    whole_words-put full =
         let front = take (64 - len) bytes in
         let rest = drop (64 - len) bytes in
         let cut : pending ++ bytes ≡ (pending ++ front) ++ rest =
@@ -105,11 +105,11 @@ module _ {ws : List ℕ} {len : ℕ} (are : ArePending ws len) where
         grind (arith, size, length_of, front_words)
 
   -- the word at a place
-  pub get_or_pending : (i : ℕ) → i < 8 → get_or ws i 0 ≡ stored_word pending i
-  get_or_pending i lt = ap (λ us. get_or us i 0) are.words ∙ get_or-stored_words 8 i pending lt
+  pub get_or-pending : (i : ℕ) → i < 8 → get_or ws i 0 ≡ stored_word pending i
+  get_or-pending i lt = ap (λ us. get_or us i 0) are.words ∙ get_or-stored_words 8 i pending lt
 
-  pub AreBytes_word : (i : ℕ) → AreBytes (take 8 (drop (8 * i) pending))
-  AreBytes_word i = search bytes_typed
+  pub AreBytes-word : (i : ℕ) → AreBytes (take 8 (drop (8 * i) pending))
+  AreBytes-word i = search bytes_typed
 
   abbrev pub partial : List ℕ
   partial = drop (8 * (len / 8)) pending
@@ -118,39 +118,46 @@ module _ {ws : List ℕ} {len : ℕ} (are : ArePending ws len) where
   length-partial = omega (arith, are.count, length-drop (8 * (len / 8)) pending)
 
   -- the words after the partial word are 0, whatever is stored there
-  pub zero_after : (k : ℕ) → len / 8 < k → k < 8 → (word : ℕ)
+  pub get_or-after_partial : (k : ℕ) → len / 8 < k → k < 8 → (word : ℕ)
       → get_or (set ws (len / 8) word) k 0 ≡ 0
-  zero_after k lt few word = grind (arith, elements, get_or_pending k, drop_all (8 * k) pending)
+  get_or-after_partial k lt few word =
+      grind (arith, elements, get_or-pending k, drop_all (8 * k) pending)
 
   -- bytes put after them change no word before the partial word
-  before_partial : (bytes : List ℕ) (gap_end : ℕ)
+  StoresBut-before_partial : (bytes : List ℕ) (gap_end : ℕ)
       → (gap_end < 8 → len + length bytes ≤ 8 * gap_end)
       → StoresBut ws (pending ++ bytes) (len / 8) gap_end
-  before_partial bytes gap_end room = record {
+  StoresBut-before_partial bytes gap_end room = record {
     size = omega (arith, ap length are.words, length-stored_words 8 pending);
-    words = λ k few after. grind (arith, elements, get_or_pending k, drop-append-le, drop_all);
+    words = λ k few after. grind (arith, elements, get_or-pending k, drop-append-le, drop_all);
   }
 
   -- the partial word with those of them that fit
-  partial_joined : (bytes : List ℕ) → AreBytes bytes
+  stored_word-partial : (bytes : List ℕ) → AreBytes bytes
       → bit_or (get_or ws (len / 8) 0) (word_of (take 8 bytes) * 2 ^ (8 * (len % 8)) % 2 ^ 64)
       ≡ stored_word (pending ++ bytes) (len / 8)
-  partial_joined bytes typed =
+  stored_word-partial bytes typed =
       let these = AreBytes-take 8 bytes typed in
       let word =
-      word_of-join (take 8 partial) (take 8 bytes) (len % 8) (AreBytes_word (len / 8)) these in
-      grind (arith, get_or_pending (len / 8), length-partial, drop-append-le)
+      word_of-join (take 8 partial) (take 8 bytes) (len % 8) (AreBytes-word (len / 8)) these in
+      grind (arith, get_or-pending (len / 8), length-partial, drop-append-le)
 
   -- with that word stored, the words after it are missing, but for those that stay 0
-  pub partial_stored : (bytes : List ℕ) (word gap gap_end : ℕ) → AreBytes bytes
+  pub StoresBut-partial : (bytes : List ℕ) (word gap gap_end : ℕ) → AreBytes bytes
       → word ≡ word_of (take 8 bytes)
       → (gap ≤ len / 8 + 1) × (gap_end < 8 → len + length bytes ≤ 8 * gap_end)
       → StoresBut
       (set ws (len / 8) (bit_or (get_or ws (len / 8) 0) (word * 2 ^ (8 * (len % 8)) % 2 ^ 64)))
       (pending ++ bytes) gap gap_end
-  partial_stored bytes word gap gap_end typed is (le, room) =
-      put_word (before_partial bytes gap_end room) (len / 8) gap _ (omega arith)
-      (λ _. rw is (partial_joined bytes typed))
+  StoresBut-partial bytes word gap gap_end typed is (le, room) =
+      StoresBut-put (StoresBut-before_partial bytes gap_end room) (len / 8) gap _ (omega arith)
+      (λ _. rw is (stored_word-partial bytes typed))
 
-pub ruleset pending_laws =
-    (ArePending_none, bytes_put, ArePending_put, words_put, get_or_pending, read_words)
+pub ruleset pending_laws = (
+  ArePending-none,
+  ArePending-put,
+  pending_bytes-put,
+  whole_words-put,
+  get_or-pending,
+  read_words,
+)

@@ -70,12 +70,12 @@ IsTextAfter-most v seed m bytes (s, is, absorbed, same) = grind (arith, length-t
 
 -- two states never share a text
 module _ (v w : ℕ) (s t : State) (same : text v s ≡ text w t) where
-  pub same_version : v ≡ w
+  pub text-same_version : v ≡ w
   unfolding text
-  same_version = cc
+  text-same_version = cc
 
-  pub same_state : AreWords (in_order s.lanes) → AreWords (in_order t.lanes) → s ≡ t
-  same_state first second = grind (arith, state_of-text v s first, state_of-text w t second)
+  pub text-same_state : AreWords (in_order s.lanes) → AreWords (in_order t.lanes) → s ≡ t
+  text-same_state first second = grind (arith, state_of-text v s first, state_of-text w t second)
 
 -- ---- which bytes are a text
 
@@ -159,4 +159,4 @@ unfolding IsTextAfter
 text-after v seed s m bytes is after same = search arith
 
 -- what the proof of `store` needs
-pub ruleset stored = (length-text, text-after, same_version, same_state)
+pub ruleset stored = (length-text, text-after, text-same_version, text-same_state)

@@ -18,7 +18,7 @@ use Rattle.komihash.specs.Stream.{tail_of, Answered}
 use Rattle.komihash.specs.Words.{AreBytes}
 use Rattle.komihash.proofs.Blocks.{completed, block_lanes-few_bytes}
 use Rattle.komihash.proofs.Blocks.{length-after_blocks, after_words-after_blocks}
-use Rattle.komihash.proofs.HashPaths.{komi_few, komi_long}
+use Rattle.komihash.proofs.HashPaths.{komi-few, komi-long}
 use Rattle.komihash.proofs.HashWords.{AreWords-seed_pair, AreWords-block_lanes}
 use Rattle.komihash.proofs.PaddedWords.{padded_words-by_tail}
 use Rattle.komihash.proofs.WholeWords.{words_of-whole}
@@ -143,13 +143,13 @@ answer-joined v seed m =
     elim (cases_lt (length m) 64) [
       | inl lt ↦
           let end = tail_end-start v m in
-          let hash = komi_few v seed m lt in
+          let hash = komi-few v seed m lt in
           rw (absorb-few v (start seed) m (omega arith))
           (answer-by_pair v (record (start seed) { pending = m }) ∙ cc)
       | inr le ↦
           let words = after_words-after_blocks m in
           let end = tail_end-drop v (length m - length m % 64) m (omega arith) (omega arith) in
-          let hash = komi_long v seed m le in
+          let hash = komi-long v seed m le in
           let some : nat_lt (length m) 64 ≡ false = grind (arith) in
           rw (absorb-blocks v (start seed) m (omega arith))
           (answer-by_pair v (blocks_state v (start seed) m) ∙ rw some (cc))
@@ -163,12 +163,12 @@ unfolding HasAbsorbed
 answered v now result is = grind (arith, answer-joined)
 
 -- equal messages lead to equal states and texts
-pub same_state_after : (v seed : ℕ) (s t : State) (m : List ℕ) → HasAbsorbed v seed s m
+pub HasAbsorbed-same_state : (v seed : ℕ) (s t : State) (m : List ℕ) → HasAbsorbed v seed s m
     → HasAbsorbed v seed t m → s ≡ t
 unfolding HasAbsorbed
-same_state_after v seed s t m first second = first ∙ sym second
+HasAbsorbed-same_state v seed s t m first second = first ∙ sym second
 
-pub same_text_after : (v seed : ℕ) (m x y : List ℕ) → IsTextAfter v seed m x
+pub IsTextAfter-same_text : (v seed : ℕ) (m x y : List ℕ) → IsTextAfter v seed m x
     → IsTextAfter v seed m y → x ≡ y
 unfolding IsTextAfter HasAbsorbed
-same_text_after v seed m x y (s, _, first, of_s) (t, _, second, of_t) = cc
+IsTextAfter-same_text v seed m x y (s, _, first, of_s) (t, _, second, of_t) = cc

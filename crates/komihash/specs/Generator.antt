@@ -6,9 +6,9 @@ use Rattle.komihash.specs.Rounds.{low, high, plus}
 
 -- the pair after a step of version v, whose first word is the step's output
 unfoldable pub next : ℕ → ℕ × ℕ → ℕ × ℕ
-next v s =
-    let p = s.0 * s.1 in
-    let second = plus (plus s.1 (high p)) 0xaaaaaaaaaaaaaaaa in
+next v pair =
+    let p = pair.0 * pair.1 in
+    let second = plus (plus pair.1 (high p)) 0xaaaaaaaaaaaaaaaa in
     let first =
     if v == 4
     then bit_xor (low p) second
@@ -17,13 +17,13 @@ next v s =
 
 -- the pair after n steps
 unfoldable pub after_steps : ℕ → ℕ → ℕ × ℕ → ℕ × ℕ
-after_steps v zero s = s
-after_steps v (suc n) s = after_steps v n (next v s)
+after_steps v zero pair = pair
+after_steps v (suc n) pair = after_steps v n (next v pair)
 
 -- the next n outputs
 unfoldable pub outputs : ℕ → ℕ → ℕ × ℕ → List ℕ
-outputs v zero s = []
-outputs v (suc n) s = (next v s).0 ∷ outputs v n (next v s)
+outputs v zero pair = []
+outputs v (suc n) pair = (next v pair).0 ∷ outputs v n (next v pair)
 
 -- how many steps a buffer of n bytes takes: one for each eight bytes, and one more for a remainder
 abbrev pub fill_steps : ℕ → ℕ
@@ -31,8 +31,8 @@ fill_steps n = (n + 7) / 8
 
 -- what fills a buffer of n bytes: the first n bytes of the outputs of these steps
 abbrev pub fill : ℕ → ℕ × ℕ → ℕ → List ℕ
-fill v s n = take n (all_bytes (outputs v (fill_steps n) s))
+fill v pair n = take n (all_bytes (outputs v (fill_steps n) pair))
 
 -- the pair after these steps
 abbrev pub after_fill : ℕ → ℕ × ℕ → ℕ → ℕ × ℕ
-after_fill v s n = after_steps v (fill_steps n) s
+after_fill v pair n = after_steps v (fill_steps n) pair

@@ -45,19 +45,19 @@ ArePadded v ws = (m : List ℕ) × AreBytes m × (padded_words v m ≡ ws)
 pub record Padded (v : ℕ) (bytes : List ℕ) (out : Mut (List ℕ)) (result : ℕ) : Type 0 where
   pub count : result ≡ length bytes / 8 + 1
   pub padded : take result out.exit.now ≡ padded_words v bytes
-  -- no other message has these padded words
-  pub only : (m : List ℕ) → AreBytes m → padded_words v m ≡ padded_words v bytes → m ≡ bytes
   pub rest : drop result out.exit.now ≡ drop result out.entry.now
+  -- what follows from these, for the search: no other message has these padded words
+  pub only : (m : List ℕ) → AreBytes m → padded_words v m ≡ padded_words v bytes → m ≡ bytes
 
 -- a call writes the message with these padded words to the front of `out`, leaves the rest, and
 -- returns the message's length, or None, with nothing written, if there is no such message
 pub record Unpadded (v : ℕ) (words : List ℕ) (out : Mut (List ℕ)) (result : Option ℕ) : Type 0 where
   pub message : IfSome result (λ n. padded_words v (take n out.exit.now) ≡ words)
-  -- a message with these words is the one that is written
+  pub some : IsSome result ↔ ArePadded v words
+  pub rest : IfSome result (λ n. drop n out.exit.now ≡ drop n out.entry.now)
+  pub unchanged : IfNone result (out.exit.now ≡ out.entry.now)
+  -- what follows from these, for the search: a message with these words is the one that is written
   pub same : (m : List ℕ) → AreBytes m → padded_words v m ≡ words
       → IsSomeAnd result (λ n. take n out.exit.now ≡ m)
-  pub rest : IfSome result (λ n. drop n out.exit.now ≡ drop n out.entry.now)
   pub length : IfSome result (λ n. n / 8 + 1 ≡ length words)
-  pub some : IsSome result ↔ ArePadded v words
   pub none : IsNone result ↔ ¬ ArePadded v words
-  pub unchanged : IfNone result (out.exit.now ≡ out.entry.now)

@@ -56,15 +56,15 @@ in_order s = s.s1 ∷ s.s2 ∷ s.s3 ∷ s.s4 ∷ s.s5 ∷ s.s6 ∷ s.s7 ∷ s.s8
 
 -- the lanes of a pair
 abbrev pub lanes : ℕ × ℕ → Lanes
-lanes s = record {
-  s1 = s.0;
-  s2 = bit_xor (constant 2) s.0;
-  s3 = bit_xor (constant 3) s.0;
-  s4 = bit_xor (constant 4) s.0;
-  s5 = s.1;
-  s6 = bit_xor (constant 6) s.1;
-  s7 = bit_xor (constant 7) s.1;
-  s8 = bit_xor (constant 8) s.1;
+lanes pair = record {
+  s1 = pair.0;
+  s2 = bit_xor (constant 2) pair.0;
+  s3 = bit_xor (constant 3) pair.0;
+  s4 = bit_xor (constant 4) pair.0;
+  s5 = pair.1;
+  s6 = bit_xor (constant 6) pair.1;
+  s7 = bit_xor (constant 7) pair.1;
+  s8 = bit_xor (constant 8) pair.1;
 }
 
 -- which words of a block are multiplied with each other: two indices for each product
@@ -113,14 +113,14 @@ join had_block s =
 
 -- the pair after a round on two words
 abbrev pub pair_round : ℕ × ℕ → ℕ → ℕ → ℕ × ℕ
-pair_round s w0 w1 = mix (bit_xor w0 s.0) (bit_xor w1 s.1) s.1
+pair_round pair w0 w1 = mix (bit_xor w0 pair.0) (bit_xor w1 pair.1) pair.1
 
 -- the hash from the pair of the closing's first mix: one more mix
 abbrev pub mix_again : ℕ × ℕ → ℕ
-mix_again s = (mix s.0 s.1 s.1).0
+mix_again pair = (mix pair.0 pair.1 pair.1).0
 
 -- the hash from a pair and the one or two words that are left; there are never more or fewer
 abbrev pub closing : ℕ × ℕ → List ℕ → ℕ
-closing s (w0 ∷ []) = mix_again (mix (bit_xor w0 s.0) s.1 s.1)
-closing s (w0 ∷ w1 ∷ []) = mix_again (pair_round s w0 w1)
-closing s _ = 0
+closing pair (w0 ∷ []) = mix_again (mix (bit_xor w0 pair.0) pair.1 pair.1)
+closing pair (w0 ∷ w1 ∷ []) = mix_again (pair_round pair w0 w1)
+closing pair _ = 0

@@ -42,28 +42,29 @@ IsTextAfter v seed m bytes = (s : State) × IsState v s × HasAbsorbed v seed s 
 -- a call writes the text of a stream to the front of `out`, leaves the rest, and returns the length
 -- of the text
 pub record Stored (v : ℕ) (now : State) (out : Mut (List ℕ)) (result : ℕ) : Type 0 where
-  pub length : result ≡ length (text v now)
+  -- what follows from the last three, for the search: the text is short, it is a text after the
+  -- message that the stream has absorbed, and no other state, of either version, has it
   pub most : result ≤ longest_text
-  -- no other state, of either version, has this text
-  pub version : (w : ℕ) (s : State) → IsState w s → text w s ≡ text v now → w ≡ v
-  pub only : (w : ℕ) (s : State) → IsState w s → text w s ≡ text v now → s ≡ now
-  pub text : take result out.exit.now ≡ text v now
-  -- so it is a text after the message that the stream has absorbed
   pub message : (seed : ℕ) (m : List ℕ) → HasAbsorbed v seed now m
       → IsTextAfter v seed m (take result out.exit.now)
+  pub version : (w : ℕ) (s : State) → IsState w s → text w s ≡ text v now → w ≡ v
+  pub only : (w : ℕ) (s : State) → IsState w s → text w s ≡ text v now → s ≡ now
+  -- what the call does
+  pub length : result ≡ length (text v now)
+  pub text : take result out.exit.now ≡ text v now
   pub rest : drop result out.exit.now ≡ drop result out.entry.now
 
 -- a call returns the stream whose text the bytes are, where `view` gives its state, or None if
 -- they are the text of no state
 pub record Restored {A : Type 0} (v : ℕ) (view : A → State) (bytes : List ℕ) (result : Option A)
     : Type 0 where
-  -- the text of a state gives that state
+  -- what follows from the last two, for the search: the text of a state gives that state, one
+  -- after a message a stream that has absorbed it, and a longer one none
   pub same : (s : State) → IsState v s → text v s ≡ bytes
       → IsSomeAnd result (λ stream. view stream ≡ s)
-  -- so a text after a message gives a stream that has absorbed it
   pub message : (seed : ℕ) (m : List ℕ) → IsTextAfter v seed m bytes
       → IsSomeAnd result (λ stream. HasAbsorbed v seed (view stream) m)
-  -- nothing else gives a stream
   pub most : IfSome result (λ _. length bytes ≤ longest_text)
-  pub text : IfSome result (λ stream. text v (view stream) ≡ bytes)
+  -- what the call does
   pub none : IsNone result ↔ ¬ IsText v bytes
+  pub text : IfSome result (λ stream. text v (view stream) ≡ bytes)

@@ -1,12 +1,12 @@
--- A turn makes the first of the calls that are left (`call_first`). After the loop none is left, so
--- the answers so far are all answers, and those of a stream that absorbed a message are hashes.
+-- A turn makes the first of the calls that are left (`onward-first`). After the loop none is left,
+-- so the answers so far are all answers, and those of a stream that absorbed a message are hashes.
 use Rattle.std.proofs.Common.{◌≡◌, sym, ◌+◌, get_or, drop, ap, arith, rules, ◌∙◌, ◌∷◌}
 use Rattle.std.proofs.lemmas.List.{drop_more, append-nil}
 use Rattle.std.proofs.lemmas.Grind.{common_steps}
 use Rattle.komihash.specs.Stream.{absorb, HasAbsorbed}
 use Rattle.komihash.specs.declared.stream.Call.{Call}
 use Rattle.komihash.specs.declared.stream.Call.TheVariants.{Absorb, Answer}
-use Rattle.komihash.proofs.CallLists.{call_first, onward-message}
+use Rattle.komihash.proofs.CallLists.{onward-first, onward-message}
 use Rattle.komihash.proofs.Streams.{absorb-nothing, more_absorbed}
 use Rattle.komihash.proofs.stream.run_on.Goals as goal
 use Rattle.komihash.proofs.stream.run_on.Goals.{in-Absorb, in-Answer}
@@ -27,12 +27,12 @@ loop-call-preserved g c =
           let is = rw (left _ _ w.in-Absorb.is) at c.loop-call.invariant in
           let alone = sym (append-nil bytes.now) in
           let state = w.absorb.ensures.absorbed.state ∙ ap (absorb v now) alone in
-          let first = call_first v now _ (Absorb bytes) after few state in
+          let first = onward-first v now _ (Absorb bytes) after few state in
           rw (w.stream-is, w.out-is, w.tally-is, w.count-is) (grind (arith, common_steps))
       | in-Answer w ↦
           let is = rw (left _ _ w.in-Answer.is) at c.loop-call.invariant in
           let same = absorb-nothing v now in
-          let first = call_first v now now Answer after few (sym same) in
+          let first = onward-first v now now Answer after few (sym same) in
           rw (w.stream-is, w.out-is, w.tally-is, w.count-is) (grind (arith, common_steps))
     ]
 

@@ -10,8 +10,9 @@ use Rattle.std.specs.Int.Bits.{or_zero_l, or_zero_r, or_self}
 use Rattle.komihash.specs.Internals.{pending_bytes}
 use Rattle.komihash.specs.Words.{word_of}
 use Rattle.komihash.proofs.WordOf.{AreBytes-typed, shl_mod, word_of-drop, word_of-zeros}
-use Rattle.komihash.proofs.PendingBytes.{put_word, all_stored, word_after, partial_stored}
-use Rattle.komihash.proofs.PendingBytes.{zero_after}
+use Rattle.komihash.proofs.PendingBytes.{StoresBut-put, StoresBut-all, StoresBut-partial}
+use Rattle.komihash.proofs.PendingBytes.{stored_word-after}
+use Rattle.komihash.proofs.PendingBytes.{get_or-after_partial}
 use Rattle.komihash.proofs.rounds.pending.append_below_eight.Goals as goal
 
 -- a rotation has the bits that a shift to the left keeps, and those that it drops
@@ -36,7 +37,7 @@ returns c =
     let are = AreBytes-typed bytes c.type_inv.bytes in
     let word = c.read_partial_word-word.ensures ∙ word_of-zeros bytes 1 in
     let first = word ∙ ap word_of (sym (take_all 8 bytes (omega arith))) in
-    let partial = partial_stored c.requires.pending bytes _ (c.args.len / 8 + 1)
+    let partial = StoresBut-partial c.requires.pending bytes _ (c.args.len / 8 + 1)
     ((c.args.len + length bytes + 7) / 8) are first (omega arith) in
     -- the difference of the code is the word of those that don't fit
     let parts = rotated _ (8 * over) (8 * fit) c.read_partial_word-word.type_inv (omega arith) in
@@ -45,13 +46,13 @@ returns c =
     grind (arith, parts, word, word_of-drop fit bytes are) in
     rw (c.word_index.ensures, rest) (elim (cases_lt fit (length bytes)) [
       | inl more ↦
-          let zero = zero_after c.requires.pending at (omega arith) (omega arith) in
+          let zero = get_or-after_partial c.requires.pending at (omega arith) (omega arith) in
           let whole = take_all 8 (drop fit bytes) (omega (arith, length-drop fit bytes)) in
-          let next = word_after xs bytes at fit (omega arith) in
-          all_stored (put_word partial at (at + 1) _ (omega arith)
+          let next = stored_word-after xs bytes at fit (omega arith) in
+          StoresBut-all (StoresBut-put partial at (at + 1) _ (omega arith)
           (λ _. rw (zero, or_zero_l (word_of (drop fit bytes)), ← next, whole) refl)) (omega arith)
       | inr all ↦
-          rw (drop_all fit bytes all, or_zero_r, set-get_or) (all_stored partial (omega arith))
+          rw (drop_all fit bytes all, or_zero_r, set-get_or) (StoresBut-all partial (omega arith))
     ])
 
 pub overflow_sub-words : goal.overflow_sub-words

@@ -3,7 +3,7 @@ use Rattle.std.proofs.Common.{◌+◌, ◌-◌, ◌*◌, ◌/◌, ◌%◌, lengt
 use Rattle.std.proofs.Common.{take_all, length-drop, shr-shr}
 use Rattle.komihash.specs.Internals.{pending_bytes}
 use Rattle.komihash.proofs.WordOf.{AreBytes-typed, word_of-last}
-use Rattle.komihash.proofs.PendingBytes.{put_word, all_stored, word_after}
+use Rattle.komihash.proofs.PendingBytes.{StoresBut-put, StoresBut-all, stored_word-after}
 use Rattle.komihash.proofs.rounds.pending.append_eight_or_more.Goals as goal
 
 pub returns-then-has_remainder : goal.returns-then-has_remainder
@@ -13,9 +13,9 @@ returns-then-has_remainder c =
     let from = length bytes - end % 8 in
     let are = AreBytes-typed bytes c.type_inv.bytes in
     let last = word_of-last 8 from (56 - 8 * (end % 8) + 8) bytes are in
-    let word = word_after (pending_bytes c.args.words.now c.args.len) bytes (end / 8) from in
+    let word = stored_word-after (pending_bytes c.args.words.now c.args.len) bytes (end / 8) from in
     let whole = take_all 8 (drop from bytes) in
-    rw c.word_index.ensures (all_stored (put_word c.append_whole_words.ensures (end / 8)
+    rw c.word_index.ensures (StoresBut-all (StoresBut-put c.append_whole_words.ensures (end / 8)
     (end / 8 + 1) _ (omega arith) (λ _. rw (c.last_word.ensures, shr-shr) (grind (
       arith,
       last,
@@ -25,4 +25,4 @@ returns-then-has_remainder c =
     )))) (omega arith))
 
 pub returns-else-has_remainder : goal.returns-else-has_remainder
-returns-else-has_remainder c = all_stored c.append_whole_words.ensures (omega arith)
+returns-else-has_remainder c = StoresBut-all c.append_whole_words.ensures (omega arith)

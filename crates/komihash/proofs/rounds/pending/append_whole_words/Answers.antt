@@ -3,7 +3,7 @@ use Rattle.std.proofs.Common.{◌≡◌, ◌+◌, ◌-◌, ◌/◌, ◌%◌, len
 use Rattle.std.proofs.Common.{take_all, length-drop}
 use Rattle.std.proofs.lemmas.Bool.Decides.{nat_tests}
 use Rattle.komihash.specs.Internals.{pending_bytes}
-use Rattle.komihash.proofs.PendingBytes.{put_word, word_after, words_stored}
+use Rattle.komihash.proofs.PendingBytes.{StoresBut-put, stored_word-after, StoresBut-chunks}
 use Rattle.komihash.proofs.rounds.pending.append_whole_words.Goals as goal
 
 pub returns-then-has_two_more : goal.returns-then-has_two_more
@@ -19,7 +19,7 @@ returns-then-has_two_more c =
     let width : at + n - at ≡ n = omega arith in
     let piece = take_all (length bytes - from) (drop from bytes) (omega arith) in
     rw (c.word_index-next.ensures, width)
-    (words_stored {xs = xs} {bytes = bytes} {from = from} {end = end} partial record {
+    (StoresBut-chunks {xs = xs} {bytes = bytes} {from = from} {end = end} partial record {
       front = rw piece at c.as_chunks.ensures.front;
       count = omega arith;
       begin = omega arith;
@@ -36,8 +36,9 @@ returns-then-has_next c =
     let at = c.args.len / 8 + 1 in
     let end = (c.args.len + length bytes) / 8 in
     let partial = c.append_within_word.ensures at (end + 1) (grind (arith, nat_tests)) in
-    rw c.word_index-next.ensures (put_word partial at end _ (grind (arith, nat_tests))
-    (λ last. c.word_at.ensures ∙ word_after xs bytes at c.min.result (grind (arith, nat_tests))))
+    rw c.word_index-next.ensures (StoresBut-put partial at end _ (grind (arith, nat_tests))
+    (λ last. c.word_at.ensures
+        ∙ stored_word-after xs bytes at c.min.result (grind (arith, nat_tests))))
 
 pub returns-else-has_next : goal.returns-else-has_next
 returns-else-has_next c = c.append_within_word.ensures _ _ (grind (arith, nat_tests))

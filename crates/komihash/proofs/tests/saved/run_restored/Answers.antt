@@ -1,8 +1,8 @@
--- A turn makes the first of the calls that are left (`call_first`).
+-- A turn makes the first of the calls that are left (`onward-first`).
 use Rattle.std.proofs.Common.{[], ◌+◌, drop, get_or, arith}
 use Rattle.std.proofs.lemmas.List.{drop_more}
 use Rattle.komihash.specs.declared.stream.Call.TheVariants.{Absorb}
-use Rattle.komihash.proofs.CallLists.{call_first}
+use Rattle.komihash.proofs.CallLists.{onward-first}
 use Rattle.komihash.proofs.tests.saved.run_restored.Goals as goal
 
 pub loop-call-preserved : goal.loop-call-preserved
@@ -14,6 +14,6 @@ loop-call-preserved g c =
     let absent = Absorb record { ref_ptr = (0, 0); now = [] } in
     let is = rw (drop_more calls i absent c.loop-call-test.true) at c.loop-call.invariant in
     let first =
-    call_first g.S.KomiStream.VERSION now _ (get_or calls i absent) (drop (i + 1) calls) few
+    onward-first g.S.KomiStream.VERSION now _ (get_or calls i absent) (drop (i + 1) calls) few
     c.run_on-count.ensures.absorbed.state in
     grind arith

@@ -7,7 +7,7 @@ use Rattle.komihash.specs.Padding.{padding_byte}
 use Rattle.komihash.specs.Internals.{pending_bytes, ArePending, after_words}
 use Rattle.komihash.specs.Words.{AreBytes, word_of}
 use Rattle.komihash.proofs.WordOf.{AreBytes-drop, word_of-drop, word_of-push}
-use Rattle.komihash.proofs.PendingBytes.{get_or_pending, AreBytes_word, partial, length-partial}
+use Rattle.komihash.proofs.PendingBytes.{get_or-pending, AreBytes-word, partial, length-partial}
 use Rattle.komihash.proofs.rounds.pending.Pending.final_word.Goals as goal
 
 low_byte : (xs : List ℕ) → AreBytes xs → word_of xs % 256 ≡ get_or xs 0 0
@@ -18,9 +18,9 @@ low_byte (x ∷ xs) are = omega (arith, are 0)
 byte_at : {ws : List ℕ} {len : ℕ} → ArePending ws len → (i : ℕ) → i < len
     → bit_and (get_or ws (i / 8) 0 / 2 ^ (8 * (i % 8))) 255 ≡ get_or (pending_bytes ws len) i 0
 byte_at are i lt =
-    let of_word = AreBytes_word are (i / 8) in
+    let of_word = AreBytes-word are (i / 8) in
     let rest = word_of-drop (i % 8) _ of_word in
-    rw (and_mask _ 8, get_or_pending are (i / 8) (omega arith), ← rest)
+    rw (and_mask _ 8, get_or-pending are (i / 8) (omega arith), ← rest)
     (low_byte _ (AreBytes-drop (i % 8) _ of_word)
     ∙ grind (arith, get_or-drop {A = ℕ}, get_or-take {A = ℕ}))
 
@@ -39,7 +39,7 @@ returns g c =
     let size = length-partial are in
     let whole = take_all 8 (partial are) (omega arith) in
     let after : take 8 (partial are) ≡ after_words xs = rw are.count whole in
-    let word = get_or_pending are (len / 8) (omega arith) in
+    let word = get_or-pending are (len / 8) (omega arith) in
     rw (c.word_index-2.ensures, ← c.self.view_is, padding, word, ← after)
-    (word_of-push (take 8 (partial are)) (len % 8) _ (AreBytes_word are (len / 8))
+    (word_of-push (take 8 (partial are)) (len % 8) _ (AreBytes-word are (len / 8))
     (omega (arith, length-take {A = ℕ})) (omega arith) (grind arith))
