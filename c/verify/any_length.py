@@ -214,8 +214,8 @@ class Fill(Induction):
 
 
 class Copy(Induction):
-    """Calls that copy words to `out`, after which a few bytes come; refused ones write nothing.
-    A copy has no words of the definition but those that it copies."""
+    """Calls that copy words to `out`, after which a few bytes come. Refused ones write nothing, and
+    if all of a case are refused, no loop is run. The definition has no words but those copied."""
 
     def open(self, content, last, size):
         """The arrays, from what was taken on, of which so much may be written."""
