@@ -61,10 +61,10 @@ extern "C" {
 #endif
 
 /* The version of this library, whose first number is that of the soname. */
-#define KOMIHASH_RATTLE_VERSION "1.3.1"
+#define KOMIHASH_RATTLE_VERSION "1.4.0"
 #define KOMIHASH_RATTLE_VERSION_MAJOR 1
-#define KOMIHASH_RATTLE_VERSION_MINOR 3
-#define KOMIHASH_RATTLE_VERSION_PATCH 1
+#define KOMIHASH_RATTLE_VERSION_MINOR 4
+#define KOMIHASH_RATTLE_VERSION_PATCH 0
 
 /* What `unpad` returns instead of a length. */
 #define KOMIHASH_NONE SIZE_MAX

@@ -23,8 +23,10 @@ static const char HELP[] =
     "  -4                    hash by version 4 of komihash, in place of version 5\n"
     "  -s, --seed=SEED       hash with this seed, in place of 0: a number below 2^64,\n"
     "                        in decimal digits, or in hexadecimal ones after 0x\n"
+    "      --tag             print lines that name the version and the seed\n"
+    "  -z, --zero            end lines with a zero byte, and escape no name\n"
     "  -c, --check           check the files that are named in each FILE, in lines\n"
-    "                        that were printed with the same version and seed\n"
+    "                        of --tag, or those of the same version and seed\n"
     "      --progress        show on a terminal how much of a file was read\n"
     "      --help            print this help and exit\n"
     "      --version         print the version of the library and exit\n\n"
@@ -32,18 +34,19 @@ static const char HELP[] =
     "      --ignore-missing  neither fail for files that are missing nor report them\n"
     "      --quiet           don't print OK for each file that has its hash\n"
     "      --status          print no results: the exit status has them\n"
-    "      --strict          fail also if there are lines of another form\n\n"
-    "A line has 16 hexadecimal digits, two spaces and a name. If it begins with a\n"
-    "backslash, the name has \\\\, \\n and \\r for backslash, newline and carriage return.\n\n"
-    "This lists a folder: find FOLDER -type f -print0 | xargs -0r komihashsum > LIST\n\n"
-    "As in sha256sum, the second space is an asterisk with -b or --binary, and a space\n"
-    "with -t or --text. The options --tag, --warn and --zero are missing.\n\n"
-    "The exit status is 0 if all went well, 1 if a file can't be read or doesn't have\n"
-    "its hash, or the output can't be written, and 2 if the arguments are wrong.\n";
+    "      --strict          fail also if there are lines of another form\n"
+    "  -w, --warn            name each line of another form\n\n"
+    "A line has 16 hexadecimal digits, two spaces and a name. With --tag, it is\n"
+    "KOMIHASH5 (NAME) = DIGITS, with KOMIHASH5-SEED for a seed that isn't 0, which has\n"
+    "hexadecimal digits. If a line begins with a backslash, the name has \\\\, \\n and \\r\n"
+    "for backslash, newline and carriage return. As in sha256sum, the second space is\n"
+    "an asterisk with -b or --binary, and a space with -t or --text.\n";
 
-static int version = 5, check, ignore_missing, progress, quiet, status_only, strict;
+/* What is told of a check: the last of these options counts. */
+enum { ALL, QUIET, STATUS, WARN };
+static int version = 5, check, ignore_missing, progress, strict, tag, told;
 static uint64_t seed;
-static char mark = ' '; /* which stands before a name */
+static char mark, line_end = '\n'; /* what stands before a name, if asked for, and after a line */
 static unsigned char bytes[131072];
 static const struct option OPTIONS[] = {
     {"binary", no_argument, NULL, 'b'},
@@ -51,23 +54,55 @@ static const struct option OPTIONS[] = {
     {"help", no_argument, NULL, 'h'},
     {"ignore-missing", no_argument, &ignore_missing, 1},
     {"progress", no_argument, &progress, 1},
-    {"quiet", no_argument, &quiet, 1},
+    {"quiet", no_argument, &told, QUIET},
     {"seed", required_argument, NULL, 's'},
-    {"status", no_argument, &status_only, 1},
+    {"status", no_argument, &told, STATUS},
     {"strict", no_argument, &strict, 1},
+    {"tag", no_argument, &tag, 1},
     {"text", no_argument, NULL, 't'},
     {"version", no_argument, NULL, 'v'},
+    {"warn", no_argument, &told, WARN},
+    {"zero", no_argument, NULL, 'z'},
     {0},
 };
 
-/* Prints to standard error at most so many bytes of a name, with control characters escaped, and
- * a problem, where the format has them. */
+static bool is_control(char byte) { return (byte & ~31) == 0 || byte == 127; }
+
+/* Returns a name, quoted as coreutils does where a shell would need it, in new memory if there is
+ * some. */
+static char *quote(const char *name) {
+    char *const text = malloc(10 * strlen(name) + 3), *end = text;
+    bool needs_single = strpbrk(name, "!\"$&()*;<=>?[\\^`|"), is_open = false;
+    for (const char *at = name; *at; at++)
+        needs_single = needs_single || is_control(*at);
+    const bool is_plain = *name && !needs_single && !strpbrk(name, " ':") &&
+        !strchr("#~", *name) && (name[1] || !strchr("{}", *name));
+    const bool has_double = !needs_single && strchr(name, '\'');
+    if (text && (is_plain || has_double))
+        sprintf(text, is_plain ? "%s" : "\"%s\"", name);
+    if (!text || is_plain || has_double)
+        return text;
+    for (*end++ = '\''; *name; is_open = is_control(*name++)) {
+        if (*name == '\'')
+            end += sprintf(end, "'\\'");
+        else if (is_open != is_control(*name))
+            end += sprintf(end, is_open ? "''" : "'$'");
+        if (!is_control(*name))
+            *end++ = *name;
+        else if (*name >= '\a' && *name <= '\r')
+            end += sprintf(end, "\\%c", "abtnvfr"[*name - '\a']);
+        else
+            end += sprintf(end, "\\%03o", *name);
+    }
+    strcpy(end, "'");
+    return text;
+}
+
+/* Prints at most so many bytes of a name and a problem to standard error. */
 static void show(const char *format, int most, const char *name, const char *problem) {
-    char *shown = calloc(strlen(name) + 1, sizeof "$'\\377'"), *end = shown;
-    for (; shown && *name; name++)
-        end += sprintf(end, (*name & ~31) == 0 || *name == 127 ? "$'\\%03o'" : "%c", *name);
-    fprintf(stderr, format, most, shown ? shown : "", problem);
-    free(shown);
+    char *text = quote(name);
+    fprintf(stderr, format, most, text ? text : "", problem);
+    free(text);
 }
 
 /* Reports a problem with a file, and returns false. */
@@ -78,7 +113,7 @@ static bool fail(const char *name, const char *problem) {
 
 /* Reports what the system refused, and ends the program. */
 static void stop(const char *what) {
-    fail(what, strerror(errno));
+    fprintf(stderr, "komihashsum: %s: %s\n", what, strerror(errno));
     _exit(1);
 }
 
@@ -141,14 +176,16 @@ static bool print(bool is_escaped, const char *before, const char *name, const c
             putchar('\\');
         putchar(found ? LETTERS[found - SPECIAL] : *name);
     }
-    puts(after);
+    printf("%s%c", after, line_end);
     return flush() == 0;
 }
 
-/* Puts the special characters back, and returns whether the name was well formed. */
-static bool unescape(char *name) {
+/* Puts the special characters back in a name, and returns whether it was well formed. */
+static bool unescape(char *name, const char *last) {
     char *end = name;
-    for (; *name; name++) {
+    if (memchr(name, 0, last - name))
+        return false;
+    for (; name < last; name++) {
         const char *found = *name != '\\' ? name : *++name ? strchr(LETTERS, *name) : NULL;
         if (!found)
             return false;
@@ -161,12 +198,19 @@ static bool unescape(char *name) {
 /* Prints the hash of a file, and returns whether it could be read. */
 static bool print_hash(const char *name) {
     uint64_t hash;
-    char digits[19];
+    char before[32], after[24] = "";
     const int error = hash_file(name, &hash);
     if (error)
         return fail(name, strerror(error));
-    snprintf(digits, sizeof digits, "%016" PRIx64 " %c", hash, mark);
-    return print(strpbrk(name, SPECIAL), digits, name, "");
+    if (tag) {
+        const int end = snprintf(before, sizeof before, "KOMIHASH%d", version);
+        if (seed)
+            snprintf(before + end, sizeof before - end, "-%" PRIx64, seed);
+        strcat(before, " (");
+        snprintf(after, sizeof after, ") = %016" PRIx64, hash);
+    } else
+        snprintf(before, sizeof before, "%016" PRIx64 " %c", hash, mark ? mark : ' ');
+    return print(line_end && strpbrk(name, SPECIAL), before, name, after);
 }
 
 /* Reads a line without its end, which may be that of Windows, and sets its length. Returns NULL
@@ -188,13 +232,43 @@ static char *read_line(FILE *list, size_t *length) {
     return line;
 }
 
-/* Returns the name in a line, and sets `hash`. Returns NULL if the line has another form. */
-static char *parse_line(char *line, uint64_t *hash) {
-    line += strspn(line, " \t");
+#define BLANKS " \t"
+#define DIGITS "0123456789abcdefABCDEF"
+
+/* Returns the name in the rest of a line of --tag, which ends at `last`. Sets the version, the seed
+ * and `hash`. Returns NULL if the line has another form. */
+static char *parse_tag(char *line, char *last, bool is_escaped, uint64_t *hash) {
+    version = *line++ - '0';
+    seed = 0;
+    if (*line == '-') {
+        const size_t count = strspn(++line, DIGITS);
+        if (count < 1 || count > 16)
+            return NULL;
+        seed = strtoull(line, &line, 16);
+    }
+    char *const name = line + (*line == ' ') + 1, *end = last;
+    while (end > line && *end != ')')
+        end--;
+    const char *digits = end + 1 + strspn(end + 1, BLANKS);
+    if (name[-1] != '(' || end < name || (is_escaped && !unescape(name, end)) || *digits++ != '=')
+        return NULL;
+    *end = 0;
+    digits += strspn(digits, BLANKS);
+    *hash = strtoull(digits, NULL, 16);
+    return strspn(digits, DIGITS) == 16 && !digits[16] ? name : NULL;
+}
+
+/* Returns the name in a line that ends at `last`, and sets `hash`, and if the line tells them, the
+ * version and the seed. Returns NULL if the line has another form. */
+static char *parse_line(char *line, char *last, uint64_t *hash) {
+    line += strspn(line, BLANKS);
     const bool is_escaped = *line == '\\';
     line += is_escaped;
-    if (strspn(line, "0123456789abcdefABCDEF") != 16 || line[16] != ' ' ||
-        (line[17] != ' ' && line[17] != '*') || !line[18] || (is_escaped && !unescape(line + 18)))
+    if (strncmp(line, "KOMIHASH4", 9) == 0 || strncmp(line, "KOMIHASH5", 9) == 0)
+        return parse_tag(line + 8, last, is_escaped, hash);
+    if (strspn(line, DIGITS) != 16 || (line[16] != ' ' && line[16] != '\t') ||
+        (line[17] != ' ' && line[17] != '*') || !line[18] ||
+        (is_escaped && !unescape(line + 18, last)))
         return NULL;
     *hash = strtoull(line, NULL, 16);
     return line + 18;
@@ -213,13 +287,19 @@ static int check_file(const char *name, uint64_t wanted) {
     if (error)
         fail(name, strerror(error));
     const int result = error ? UNREADABLE : hash == wanted ? MATCHES : DIFFERS;
-    if (!status_only && !(quiet && result == MATCHES))
+    if (told != STATUS && !(told == QUIET && result == MATCHES))
         print(strchr(name, '\n'), "", name, TEXTS[result]);
     return result;
 }
 
+static void warn_of_line(const char *name, unsigned long number) {
+    char problem[80];
+    snprintf(problem, sizeof problem, "%lu: improperly formatted KOMIHASH checksum line", number);
+    fail(name, problem);
+}
+
 static void warn_of(unsigned long count, const char *one, const char *more, const char *what) {
-    if (count && !status_only)
+    if (count && told != STATUS)
         fprintf(stderr, "komihashsum: WARNING: %lu %s %s\n", count, count > 1 ? more : one, what);
 }
 
@@ -230,7 +310,7 @@ static bool report(const char *name, const unsigned long *counts) {
     warn_of(counts[MALFORMED], "line is", "lines are", "improperly formatted");
     warn_of(counts[UNREADABLE], "listed file", "listed files", "could not be read");
     warn_of(counts[DIFFERS], "computed checksum", "computed checksums", "did NOT match");
-    if (ignore_missing && !counts[MATCHES] && !status_only)
+    if (ignore_missing && !counts[MATCHES] && told != STATUS)
         fail(name, "no file was verified");
     return counts[MATCHES] && !counts[DIFFERS] && !counts[UNREADABLE] &&
         !(strict && counts[MALFORMED]);
@@ -242,21 +322,36 @@ static bool check_list(const char *name) {
     FILE *list = number < 0 ? NULL : number ? fdopen(number, "rb") : stdin;
     if (!list)
         return fail(name, strerror(errno));
-    unsigned long counts[RESULTS] = {0};
+    const int version_given = version;
+    const uint64_t seed_given = seed;
+    unsigned long counts[RESULTS] = {0}, lines = 0;
     size_t length;
-    for (char *line; (line = read_line(list, &length));) {
+    name = number ? name : "standard input";
+    for (char *line; (line = read_line(list, &length)); lines++) {
         uint64_t wanted;
-        const char *file = parse_line(line, &wanted);
+        const char *file = parse_line(line, line + length, &wanted);
         if (file && (number || strcmp(file, "-")))
             counts[check_file(file, wanted)]++;
-        else if (length && *line != '#')
-            counts[MALFORMED]++;
+        else if (length && *line != '#' && counts[MALFORMED]++ + 1 && told == WARN)
+            warn_of_line(name, lines + 1);
+        version = version_given;
+        seed = seed_given;
     }
     const bool failed = ferror(list);
     if (number)
         fclose(list);
-    name = number ? name : "'standard input'";
     return failed ? fail(name, "read error") : report(name, counts);
+}
+
+/* Returns whether the options go together. */
+static bool are_allowed(void) {
+    const char *only = ignore_missing ? "--ignore-missing" : told == QUIET ? "--quiet" :
+        told == STATUS ? "--status" : told == WARN ? "--warn" : strict ? "--strict" : NULL;
+    const char *never = tag ? "--tag" : !line_end ? "--zero" : mark == '*' ? "--binary" :
+        mark ? "--text" : NULL;
+    return check ? !never || fail(never, "this option is not for --check") :
+        only ? fail(only, "this option is only for --check") :
+        !tag || mark != ' ' || fail("--text", "this option is not for --tag");
 }
 
 static bool set_seed(const char *text) {
@@ -271,19 +366,19 @@ static int run(int count, char **arguments) {
     arguments[0] = "komihashsum"; /* which getopt_long prints */
     int option = 0;
     while (option != '?' && option != -1) {
-        switch (option = getopt_long(count, arguments, "4bcs:t", OPTIONS, NULL)) {
+        switch (option = getopt_long(count, arguments, "4bcs:twz", OPTIONS, NULL)) {
         case '4': version = 4; break;
         case 'b': mark = '*'; break;
         case 'c': check = 1; break;
         case 'h': fputs(HELP, stdout); return flush();
         case 't': mark = ' '; break;
         case 'v': puts("komihashsum " KOMIHASH_RATTLE_VERSION); return flush();
+        case 'w': told = WARN; break;
+        case 'z': line_end = 0; break;
         case 's': option = set_seed(optarg) ? 's' : '?';
         }
     }
-    const char *only = ignore_missing ? "--ignore-missing" : quiet ? "--quiet" :
-        status_only ? "--status" : strict ? "--strict" : NULL;
-    if (option == '?' || (!check && only && !fail(only, "this option is only for --check")))
+    if (option == '?' || !are_allowed())
         return fputs("Try 'komihashsum --help' for more information.\n", stderr), 2;
     progress = progress && isatty(2);
     if (optind == count)
