@@ -221,7 +221,7 @@ class Copy(Induction):
         """The arrays, from what was taken on, of which so much may be written."""
         taken = simple(8 * self.units)
         self.content, self.states = content, [[]] * (len(content) // 8 + 1)
-        self.windows(simple(self.base + taken), content, last, self.MORE)
+        self.windows(simple(self.base + taken), content, last, self.PAST_LENGTH)
         self.call.memory.add(Array('out', simple(sym('out') + taken), 0, size, True))
 
     def steps(self, cpu):
@@ -270,7 +270,7 @@ class Copy(Induction):
 
 
 class Pad(Copy):
-    NAME, REFUSED, MORE = '_pad', bv(0), 0
+    NAME, REFUSED, PAST_LENGTH = '_pad', bv(0), 0
 
     def pass_arrays(self):
         self.result = simple(z3.LShR(self.length, 3) + 1)
@@ -296,7 +296,7 @@ class Pad(Copy):
 class Unpad(Copy):
     """The words but the last one are copied, and then some bytes of that. The length counts the
     bytes of those words, so its low bits are 0."""
-    NAME, REFUSED, MORE, FIXED_BITS = '_unpad', NO_MESSAGE, 8, 3
+    NAME, REFUSED, PAST_LENGTH, FIXED_BITS = '_unpad', NO_MESSAGE, 8, 3
 
     def pass_arrays(self, last):
         self.size, ends = simple(self.length + 8), named('end', range(-self.GRAIN - 8, 0))

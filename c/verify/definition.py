@@ -9,7 +9,7 @@ PI = [0x243f6a8885a308d3, 0x13198a2e03707344, 0xa4093822299f31d0, 0x082efa98ec4e
       0x452821e638d01377, 0xbe5466cf34e90c6c, 0xc0ac29b7c97c50dd, 0x3f84d5b5b5470917]
 PLACES = {4: [0, 1, 2, 3, 4, 5, 6, 7], 5: [0, 4, 1, 5, 2, 6, 3, 7]}
 FALSE, TRUE = bv(0, 8), bv(1, 8)
-FIVES, TENS = 0x5555555555555555, 0xaaaaaaaaaaaaaaaa
+EVEN_BITS, ODD_BITS = 0x5555555555555555, 0xaaaaaaaaaaaaaaaa
 
 
 class Products:
@@ -56,7 +56,7 @@ def mix(products, x, y, e):
 
 
 def seed_pair(products, seed):
-    x, y = PI[0] ^ (seed & FIVES), products.symbol(PI[4] ^ (seed & TENS))
+    x, y = PI[0] ^ (seed & EVEN_BITS), products.symbol(PI[4] ^ (seed & ODD_BITS))
     return mix(products, x, y, y)
 
 
@@ -157,5 +157,5 @@ def is_text(version, text):
 def next_pair(products, version, x, y):
     """A step of the generator. The new x is its output."""
     low, high = products.new(x, y)
-    y = simple(y + high + TENS)
-    return simple(low ^ y if version == 4 else (low ^ high) + FIVES), y
+    y = simple(y + high + ODD_BITS)
+    return simple(low ^ y if version == 4 else (low ^ high) + EVEN_BITS), y

@@ -80,8 +80,7 @@ class Invariant:
         return fits
 
     def confirmed(self, arrival):
-        """The forms, of which those that an arrival doesn't have are None, for the words that it
-        has."""
+        """The forms of the words that an arrival has. Those that it doesn't have are None."""
         forms = {word: form for word, form in self.forms.items() if word in arrival.words}
         true = arrival.facts.holding(arrival.path, {
             word: arrival.words[word] == arrival.world.value(form)

@@ -78,8 +78,7 @@ def form_of(places, stable, first, second, word):
 
 
 def witness(found, term, value):
-    """Chooses values for a term's symbols by which it may have a value. Whether it has, is asked
-    when all are chosen."""
+    """Chooses values for a term's symbols by which it may have a value, as is asked later."""
     if z3.is_app_of(term, z3.Z3_OP_CONCAT):
         high = term.size()
         for child in term.children():

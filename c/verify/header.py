@@ -8,7 +8,7 @@ import z3
 from calls import apart
 from definition import padding_byte
 from guesses import witness
-from terms import Facts, Refused, address, bv, const, join, simple, sym
+from terms import Facts, Refused, address, bv, const, join, simple, sym, symbols
 
 HEADER = os.path.join(os.path.dirname(os.path.abspath(__file__)), '..', 'komihash_rattle.h')
 PROTOTYPE = r'(\w+)\s+{}\((.*?)\);'
@@ -67,8 +67,7 @@ def allowed(call):
 
 
 def any_state(call, args):
-    """A stream is in some state, since only `start`, `init` and `resume` make one, and only calls
-    change it."""
+    """A stream is in some state: only `start`, `init` and `resume` make one; calls change it."""
     return [z3.ULT(PENDING, 64), z3.ULE(HAD_BLOCK, 1),
             z3.ULE(TOP_BIT, HAD_BLOCK if call.version == 4 else 0), *call.layout.any_more(args)]
 
@@ -110,6 +109,8 @@ def condition(call, wanted):
     found = {}
     for term, value in pairs:
         witness(found, simple(term), value)
+    if any(one.children() or not symbols(one) or f'{one}'.startswith('any ') for one in found):
+        raise Refused('a witness that is no symbol of the case')
     holds = z3.And(*call.facts.list[call.first_fact:], *(term == value for term, value in pairs))
     return simple(z3.substitute(holds, *found.items()))
 

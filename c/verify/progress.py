@@ -34,10 +34,9 @@ class Progress:
             elif len(self.done[name]) < count:
                 print(f'{name:36} {len(self.done[name]):>6} of {count}, and no more')
             else:
-                said = row_of(name)
+                said, depth = row_of(name), max(done.depth for done in self.done[name])
                 print(row(name, count, said.multiplications,
-                          'contents' if said.by_contents else 'lengths',
-                          max(d.depth for d in self.done[name]),
+                          'contents' if said.by_contents else 'lengths', depth,
                           f'{self.total("seconds", name):.0f}'))
         print(f'{self.total("asked")} questions to Z3{second.NAME and f" and {second.NAME}"}; '
               f'{time.time() - self.begin:.0f} seconds, {self.jobs} processes')

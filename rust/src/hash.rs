@@ -1,7 +1,7 @@
 // Made by rust/erase.py of crates/komihash/src, where changes belong.
 //! The hash of a whole message, which is read without a copy.
 //!
-//! Each range of lengths has a function of its own, so that messages take few jumps.
+//! Each range of lengths, but for none, has a function of its own, so that messages take few jumps.
 
 use crate::padding::{final_word_of_many, padding_byte};
 use crate::rounds::words::{hash_from_pair, last_whole_word};

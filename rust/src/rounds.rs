@@ -100,7 +100,8 @@ pub(crate) fn places<const V: u8>() -> [usize; 8] {
     if V == 4 { [0, 1, 2, 3, 4, 5, 6, 7] } else { [0, 4, 1, 5, 2, 6, 3, 7] }
 }
 
-/// Absorbs a block of eight words, multiplied as the table `places` says.
+/// Absorbs a block of eight words, multiplied as the table `places` says, so that one proof is for
+/// both versions.
 #[inline(always)]
 pub(crate) fn block_round(lanes: &mut Lanes, words: &[u64; 8], places: [usize; 8]) {
     let (Pair(low4, e4), Pair(low1, e1)) = (lanes.fourth, lanes.first);
@@ -153,6 +154,7 @@ pub(crate) fn absorb_one_block<'a, const V: u8>(lanes: &mut Lanes, bytes: &'a [u
 #[inline(always)]
 pub(crate) fn absorb_blocks<'a, const V: u8>(lanes: &mut Lanes, bytes: &'a [u8]) -> &'a [u8] {
     let mut rest = bytes;
+    // Two blocks per turn take fewer instructions than one.
     if rest.len() / 64 % 2 == 1 {
         rest = absorb_block::<V>(lanes, rest);
     }

@@ -46,7 +46,7 @@ hash_from_lanes-after_block v s (w0 ∷ w1 ∷ w2 ∷ w3 ∷ w4 ∷ w5 ∷ w6 �
     grind (arith, drops, more)
 hash_from_lanes-after_block v s ws last = refl
 
--- with eight words or more one is
+-- eight words or more and the final word make a block, so it is the same if there was one before
 hash_from_lanes-first_block : (v : ℕ) (s : Lanes) (ws : List ℕ) (last : ℕ) → 8 ≤ length ws
     → hash_from_lanes v s false (ws ++ last ∷ []) ≡ hash_from_lanes v s true (ws ++ last ∷ [])
 hash_from_lanes-first_block v s (w0 ∷ w1 ∷ w2 ∷ w3 ∷ w4 ∷ w5 ∷ w6 ∷ w7 ∷ []) last le = refl
@@ -62,6 +62,7 @@ module _ (v seed : ℕ) (m : List ℕ) where
   abbrev last : ℕ
   last = final_word m (padding_byte v m)
 
+  -- the hash of fewer than 64 bytes, which have no block
   pub komi-few : length m < 64
       → komi v seed m
       ≡ hash_from_pair pair (whole_words m ++ final_word m (padding_or_zero v m) ∷ [])
@@ -71,10 +72,12 @@ module _ (v seed : ℕ) (m : List ℕ) where
       (hash_from_lanes-without_block v (lanes pair) (whole_words m) _
       (omega (arith, length-whole_words m)))
 
+  -- the same, if there is a byte, and so a padding byte
   pub komi-short : 1 ≤ length m → length m < 64
       → komi v seed m ≡ hash_from_pair pair (whole_words m ++ last ∷ [])
   komi-short some lt = grind (arith, komi-few)
 
+  -- the hash of 64 bytes or more: whole blocks first, and then the bytes after them
   pub komi-long : 64 ≤ length m
       → komi v seed m ≡ hash_from_pair (join true (block_lanes v (lanes pair) (whole_words m)))
       (whole_words (after_blocks m) ++ last ∷ [])

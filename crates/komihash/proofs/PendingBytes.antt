@@ -23,8 +23,8 @@ use Rattle.komihash.proofs.WordOf.{word_of-join}
 -- A word is put at index i, after which those from `next` on are missing. It is the word that
 -- belongs there, unless it is one of these.
 pub StoresBut-put : {ws zs : List ℕ} {gap gap_end : ℕ} → StoresBut ws zs gap gap_end
-    → (i next word : ℕ) → (i ≤ gap) × (next ≤ i + 1) → ((next ≤ i → gap_end ≤ i) → word ≡ stored_word zs i)
-    → StoresBut (set ws i word) zs next gap_end
+    → (i next word : ℕ) → (i ≤ gap) × (next ≤ i + 1)
+    → ((next ≤ i → gap_end ≤ i) → word ≡ stored_word zs i) → StoresBut (set ws i word) zs next gap_end
 StoresBut-put but i next word within is = grind (arith, elements)
 
 -- none is missing

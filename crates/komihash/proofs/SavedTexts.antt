@@ -129,7 +129,7 @@ module _ (v : ℕ) (bytes : List ℕ) (are : AreBytes bytes) (laid : IsLaidOut v
       let size = length-drop pending_at bytes in
       grind (arith, words, pending, lanes-back, size)
 
--- and the text of a state is laid out so
+-- the text of a state is laid out as `IsLaidOut` says
 text-laid_out : (v : ℕ) (s : State) → IsState v s → IsLaidOut v (text v s)
 unfolding text
 text-laid_out v s is = grind (arith)
@@ -159,4 +159,4 @@ unfolding IsTextAfter
 text-after v seed s m bytes is after same = search arith
 
 -- what the proof of `store` needs
-pub ruleset stored = (length-text, text-after, text-same_version, text-same_state)
+pub ruleset store_laws = (length-text, text-after, text-same_version, text-same_state)

@@ -116,24 +116,25 @@ pub answer-by_pair : (v : ℕ) (s : State)
 unfolding answer
 answer-by_pair v s = grind (arith, tail_of-words)
 
--- what ends the tail, with pending bytes
+-- with pending bytes, their padding byte ends the tail
 pub tail_end-pending : (v : ℕ) (m : List ℕ) (had_block top_bit : Bool) → 0 < length m
     → tail_end v m had_block top_bit ≡ padding_byte v m
 tail_end-pending v m had_block top_bit some = grind arith
 
--- an answer with nothing pending
+-- an answer with nothing pending is the closing of one word
 pub answer-none : (v : ℕ) (s : State) → s.pending ≡ []
     → answer v s ≡ closing (join s.had_block s.lanes) (tail_end v [] s.had_block s.top_bit ∷ [])
 unfolding answer
 answer-none v s none = rw none
 
--- with those that are left after n bytes, the last of which ends a block
+-- the tail of the bytes after the first n, where byte n ends a block, ends with the padding byte of
+-- all of them
 tail_end-drop : (v n : ℕ) (m : List ℕ) → 0 < n → n ≤ length m
     → tail_end v (drop n m) true (pads_with_two v (slice_index m (n - 1))) ≡ padding_byte v m
 tail_end-drop v n m some le =
     grind (arith, length-drop, tail_end-pending, get_or-drop)
 
--- with those of a stream that has had no block
+-- the tail of a stream that has had no block ends with the padding byte of its message, or 0
 tail_end-start : (v : ℕ) (m : List ℕ) → tail_end v m false false ≡ padding_or_zero v m
 tail_end-start v m = grind arith
 

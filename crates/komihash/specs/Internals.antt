@@ -1,6 +1,7 @@
 -- How the code reads and stores what the other definitions speak of. An auditor may skip this file:
--- no public contract cites it. Private contracts do, and lemmas prove that both say the same. Only
--- what contracts see of a stream rests on `pending_bytes`, and no answer and no text does.
+-- no public contract cites it. Private contracts do, and lemmas prove that both say the same. What
+-- contracts see of a stream is a view by `pending_bytes`. A wrong view could let no wrong answer or
+-- text pass, because contracts say by the definitions which numbers and bytes these are.
 use Rattle.std.specs.Prelude.{ℕ, zero, suc, Bool, ◌≡◌, ◌-◌, ◌*◌, ◌/◌, ◌%◌, ◌^◌, ◌<◌, ◌≤◌, bit_xor}
 use Rattle.std.specs.Int.{from_le_bytes, w64}
 use Rattle.std.specs.Int.Bits.{xor_assoc, xor_self, xor_zero_l}

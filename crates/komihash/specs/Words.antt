@@ -1,5 +1,5 @@
 -- Bytes and words. A byte is a number below 2 ^ 8, a word a number below 2 ^ 64, and a message is a
--- list of bytes.
+-- list of bytes. Past the end of a list, `slice_index` gives 0.
 use Rattle.std.specs.Int.{to_le_bytes, w64}
 use Rattle.std.specs.List.{flat_map}
 use Rattle.std.specs.Simd.Lanes.{Each1}
@@ -9,7 +9,8 @@ use Rattle.std.specs.Prelude.{ℕ, ◌+◌, ◌*◌, ◌^◌, ◌<◌, List, [],
 abbrev pub AreBytes : List ℕ → Type 0
 AreBytes xs = (k : ℕ) → slice_index xs k < 256
 
--- each number of a list is a word: `Each1` says it of one after the other, which suits lanes
+-- each number of a list is a word. `Each1` states it of the first, the second and so on, so that
+-- proofs get eight facts of eight lanes
 abbrev pub AreWords : List ℕ → Type 0
 AreWords ws = Each1 (λ w. w < 2 ^ 64) ws
 

@@ -1,6 +1,6 @@
 //! The hash of a whole message, which is read without a copy.
 //!
-//! Each range of lengths has a function of its own, so that messages take few jumps.
+//! Each range of lengths, but for none, has a function of its own, so that messages take few jumps.
 
 #![tactic(auto, using(crate::proofs::HashPaths::hash_laws))]
 

@@ -15,9 +15,8 @@
 // `rust/erase.py` makes the crate for Rust of the other files. In them,
 // - `Rattle alone.` begins what Rust lacks, up to an empty line;
 // - `Rust instead:` says what Rust has in place of the next line, perhaps nothing;
-// - for Rust alone are examples, which pass no tally, `# Panics`, `#[track_caller]`, where a
-//   function leaves the test of a length to one that it calls, and what is said of `Debug`,
-//   `version` and clippy.
+// - the examples, `# Panics`, and what is said of `Debug`, `version` and clippy are for Rust alone;
+// - `#[track_caller]` is too: such a function leaves the test of a length to one that it calls.
 
 #![tactic(auto)]
 

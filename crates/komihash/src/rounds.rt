@@ -169,7 +169,8 @@ pub(crate) fn places<const V: u8>() -> [usize; 8]
     }
 }
 
-/// Absorbs a block of eight words, multiplied as the table `places` says.
+/// Absorbs a block of eight words, multiplied as the table `places` says, so that one proof is for
+/// both versions.
 #[inline(always)]
 #[tactic(auto, unfolding(crate::specs::Rounds::block_round_by), using(crate::proofs::Xor::reorder))]
 pub(crate) fn block_round(
@@ -266,6 +267,7 @@ pub(crate) fn absorb_blocks<'a, const V: u8>(
     ensures costs { Costs tally (4 * (length bytes.now / 64)) 0 }
 {
     let mut rest = bytes;
+    // Two blocks per turn take fewer instructions than one.
     if rest.len() / 64 % 2 == 1 {
         rest = absorb_block::<V>(lanes, rest, tally);
     }

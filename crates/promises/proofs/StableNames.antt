@@ -104,7 +104,7 @@ of_calls_costs =
 of_counts : (ℕ → ℕ) × (ℕ → ℕ) × (ℕ → ℕ → ℕ) × (ℕ → ℕ → ℕ)
 of_counts = (hash_products, answer_products, absorb_products, absorb_kept_bytes)
 
--- ---- records, by each of their fields
+-- ---- records, by each of their fields, but for those of `Absorbed` that only the search needs
 
 lanes_record : Lanes → List ℕ
 lanes_record s = s.s1 ∷ s.s2 ∷ s.s3 ∷ s.s4 ∷ s.s5 ∷ s.s6 ∷ s.s7 ∷ s.s8 ∷ []

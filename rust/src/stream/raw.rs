@@ -58,7 +58,7 @@ impl RawStream {
     fn complete_blocks<const V: u8>(&mut self, bytes: &[u8]) {
         let pending_len = self.pending.len();
         let blocks_end = bytes.len() - (pending_len + bytes.len()) % 64;
-        // Version 5 reads no byte for it.
+        // The first test keeps version 5 from computing an index and reading a byte.
         self.top_bit = has_two::<V>() && pads_with_two::<V>(bytes[blocks_end - 1]);
         self.had_block = true;
         let mut lanes;

@@ -101,7 +101,7 @@ impl RawStream {
     {
         let pending_len = self.pending.len();
         let blocks_end = bytes.len() - (pending_len + bytes.len()) % 64;
-        // Version 5 reads no byte for it.
+        // The first test keeps version 5 from computing an index and reading a byte.
         self.top_bit = has_two::<V>() && pads_with_two::<V>(bytes[blocks_end - 1]);
         self.had_block = true;
         let mut lanes;
@@ -151,7 +151,7 @@ impl RawStream {
     /// Writes the saved text to the front of `out`, which needs room for `LONGEST_TEXT` bytes, and
     /// returns its length. The rest of `out` is unchanged.
     #[inline(always)]
-    #[tactic(auto, unfolding(crate::specs::Saved::text), using(crate::proofs::SavedTexts::stored))]
+    #[tactic(auto, unfolding(crate::specs::Saved::text), using(crate::proofs::SavedTexts::store_laws))]
     // Rust instead: pub(crate) fn store<const V: u8>(&self, out: &mut [u8]) -> usize
     pub fn store<const V: u8>(&self, out: &mut [u8]) -> usize
     where

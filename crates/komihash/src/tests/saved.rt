@@ -189,7 +189,7 @@ fn start_costs(rt: &impl Abort, tally: &mut Tally)
 }
 
 // Resumes a stream from a text that has no pending bytes.
-#[tactic(auto, using(crate::proofs::SavedTexts::stored))]
+#[tactic(auto, using(crate::proofs::SavedTexts::store_laws))]
 fn restore_none_pending<S: KomiStream>(rt: &impl Abort, text: &[u8; 68]) -> S
     ensures { length (S.state result).pending ≡ 0 }
 {
