@@ -87,12 +87,14 @@ def beginning(library, case):
 
 
 def has_any_contents(call):
-    """Whether each lane and byte that a case passes is a symbol of its own, but in `unpad`."""
+    """Whether each lane and byte that a case passes is a symbol of its own, but in the last word
+    of `unpad`."""
     parts = [*(call.state.lanes + call.state.pending if call.state else ()), *(
         term for (name, _), (term, k, _) in call.memory.data.items()
         if k == 0 and name not in ('stream', 'stack', 'shadow'))]
-    free = {part.get_id() for part in parts if z3.is_const(part) and const(part) is None}
-    return call.last_bytes or len(free) == len(parts)
+    free = [part.get_id() for part in parts if z3.is_const(part) and const(part) is None]
+    fixed = 8 if call.last_bytes else 0
+    return len({*free}) == len(free) >= len(parts) - fixed
 
 
 def condition(call, wanted):

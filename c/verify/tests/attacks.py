@@ -22,8 +22,7 @@ NAMED, INFO, OTHER, SECTION, VALUE, EXTENT = (0, 4), (4, 1), (5, 1), (6, 2), (8,
 SYMBOLS = {INFO: [k for k in range(256) if (k & 15 == 2) != (k >> 4 in (1, 2))],
            OTHER: (1, 2, 4, 8, 16, 32, 64, 128), SECTION: (0, 0xff00, 0xfff1, 0xfff2, 0xffff),
            VALUE: (0, 2**40)}
-# Entries of the dynamic table by which loaders do more, and one that they skip, as they do SONAME;
-# and of flags, the bits by which they do more.
+# Entries of the dynamic table, and bits of its flags, by which loaders do more, and one they skip.
 TAGS, BIND_NOW = {*range(1, 39), *range(0x6ffffff0, 0x70000008), 0x7ffffffd, 0x7fffffff} - {
     4, 5, 6, 10, 11, 14, 16, 24, 30, elf.FLAGS_1, 0x70000001}, 24
 BITS = {elf.FLAGS: (0, 2, 4), elf.FLAGS_1: (1, 2, *range(4, 28))}
@@ -75,9 +74,9 @@ class Edit:
         self.bytes_at(self.place + at, code[:4] + bytes.fromhex(text) + code[4:])
         self.symbol(VALUE, self.place + at)
 
-    def note(self, into, kind, *notes):
+    def note(self, into, kind, *notes, first=b''):
         """Puts notes, each with properties of these values, into one segment, and no other."""
-        packed = b''.join(struct.pack('<III4s', 4, 16 * len(one), 5, b'GNU\0') + b''.join(
+        packed = first + b''.join(struct.pack('<III4s', 4, 16 * len(one), 5, b'GNU\0') + b''.join(
             struct.pack('<IIII', kind, 4, value, 0) for value in one) for one in notes)
         self.bytes_at(self.elf.of_type(elf.PROPERTY)[0].start, packed)
         for other in ((elf.PROPERTY, 0), (NOTES, 0), (NOTES, 1)):
@@ -98,6 +97,8 @@ def of_header_and_marks(e):
         *((f'marks {notes}, and a function without', 'has none',
            lambda notes=notes: (e.note(elf.PROPERTY, kind, *notes), e.bytes_at(*nothing)))
           for notes in ([[1]], [[0, 1]], [[0], [1]])),
+        ('marks after a short note', 'has none', lambda: (e.bytes_at(*nothing), e.note(
+            elf.PROPERTY, kind, [1], first=struct.pack('<III4s8x', 4, 4, 1, b'XXX')))),
         ('marks of an unknown kind', 'unknown: 0xc0', e.note, elf.PROPERTY, kind, [64]),
         ('an unknown property', 'unknown: 0xc0008002', e.note, NOTES, 0xc0008002, [8]),
         ('a note of another kind', 'of GNU of type 1', e.bytes_at, of_notes + 8, b'\1')]
@@ -114,6 +115,7 @@ def of_segments(e):
          (START, code.start + code.size - 1 & -code.align | after.offset % code.align)),
         ('an empty part', 'a part is empty', NOTES, 0, (KIND, LOAD), *nothing),
         ('smaller pages', 'not aligned', LOAD, 0, (ALIGN, small)),
+        ('notes elsewhere in the file', 'elsewhere in', NOTES, 0, (OFFSET, code.offset)),
         ('another place in a page', 'not aligned', LOAD, -1, (OFFSET, last.offset - 16)),
         ('pages of another size', 'not aligned', LOAD, 0, (ALIGN, code.align * 5 // 4)),
         ('memory without end', 'more than 67108864', LOAD, -1, (SIZE, 2**46)),
@@ -185,7 +187,7 @@ def of_names(e):
 
 
 TOLD = {**dict.fromkeys(('another function', 'a byte below the stack'), '4 passed, 1 failed\n1'),
-        'a jump of 16 bits': 'processes\n2', 'a name of no function': '58 val..is cut..also exports'}
+        'a jump of 16 bits': 'processes\n2', 'a name of no function': '58 val..is cut..also exp'}
 
 
 def changes(e):
@@ -221,7 +223,8 @@ def count(found):
     """Prints rows, and whether each part of a reason was found: `..` parts them, `/` choices."""
     passed = failed = 0
     for name, reason, why in found:
-        fits = all(any(one in f'{why}' for one in part.split('/')) for part in reason.split('..'))
+        fits = why is None if reason == 'None' else all(
+            any(one in f'{why}' for one in part.split('/')) for part in reason.split('..'))
         passed, failed = passed + fits, failed + (not fits)
         print(f'{"ok" if fits else "FAILED"}: {name}: {why}', flush=True)
     print(f'{passed} passed, {failed} failed')

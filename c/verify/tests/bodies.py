@@ -28,14 +28,16 @@ X86 = '''
 ''', '''
 a changed return address||not the caller|call 1f; nop; jmp body; 1: inc qword ptr [rsp]; ret
 a call of the next||no meaning|xor eax, eax; call 1f; 1: inc eax; cmp eax, 2; jae 1f; ret; 1:
-a frame aligned to more than 16 bytes||4 ways|mov rax, rsp; and rsp, -64; mov rsp, rax
+flags of a shift|v5_save|save(5,)..flag z is read|mov rcx, rdx; cmp rax, rax; shl r8, cl; jne 1f; 1:
 the red zone|||red zone; mov [rsp - 128], rdi; mov rdi, [rsp - 128]
 below the red zone||below the stack pointer|red zone; mov [rsp - 129], al
 a red zone moved||not written|red zone; mov [rsp - 121], al; pop rax; push rax; mov al, [rsp - 121]
 more than the stack||out of the stack|sub rsp, 4097; add rsp, 4097
-a small step above the call||out of the stack|pop rax; inc rsp; dec rsp; push rax
 a return address that a loop loses|v5_pad|Pad..not written|pad "add rsp, 8", "", "sub rsp, 8"
 rbx after a turn|v5_pad|Pad..rbx of the caller|pad "", "cmp r9, 400; jne .Lturn; bts rbx, 63", ""
+rbx if refused|v5_pad|Pad..rbx of the caller|test rcx, rcx; jne body; bts rbx, 63; xor eax, eax; ret
+an old generator|v5_rand_fill|Fill..does not have|push rbp; mov rbp, [rdi]; call body; pop rbp; ret;
+    turn: cmp r14, 500; jne 1f; mov rcx, rbp; 1:
 a word that a loop loses|v5_pad|Pad..not written|
     pad "sub rsp, 8; cmp rsi, 5000; jb 1f; mov [rsp], rsi; 1:", "", "mov r11, [rsp]; add rsp, 8"
 a stack that is lower at the end||not where the caller left it|push [rsp]
@@ -71,7 +73,6 @@ a hash that is not finished|v5|Hash(4,)..before the end|cmp rsi, 300; jne body; 
 a write of nothing|v5_write|Write(13,)..before the end|cmp rdx, 300; jne body; xor eax, eax;
     mov [rdi], rax; mov [rdi + 8], rax; mov [rdi + 64], rax; mov byte ptr [rdi + 136], 1; ret
 a refusal|v5_pad|Pad..before the end|cmp rsi, 304; jne body; cmp rcx, 39; jb body; xor eax, eax; ret
-a multiplication more||the definition does not have|mov rax, rdi; mul rdi
 one wrong in a high bit||does not have|mov rax, [rdi]; bts rax, 63; mov [rdi], rax
 one made twice||has made already|mov rax, [rdi]; mul qword ptr [rdi + 8]
 a loop|v5_pad|Pad..|pad "", "", ""
@@ -80,8 +81,8 @@ one that leaves its loop there|v5_pad|Pad..the rest|pad "", "cmp r9, 400; je .Lr
 a loop begun late|v5_pad|Pad..in no array|pad "cmp rsi, 304; mov r9d, 1; je .Lturn", "", ""
 a loop that may run over the end|v5_pad|Pad..in no array|pad "cmp r8, 16; jb 1f; xor r9d, r9d;
     word; 2: word; word; cmp r9, r8; jne 2b; jmp .Lrest; 1:", "", ""
-a word of 300 bytes|v5_pad|Pad..bytes: found|
-    pad "", "cmp rsi, 300; jne .Lturn; not qword ptr [rdx + 8*r9 - 8]", ""
+a word of 200 bytes|v5_pad|Pad..bytes: found|
+    pad "", "cmp rsi, 200; jne .Lturn; rol qword ptr [rdx + 8*r9 - 8], 8", ""
 a turn of nothing|v5_pad|Pad..takes nothing|pad "xor r9d, r9d; jmp 1f", "1: cmp r9, 400; je 1b", ""
 two registers that turns change|v5_pad|Pad..many values|
     pad "", "mov rax, r10; not rax", "xor r10, rax; add r8, r10"
@@ -95,23 +96,19 @@ a hash of 150 bytes|v5|Hash(6,)..does not have|
     push rsi; call body; pop rsi; ret; next: cmp qword ptr [rsp + 64], 150; jne 1f; not rbx; 1:
 a jump by the seed|v5|Hash(0,)..depends on seed|cmp rdx, 5; jb 1f; 1:
 a jump by the top bit|v4_save|save(5,)..depends on top bit|cmp byte ptr [rdi + 137], 1; jb 1f; 1:
-a jump after a long write|v5_write|Write(13,)..depends on|after "cmp byte ptr [rdi], 1; je 1f"
 one of an address|v5_save|save(5,)..depends|mov al, [rdi + 72]; and eax, 1; mov al, [rdi + rax]
 a jump by where the library is||2 ways|lea rax, [rip + __ehdr_start]; test eax, 4096; jne 1f; 1:
-a carry that is not there|v5_save|calls that must be refused|
-    cmp rsp, 4096; jb 1f; mov r8, rsp; mov rcx, rdx; and ecx, 64; neg rcx; sub rcx, 64; xor eax,
-    eax; adc rsp, rcx; mov r9, rsp; mov rsp, r8; sub r9, r8; sub r9, rcx; jne 1f; mov qword ptr
-    [rsi], 0; mov eax, 77; ret; 1:
 '''
 ARM = '', '''
 a frame not aligned||not aligned to 16|sub sp, sp, 8; str x0, [sp]; add sp, sp, 8
 a store of the register that it moves||no meaning|mov x9, sp; .inst 0xf8008529
-a jump to no fixed place||not known|br x1
 a hint that changes x30||not known|hint 25
 another one||not known|hint 7
 a word below the stack||below the stack pointer|red zone; stur w0, [sp, -4]
 a small step above the call||out of the stack|add sp, sp, 16; sub sp, sp, 16
 a byte above the call||in no array|strb w0, [sp]
+a number that splits|v5_save|save(5,)..must be refused|and x10, x2, 8; add x9, x0, x10; ldr x11,
+    [x9], 8; sub x9, x9, x10; sub x9, x9, x0; cmp x9, 16; b.eq body; mov x0, 77; ret
 a jump by a register of the caller|v5_save|save(5,)..depends on x9|cbz x9, 1f; nop; 1:
 a product|v5_rand_fill|Fill..products|cmp x2, 200; b.ne body; ldp x9, x10, [x0]; mul x9, x9, x10
 a stack that is lower at the end||sp is lost|sub sp, sp, 16
@@ -166,6 +163,8 @@ v5_rand_fill|Fill|s1: cmp rdx, 256; jne 1f; mov [rdi], dl|s1: cmp rdx, 383; jne 
 v5_pad|pad(9,)|bytes: test al, al; je 1f; rol qword ptr [rdx], 8
 v5_pad|Pad|length: cmp rsi, 256; jne 1f; neg rax|length: cmp rsi, 383; jne 1f; neg rax|
     bytes: test rax, rax; je 1f; cmp rsi, 304; jne 1f; not byte ptr [rdx + 304]
+v5_unpad|unpad(4, (7, 1))|bytes: cmp rax, 31; jne 1f; mov r8, [rdx]; mov r9, [rdx + 16];
+    mov [rdx], r9; mov [rdx + 16], r8
 v5_unpad|Unpad(None,)|length: cmp rsi, 40; jne 1f; inc rax
 v5_unpad|Unpad((7, 1),)|length: cmp rsi, 33; jne 1f; or al, 128|
     length: cmp rsi, 48; jne 1f; or al, 128

@@ -4,6 +4,7 @@ import sys
 from unittest import mock
 from attacks import cases, count, is_wanted, refusal
 import any_length
+import report
 import streams
 import vectors
 import z3
@@ -45,19 +46,14 @@ def without(suffix, left_out, begin=Call.begin):
     return Call, 'begin', begin_some
 
 
-def with_more(module, name, size=None):
-    """A function that multiplies once more than that of the definition, for one size or any."""
-    def more(products, *given, do=getattr(module, name)):
-        found = do(products, *given)
-        if size is None or size == len(given[2]):
-            products.new(bv(2), bv(3))
-        return found
-    return module, name, more
+def with_more(module, name):
+    """A function that multiplies once more than that of the definition."""
+    return module, name, lambda products, *given, do=getattr(module, name): (
+        products.new(bv(2), bv(3)), do(products, *given))[1]
 
 
 def changes(content):
-    """Each change: a name, the reason for which it is refused, a name that has another value, and
-    what finds that then."""
+    """Each change: a name, a reason, a name that has another value, and what finds that then."""
     def judge(suffix, among):
         return lambda: refusal(content, 'x86-64', f'komihash_v4{suffix}', among=among)
 
@@ -76,7 +72,11 @@ def changes(content):
          with_products('_rand_fill', '(n+7)//8 + n//255'), judge('_rand_fill', 'Fill')),
         *((f'one more by {name}', 'products, and not the', with_more(any_length, name),
            judge('', 'Hash(0,)')) for name in ('block_round', 'hash_from_pair')),
-        ('one more by streams', 'for 120', with_more(streams, 'hash_from_lanes', 16), definition),
+        ('one more by streams', 'for 64', with_more(streams, 'hash_from_lanes'), definition),
+        ('a witness of what is asked', 'is no symbol', (cases.header, 'witness', lambda found, term,
+            value: found.update({value: term})), judge('_rand_next', 'all calls')),
+        ('a name that is not ours', 'also exports', (report, 'NAMES', cases.NAMES[1:]),
+         lambda: report.names_there(cases.LIBRARY.image, cases.NAMES, False)),
         ('another hash of streams', 'for 0 bytes',
          (streams, 'komi', lambda *given, do=streams.komi: do(*given) + 1), definition),
         ('the definition', 'None', (), definition),

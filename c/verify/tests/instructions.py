@@ -1,8 +1,7 @@
 """Compares single instructions with the processor: random encodings that opcodes.py allows are run
 in the model and really, and must leave the same registers, flags and memory, and go on at the same
 address. Each instruction that has a meaning must be compared, each conditional jump both ways. With
-ROW in the environment, only those of this mnemonic are: instructions.py LEVEL COMPILER [EMULATOR],
-where the level is x86-64-v3 or armv8-a."""
+ROW in the environment, only those of this name are: instructions.py LEVEL COMPILER [EMULATOR]."""
 import collections
 import os
 import random
@@ -42,7 +41,6 @@ PROGRAM = '''
 #include <string.h>
 #include <sys/mman.h>
 static char *const image = (char *)BASE, *const code = (char *)START, stack[1 << 16];
-
 static void next(int number, siginfo_t *info, void *of) {
     mcontext_t *context = &((ucontext_t *)of)->uc_mcontext;
 #ifdef __x86_64__
@@ -64,14 +62,12 @@ static void next(int number, siginfo_t *info, void *of) {
     memcpy(code, image + CODE, SIZE - CODE);
     __builtin___clear_cache(code, code + SIZE - CODE);
 }
-
 int main(void) {
     int signals[] = {SIGILL, SIGSEGV, SIGBUS}, flags = MAP_PRIVATE | MAP_ANONYMOUS | MAP_FIXED;
     struct sigaction action = {.sa_sigaction = next, .sa_flags = SA_SIGINFO | SA_ONSTACK};
     sigaltstack(&(stack_t){.ss_sp = stack, .ss_size = sizeof stack}, NULL);
     for (int k = 0; k < 3; k++) sigaction(signals[k], &action, NULL);
-    setbuf(stdout, NULL);
-    mmap(image, 4096, PROT_READ | PROT_WRITE, flags, -1, 0);
+    setbuf(stdout, NULL), mmap(image, 4096, PROT_READ | PROT_WRITE, flags, -1, 0);
     mmap(code - 2048, 4096, PROT_READ | PROT_WRITE | PROT_EXEC, flags, -1, 0);
     memset(code - 2048, STOP, 4096), raise(SIGILL);
 }
@@ -105,6 +101,8 @@ def x86_code(r, encoding, _, near):
         last = wide << 7 | third << 3 | ('L' in head) << 2 | PREFIX_OF_VEX.index(prefix)
         bit = 1 << r.randrange(16) & 255 if near else 0
         code, near = bytes([0xc4, r.randrange(8) << 5 | table, last ^ bit]), near and not bit
+        if table == 1 and not wide and r.randrange(2):
+            code = bytes([0xc5, r.randrange(2) << 7 | code[2] & 127])
         opcode = opcode[len(MAP_OF_VEX[table]):]
     else:
         # Without a byte REX, some registers are the high bytes of others.
