@@ -31,7 +31,7 @@ AreBytes-all_bytes (w ∷ ws) (suc (suc (suc (suc (suc (suc (suc (suc k)))))))) 
     AreBytes-all_bytes ws k
 AreBytes-all_bytes (w ∷ ws) k = omega arith
 
--- the first bytes of the word at an index
+-- from byte 8 * i on, the bytes of words begin with those of word i
 pub take-all_bytes : (ws : List ℕ) (i over : ℕ) → i < length ws → over ≤ 8
     → take over (drop (8 * i) (all_bytes ws)) ≡ take over (to_le_bytes w64 (get_or ws i 0))
 take-all_bytes [] i over lt le = absurd (omega arith)

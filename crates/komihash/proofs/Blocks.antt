@@ -10,7 +10,7 @@ use Rattle.komihash.proofs.WholeWords.{whole_words-append, length-whole_words}
 
 -- ---- the lanes
 
--- a block of words, and more words after it
+-- of a block of words and more words after it, the block is absorbed first
 block_lanes-round : (v : ℕ) (l : Lanes) (ws us : List ℕ) → length ws ≡ 8
     → block_lanes v l (ws ++ us) ≡ block_lanes v (block_round v l ws) us
 block_lanes-round v l (w0 ∷ w1 ∷ w2 ∷ w3 ∷ w4 ∷ w5 ∷ w6 ∷ w7 ∷ []) us e = refl
@@ -61,7 +61,7 @@ completed v l xs bytes k full enough =
     let back = drop_at block (drop k bytes) 64 in
     grind (arith, elements, cut, words, lanes, left, length-whole_words, back)
 
--- the same of the first block of a message
+-- of a message, the first block is absorbed first
 pub block_lanes-more : (v : ℕ) (l : Lanes) (xs : List ℕ) → 64 ≤ length xs
     → block_lanes v l (whole_words xs)
     ≡ block_lanes v (block_round v l (whole_words (take 64 xs))) (whole_words (drop 64 xs))

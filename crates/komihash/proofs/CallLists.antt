@@ -19,7 +19,7 @@ pub pending-absorb : (v : ℕ) (s : State) (bytes : List ℕ) → length s.pendi
 pending-absorb v s bytes few =
     grind (arith, absorb-blocks, length-after_blocks, length-append {A = ℕ})
 
--- after a message
+-- of a message, as many bytes are pending as stand after its whole blocks
 pub HasAbsorbed-pending : (v seed : ℕ) (s : State) (m : List ℕ) → HasAbsorbed v seed s m
     → length s.pending ≡ length m % 64
 unfolding HasAbsorbed

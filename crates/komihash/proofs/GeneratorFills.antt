@@ -92,7 +92,7 @@ pub fill-whole : (v n : ℕ) (s : ℕ × ℕ)
     → fill v s (8 * n) ≡ flat_map (λ output. to_le_bytes w64 output) (outputs v n s)
 fill-whole v n s = grind (arith, elements, length-bytes)
 
--- the same, which the search finds where the outputs are known
+-- a fill of whole words is the bytes of outputs that are known, which the search finds
 pub outputs-whole : (v n : ℕ) (s : ℕ × ℕ) → all_bytes (outputs v n s) ≡ fill v s (8 * n)
 outputs-whole v n s = sym (fill-whole v n s)
 

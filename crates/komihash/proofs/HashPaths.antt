@@ -35,7 +35,7 @@ hash_from_lanes-without_block v s (w0 ∷ w1 ∷ w2 ∷ w3 ∷ w4 ∷ w5 ∷ w6 
     absurd (omega arith)
 hash_from_lanes-without_block v s ws last lt = refl
 
--- once a block was absorbed: the blocks that follow it, and then what is left
+-- once a block was absorbed, the blocks that follow are absorbed, and then what is left is hashed
 hash_from_lanes-after_block : (v : ℕ) (s : Lanes) (ws : List ℕ) (last : ℕ)
     → hash_from_lanes v s true (ws ++ last ∷ [])
     ≡ hash_from_pair (join true (block_lanes v s ws)) (after_words ws ++ last ∷ [])
@@ -72,7 +72,7 @@ module _ (v seed : ℕ) (m : List ℕ) where
       (hash_from_lanes-without_block v (lanes pair) (whole_words m) _
       (omega (arith, length-whole_words m)))
 
-  -- the same, if there is a byte, and so a padding byte
+  -- the hash of 1 to 63 bytes, whose final word has a padding byte
   pub komi-short : 1 ≤ length m → length m < 64
       → komi v seed m ≡ hash_from_pair pair (whole_words m ++ last ∷ [])
   komi-short some lt = grind (arith, komi-few)

@@ -50,7 +50,7 @@ final_word_many xs end typed many small =
     let size = length-drop j xs in
     grind (arith, shifts, last, push, size)
 
--- where no byte stands after the last whole word
+-- the final word is just the byte that ends it where no byte stands after the last whole word
 pub final_word-whole : (xs : List ℕ) (end : ℕ) → length xs % 8 ≡ 0 → final_word xs end ≡ end
 final_word-whole xs end whole = grind (arith, drop_all)
 

@@ -27,13 +27,13 @@ pub StoresBut-put : {ws zs : List ℕ} {gap gap_end : ℕ} → StoresBut ws zs g
     → ((next ≤ i → gap_end ≤ i) → word ≡ stored_word zs i) → StoresBut (set ws i word) zs next gap_end
 StoresBut-put but i next word within is = grind (arith, elements)
 
--- none is missing
+-- if no word is missing, all are stored
 pub StoresBut-all : {ws zs : List ℕ} {gap gap_end : ℕ} → StoresBut ws zs gap gap_end
     → (gap < 8 → gap_end ≤ gap) → ws ≡ stored_words 8 zs
 StoresBut-all but none =
     grind (arith, elements, length-stored_words, get_or-stored_words)
 
--- a word of bytes that are put after others
+-- eight bytes of those that are put after others are the word at their place
 pub stored_word-after : (xs bytes : List ℕ) (at from : ℕ) → length xs + from ≡ 8 * at
     → word_of (take 8 (drop from bytes)) ≡ stored_word (xs ++ bytes) at
 stored_word-after xs bytes at from place = rw (← place, drop-append-add xs bytes from) refl
@@ -50,7 +50,7 @@ pub record ChunkWords (xs bytes out : List ℕ) (chunks : List (List ℕ)) (from
   pub size : length out ≡ length chunks
   pub words : (k : ℕ) → k < length chunks → slice_index out k ≡ chunk_word chunks k
 
--- they are stored where nothing was yet
+-- with these words put there, none before `end` is missing
 pub StoresBut-chunks : {xs bytes out : List ℕ} {chunks : List (List ℕ)} {from at end : ℕ}
     {ws : List ℕ} {gap_end : ℕ} → StoresBut ws (xs ++ bytes) at gap_end
     → ChunkWords xs bytes out chunks from at end
@@ -76,7 +76,7 @@ module _ {ws : List ℕ} {len : ℕ} (are : ArePending ws len) where
   abbrev pending : List ℕ
   pending = pending_bytes ws len
 
-  -- bytes put after them
+  -- words that store the pending bytes and others after them
   module _ (new bytes : List ℕ) (typed : (k : ℕ) → Fits w8 (get_or bytes k 0))
       (is : new ≡ stored_words 8 (pending ++ bytes)) where
     pub pending_bytes-put : len + length bytes < 64
@@ -90,7 +90,7 @@ module _ {ws : List ℕ} {len : ℕ} (are : ArePending ws len) where
     pub ArePending-put : len + length bytes < 64 → ArePending new (len + length bytes)
     ArePending-put few = grind (arith, pending_bytes-put few, length-append pending bytes)
 
-    -- the first of them fill a block
+    -- if these fill a block, they are its whole words
     pub whole_words-put : 64 ≤ len + length bytes
         → new ≡ whole_words (pending ++ take (64 - len) bytes)
     unfolding stored_words
@@ -104,7 +104,7 @@ module _ {ws : List ℕ} {len : ℕ} (are : ArePending ws len) where
         let front_words = stored_words-append 8 0 (pending ++ front) rest in
         grind (arith, size, length_of, front_words)
 
-  -- the word at a place
+  -- the word at index i is the one of the pending bytes there
   pub get_or-pending : (i : ℕ) → i < 8 → get_or ws i 0 ≡ stored_word pending i
   get_or-pending i lt = ap (λ us. get_or us i 0) are.words ∙ get_or-stored_words 8 i pending lt
 
@@ -132,7 +132,7 @@ module _ {ws : List ℕ} {len : ℕ} (are : ArePending ws len) where
     words = λ k few after. grind (arith, elements, get_or-pending k, drop-append-le, drop_all);
   }
 
-  -- the partial word with those of them that fit
+  -- the partial word, with those of them that fit after it, is the word of all at its place
   stored_word-partial : (bytes : List ℕ) → AreBytes bytes
       → bit_or (get_or ws (len / 8) 0) (word_of (take 8 bytes) * 2 ^ (8 * (len % 8)) % 2 ^ 64)
       ≡ stored_word (pending ++ bytes) (len / 8)
@@ -142,7 +142,7 @@ module _ {ws : List ℕ} {len : ℕ} (are : ArePending ws len) where
       word_of-join (take 8 partial) (take 8 bytes) (len % 8) (AreBytes-word (len / 8)) these in
       grind (arith, get_or-pending (len / 8), length-partial, drop-append-le)
 
-  -- with that word stored, the words after it are missing, but for those that stay 0
+  -- with that word stored, only words after it are missing, and none that stays 0
   pub StoresBut-partial : (bytes : List ℕ) (word gap gap_end : ℕ) → AreBytes bytes
       → word ≡ word_of (take 8 bytes)
       → (gap ≤ len / 8 + 1) × (gap_end < 8 → len + length bytes ≤ 8 * gap_end)

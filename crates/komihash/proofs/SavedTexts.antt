@@ -20,7 +20,7 @@ use Rattle.komihash.proofs.WordOf.{AreBytes-typed, AreBytes-take, AreBytes-drop}
 
 -- ---- the parts of a text
 
--- bytes put from `a` to `n`: what is before `n`, and after it
+-- if bytes are put from `a` to `n`, they end what is before `n`, and what is after it stays
 pub part-put : (a n : ℕ) (out part bytes : List ℕ) → a ≤ n → n ≤ length out
     → length part ≡ length (take (n - a) (drop a out)) → take (n - a) part ≡ bytes
     → (take n (put_mid a (n - a) out part) ≡ take a out ++ bytes)
@@ -79,7 +79,7 @@ module _ (v w : ℕ) (s t : State) (same : text v s ≡ text w t) where
 
 -- ---- which bytes are a text
 
--- eight words give lanes with these words
+-- eight words, read as lanes, are in order these words
 pub in_order-back : (ws : List ℕ) → length ws ≡ 8 → in_order (lanes_from ws) ≡ ws
 in_order-back (a ∷ b ∷ c ∷ d ∷ e ∷ f ∷ g ∷ h ∷ []) eight = refl
 in_order-back ws eight = absurd (omega arith)
@@ -142,7 +142,7 @@ IsLaidOut-text v bytes typed =
 
 -- ---- what the calls say
 
--- a state whose parts are read from a text
+-- a state whose parts are read from a text is the one that has this text
 pub restored : (v : ℕ) (bytes : List ℕ) (now : State) → IsText v bytes
     → in_order now.lanes ≡ whole_words (take 64 (drop lanes_at bytes))
     → now.pending ≡ drop pending_at bytes → now.had_block ≡ (slice_index bytes 1 == 1)
@@ -152,7 +152,7 @@ unfolding IsTextAfter
 restored v bytes now (s, is, of_s) lanes pending had_block top_bit =
     grind (arith, state_of-text, length-text)
 
--- the text of a stream that has absorbed a message
+-- the text of a stream that has absorbed a message is a text after this message
 pub text-after : (v seed : ℕ) (s : State) (m bytes : List ℕ) → IsState v s → HasAbsorbed v seed s m
     → text v s ≡ bytes → IsTextAfter v seed m bytes
 unfolding IsTextAfter

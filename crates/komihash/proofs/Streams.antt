@@ -30,7 +30,7 @@ pub absorb-nothing : (v : ℕ) (s : State) → absorb v s [] ≡ s
 unfolding absorb
 absorb-nothing v s = refl
 
--- a cut anywhere
+-- absorbing two pieces is absorbing them joined
 pub absorb-append : (v : ℕ) (s : State) (x y : List ℕ)
     → absorb v s (x ++ y) ≡ absorb v (absorb v s x) y
 unfolding absorb
@@ -75,14 +75,14 @@ absorb-blocks v s (b ∷ bytes) few =
     let size = length-append s.pending (b ∷ []) in
     grind (arith, nat_tests, next, full, size, append_assoc)
 
--- bytes that fill no block
+-- absorbing bytes that fill no block only appends them
 pub absorb-few : (v : ℕ) (s : State) (bytes : List ℕ) → length s.pending + length bytes < 64
     → absorb v s bytes ≡ record s { pending = s.pending ++ bytes }
 absorb-few v s bytes few = grind (arith, absorb-blocks, blocks_state-few)
 
 -- ---- it stays a state
 
--- a new stream's state, and the state after bytes
+-- a new stream's state is a state of its version, and so is the state after more bytes
 pub IsState-start : (v seed : ℕ) → IsState v (start seed)
 IsState-start v seed = grind (arith, AreWords-seed_pair)
 
@@ -108,7 +108,7 @@ tail_of-words : (v : ℕ) (m : List ℕ) (had_block top_bit : Bool)
 unfolding stored_words
 tail_of-words v m had_block top_bit = grind (arith, padded_words-by_tail v m)
 
--- an answer, from the pair of its lanes, its whole words and its final word
+-- an answer is the hash from the pair of the lanes, of the whole words and the final word
 pub answer-by_pair : (v : ℕ) (s : State)
     → answer v s ≡ hash_from_pair (join s.had_block s.lanes)
     (whole_words s.pending

@@ -36,7 +36,7 @@ same_end [] (y ∷ ys) a b j k some_a some_b is = grind (arith, zeros-only j ys 
 same_end (x ∷ xs) [] a b j k some_a some_b is = grind (arith, zeros-only k xs (replicate j 0) a)
 same_end (x ∷ xs) (y ∷ ys) a b j k some_a some_b is = grind (arith, same_end xs ys a b j k)
 
--- bytes whose word is 0, and bytes whose word is a byte
+-- bytes whose word is 0 are zeros, and bytes whose word is a byte are this byte and zeros
 all_zeros : (xs : List ℕ) → word_of xs ≡ 0 → xs ≡ replicate (length xs) 0
 all_zeros [] is = refl
 all_zeros (x ∷ xs) is = grind (arith, all_zeros xs)
@@ -76,7 +76,7 @@ module _ (v : ℕ) (ws : List ℕ) (fit : (k : ℕ) → Fits w64 (get_or ws k 0)
   abbrev last : ℕ
   last = get_or ws (length ws - 1) 0
 
-  -- the word of the bytes from index r of the last word on
+  -- the bytes from index r of the last word on are a word, which is the last one shifted
   word_from : (r : ℕ) → 0 < length ws
       → word_of (drop (8 * (length ws - 1) + r) (all_bytes ws)) ≡ last / 2 ^ (8 * r)
   word_from r some =

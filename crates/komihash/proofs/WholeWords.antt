@@ -8,7 +8,7 @@ use Rattle.std.specs.Simd.{first_chunks}
 use Rattle.komihash.specs.Internals.{stored_words, whole_words}
 use Rattle.komihash.specs.Words.{word_of, words_of}
 
--- the word at an index
+-- word i of those that store bytes is the word of eight bytes from byte 8 * i on
 pub get_or-stored_words : (n i : ℕ) (xs : List ℕ) → i < n
     → get_or (stored_words n xs) i 0 ≡ word_of (take 8 (drop (8 * i) xs))
 unfolding stored_words
@@ -42,7 +42,7 @@ word_of-chunk (suc n) (suc i) xs lt le =
 -- what proofs that read whole words one by one need
 pub ruleset read_words = (length-stored_words, get_or-stored_words, word_of-chunk)
 
--- a cut after whole words, and more words after it
+-- bytes joined after whole words are stored as these words, and then as the words of the rest
 stored_words-cut : (n k : ℕ) (xs ys : List ℕ) → 8 * n ≤ length xs
     → stored_words (n + k) (xs ++ ys) ≡ stored_words n xs ++ stored_words k (drop (8 * n) xs ++ ys)
 unfolding stored_words
@@ -68,7 +68,7 @@ pub whole_words-append : (xs ys : List ℕ) (k : ℕ) → length xs ≡ 8 * k
 whole_words-append xs ys k e =
     grind (arith, stored_words-append k (length ys / 8) xs ys, length-append xs ys)
 
--- fewer than eight bytes after whole words, and those that complete their word
+-- the bytes after the whole words and those that are put after them are stored in one word
 pub stored_words-last : (n : ℕ) (xs ys : List ℕ) → length xs / 8 ≡ n
     → length xs + length ys ≤ 8 * n + 8
     → stored_words (n + 1) (xs ++ ys) ≡ stored_words n xs ++ word_of (drop (8 * n) xs ++ ys) ∷ []
@@ -78,7 +78,7 @@ stored_words-last n xs ys e le =
     let one = take_all 8 (drop (8 * n) xs ++ ys) (omega (arith, length-drop (8 * n) xs)) in
     rw one at (stored_words-cut n 1 xs ys (omega arith))
 
--- bytes that are all in whole words
+-- if all bytes are in whole words, their words are those that store them
 pub words_of-whole : (n : ℕ) (xs : List ℕ) → length xs ≡ 8 * n → words_of xs ≡ stored_words n xs
 unfolding stored_words
 words_of-whole zero [] e = refl

@@ -13,7 +13,7 @@ use Rattle.komihash.specs.Words.{AreBytes, word_of}
 
 -- ---- lists of bytes
 
--- what the type of a slice of bytes says
+-- the items of a slice of bytes are bytes, as its type says
 pub AreBytes-typed : (xs : List ℕ) → ((k : ℕ) → Fits w8 (get_or xs k 0)) → AreBytes xs
 AreBytes-typed xs h k = (h k).fits
 
@@ -34,7 +34,7 @@ AreBytes-drop k xs h i = rw get_or-drop (h (k + i))
 pow_byte : (n : ℕ) → 2 ^ (8 * suc n) ≡ 256 * 2 ^ (8 * n)
 pow_byte n = let e : 8 * suc n ≡ 8 + 8 * n = omega arith in ap (λ k. 2 ^ k) e ∙ pow-add 2 8 (8 * n)
 
--- the word of the first k bytes, and the word of the others above it
+-- a word is the word of its first k bytes, and above it the word of the others
 word_of-cut : (k : ℕ) (xs : List ℕ)
     → word_of xs ≡ word_of (drop k xs) * 2 ^ (8 * k) + word_of (take k xs)
 word_of-cut zero xs = omega arith
@@ -42,13 +42,13 @@ word_of-cut (suc k) [] = omega arith
 word_of-cut (suc k) (x ∷ xs) =
     omega (arith, word_of-cut k xs, ap (λ p. word_of (drop k xs) * p) (pow_byte k))
 
--- the word of two pieces, the second shifted by the length of the first
+-- the word of two pieces is the first one, and the second shifted by the length of the first
 word_of-append : (xs ys : List ℕ)
     → word_of (xs ++ ys) ≡ word_of ys * 2 ^ (8 * length xs) + word_of xs
 word_of-append xs ys =
     grind (arith, word_of-cut (length xs) (xs ++ ys), take_at xs ys, drop_at xs ys)
 
--- zeros after others
+-- zeros after bytes change no word
 pub word_of-zeros : (xs : List ℕ) (k : ℕ) → word_of (xs ++ replicate k 0) ≡ word_of xs
 word_of-zeros [] zero = refl
 word_of-zeros [] (suc k) = omega (arith, word_of-zeros [] k)
@@ -60,7 +60,7 @@ word_of-take-lt (suc k) [] h = pow_pos (8 * suc k)
 word_of-take-lt (suc k) (x ∷ xs) h =
     omega (arith, h 0, word_of-take-lt k xs (λ i. h (suc i)), pow_byte k)
 
--- so a mask leaves the first bytes, and a shift to the right the others
+-- a mask leaves the first bytes, and a shift to the right the others
 word_of-take : (k : ℕ) (xs : List ℕ) → AreBytes xs → word_of (take k xs) ≡ word_of xs % 2 ^ (8 * k)
 word_of-take k xs h = grind (arith, word_of-cut k xs, word_of-take-lt k xs h)
 
@@ -70,7 +70,7 @@ word_of-drop k xs h = grind (arith, word_of-cut k xs, word_of-take-lt k xs h)
 
 -- ---- bytes that a shift to the left and `|` set after others
 
--- what a shift to the left keeps
+-- a shift to the left keeps the low bits that fit
 pub shl_mod : (w b c : ℕ) → w * 2 ^ b % 2 ^ (c + b) ≡ w % 2 ^ c * 2 ^ b
 shl_mod w b c = simp (mod-pow-add, shl-shr, mul-mod_left) (omega arith)
 
@@ -86,7 +86,7 @@ word_of-join xs ys n h g size le =
     let or_word = or_shifted_r (word_of (take (8 - n) ys)) k (word_of xs) in
     grind (arith, elements, fit, below, low, joined, or_word)
 
--- one byte after others
+-- a shift to the left and `|` set one byte after others
 pub word_of-push : (xs : List ℕ) (n b : ℕ) → AreBytes xs → length xs ≡ n → n < 8 → b < 256
     → bit_or (word_of xs) (b * 2 ^ (8 * n) % 2 ^ 64) ≡ word_of (xs ++ b ∷ [])
 word_of-push xs n b h size few small =
@@ -94,7 +94,7 @@ word_of-push xs n b h size few small =
 
 -- ---- bytes that are read in pieces
 
--- the bytes from index j on, read with the last n: a shift drops those before
+-- the bytes from index j on are read with the last n, and a shift drops those before
 pub word_of-last : (n j s : ℕ) (xs : List ℕ) → AreBytes xs → n ≤ length xs → j ≤ length xs
     → s ≡ 8 * (j + n - length xs) → length xs ≤ j + n
     → word_of (take n (drop (length xs - n) xs)) / 2 ^ s ≡ word_of (drop j xs)
@@ -103,7 +103,7 @@ word_of-last n j s xs h many within e most =
     let high = word_of-drop (j + n - length xs) last (AreBytes-drop (length xs - n) xs h) in
     grind (arith, elements, high)
 
--- four to seven bytes, read in two pieces of four from both ends, and a byte b after them
+-- four to seven bytes, and a byte b after them, are read in two pieces of four from both ends
 pub word_of-two_ends : (xs : List ℕ) (b s : ℕ) → AreBytes xs → 4 ≤ length xs → length xs < 8
     → b < 256 → s ≡ 64 - 8 * length xs
     → bit_or (word_of (take 4 xs))
@@ -133,7 +133,7 @@ word_of-two_ends xs b s h least most small e =
       drop-append-le k xs (b ∷ []),
     )
 
--- at most three bytes, each read by itself
+-- at most three bytes are read one by one
 pub word_of-few : (xs : List ℕ) → length xs < 4
     → get_or xs 0 0 + get_or xs 1 0 * 2 ^ 8 + get_or xs 2 0 * 2 ^ 16 ≡ word_of xs
 word_of-few (w ∷ x ∷ y ∷ z ∷ xs) lt = absurd (omega arith)

@@ -6,7 +6,7 @@ use Rattle.std.specs.Prelude.{bit_xor, bit_and}
 use Rattle.komihash.specs.Internals.{xor_again}
 use Rattle.std.specs.Int.Bits.{xor_assoc, xor_comm, xor_disjoint}
 
--- the first two change places
+-- the first two of three change places
 pub xor_swap : (a b c : ℕ) → bit_xor a (bit_xor b c) ≡ bit_xor b (bit_xor a c)
 xor_swap a b c = sym (xor_assoc a b c) ∙ ap (λ x. bit_xor x c) (xor_comm a b) ∙ xor_assoc b a c
 
@@ -20,7 +20,7 @@ xor_late w low e = simp order
 -- what block rounds need
 pub ruleset reorder = (xor_late, mul_comm)
 
--- the middle ones change places
+-- the middle two of four change places
 pub xor_middle : (a b c d : ℕ)
     → bit_xor (bit_xor a b) (bit_xor c d) ≡ bit_xor (bit_xor a c) (bit_xor b d)
 xor_middle a b c d = simp order
