@@ -38,7 +38,7 @@ returns-then-has_next c =
     let partial = c.append_within_word.ensures at (end + 1) (grind (arith, nat_tests)) in
     rw c.word_index-next.ensures (StoresBut-put partial at end _ (grind (arith, nat_tests))
     (λ last. c.word_at.ensures
-        ∙ stored_word-after xs bytes at c.min.result (grind (arith, nat_tests))))
+    ∙ stored_word-after xs bytes at c.min.result (grind (arith, nat_tests))))
 
 pub returns-else-has_next : goal.returns-else-has_next
 returns-else-has_next c = c.append_within_word.ensures _ _ (grind (arith, nat_tests))
