@@ -161,6 +161,7 @@ fn append_eight_or_more(words: &mut [u64; 8], len: usize, bytes: &[u8])
 
 // Appends bytes, at most as many as the block has room for after the first `len`. Only this
 // function puts bytes into the words.
+// Rust instead: #[inline]
 #[inline(always)]
 fn append_to_block(words: &mut [u64; 8], len: usize, bytes: &[u8], tally: &mut Tally)
     requires pending { ArePending words.old len }
