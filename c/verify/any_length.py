@@ -36,9 +36,8 @@ class Blocks(Induction):
 
 
 class Hash(Blocks):
-    """Messages of two blocks or more, since code may take one without a loop, whose length has
-    these low bits, since some code comes before the blocks that needs to know where the last word
-    begins."""
+    """Messages of two blocks or more, since one may take no loop. A case fixes the low bits of the
+    length, by which code may find the last word before the loop."""
     FIXED_BITS, FIRST, LEAST = 3, 1, 2
 
     def at_start(self, least, low, front=256):

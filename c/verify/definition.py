@@ -73,6 +73,7 @@ def block_round(products, version, s, block):
 
 
 def joined(had_block, s):
+    # If the flag is no number, this is an error, after which nothing is claimed.
     folded = [simple(functools.reduce(lambda x, y: x ^ y, half)) for half in (s[:4], s[4:])]
     return {0: [s[0], s[4]], 1: folded}[const(had_block)]
 

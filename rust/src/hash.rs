@@ -1,7 +1,8 @@
 // Made by rust/erase.py of crates/komihash/src, where changes belong.
 //! The hash of a whole message, which is read without a copy.
 //!
-//! Each range of lengths, but for none, has a function of its own, so that messages take few jumps.
+//! Each range of lengths has a function of its own, except the empty message, so that messages take
+//! few jumps. In Rust, these are `#[inline]`, since a caller may know the length.
 
 use crate::padding::{final_word_of_many, padding_byte};
 use crate::rounds::words::{hash_from_pair, last_whole_word};
@@ -64,6 +65,7 @@ fn hash_of_blocks<const V: u8>(bytes: &[u8], seed: u64) -> u64 {
     let mut lanes = lanes_of(pair);
     let rest = absorb_blocks::<V>(&mut lanes, bytes);
     let pair = join(&lanes, true);
+    // This test pays after several blocks, but not after one.
     if rest.len() < 8 {
         return close(pair, final_word, 0);
     }

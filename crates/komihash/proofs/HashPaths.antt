@@ -73,9 +73,9 @@ module _ (v seed : ℕ) (m : List ℕ) where
       (omega (arith, length-whole_words m)))
 
   -- the hash of 1 to 63 bytes, whose final word has a padding byte
-  pub komi-short : 1 ≤ length m → length m < 64
+  pub komi-few_nonempty : 1 ≤ length m → length m < 64
       → komi v seed m ≡ hash_from_pair pair (whole_words m ++ last ∷ [])
-  komi-short some lt = grind (arith, komi-few)
+  komi-few_nonempty some lt = grind (arith, komi-few)
 
   -- the hash of 64 bytes or more: whole blocks first, and then the bytes after them
   pub komi-long : 64 ≤ length m
@@ -95,14 +95,14 @@ module _ (v seed : ℕ) (m : List ℕ) where
   pub komi-partial_word : 1 ≤ length m → length m < 8
       → komi v seed m ≡ closing pair (word_of (m ++ padding_byte v m ∷ []) ∷ [])
   unfolding stored_words
-  komi-partial_word some lt = grind (arith, komi-short)
+  komi-partial_word some lt = grind (arith, komi-few_nonempty)
 
   pub komi-one_word : 8 ≤ length m → length m < 16
       → komi v seed m ≡ closing pair (word_of (take 8 m) ∷ last ∷ [])
   unfolding stored_words
   komi-one_word le lt =
       let count : length m / 8 ≡ 1 = omega arith in
-      rw (komi-short (omega arith) (omega arith), count) refl
+      rw (komi-few_nonempty (omega arith) (omega arith), count) refl
 
   pub komi-two_words : 16 ≤ length m → length m < 24
       → komi v seed m
@@ -110,7 +110,7 @@ module _ (v seed : ℕ) (m : List ℕ) where
   unfolding stored_words
   komi-two_words le lt =
       let count : length m / 8 ≡ 2 = omega arith in
-      rw (komi-short (omega arith) (omega arith), count) refl
+      rw (komi-few_nonempty (omega arith) (omega arith), count) refl
 
 pub komi-blocks : (v seed : ℕ) (m : List ℕ) → 64 ≤ length m → length m % 64 < 8
     → komi v seed m
@@ -147,7 +147,7 @@ pub ruleset hash_laws = (
   komi-one_word,
   komi-two_words,
   final_word-whole,
-  komi-short,
+  komi-few_nonempty,
   komi-long,
   last_word-after_blocks,
   komi-blocks,

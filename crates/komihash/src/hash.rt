@@ -1,6 +1,7 @@
 //! The hash of a whole message, which is read without a copy.
 //!
-//! Each range of lengths, but for none, has a function of its own, so that messages take few jumps.
+//! Each range of lengths has a function of its own, except the empty message, so that messages take
+//! few jumps. In Rust, these are `#[inline]`, since a caller may know the length.
 
 #![tactic(auto, using(crate::proofs::HashPaths::hash_laws))]
 
@@ -102,6 +103,7 @@ fn hash_of_blocks<const V: u8>(bytes: &[u8], seed: u64, tally: &mut Tally) -> u6
     let mut lanes = lanes_of(pair);
     let rest = absorb_blocks::<V>(&mut lanes, bytes, tally);
     let pair = join(&lanes, true);
+    // This test pays after several blocks, but not after one.
     if rest.len() < 8 {
         return close(pair, final_word, 0, tally);
     }

@@ -27,7 +27,7 @@ pub(crate) fn pads_with_two<const V: u8>(byte: u8) -> bool
     has_two::<V>() && byte >= 128
 }
 
-/// Returns the padding byte: 2 after a last byte for which `pads_with_two` holds, otherwise 1.
+/// Returns the padding byte: 2 if `pads_with_two` holds for the last byte, otherwise 1.
 #[inline(always)]
 pub(crate) fn padding_after(top_bit: bool) -> u64
     ensures { result ≡ padding_after top_bit }

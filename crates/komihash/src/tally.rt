@@ -54,7 +54,7 @@ impl Tally {
         }
     }
 
-    /// Raises the two numbers. No other code changes a tally.
+    /// Raises the two numbers, as no other code does.
     ///
     /// The body is empty, since there is nothing to do at run time: the handwritten proof changes
     /// the ghost fields.

@@ -123,7 +123,7 @@ pub extern "C" fn komihash_v4_resume(stream: &mut Stream, bytes: &[u8]) -> bool
     ensures restored { result ≡ true
         → Restored 4 (λ state. state) bytes.now (Some stream.new.raw) }
     ensures accepted { IsText 4 bytes.now → result ≡ true }
-    ensures same { result ≡ false → stream.new ≡ stream.old }
+    ensures unchanged { result ≡ false → stream.new ≡ stream.old }
 {
     match RawStream::restore::<4>(bytes) {
         Some(raw) => {

@@ -122,7 +122,7 @@ pub extern "C" fn komihash_v5_resume(stream: &mut Stream, bytes: &[u8]) -> bool
     ensures restored { result ≡ true
         → Restored 5 (λ state. state) bytes.now (Some stream.new.raw) }
     ensures accepted { IsText 5 bytes.now → result ≡ true }
-    ensures same { result ≡ false → stream.new ≡ stream.old }
+    ensures unchanged { result ≡ false → stream.new ≡ stream.old }
 {
     match RawStream::restore::<5>(bytes) {
         Some(raw) => {

@@ -97,6 +97,7 @@ pub trait Promises: KomiStream {
         ensures default { result.1 ≡ 0 };
 }
 
+// `scripts/twins.py` makes this impl of the next one.
 impl Promises for v4::StreamedKomihash {
     fn new_streams(seed: u64) -> (Self, Self, Self) {
         (Self::new_with_seed(seed), Self::new(), Self::default())
