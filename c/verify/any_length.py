@@ -54,12 +54,12 @@ class Hash(Blocks):
         self.length, content = self.long_length(), named('turn', range(self.step))
         self.base = self.call.base('bytes', self.length)
         self.windows(simple(self.base + self.units), content, named('end', range(-64, 0)))
-        self.follow(some_lanes(), content)
+        self.follow(some_lanes(' at a cut'), content)
         return self.states[0]
 
     def at_exit(self, rest):
         self.base = self.call.base('bytes', self.length)
-        s, last = some_lanes(), named('end', range(-64, 0))
+        s, last = some_lanes(' at a cut'), named('end', range(-64, 0))
         self.windows(self.base, [], last)
         if rest:
             words = padded_words(self.version, last[64 - rest:])
@@ -115,7 +115,7 @@ class Write(Blocks):
         self.length, content = sym('length'), named('turn', range(self.step))
         address, limit = self.open(), simple(self.length - self.units)
         self.call.memory.add(Array('front', address, 0, self.step, limit=limit), content)
-        self.follow(some_lanes(), content)
+        self.follow(some_lanes(' at a cut'), content)
         return self.states[0]
 
     def after_turns(self, remainder, rest):
@@ -126,7 +126,7 @@ class Write(Blocks):
         # At the exit, at least one byte was taken, since all whole blocks of one or more were.
         last = secret('last', 8)
         self.call.memory.add(Array('rest', address, -1, rest), [last, *self.tail], -1)
-        return [*some_lanes(), *words_of([*named('earlier', range(7)), last])]
+        return [*some_lanes(' at a cut'), *words_of([*named('earlier', range(7)), last])]
 
     def leave_early(self, cpu):
         """A write may return from the loop if it took all bytes."""
@@ -136,7 +136,7 @@ class Write(Blocks):
         self.check_stream(cpu, world.words[:8], [])
 
     def check_end(self, cpu):
-        self.check_stream(cpu, some_lanes(), self.tail)
+        self.check_stream(cpu, some_lanes(' at a cut'), self.tail)
 
     def check_stream(self, cpu, s, rest):
         state = State(s, rest, TRUE, top_bit(self.version, secret('last', 8)))
@@ -200,7 +200,7 @@ class Fill(Induction):
     def go_on(self, size):
         """Any pair, when so many bytes come. What memory holds of the first is not read again."""
         self.call.array('rand', 16, high=16, writable=True)
-        pair = secret('s1'), secret('s2')
+        pair = secret('s1 at a cut'), secret('s2 at a cut')
         self.base = self.call.base('out', self.length)
         self.follow(pair, (size + 7) // 8)
         address, limit = simple(self.base + 8 * self.units), simple(self.length - 8 * self.units)

@@ -106,8 +106,8 @@ def named(name, numbers):
     return [secret(f'{name}[{k}]', 8) for k in numbers]
 
 
-def some_lanes():
-    return [secret(f'lane s{k}') for k in range(1, 9)]
+def some_lanes(when=''):
+    return [secret(f'lane s{k}{when}') for k in range(1, 9)]
 
 
 def some_state(version, pending, had_block=None):

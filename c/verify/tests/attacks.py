@@ -14,7 +14,6 @@ from report import names_there
 from terms import Unknown
 
 NAME, OTHER_NAME, LONG_NAME = 'komihash_v5_rand_next', 'komihash_v4_rand_next', 'komihash_v4'
-# Where segments and symbols have these, and how many bytes of it.
 KIND, RIGHTS, OFFSET, START, FILLED, SIZE, ALIGN = \
     (0, 4), (4, 4), (8, 8), (16, 8), (32, 8), (40, 8), (48, 8)
 NAMED, INFO, OTHER, SECTION, VALUE, EXTENT = (0, 4), (4, 1), (5, 1), (6, 2), (8, 8), (16, 8)
@@ -116,7 +115,7 @@ def of_segments(e):
         ('an empty part', 'a part is empty', NOTES, 0, (KIND, LOAD), *nothing),
         ('smaller pages', 'not aligned', LOAD, 0, (ALIGN, small)),
         ('notes elsewhere in the file', 'elsewhere in', NOTES, 0, (OFFSET, code.offset)),
-        ('another place in a page', 'not aligned', LOAD, -1, (OFFSET, last.offset - 16)),
+        ('a table over the end of a part', 'elsewhere in', LOAD, -1, (FILLED, last.filled - 8)),
         ('pages of another size', 'not aligned', LOAD, 0, (ALIGN, code.align * 5 // 4)),
         ('memory without end', 'more than 67108864', LOAD, -1, (SIZE, 2**46)),
         ('tables that can not be read', 'can not be read', LOAD, 0, (RIGHTS, EXECUTE)),

@@ -52,7 +52,8 @@ a word half below the stack||below the stack pointer|mov [rsp - 4], rdi
 a byte far below||not written|
     sub rsp, 256; mov [rsp], al; add rsp, 256; sub rsp, 256; mov al, [rsp]; add rsp, 256
 a jump by a register of the caller|v5_save|save(5,)..depends on r10|test r10, r10; je 1f; 1:
-a jump by a high half|v5|Hash(0,)..depends on|call body; test dl, dl; je 1f; 1: ret
+an old lane|v5_write|Write(13,)..at 72|push rdi; push [rdi + 72]; call body; pop rax; pop rdi;
+    mov [rdi + 72], rax; ret
 a jump by a low half|v5|Hash(0,)..depends on low|call body; test rcx, rcx; je 1f; 1: ret
 a jump by a lane|v5|Hash(6,)..depends on|next: test rcx, rcx; je 1f; 1:
 a jump by what a loop lost|v5_pad|Pad..depends on undefined|
@@ -74,6 +75,7 @@ a write of nothing|v5_write|Write(13,)..before the end|cmp rdx, 300; jne body; x
     mov [rdi], rax; mov [rdi + 8], rax; mov [rdi + 64], rax; mov byte ptr [rdi + 136], 1; ret
 a refusal|v5_pad|Pad..before the end|cmp rsi, 304; jne body; cmp rcx, 39; jb body; xor eax, eax; ret
 one wrong in a high bit||does not have|mov rax, [rdi]; bts rax, 63; mov [rdi], rax
+one wrong by where the stack is||does not have|test spl, 16; je body; not byte ptr [rdi]
 one made twice||has made already|mov rax, [rdi]; mul qword ptr [rdi + 8]
 a loop|v5_pad|Pad..|pad "", "", ""
 one wrong from byte 3,200 on|v5_pad|Pad..in no array|pad "", "cmp r9, 400; jne .Lturn; inc r9", ""
@@ -142,8 +144,7 @@ v5_pad|Pad|read rdi+rsi-128 128
 v5_unpad|unpad(2, (0, 1))|read rdi 16 8*rsi|both rdx 8: after "cmp rax, -1; je 1f; _"
 v5_unpad|Unpad((0, 1),)|read rdi 136 8*rsi
 '''
-# Wrong outputs on x86-64: a function, the name of a case, and for each, what is found to be wrong,
-# and by which instructions after the call. Of a loop, the first remainder is wrong, and the last.
+# Wrong outputs on x86-64: a function, a case, and what is found wrong after which instructions.
 OUTPUTS = '''
 v5|hash_of(9,)|hash: bts rax, 63
 v5|Hash(0,)|hash: cmp rsi, 256; jne 1f; bts rax, 63

@@ -47,12 +47,11 @@ def without(suffix, left_out, begin=Call.begin):
 
 
 def with_more(module, name):
-    """A function that multiplies once more than that of the definition."""
     return module, name, lambda products, *given, do=getattr(module, name): (
         products.new(bv(2), bv(3)), do(products, *given))[1]
 
 
-def changes(content):
+def changes(path, content):
     """Each change: a name, a reason, a name that has another value, and what finds that then."""
     def judge(suffix, among):
         return lambda: refusal(content, 'x86-64', f'komihash_v4{suffix}', among=among)
@@ -72,7 +71,8 @@ def changes(content):
          with_products('_rand_fill', '(n+7)//8 + n//255'), judge('_rand_fill', 'Fill')),
         *((f'one more by {name}', 'products, and not the', with_more(any_length, name),
            judge('', 'Hash(0,)')) for name in ('block_round', 'hash_from_pair')),
-        ('one more by streams', 'for 64', with_more(streams, 'hash_from_lanes'), definition),
+        ('a wrong loop', '(0, 1)', (any_length.Pad, 'PRODUCTS', 1), lambda: report.verify('x86-64',
+            path, mock.Mock(function=['komihash_v4_pad'], jobs=4, red_zone=0), cases.Ours)),
         ('a witness of what is asked', 'is no symbol', (cases.header, 'witness', lambda found, term,
             value: found.update({value: term})), judge('_rand_next', 'all calls')),
         ('a name that is not ours', 'also exports', (report, 'NAMES', cases.NAMES[1:]),
@@ -88,10 +88,11 @@ def changes(content):
 
 
 def rows(library):
-    with open(library.removeprefix('x86-64:'), 'rb') as file:
+    path = library.removeprefix('x86-64:')
+    with open(path, 'rb') as file:
         content = file.read()
     cases.open_library(content, 'x86-64')
-    for name, reason, change, find in changes(content):
+    for name, reason, change, find in changes(path, content):
         if is_wanted(name):
             with mock.patch.object(*change or (cases, 'SECONDS', cases.SECONDS)):
                 try:

@@ -84,7 +84,6 @@ KNOWN = {X86: {name.replace('_', ' '): some for name, some in KNOWN_X86['x86-64-
          ARM: {name: some.pattern.split('|') for name, some in KNOWN_ARM64.items()}}
 KNOWN[ARM].update((f'b.{name}', KNOWN[ARM]['b.']) for name in
                   'eq ne hs lo mi pl hi ls ge lt gt le'.split())
-# What the assembler calls the instructions of each level.
 MARCH = 'generic64+ibt', 'generic64+ibt+sse4.2', 'generic64+ibt+avx2+bmi+bmi2+lzcnt'
 # The code lies where its addresses say, so that all of them are numbers.
 machine.LOADED = x86_64.LOADED = aarch64.LOADED = bv(0)
