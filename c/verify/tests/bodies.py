@@ -71,9 +71,9 @@ one after a long write to five bytes|v5_write|Write(5,)..at 0|
     xor eax, eax; cmp rdx, 300; jne 2f; cmp byte ptr [rdi + 64], 5; sete al; 2: push rax; push rdi;
     call body; pop rdi; pop rax; test eax, eax; je 1f; not byte ptr [rdi]; 1: ret
 a hash that is not finished|v5|Hash(4,)..before the end|cmp rsi, 300; jne body; xor eax, eax; ret
-a write of nothing|v5_write|Write(13,)..before the end|cmp rdx, 300; jne body; xor eax, eax;
+a write of nothing|v5_write|Write(13,)..before the end|cmp rdx, 60; jne body; xor eax, eax;
     mov [rdi], rax; mov [rdi + 8], rax; mov [rdi + 64], rax; mov byte ptr [rdi + 136], 1; ret
-a refusal|v5_pad|Pad..before the end|cmp rsi, 304; jne body; cmp rcx, 39; jb body; xor eax, eax; ret
+a refusal|v5_pad|Pad..before the end|cmp rsi, 200; jne body; cmp rcx, 26; jb body; xor eax, eax; ret
 one wrong in a high bit||does not have|mov rax, [rdi]; bts rax, 63; mov [rdi], rax
 one wrong by where the stack is||does not have|test spl, 16; je body; not byte ptr [rdi]
 one made twice||has made already|mov rax, [rdi]; mul qword ptr [rdi + 8]

@@ -140,7 +140,7 @@ def random_image(r, kind, i, flags, some):
     for op in (op for op in i.ops if op.type == CS_OP_MEM):
         m, index = op.mem, r.getrandbits(64)
         scaled = index * (m.scale if kind is X86 else 1 << op.shift.value) if m.index else 0
-        base = POINTER + r.choice([1, 16]) * r.randrange(8) - m.disp - scaled
+        base = POINTER + r.choice([1, 8, 16]) * r.randrange(8) - m.disp - scaled
         for register, value in ((m.index, index), (m.base, base)):
             values[WHOLE[kind](i.reg_name(register)) if register else None] = value
     words = b''.join((values[name] % 2**64).to_bytes(8, 'little') for name in WORDS[kind])
