@@ -1,8 +1,8 @@
 #!/usr/bin/env python3
 """Checks that what stands in two places is the same: each block of Rattle in CALLING is a part of a
-file of crates/examples, both versions say the same, what users take has the licence, the lemmas
-that CLAIMS names are there, and each link of a page leads to a file that is there, and to a heading
-of it."""
+file of crates/examples, the block of README is one of rust/README, both versions say the same, what
+users take has the licence, the lemmas that CLAIMS names are there, and each link of a page leads to
+a file that is there, and to a heading of it."""
 
 import re
 from pathlib import Path
@@ -45,6 +45,8 @@ for folder in ("crates/komihash", "rust", "python", "js"):
 checks.append(("CALLING has blocks", CODE.search(calling)))
 for code in CODE.findall(calling):
     checks.append((f"the block `{code.splitlines()[0]}`", any(code in text for text in examples)))
+pages = [(ROOT / page).read_text("utf-8") for page in ("README.md", "rust/README.md")]
+checks.append(("the block of README", CODE.search(pages[0])[1] in pages[1]))
 checks.append(("CALLING has links", LINK.search(calling)))
 claims = (ROOT / "docs/CLAIMS.md").read_text("utf-8")
 lemmas = [lemma for cell in re.findall(r"\|([^|\n]*)\|$", claims, re.MULTILINE)

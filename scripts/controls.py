@@ -18,7 +18,7 @@ def make(edit, crate):
     text = edit.read_text("utf-8")
     file = crate / text.split()[1]
     code = file.read_text("utf-8")
-    control = re.search(rf"^{crate.name}/{edit.stem}: (.*) ==> (.*)", CONTROLS, re.MULTILINE)
+    control = re.search(rf"^{crate.name}/{edit.stem}: \w+: (.*) ==> (.*)", CONTROLS, re.MULTILINE)
     *changes, (last, wrong) = re.findall("old: (.*)\nnew: (.*)", text)
     if not control or wrong.count(control[1]) != 1:
         return False

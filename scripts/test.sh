@@ -19,6 +19,14 @@ all_refused() {
     [ "$(grep -c '\.edit: refused' "$scratch/told")" = ${#edits[@]} ] ||
         grep "must-fail edits: ${#edits[@]} refused" "$scratch/told"
 }
+# Whether the clauses that refused edits in this run are those that controls.txt names.
+by_their_clauses() {
+    sed -nE 's/^([^ ]*: [a-z]+): .*/\1/p' crates/controls.txt > "$scratch/clauses"
+    sed -nE '/\.edit: refused/s|.* (.*/.*)\.edit: .*\(`([^`]*-clause-)?([a-z]+).*|\1: \3|p' \
+        "$scratch/told" | sed 's/: returns$/: ensures/; s/: invarian$/: invariant/' |
+        grep -vxFf "$scratch/clauses"
+    [ $? = 1 ]
+}
 
 if wanted packages; then
     CASE= TMPDIR=$scratch nice -n 19 bash scripts/packages.sh > "$scratch/packages" 2>&1 &
@@ -26,6 +34,7 @@ fi
 pid=${!:-}
 if part python3 scripts/check_pages.py && part rt ci; then
     run_case 'each must-fail edit is refused' all_refused
+    run_case 'each is refused by the clause that controls.txt names' by_their_clauses
     part python3 scripts/controls.py
     for name in attacks program compare_assembly; do part bash scripts/$name.sh; done
 else
