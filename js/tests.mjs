@@ -1,5 +1,6 @@
-// Tests the package in Node and in browsers. Reads rows as in rust/tests, and prints how many of
-// their calls the package has, and then the rows and the other tests that fail.
+// Tests the package in Node and in browsers: tests.mjs [FILE..]. A file has rows as in rust/tests,
+// which are also read. Prints how many of their calls the package has, and then the rows and the
+// other tests that fail.
 import { Komihash, Komirand, komihash, v4, v5 } from "komihash_rattle";
 
 const failed = [];
@@ -36,8 +37,15 @@ function value(call, it, [x, y, ...others]) {
 
 const page = globalThis.document?.body;
 // @ts-ignore: these are no types of Node.
-const table = page?.textContent ?? (await import("node:fs")).readFileSync(0, "utf-8");
-const rows = table.match(/^(?!#|unpad).+/gm);
+const [fs, process] = page ? [] : [await import("node:fs"), globalThis.process];
+function read(files) {
+    try { return files.map((it) => fs.readFileSync(it, "utf-8")).join(""); }
+    catch (error) { console.error(error.message), process.exit(1); }
+}
+const table = (name) => new URL(`../rust/tests/${name}.tsv`, import.meta.url);
+const files = page ? [] : [table("values"), table("vectors"), ...process.argv.slice(2)];
+const rows = (page?.textContent ?? read(files)).match(/^(?!#|unpad).+/gm) ?? [];
+test("more than 100 rows", rows.length > 100);
 for (const row of rows) {
     const [, call, version, given, wanted] = row.match(/^(?:(\w\w+)\t)?([45])\t(.*)\t(.*)$/);
     test(row, value(call ?? "komihash", { 4: v4, 5: v5 }[version], given.split("\t")) === wanted);
@@ -78,3 +86,4 @@ test("saved texts", Komihash.resume(saved[0]).digest() === v5.komihash("ä"));
 
 const told = [`${rows.length} rows, ${failed.length} failures`, ...failed].join("\n");
 page ? (page.textContent = told) : console.log(told);
+if (failed.length && process) process.exitCode = 1;

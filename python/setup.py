@@ -12,10 +12,11 @@ from setuptools.command.build_ext import build_ext
 from setuptools.command.sdist import sdist
 
 HERE = Path(__file__).resolve().parent
-# What the library is built from is above this folder, but in a source distribution, in it.
+# What is used from above this folder is in it in a source distribution.
 ABOVE = HERE if (HERE / "c").is_dir() else HERE.parent
-BUILT_FROM = ("c/Makefile", "c/from_rust.sh", "c/exports.rs", "c/komihash_rattle.h", "c/assembly",
-              "rust/Cargo.toml", "rust/README.md", "rust/src")
+USED = ("c/Makefile", "c/from_rust.sh", "c/exports.rs", "c/komihash_rattle.h", "c/assembly",
+        "rust/Cargo.toml", "rust/README.md", "rust/src", "rust/tests/values.tsv",
+        "rust/tests/vectors.tsv")
 
 # From 3.11 on, CPython's stable interface can read bytes, so one build serves all later ones.
 STABLE = sys.version_info >= (3, 11) and not sysconfig.get_config_var("Py_GIL_DISABLED")
@@ -37,11 +38,11 @@ class Build(build_ext):
 
 
 class Distribution(sdist):
-    """Adds what the library is built from."""
+    """Adds the tests, and what is above this folder."""
 
     def make_release_tree(self, base_dir, files):
-        super().make_release_tree(base_dir, files)
-        for name in BUILT_FROM:
+        super().make_release_tree(base_dir, [*files, "tests.py"])
+        for name in USED:
             to = Path(base_dir, name)
             to.parent.mkdir(exist_ok=True)
             (shutil.copytree if (ABOVE / name).is_dir() else shutil.copy2)(ABOVE / name, to)

@@ -1,4 +1,4 @@
-"""Tests the package that is installed, with rows from standard input, as in rust/tests."""
+"""Tests the package that is installed: tests.py [FILE..]. A file has rows as in rust/tests."""
 import array
 import copy
 import gc
@@ -10,10 +10,16 @@ import threading
 import tracemalloc
 import unittest
 from concurrent.futures import ThreadPoolExecutor
+from pathlib import Path
 
 from komihash_rattle import Komirand, komihash, komihash_int, v4, v5
 
 LONG = bytes(range(256)) * 4096
+
+# The tables are beside this folder, but in a source distribution, in it.
+HERE = Path(__file__).resolve().parent
+ABOVE = HERE if (HERE / "rust").is_dir() else HERE.parent
+FILES = [ABOVE / "rust/tests" / name for name in ("values.tsv", "vectors.tsv")]
 
 
 class Named(komihash):
@@ -81,7 +87,8 @@ def value(call, version, given):
 
 class Tests(unittest.TestCase):
     def test_rows(self):
-        rows = [row for row in sys.stdin.read().splitlines() if not row.startswith(("#", "unpad"))]
+        rows = "".join(file.read_text("utf-8") for file in FILES).splitlines()
+        rows = [row for row in rows if not row.startswith(("#", "unpad"))]
         self.assertGreater(len(rows), 100)
         for row in rows:
             row = row if row[0] not in "45" else "komihash\t" + row
@@ -228,4 +235,6 @@ class Tests(unittest.TestCase):
 
 
 if __name__ == "__main__":
-    unittest.main()
+    FILES += map(Path, sys.argv[1:])
+    missing = [str(file) for file in FILES if not file.exists()]
+    sys.exit("missing: " + ", ".join(missing)) if missing else unittest.main(argv=sys.argv[:1])

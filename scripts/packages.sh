@@ -67,35 +67,44 @@ tests_for() {
         --config 'source.sources.directory="/usr/lib/rustlib/src/rust/library/vendor"'
 }
 
-# Adds 100,000 random calls, with the values that the crate for Rust gives. It also makes others.
+# Writes 100,000 random calls, with the values that the crate for Rust gives. It also makes others.
 random_rows() {
     cargo run --manifest-path rust/Cargo.toml --offline --release --example random_rows 1 180000 |
-        grep -vE '^(stream|hash_one|order|next)' >> "$scratch/rows"
+        grep -vE '^(stream|hash_one|order|next)' > "$scratch/rows"
 }
+all_rows() { cat rust/tests/*.tsv "$scratch/rows"; }
+# Whether tests fail, and print so many lines: fails COUNT COMMAND..
+fails() { ! "${@:2}" > "$scratch/failure" 2>&1 && [ "$(wc -l < "$scratch/failure")" = "$1" ]; }
 
-# Makes the package for Python, and installs and tests it by Debian's tools.
+# Makes the package for Python, installs it by Debian's tools, and runs the tests that are in it.
 debian_python() { PYTHONPATH=$scratch/python /usr/bin/python3 -B "$@"; }
 python_package() {
-    release python &&
+    release python && mkdir "$scratch/sdist" &&
+        tar -xzf "$packed"/python/*.tar.gz -C "$scratch/sdist" --strip-components=1 &&
         debian_python -m pip install --no-index --no-build-isolation --target "$scratch/python" \
-            "$packed"/python/*.tar.gz &&
-        debian_python -W error python/tests.py < "$scratch/rows" &&
+            "$scratch/sdist" &&
+        debian_python -W error "$scratch/sdist/tests.py" "$scratch/rows" &&
+        debian_python -W error python/tests.py &&
+        fails 1 debian_python python/tests.py "$scratch/none" &&
         debian_python -m doctest python/README.md
 }
 
-# Makes the package for JavaScript, and installs it in a folder that has nothing else but tests.
+# Makes the package for JavaScript, and installs it in a folder that has nothing else but tests,
+# beside the crate for Rust, which has the tables.
 js_package() {
     release js && mkdir "$scratch/js" && cp js/tests.* "$scratch/js" &&
         sed -n '/^```js$/,/^```$/{/^```/!p;}' js/README.md > "$scratch/js/page.mjs" &&
         cd "$scratch/js" && npm install --offline "$packed"/js/*.tgz
 }
-all_right() { diff <(echo "$(grep -cvE '^(#|unpad)' "$scratch/rows") rows, 0 failures") -; }
+all_right() { diff <(echo "$(all_rows | grep -cvE '^(#|unpad)') rows, 0 failures") -; }
 js_in_node() {
-    node "$scratch/js/tests.mjs" < "$scratch/rows" | all_right &&
+    node "$scratch/js/tests.mjs" "$scratch/rows" | all_right &&
+        node js/tests.mjs && fails 1 node js/tests.mjs "$scratch/none" &&
+        fails 2 node js/tests.mjs <(echo $'5\t0\t\tno hash') &&
         node "$scratch/js/page.mjs" | diff <(sed -n 's|.*; // ||p' "$scratch/js/page.mjs") -
 }
 js_in_chromium() {
-    cat js/tests.html "$scratch/rows" > "$scratch/js/rows.html"
+    all_rows | cat js/tests.html - > "$scratch/js/rows.html"
     chromium --headless --no-sandbox --user-data-dir="$scratch/chromium" --dump-dom \
         --allow-file-access-from-files "file://$scratch/js/rows.html" |
         sed -nE 's|.*<body hidden="">(.*)</body>.*|\1|p' | all_right
@@ -143,7 +152,6 @@ for machine in s390x aarch64 i686; do
         tests_for $machine-unknown-linux-gnu $machine-linux-gnu-gcc $runner
 done
 
-cat rust/tests/vectors.tsv rust/tests/values.tsv > "$scratch/rows"
 always needs cargo 'random calls have values' random_rows
 always needs '/usr/bin/pip3 /usr/bin/python3-config' 'the package for Python' python_package
 needs /usr/bin/mypy 'the types of the package for Python' \
