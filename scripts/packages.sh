@@ -97,17 +97,22 @@ js_package() {
         cd "$scratch/js" && npm install --offline "$packed"/js/*.tgz
 }
 all_right() { diff <(echo "$(all_rows | grep -cvE '^(#|unpad)') rows, 0 failures") -; }
+as_on_page() { diff <(sed -n 's|.*; // ||p' "$scratch/js/page.mjs") -; }
 js_in_node() {
     node "$scratch/js/tests.mjs" "$scratch/rows" | all_right &&
         node js/tests.mjs && fails 1 node js/tests.mjs "$scratch/none" &&
         fails 2 node js/tests.mjs <(echo $'5\t0\t\tno hash') &&
-        node "$scratch/js/page.mjs" | diff <(sed -n 's|.*; // ||p' "$scratch/js/page.mjs") -
+        node "$scratch/js/page.mjs" | as_on_page
 }
 js_in_chromium() {
     all_rows | cat js/tests.html - > "$scratch/js/rows.html"
     chromium --headless --no-sandbox --user-data-dir="$scratch/chromium" --dump-dom \
         --allow-file-access-from-files "file://$scratch/js/rows.html" |
         sed -nE 's|.*<body hidden="">(.*)</body>.*|\1|p' | all_right
+}
+js_required() {
+    cd "$scratch/js" && cp page.mjs page.cts && tsc --target es2022 --module node16 page.cts &&
+        node page.cjs | as_on_page
 }
 
 # Debian keeps wine64 outside of PATH.
@@ -161,6 +166,7 @@ needs node 'the package for JavaScript, in Node' js_in_node
 needs chromium 'the package for JavaScript, in Chromium' js_in_chromium
 needs tsc 'the types of the package for JavaScript' tsc --noEmit --allowJs --checkJs \
     --target es2022 --module es2022 --moduleResolution node16 "$scratch/js/tests.mjs"
+needs 'node tsc' 'the types of the package for JavaScript, by require' js_required
 made_by=$(sed -n '$s/.* \/\/ //p' js/komihash_rattle.js)
 if [[ $(/usr/bin/rustc --version) = "$made_by"* ]]; then
     needs "wasm-ld $debian" 'the WebAssembly in it is made of the crate for Rust' made_of_web

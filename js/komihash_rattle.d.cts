@@ -1,0 +1,35 @@
+/** A message. A string stands for its bytes in UTF-8. */
+export type Message = string | ArrayBufferView | ArrayBufferLike;
+
+/** Returns the hash of a message. Hashes and seeds are at least 0n and below 2n ** 64n. */
+export function komihash(message: Message, seed?: bigint): bigint;
+
+/** A stream, which takes a message in pieces. */
+export class Komihash {
+    #state;
+    constructor(seed?: bigint);
+    update(message: Message): this;
+    /** Returns the hash of all bytes so far. The stream may take more. */
+    digest(): bigint;
+    /** Returns the same as 16 digits. */
+    hexdigest(): string;
+    /** Returns the state as at most 131 bytes. */
+    save(): Uint8Array;
+    /** Returns the stream whose `save` returned these bytes. Throws a RangeError for others. */
+    static resume(text: ArrayBufferView | ArrayBufferLike): Komihash;
+}
+
+/** A pseudorandom generator, which is not for secrets. */
+export class Komirand {
+    #state;
+    constructor(seed: bigint, extraSeed?: bigint);
+    /** Returns the generator that has two words as its state. */
+    static fromWords(s1: bigint, s2: bigint): Komirand;
+    /** Returns the next output, which is at least 0n and below 2n ** 64n. */
+    next(): bigint;
+    /** Fills an array with the bytes of the next outputs, the lowest first, and returns it. */
+    fill<A extends ArrayBufferView | ArrayBufferLike>(array: A): A;
+}
+
+type Version = { komihash: typeof komihash; Komihash: typeof Komihash; Komirand: typeof Komirand };
+export const v4: Version, v5: Version;
