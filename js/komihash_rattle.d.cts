@@ -15,16 +15,23 @@ export class Komihash {
     hexdigest(): string;
     /** Returns the state as at most 131 bytes. */
     save(): Uint8Array;
-    /** Returns the stream whose `save` returned these bytes. Throws a RangeError for others. */
-    static resume(text: ArrayBufferView | ArrayBufferLike): Komihash;
+    /**
+     * Returns the stream whose `save` returned these bytes. Throws a RangeError for others. The
+     * constructor of a subclass takes the further arguments.
+     */
+    static resume<S extends Komihash, Given extends unknown[]>(
+        this: new (...given: Given) => S, text: ArrayBufferView | ArrayBufferLike, ...given: Given
+    ): S;
 }
 
 /** A pseudorandom generator, which is not for secrets. */
 export class Komirand {
     #state;
     constructor(seed: bigint, extraSeed?: bigint);
-    /** Returns the generator that has two words as its state. */
-    static fromWords(s1: bigint, s2: bigint): Komirand;
+    /** Returns the generator that has two words as its state. Takes further arguments likewise. */
+    static fromWords<R extends Komirand, Given extends unknown[]>(
+        this: new (...given: Given) => R, s1: bigint, s2: bigint, ...given: Given | []
+    ): R;
     /** Returns the next output, which is at least 0n and below 2n ** 64n. */
     next(): bigint;
     /** Fills an array with the bytes of the next outputs, the lowest first, and returns it. */

@@ -25,8 +25,10 @@ function isBuffer(data) {
 
 /** Returns the bytes of anything but a string. */
 function viewed(data) {
-    if (ArrayBuffer.isView(data))
+    if (ArrayBuffer.isView(data)) {
+        data.keys?.(); // This throws if the buffer shrank below an array, which has no length then.
         return new Uint8Array(data.buffer, data.byteOffset, data.byteLength);
+    }
     if (isBuffer(data)) return new Uint8Array(data);
     throw new TypeError("the data must be an ArrayBuffer, a view of one, or for a hash a string");
 }
@@ -88,8 +90,8 @@ function version(number) {
         digest() { return BigInt.asUintN(64, within(this.#state, finish)); }
         hexdigest() { return this.digest().toString(16).padStart(16, "0"); }
         save() { return room.slice(0, within(this.#state, save, piece, ROOM)); }
-        static resume(text) {
-            const stream = new this(), length = placed(viewed(text));
+        static resume(text, ...given) {
+            const stream = new this(...given), length = placed(viewed(text));
             if (typeof length === "number" && within(stream.#state, resume, piece, length))
                 return stream;
             throw new RangeError("the bytes are not what save() of this version returns");
@@ -101,8 +103,8 @@ function version(number) {
         constructor(seed, extraSeed = seed) {
             this.#state = made(16, init, word(seed), word(extraSeed));
         }
-        static fromWords(s1, s2) {
-            const rand = new this(0n);
+        static fromWords(s1, s2, first = 0n, ...others) {
+            const rand = new this(first, ...others);
             rand.#state = made(16, ofWords, word(s1), word(s2));
             return rand;
         }

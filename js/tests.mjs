@@ -74,15 +74,31 @@ for (const call of [...seeded, ...drawn, ...ofWords]) {
 for (const seed of [7, "7"])
     // @ts-expect-error
     test("no bigint", throws(TypeError, () => komihash("", seed)));
-const lying = { [Symbol.toStringTag]: "ArrayBuffer" };
-for (const call of [komihash, (it) => new Komihash().update(it), Komihash.resume])
+const shrinking = Reflect.construct(ArrayBuffer, [16, { maxByteLength: 16 }]);
+const lost = [DataView, Uint8Array].map((it) => new it(shrinking, 8, 8));
+const whole = new Uint16Array(shrinking, 2);
+shrinking.resize(13);
+test("a view that shrank", komihash(whole) === komihash(new Uint8Array(10)));
+const lying = { [Symbol.toStringTag]: "ArrayBuffer" }, wrong = [null, 7, [7], {}, lying, ...lost];
+const resume = (it) => Komihash.resume(it), fill = (it) => new Komirand(7n).fill(it);
+for (const call of [komihash, (it) => new Komihash().update(it), resume, fill])
     // @ts-expect-error
-    test("no bytes", [null, 7, [7], {}, lying].every((it) => throws(TypeError, () => call(it))));
+    test("no bytes", wrong.every((it) => throws(TypeError, () => call(it))));
 test("a wrong text", throws(RangeError, () => Komihash.resume(long)));
-class Counting extends Komihash { count = 0; update(it) { this.count++; return super.update(it); } }
-test("a subclass", new Counting().update(long).count === 1);
 const saved = ["ä", "b"].map((it) => new Komihash().update(it).save());
 test("saved texts", Komihash.resume(saved[0]).digest() === v5.komihash("ä"));
+class Named extends Komihash {
+    #count = 0;
+    constructor({ name }) { super(7n); this.name = name; }
+    update(it) { this.#count++; return super.update(it); }
+    count() { return this.#count; }
+}
+const named = Named.resume(saved[0], { name: "a" }).update("b");
+test("a subclass", named.count() === 1 && named.name === "a");
+test("the stream of a subclass", named.digest() === komihash("äb"));
+class Sided extends Komirand { constructor(sides, seed) { super(seed); this.sides = sides; } }
+const sided = Sided.fromWords(1n, 2n, 6, 7n), unsided = Komirand.fromWords(1n, 2n);
+test("a subclass of a generator", sided.sides === 6 && sided.next() === unsided.next());
 
 const told = [`${rows.length} rows, ${failed.length} failures`, ...failed].join("\n");
 page ? (page.textContent = told) : console.log(told);
