@@ -110,6 +110,21 @@ js_in_chromium() {
         --allow-file-access-from-files "file://$scratch/js/rows.html" |
         sed -nE 's|.*<body hidden="">(.*)</body>.*|\1|p' | all_right
 }
+# Compares what the page shows with what komihashsum prints for the same files.
+page_in_chromium() {
+    local files=$scratch/files odd=$'a\\b\nc'
+    in_package out/komihashsum && mkdir -p "$files/folder" && : > "$files/empty" &&
+        seq 99 > "$files/$odd" && seq 12500000 > "$files/big" &&
+        timeout 120 node js/tests_of_page.mjs \
+            "file://$scratch/js/node_modules/komihash_rattle/komihash.html" "$scratch/chromium" \
+            "$files"/{big,"$odd",empty,folder} > "$scratch/shown" && cd "$files" &&
+        PATH=$(echo "$scratch"/komihash_rattle-*/out):$PATH && diff "$scratch/shown" <(
+            echo 'The seed must be a whole number from 0 to 2^64 - 1.'
+            echo 'Folders are not hashed.'
+            komihashsum big && komihashsum -4 -s 7 --tag "$odd" empty
+            echo 'progress: true'
+        )
+}
 js_required() {
     cd "$scratch/js" && cp page.mjs page.cts && tsc --target es2022 --module node16 page.cts &&
         node page.cjs | as_on_page
@@ -164,6 +179,7 @@ needs /usr/bin/mypy 'the types of the package for Python' \
 always needs npm 'the package for JavaScript is packed and installed' js_package
 needs node 'the package for JavaScript, in Node' js_in_node
 needs chromium 'the package for JavaScript, in Chromium' js_in_chromium
+needs 'chromium cc' 'the page of the package for JavaScript, in Chromium' page_in_chromium
 needs tsc 'the types of the package for JavaScript' tsc --noEmit --allowJs --checkJs \
     --target es2022 --module es2022 --moduleResolution node16 "$scratch/js/tests.mjs"
 needs 'node tsc' 'the types of the package for JavaScript, by require' js_required
