@@ -38,10 +38,10 @@ class Build(build_ext):
 
 
 class Distribution(sdist):
-    """Adds the tests, and what is above this folder."""
+    """Adds the tests, the changes, and what is above this folder."""
 
     def make_release_tree(self, base_dir, files):
-        super().make_release_tree(base_dir, [*files, "tests.py"])
+        super().make_release_tree(base_dir, [*files, "CHANGES.md", "tests.py"])
         for name in USED:
             to = Path(base_dir, name)
             to.parent.mkdir(exist_ok=True)
