@@ -152,7 +152,8 @@ odd_on_windows() (
 
 # A list in which each line tells its version and its seed.
 tagged() {
-    printf a > a && { komihashsum --tag a; komihashsum -4 --tag a; komihashsum -s 0x4d --tag a
+    cd "$scratch" && printf a > a && {
+        komihashsum --tag a; komihashsum -4 --tag a; komihashsum -s 0x4d --tag a
         komihashsum -4 -s 18446744073709551615 --tag a; komihashsum a; } > tags &&
         prints "KOMIHASH4-4d (a) = 238674fd3b1b6344" komihashsum -4s77 --tag a &&
         grep '^KOMIHASH4-ffffffffffffffff (a)' tags && komihashsum -c tags &&
