@@ -32,10 +32,12 @@ each_file() {
     for file in "$filled"/*.cmake; do
         "$1" 644 "$file" "$libdir/cmake/komihash_rattle/${file##*/}"
     done
-    for file in $archives; do "$1" 644 "$OUT/$file" "$libdir/$file"; done
-    for file in $shared; do
-        case $file in *.dll) folder=$bindir ;; *) folder=$libdir ;; esac
-        "$1" 755 "$OUT/$file" "$folder/$file"
+    for file in $libraries; do
+        case $file in
+        *.dll) "$1" 755 "$OUT/$file" "$bindir/$file" ;;
+        *.a | *.def) "$1" 644 "$OUT/$file" "$libdir/$file" ;;
+        *) "$1" 755 "$OUT/$file" "$libdir/$file" ;;
+        esac
         case $file in
         *.dylib) "$1" link "$file" "$libdir/${file%%.*}.dylib" ;;
         lib*.so.*) "$1" link "$file" "$libdir/${file%.*}" ;;
@@ -74,7 +76,7 @@ below_prefix() {
 }
 for file in templates/*; do
     case $file in *.pc) special="[\"'\\\\# ]" ;; *) special='^$' ;; esac
-    sed "s|@VERSION@|$version|; s|@PREFIX@|$(quoted "$prefix")|
+    sed "s|@VERSION@|$version|; s|@PREFIX@|$(quoted "$prefix")|; s|@BINDIR@|$(quoted "$bindir")|
         s|@LIBDIR@|$(below_prefix "$libdir")|
         s|@INCLUDEDIR@|$(below_prefix "$includedir")|" "$file" > "$filled/${file##*/}"
 done

@@ -25,7 +25,7 @@ case $CC in *clang*) clang= ;; esac
 program=$scratch/program${exe=}
 export LD_LIBRARY_PATH="$lib" WINEPATH="Z:$prefix/bin" PKG_CONFIG_PATH="$lib/pkgconfig"
 export DYLD_LIBRARY_PATH="$lib"
-unset MAKEFLAGS PREFIX BINDIR LIBDIR INCLUDEDIR DOCDIR DESTDIR
+unset MAKEFLAGS PREFIX BINDIR LIBDIR INCLUDEDIR DOCDIR DESTDIR BUILD_SHARED BUILD_STATIC
 
 # Runs make with what this script was given, but not with the paths that its caller may have set.
 build() {
@@ -196,7 +196,7 @@ fetched_by_cmake() {
     LD_LIBRARY_PATH=/none
     by_cmake examples -D "PACKAGE=$scratch/komihash_rattle-$version.tar.gz"
 }
-files_of() { (cd "$1" && find . ! -type d ! -name '*-config-[!v]*' | sort); }
+files_of() { (cd "$1" && find . ! -type d | sort); }
 installed_by_cmake() {
     cmake_installs . || return
     ! command -v pkg-config || PKG_CONFIG_PATH="$by_cmake/lib/pkgconfig" \
@@ -205,8 +205,18 @@ installed_by_cmake() {
     LD_LIBRARY_PATH="$scratch/alone/lib" WINEPATH="Z:$scratch/alone/bin"
     files_of "$prefix" > "$scratch/files"
     files_of "$scratch/alone" | diff "$scratch/files" - &&
-        prints "$hash_of_a" by_cmake examples -D "CMAKE_PREFIX_PATH=$scratch/alone" &&
-        by_cmake "$scratch/requested" -D "CMAKE_PREFIX_PATH=$scratch/alone"
+        rm "$scratch/alone/lib/libkomihash_rattle.a" && # as some distributions do
+        prints "$hash_of_a" by_cmake examples -D "CMAKE_PREFIX_PATH=$scratch/alone"
+}
+# Whether make and CMake install the same files with these options, none of them by this name, and
+# another project links what is there.
+one_kind() { # MAKE_OPTION CMAKE_OPTION NAME
+    build install "PREFIX=$scratch/one" "$1" && cmake_installs . -D "$2" || return
+    files_of "$scratch/one" > "$scratch/files"
+    files_of "$by_cmake" | diff "$scratch/files" - && ! grep -F "/$3" "$scratch/files" || return
+    LD_LIBRARY_PATH="$scratch/one/lib" WINEPATH="Z:$scratch/one/bin"
+    prints "$hash_of_a" by_cmake examples -D "CMAKE_PREFIX_PATH=$scratch/one" &&
+        build uninstall "PREFIX=$scratch/one" && gone "$scratch/one"
 }
 exported_by_cmake() {
     mkdir "$scratch/exported" && cat > "$scratch/exported/CMakeLists.txt" << END
@@ -217,11 +227,13 @@ if(NOT komihash_rattle_VERSION VERSION_EQUAL $version)
   message(SEND_ERROR "\${komihash_rattle_VERSION}")
 endif()
 add_library(exported STATIC "$PWD/komihashsum.c")
-target_link_libraries(exported PUBLIC komihash_rattle::static komihash_rattle::komihash_h)
+target_link_libraries(exported PUBLIC komihash_rattle::\${LINKED} komihash_rattle::komihash_h)
 install(TARGETS exported EXPORT exported)
 install(EXPORT exported DESTINATION lib)
 END
-    cmake_installs "$scratch/exported"
+    cmake_installs "$scratch/exported" -D BUILD_SHARED_LIBS=ON -D LINKED=static &&
+        cmake_installs "$scratch/exported" -D BUILD_SHARED_LIBS=OFF -D LINKED=komihash_rattle &&
+        files_of "$by_cmake" > "$scratch/files" && ! grep -F "${linked##*/}" "$scratch/files"
 }
 
 # Whether CMake finds the library for each VERSION:1 or RANGE:1, and not for those with 0, and links
@@ -244,6 +256,7 @@ target_link_libraries(komihashsum komihash_rattle::static)
 add_executable(original "$PWD/tests/original.c")
 target_link_libraries(original komihash_rattle::komihash_h komihash_rattle::static)
 install(TARGETS komihashsum original)
+install(IMPORTED_RUNTIME_ARTIFACTS komihash_rattle::komihash_rattle)
 END
     by_cmake "$scratch/requested" -D "CMAKE_PREFIX_PATH=$prefix" &&
         "$NM" "$by_cmake/bin/komihashsum$exe" | grep 'T komihash_v5$' &&
@@ -267,7 +280,7 @@ staged() {
             runs_by_package komihash_rattle -std=c11 "$scratch/example.c"; } &&
         build uninstall && gone "$DESTDIR"
 }
-uninstalled() { build uninstall "PREFIX=$prefix" && gone "$prefix"; }
+uninstalled() { build uninstall "PREFIX=$prefix" BUILD_SHARED=no && gone "$prefix"; }
 
 run_case "programs for $machine run here, or in the emulator that RUN names" \
     $RUN "$OUT/komihashsum$exe" < /dev/null
@@ -347,10 +360,15 @@ fi
 needs cmake 'komihashsum, by CMake, with the installed library' \
     prints "$hash_of_a" by_cmake examples -D "CMAKE_PREFIX_PATH=$prefix"
 needs cmake 'a library that CMake exports, with the static one' exported_by_cmake
-always needs cmake 'the versions that CMake may ask for, and the static library' requested \
+needs cmake 'what CMake may ask for, and the static library' requested \
     1:1 1.0:1 "$version:1" "$version,EXACT:1" 1.0...2:1 '1...<2:1' "0.9...$version:1" \
-    0.9:0 2:0 99.0:0 1.0,EXACT:0 "1.0...<$version:0" 2...3:0
+    0.9:0 2:0 99.0:0 1.0,EXACT:0 "1.0...<$version:0" 2...3:0 1,COMPONENTS,nosuch:0 \
+    1,COMPONENTS,static,OPTIONAL_COMPONENTS,nosuch:1
 needs cmake 'the files that CMake installs, and komihashsum with them' installed_by_cmake
+needs cmake 'the shared libraries alone' \
+    one_kind BUILD_STATIC=no BUILD_SHARED_LIBS=ON libkomihash_rattle.a
+needs cmake 'the static libraries alone' \
+    one_kind BUILD_SHARED=no BUILD_SHARED_LIBS=OFF "${linked##*/}"
 
 . ./tests/komihashsum.sh
 run_case 'the paths of the environment' staged
