@@ -96,6 +96,15 @@ js_package() {
         sed -n '/^```js$/,/^```$/{/^```/!p;}' js/README.md > "$scratch/js/page.mjs" &&
         cd "$scratch/js" && npm install --offline "$packed"/js/*.tgz
 }
+# Whether a copy with other times makes packages of the same bytes, and nothing is left in it.
+made_again() {
+    mkdir "$scratch/copy" &&
+        tar --create --exclude=out --exclude=target LICENSE c js python rust scripts |
+        tar --extract --touch --directory="$scratch/copy" &&
+        (cd "$scratch/copy" && find . | sort > "$scratch/files" &&
+            PYTHON=/usr/bin/python3 bash scripts/release.sh "$scratch/again" c js python &&
+            diff -r -x rust "$packed" "$scratch/again" && find . | sort | diff "$scratch/files" -)
+}
 all_right() { diff <(echo "$(all_rows | grep -cvE '^(#|unpad)') rows, 0 failures") -; }
 as_on_page() { diff <(sed -n 's|.*; // ||p' "$scratch/js/page.mjs") -; }
 js_in_node() {
@@ -177,6 +186,7 @@ always needs '/usr/bin/pip3 /usr/bin/python3-config' 'the package for Python' py
 needs /usr/bin/mypy 'the types of the package for Python' \
     debian_python -m mypy.stubtest komihash_rattle
 always needs npm 'the package for JavaScript is packed and installed' js_package
+needs npm 'another copy makes the same packages' made_again
 needs node 'the package for JavaScript, in Node' js_in_node
 needs chromium 'the package for JavaScript, in Chromium' js_in_chromium
 needs 'chromium cc' 'the page of the package for JavaScript, in Chromium' page_in_chromium

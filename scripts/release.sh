@@ -1,18 +1,31 @@
 #!/usr/bin/env bash
 # Makes packages, each in a folder of its name: release.sh FOLDER NAME.., where a name is c, rust,
-# python or js. PYTHON is a Python with setuptools.
+# python or js. PYTHON is a Python with setuptools. The same files give the same bytes.
 set -euo pipefail
+umask 022
 folder=$(realpath -m "$1")
 cd "$(dirname "$0")/.."
+scratch=$(mktemp -d)
+trap 'rm -r "$scratch"' EXIT
+tar --create --exclude=out --exclude=target --exclude='*.egg-info' --mode=a+rX,u+w,go-w \
+    c js python rust | tar --extract --directory="$scratch"
 for name in "${@:2}"; do
     mkdir -p "$folder/$name"
     case $name in
     c) make -C c dist "OUT=$folder/c" ;;
     rust)
-        cargo package --manifest-path rust/Cargo.toml --offline --allow-dirty
-        cp "${CARGO_TARGET_DIR:-rust/target}"/package/*.crate "$folder/rust"
+        cargo package --manifest-path rust/Cargo.toml --target-dir "$scratch" --offline --allow-dirty
+        cp "$scratch"/package/*.crate "$folder/rust"
         ;;
-    python) (cd python && "${PYTHON:-python3}" -B setup.py sdist --dist-dir "$folder/python") ;;
-    js) (cd js && npm pack --pack-destination "$folder/js") ;;
+    python)
+        (
+            cd "$scratch/python"
+            "${PYTHON:-python3}" -B setup.py sdist --keep-temp
+            package=$(echo komihash_rattle-*)
+            tar --create --sort=name --mtime='2020-02-02 UTC' --format=ustar --owner=0 --group=0 \
+                --numeric-owner -I 'gzip -9n' --file="$folder/python/$package.tar.gz" "$package"
+        )
+        ;;
+    js) (cd "$scratch/js" && npm pack --pack-destination "$folder/js") ;;
     esac
 done
