@@ -19,13 +19,14 @@ all_refused() {
     [ "$(grep -c '\.edit: refused' "$scratch/told")" = ${#edits[@]} ] ||
         grep "must-fail edits: ${#edits[@]} refused" "$scratch/told"
 }
-# Whether the clauses that refused edits in this run are those that controls.txt names.
+# Whether the clause that refused each edit in this run is the one that controls.txt names. `rt`
+# prints the first 160 characters of a message, and so of one name all but the last letter.
 by_their_clauses() {
-    sed -nE 's/^([^ ]*: [a-z]+): .*/\1/p' crates/controls.txt > "$scratch/clauses"
-    sed -nE '/\.edit: refused/s|.* (.*/.*)\.edit: .*\(`([^`]*-clause-)?([a-z]+).*|\1: \3|p' \
-        "$scratch/told" | sed 's/: returns$/: ensures/; s/: invarian$/: invariant/' |
-        grep -vxFf "$scratch/clauses"
-    [ $? = 1 ]
+    sed -nE 's/^(\S+: \w+): .*/\1/p' crates/controls.txt > "$scratch/clauses"
+    sed -nE '/\.edit: refused/s|.* (\S+)\.edit: .*\(`(\S*-clause-)?(\w+).*|\1: \3|p' "$scratch/told" |
+        sed 's/: returns.*/: ensures/; s/: invarian$/&t/' > "$scratch/refusals"
+    ! grep -vxFf "$scratch/clauses" "$scratch/refusals" &&
+        [ "$(wc -l < "$scratch/refusals")" = "$(grep -c '\.edit: refused' "$scratch/told")" ]
 }
 
 if wanted packages; then
@@ -34,7 +35,11 @@ fi
 pid=${!:-}
 if part python3 scripts/check_pages.py && part rt ci; then
     run_case 'each must-fail edit is refused' all_refused
-    run_case 'each is refused by the clause that controls.txt names' by_their_clauses
+    if grep -q '\.edit: refused' "$scratch/told"; then
+        run_case 'each is refused by the clause that controls.txt names' by_their_clauses
+    else
+        skip 'the clauses that refuse edits (optional)' 'edits that this run of rt ci tries'
+    fi
     part python3 scripts/controls.py
     for name in attacks program compare_assembly; do part bash scripts/$name.sh; done
 else

@@ -10,8 +10,9 @@ from terms import bv, simple
 
 
 class Ours:
-    """The pending bytes as eight words with zeros after them, their number, the lanes as four
-    pairs, each as their xor and the second, and the flags."""
+    """The pending bytes as eight words with zeros after them, their number, the lanes as four pairs
+    in a ring, the fourth first, and the flags. A pair is one of s1 to s4 xor the second word of the
+    pair before it, and one of s5 to s8."""
     # How many bytes a stream has, and from where on its words are single bytes. For header.py, what
     # it holds beside a state, each with what that is in any call.
     SIZE, FLAGS, more = 144, 136, ()

@@ -1,4 +1,4 @@
-//! A generator as C keeps it, for either version.
+//! The generator of both versions.
 
 use std::marker::Model;
 

@@ -73,7 +73,8 @@ fn append_below_eight(words: &mut [u64; 8], len: usize, bytes: &[u8])
 fn append_within_word(words: &mut [u64; 8], len: usize, bytes: &[u8])
     requires pending { ArePending words.old len }
     requires at_least_8 { 8 ≤ length bytes.now }
-    // The words from `gap` on and below `gap_end`, as callers choose, are missing.
+    // The words from `gap` on and below `gap_end` are missing. `append_whole_words` needs this for
+    // two gaps.
     ensures { (gap gap_end : ℕ)
         → (gap ≤ len / 8 + 1) × (gap_end < 8 → len + length bytes.now ≤ 8 * gap_end)
         → StoresBut words.new (pending_bytes words.old len ++ bytes.now) gap gap_end }
@@ -95,7 +96,8 @@ fn store_two_words(words: &mut [u64], chunks: &[[u8; 8]], at: usize)
     words[at + 1] = second;
 }
 
-// Stores the two to seven words that `chunks` have, two at a time from both ends.
+// Stores the two to seven words that `chunks` have, two at a time from both ends, and some twice,
+// which saves jumps.
 #[inline(always)]
 fn store_words(words: &mut [u64], chunks: &[[u8; 8]])
     requires size { length words.old ≡ length chunks.now }
