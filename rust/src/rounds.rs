@@ -26,7 +26,8 @@ const C7: u64 = 0xc0ac_29b7_c97c_50dd;
 const C8: u64 = 0x3f84_d5b5_b547_0917;
 
 /// A pair (a, e) as the code stores it: a xor e, and e. After a `mix`, a xor e is the low half of
-/// the product. The word a itself is computed only for a factor, and as the hash.
+/// the product. The word a itself is computed only for a factor, and as the hash, which makes the way
+/// from one product to the next one xor shorter.
 #[repr(C)]
 #[derive(Clone, Copy, PartialEq, Eq)]
 pub(crate) struct Pair(u64, u64);
@@ -107,8 +108,8 @@ pub(crate) fn block_round(lanes: &mut Lanes, words: &[u64; 8], places: [usize; 8
     let (Pair(low4, e4), Pair(low1, e1)) = (lanes.fourth, lanes.first);
     let (Pair(low2, e2), Pair(low3, e3)) = (lanes.second, lanes.third);
     let [p0, p1, p2, p3, p4, p5, p6, p7] = places;
-    // These factors are made before the first product, so that no word e is needed after its own
-    // sum. Each takes the low half of a product first, which is ready before the sum that follows.
+    // These factors are made before the first product, so that each sum may overwrite its word e.
+    // Each takes the low half of a product first, which is ready before the sum that follows.
     // In this order of products a block takes the fewest instructions.
     let x2 = (words[p2] ^ low2) ^ e1;
     let x3 = (words[p4] ^ low3) ^ e2;
@@ -134,10 +135,10 @@ fn block_words(block: &[u8; 64]) -> [u64; 8] {
     ]
 }
 
-// Absorbs the first block, and returns the bytes after it. Absorbing these then gives the same
-// lanes and the same remainder as absorbing all of `bytes` at once.
+/// Absorbs the first block, and returns the bytes after it. Absorbing these then gives the same
+/// lanes and the same remainder as absorbing all of `bytes` at once.
 #[inline(always)]
-fn absorb_block<'a, const V: u8>(lanes: &mut Lanes, bytes: &'a [u8]) -> &'a [u8] {
+pub(crate) fn absorb_block<'a, const V: u8>(lanes: &mut Lanes, bytes: &'a [u8]) -> &'a [u8] {
     let Some((block, rest)) = bytes.split_first_chunk::<64>() else { unreachable!() };
     let words = block_words(block);
     block_round(lanes, &words, places::<V>());

@@ -216,11 +216,15 @@ fn block_words(block: &[u8; 64]) -> [u64; 8]
     ]
 }
 
-// Absorbs the first block, and returns the bytes after it. Absorbing these then gives the same
-// lanes and the same remainder as absorbing all of `bytes` at once.
+/// Absorbs the first block, and returns the bytes after it. Absorbing these then gives the same
+/// lanes and the same remainder as absorbing all of `bytes` at once.
 #[inline(always)]
 #[tactic(auto, using(crate::proofs::Blocks::one_block))]
-fn absorb_block<'a, const V: u8>(lanes: &mut Lanes, bytes: &'a [u8], tally: &mut Tally) -> &'a [u8]
+pub(crate) fn absorb_block<'a, const V: u8>(
+    lanes: &mut Lanes,
+    bytes: &'a [u8],
+    tally: &mut Tally,
+) -> &'a [u8]
     requires { 64 ≤ length bytes.now }
     ensures length { length result.now + 64 ≡ length bytes.now }
     ensures left { after_blocks result.now ≡ after_blocks bytes.now }

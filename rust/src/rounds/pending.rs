@@ -46,7 +46,8 @@ fn store_two_words(words: &mut [u64], chunks: &[[u8; 8]], at: usize) {
     words[at + 1] = second;
 }
 
-// Stores the two to seven words that `chunks` have, two at a time from both ends.
+// Stores the two to seven words that `chunks` have, two at a time from both ends, and some twice,
+// which saves jumps.
 #[inline(always)]
 fn store_words(words: &mut [u64], chunks: &[[u8; 8]]) {
     let count = chunks.len();
