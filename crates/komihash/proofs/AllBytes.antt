@@ -1,18 +1,19 @@
--- The bytes of words: how many, by index, and those of words that store bytes.
+-- The bytes of words: how many, by index, and those of words that store bytes. Lists that are
+-- written over piece by piece.
 use Rattle.std.proofs.Common.{◌≡◌, ℕ, zero, suc, ◌+◌, ◌*◌, ◌/◌, ◌%◌, ◌<◌, ◌≤◌, List, [], ◌∷◌}
-use Rattle.std.proofs.Common.{length, take, drop, get_or, refl, ap, arith, ◌∙◌, sym, take-add, w64}
+use Rattle.std.proofs.Common.{length, take, drop, get_or, set, refl, ap, arith, ◌∙◌, sym, take-add}
+use Rattle.std.proofs.Common.{w64, ◌-◌, ◌++◌}
 use Rattle.std.proofs.lemmas.List.{drop-drop}
-use Rattle.std.proofs.lemmas.List.{take-append-drop, take-append-le}
+use Rattle.std.proofs.lemmas.List.{take-append-le}
 use Rattle.std.proofs.lemmas.Slice.{take-put_mid, drop-put_mid}
 use borrow.Rule.Slice.PartMut.{put_mid}
 use Rattle.std.proofs.Math.Nat.{div-div-eq-div-mul}
 use Rattle.std.specs.Hash.{le_bytes}
 use Rattle.std.specs.Int.{to_le_bytes, bytes_low_first}
 use Rattle.std.specs.Simd.Lanes.{digits_l}
-use Rattle.std.proofs.lemmas.Grind.{elements}
+use Rattle.std.proofs.lemmas.Grind.{elements, common_steps}
 use Rattle.komihash.specs.Internals.{stored_words, whole_words}
 use Rattle.komihash.specs.Words.{AreBytes, AreWords, word_of, all_bytes}
-use Rattle.komihash.proofs.Lists.{Covers, take-append}
 use Rattle.komihash.proofs.WholeWords.{length-whole_words}
 use Rattle.komihash.proofs.WordOf.{AreBytes-drop, word_of-take-lt}
 
@@ -38,6 +39,17 @@ take-all_bytes [] i over lt le = absurd (omega arith)
 take-all_bytes (w ∷ ws) zero over lt le = take-append-le over (to_le_bytes w64 w) (all_bytes ws) le
 take-all_bytes (w ∷ ws) (suc i) over lt le =
     grind (arith, drop-drop (8 * i) 8 (all_bytes (w ∷ ws)), take-all_bytes ws i over)
+
+-- the first n items of out are those of all, and the others those of old
+pub record Covers (n : ℕ) (out all old : List ℕ) : Type 0 where
+  pub front : take n out ≡ take n all
+  pub others : drop n out ≡ drop n old
+
+-- one more item is stored
+pub Covers-next : (i x : ℕ) {out all old : List ℕ} → Covers i out all old
+    → (i < length out) × (i < length all) → x ≡ get_or all i 0
+    → Covers (i + 1) (set out i x) all old
+Covers-next i x so (fits, some) is = grind (arith, common_steps)
 
 -- the lowest j bytes of word i are written over k bytes of `out`, up to byte n
 pub record WordWritten (ws out new : List ℕ) (i j k n : ℕ) : Type 0 where
@@ -69,6 +81,10 @@ take-word_of : (xs : List ℕ) → AreBytes xs
 take-word_of xs are =
     ap (take (length xs)) (sym (simp div-div-eq-div-mul)) ∙ digits-word_of 8 xs are
 
+take-append : (n : ℕ) (xs ys : List ℕ)
+    → take n (xs ++ ys) ≡ take n xs ++ take (n - length xs) ys
+take-append n xs ys = grind (arith, elements)
+
 -- the words that store bytes have these bytes
 pub bytes-stored_words : (n : ℕ) (xs : List ℕ) → AreBytes xs → length xs ≤ 8 * n
     → take (length xs) (all_bytes (stored_words n xs)) ≡ xs
@@ -78,9 +94,8 @@ bytes-stored_words zero (x ∷ xs) are le = absurd (omega arith)
 bytes-stored_words (suc n) xs are le =
     let others = bytes-stored_words n (drop 8 xs) (AreBytes-drop 8 xs are) in
     let word = take-word_of xs are in
-    let whole = take-append-drop 8 xs in
     let cut = take-append (length xs) (to_le_bytes w64 (word_of (take 8 xs))) in
-    grind (arith, others, word, whole, cut)
+    grind (arith, others, word, cut)
 
 pub all_bytes-whole_words : (xs : List ℕ) → AreBytes xs → length xs % 8 ≡ 0
     → all_bytes (whole_words xs) ≡ xs

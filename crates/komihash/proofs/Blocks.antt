@@ -28,8 +28,7 @@ block_lanes-few_bytes v l xs lt =
 -- ---- the bytes
 
 pub after_blocks-few : (xs : List ℕ) → length xs < 64 → after_blocks xs ≡ xs
-after_blocks-few xs lt =
-    let n : length xs - length xs % 64 ≡ 0 = omega arith in ap (λ k. drop k xs) n
+after_blocks-few xs lt = ap (λ k. drop k xs) {y = 0} (omega arith)
 
 pub after_blocks-more : (xs : List ℕ) → 64 ≤ length xs → after_blocks xs ≡ after_blocks (drop 64 xs)
 after_blocks-more xs le =
@@ -56,10 +55,17 @@ completed v l xs bytes k full enough =
     let block = xs ++ take k bytes in
     let cut : xs ++ bytes ≡ block ++ drop k bytes = rw (append_assoc, take-append-drop) refl in
     let words = whole_words-append block (drop k bytes) 8 in
-    let lanes = block_lanes-round v l (whole_words block) in
-    let left = after_blocks-more (block ++ drop k bytes) in
     let back = drop_at block (drop k bytes) 64 in
-    grind (arith, elements, cut, words, lanes, left, length-whole_words, back)
+    grind (
+      arith,
+      elements,
+      cut,
+      words,
+      block_lanes-round,
+      after_blocks-more,
+      length-whole_words,
+      back,
+    )
 
 -- of a message, the first block is absorbed first
 pub block_lanes-more : (v : ℕ) (l : Lanes) (xs : List ℕ) → 64 ≤ length xs

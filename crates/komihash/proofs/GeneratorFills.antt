@@ -1,7 +1,7 @@
 -- The generator: its steps in two parts, each of its outputs, and the bytes of outputs that fill a
 -- buffer, in two parts.
 use Rattle.std.proofs.Common.{◌≡◌, ℕ, zero, suc, ◌+◌, ◌-◌, ◌*◌, ◌%◌, ◌<◌, ◌≤◌, [], ◌∷◌, ◌++◌}
-use Rattle.std.proofs.Common.{length, refl, ap, sym, arith, ◌∙◌, zero-add, suc-add, length-take-le}
+use Rattle.std.proofs.Common.{length, refl, ap, sym, arith, ◌∙◌, zero-add, suc-add}
 use Rattle.std.proofs.Common.{w64, slice_index, bit_xor, Bool, true, false, ◌==◌, ◌^◌, if◌then◌else◌}
 use Rattle.std.proofs.lemmas.List.{append-nil}
 use Rattle.std.proofs.lemmas.Nat.{xor_lt}
@@ -42,17 +42,13 @@ pub after_steps-few : (v n : ℕ) (s : ℕ × ℕ) → 0 < n → n ≤ 8
     → after_steps v n s ≡ after_steps v (n - 1) (next v s)
 unfolding after_steps
 after_steps-few v zero s some few = absurd (omega arith)
-after_steps-few v (suc n) s some few =
-    let same : n ≡ suc n - 1 = omega arith in
-    ap (λ k. after_steps v k (next v s)) same
+after_steps-few v (suc n) s some few = grind arith
 
 pub outputs-few : (v n : ℕ) (s : ℕ × ℕ) → 0 < n → n ≤ 8
     → outputs v n s ≡ (next v s).0 ∷ outputs v (n - 1) (next v s)
 unfolding outputs
 outputs-few v zero s some few = absurd (omega arith)
-outputs-few v (suc n) s some few =
-    let same : n ≡ suc n - 1 = omega arith in
-    ap (λ k. (next v s).0 ∷ outputs v k (next v s)) same
+outputs-few v (suc n) s some few = grind arith
 
 -- ---- each output
 
@@ -79,9 +75,6 @@ length-bytes : (v n : ℕ) (s : ℕ × ℕ) → length (all_bytes (outputs v n s
 length-bytes v n s = length-all_bytes (outputs v n s) ∙ ap (λ k. 8 * k) (length-outputs v n s)
 
 -- ---- fills in two parts, the first of whole words
-
-pub length-fill : (v n : ℕ) (s : ℕ × ℕ) → length (fill v s n) ≡ n
-length-fill v n s = length-take-le n _ (omega (arith, length-bytes v (fill_steps n) s))
 
 pub after_fill-add : (v x y : ℕ) (s : ℕ × ℕ) → x % 8 ≡ 0
     → after_fill v s (x + y) ≡ after_fill v (after_fill v s x) y

@@ -85,10 +85,7 @@ module _ (v seed : ℕ) (m : List ℕ) where
   komi-long le =
       let first = hash_from_lanes-first_block v (lanes pair) (whole_words m) last in
       let rest = hash_from_lanes-after_block v (lanes pair) (whole_words m) last in
-      let padded = padded_words-by_tail v m in
-      let words = after_words-whole_words m in
-      let count = length-whole_words m in
-      grind (arith, first, rest, padded, words, count)
+      grind (arith, first, rest, padded_words-by_tail, after_words-whole_words, length-whole_words)
 
   -- ---- a law for each function of `src/hash.rt`
 
@@ -123,11 +120,7 @@ pub last_word-after_blocks : (m : List ℕ) → 0 < length (whole_words (after_b
     → slice_index (whole_words m) (length m / 8 - 1)
     ≡ slice_index (whole_words (after_blocks m)) (length (whole_words (after_blocks m)) - 1)
 last_word-after_blocks m some =
-    let words = after_words-whole_words m in
-    let count = length-whole_words m in
-    let left = length-after_blocks m in
-    let few = length-whole_words (after_blocks m) in
-    grind (arith, elements, words, count, left, few)
+    let words = after_words-whole_words m in grind (arith, elements, words, length-whole_words)
 
 pub komi-empty : (v seed : ℕ) (m : List ℕ) → length m ≡ 0
     → komi v seed m ≡ closing (seed_pair seed) (0 ∷ [])

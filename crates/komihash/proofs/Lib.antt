@@ -5,7 +5,6 @@ mod GeneratorFills
 mod HashPaths
 mod HashWords
 pub mod LawLemmas
-mod Lists
 mod PaddedWords
 mod PendingBytes
 pub mod Propositions

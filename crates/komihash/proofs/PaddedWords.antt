@@ -28,11 +28,9 @@ padded_words-by_tail v (b ∷ m) =
     let n = length xs in
     let zeros = replicate (7 - n % 8) 0 in
     let size : length (end ∷ zeros) ≡ 8 - n % 8 = omega (arith, length-replicate {A = ℕ}) in
-    let same_words = words_of-whole (n / 8 + 1) (xs ++ end ∷ zeros) in
     let ending = stored_words-last (n / 8) xs (end ∷ zeros) in
-    let length_of = length-append xs (end ∷ zeros) in
     let order = append_assoc (after_words xs) (end ∷ []) zeros in
-    grind (arith, size, same_words, ending, length_of, order, word_of-zeros)
+    grind (arith, size, words_of-whole, ending, length-append {A = ℕ}, order, word_of-zeros)
 
 -- the final word of at least eight bytes, as it is read with the last eight
 pub final_word_many : (xs : List ℕ) (end : ℕ) → ((k : ℕ) → Fits w8 (get_or xs k 0))
@@ -47,8 +45,7 @@ final_word_many xs end typed many small =
     let last = word_of-last 8 j (1 + (63 - 8 * r)) xs are in
     let push = word_of-push (drop j xs) r end (AreBytes-drop j xs are) in
     let shifts = shr-shr (word_of (take 8 (drop (length xs - 8) xs))) 1 (63 - 8 * r) in
-    let size = length-drop j xs in
-    grind (arith, shifts, last, push, size)
+    grind (arith, shifts, last, push, length-drop {A = ℕ})
 
 -- the final word is just the byte that ends it where no byte stands after the last whole word
 pub final_word-whole : (xs : List ℕ) (end : ℕ) → length xs % 8 ≡ 0 → final_word xs end ≡ end

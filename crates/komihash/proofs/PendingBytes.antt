@@ -83,9 +83,7 @@ module _ {ws : List ℕ} {len : ℕ} (are : ArePending ws len) where
         → pending_bytes new (len + length bytes) ≡ pending ++ bytes
     pending_bytes-put few =
         let typed_bytes : AreBytes (pending ++ bytes) = search bytes_typed in
-        let stored = bytes-stored_words 8 (pending ++ bytes) typed_bytes in
-        let size = length-append pending bytes in
-        grind (arith, stored, size)
+        grind (arith, bytes-stored_words, length-append {A = ℕ})
 
     pub ArePending-put : len + length bytes < 64 → ArePending new (len + length bytes)
     ArePending-put few = grind (arith, pending_bytes-put few, length-append pending bytes)
@@ -99,10 +97,8 @@ module _ {ws : List ℕ} {len : ℕ} (are : ArePending ws len) where
         let rest = drop (64 - len) bytes in
         let cut : pending ++ bytes ≡ (pending ++ front) ++ rest =
         rw (append_assoc, take-append-drop) refl in
-        let size = length-append pending front in
-        let length_of = length-take (64 - len) bytes in
         let front_words = stored_words-append 8 0 (pending ++ front) rest in
-        grind (arith, size, length_of, front_words)
+        grind (arith, length-append {A = ℕ}, length-take {A = ℕ}, front_words)
 
   -- the word at index i is the one of the pending bytes there
   pub get_or-pending : (i : ℕ) → i < 8 → get_or ws i 0 ≡ stored_word pending i

@@ -12,7 +12,7 @@ use Rattle.komihash.specs.Saved.{lanes_at, pending_at, longest_text, text, IsTex
 use Rattle.komihash.specs.Saved.{Restored}
 use Rattle.komihash.specs.Stream.{State, IsState, HasAbsorbed}
 use Rattle.komihash.specs.Internals.{IsHead, whole_words, xor_again}
-use Rattle.komihash.specs.Words.{AreBytes, AreWords, all_bytes}
+use Rattle.komihash.specs.Words.{AreBytes, AreWords}
 use Rattle.komihash.proofs.WholeWords.{length-whole_words}
 use Rattle.komihash.proofs.AllBytes.{stored_words-all_bytes}
 use Rattle.komihash.proofs.AllBytes.{all_bytes-whole_words, AreWords-stored_words}
@@ -55,9 +55,7 @@ state_of bytes = record {
 state_of-text : (v : ℕ) (s : State) → AreWords (in_order s.lanes) → state_of (text v s) ≡ s
 unfolding text
 state_of-text v s are =
-    let lanes = all_bytes (in_order s.lanes) in
-    let words = stored_words-all_bytes (in_order s.lanes) are in
-    grind (arith, words)
+    let words = stored_words-all_bytes (in_order s.lanes) are in grind (arith, words)
 
 pub length-text : (v : ℕ) (s : State) → length (text v s) ≡ pending_at + length s.pending
 unfolding text
@@ -118,7 +116,6 @@ module _ (v : ℕ) (bytes : List ℕ) (are : AreBytes bytes) (laid : IsLaidOut v
   unfolding text
   laid_out-text =
       let words = all_bytes-whole_words lanes AreBytes-lanes (omega (arith, length-lanes)) in
-      let first = four bytes (omega (arith)) in
       let whole = take-append-drop 64 (drop lanes_at bytes) in
       grind (arith, laid.size, lanes-back)
 

@@ -54,8 +54,7 @@ blocks_state-few : (v : ℕ) (s : State) (bytes : List ℕ) → length s.pending
     → blocks_state v s bytes ≡ record s { pending = s.pending ++ bytes }
 blocks_state-few v s bytes few =
     let lanes = block_lanes-few_bytes v s.lanes (s.pending ++ bytes) in
-    let size = length-append s.pending bytes in
-    grind (arith, lanes, size)
+    grind (arith, lanes, length-append {A = ℕ})
 
 absorb_byte-full : (v : ℕ) (s : State) (b : ℕ) (bytes : List ℕ) → length s.pending ≡ 63
     → ((absorb_byte v s b).pending ≡ [])
@@ -71,9 +70,7 @@ unfolding absorb
 absorb-blocks v s [] few = rw (blocks_state-few v s [] (omega arith), append-nil) refl
 absorb-blocks v s (b ∷ bytes) few =
     let next = absorb-blocks v (absorb_byte v s b) bytes in
-    let full = absorb_byte-full v s b bytes in
-    let size = length-append s.pending (b ∷ []) in
-    grind (arith, nat_tests, next, full, size, append_assoc)
+    grind (arith, nat_tests, next, absorb_byte-full, length-append {A = ℕ}, append_assoc)
 
 -- absorbing bytes that fill no block only appends them
 pub absorb-few : (v : ℕ) (s : State) (bytes : List ℕ) → length s.pending + length bytes < 64
@@ -91,10 +88,8 @@ pub IsState-absorb : (v : ℕ) (s : State) (bytes : List ℕ) → IsState v s �
 IsState-absorb v s bytes is are =
     let all = s.pending ++ bytes in
     let both = AreBytes-append s.pending bytes is.bytes are in
-    let rest = AreBytes-drop (length all - length all % 64) all both in
     let words = AreWords-block_lanes v s.lanes (whole_words all) is.words in
-    let count = length-after_blocks all in
-    grind (arith, rest, words, absorb-blocks, count)
+    grind (arith, both, AreBytes-drop, words, absorb-blocks, length-after_blocks)
 
 -- what the proof of a write needs
 pub ruleset more_absorbed = (absorb-append, absorb-few, IsState-absorb, AreBytes-typed)

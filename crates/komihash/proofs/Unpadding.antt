@@ -65,10 +65,9 @@ bytes_of_padded v (b ∷ m) are is =
 pub same_message : (v : ℕ) (x y : List ℕ) → AreBytes x → AreBytes y
     → padded_words v x ≡ padded_words v y → x ≡ y
 same_message v x y are_x are_y same =
-    let ends = same_end x y in
     let bytes = bytes_of_padded v x are_x same in
     let same_bytes = bytes_of_padded v y are_y refl in
-    grind (arith, ends, bytes, same_bytes)
+    grind (arith, same_end, bytes, same_bytes)
 
 -- ---- the highest byte of the last word that is not 0, which can only be the padding byte
 
@@ -99,9 +98,8 @@ module _ (v : ℕ) (ws : List ℕ) (fit : (k : ℕ) → Fits w64 (get_or ws k 0)
         length-replicate {A = ℕ},
         length-all_bytes ws,
       ) in
-      let back = drop_at m (end ∷ zeros) n in
       let word = word_from (n % 8) in
-      grind (arith, bytes, back, word)
+      grind (arith, bytes, drop_at, word)
 
   -- the message that would end below index r of the last word
   module _ {r : ℕ} (some : 0 < length ws) (is_highest : IsHighestByte last r) where
@@ -129,9 +127,7 @@ module _ (v : ℕ) (ws : List ℕ) (fit : (k : ℕ) → Fits w64 (get_or ws k 0)
         → padded_words v message ≡ ws
     unpadded long is =
         let fits = stored_words-all_bytes ws (Each1-from_get_or _ ws 0 (λ k _. (fit k).fits)) in
-        let whole = words_of-whole (length ws) (all_bytes ws) in
-        let count = length-all_bytes ws in
-        grind (arith, split, whole, count, fits)
+        grind (arith, split, words_of-whole, length-all_bytes, fits)
 
     pub one_place : ArePadded v ws → (0 < size) × (last / 2 ^ (8 * r) ≡ padding_byte v message)
     one_place (m, are, is) =
@@ -143,10 +139,7 @@ module _ (v : ℕ) (ws : List ℕ) (fit : (k : ℕ) → Fits w64 (get_or ws k 0)
 
 pub highest : (w bit : ℕ) → bit < 64 → 2 ^ bit ≤ w → w < 2 * 2 ^ bit → IsHighestByte w (bit / 8)
 highest w bit few low high =
-    let at = 8 * (bit / 8) in
-    let le : 2 ^ at ≤ 2 ^ bit = pow_mono (omega arith) in
-    let lt : 2 ^ (1 + bit) ≤ 2 ^ (8 + at) = pow_mono (omega arith) in
-    grind (arith, pow-add)
+    grind (arith, pow_mono, pow-add)
 
 pub byte_of_words : (ws : List ℕ) (at : ℕ) → at < 8 * length ws
     → get_or (to_le_bytes w64 (get_or ws (at / 8) 0)) (at % 8) 0 ≡ get_or (all_bytes ws) at 0

@@ -1,7 +1,7 @@
 -- Each turn of the loop stores the next whole word.
 use Rattle.std.proofs.Common.{◌/◌, ◌∙◌, length, arith, rules, sym, take_all}
 use Rattle.std.proofs.lemmas.List.{length-set, take-append-le}
-use Rattle.komihash.proofs.Lists.{Covers-next}
+use Rattle.komihash.proofs.AllBytes.{Covers-next}
 use Rattle.komihash.proofs.WholeWords.{get_or-stored_words, length-whole_words, word_of-chunk}
 use Rattle.komihash.proofs.utils.read_whole_words.Goals as goal
 

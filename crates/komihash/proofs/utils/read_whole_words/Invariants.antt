@@ -1,7 +1,7 @@
 -- The words so far, and after them what was there.
 use Rattle.std.proofs.Common.{◌≡◌, ◌/◌, length, take}
 use Rattle.komihash.specs.Internals.{whole_words}
-use Rattle.komihash.proofs.Lists.{Covers}
+use Rattle.komihash.proofs.AllBytes.{Covers}
 use Rattle.komihash.proofs.utils.read_whole_words.Given as goal
 
 abbrev pub invariant-whole : goal.invariant-whole

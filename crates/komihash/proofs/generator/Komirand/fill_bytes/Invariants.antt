@@ -2,7 +2,7 @@
 use Rattle.std.proofs.Common.{◌≡◌, ◌*◌, length}
 use Rattle.komihash.specs.Generator.{after_steps, outputs, fill_steps}
 use Rattle.komihash.specs.Words.{all_bytes}
-use Rattle.komihash.proofs.Lists.{Covers}
+use Rattle.komihash.proofs.AllBytes.{Covers}
 use Rattle.komihash.proofs.generator.Komirand.fill_bytes.Given as goal
 
 abbrev pub invariant-words : goal.invariant-words
