@@ -2,8 +2,8 @@
 use Rattle.std.specs.Prelude.{ℕ, List, [], ◌++◌, codes, Ok, Err}
 use Rattle.std.specs.declared.result.Result.{Result}
 use Rattle.komisum.specs.declared.faults.Fault.{Fault}
+use Rattle.komisum.specs.declared.faults.Fault.TheVariants.{Read, TooLong, Write}
 use Rattle.komisum.specs.declared.ending.Refusal.TheVariants.{NoMemory, Usage}
-use Rattle.komisum.specs.Faults.{fault_text}
 use Rattle.komisum.specs.declared.ending.Ending.{Ending}
 use Rattle.komisum.specs.declared.ending.Ending.TheVariants.{Shown, Failed, Refused}
 
@@ -11,6 +11,12 @@ use Rattle.komisum.specs.declared.ending.Ending.TheVariants.{Shown, Failed, Refu
 abbrev pub ending_of : {T : Type 0} → Result T Fault → Ending
 ending_of (Ok _) = Shown
 ending_of (Err fault) = Failed fault
+
+-- the message of a fault
+abbrev pub fault_text : Fault → List ℕ
+fault_text Read = codes "read failed"
+fault_text TooLong = codes "too long"
+fault_text Write = codes "write failed"
 
 -- the line of a message: the program's name, the message and a newline
 abbrev pub message_line : List ℕ → List ℕ

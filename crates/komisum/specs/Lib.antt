@@ -1,5 +1,4 @@
 pub mod Ending
-pub mod Faults
 pub mod Program
 pub mod Settings
 pub mod Watched

@@ -1,7 +1,7 @@
 //! Why the program could not write its line.
 
 ghost use Rattle.std.specs.Prelude.{◌≡◌};
-ghost use Rattle.komisum.specs.Faults.{fault_text};
+ghost use Rattle.komisum.specs.Ending.{fault_text};
 
 /// Why the whole line was not written and flushed.
 #[derive(Drop)]

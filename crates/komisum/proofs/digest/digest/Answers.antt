@@ -28,5 +28,4 @@ loop-stream-preserved g c =
     let before = c.loop-stream.invariant.1 in
     let here = c.in-Ok.ensures in
     let all = given _ _ _ _ _ _ _ before.consumed here.bytes.0 here.bound.0 before.count in
-    let message = c.absorb.ensures.absorbed.message c.args.seed _ before.message in
-    search (rules, all, message)
+    search (rules, all)

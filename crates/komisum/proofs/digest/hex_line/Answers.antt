@@ -7,9 +7,7 @@ use Rattle.komisum.specs.Program.{line, digit_at}
 use Rattle.komisum.proofs.digest.hex_line.Goals as goal
 
 pub pow-requires : goal.pow-requires
-pow-requires c =
-    let i = c.loop-i.i in
-    omega (arith, pow-le-pow_right {n = 16} (omega arith) {i = 15 - i} {j = 15} (omega arith))
+pow-requires c = grind (arith, pow-le-pow_right)
 
 pub nonzero_div-digit : goal.nonzero_div-digit
 nonzero_div-digit c = omega (arith, c.pow.ensures, one-le-pow (15 - c.loop-i.i) 16 (omega arith))

@@ -24,11 +24,7 @@ parsed : {E : Type 0} (bs : List ℕ) (r : Result ℕ E) → ParsesUnsigned 64 1
     → list_all is_hex_digit bs ≡ true → 0 < length bs → length bs ≤ 16
     → r ≡ Ok (digits_value 16 bs)
 parsed bs r parses digits some few =
-    let all = plain bs digits in
-    Ok-from_Ok_iff r _ _ (rw all.1 at parses) (
-      (some, all.0),
-      omega (arith, digits_value-lt 16 bs all.0, pow-le-pow_right {n = 16} (omega arith) few),
-    )
+    grind (arith, plain, Ok-from_Ok_iff, digits_value-lt, pow-le-pow_right)
 
 pub returns : goal.returns
 returns c =
