@@ -7,6 +7,7 @@ use Rattle.std.proofs.Common.{get_or-drop, slice_index}
 use Rattle.std.proofs.lemmas.Bool.{cases_lt}
 use Rattle.std.proofs.lemmas.Bool.Decides.{nat_tests}
 use Rattle.std.proofs.lemmas.Grind.{elements}
+use Rattle.std.proofs.lemmas.List.{nil_from_length}
 use Rattle.komihash.specs.Hash.{komi, hash_from_pair}
 use Rattle.komihash.specs.Padding.{pads_with_two, padding_byte}
 use Rattle.komihash.specs.Rounds.{join, closing}
@@ -71,6 +72,10 @@ absorb-blocks v s [] few = rw (blocks_state-few v s [] (omega arith), append-nil
 absorb-blocks v s (b ∷ bytes) few =
     let next = absorb-blocks v (absorb_byte v s b) bytes in
     grind (arith, nat_tests, next, absorb_byte-full, length-append {A = ℕ}, append_assoc)
+
+-- what the proof of `complete_blocks` needs
+pub ruleset blocks_completed =
+    (absorb-blocks, completed, nat_tests, elements, length-append, nil_from_length)
 
 -- absorbing bytes that fill no block only appends them
 pub absorb-few : (v : ℕ) (s : State) (bytes : List ℕ) → length s.pending + length bytes < 64

@@ -92,6 +92,7 @@ impl RawStream {
     // Absorbs bytes that complete a block or more. Copies those that complete the partial block, if
     // there is one, and those after the last block. It stays out of callers, which would get long.
     #[inline(never)]
+    #[tactic(auto, using(crate::proofs::Streams::blocks_completed))]
     fn complete_blocks<const V: u8>(&mut self, bytes: &[u8], tally: &mut Tally)
         requires { 64 ≤ length self.old.pending + length bytes.now }
         ensures state { self.new ≡ absorb V self.old bytes.now }

@@ -15,10 +15,7 @@ returns-then-is_without_bytes-clause-none g c p =
     omega (arith, found.0)
 
 pub returns-then-is_padding_byte-clause-message : goal.returns-then-is_padding_byte-clause-message
-returns-then-is_padding_byte-clause-message g c =
-    unpadded g.row.V _ c.type_inv.words (omega arith) c.highest_place-place.ensures (omega arith)
-    (c.is_padding_byte.ensures.0 c.if-is_padding_byte.true)
+returns-then-is_padding_byte-clause-message g c = grind (arith, unpadded)
 
 pub returns-else-is_padding_byte-clause-none : goal.returns-else-is_padding_byte-clause-none
-returns-else-is_padding_byte-clause-none g c =
-    search (rules, arith, one_place)
+returns-else-is_padding_byte-clause-none g c = search (rules, arith, one_place)

@@ -5,7 +5,7 @@ use Rattle.std.proofs.lemmas.List.{drop_more, append-nil}
 use Rattle.std.proofs.lemmas.Grind.{common_steps}
 use Rattle.komihash.specs.Stream.{absorb, HasAbsorbed}
 use Rattle.komihash.specs.declared.stream.Call.{Call}
-use Rattle.komihash.specs.declared.stream.Call.TheVariants.{Absorb, Answer}
+use Rattle.komihash.specs.declared.stream.Call.TheVariants.{Absorb}
 use Rattle.komihash.proofs.CallLists.{onward-first, onward-message}
 use Rattle.komihash.proofs.Streams.{absorb-nothing, more_absorbed}
 use Rattle.komihash.proofs.stream.run_on.Goals as goal
@@ -30,17 +30,13 @@ loop-call-preserved g c =
           let first = onward-first v now _ (Absorb bytes) after few state in
           rw (w.stream-is, w.out-is, w.tally-is, w.count-is) (grind (arith, common_steps))
       | in-Answer w ↦
-          let is = rw (left _ _ w.in-Answer.is) at c.loop-call.invariant in
           let same = absorb-nothing v now in
-          let first = onward-first v now now Answer after few (sym same) in
           rw (w.stream-is, w.out-is, w.tally-is, w.count-is) (grind (arith, common_steps))
     ]
 
 pub returns-clause-hashes : goal.returns-clause-hashes
-returns-clause-hashes g c =
-    search (rules, arith, onward-message, common_steps)
+returns-clause-hashes g c = search (rules, arith, onward-message, common_steps)
 
 pub returns-clause-absorbed : goal.returns-clause-absorbed
 unfolding HasAbsorbed
-returns-clause-absorbed g c =
-    search (rules, arith, absorb-nothing, common_steps, more_absorbed)
+returns-clause-absorbed g c = search (rules, arith, absorb-nothing, common_steps, more_absorbed)

@@ -25,7 +25,6 @@ words-preserved g c =
 pub returns-then-has_remainder : goal.returns-then-has_remainder
 returns-then-has_remainder g c =
     let n = length c.args.buffer.now in
-    let same : length c.words.buffer ≡ n = omega arith in
     let done : c.words.i ≡ n / 8 = omega arith in
     let last : (n + 7) / 8 ≡ n / 8 + 1 = omega arith in
     let is = rw done at c.words.invariant in

@@ -20,11 +20,7 @@ rotated : (w b c : ℕ) → w < 2 ^ 64 → (b + c ≡ 64) × (0 < c)
     → rotate_left w64 w b ≡ w * 2 ^ b % 2 ^ 64 + w / 2 ^ c
 rotated w zero c lt places = let all : c ≡ 64 = omega arith in rw all (grind (arith, or_self))
 rotated w (suc b) c lt (sum, some) =
-    let turn : suc b % 64 ≡ suc b = omega arith in
-    let back : (64 - suc b % 64) % 64 ≡ c = omega arith in
-    let total : c + suc b ≡ 64 = omega arith in
-    rw (back, turn, rw total at (shl_mod w (suc b) c))
-    (or_shifted (w % 2 ^ c) (suc b) (w / 2 ^ c) (shr_below w (suc b) c (rw sum lt)))
+    grind (arith, shl_mod, or_shifted, shr_below)
 
 pub returns : goal.returns
 returns c =
@@ -40,10 +36,9 @@ returns c =
     let partial = StoresBut-partial c.requires.pending bytes _ (c.args.len / 8 + 1)
     ((c.args.len + length bytes + 7) / 8) are first (omega arith) in
     -- the difference of the code is the word of those that don't fit
-    let parts = rotated _ (8 * over) (8 * fit) c.read_partial_word-word.type_inv (omega arith) in
     let left = c.read_partial_word-word.result * 2 ^ (8 * over) % 2 ^ 64 in
     let rest : c.rotate_left.result - left ≡ word_of (drop fit bytes) =
-    grind (arith, parts, word, word_of-drop fit bytes are) in
+    grind (arith, rotated, word, word_of-drop fit bytes are) in
     rw (c.word_index.ensures, rest) (elim (cases_lt fit (length bytes)) [
       | inl more ↦
           let zero = get_or-after_partial c.requires.pending at (omega arith) (omega arith) in
@@ -56,6 +51,4 @@ returns c =
     ])
 
 pub overflow_sub-words : goal.overflow_sub-words
-overflow_sub-words c =
-    let turn : 8 * (c.args.len % 8) % 64 ≡ 8 * (c.args.len % 8) = omega arith in
-    rw (c.rotate_left.ensures, turn) (le_or_l _ _)
+overflow_sub-words c = grind (arith, le_or_l)

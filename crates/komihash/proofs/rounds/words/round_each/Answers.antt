@@ -4,7 +4,5 @@ use Rattle.komihash.proofs.rounds.words.round_each.Goals as goal
 
 pub returns-clause-hash : goal.returns-clause-hash
 returns-clause-hash g c last =
-    let first = c.round_at-pair.ensures.hash last in
-    let second = c.round_at-pair-2.ensures.hash last in
     let third = c.round_at.ensures.hash last in
     grind arith
