@@ -1,2 +1,1 @@
 mod Prefixes
-mod Steps
