@@ -1,7 +1,10 @@
-"""The cases of each function, and how a worker checks one of them."""
+"""The cases of each function, how one is checked, and the processes that work on them."""
 import collections
+import multiprocessing
 import signal
 import time
+from concurrent.futures import ProcessPoolExecutor, as_completed
+from concurrent.futures.process import BrokenProcessPool
 import fixed_lengths as fixed
 import header
 import terms
@@ -150,3 +153,16 @@ def run_case(case):
         failure = Unknown(f'{type(error).__name__}: {error}')
     signal.setitimer(signal.ITIMER_PROF, 0)
     return Done(case, failure, time.process_time() - begin, ran, depth, terms.ASKED[0])
+
+
+def results(jobs, do, tasks, begin=None):
+    """What a function returns for each task, in any order. The processes are forks, so they know
+    what this one has read. Each begins with a call of `begin`."""
+    with ProcessPoolExecutor(jobs, multiprocessing.get_context('fork'), begin) as pool:
+        try:
+            yield from (one.result() for one in as_completed(pool.submit(do, t) for t in tasks))
+        except BrokenProcessPool:
+            raise Unknown('a process ended, perhaps because memory ran out') from None
+        finally:
+            for process in multiprocessing.active_children():
+                process.terminate()

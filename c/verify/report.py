@@ -6,14 +6,13 @@ import argparse
 import hashlib
 import os
 import sys
-from cases import NAMES, cases_of, open_library, run_case
+from cases import NAMES, cases_of, open_library, results, run_case
 from elf import MEMORY
 from layout import Ours
 from progress import Progress
 from streams import check_streams
 from terms import Unknown
 from vectors import check_all_values
-from workers import results
 
 # How many seconds of processor time the cases of a function may take together.
 SECONDS = 1200

@@ -1,9 +1,9 @@
 """The definition of streams against that of the hash."""
 import z3
 from calls import named, some_state
+from cases import results
 from definition import VERSIONS, Products, hash_from_lanes, komi, padded_words, start
 from terms import Unknown, secret
-from workers import results
 
 
 def check_length(length):

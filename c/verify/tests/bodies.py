@@ -9,7 +9,7 @@ import sys
 import tempfile
 C = pathlib.Path(__file__).resolve().parent.parent.parent
 from attacks import NAME, count, is_wanted, refusal
-from workers import results
+from cases import results
 
 LIBRARY = 'libkomihash_rattle.so.1'
 # A name, a function (or that of NAME), why it is refused, if it is, and a body, before which `red

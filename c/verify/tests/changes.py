@@ -12,7 +12,6 @@ from calls import Call
 from definition import State
 from header import parameters
 from terms import Unknown, bv, join
-from workers import results
 
 # By function, the calls that are left out.
 CALLS = {
@@ -84,7 +83,7 @@ def changes(path, content):
         ('no solver', 'not answer', (cases.terms, 'SOLVERS', ()), judge('_rand_next', '')),
         ('an error', 'Unknown(', (),
          lambda: repr(cases.run_case(cases.Case('komihash_v4', lambda *_: 1 // 0, ())).failure)),
-        ('an error of Z3', 'a process ended', (), lambda: [*results(1, z3.BitVecSort, [0])])]
+        ('an error of Z3', 'a process ended', (), lambda: [*cases.results(1, z3.BitVecSort, [0])])]
 
 
 def rows(library):
