@@ -72,24 +72,13 @@ fn streams_of_two_writes() {
     }
 }
 
-/// Compares a sum of hashes of many lengths with that of the crate `komihash`, and
-/// hashes the longest message also in pieces.
+/// Compares a sum of hashes of many lengths with that of the crate `komihash`.
 #[test]
 fn many_lengths() {
     let mut message = vec![0; 100_000];
     Komirand::new(1, 2).fill_bytes(&mut message);
     let hashes = (0..=300).chain([100_000]).map(|it| komihash(&message[..it], SEED));
     assert_eq!(hashes.fold(0u64, |sum, hash| sum.rotate_left(1) ^ hash), SUM);
-    let (mut stream, mut random) = (StreamedKomihash::new_with_seed(SEED), Komirand::init(4));
-    let mut rest = &message[..];
-    while !rest.is_empty() {
-        let longest = 1 << (random.next() % 14);
-        let length = 1 + random.next() as usize % longest;
-        let (piece, after) = rest.split_at(length.min(rest.len()));
-        stream.write(piece);
-        rest = after;
-    }
-    assert_eq!(stream.finish(), komihash(&message, SEED));
 }
 
 #[test]
