@@ -2,7 +2,7 @@
 -- for each path of `src/hash.rt`.
 use Rattle.std.proofs.Common.{◌≡◌, ℕ, zero, suc, ◌+◌, ◌-◌, ◌*◌, ◌/◌, ◌%◌, ◌<◌, ◌≤◌, true, false}
 use Rattle.std.proofs.Common.{List, [], ◌∷◌, ◌++◌, length, take, drop, refl, arith, drop-drop}
-use Rattle.std.proofs.Common.{eqb-true, slice_index}
+use Rattle.std.proofs.Common.{slice_index}
 use Rattle.std.proofs.lemmas.Grind.{elements}
 use native.Mathlib.Numerals.{unary_clauses}
 use Rattle.komihash.specs.Rounds.{Lanes, lanes, seed_pair, block_round, pair_round, join, closing}
@@ -145,5 +145,4 @@ pub ruleset hash_laws = (
   last_word-after_blocks,
   komi-blocks,
   length-whole_words,
-  eqb-true,
 )
