@@ -2,7 +2,7 @@
 -- written over piece by piece.
 use Rattle.std.proofs.Common.{◌≡◌, ℕ, zero, suc, ◌+◌, ◌*◌, ◌/◌, ◌%◌, ◌<◌, ◌≤◌, List, [], ◌∷◌}
 use Rattle.std.proofs.Common.{length, take, drop, get_or, set, refl, ap, arith, ◌∙◌, sym, take-add}
-use Rattle.std.proofs.Common.{w64, ◌-◌, ◌++◌}
+use Rattle.std.proofs.Common.{w64}
 use Rattle.std.proofs.lemmas.List.{drop-drop}
 use Rattle.std.proofs.lemmas.List.{take-append-le}
 use Rattle.std.proofs.lemmas.Slice.{take-put_mid, drop-put_mid}
@@ -81,10 +81,6 @@ take-word_of : (xs : List ℕ) → AreBytes xs
 take-word_of xs are =
     ap (take (length xs)) (sym (simp div-div-eq-div-mul)) ∙ digits-word_of 8 xs are
 
-take-append : (n : ℕ) (xs ys : List ℕ)
-    → take n (xs ++ ys) ≡ take n xs ++ take (n - length xs) ys
-take-append n xs ys = grind (arith, elements)
-
 -- the words that store bytes have these bytes
 pub bytes-stored_words : (n : ℕ) (xs : List ℕ) → AreBytes xs → length xs ≤ 8 * n
     → take (length xs) (all_bytes (stored_words n xs)) ≡ xs
@@ -94,8 +90,7 @@ bytes-stored_words zero (x ∷ xs) are le = absurd (omega arith)
 bytes-stored_words (suc n) xs are le =
     let others = bytes-stored_words n (drop 8 xs) (AreBytes-drop 8 xs are) in
     let word = take-word_of xs are in
-    let cut = take-append (length xs) (to_le_bytes w64 (word_of (take 8 xs))) in
-    grind (arith, others, word, cut)
+    grind (arith, others, word)
 
 pub all_bytes-whole_words : (xs : List ℕ) → AreBytes xs → length xs % 8 ≡ 0
     → all_bytes (whole_words xs) ≡ xs

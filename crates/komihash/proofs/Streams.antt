@@ -92,9 +92,8 @@ pub IsState-absorb : (v : ℕ) (s : State) (bytes : List ℕ) → IsState v s �
     → IsState v (absorb v s bytes)
 IsState-absorb v s bytes is are =
     let all = s.pending ++ bytes in
-    let both = AreBytes-append s.pending bytes is.bytes are in
     let words = AreWords-block_lanes v s.lanes (whole_words all) is.words in
-    grind (arith, both, AreBytes-drop, words, absorb-blocks, length-after_blocks)
+    grind (arith, AreBytes-append, AreBytes-drop, words, absorb-blocks, length-after_blocks)
 
 -- what the proof of a write needs
 pub ruleset more_absorbed = (absorb-append, absorb-few, IsState-absorb, AreBytes-typed)

@@ -81,8 +81,7 @@ word_of-join xs ys n h g size le =
     let k = 8 * n in
     let fit = shl_mod (word_of ys) k (8 * (8 - n)) in
     let below = word_of-take-lt n xs h in
-    let or_word = or_shifted_r (word_of (take (8 - n) ys)) k (word_of xs) in
-    grind (arith, elements, fit, below, word_of-take, word_of-append, or_word)
+    grind (arith, elements, fit, below, word_of-take, word_of-append, or_shifted_r)
 
 -- a shift to the left and `|` set one byte after others
 pub word_of-push : (xs : List ℕ) (n b : ℕ) → AreBytes xs → length xs ≡ n → n < 8 → b < 256
@@ -118,8 +117,7 @@ word_of-two_ends xs b s h least most small e =
     let join = word_of-join (take 4 zs) (drop 4 zs) 4 four_are (AreBytes-drop 4 zs are) in
     let four = take_all 4 (drop k xs) in
     let eight = take_all 8 zs in
-    let drops = drop-append-le k xs (b ∷ []) in
-    grind (arith, push, last, join, four, eight, length-append xs (b ∷ []), drops)
+    grind (arith, push, last, join, four, eight, length-append xs (b ∷ []), drop-append-le)
 
 -- at most three bytes are read one by one
 pub word_of-few : (xs : List ℕ) → length xs < 4

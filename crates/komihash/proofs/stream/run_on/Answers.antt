@@ -1,10 +1,9 @@
 -- A turn makes the first of the calls that are left (`onward-first`). After the loop none is left,
 -- so the answers so far are all answers, and those of a stream that absorbed a message are hashes.
-use Rattle.std.proofs.Common.{◌≡◌, sym, ◌+◌, get_or, drop, ap, arith, rules, ◌∙◌, ◌∷◌}
-use Rattle.std.proofs.lemmas.List.{drop_more, append-nil}
+use Rattle.std.proofs.Common.{sym, ◌+◌, drop, ap, arith, rules, ◌∙◌}
+use Rattle.std.proofs.lemmas.List.{append-nil}
 use Rattle.std.proofs.lemmas.Grind.{common_steps}
 use Rattle.komihash.specs.Stream.{absorb, HasAbsorbed}
-use Rattle.komihash.specs.declared.stream.Call.{Call}
 use Rattle.komihash.specs.declared.stream.Call.TheVariants.{Absorb}
 use Rattle.komihash.proofs.CallLists.{onward-first, onward-message}
 use Rattle.komihash.proofs.Streams.{absorb-nothing, more_absorbed}
@@ -19,19 +18,16 @@ loop-call-preserved g c =
     let calls = c.args.calls.now in
     let i = c.loop-call.call-index in
     let after = drop (i + 1) calls in
-    let left = λ (d call : Call) (is : get_or calls i d ≡ call).
-    drop_more calls i d c.loop-call-test.true ∙ ap (λ x. x ∷ after) is in
     elim c.match-call.branch [
       | in-Absorb w ↦
           let bytes = w.in-Absorb.bytes in
-          let is = rw (left _ _ w.in-Absorb.is) at c.loop-call.invariant in
           let alone = sym (append-nil bytes.now) in
           let state = w.absorb.ensures.absorbed.state ∙ ap (absorb v now) alone in
           let first = onward-first v now _ (Absorb bytes) after few state in
-          rw (w.stream-is, w.out-is, w.tally-is, w.count-is) (grind (arith, common_steps))
+          grind (arith, common_steps)
       | in-Answer w ↦
           let same = absorb-nothing v now in
-          rw (w.stream-is, w.out-is, w.tally-is, w.count-is) (grind (arith, common_steps))
+          grind (arith, common_steps)
     ]
 
 pub returns-clause-hashes : goal.returns-clause-hashes
