@@ -44,8 +44,8 @@ static const char HELP[] =
 
 /* What is told of a check: the last of these options counts. */
 enum { ALL, QUIET, STATUS, WARN };
-static int version = 5, check, ignore_missing, progress, strict, tag, told;
-static uint64_t seed;
+static int check, ignore_missing, progress, strict, tag, told;
+static struct kind { int version; uint64_t seed, hash; } given = {5, 0, 0};
 static char mark, line_end = '\n'; /* what stands before a name, if asked for, and after a line */
 static unsigned char bytes[131072];
 static const struct option OPTIONS[] = {
@@ -141,15 +141,15 @@ static void show_progress(int file, const char *name, uint64_t length) {
     show(" MiB  %.*s%s", 50, name, "");
 }
 
-/* Sets `hash` to that of a file, and returns 0. If the file can't be read, returns why. */
-static int hash_file(const char *name, uint64_t *hash) {
-    komihash_v4_stream stream_4 = komihash_v4_start(seed);
-    komihash_v5_stream stream_5 = komihash_v5_start(seed);
+/* Sets the hash to that of a file, and returns 0. If the file can't be read, returns why. */
+static int hash_file(const char *name, struct kind *kind) {
+    komihash_v4_stream stream_4 = komihash_v4_start(kind->seed);
+    komihash_v5_stream stream_5 = komihash_v5_start(kind->seed);
     const int file = open_file(name);
     uint64_t total = 0;
     int length = file;
     while (file >= 0 && (length = read(file, bytes, sizeof bytes)) > 0) {
-        if (version == 4)
+        if (kind->version == 4)
             komihash_v4_write(&stream_4, bytes, length);
         else
             komihash_v5_write(&stream_5, bytes, length);
@@ -160,7 +160,7 @@ static int hash_file(const char *name, uint64_t *hash) {
         fprintf(stderr, CLEAR, "");
     if (file > 0)
         close(file);
-    *hash = version == 4 ? komihash_v4_finish(&stream_4) : komihash_v5_finish(&stream_5);
+    kind->hash = kind->version == 4 ? komihash_v4_finish(&stream_4) : komihash_v5_finish(&stream_5);
     return error;
 }
 
@@ -197,19 +197,19 @@ static bool unescape(char *name, const char *last) {
 
 /* Prints the hash of a file, and returns whether it could be read. */
 static bool print_hash(const char *name) {
-    uint64_t hash;
+    struct kind kind = given;
     char before[32], after[24] = "";
-    const int error = hash_file(name, &hash);
+    const int error = hash_file(name, &kind);
     if (error)
         return fail(name, strerror(error));
     if (tag) {
-        const int end = snprintf(before, sizeof before, "KOMIHASH%d", version);
-        if (seed)
-            snprintf(before + end, sizeof before - end, "-%" PRIx64, seed);
+        const int end = snprintf(before, sizeof before, "KOMIHASH%d", kind.version);
+        if (kind.seed)
+            snprintf(before + end, sizeof before - end, "-%" PRIx64, kind.seed);
         strcat(before, " (");
-        snprintf(after, sizeof after, ") = %016" PRIx64, hash);
+        snprintf(after, sizeof after, ") = %016" PRIx64, kind.hash);
     } else
-        snprintf(before, sizeof before, "%016" PRIx64 " %c", hash, mark ? mark : ' ');
+        snprintf(before, sizeof before, "%016" PRIx64 " %c", kind.hash, mark ? mark : ' ');
     return print(line_end && strpbrk(name, SPECIAL), before, name, after);
 }
 
@@ -235,16 +235,16 @@ static char *read_line(FILE *list, size_t *length) {
 #define BLANKS " \t"
 #define DIGITS "0123456789abcdefABCDEF"
 
-/* Returns the name in the rest of a line of --tag, which ends at `last`. Sets the version, the seed
- * and `hash`. Returns NULL if the line has another form. */
-static char *parse_tag(char *line, char *last, bool is_escaped, uint64_t *hash) {
-    version = *line++ - '0';
-    seed = 0;
+/* Returns the name in the rest of a line of --tag, which ends at `last`, and sets its kind. Returns
+ * NULL if the line has another form. */
+static char *parse_tag(char *line, char *last, bool is_escaped, struct kind *kind) {
+    kind->version = *line++ - '0';
+    kind->seed = 0;
     if (*line == '-') {
         const size_t count = strspn(++line, DIGITS);
         if (count < 1 || count > 16)
             return NULL;
-        seed = strtoull(line, &line, 16);
+        kind->seed = strtoull(line, &line, 16);
     }
     char *const name = line + (*line == ' ') + 1, *end = last;
     while (end > line && *end != ')')
@@ -254,23 +254,23 @@ static char *parse_tag(char *line, char *last, bool is_escaped, uint64_t *hash) 
         return NULL;
     *end = 0;
     digits += strspn(digits, BLANKS);
-    *hash = strtoull(digits, NULL, 16);
+    kind->hash = strtoull(digits, NULL, 16);
     return strspn(digits, DIGITS) == 16 && !digits[16] ? name : NULL;
 }
 
-/* Returns the name in a line that ends at `last`, and sets `hash`, and if the line tells them, the
- * version and the seed. Returns NULL if the line has another form. */
-static char *parse_line(char *line, char *last, uint64_t *hash) {
+/* Returns the name in a line that ends at `last`, and sets what it tells of the kind. Returns NULL
+ * if the line has another form. */
+static char *parse_line(char *line, char *last, struct kind *kind) {
     line += strspn(line, BLANKS);
     const bool is_escaped = *line == '\\';
     line += is_escaped;
     if (strncmp(line, "KOMIHASH4", 9) == 0 || strncmp(line, "KOMIHASH5", 9) == 0)
-        return parse_tag(line + 8, last, is_escaped, hash);
+        return parse_tag(line + 8, last, is_escaped, kind);
     if (strspn(line, DIGITS) != 16 || (line[16] != ' ' && line[16] != '\t') ||
         (line[17] != ' ' && line[17] != '*') || !line[18] ||
         (is_escaped && !unescape(line + 18, last)))
         return NULL;
-    *hash = strtoull(line, NULL, 16);
+    kind->hash = strtoull(line, NULL, 16);
     return line + 18;
 }
 
@@ -279,14 +279,14 @@ enum { MATCHES, DIFFERS, UNREADABLE, MISSING, MALFORMED, RESULTS };
 static const char *const TEXTS[] = {": OK", ": FAILED", ": FAILED open or read"};
 
 /* Checks a file, and returns and prints the result. */
-static int check_file(const char *name, uint64_t wanted) {
-    uint64_t hash;
-    const int error = hash_file(name, &hash);
+static int check_file(const char *name, struct kind kind) {
+    const uint64_t wanted = kind.hash;
+    const int error = hash_file(name, &kind);
     if (error == ENOENT && ignore_missing)
         return MISSING;
     if (error)
         fail(name, strerror(error));
-    const int result = error ? UNREADABLE : hash == wanted ? MATCHES : DIFFERS;
+    const int result = error ? UNREADABLE : kind.hash == wanted ? MATCHES : DIFFERS;
     if (told != STATUS && !(told == QUIET && result == MATCHES))
         print(strchr(name, '\n'), "", name, TEXTS[result]);
     return result;
@@ -322,20 +322,19 @@ static bool check_list(const char *name) {
     FILE *list = number < 0 ? NULL : number ? fdopen(number, "rb") : stdin;
     if (!list)
         return fail(name, strerror(errno));
-    const int version_given = version;
-    const uint64_t seed_given = seed;
     unsigned long counts[RESULTS] = {0}, lines = 0;
     size_t length;
     name = number ? name : "standard input";
     for (char *line; (line = read_line(list, &length)); lines++) {
-        uint64_t wanted;
-        const char *file = parse_line(line, line + length, &wanted);
+        struct kind kind = given;
+        const char *file = parse_line(line, line + length, &kind);
         if (file && (number || strcmp(file, "-")))
-            counts[check_file(file, wanted)]++;
-        else if (length && *line != '#' && counts[MALFORMED]++ + 1 && told == WARN)
-            warn_of_line(name, lines + 1);
-        version = version_given;
-        seed = seed_given;
+            counts[check_file(file, kind)]++;
+        else if (length && *line != '#') {
+            counts[MALFORMED]++;
+            if (told == WARN)
+                warn_of_line(name, lines + 1);
+        }
     }
     const bool failed = ferror(list);
     if (number)
@@ -349,15 +348,17 @@ static bool are_allowed(void) {
         told == STATUS ? "--status" : told == WARN ? "--warn" : strict ? "--strict" : NULL;
     const char *never = tag ? "--tag" : !line_end ? "--zero" : mark == '*' ? "--binary" :
         mark ? "--text" : NULL;
-    return check ? !never || fail(never, "this option is not for --check") :
-        only ? fail(only, "this option is only for --check") :
-        !tag || mark != ' ' || fail("--text", "this option is not for --tag");
+    if (check)
+        return !never || fail(never, "this option is not for --check");
+    if (only)
+        return fail(only, "this option is only for --check");
+    return !tag || mark != ' ' || fail("--text", "this option is not for --tag");
 }
 
 static bool set_seed(const char *text) {
     char *end;
     errno = 0;
-    seed = strtoull(text, &end, strncmp(text, "0x", 2) == 0 ? 16 : 10);
+    given.seed = strtoull(text, &end, strncmp(text, "0x", 2) == 0 ? 16 : 10);
     return (text[0] >= '0' && text[0] <= '9' && !*end && errno == 0) ||
         fail(text, "the seed must be a number below 2^64");
 }
@@ -367,7 +368,7 @@ static int run(int count, char **arguments) {
     int option = 0;
     while (option != '?' && option != -1) {
         switch (option = getopt_long(count, arguments, "4bcs:twz", OPTIONS, NULL)) {
-        case '4': version = 4; break;
+        case '4': given.version = 4; break;
         case 'b': mark = '*'; break;
         case 'c': check = 1; break;
         case 'h': fputs(HELP, stdout); return flush();

@@ -151,14 +151,14 @@ odd_on_windows() (
 )
 
 # A list in which each line tells its version and its seed.
-tagged() {
+tagged() (
     cd "$scratch" && printf a > a && {
-        komihashsum --tag a; komihashsum -4 --tag a; komihashsum -s 0x4d --tag a
-        komihashsum -4 -s 18446744073709551615 --tag a; komihashsum a; } > tags &&
+        for kind in '' -4 '-s 0x4d' '-4s 18446744073709551615'; do komihashsum $kind --tag a; done
+        komihashsum a; } > tags &&
         prints "KOMIHASH4-4d (a) = 238674fd3b1b6344" komihashsum -4s77 --tag a &&
         grep '^KOMIHASH4-ffffffffffffffff (a)' tags && komihashsum -c tags &&
         head -n 4 tags | komihashsum -4s9 -cw --status
-}
+)
 
 run_case 'komihashsum, versions and seeds' seeded
 run_case 'komihashsum, lines that tell version and seed' tagged
