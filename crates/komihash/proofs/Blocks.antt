@@ -5,7 +5,7 @@ use Rattle.std.proofs.lemmas.List.{length-drop, take-append-drop, drop-drop}
 use Rattle.std.proofs.lemmas.List.{drop_at, append_assoc}
 use Rattle.std.proofs.lemmas.Grind.{elements}
 use Rattle.komihash.specs.Rounds.{Lanes, block_round}
-use Rattle.komihash.specs.Internals.{whole_words, after_words, block_lanes, after_blocks}
+use Rattle.komihash.specs.Internals.{whole_words, after_eights, block_lanes, after_blocks}
 use Rattle.komihash.proofs.WholeWords.{whole_words-append, length-whole_words}
 
 -- ---- the lanes
@@ -75,12 +75,12 @@ block_lanes-more v l xs le = (completed v l [] xs 64 refl le).lanes
 
 -- ---- the words after them, and the bytes after their last word
 
-pub after_words-after_blocks : (m : List ℕ) → after_words (after_blocks m) ≡ after_words m
-after_words-after_blocks m = grind (arith, elements)
+pub after_eights-after_blocks : (m : List ℕ) → after_eights (after_blocks m) ≡ after_eights m
+after_eights-after_blocks m = grind (arith, elements)
 
-pub after_words-whole_words : (m : List ℕ)
-    → after_words (whole_words m) ≡ whole_words (after_blocks m)
-after_words-whole_words m =
+pub after_eights-whole_words : (m : List ℕ)
+    → after_eights (whole_words m) ≡ whole_words (after_blocks m)
+after_eights-whole_words m =
     let n = length m - length m % 64 in
     let cut = whole_words-append (take n m) (after_blocks m) (8 * (length m / 64)) in
     grind (arith, elements, cut, length-whole_words)

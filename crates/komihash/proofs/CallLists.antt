@@ -14,19 +14,19 @@ use Rattle.komihash.proofs.Streams.{absorb-append, absorb-nothing, absorb-blocks
 
 -- ---- how many bytes are pending
 
-pub pending-absorb : (v : ℕ) (s : State) (bytes : List ℕ) → length s.pending < 64
+pub absorb-pending : (v : ℕ) (s : State) (bytes : List ℕ) → length s.pending < 64
     → length (absorb v s bytes).pending ≡ (length s.pending + length bytes) % 64
-pending-absorb v s bytes few =
+absorb-pending v s bytes few =
     grind (arith, absorb-blocks, length-after_blocks, length-append {A = ℕ})
 
 -- of a message, as many bytes are pending as stand after its whole blocks
 pub HasAbsorbed-pending : (v seed : ℕ) (s : State) (m : List ℕ) → HasAbsorbed v seed s m
     → length s.pending ≡ length m % 64
 unfolding HasAbsorbed
-HasAbsorbed-pending v seed s m is = grind (arith, pending-absorb)
+HasAbsorbed-pending v seed s m is = grind (arith, absorb-pending)
 
 -- what the proof of `absorb_costs` of `src/tests/calls.rt` needs
-pub ruleset costs = (pending-absorb)
+pub ruleset costs = (absorb-pending)
 
 -- ---- answers
 
@@ -107,7 +107,7 @@ pub onward-first : (v : ℕ) (s next : State) (call : Call) (calls : List Call)
     → CallFirst v s next call calls
 onward-first v s next (Absorb bytes) calls few is =
     let size = length-append bytes.now (bytes_of_calls calls) in
-    let pending = pending-absorb v s bytes.now few in
+    let pending = absorb-pending v s bytes.now few in
     let rest = costs-modulo (length s.pending + length bytes.now)
     (length (absorb v s bytes.now).pending) calls (omega arith) in
     grind (arith, append-nil, answers_after-same, absorb-append)

@@ -57,19 +57,19 @@ unfolding outputs
 length-outputs v zero s = refl
 length-outputs v (suc n) s = ap suc (length-outputs v n (next v s))
 
-pub output-at : (v n k : ℕ) (s : ℕ × ℕ) → k < n
+pub outputs-at : (v n k : ℕ) (s : ℕ × ℕ) → k < n
     → slice_index (outputs v n s) k ≡ (next v (after_steps v k s)).0
 unfolding after_steps outputs
-output-at v zero k s lt = absurd (omega arith)
-output-at v (suc n) zero s lt = refl
-output-at v (suc n) (suc k) s lt = output-at v n k (next v s) (omega arith)
+outputs-at v zero k s lt = absurd (omega arith)
+outputs-at v (suc n) zero s lt = refl
+outputs-at v (suc n) (suc k) s lt = outputs-at v n k (next v s) (omega arith)
 
 -- output k, from the pair before it
 pub outputs-next : (v k n : ℕ) (s now : ℕ × ℕ) → k < n → now ≡ after_steps v k s
     → ((next v now).0 ≡ slice_index (outputs v n s) k) × (next v now ≡ after_steps v (k + 1) s)
     × (k < length (outputs v n s))
 unfolding after_steps
-outputs-next v k n s now lt is = grind (arith, output-at, after_steps-add v k 1 s, length-outputs)
+outputs-next v k n s now lt is = grind (arith, outputs-at, after_steps-add v k 1 s, length-outputs)
 
 length-bytes : (v n : ℕ) (s : ℕ × ℕ) → length (all_bytes (outputs v n s)) ≡ 8 * n
 length-bytes v n s = length-all_bytes (outputs v n s) ∙ ap (λ k. 8 * k) (length-outputs v n s)

@@ -2,56 +2,56 @@
 -- for each path of `src/hash.rt`.
 use Rattle.std.proofs.Common.{◌≡◌, ℕ, zero, suc, ◌+◌, ◌-◌, ◌*◌, ◌/◌, ◌%◌, ◌<◌, ◌≤◌, true, false}
 use Rattle.std.proofs.Common.{List, [], ◌∷◌, ◌++◌, length, take, drop, refl, arith, drop-drop}
-use Rattle.std.proofs.Common.{slice_index}
+use Rattle.std.proofs.Common.{eqb-true, slice_index}
 use Rattle.std.proofs.lemmas.Grind.{elements}
 use native.Mathlib.Numerals.{unary_clauses}
 use Rattle.komihash.specs.Rounds.{Lanes, lanes, seed_pair, block_round, pair_round, join, closing}
 use Rattle.komihash.specs.Hash.{hash_from_pair, hash_from_lanes, komi}
-use Rattle.komihash.specs.Internals.{stored_words, whole_words, after_words, final_word}
+use Rattle.komihash.specs.Internals.{stored_words, whole_words, after_eights, final_word}
 use Rattle.komihash.specs.Internals.{padding_or_zero, block_lanes, after_blocks}
 use Rattle.komihash.specs.Words.{word_of}
-use Rattle.komihash.proofs.Blocks.{after_words-whole_words, length-after_blocks}
+use Rattle.komihash.proofs.Blocks.{after_eights-whole_words, length-after_blocks}
 use Rattle.komihash.specs.Padding.{padding_byte}
 use Rattle.komihash.proofs.PaddedWords.{padded_words-by_tail, final_word-whole}
 use Rattle.komihash.proofs.WholeWords.{length-whole_words, whole_words-few}
 
 -- a pair round takes two words that are followed by the final word
-pub hash_from_pair_two : (s : ℕ × ℕ) (ws : List ℕ) (at last : ℕ) → at + 2 ≤ length ws
-    → hash_from_pair s (drop at ws ++ last ∷ [])
+pub hash_from_pair_two : (s : ℕ × ℕ) (ws : List ℕ) (at final : ℕ) → at + 2 ≤ length ws
+    → hash_from_pair s (drop at ws ++ final ∷ [])
     ≡ hash_from_pair (pair_round s (slice_index ws at) (slice_index ws (at + 1)))
-    (drop (at + 2) ws ++ last ∷ [])
-hash_from_pair_two s (w0 ∷ w1 ∷ []) zero last le = refl
-hash_from_pair_two s (w0 ∷ w1 ∷ w ∷ ws) zero last le = refl
-hash_from_pair_two s (w ∷ ws) (suc at) last le =
-    simp unary_clauses (simp unary_clauses at (hash_from_pair_two s ws at last (omega arith)))
-hash_from_pair_two s ws at last le = absurd (omega arith)
+    (drop (at + 2) ws ++ final ∷ [])
+hash_from_pair_two s (w0 ∷ w1 ∷ []) zero final le = refl
+hash_from_pair_two s (w0 ∷ w1 ∷ w ∷ ws) zero final le = refl
+hash_from_pair_two s (w ∷ ws) (suc at) final le =
+    simp unary_clauses (simp unary_clauses at (hash_from_pair_two s ws at final (omega arith)))
+hash_from_pair_two s ws at final le = absurd (omega arith)
 
 -- ---- lanes and blocks
 
 -- fewer than eight words and the final word make no block
-hash_from_lanes-without_block : (v : ℕ) (s : Lanes) (ws : List ℕ) (last : ℕ) → length ws < 8
-    → hash_from_lanes v s false (ws ++ last ∷ []) ≡ hash_from_pair (join false s) (ws ++ last ∷ [])
-hash_from_lanes-without_block v s (w0 ∷ w1 ∷ w2 ∷ w3 ∷ w4 ∷ w5 ∷ w6 ∷ w7 ∷ ws) last lt =
+hash_from_lanes-without_block : (v : ℕ) (s : Lanes) (ws : List ℕ) (final : ℕ) → length ws < 8
+    → hash_from_lanes v s false (ws ++ final ∷ []) ≡ hash_from_pair (join false s) (ws ++ final ∷ [])
+hash_from_lanes-without_block v s (w0 ∷ w1 ∷ w2 ∷ w3 ∷ w4 ∷ w5 ∷ w6 ∷ w7 ∷ ws) final lt =
     absurd (omega arith)
-hash_from_lanes-without_block v s ws last lt = refl
+hash_from_lanes-without_block v s ws final lt = refl
 
 -- once a block was absorbed, the blocks that follow are absorbed, and then what is left is hashed
-hash_from_lanes-after_block : (v : ℕ) (s : Lanes) (ws : List ℕ) (last : ℕ)
-    → hash_from_lanes v s true (ws ++ last ∷ [])
-    ≡ hash_from_pair (join true (block_lanes v s ws)) (after_words ws ++ last ∷ [])
-hash_from_lanes-after_block v s (w0 ∷ w1 ∷ w2 ∷ w3 ∷ w4 ∷ w5 ∷ w6 ∷ w7 ∷ w ∷ ws) last =
+hash_from_lanes-after_block : (v : ℕ) (s : Lanes) (ws : List ℕ) (final : ℕ)
+    → hash_from_lanes v s true (ws ++ final ∷ [])
+    ≡ hash_from_pair (join true (block_lanes v s ws)) (after_eights ws ++ final ∷ [])
+hash_from_lanes-after_block v s (w0 ∷ w1 ∷ w2 ∷ w3 ∷ w4 ∷ w5 ∷ w6 ∷ w7 ∷ w ∷ ws) final =
     let block = w0 ∷ w1 ∷ w2 ∷ w3 ∷ w4 ∷ w5 ∷ w6 ∷ w7 ∷ [] in
     let drops = drop-drop (8 * (length (w ∷ ws) / 8)) 8 (block ++ w ∷ ws) in
-    let more = hash_from_lanes-after_block v (block_round v s block) (w ∷ ws) last in
+    let more = hash_from_lanes-after_block v (block_round v s block) (w ∷ ws) final in
     grind (arith, drops, more)
-hash_from_lanes-after_block v s ws last = refl
+hash_from_lanes-after_block v s ws final = refl
 
 -- eight words or more and the final word make a block, so it is the same if there was one before
-hash_from_lanes-first_block : (v : ℕ) (s : Lanes) (ws : List ℕ) (last : ℕ) → 8 ≤ length ws
-    → hash_from_lanes v s false (ws ++ last ∷ []) ≡ hash_from_lanes v s true (ws ++ last ∷ [])
-hash_from_lanes-first_block v s (w0 ∷ w1 ∷ w2 ∷ w3 ∷ w4 ∷ w5 ∷ w6 ∷ w7 ∷ []) last le = refl
-hash_from_lanes-first_block v s (w0 ∷ w1 ∷ w2 ∷ w3 ∷ w4 ∷ w5 ∷ w6 ∷ w7 ∷ w ∷ ws) last le = refl
-hash_from_lanes-first_block v s ws last le = absurd (omega arith)
+hash_from_lanes-first_block : (v : ℕ) (s : Lanes) (ws : List ℕ) (final : ℕ) → 8 ≤ length ws
+    → hash_from_lanes v s false (ws ++ final ∷ []) ≡ hash_from_lanes v s true (ws ++ final ∷ [])
+hash_from_lanes-first_block v s (w0 ∷ w1 ∷ w2 ∷ w3 ∷ w4 ∷ w5 ∷ w6 ∷ w7 ∷ []) final le = refl
+hash_from_lanes-first_block v s (w0 ∷ w1 ∷ w2 ∷ w3 ∷ w4 ∷ w5 ∷ w6 ∷ w7 ∷ w ∷ ws) final le = refl
+hash_from_lanes-first_block v s ws final le = absurd (omega arith)
 
 -- ---- the hash of a message, by its length
 
@@ -59,8 +59,8 @@ module _ (v seed : ℕ) (m : List ℕ) where
   abbrev pair : ℕ × ℕ
   pair = seed_pair seed
 
-  abbrev last : ℕ
-  last = final_word m (padding_byte v m)
+  abbrev final : ℕ
+  final = final_word m (padding_byte v m)
 
   -- the hash of fewer than 64 bytes, which have no block
   pub komi-few : length m < 64
@@ -74,41 +74,43 @@ module _ (v seed : ℕ) (m : List ℕ) where
 
   -- the hash of 1 to 63 bytes, whose final word has a padding byte
   pub komi-few_nonempty : 1 ≤ length m → length m < 64
-      → komi v seed m ≡ hash_from_pair pair (whole_words m ++ last ∷ [])
+      → komi v seed m ≡ hash_from_pair pair (whole_words m ++ final ∷ [])
   komi-few_nonempty some lt = grind (arith, komi-few)
 
   -- the hash of 64 bytes or more: whole blocks first, and then the bytes after them
   pub komi-long : 64 ≤ length m
       → komi v seed m ≡ hash_from_pair (join true (block_lanes v (lanes pair) (whole_words m)))
-      (whole_words (after_blocks m) ++ last ∷ [])
+      (whole_words (after_blocks m) ++ final ∷ [])
   unfolding komi
   komi-long le =
-      let first = hash_from_lanes-first_block v (lanes pair) (whole_words m) last in
-      let rest = hash_from_lanes-after_block v (lanes pair) (whole_words m) last in
-      grind (arith, first, rest, padded_words-by_tail, after_words-whole_words, length-whole_words)
+      let first = hash_from_lanes-first_block v (lanes pair) (whole_words m) final in
+      let rest = hash_from_lanes-after_block v (lanes pair) (whole_words m) final in
+      grind (arith, first, rest, padded_words-by_tail, after_eights-whole_words, length-whole_words)
 
-  -- ---- a law for each function of `src/hash.rt`
-
+  -- for `hash_of_partial_word`
   pub komi-partial_word : 1 ≤ length m → length m < 8
       → komi v seed m ≡ closing pair (word_of (m ++ padding_byte v m ∷ []) ∷ [])
   unfolding stored_words
   komi-partial_word some lt = grind (arith, komi-few_nonempty)
 
+  -- for `hash_of_one_word`
   pub komi-one_word : 8 ≤ length m → length m < 16
-      → komi v seed m ≡ closing pair (word_of (take 8 m) ∷ last ∷ [])
+      → komi v seed m ≡ closing pair (word_of (take 8 m) ∷ final ∷ [])
   unfolding stored_words
   komi-one_word le lt =
       let count : length m / 8 ≡ 1 = omega arith in
       rw (komi-few_nonempty (omega arith) (omega arith), count) refl
 
+  -- for `hash_of_16_bytes`
   pub komi-two_words : 16 ≤ length m → length m < 24
       → komi v seed m
-      ≡ closing (pair_round pair (word_of (take 8 m)) (word_of (take 8 (drop 8 m)))) (last ∷ [])
+      ≡ closing (pair_round pair (word_of (take 8 m)) (word_of (take 8 (drop 8 m)))) (final ∷ [])
   unfolding stored_words
   komi-two_words le lt =
       let count : length m / 8 ≡ 2 = omega arith in
       rw (komi-few_nonempty (omega arith) (omega arith), count) refl
 
+-- for `hash_of_blocks`, where no whole word is left
 pub komi-blocks : (v seed : ℕ) (m : List ℕ) → 64 ≤ length m → length m % 64 < 8
     → komi v seed m
     ≡ closing (join true (block_lanes v (lanes (seed_pair seed)) (whole_words m)))
@@ -120,8 +122,9 @@ pub last_word-after_blocks : (m : List ℕ) → 0 < length (whole_words (after_b
     → slice_index (whole_words m) (length m / 8 - 1)
     ≡ slice_index (whole_words (after_blocks m)) (length (whole_words (after_blocks m)) - 1)
 last_word-after_blocks m some =
-    let words = after_words-whole_words m in grind (arith, elements, words, length-whole_words)
+    let words = after_eights-whole_words m in grind (arith, elements, words, length-whole_words)
 
+-- for the message of no bytes
 pub komi-empty : (v seed : ℕ) (m : List ℕ) → length m ≡ 0
     → komi v seed m ≡ closing (seed_pair seed) (0 ∷ [])
 unfolding komi
@@ -145,4 +148,5 @@ pub ruleset hash_laws = (
   last_word-after_blocks,
   komi-blocks,
   length-whole_words,
+  eqb-true,
 )

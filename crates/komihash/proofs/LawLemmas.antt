@@ -12,7 +12,7 @@ use Rattle.komihash.proofs.GeneratorFills.{after_steps-add, outputs-add, fill-ad
 use Rattle.komihash.proofs.GeneratorFills.{after_steps-none, outputs-none}
 use Rattle.komihash.proofs.GeneratorFills.{after_steps-few, outputs-few}
 use Rattle.komihash.proofs.GeneratorFills.{next-lt, fill-one, after_fill-one}
-use Rattle.komihash.proofs.GeneratorFills.{length-outputs, output-at, fill-whole, outputs-whole}
+use Rattle.komihash.proofs.GeneratorFills.{length-outputs, outputs-at, fill-whole, outputs-whole}
 use Rattle.komihash.proofs.GeneratorFills.{after_fill-whole}
 use Rattle.komihash.proofs.Unpadding.{same_message}
 use Rattle.komihash.proofs.SavedTexts.{text-same_version, text-same_state, IsTextAfter-most}
@@ -43,7 +43,7 @@ pub ruleset of_steps =
 
 pub ruleset of_outputs = (
   length-outputs,
-  output-at,
+  outputs-at,
   fill-add,
   after_fill-add,
   fill-whole,

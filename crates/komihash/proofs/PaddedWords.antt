@@ -7,7 +7,7 @@ use Rattle.std.proofs.lemmas.Bool.Decides.{nat_tests}
 use Rattle.std.proofs.lemmas.Grind.{common_steps, elements}
 use Rattle.komihash.specs.Padding.{padded_words, padding_byte}
 use Rattle.komihash.specs.Words.{word_of}
-use Rattle.komihash.specs.Internals.{stored_words, whole_words, after_words, final_word}
+use Rattle.komihash.specs.Internals.{stored_words, whole_words, after_eights, final_word}
 use Rattle.komihash.specs.Internals.{padding_or_zero}
 use Rattle.komihash.proofs.WordOf.{AreBytes-typed, AreBytes-drop, word_of-last, word_of-push}
 use Rattle.komihash.proofs.WordOf.{word_of-zeros}
@@ -29,7 +29,7 @@ padded_words-by_tail v (b ∷ m) =
     let zeros = replicate (7 - n % 8) 0 in
     let size : length (end ∷ zeros) ≡ 8 - n % 8 = omega (arith, length-replicate {A = ℕ}) in
     let ending = stored_words-last (n / 8) xs (end ∷ zeros) in
-    let order = append_assoc (after_words xs) (end ∷ []) zeros in
+    let order = append_assoc (after_eights xs) (end ∷ []) zeros in
     grind (arith, size, words_of-whole, ending, length-append {A = ℕ}, order, word_of-zeros)
 
 -- the final word of at least eight bytes, as it is read with the last eight

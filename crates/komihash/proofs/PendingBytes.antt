@@ -20,8 +20,8 @@ use Rattle.komihash.proofs.WordOf.{word_of-join}
 
 -- ---- words that are stored one by one, some of them out of order or more than once
 
--- A word is put at index i, after which those from `next` on are missing. It is the word that
--- belongs there, unless it is one of these.
+-- A word is put at index i. Then those from `next` on and below `gap_end` are missing. If i isn't one
+-- of these, the word must be the one that belongs there.
 pub StoresBut-put : {ws zs : List ℕ} {gap gap_end : ℕ} → StoresBut ws zs gap gap_end
     → (i next word : ℕ) → (i ≤ gap) × (next ≤ i + 1)
     → ((next ≤ i → gap_end ≤ i) → word ≡ stored_word zs i) → StoresBut (set ws i word) zs next gap_end
@@ -149,6 +149,7 @@ module _ {ws : List ℕ} {len : ℕ} (are : ArePending ws len) where
       StoresBut-put (StoresBut-before_partial bytes gap_end room) (len / 8) gap _ (omega arith)
       (λ _. rw is (stored_word-partial bytes typed))
 
+-- what the proofs of `pending.rt` need
 pub ruleset pending_laws = (
   ArePending-none,
   ArePending-put,

@@ -18,7 +18,7 @@ use Rattle.komihash.specs.Stream.{State, IsState, HasAbsorbed, start, absorb, ab
 use Rattle.komihash.specs.Stream.{tail_of, Answered}
 use Rattle.komihash.specs.Words.{AreBytes}
 use Rattle.komihash.proofs.Blocks.{completed, block_lanes-few_bytes}
-use Rattle.komihash.proofs.Blocks.{length-after_blocks, after_words-after_blocks}
+use Rattle.komihash.proofs.Blocks.{length-after_blocks, after_eights-after_blocks}
 use Rattle.komihash.proofs.HashPaths.{komi-few, komi-long}
 use Rattle.komihash.proofs.HashWords.{AreWords-seed_pair, AreWords-block_lanes}
 use Rattle.komihash.proofs.PaddedWords.{padded_words-by_tail}
@@ -147,7 +147,7 @@ answer-joined v seed m =
           rw (absorb-few v (start seed) m (omega arith))
           (answer-by_pair v (record (start seed) { pending = m }) ∙ cc)
       | inr le ↦
-          let words = after_words-after_blocks m in
+          let words = after_eights-after_blocks m in
           let end = tail_end-drop v (length m - length m % 64) m (omega arith) (omega arith) in
           let hash = komi-long v seed m le in
           let some : nat_lt (length m) 64 ≡ false = grind (arith) in

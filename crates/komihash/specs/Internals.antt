@@ -28,9 +28,10 @@ whole_words bytes = stored_words (length bytes / 8) bytes
 abbrev pub chunk_word : List (List ℕ) → ℕ → ℕ
 chunk_word chunks k = from_le_bytes w64 (get_or chunks k [])
 
--- the bytes after the last whole word
-abbrev pub after_words : List ℕ → List ℕ
-after_words bytes = drop (8 * (length bytes / 8)) bytes
+-- the items after the last group of eight: of bytes, those after the last whole word; of words,
+-- those after the last block
+abbrev pub after_eights : List ℕ → List ℕ
+after_eights xs = drop (8 * (length xs / 8)) xs
 
 -- the byte that ends a message in version v: the padding byte, or 0 where the message is empty
 abbrev pub padding_or_zero : ℕ → List ℕ → ℕ
@@ -45,7 +46,7 @@ pub record IsHighestByte (word r : ℕ) : Type 0 where
 
 -- the word of the bytes after the last whole word and of the byte that ends them
 abbrev pub final_word : List ℕ → ℕ → ℕ
-final_word m end = word_of (after_words m ++ end ∷ [])
+final_word m end = word_of (after_eights m ++ end ∷ [])
 
 -- the lanes after a block round on each whole block of the words
 abbrev pub block_lanes : ℕ → Lanes → List ℕ → Lanes

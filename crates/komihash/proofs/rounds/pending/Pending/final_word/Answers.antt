@@ -4,7 +4,7 @@ use Rattle.std.proofs.Common.{length, get_or, take, bit_and, refl, ap, arith, �
 use Rattle.std.proofs.Common.{length-take, get_or-take, get_or-drop}
 use Rattle.std.proofs.lemmas.Nat.{and_mask}
 use Rattle.komihash.specs.Padding.{padding_byte}
-use Rattle.komihash.specs.Internals.{pending_bytes, ArePending, after_words}
+use Rattle.komihash.specs.Internals.{pending_bytes, ArePending, after_eights}
 use Rattle.komihash.specs.Words.{AreBytes, word_of}
 use Rattle.komihash.proofs.WordOf.{AreBytes-drop, word_of-drop, word_of-push}
 use Rattle.komihash.proofs.PendingBytes.{get_or-pending, AreBytes-word, partial, length-partial}
@@ -38,7 +38,7 @@ returns g c =
     -- the word that it reads is that of the bytes after the last whole word
     let size = length-partial are in
     let whole = take_all 8 (partial are) (omega arith) in
-    let after : take 8 (partial are) ≡ after_words xs = rw are.count whole in
+    let after : take 8 (partial are) ≡ after_eights xs = rw are.count whole in
     let word = get_or-pending are (len / 8) (omega arith) in
     rw (c.word_index-2.ensures, ← c.self.view_is, padding, word, ← after)
     (word_of-push (take 8 (partial are)) (len % 8) _ (AreBytes-word are (len / 8))
