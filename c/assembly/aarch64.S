@@ -285,15 +285,15 @@
 	ldp	x14, x17, [x0, #32]
 	umulh	x9, x9, x10
 	mov	x16, #15804
-	mov	x3, #2327
+	mov	x4, #2327
 	movk	x16, #7542, lsl #16
-	movk	x3, #46407, lsl #16
-	cmp	x1, #80
+	movk	x4, #46407, lsl #16
+	cmp	x1, #64
 	movk	x16, #24301, lsl #32
-	movk	x3, #54709, lsl #32
+	movk	x4, #54709, lsl #32
 	movk	x16, #6749, lsl #48
 	eor	x14, x14, x8
-	movk	x3, #16260, lsl #48
+	movk	x4, #16260, lsl #48
 	eor	x14, x14, x16
 	add	x9, x10, x9
 	eor	x10, x11, x8
@@ -302,7 +302,7 @@
 	eor	x12, x9, x12
 	eor	x10, x10, x9
 	movk	x11, #35374, lsl #32
-	eor	x3, x9, x3
+	eor	x4, x9, x4
 	movk	x11, #4889, lsl #48
 	eor	x10, x10, x11
 	eor	x11, x13, x12
@@ -311,88 +311,104 @@
 	mul	x15, x10, x11
 	movk	x13, #10679, lsl #32
 	movk	x13, #49324, lsl #48
-	umulh	x10, x10, x11
-	eor	x11, x14, x12
+	umulh	x11, x10, x11
+	eor	x10, x14, x12
 	eor	x13, x9, x13
 	eor	x14, x17, x13
 	ldp	x17, x2, [x0]
-	mul	x16, x11, x14
-	umulh	x11, x11, x14
-	ldp	x14, x5, [x0, #48]
+	mul	x16, x10, x14
+	umulh	x14, x10, x14
+	ldp	x3, x10, [x0, #48]
 	eor	x17, x17, x8
 	eor	x2, x2, x9
-	add	x10, x12, x10
+	add	x11, x12, x11
 	eor	x17, x17, x9
-	eor	x8, x14, x8
-	mov	x14, #15444
-	mul	x4, x2, x17
-	movk	x14, #9522, lsl #16
-	movk	x14, #54063, lsl #32
-	add	x11, x13, x11
-	movk	x14, #51330, lsl #48
-	eor	x8, x8, x14
-	umulh	x14, x2, x17
-	eor	x17, x5, x3
+	eor	x8, x3, x8
+	mov	x3, #15444
+	mul	x5, x2, x17
+	movk	x3, #9522, lsl #16
+	movk	x3, #54063, lsl #32
+	umulh	x17, x2, x17
+	eor	x2, x10, x4
+	movk	x3, #51330, lsl #48
+	add	x12, x13, x14
+	eor	x8, x8, x3
 	eor	x8, x8, x13
-	eor	x12, x15, x4
-	mul	x2, x8, x17
-	umulh	x8, x8, x17
-	add	x9, x9, x14
-	eor	x14, x10, x9
-	and	x10, x1, #0x78
-	add	x9, x0, x1
-	add	x15, x0, x10
-	eor	x13, x16, x2
-	ldur	x10, [x9, #-8]
-	eor	x12, x12, x13
-	add	x8, x3, x8
+	eor	x13, x15, x5
+	mul	x3, x8, x2
+	add	x9, x9, x17
+	umulh	x8, x8, x2
+	eor	x11, x11, x9
+	eor	x14, x16, x3
+	eor	x9, x13, x14
+	add	x8, x4, x8
+	eor	x8, x12, x8
 	eor	x8, x11, x8
-	ldurb	w11, [x9, #-1]
-	ldur	x9, [x15, #-8]
-	eor	x8, x14, x8
-	b.lo	.LBB4_4
-	ldp	x13, x14, [x0, #64]
-	cmp	x1, #96
-	eor	x12, x13, x12
-	eor	x13, x14, x8
-	eor	x12, x12, x8
-	umulh	x14, x12, x13
-	mul	x12, x12, x13
-	add	x8, x8, x14
-	b.lo	.LBB4_4
-	ldp	x13, x14, [x0, #80]
-	cmp	x1, #112
-	eor	x12, x13, x12
-	eor	x13, x14, x8
-	eor	x12, x12, x8
-	umulh	x14, x12, x13
-	mul	x12, x12, x13
-	add	x8, x8, x14
-	b.lo	.LBB4_4
-	ldp	x13, x14, [x0, #96]
-	eor	x12, x13, x12
-	eor	x13, x14, x8
-	eor	x12, x12, x8
-	umulh	x14, x12, x13
-	mul	x12, x12, x13
-	add	x8, x8, x14
-.LBB4_4:
-	lsl	x13, x1, #3
+	b.ne	.LBB4_2
+	lsr	x10, x10, #63
+	add	x10, x10, #1
+	eor	x9, x10, x9
+	eor	x9, x9, x8
+	umulh	x10, x9, x8
+	mul	x9, x9, x8
+	add	x8, x8, x10
+	eor	x9, x8, x9
+	umulh	x10, x9, x8
+	mul	x9, x9, x8
+	add	x8, x8, x10
+	eor	x0, x8, x9
+	ret
+.LBB4_2:
+	add	x10, x0, x1
+	lsl	x12, x1, #3
+	and	x14, x1, #0x78
+	ldurb	w11, [x10, #-1]
+	ldur	x10, [x10, #-8]
+	cmp	x1, #80
+	mvn	w13, w12
+	and	x12, x12, #0x38
 	lsr	x11, x11, #7
 	lsr	x10, x10, #1
-	tst	x1, #0x8
 	add	x11, x11, #1
-	and	x14, x13, #0x38
-	mvn	w13, w13
-	lsl	x11, x11, x14
-	lsr	x10, x10, x13
-	lsl	x13, x1, #60
-	orr	x10, x11, x10
-	csel	x9, x10, x9, eq
-	and	x10, x10, x13, asr #63
+	lsr	x13, x10, x13
+	add	x10, x0, x14
+	lsl	x11, x11, x12
+	ldur	x10, [x10, #-8]
+	orr	x11, x11, x13
+	b.lo	.LBB4_6
+	ldp	x12, x13, [x0, #64]
+	cmp	x1, #96
 	eor	x9, x12, x9
+	eor	x12, x13, x8
 	eor	x9, x9, x8
-	eor	x10, x8, x10
+	umulh	x13, x9, x12
+	mul	x9, x9, x12
+	add	x8, x8, x13
+	b.lo	.LBB4_6
+	ldp	x12, x13, [x0, #80]
+	cmp	x1, #112
+	eor	x9, x12, x9
+	eor	x12, x13, x8
+	eor	x9, x9, x8
+	umulh	x13, x9, x12
+	mul	x9, x9, x12
+	add	x8, x8, x13
+	b.lo	.LBB4_6
+	ldp	x12, x13, [x0, #96]
+	eor	x9, x12, x9
+	eor	x12, x13, x8
+	eor	x9, x9, x8
+	umulh	x13, x9, x12
+	mul	x9, x9, x12
+	add	x8, x8, x13
+.LBB4_6:
+	lsl	x12, x1, #60
+	tst	x1, #0x8
+	csel	x10, x11, x10, eq
+	and	x11, x11, x12, asr #63
+	eor	x9, x9, x10
+	eor	x9, x9, x8
+	eor	x10, x8, x11
 	umulh	x11, x9, x10
 	mul	x9, x9, x10
 	add	x8, x8, x11
@@ -419,10 +435,10 @@
 	and	x10, x2, #0xaaaaaaaaaaaaaaaa
 	movk	x8, #27272, lsl #32
 	movk	x11, #8678, lsl #32
-	mov	x13, #15444
+	mov	x2, #2327
 	movk	x8, #9279, lsl #48
 	movk	x11, #17704, lsl #48
-	mov	x2, #2327
+	mov	x13, #15444
 	eor	x8, x9, x8
 	eor	x10, x10, x11
 	add	x9, x0, x1
@@ -430,81 +446,140 @@
 	ldurb	w12, [x9, #-1]
 	ldur	x9, [x9, #-8]
 	mov	x14, #29508
-	mov	x3, #20701
-	movk	x13, #9522, lsl #16
+	mov	x15, #3180
+	movk	x2, #46407, lsl #16
 	mul	x17, x8, x10
 	lsl	x8, x1, #3
 	lsr	x12, x12, #7
 	lsr	x9, x9, #1
-	movk	x2, #46407, lsl #16
+	movk	x13, #9522, lsl #16
 	movk	x14, #880, lsl #16
-	mvn	w15, w8
-	and	x16, x8, #0x38
+	mvn	w16, w8
+	and	x3, x8, #0x38
 	add	x12, x12, #1
-	lsr	x8, x9, x15
-	lsl	x9, x12, x16
+	lsr	x8, x9, x16
+	lsl	x9, x12, x3
 	add	x12, x10, x11
-	mov	x11, #3180
-	mov	x15, #15804
+	mov	x11, #15804
+	mov	x3, #20701
+	movk	x15, #13545, lsl #16
+	movk	x11, #7542, lsl #16
 	movk	x3, #51580, lsl #16
-	movk	x11, #13545, lsl #16
-	movk	x15, #7542, lsl #16
-	movk	x13, #54063, lsl #32
 	movk	x2, #54709, lsl #32
+	movk	x13, #54063, lsl #32
 	movk	x14, #35374, lsl #32
-	movk	x11, #26319, lsl #32
-	movk	x15, #24301, lsl #32
+	movk	x15, #26319, lsl #32
+	movk	x11, #24301, lsl #32
 	movk	x3, #10679, lsl #32
-	movk	x13, #51330, lsl #48
 	movk	x2, #16260, lsl #48
+	movk	x13, #51330, lsl #48
 	movk	x14, #4889, lsl #48
-	movk	x11, #48724, lsl #48
-	movk	x15, #6749, lsl #48
+	movk	x15, #48724, lsl #48
+	movk	x11, #6749, lsl #48
 	movk	x3, #49324, lsl #48
 	eor	x16, x17, x13
 	eor	x14, x17, x14
 	eor	x10, x12, x2
-	eor	x13, x12, x11
-	eor	x15, x17, x15
+	cmp	x1, #191
+	eor	x13, x12, x15
+	eor	x15, x17, x11
 	eor	x11, x12, x3
-	tbnz	w1, #6, .LBB5_2
-	eor	x17, x17, x2
-	b	.LBB5_3
+	b.hi	.LBB5_2
+	ldp	x2, x3, [x0, #16]
+	sub	x1, x1, #128
+	ldp	x4, x5, [x0, #32]
+	eor	x14, x14, x2
+	eor	x2, x3, x13
+	eor	x14, x14, x12
+	eor	x15, x15, x4
+	mul	x3, x2, x14
+	eor	x15, x15, x13
+	umulh	x14, x2, x14
+	eor	x2, x5, x11
+	ldp	x5, x6, [x0]
+	mul	x4, x2, x15
+	eor	x17, x5, x17
+	umulh	x15, x2, x15
+	eor	x2, x6, x12
+	eor	x17, x17, x12
+	ldp	x6, x7, [x0, #48]
+	umulh	x5, x2, x17
+	add	x13, x13, x14
+	mul	x17, x2, x17
+	eor	x2, x7, x10
+	eor	x16, x16, x6
+	ldp	x7, x14, [x0, #80]
+	eor	x16, x16, x11
+	mul	x6, x2, x16
+	add	x11, x11, x15
+	add	x12, x12, x5
+	umulh	x16, x2, x16
+	eor	x2, x7, x3
+	eor	x3, x14, x13
+	ldp	x5, x7, [x0, #96]
+	eor	x2, x2, x12
+	mul	x14, x3, x2
+	eor	x15, x5, x4
+	eor	x4, x7, x11
+	umulh	x3, x3, x2
+	ldp	x5, x7, [x0, #64]
+	eor	x2, x15, x13
+	mul	x15, x4, x2
+	add	x10, x10, x16
+	eor	x16, x5, x17
+	umulh	x4, x4, x2
+	eor	x2, x7, x12
+	ldp	x5, x7, [x0, #112]
+	eor	x16, x16, x10
+	mul	x17, x16, x2
+	add	x13, x13, x3
+	eor	x5, x5, x6
+	umulh	x6, x16, x2
+	eor	x2, x7, x10
+	eor	x16, x5, x11
+	add	x11, x11, x4
+	umulh	x5, x2, x16
+	mul	x16, x2, x16
+	add	x2, x0, #128
+	add	x12, x12, x6
+	add	x10, x10, x5
+	b	.LBB5_6
 .LBB5_2:
+	tbnz	w1, #6, .LBB5_4
+	eor	x17, x17, x2
+	b	.LBB5_5
+.LBB5_4:
 	ldp	x2, x3, [x0, #16]
 	sub	x1, x1, #64
 	ldp	x4, x5, [x0, #32]
-	cmp	x1, #128
 	eor	x14, x14, x2
 	eor	x2, x3, x13
 	eor	x3, x14, x12
 	eor	x15, x15, x4
 	mul	x14, x2, x3
 	eor	x4, x15, x13
-	umulh	x3, x2, x3
-	eor	x2, x5, x11
+	umulh	x2, x2, x3
+	eor	x3, x5, x11
 	ldp	x5, x6, [x0]
-	mul	x15, x2, x4
+	mul	x15, x3, x4
 	eor	x17, x5, x17
 	eor	x5, x6, x12
-	umulh	x4, x2, x4
+	umulh	x3, x3, x4
 	ldp	x6, x7, [x0, #48]
-	eor	x2, x17, x12
-	mul	x17, x5, x2
-	add	x13, x13, x3
+	eor	x4, x17, x12
+	mul	x17, x5, x4
+	add	x0, x0, #64
+	add	x13, x13, x2
 	eor	x16, x16, x6
-	umulh	x5, x5, x2
-	eor	x2, x7, x10
+	umulh	x4, x5, x4
+	eor	x5, x7, x10
 	eor	x16, x16, x11
-	add	x11, x11, x4
-	umulh	x6, x2, x16
-	mul	x16, x2, x16
-	add	x2, x0, #64
-	add	x12, x12, x5
-	mov	x0, x2
+	add	x11, x11, x3
+	umulh	x6, x5, x16
+	mul	x16, x5, x16
+	add	x12, x12, x4
 	add	x10, x10, x6
-	b.lo	.LBB5_4
-.LBB5_3:
+.LBB5_5:
 	ldp	x2, x3, [x0, #16]
 	eor	x14, x14, x12
 	ldp	x4, x5, [x0, #32]
@@ -565,8 +640,8 @@
 	add	x12, x12, x6
 	mov	x0, x2
 	add	x10, x10, x5
-	b.hi	.LBB5_3
-.LBB5_4:
+	b.hi	.LBB5_5
+.LBB5_6:
 	eor	x16, x17, x16
 	eor	x14, x14, x15
 	eor	x10, x12, x10
@@ -575,7 +650,7 @@
 	orr	x9, x9, x8
 	eor	x11, x16, x14
 	eor	x8, x10, x12
-	b.hs	.LBB5_6
+	b.hs	.LBB5_8
 	eor	x10, x8, x11
 	eor	x9, x10, x9
 	umulh	x10, x9, x8
@@ -587,12 +662,12 @@
 	add	x8, x8, x10
 	eor	x0, x8, x9
 	ret
-.LBB5_6:
-	and	x10, x1, #0x78
+.LBB5_8:
+	and	x10, x1, #0xfffffffffffffff8
 	cmp	x1, #16
 	add	x10, x2, x10
 	ldur	x10, [x10, #-8]
-	b.lo	.LBB5_10
+	b.lo	.LBB5_12
 	ldp	x12, x13, [x2]
 	cmp	x1, #32
 	eor	x11, x11, x12
@@ -601,7 +676,7 @@
 	umulh	x13, x11, x12
 	mul	x11, x11, x12
 	add	x8, x8, x13
-	b.lo	.LBB5_10
+	b.lo	.LBB5_12
 	ldp	x12, x13, [x2, #16]
 	cmp	x1, #48
 	eor	x11, x12, x11
@@ -610,7 +685,7 @@
 	umulh	x13, x11, x12
 	mul	x11, x11, x12
 	add	x8, x8, x13
-	b.lo	.LBB5_10
+	b.lo	.LBB5_12
 	ldp	x12, x13, [x2, #32]
 	eor	x11, x12, x11
 	eor	x12, x13, x8
@@ -618,7 +693,7 @@
 	umulh	x13, x11, x12
 	mul	x11, x11, x12
 	add	x8, x8, x13
-.LBB5_10:
+.LBB5_12:
 	lsl	x12, x1, #60
 	tst	x1, #0x8
 	csel	x10, x9, x10, eq
@@ -1266,7 +1341,7 @@
 	ldp	x17, x4, [x0, #24]
 	movk	x15, #6749, lsl #48
 	movk	x5, #46407, lsl #16
-	cmp	x1, #80
+	cmp	x1, #64
 	eor	x14, x14, x8
 	movk	x5, #54709, lsl #32
 	eor	x14, x14, x15
@@ -1307,66 +1382,80 @@
 	movk	x17, #51330, lsl #48
 	mul	x4, x2, x15
 	eor	x8, x8, x17
-	umulh	x15, x2, x15
 	eor	x8, x8, x13
-	umulh	x17, x11, x8
-	mul	x8, x11, x8
+	umulh	x15, x2, x15
+	mul	x17, x11, x8
+	eor	x12, x16, x4
+	umulh	x8, x11, x8
 	add	x11, x13, x14
-	eor	x13, x16, x4
 	add	x9, x9, x15
-	eor	x14, x10, x9
-	and	x9, x1, #0x78
+	eor	x10, x10, x9
+	eor	x13, x3, x17
+	eor	x9, x12, x13
+	add	x8, x5, x8
+	eor	x8, x11, x8
+	eor	x8, x10, x8
+	b.ne	.LBB11_2
+	eor	x9, x8, x9
+	eor	x9, x9, #0x1
+	umulh	x10, x9, x8
+	mul	x9, x9, x8
+	add	x8, x8, x10
+	eor	x9, x8, x9
+	umulh	x10, x9, x8
+	mul	x9, x9, x8
+	add	x8, x8, x10
+	eor	x0, x8, x9
+	ret
+.LBB11_2:
 	add	x10, x0, x1
-	add	x12, x5, x17
-	add	x9, x0, x9
+	lsl	x11, x1, #3
+	mov	w13, #1
 	ldur	x10, [x10, #-8]
-	eor	x12, x11, x12
-	ldur	x9, [x9, #-8]
-	eor	x8, x3, x8
-	eor	x11, x13, x8
-	eor	x8, x14, x12
-	b.lo	.LBB11_4
+	and	x14, x1, #0x78
+	cmp	x1, #80
+	mvn	w12, w11
+	and	x11, x11, #0x38
+	lsr	x10, x10, #1
+	lsl	x11, x13, x11
+	lsr	x12, x10, x12
+	add	x10, x0, x14
+	ldur	x10, [x10, #-8]
+	orr	x11, x11, x12
+	b.lo	.LBB11_6
 	ldp	x12, x13, [x0, #64]
 	cmp	x1, #96
-	eor	x11, x12, x11
+	eor	x9, x12, x9
 	eor	x12, x13, x8
-	eor	x11, x11, x8
-	umulh	x13, x11, x12
-	mul	x11, x11, x12
+	eor	x9, x9, x8
+	umulh	x13, x9, x12
+	mul	x9, x9, x12
 	add	x8, x8, x13
-	b.lo	.LBB11_4
+	b.lo	.LBB11_6
 	ldp	x12, x13, [x0, #80]
 	cmp	x1, #112
-	eor	x11, x12, x11
+	eor	x9, x12, x9
 	eor	x12, x13, x8
-	eor	x11, x11, x8
-	umulh	x13, x11, x12
-	mul	x11, x11, x12
-	add	x8, x8, x13
-	b.lo	.LBB11_4
-	ldp	x12, x13, [x0, #96]
-	eor	x11, x12, x11
-	eor	x12, x13, x8
-	eor	x11, x11, x8
-	umulh	x13, x11, x12
-	mul	x11, x11, x12
-	add	x8, x8, x13
-.LBB11_4:
-	lsl	x12, x1, #3
-	lsr	x10, x10, #1
-	mov	w13, #1
-	tst	x1, #0x8
-	and	x14, x12, #0x38
-	mvn	w12, w12
-	lsl	x13, x13, x14
-	lsr	x10, x10, x12
-	lsl	x12, x1, #60
-	orr	x10, x13, x10
-	csel	x9, x10, x9, eq
-	and	x10, x10, x12, asr #63
-	eor	x9, x11, x9
 	eor	x9, x9, x8
-	eor	x10, x8, x10
+	umulh	x13, x9, x12
+	mul	x9, x9, x12
+	add	x8, x8, x13
+	b.lo	.LBB11_6
+	ldp	x12, x13, [x0, #96]
+	eor	x9, x12, x9
+	eor	x12, x13, x8
+	eor	x9, x9, x8
+	umulh	x13, x9, x12
+	mul	x9, x9, x12
+	add	x8, x8, x13
+.LBB11_6:
+	lsl	x12, x1, #60
+	tst	x1, #0x8
+	csel	x10, x11, x10, eq
+	and	x11, x11, x12, asr #63
+	eor	x9, x9, x10
+	eor	x9, x9, x8
+	eor	x10, x8, x11
 	umulh	x11, x9, x10
 	mul	x9, x9, x10
 	add	x8, x8, x11
@@ -1397,62 +1486,124 @@
 	and	x10, x2, #0xaaaaaaaaaaaaaaaa
 	movk	x8, #27272, lsl #32
 	movk	x11, #8678, lsl #32
-	add	x12, x0, x1
+	mov	w12, #1
 	movk	x8, #9279, lsl #48
 	movk	x11, #17704, lsl #48
-	lsl	x13, x1, #3
+	mov	x2, #2327
 	eor	x8, x9, x8
 	eor	x10, x10, x11
-	ldur	x12, [x12, #-8]
+	add	x9, x0, x1
 	umulh	x11, x8, x10
-	mov	x14, #15444
-	mov	x2, #2327
+	mov	x13, #15444
 	mov	x15, #29508
 	mov	x3, #3180
 	mov	x4, #15804
-	mul	x17, x8, x10
-	mov	x5, #20701
-	mov	w9, #1
-	movk	x14, #9522, lsl #16
 	movk	x2, #46407, lsl #16
+	mul	x17, x8, x10
+	ldur	x8, [x9, #-8]
+	lsl	x9, x1, #3
+	movk	x13, #9522, lsl #16
 	movk	x15, #880, lsl #16
 	movk	x3, #13545, lsl #16
-	and	x8, x13, #0x38
-	lsr	x12, x12, #1
+	lsr	x14, x8, #1
+	and	x8, x9, #0x38
 	movk	x4, #7542, lsl #16
-	movk	x5, #51580, lsl #16
-	movk	x14, #54063, lsl #32
+	lsl	x8, x12, x8
+	add	x12, x10, x11
+	mov	x11, #20701
+	movk	x11, #51580, lsl #16
 	movk	x2, #54709, lsl #32
+	movk	x13, #54063, lsl #32
 	movk	x15, #35374, lsl #32
+	mvn	w16, w9
 	movk	x3, #26319, lsl #32
-	lsl	x8, x9, x8
 	movk	x4, #24301, lsl #32
-	mvn	w9, w13
-	movk	x5, #10679, lsl #32
-	movk	x14, #51330, lsl #48
+	movk	x11, #10679, lsl #32
 	movk	x2, #16260, lsl #48
+	movk	x13, #51330, lsl #48
 	movk	x15, #4889, lsl #48
 	movk	x3, #48724, lsl #48
+	lsr	x9, x14, x16
 	movk	x4, #6749, lsl #48
-	lsr	x9, x12, x9
-	movk	x5, #49324, lsl #48
-	add	x12, x10, x11
-	eor	x16, x17, x14
+	movk	x11, #49324, lsl #48
+	eor	x16, x17, x13
 	eor	x14, x17, x15
 	eor	x10, x12, x2
+	cmp	x1, #191
 	eor	x13, x12, x3
 	eor	x15, x17, x4
-	eor	x11, x12, x5
-	tbnz	w1, #6, .LBB12_2
-	eor	x17, x17, x2
-	b	.LBB12_3
+	eor	x11, x12, x11
+	b.hi	.LBB12_2
+	ldp	x3, x5, [x0, #40]
+	sub	x1, x1, #128
+	ldr	x2, [x0, #8]
+	ldr	x19, [x0, #32]
+	eor	x14, x14, x2
+	eor	x2, x3, x13
+	ldp	x3, x6, [x0, #16]
+	eor	x14, x14, x12
+	mul	x4, x2, x14
+	eor	x15, x15, x3
+	eor	x3, x5, x11
+	ldr	x5, [x0]
+	umulh	x14, x2, x14
+	eor	x15, x15, x13
+	ldr	x2, [x0, #56]
+	eor	x17, x5, x17
+	eor	x16, x16, x6
+	mul	x7, x3, x15
+	eor	x17, x17, x12
+	eor	x16, x16, x11
+	eor	x2, x2, x10
+	umulh	x15, x3, x15
+	eor	x3, x19, x12
+	ldp	x19, x6, [x0, #64]
+	add	x13, x13, x14
+	umulh	x5, x3, x17
+	ldp	x20, x14, [x0, #96]
+	mul	x17, x3, x17
+	add	x11, x11, x15
+	mul	x3, x2, x16
+	add	x12, x12, x5
+	umulh	x16, x2, x16
+	eor	x2, x6, x4
+	eor	x4, x14, x13
+	eor	x2, x2, x12
+	ldp	x5, x6, [x0, #80]
+	mul	x14, x4, x2
+	umulh	x4, x4, x2
+	ldp	x15, x2, [x0, #112]
+	eor	x5, x5, x7
+	add	x10, x10, x16
+	eor	x16, x19, x17
+	eor	x5, x5, x13
+	eor	x16, x16, x10
+	eor	x3, x6, x3
+	eor	x7, x15, x11
+	eor	x2, x2, x10
+	mul	x15, x7, x5
+	add	x13, x13, x4
+	umulh	x5, x7, x5
+	eor	x7, x20, x12
+	mul	x17, x16, x7
+	umulh	x6, x16, x7
+	eor	x16, x3, x11
+	add	x11, x11, x5
+	umulh	x3, x2, x16
+	mul	x16, x2, x16
+	add	x2, x0, #128
+	add	x12, x12, x6
+	add	x10, x10, x3
+	b	.LBB12_6
 .LBB12_2:
+	tbnz	w1, #6, .LBB12_4
+	eor	x17, x17, x2
+	b	.LBB12_5
+.LBB12_4:
 	ldp	x2, x4, [x0, #8]
 	sub	x1, x1, #64
 	ldp	x3, x5, [x0, #40]
-	cmp	x1, #128
 	ldp	x6, x19, [x0, #24]
-	ldr	x7, [x0]
 	eor	x14, x14, x2
 	eor	x15, x15, x4
 	eor	x2, x3, x13
@@ -1460,28 +1611,26 @@
 	eor	x4, x5, x11
 	mul	x14, x2, x3
 	eor	x5, x15, x13
-	eor	x17, x7, x17
 	eor	x16, x16, x6
-	eor	x7, x19, x12
-	umulh	x3, x2, x3
-	ldr	x2, [x0, #56]
 	eor	x16, x16, x11
+	umulh	x2, x2, x3
+	ldr	x3, [x0, #56]
+	ldr	x7, [x0], #64
 	mul	x15, x4, x5
-	eor	x2, x2, x10
+	eor	x3, x3, x10
+	eor	x17, x7, x17
+	eor	x7, x19, x12
 	umulh	x4, x4, x5
 	eor	x5, x17, x12
-	add	x13, x13, x3
+	add	x13, x13, x2
 	mul	x17, x7, x5
 	umulh	x5, x7, x5
 	add	x11, x11, x4
-	umulh	x6, x2, x16
-	mul	x16, x2, x16
-	add	x2, x0, #64
+	umulh	x6, x3, x16
+	mul	x16, x3, x16
 	add	x12, x12, x5
-	mov	x0, x2
 	add	x10, x10, x6
-	b.lo	.LBB12_4
-.LBB12_3:
+.LBB12_5:
 	ldp	x2, x5, [x0, #8]
 	eor	x14, x14, x12
 	ldp	x3, x4, [x0, #40]
@@ -1543,8 +1692,8 @@
 	add	x12, x12, x6
 	mov	x0, x2
 	add	x10, x10, x4
-	b.hi	.LBB12_3
-.LBB12_4:
+	b.hi	.LBB12_5
+.LBB12_6:
 	eor	x16, x17, x16
 	eor	x14, x14, x15
 	eor	x10, x12, x10
@@ -1553,19 +1702,19 @@
 	orr	x9, x8, x9
 	eor	x11, x16, x14
 	eor	x8, x10, x12
-	b.hs	.LBB12_6
+	b.hs	.LBB12_8
 	eor	x10, x8, x11
 	eor	x9, x10, x9
 	umulh	x10, x9, x8
 	mul	x9, x9, x8
 	add	x8, x8, x10
-	b	.LBB12_11
-.LBB12_6:
-	and	x10, x1, #0x78
+	b	.LBB12_13
+.LBB12_8:
+	and	x10, x1, #0xfffffffffffffff8
 	cmp	x1, #16
 	add	x10, x2, x10
 	ldur	x10, [x10, #-8]
-	b.lo	.LBB12_10
+	b.lo	.LBB12_12
 	ldp	x12, x13, [x2]
 	cmp	x1, #32
 	eor	x11, x11, x12
@@ -1574,7 +1723,7 @@
 	umulh	x13, x11, x12
 	mul	x11, x11, x12
 	add	x8, x8, x13
-	b.lo	.LBB12_10
+	b.lo	.LBB12_12
 	ldp	x12, x13, [x2, #16]
 	cmp	x1, #48
 	eor	x11, x12, x11
@@ -1583,7 +1732,7 @@
 	umulh	x13, x11, x12
 	mul	x11, x11, x12
 	add	x8, x8, x13
-	b.lo	.LBB12_10
+	b.lo	.LBB12_12
 	ldp	x12, x13, [x2, #32]
 	eor	x11, x12, x11
 	eor	x12, x13, x8
@@ -1591,7 +1740,7 @@
 	umulh	x13, x11, x12
 	mul	x11, x11, x12
 	add	x8, x8, x13
-.LBB12_10:
+.LBB12_12:
 	lsl	x12, x1, #60
 	tst	x1, #0x8
 	csel	x10, x9, x10, eq
@@ -1602,7 +1751,7 @@
 	umulh	x11, x10, x9
 	mul	x9, x10, x9
 	add	x8, x8, x11
-.LBB12_11:
+.LBB12_13:
 	eor	x9, x8, x9
 	umulh	x10, x9, x8
 	mul	x9, x9, x8
