@@ -125,7 +125,7 @@ impl Rows {
         }
         let mut columns = columns();
         let mut count = 1;
-        while (0..3).any(|_| columns.iter_mut().any(|time| time(count) < BATCH / 2)) {
+        while (0..3).any(|_| columns.iter_mut().map(|time| time(count)).min() < Some(BATCH / 2)) {
             count *= 2;
         }
         let mut least = vec![Duration::MAX; columns.len()];
