@@ -4,7 +4,8 @@ extern crate std;
 use crate::version::{IsVersion, StreamedKomihash, Versions};
 use std::io::{Result, Write};
 
-/// Needs the feature `std`. As a stream has its own `write`, use `write_all` for a result.
+/// Needs the feature `std`. As a stream has its own `write`, use `write_all` for a result. With
+/// `std::fmt::Write` in scope too, `write!` is ambiguous: call `io::Write::write_fmt`.
 ///
 /// ```
 /// use komihash_rattle::{StreamedKomihash, komihash};

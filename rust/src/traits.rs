@@ -24,8 +24,9 @@ where
     }
 }
 
-/// Writes are joined, so the hash is that of all bytes written, in any pieces. A [`KomiHasher`]
-/// hashes each write by itself, with the number before it as the seed.
+/// Writes are joined, whereas a [`KomiHasher`] hashes each by itself. What a value writes depends on
+/// the machine and on Rust's version, so don't store or send such hashes. With [`fmt::Write`] in
+/// scope too, call `fmt::Write::write_str` by this name, because Rust may give hashers one.
 ///
 /// ```
 /// use komihash_rattle::{StreamedKomihash, komihash};
@@ -38,7 +39,6 @@ impl<const V: u8> hash::Hasher for StreamedKomihash<V>
 where
     Versions: IsVersion<V>,
 {
-    /// Absorbs the bytes.
     fn write(&mut self, bytes: &[u8]) {
         StreamedKomihash::write(self, bytes);
     }
@@ -48,19 +48,19 @@ where
     }
 }
 
+/// With `std::io::Write` in scope too, `write!` is ambiguous: call `fmt::Write::write_fmt`.
+///
 /// ```
 /// use komihash_rattle::{StreamedKomihash, komihash};
-/// use std::fmt::Write;
 /// let mut stream = StreamedKomihash::new();
-/// write!(stream, "{}:{}", "port", 443)?;
+/// std::fmt::Write::write_fmt(&mut stream, format_args!("{}:{}", "port", 443)).unwrap();
 /// assert_eq!(stream.finish(), komihash(b"port:443", 0));
-/// # Ok::<(), std::fmt::Error>(())
 /// ```
 impl<const V: u8> fmt::Write for StreamedKomihash<V>
 where
     Versions: IsVersion<V>,
 {
-    /// Absorbs the bytes of the text, and never fails.
+    /// Absorbs the text, and never fails.
     fn write_str(&mut self, text: &str) -> fmt::Result {
         StreamedKomihash::write(self, text.as_bytes());
         Ok(())

@@ -101,7 +101,7 @@ module _ (v seed : ℕ) (m : List ℕ) where
       let count : length m / 8 ≡ 1 = omega arith in
       rw (komi-few_nonempty (omega arith) (omega arith), count) refl
 
-  -- for `hash_of_16_bytes`
+  -- for `hash_of_16_bytes`, and for the test `zero_and_more`
   pub komi-two_words : 16 ≤ length m → length m < 24
       → komi v seed m
       ≡ closing (pair_round pair (word_of (take 8 m)) (word_of (take 8 (drop 8 m)))) (final ∷ [])

@@ -220,7 +220,7 @@ fn block_words(block: &[u8; 64]) -> [u64; 8]
 /// lanes and the same remainder as absorbing all of `bytes` at once.
 #[inline(always)]
 #[tactic(auto, using(crate::proofs::Blocks::one_block))]
-pub(crate) fn absorb_block<'a, const V: u8>(
+pub(crate) fn absorb_first_block<'a, const V: u8>(
     lanes: &mut Lanes,
     bytes: &'a [u8],
     tally: &mut Tally,
@@ -243,7 +243,7 @@ pub(crate) fn absorb_block<'a, const V: u8>(
 /// Does what `absorb_blocks` does, where one block alone is whole, and so without a loop.
 #[inline(always)]
 #[tactic(auto, using(crate::proofs::Blocks::no_block))]
-pub(crate) fn absorb_one_block<'a, const V: u8>(
+pub(crate) fn absorb_only_block<'a, const V: u8>(
     lanes: &mut Lanes,
     bytes: &'a [u8],
     tally: &mut Tally,
@@ -255,7 +255,7 @@ pub(crate) fn absorb_one_block<'a, const V: u8>(
     ensures lanes { lanes.new ≡ block_lanes V lanes.old (whole_words bytes.now) }
     ensures costs { Costs tally 4 0 }
 {
-    absorb_block::<V>(lanes, bytes, tally)
+    absorb_first_block::<V>(lanes, bytes, tally)
 }
 
 /// Absorbs each whole block of the bytes, and returns the bytes after them, fewer than 64.
@@ -274,11 +274,11 @@ pub(crate) fn absorb_blocks<'a, const V: u8>(
     let mut rest = bytes;
     // Two blocks per turn take fewer instructions than one.
     if rest.len() / 64 % 2 == 1 {
-        rest = absorb_block::<V>(lanes, rest, tally);
+        rest = absorb_first_block::<V>(lanes, rest, tally);
     }
     'whole: while rest.len() >= 128 {
-        let after = absorb_block::<V>(lanes, rest, tally);
-        rest = absorb_block::<V>(lanes, after, tally);
+        let after = absorb_first_block::<V>(lanes, rest, tally);
+        rest = absorb_first_block::<V>(lanes, after, tally);
     }
     rest
 }
