@@ -7,7 +7,8 @@
 use crate::padding::{final_word_of_many, padding_byte};
 use crate::rounds::words::{hash_from_pair, last_whole_word};
 use crate::rounds::{
-    absorb_block, absorb_blocks, absorb_one_block, close, join, lanes_of, pair_round, seed_pair,
+    absorb_blocks, absorb_first_block, absorb_only_block, close, join, lanes_of, pair_round,
+    seed_pair,
 };
 use crate::utils::{read_partial_word, read_word, word_at};
 use crate::version::{IsVersion, Versions};
@@ -47,14 +48,14 @@ fn hash_of_words<const V: u8>(bytes: &[u8], seed: u64) -> u64 {
 #[inline(never)]
 fn hash_of_one_block<const V: u8>(bytes: &[u8], seed: u64) -> u64 {
     let mut lanes = lanes_of(seed_pair(seed));
-    let rest = absorb_one_block::<V>(&mut lanes, bytes);
+    let rest = absorb_only_block::<V>(&mut lanes, bytes);
     let pair = join(&lanes, true);
     // Keys may have just 64 bytes, and their final word is the padding byte alone.
     if rest.is_empty() {
         return close(pair, padding_byte::<V>(bytes), 0);
     }
     let final_word = final_word_of_many(bytes, padding_byte::<V>(bytes));
-    // If a whole word is left, it is the last one of all bytes.
+    // `rest` may have no whole word. If it has one, its last is that of all bytes.
     hash_from_pair(pair, &rest, last_whole_word(bytes), final_word)
 }
 
@@ -69,8 +70,8 @@ fn hash_of_blocks<const V: u8>(bytes: &[u8], seed: u64) -> u64 {
     let mut lanes = lanes_of(pair);
     // Two blocks need no loop either.
     let rest = if bytes.len() < 192 {
-        let after = absorb_block::<V>(&mut lanes, bytes);
-        absorb_one_block::<V>(&mut lanes, after)
+        let after = absorb_first_block::<V>(&mut lanes, bytes);
+        absorb_only_block::<V>(&mut lanes, after)
     } else {
         absorb_blocks::<V>(&mut lanes, bytes)
     };

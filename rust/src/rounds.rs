@@ -138,7 +138,7 @@ fn block_words(block: &[u8; 64]) -> [u64; 8] {
 /// Absorbs the first block, and returns the bytes after it. Absorbing these then gives the same
 /// lanes and the same remainder as absorbing all of `bytes` at once.
 #[inline(always)]
-pub(crate) fn absorb_block<'a, const V: u8>(lanes: &mut Lanes, bytes: &'a [u8]) -> &'a [u8] {
+pub(crate) fn absorb_first_block<'a, const V: u8>(lanes: &mut Lanes, bytes: &'a [u8]) -> &'a [u8] {
     let Some((block, rest)) = bytes.split_first_chunk::<64>() else { unreachable!() };
     let words = block_words(block);
     block_round(lanes, &words, places::<V>());
@@ -147,8 +147,8 @@ pub(crate) fn absorb_block<'a, const V: u8>(lanes: &mut Lanes, bytes: &'a [u8]) 
 
 /// Does what `absorb_blocks` does, where one block alone is whole, and so without a loop.
 #[inline(always)]
-pub(crate) fn absorb_one_block<'a, const V: u8>(lanes: &mut Lanes, bytes: &'a [u8]) -> &'a [u8] {
-    absorb_block::<V>(lanes, bytes)
+pub(crate) fn absorb_only_block<'a, const V: u8>(lanes: &mut Lanes, bytes: &'a [u8]) -> &'a [u8] {
+    absorb_first_block::<V>(lanes, bytes)
 }
 
 /// Absorbs each whole block of the bytes, and returns the bytes after them, fewer than 64.
@@ -157,11 +157,11 @@ pub(crate) fn absorb_blocks<'a, const V: u8>(lanes: &mut Lanes, bytes: &'a [u8])
     let mut rest = bytes;
     // Two blocks per turn take fewer instructions than one.
     if rest.len() / 64 % 2 == 1 {
-        rest = absorb_block::<V>(lanes, rest);
+        rest = absorb_first_block::<V>(lanes, rest);
     }
     while rest.len() >= 128 {
-        let after = absorb_block::<V>(lanes, rest);
-        rest = absorb_block::<V>(lanes, after);
+        let after = absorb_first_block::<V>(lanes, rest);
+        rest = absorb_first_block::<V>(lanes, after);
     }
     rest
 }
