@@ -23,11 +23,12 @@ license=LICENSE
 
 # Calls a function with the mode, the source and the path of each file.
 each_file() {
-    "$1" 644 komihash_rattle.h "$includedir/komihash_rattle.h"
-    "$1" 644 komihash_rattle/komihash.h "$includedir/komihash_rattle/komihash.h"
     "$1" 644 "$license" "$docdir/LICENSE"
     "$1" 644 komihashsum.1 "$mandir/man1/komihashsum.1"
     for file in $programs; do "$1" 755 "$OUT/$file" "$bindir/$file"; done
+    [ "$(echo $libraries)" ] || return 0 # only the program was asked for
+    "$1" 644 komihash_rattle.h "$includedir/komihash_rattle.h"
+    "$1" 644 komihash_rattle/komihash.h "$includedir/komihash_rattle/komihash.h"
     for file in "$filled"/*.pc; do "$1" 644 "$file" "$libdir/pkgconfig/${file##*/}"; done
     for file in "$filled"/*.cmake; do
         "$1" 644 "$file" "$libdir/cmake/komihash_rattle/${file##*/}"

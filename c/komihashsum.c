@@ -7,14 +7,17 @@
 #include <fcntl.h>
 #include <getopt.h>
 #include <inttypes.h>
-#include <limits.h>
 #include <komihash_rattle.h>
+#include <limits.h>
+#include <locale.h>
 #include <stdio.h>
 #include <stdlib.h>
 #include <string.h>
 #include <sys/stat.h>
 #include <time.h>
 #include <unistd.h>
+#include <wchar.h>
+#include <wctype.h>
 
 static const char HELP[] =
     "Usage: komihashsum [OPTION]... [FILE]...\n"
@@ -26,13 +29,14 @@ static const char HELP[] =
     "      --tag             print lines that name the version and the seed\n"
     "  -z, --zero            end lines with a zero byte, and escape no name\n"
     "  -c, --check           check the files that are named in each FILE, in lines\n"
-    "                        of --tag, or those of the same version and seed\n"
+    "                        of --tag, or in others, made with these -4 and --seed\n"
     "      --progress        show on a terminal how much of a file was read\n"
     "      --help            print this help and exit\n"
     "      --version         print the version of the library and exit\n\n"
     "The following options are only for --check:\n\n"
-    "      --ignore-missing  neither fail for files that are missing nor report them\n"
-    "      --quiet           don't print OK for each file that has its hash\n"
+    "      --ignore-missing  don't report files that are missing, or fail for them,\n"
+    "                        unless all are\n"
+    "      --quiet           print FAILED, but not OK for files that have their hash\n"
     "      --status          print no results: the exit status has them\n"
     "      --strict          fail also if there are lines of another form\n"
     "  -w, --warn            name each line of another form\n\n"
@@ -66,15 +70,26 @@ static const struct option OPTIONS[] = {
     {0},
 };
 
-static bool is_control(char byte) { return (byte & ~31) == 0 || byte == 127; }
+/* Returns how many bytes of a name are its first character, or 0 if that one doesn't print. */
+static size_t printing(const char *name) {
+#ifdef _WIN32 /* whose names are UTF-8, of which its library knows nothing */
+    return (unsigned char)*name >= ' ' && *name != 127;
+#else
+    mbstate_t state = {0};
+    wchar_t wide;
+    const size_t length = mbrtowc(&wide, name, strlen(name), &state);
+    return length <= MB_LEN_MAX && iswprint(wide) ? length : 0;
+#endif
+}
 
 /* Returns a name, quoted as coreutils does where a shell would need it, in new memory if there is
  * some. */
 static char *quote(const char *name) {
     char *const text = malloc(10 * strlen(name) + 3), *end = text;
     bool needs_single = strpbrk(name, "!\"$&()*;<=>?[\\^`|"), is_open = false;
-    for (const char *at = name; *at; at++)
-        needs_single = needs_single || is_control(*at);
+    size_t left = 0; /* of a character that prints */
+    for (const char *at = name; *at; at += left ? left : 1)
+        needs_single = (left = printing(at)) == 0 || needs_single;
     const bool is_plain = *name && !needs_single && !strpbrk(name, " ':") &&
         !strchr("#~", *name) && (name[1] || !strchr("{}", *name));
     const bool has_double = !needs_single && strchr(name, '\'');
@@ -82,17 +97,19 @@ static char *quote(const char *name) {
         sprintf(text, is_plain ? "%s" : "\"%s\"", name);
     if (!text || is_plain || has_double)
         return text;
-    for (*end++ = '\''; *name; is_open = is_control(*name++)) {
+    for (*end++ = '\'', left = 0; *name; left -= left > 0, name++) {
+        left = left ? left : printing(name);
         if (*name == '\'')
             end += sprintf(end, "'\\'");
-        else if (is_open != is_control(*name))
+        else if (is_open != (left == 0))
             end += sprintf(end, is_open ? "''" : "'$'");
-        if (!is_control(*name))
+        is_open = left == 0;
+        if (left)
             *end++ = *name;
         else if (*name >= '\a' && *name <= '\r')
             end += sprintf(end, "\\%c", "abtnvfr"[*name - '\a']);
         else
-            end += sprintf(end, "\\%03o", *name);
+            end += sprintf(end, "\\%03o", (unsigned char)*name);
     }
     strcpy(end, "'");
     return text;
@@ -129,12 +146,14 @@ static int open_file(const char *name);
 
 /* Shows once a second how much of a file was read, in the place of what was shown before. */
 #define CLEAR "\r%79s\r"
+static bool is_shown;
 static void show_progress(int file, const char *name, uint64_t length) {
     static time_t last;
     struct stat about;
     if (!progress || time(NULL) == last)
         return;
     last = time(NULL);
+    is_shown = true;
     fprintf(stderr, CLEAR "%" PRIu64, "", length >> 20);
     if (fstat(file, &about) == 0 && about.st_size)
         fprintf(stderr, " of %" PRIu64, (uint64_t)about.st_size >> 20);
@@ -156,8 +175,9 @@ static int hash_file(const char *name, struct kind *kind) {
         show_progress(file, name, total += length);
     }
     const int error = length < 0 ? errno : 0;
-    if (progress)
+    if (is_shown)
         fprintf(stderr, CLEAR, "");
+    is_shown = false;
     if (file > 0)
         close(file);
     kind->hash = kind->version == 4 ? komihash_v4_finish(&stream_4) : komihash_v5_finish(&stream_5);
@@ -244,13 +264,16 @@ static char *parse_tag(char *line, char *last, bool is_escaped, struct kind *kin
         const size_t count = strspn(++line, DIGITS);
         if (count < 1 || count > 16)
             return NULL;
-        kind->seed = strtoull(line, &line, 16);
+        kind->seed = strtoull(line, NULL, 16);
+        line += count;
     }
     char *const name = line + (*line == ' ') + 1, *end = last;
+    if (name[-1] != '(')
+        return NULL;
     while (end > line && *end != ')')
         end--;
     const char *digits = end + 1 + strspn(end + 1, BLANKS);
-    if (name[-1] != '(' || end < name || (is_escaped && !unescape(name, end)) || *digits++ != '=')
+    if (end < name || (is_escaped && !unescape(name, end)) || *digits++ != '=')
         return NULL;
     *end = 0;
     digits += strspn(digits, BLANKS);
@@ -365,6 +388,7 @@ static bool set_seed(const char *text) {
 
 static int run(int count, char **arguments) {
     arguments[0] = "komihashsum"; /* which getopt_long prints */
+    setlocale(LC_CTYPE, "");
     int option = 0;
     while (option != '?' && option != -1) {
         switch (option = getopt_long(count, arguments, "4bcs:twz", OPTIONS, NULL)) {

@@ -15,8 +15,12 @@ function(komihash_rattle_target name kind file)
       INTERFACE_INCLUDE_DIRECTORIES "${komihash_rattle_include}" ${ARGN})
   endif()
 endfunction()
-komihash_rattle_target(komihash_rattle SHARED libkomihash_rattle.so)
-komihash_rattle_target(komihash_rattle SHARED libkomihash_rattle.dylib)
+set(komihash_rattle_shared libkomihash_rattle.so.${komihash_rattle_VERSION_MAJOR})
+komihash_rattle_target(komihash_rattle SHARED ${komihash_rattle_shared}
+  IMPORTED_SONAME ${komihash_rattle_shared})
+set(komihash_rattle_shared libkomihash_rattle.${komihash_rattle_VERSION_MAJOR}.dylib)
+komihash_rattle_target(komihash_rattle SHARED ${komihash_rattle_shared}
+  IMPORTED_SONAME @rpath/${komihash_rattle_shared})
 komihash_rattle_target(komihash_rattle SHARED libkomihash_rattle.dll.a
   IMPORTED_IMPLIB "${komihash_rattle_libdir}/libkomihash_rattle.dll.a"
   IMPORTED_LOCATION "${komihash_rattle_libdir}/${komihash_rattle_dll}")
@@ -28,8 +32,9 @@ if(NOT TARGET komihash_rattle::komihash_h)
   set_target_properties(komihash_rattle::komihash_h PROPERTIES
     INTERFACE_INCLUDE_DIRECTORIES "${komihash_rattle_include}/komihash_rattle")
 endif()
-# A component is the name of a target.
-foreach(komihash_rattle_component IN LISTS komihash_rattle_FIND_COMPONENTS)
+# A component is the name of a target. One of them is always needed.
+set(komihash_rattle_FIND_REQUIRED_komihash_rattle TRUE)
+foreach(komihash_rattle_component IN LISTS komihash_rattle_FIND_COMPONENTS ITEMS komihash_rattle)
   if(TARGET komihash_rattle::${komihash_rattle_component})
     set(komihash_rattle_${komihash_rattle_component}_FOUND TRUE)
   elseif(komihash_rattle_FIND_REQUIRED_${komihash_rattle_component})

@@ -260,7 +260,13 @@ install(IMPORTED_RUNTIME_ARTIFACTS komihash_rattle::komihash_rattle)
 END
     by_cmake "$scratch/requested" -D "CMAKE_PREFIX_PATH=$prefix" &&
         "$NM" "$by_cmake/bin/komihashsum$exe" | grep 'T komihash_v5$' &&
-        $RUN "$by_cmake/bin/original$exe"
+        cat "$by_cmake"/*/"$soname" > "$scratch/library" && $RUN "$by_cmake/bin/original$exe"
+}
+other_source() { FROM=assembly fails 'may be rust' cmake_installs .; }
+only_the_program() {
+    build install "PREFIX=$scratch/only program" BUILD_SHARED=no BUILD_STATIC=no &&
+        prints "$(printf '%s\n' LICENSE "komihashsum$exe" komihashsum.1 | sort)" \
+            eval 'find "$scratch/only program" -type f | sed "s|.*/||" | sort'
 }
 
 manual_is_made() {
@@ -369,6 +375,8 @@ needs cmake 'the shared libraries alone' \
     one_kind BUILD_STATIC=no BUILD_SHARED_LIBS=ON libkomihash_rattle.a
 needs cmake 'the static libraries alone' \
     one_kind BUILD_SHARED=no BUILD_SHARED_LIBS=OFF "${linked##*/}"
+run_case 'komihashsum alone is installed' only_the_program
+needs cmake 'another source than rust' other_source
 
 . ./tests/komihashsum.sh
 run_case 'the paths of the environment' staged

@@ -84,7 +84,8 @@ compared() {
         $sum --zero --tag -- *slash "$newline"; } 2> $list | tr "\0" "\n"; cat $list'
     run_case 'komihashsum beside sha256sum, names in messages' beside "for name in '' \
         'a b' a:b 'a\\b' \\# a# \\~ { a{ x? 'a=b' @x 'it'\\''s' 'a'\\''b\$' '\"' '\$(printf \
-        \"a\\tb'c\\n\\001\\002'd\\033\")'; do eval \"\\\$sum -- \\\"\$name\\\"\"; done"
+        \"a\\tb'c\\n\\001\\002'd\\033\")' ü '\$(printf \"ü\\302\\233\\377'\")'; do for in in C C.UTF-8; do
+        eval \"LC_ALL=\$in \\\$sum -- \\\"\$name\\\"\"; done; done"
     draw 7 > "$scratch/drawn"
     run_case 'komihashsum beside sha256sum, random lists' beside 'k=0 edits=
         case $sum in sha*) name=SHA256 ;; *) name=KOMIHASH5 ;; esac
@@ -142,6 +143,15 @@ shows_progress() {
     grep "^0 of 0 MiB  .*large'\$'.033'" "$scratch/shown" && grep "^$(komihashsum "$odd")" \
         "$scratch/shown" && ! komihashsum --progress "$odd" 2>&1 | grep MiB
 }
+# Whether lists whose lines fill the memory for them are read within it.
+within_memory() {
+    $CC -g -fsanitize=address,undefined -I. -o "$scratch/sanitized" komihashsum.c "$archive" &&
+        for line in KOMIHASH5 KOMIHASH5- KOMIHASH4-4d 'KOMIHASH5 (' 'KOMIHASH5 ()' \\ ''; do
+            printf "%$((255 - ${#line}))s%s\n" '' "$line" > "$scratch/list"
+            ASAN_OPTIONS=exitcode=9 "$scratch/sanitized" --check "$scratch/list"
+            [ $? = 1 ] || return
+        done
+}
 one_space() { (cd "$tree" && komihashsum plain | sed 's/  / /' | komihashsum --check); }
 odd_on_windows() (
     export LC_ALL=C.UTF-8
@@ -182,5 +192,6 @@ else
     run_case 'komihashsum, its name in messages' fails "^komihashsum: .* '--no'" komihashsum --no
     needs script 'komihashsum, progress on a terminal alone' shows_progress
 fi
+[ "$CROSS" ] || run_case 'komihashsum, lines that fill the memory for them' within_memory
 [ "$CROSS" ] || needs help2man 'the manual is made of what komihashsum prints' manual_is_made
 needs mandoc 'the manual has no warnings' mandoc -Tlint -W warning komihashsum.1
