@@ -14,22 +14,32 @@ const bytes = new Uint8Array(memory.buffer);
 const room = bytes.subarray(piece, piece + ROOM);
 const encoder = new TextEncoder();
 
-// These take buffers of any page or worker, and throw for anything else.
+// These read buffers and views of any page or worker, whatever a subclass overrides.
+const getter = (of, name) => Object.getOwnPropertyDescriptor(of, name).get;
 const lengths = [ArrayBuffer, globalThis.SharedArrayBuffer].filter((it) => it !== undefined)
-    .map((it) => Object.getOwnPropertyDescriptor(it.prototype, "byteLength").get);
+    .map((it) => getter(it.prototype, "byteLength"));
 function isBuffer(data) {
     return lengths.some((length) => {
         try { return length.call(data) >= 0; } catch { return false; }
     });
 }
+const arrays = Object.getPrototypeOf(Uint8Array.prototype), { keys } = arrays;
+const typeOf = getter(arrays, Symbol.toStringTag);
+const [ofArray, ofDataView] = [arrays, DataView.prototype].map((of) => {
+    const [buffer, at, size] = ["buffer", "byteOffset", "byteLength"].map((it) => getter(of, it));
+    return (data) => new Uint8Array(buffer.call(data), at.call(data), size.call(data));
+});
 
 /** Returns the bytes of anything but a string. */
 function viewed(data) {
-    if (ArrayBuffer.isView(data)) {
-        data.keys?.(); // This throws if the buffer shrank below an array, which has no length then.
-        return new Uint8Array(data.buffer, data.byteOffset, data.byteLength);
-    }
-    if (isBuffer(data)) return new Uint8Array(data);
+    try {
+        if (typeOf.call(data)) {
+            keys.call(data); // This throws if the buffer shrank below an array.
+            return Object.getPrototypeOf(data) === Uint8Array.prototype ? data : ofArray(data);
+        }
+        if (ArrayBuffer.isView(data)) return ofDataView(data);
+        if (isBuffer(data)) return new Uint8Array(data);
+    } catch { throw new TypeError("the buffer of the data is detached or has shrunk"); }
     throw new TypeError("the data must be an ArrayBuffer, a view of one, or for a hash a string");
 }
 

@@ -59,7 +59,9 @@ const Shared = globalThis.SharedArrayBuffer ?? ArrayBuffer; // which pages may l
 test("shared memory", komihash(new Shared(9)) === komihash(new Uint8Array(9)));
 for (const text of ["", "aß€😀", "€".repeat(1e5), "€".repeat(2e5)])
     test("a string", komihash(text, 7n) === komihash(new TextEncoder().encode(text), 7n));
-for (const view of [new DataView(long.buffer, 8, 80), new Uint16Array(long.buffer, 8, 40)])
+class Odd extends Uint8Array { byteLength = 3; keys = () => { throw 0; }; }
+const views = [new DataView(long.buffer, 8, 80), new Odd(long.buffer, 8, 80)];
+for (const view of [...views, new Uint16Array(long.buffer, 8, 40)])
     test("a view", komihash(view) === komihash(long.buffer.slice(8, 88)));
 const rand = new Komirand(7n);
 test("outputs", new Komirand(7n).fill(new BigUint64Array(1e5)).every((it) => it === rand.next()));
