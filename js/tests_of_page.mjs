@@ -1,8 +1,9 @@
 // Hashes files in komihash.html in Chromium, and prints what it shows: tests_of_page.mjs URL
-// PROFILE BIG OTHER.. Chooses a big file, at first with a wrong seed, and then drops the others.
+// PROFILE GONE BIG OTHER.. Chooses two files, at first with a wrong seed, and then
+// drops the others.
 import { spawn } from "node:child_process";
 
-const [url, profile, big, ...files] = process.argv.slice(2);
+const [url, profile, gone, big, ...files] = process.argv.slice(2);
 const browser = spawn("chromium", ["--headless", "--no-sandbox", "--remote-debugging-pipe",
     "--allow-file-access-from-files", `--user-data-dir=${profile}`],
     { stdio: ["ignore", "ignore", "ignore", "pipe", "pipe"] });
@@ -22,21 +23,22 @@ async function run(expression) {
     return result.value ?? result.objectId;
 }
 const choose = async (seed) => call("DOM.setFileInputFiles",
-    { files: [big], objectId: await run(`seed.value = ${seed}, files`) });
+    { files: [gone, big], objectId: await run(`seed.value = ${seed}, files`) });
 
 const { targetId } = await call("Target.createTarget", { url });
 ({ sessionId } = await call("Target.attachToTarget", { targetId, flatten: true }));
-while (await run("document.URL + document.readyState") !== `${url}complete`);
-await choose(-1);
+while (await run("document.URL + document.readyState + told.textContent") !== `${url}complete`);
+await choose("'0b11'");
 console.log(await run("told.textContent"));
 await run(`steps = 0, new MutationObserver((list) => steps += list.length)
     .observe(progress, { subtree: true, attributeFilter: ["value"] })`);
 await choose(0);
-await run("seed.value = 7, version.value = 4");
+await run("seed.value = '0xA', version.value = 4");
 for (const type of ["dragEnter", "dragOver", "drop"])
     await call("Input.dispatchDragEvent",
         { type, x: 9, y: 9, data: { items: [], files, dragOperationsMask: 1 } });
 while (await run("progress.children.length"));
-const shown = "`${told.textContent}${lines.textContent}progress: ${steps > 9}`";
+const failures = "${failed.textContent.split(':')[0]} failed\n";
+const shown = `\`\${told.textContent}${failures}\${lines.textContent}progress: \${steps > 9}\``;
 console.log(await run(`fetch("data:,").catch(() => ${shown})`));
 browser.kill();

@@ -121,16 +121,19 @@ js_in_chromium() {
 }
 # Compares what the page shows with what komihashsum prints for the same files.
 page_in_chromium() {
-    local files=$scratch/files odd=$'a\\b\nc'
+    local files=$scratch/files odd=$'a\\b\nc' page profile=$scratch/chromium
+    page=file://$(cd "$scratch/js" && node -p '["package.json", "komihash.html"].map(
+        (it) => require.resolve(`komihash_rattle/${it}`))[1]')
+    chromium --headless --no-sandbox --user-data-dir="$profile" --dump-dom "$page" |
+        grep 'needs a server' || return
     in_package out/komihashsum && mkdir -p "$files/folder" && : > "$files/empty" &&
         seq 99 > "$files/$odd" && seq 12500000 > "$files/big" &&
-        timeout 120 node js/tests_of_page.mjs \
-            "file://$scratch/js/node_modules/komihash_rattle/komihash.html" "$scratch/chromium" \
-            "$files"/{big,"$odd",empty,folder} > "$scratch/shown" && cd "$files" &&
+        timeout 120 node js/tests_of_page.mjs "$page" "$profile" \
+            "$files"/{gone,big,"$odd",empty,folder} > "$scratch/shown" && cd "$files" &&
         PATH=$(echo "$scratch"/komihash_rattle-*/out):$PATH && diff "$scratch/shown" <(
             echo 'The seed must be a whole number from 0 to 2^64 - 1.'
-            echo 'Folders are not hashed.'
-            komihashsum big && komihashsum -4 -s 7 --tag "$odd" empty
+            printf '%s\n' 'Folders are not hashed.' 'gone failed'
+            komihashsum big && komihashsum -4 -s 0xA --tag "$odd" empty
             echo 'progress: true'
         )
 }
