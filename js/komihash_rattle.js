@@ -14,15 +14,8 @@ const bytes = new Uint8Array(memory.buffer);
 const room = bytes.subarray(piece, piece + ROOM);
 const encoder = new TextEncoder();
 
-// These read buffers and views of any page or worker, whatever a subclass overrides.
+// These read views of any page or worker, whatever a subclass overrides.
 const getter = (of, name) => Object.getOwnPropertyDescriptor(of, name).get;
-const lengths = [ArrayBuffer, globalThis.SharedArrayBuffer].filter((it) => it !== undefined)
-    .map((it) => getter(it.prototype, "byteLength"));
-function isBuffer(data) {
-    return lengths.some((length) => {
-        try { return length.call(data) >= 0; } catch { return false; }
-    });
-}
 const arrays = Object.getPrototypeOf(Uint8Array.prototype), { keys } = arrays;
 const typeOf = getter(arrays, Symbol.toStringTag);
 const [ofArray, ofDataView] = [arrays, DataView.prototype].map((of) => {
@@ -33,14 +26,14 @@ const [ofArray, ofDataView] = [arrays, DataView.prototype].map((of) => {
 /** Returns the bytes of anything but a string. */
 function viewed(data) {
     try {
-        if (typeOf.call(data)) {
-            keys.call(data); // This throws if the buffer shrank below an array.
-            return Object.getPrototypeOf(data) === Uint8Array.prototype ? data : ofArray(data);
-        }
-        if (ArrayBuffer.isView(data)) return ofDataView(data);
-        if (isBuffer(data)) return new Uint8Array(data);
-    } catch { throw new TypeError("the buffer of the data is detached or has shrunk"); }
-    throw new TypeError("the data must be an ArrayBuffer, a view of one, or for a hash a string");
+        if (!typeOf.call(data))
+            return ofDataView(ArrayBuffer.isView(data) ? data : new DataView(data));
+        keys.call(data); // This throws if the buffer shrank below an array.
+        return Object.getPrototypeOf(data) === Uint8Array.prototype ? data : ofArray(data);
+    } catch (cause) {
+        const wanted = "an ArrayBuffer or a view of one, not detached or shrunk";
+        throw new TypeError(`the data must be ${wanted}, or for a hash a string`, { cause });
+    }
 }
 
 /** Copies a message to `piece`, and returns its length, or if it has no room there, its bytes. */
