@@ -11,9 +11,9 @@ release() { PYTHON=/usr/bin/python3 bash scripts/release.sh "$packed" "$1"; }
 # Unpacks the package of the library for C, and makes it again from what was unpacked.
 unpack() {
     release c && tar -xzf "$packed"/c/*.tar.gz -C "$scratch" && in_package dist &&
-        cmp "$packed"/c/*.tar.gz "$scratch"/komihash_rattle-*/out/*.tar.gz
+        cmp "$packed"/c/*.tar.gz "$scratch"/libkomihash_rattle-*/out/*.tar.gz
 }
-in_package() { make -C "$scratch"/komihash_rattle-*/ --no-print-directory "$@"; }
+in_package() { make -C "$scratch"/libkomihash_rattle-*/ --no-print-directory "$@"; }
 
 # Makes something from Rust for another processor: by Debian's compiler, with a core library that is
 # made here: from_rust 'TARGET [OPTION..]' ARGUMENT..
@@ -130,7 +130,7 @@ page_in_chromium() {
         seq 99 > "$files/$odd" && seq 12500000 > "$files/big" &&
         timeout 120 node js/tests_of_page.mjs "$page" "$profile" \
             "$files"/{gone,big,"$odd",empty,folder} > "$scratch/shown" && cd "$files" &&
-        PATH=$(echo "$scratch"/komihash_rattle-*/out):$PATH && diff "$scratch/shown" <(
+        PATH=$(echo "$scratch"/libkomihash_rattle-*/out):$PATH && diff "$scratch/shown" <(
             echo 'The seed must be a whole number from 0 to 2^64 - 1.'
             printf '%s\n' 'Folders are not hashed.' 'gone failed'
             komihashsum big && komihashsum -4 -s 0xA --tag "$odd" empty

@@ -12,7 +12,7 @@ part_with "rustc $python" in_package verify FROM=rust LEVEL=x86-64-v2
 part_with "$arm-gcc $debian $python" from_rust aarch64-unknown-linux-gnu verify FROM=rust \
     "CROSS=$arm-" 'FUNCTION=komihash_v4 komihash_v4_write komihash_v4_finish'
 
-tests=c/verify/tests out=$(echo "$scratch"/komihash_rattle-*/out) so=libkomihash_rattle.so.1
+tests=c/verify/tests out=$(echo "$scratch"/libkomihash_rattle-*/out) so=libkomihash_rattle.so.1
 libraries=("x86-64:$out/$so" "x86-64-v3:$out/glibc-hwcaps/x86-64-v3/$so")
 [ ! -d "$out/$arm" ] || libraries+=("armv8-a:$out/$arm/$so")
 part_with "$python" "$python" -B $tests/bodies.py x86-64 "${CC:-cc}"

@@ -194,7 +194,7 @@ by_cmake() { # Runs komihashsum, as CMake installs it.
 }
 fetched_by_cmake() {
     LD_LIBRARY_PATH=/none
-    by_cmake examples -D "PACKAGE=$scratch/komihash_rattle-$version.tar.gz"
+    by_cmake examples -D "PACKAGE=$scratch/libkomihash_rattle-$version.tar.gz"
 }
 files_of() { (cd "$1" && find . ! -type d | sort); }
 installed_by_cmake() {
@@ -263,6 +263,11 @@ END
         cat "$by_cmake"/*/"$soname" > "$scratch/library" && $RUN "$by_cmake/bin/original$exe"
 }
 other_source() { FROM=assembly fails 'may be rust' cmake_installs .; }
+other_machine() {
+    OUT=$scratch/other && build all && echo sun4-linux > "$OUT/machine" &&
+        fails 'was built for sun4-linux' build install "PREFIX=$OUT" &&
+        build all > "$scratch/made" && grep -E -- '-o [^ ]+\.o |from_rust' "$scratch/made"
+}
 only_the_program() {
     build install "PREFIX=$scratch/only program" BUILD_SHARED=no BUILD_STATIC=no &&
         prints "$(printf '%s\n' LICENSE "komihashsum$exe" komihashsum.1 | sort)" \
@@ -376,6 +381,7 @@ needs cmake 'the shared libraries alone' \
 needs cmake 'the static libraries alone' \
     one_kind BUILD_SHARED=no BUILD_SHARED_LIBS=OFF "${linked##*/}"
 run_case 'komihashsum alone is installed' only_the_program
+run_case 'what was built for another machine' other_machine
 needs cmake 'another source than rust' other_source
 
 . ./tests/komihashsum.sh
