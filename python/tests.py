@@ -22,7 +22,14 @@ ABOVE = HERE if (HERE / "rust").is_dir() else HERE.parent
 FILES = [ABOVE / "rust/tests" / name for name in ("values.tsv", "vectors.tsv")]
 
 
-class Named(komihash):
+class Locked:
+    """Pickles a name, and not a lock, which can't be pickled."""
+
+    def __getstate__(self):
+        return {"name": vars(self)["name"]}
+
+
+class Named(Locked, komihash):
     """A stream with an attribute, and arguments of its own."""
 
     def __init__(self, name, seed):
@@ -30,8 +37,12 @@ class Named(komihash):
         self.name = name
 
 
-class Generator(Komirand):
+class Generator(Locked, Komirand):
     """A generator that may have attributes."""
+
+
+class Plain(komihash):
+    """A stream whose attributes are all pickled."""
 
 
 def copies(original):
@@ -170,11 +181,14 @@ class Tests(unittest.TestCase):
     def test_subclasses(self):
         original = Named("a", seed=7)
         original.update(LONG)
-        generator = Generator(7)
-        generator.name = "a"
-        for it in [*copies(original), original.copy(), *copies(generator)]:
-            self.assertIn(type(it), (Named, Generator))
-            self.assertEqual(vars(it), {"name": "a"})
+        generator, plain = Generator(7), Plain()
+        generator.name = plain.name = "a"
+        original.lock = generator.lock = threading.Lock()
+        for it in [*copies(original), original.copy(), *copies(generator), *copies(plain)]:
+            self.assertIn(type(it), (Named, Generator, Plain))
+            self.assertEqual(it.name, "a")
+        for nameless in Named.__new__(Named), Generator(7):
+            self.assertRaises(KeyError, pickle.dumps, nameless)
         self.assertEqual(original.intdigest(), komihash_int(LONG, 7))
 
     def test_other_threads_run_while_many_bytes_are_hashed(self):

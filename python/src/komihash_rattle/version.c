@@ -195,12 +195,22 @@ static PyObject *attributes(PyObject *self) {
     return Py_BuildValue("");
 }
 
+/* Returns what is pickled with an object. Before Python 3.11, `object` has no `__getstate__`. */
+static PyObject *extra_state(PyObject *self) {
+    return PyObject_HasAttrString(self, "__getstate__")
+        ? PyObject_CallMethod(self, "__getstate__", NULL)
+        : attributes(self);
+}
+
 static PyObject *class_method(PyObject *self, const char *name) {
     return PyObject_GetAttrString((PyObject *)Py_TYPE(self), name);
 }
 
 static PyObject *reduce_stream(PyObject *self, PyObject *unused) {
-    return Py_BuildValue("N(N)N", class_method(self, "resume"), save(self, NULL), attributes(self));
+    PyObject *extra = extra_state(self);
+    return extra == NULL
+        ? NULL
+        : Py_BuildValue("N(N)N", class_method(self, "resume"), save(self, NULL), extra);
 }
 
 static PyObject *copy(PyObject *self, PyObject *unused) {
@@ -263,8 +273,11 @@ static PyObject *fill(PyObject *self, PyObject *number) {
 
 static PyObject *reduce_generator(PyObject *self, PyObject *unused) {
     const uint64_t *words = ((Generator *)self)->state.state;
-    return Py_BuildValue("N(KK)N", class_method(self, "from_words"), (unsigned long long)words[0],
-                         (unsigned long long)words[1], attributes(self));
+    PyObject *extra = extra_state(self);
+    return extra == NULL
+        ? NULL
+        : Py_BuildValue("N(KK)N", class_method(self, "from_words"), (unsigned long long)words[0],
+                        (unsigned long long)words[1], extra);
 }
 
 #define DOC(call, text) PyDoc_STR(call "\n--\n\n" text)
