@@ -1,15 +1,17 @@
 """Builds a module for each version, with the library for C inside."""
 import shlex
 import shutil
-import subprocess
 import sys
 import sysconfig
 import tempfile
 from pathlib import Path
 
-from setuptools import Extension, setup
+from setuptools import Extension, __version__, setup
 from setuptools.command.build_ext import build_ext
 from setuptools.command.sdist import sdist
+
+if int(__version__.split(".")[0]) < 61:
+    sys.exit(f"setuptools 61 or newer is needed, and this is {__version__}")
 
 HERE = Path(__file__).resolve().parent
 # What is used from above this folder is in it in a source distribution.
@@ -26,14 +28,14 @@ class Build(build_ext):
     """Makes the library first, of its assembly, or where there is none, of the crate for Rust."""
 
     def build_extensions(self):
-        with tempfile.TemporaryDirectory() as folder:
-            library = folder + "/libkomihash_rattle.a"
+        # The makefile takes no path with a space, so it gets the folder's name alone.
+        with tempfile.TemporaryDirectory(dir=ABOVE / "c") as folder:
+            out, library = Path(folder).name, "/libkomihash_rattle.a"
             compiler = shlex.join(self.compiler.compiler)
-            subprocess.run(["make", "-C", ABOVE / "c", f"CC={compiler}", f"OUT={folder}", library],
-                           check=True)
+            self.spawn(["make", "-C", f"{ABOVE}/c", f"CC={compiler}", f"OUT={out}", out + library])
             self.force = True  # Modules that were built before may have an older library.
             for extension in self.extensions:
-                extension.extra_objects = [library]
+                extension.extra_objects = [folder + library]
             super().build_extensions()
 
 

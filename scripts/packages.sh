@@ -79,11 +79,11 @@ fails() { ! "${@:2}" > "$scratch/failure" 2>&1 && [ "$(wc -l < "$scratch/failure
 # Makes the package for Python, installs it by Debian's tools, and runs the tests that are in it.
 debian_python() { PYTHONPATH=$scratch/python /usr/bin/python3 -B "$@"; }
 python_package() {
-    release python && mkdir "$scratch/sdist" &&
-        tar -xzf "$packed"/python/*.tar.gz -C "$scratch/sdist" --strip-components=1 &&
-        debian_python -m pip install --no-index --no-build-isolation --target "$scratch/python" \
-            "$scratch/sdist" &&
-        debian_python -W error "$scratch/sdist/tests.py" "$scratch/rows" &&
+    release python && mkdir "$scratch/s dist" &&
+        tar -xzf "$packed"/python/*.tar.gz -C "$scratch/s dist" --strip-components=1 &&
+        TMPDIR="$scratch/s dist" debian_python -m pip install --no-index --no-build-isolation \
+            --target "$scratch/python" "$scratch/s dist" &&
+        debian_python -W error "$scratch/s dist/tests.py" "$scratch/rows" &&
         debian_python -W error python/tests.py &&
         fails 1 debian_python python/tests.py "$scratch/none" &&
         debian_python -m doctest python/README.md
