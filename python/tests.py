@@ -1,4 +1,5 @@
-"""Tests the package that is installed: tests.py [FILE..]. A file has rows as in rust/tests."""
+"""Tests the package that is installed: tests.py [OPTION..] [Tests.NAME..] [FILE..]. Options are
+those of unittest, and a file has rows as in rust/tests."""
 import array
 import copy
 import gc
@@ -249,6 +250,9 @@ class Tests(unittest.TestCase):
 
 
 if __name__ == "__main__":
-    FILES += map(Path, sys.argv[1:])
+    arguments = [name for name in sys.argv if name.startswith(("-", "Tests"))]
+    FILES += [Path(name) for name in sys.argv[1:] if name not in arguments]
     missing = [str(file) for file in FILES if not file.exists()]
-    sys.exit("missing: " + ", ".join(missing)) if missing else unittest.main(argv=sys.argv[:1])
+    if missing:
+        sys.exit("missing: " + ", ".join(missing))
+    unittest.main(argv=sys.argv[:1] + arguments)
