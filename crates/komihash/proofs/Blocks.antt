@@ -75,6 +75,7 @@ block_lanes-more v l xs le = (completed v l [] xs 64 refl le).lanes
 
 -- ---- the words after them, and the bytes after their last word
 
+-- a stream's last partial word is the message's, which `answer-joined` needs
 pub after_eights-after_blocks : (m : List ℕ) → after_eights (after_blocks m) ≡ after_eights m
 after_eights-after_blocks m = grind (arith, elements)
 

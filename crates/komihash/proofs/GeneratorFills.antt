@@ -71,8 +71,8 @@ pub outputs-next : (v k n : ℕ) (s now : ℕ × ℕ) → k < n → now ≡ afte
 unfolding after_steps
 outputs-next v k n s now lt is = grind (arith, outputs-at, after_steps-add v k 1 s, length-outputs)
 
-length-bytes : (v n : ℕ) (s : ℕ × ℕ) → length (all_bytes (outputs v n s)) ≡ 8 * n
-length-bytes v n s = length-all_bytes (outputs v n s) ∙ ap (λ k. 8 * k) (length-outputs v n s)
+length-outputs_bytes : (v n : ℕ) (s : ℕ × ℕ) → length (all_bytes (outputs v n s)) ≡ 8 * n
+length-outputs_bytes v n s = length-all_bytes (outputs v n s) ∙ ap (λ k. 8 * k) (length-outputs v n s)
 
 -- ---- fills in two parts, the first of whole words
 
@@ -83,9 +83,9 @@ after_fill-add v x y s whole = grind (arith, after_steps-add v (fill_steps x) (f
 -- a fill of whole words is the bytes of as many outputs
 pub fill-whole : (v n : ℕ) (s : ℕ × ℕ)
     → fill v s (8 * n) ≡ flat_map (λ output. to_le_bytes w64 output) (outputs v n s)
-fill-whole v n s = grind (arith, elements, length-bytes)
+fill-whole v n s = grind (arith, elements, length-outputs_bytes)
 
--- a fill of whole words is the bytes of outputs that are known, which the search finds
+-- the reverse, for goals that begin with outputs
 pub outputs-whole : (v n : ℕ) (s : ℕ × ℕ) → all_bytes (outputs v n s) ≡ fill v s (8 * n)
 outputs-whole v n s = sym (fill-whole v n s)
 
@@ -96,7 +96,7 @@ pub fill-add : (v x y : ℕ) (s : ℕ × ℕ) → x % 8 ≡ 0
     → fill v s x ++ fill v (after_fill v s x) y ≡ fill v s (x + y)
 fill-add v x y s whole =
     let more = outputs-add v (fill_steps x) (fill_steps y) s in
-    grind (arith, elements, length-bytes, more, flat_map-append)
+    grind (arith, elements, length-outputs_bytes, more, flat_map-append)
 
 -- ---- one output
 

@@ -86,6 +86,7 @@ module _ (v : ℕ) (ws : List ℕ) (fit : (k : ℕ) → Fits w64 (get_or ws k 0)
       let rest = word_of-drop r from (AreBytes-drop (8 * i) bytes (AreBytes-all_bytes ws)) in
       grind (arith, eight, take-all_bytes ws i 8, drop-drop r (8 * i) bytes)
 
+  -- padded words whose last word is 0 are those of the empty message
   pub padded_zero : ArePadded v ws → last ≡ 0 → length ws ≡ 1
   padded_zero (m, are, is) none =
       let n = length m in
@@ -123,12 +124,14 @@ module _ (v : ℕ) (ws : List ℕ) (fit : (k : ℕ) → Fits w64 (get_or ws k 0)
           take-append-drop size (all_bytes ws),
         )
 
+    -- if the highest byte is the padding byte of what stands before it, that is the message
     pub unpadded : 0 < size → last / 2 ^ (8 * r) ≡ padding_byte v message
         → padded_words v message ≡ ws
     unpadded long is =
         let fits = stored_words-all_bytes ws (Each1-from_get_or _ ws 0 (λ k _. (fit k).fits)) in
         grind (arith, split, words_of-whole, length-all_bytes, fits)
 
+    -- if there is a message, it can end nowhere else
     pub one_place : ArePadded v ws → (0 < size) × (last / 2 ^ (8 * r) ≡ padding_byte v message)
     one_place (m, are, is) =
         let ends = same_end message m _ _ (7 - length message % 8) (7 - length m % 8) in

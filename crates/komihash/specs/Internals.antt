@@ -1,7 +1,7 @@
 -- How the code reads and stores what the other definitions speak of. An auditor may skip this file:
--- no public contract cites it. Private contracts do, and lemmas prove that both say the same. What
--- contracts see of a stream is a view by `pending_bytes`. A wrong view could let no wrong answer or
--- text pass, because contracts say by the definitions which numbers and bytes these are.
+-- no public contract cites it. Private contracts do, and lemmas prove that both say the same.
+-- Contracts see pending bytes through `pending_bytes` alone. It needs no trust: whatever it gave,
+-- contracts say by the other definitions which hashes and texts come out.
 use Rattle.std.specs.Prelude.{ℕ, zero, suc, Bool, ◌≡◌, ◌-◌, ◌*◌, ◌/◌, ◌%◌, ◌^◌, ◌<◌, ◌≤◌, bit_xor}
 use Rattle.std.specs.Int.{from_le_bytes, w64}
 use Rattle.std.specs.Int.Bits.{xor_assoc, xor_self, xor_zero_l}
