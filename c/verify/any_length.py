@@ -11,8 +11,8 @@ from memory import Array
 from terms import bv, bytes_of, join, secret, simple, sym, symbols
 
 
-# A number of pending bytes for which writes are proved first: neither none nor a whole block, so that
-# the call does before its loop all that it can do there.
+# A number of pending bytes for which writes are proved first: more than none, so that the call does
+# before its loop all that it can do there.
 SOME_PENDING = 13
 
 

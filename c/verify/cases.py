@@ -74,7 +74,8 @@ class Case(collections.namedtuple('Case', 'name check args')):
         return int(self.name[len('komihash_v')])
 
     def run(self, library):
-        """Checks the case, and returns what was seen."""
+        """Checks the case, and returns what was seen. The parameters of a check are named `length`
+        and `pending` if they are these numbers."""
         done = self.check(library, self.version(), *self.args)
         if self.has_loop():
             done.prove()

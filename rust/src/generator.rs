@@ -6,11 +6,10 @@ use crate::version::{IsVersion, Versions};
 
 /// A pseudorandom generator of version V, which is not cryptographic.
 ///
-/// A step multiplies the words, and replaces them by sums and exclusive ors of the second word, the
-/// halves of the product, and constants of alternating bits. Its output is the new first word. In
-/// one version, the same pair always gives the same outputs.
+/// The output of a step is the new first word. In one version, the same pair always gives the same
+/// outputs.
 ///
-/// If low and high are the halves of the product, the new second word is
+/// If low and high are the halves of the words' product, the new second word is
 /// `s2 + high + 0xaaaaaaaaaaaaaaaa`. The new first word is the exclusive or of low and that word
 /// in version 4, and `(low ^ high) + 0x5555555555555555` in version 5. These sums wrap around.
 /// `Debug` shows both words. Nothing is claimed of how random its outputs are.

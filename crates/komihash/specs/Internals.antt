@@ -64,10 +64,9 @@ abbrev pub tail_end : ℕ → List ℕ → Bool → Bool → ℕ
 tail_end v (b ∷ m) had_block top_bit = padding_byte v (b ∷ m)
 tail_end v [] had_block top_bit = end_after_blocks had_block top_bit
 
--- ---- a pair: the low half of a product stays apart from the word that it is xored with, until the
--- next factor is made, which makes the way from one product to the next one xor shorter
+-- ---- a pair
 
--- the pair (a, e) that the code stores as a xor e, and e
+-- the pair (a, e) of what the code stores: a xor e, and e
 abbrev pub pair_of : Pair → ℕ × ℕ
 pair_of p = (bit_xor p.1 p.0, p.1)
 

@@ -42,8 +42,8 @@ IsTextAfter v seed m bytes = (s : State) × IsState v s × HasAbsorbed v seed s 
 -- a call writes the text of a stream to the front of `out`, leaves the rest, and returns the length
 -- of the text
 pub record Stored (v : ℕ) (now : State) (out : Mut (List ℕ)) (result : ℕ) : Type 0 where
-  -- what follows from the last three, for the search: the text is short, it is a text after the
-  -- message that the stream has absorbed, and no other state, of either version, has it
+  -- what follows from the last three, for the search, because `now` is a state, and no two states
+  -- share a text
   pub most : result ≤ longest_text
   pub message : (seed : ℕ) (m : List ℕ) → HasAbsorbed v seed now m
       → IsTextAfter v seed m (take result out.exit.now)
@@ -58,8 +58,7 @@ pub record Stored (v : ℕ) (now : State) (out : Mut (List ℕ)) (result : ℕ) 
 -- they are the text of no state
 pub record Restored {A : Type 0} (v : ℕ) (view : A → State) (bytes : List ℕ) (result : Option A)
     : Type 0 where
-  -- what follows from the last two, for the search: the text of a state gives that state, one
-  -- after a message a stream that has absorbed it, and a longer one none
+  -- what follows from the last two, for the search, because no two states share a text
   pub same : (s : State) → IsState v s → text v s ≡ bytes
       → IsSomeAnd result (λ stream. view stream ≡ s)
   pub message : (seed : ℕ) (m : List ℕ) → IsTextAfter v seed m bytes

@@ -137,8 +137,8 @@ fn append_whole_words(words: &mut [u64; 8], len: usize, bytes: &[u8])
     } else {
         let has_next = chunks.len() == 1 || len + bytes.len() < 64;
         if has_next {
-            // If only the partial word is whole, this stores a word that the bytes that are left
-            // replace, because a jump would take longer.
+            // If no whole word follows the partial one, `append_eight_or_more` overwrites what this
+            // stores, because a test would cost a jump.
             words[next] = word_at(bytes, (8 - over).min(bytes.len() - 8));
         }
     }
