@@ -121,7 +121,7 @@ js_in_chromium() {
 }
 # Compares what the page shows with what komihashsum prints for the same files.
 page_in_chromium() {
-    local files=$scratch/files odd=$'a\\b\nc' page profile=$scratch/chromium
+    local files=$scratch/hashed odd=$'a\\b\nc' page profile=$scratch/chromium
     page=file://$(cd "$scratch/js" && node -p '["package.json", "komihash.html"].map(
         (it) => require.resolve(`komihash_rattle/${it}`))[1]')
     chromium --headless --no-sandbox --user-data-dir="$profile" --dump-dom "$page" |
