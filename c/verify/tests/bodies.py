@@ -94,8 +94,8 @@ a byte that may not be there|v5_write|Write(13,)..in no array|
     turn: 8: cmp [rsi], al; cmp r13, 127; jbe 9f; next: jmp 8b; 9:
 a word of 160 bytes of one|v5_rand_fill|Fill..bytes: found|
     next: cmp r8, 160; jne 1f; not byte ptr [rsi + 8*r14 - 8]; 1:
-a hash of 214 bytes|v5|Hash(6,)..does not have|
-    push rsi; call body; pop rsi; ret; next: cmp qword ptr [rsp + 72], 214; jne 1f; not rbx; 1:
+a hash of 150 bytes|v5|Hash(6,)..does not have|
+    push rsi; call body; pop rsi; ret; next: cmp qword ptr [rsp + 72], 150; jne 1f; not rbx; 1:
 a jump by the seed|v5|Hash(0,)..depends on seed|cmp rdx, 5; jb 1f; 1:
 a jump by the top bit|v4_save|save(5,)..depends on top bit|cmp byte ptr [rdi + 137], 1; jb 1f; 1:
 one of an address|v5_save|save(5,)..depends|mov al, [rdi + 72]; and eax, 1; mov al, [rdi + rax]
