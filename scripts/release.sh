@@ -14,7 +14,8 @@ for name in "${@:2}"; do
     case $name in
     c) make -C c dist "OUT=$folder/c" ;;
     rust)
-        cargo package --manifest-path rust/Cargo.toml --target-dir "$scratch" --offline --allow-dirty
+        cargo package --manifest-path rust/Cargo.toml --target-dir "$scratch" --offline \
+            --allow-dirty
         cp "$scratch"/package/*.crate "$folder/rust"
         ;;
     python)

@@ -23,8 +23,8 @@ all_refused() {
 # prints the first 160 characters of a message, and so of one name all but the last letter.
 by_their_clauses() {
     sed -nE 's/^(\S+: \w+): .*/\1/p' crates/controls.txt > "$scratch/clauses"
-    sed -nE '/\.edit: refused/s|.* (\S+)\.edit: .*\(`(\S*-clause-)?(\w+).*|\1: \3|p' "$scratch/told" |
-        sed 's/: returns.*/: ensures/; s/: invarian$/&t/' > "$scratch/refusals"
+    sed -nE '/\.edit: refused/s|.* (\S+)\.edit: .*\(`(\S*-clause-)?(\w+).*|\1: \3|p' \
+        "$scratch/told" | sed 's/: returns.*/: ensures/; s/: invarian$/&t/' > "$scratch/refusals"
     ! grep -vxFf "$scratch/clauses" "$scratch/refusals" &&
         [ "$(wc -l < "$scratch/refusals")" = "$(grep -c '\.edit: refused' "$scratch/told")" ]
 }

@@ -84,8 +84,10 @@ compared() {
         $sum --zero --tag -- *slash "$newline"; } 2> $list | tr "\0" "\n"; cat $list'
     run_case 'komihashsum beside sha256sum, names in messages' beside "for name in '' \
         'a b' a:b 'a\\b' \\# a# \\~ { a{ x? 'a=b' @x 'it'\\''s' 'a'\\''b\$' '\"' '\$(printf \
-        \"a\\tb'c\\n\\001\\002'd\\033\")' ü '\$(printf \"ü\\302\\233\\377'\")'; do for in in C C.UTF-8; do
-        eval \"LC_ALL=\$in \\\$sum -- \\\"\$name\\\"\"; done; done"
+        \"a\\tb'c\\n\\001\\002'd\\033\")' ü '\$(printf \"ü\\302\\233\\377'\")'; do
+        for locale in C C.UTF-8; do
+            eval \"LC_ALL=\$locale \\\$sum -- \\\"\$name\\\"\"
+        done; done"
     draw 7 > "$scratch/drawn"
     run_case 'komihashsum beside sha256sum, random lists' beside 'k=0 edits=
         case $sum in sha*) name=SHA256 ;; *) name=KOMIHASH5 ;; esac

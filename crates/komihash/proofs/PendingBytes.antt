@@ -20,8 +20,8 @@ use Rattle.komihash.proofs.WordOf.{word_of-join}
 
 -- ---- words that are stored one by one, some of them out of order or more than once
 
--- A word is put at index i. Then those from `next` on and below `gap_end` are missing. If i isn't one
--- of these, the word must be the one that belongs there.
+-- A word is put at index i. Then those from `next` on and below `gap_end` are missing. If i isn't
+-- one of these, the word must be the one that belongs there.
 pub StoresBut-put : {ws zs : List ℕ} {gap gap_end : ℕ} → StoresBut ws zs gap gap_end
     → (i next word : ℕ) → (i ≤ gap) × (next ≤ i + 1)
     → ((next ≤ i → gap_end ≤ i) → word ≡ stored_word zs i) → StoresBut (set ws i word) zs next gap_end

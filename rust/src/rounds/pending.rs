@@ -118,8 +118,8 @@ impl Pending {
         self.len += bytes.len();
     }
 
-    /// Appends bytes where none is pending. Does what `append` does, but the compiler knows that the
-    /// length was 0.
+    /// Appends bytes where none is pending. Does what `append` does, but the compiler knows that
+    /// the length was 0.
     #[inline(always)]
     pub(crate) fn append_to_none(&mut self, bytes: &[u8]) {
         if !bytes.is_empty() {

@@ -73,8 +73,8 @@ fn append_below_eight(words: &mut [u64; 8], len: usize, bytes: &[u8])
 fn append_within_word(words: &mut [u64; 8], len: usize, bytes: &[u8])
     requires pending { ArePending words.old len }
     requires at_least_8 { 8 ≤ length bytes.now }
-    // The words from `gap` on and below `gap_end` are missing. From `gap_end` on no byte belongs, so
-    // zeros are right there. `append_whole_words` needs this for two gaps.
+    // The words from `gap` on and below `gap_end` are missing. From `gap_end` on no byte belongs,
+    // so zeros are right there. `append_whole_words` needs this for two gaps.
     ensures { (gap gap_end : ℕ)
         → (gap ≤ len / 8 + 1) × (gap_end < 8 → len + length bytes.now ≤ 8 * gap_end)
         → StoresBut words.new (pending_bytes words.old len ++ bytes.now) gap gap_end }
@@ -215,8 +215,8 @@ impl Pending {
         self.len += bytes.len();
     }
 
-    /// Appends bytes where none is pending. Does what `append` does, but the compiler knows that the
-    /// length was 0.
+    /// Appends bytes where none is pending. Does what `append` does, but the compiler knows that
+    /// the length was 0.
     #[inline(always)]
     pub(crate) fn append_to_none(&mut self, bytes: &[u8], tally: &mut Tally)
         requires none { self.old ≡ [] }
