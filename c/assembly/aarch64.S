@@ -2152,28 +2152,21 @@
 komihash_v4:
 	.cfi_startproc
 	hint	#34
-	cmp	x1, #63
-	b.hi	.LBB14_4
 	cmp	x1, #7
-	b.hi	.LBB14_6
-	cbz	x1, .LBB14_11
+	b.hi	.LBB14_3
+	cbz	x1, .LBB14_8
 	b	"komihash::hash::hash_of_partial_word::<=4>"
-.LBB14_4:
-	cmp	x1, #127
-	b.hi	.LBB14_8
-	b	"komihash::hash::hash_of_one_block::<=4>"
-.LBB14_6:
+.LBB14_3:
+	cmp	x1, #63
+	b.hi	.LBB14_6
 	cmp	x1, #15
 	b.hi	.LBB14_9
 	b	"komihash::hash::hash_of_one_word::<=4>"
+.LBB14_6:
+	cmp	x1, #127
+	b.hi	.LBB14_11
+	b	"komihash::hash::hash_of_one_block::<=4>"
 .LBB14_8:
-	b	"komihash::hash::hash_of_blocks::<=4>"
-.LBB14_9:
-	cmp	x1, #16
-	b.ne	.LBB14_12
-	mov	x1, x2
-	b	"komihash::hash::hash_of_16_bytes::<=4>"
-.LBB14_11:
 	mov	x9, #2259
 	mov	x11, #4983
 	and	x8, x2, #0x5555555555555555
@@ -2199,6 +2192,13 @@ komihash_v4:
 	add	x9, x9, x10
 	eor	x0, x9, x8
 	ret
+.LBB14_9:
+	cmp	x1, #16
+	b.ne	.LBB14_12
+	mov	x1, x2
+	b	"komihash::hash::hash_of_16_bytes::<=4>"
+.LBB14_11:
+	b	"komihash::hash::hash_of_blocks::<=4>"
 .LBB14_12:
 	b	"komihash::hash::hash_of_words::<=4>"
 .Lfunc_end14:
@@ -3255,28 +3255,21 @@ komihash_v4_write:
 komihash_v5:
 	.cfi_startproc
 	hint	#34
-	cmp	x1, #63
-	b.hi	.LBB28_4
 	cmp	x1, #7
-	b.hi	.LBB28_6
-	cbz	x1, .LBB28_11
+	b.hi	.LBB28_3
+	cbz	x1, .LBB28_8
 	b	"komihash::hash::hash_of_partial_word::<=5>"
-.LBB28_4:
-	cmp	x1, #127
-	b.hi	.LBB28_8
-	b	"komihash::hash::hash_of_one_block::<=5>"
-.LBB28_6:
+.LBB28_3:
+	cmp	x1, #63
+	b.hi	.LBB28_6
 	cmp	x1, #15
 	b.hi	.LBB28_9
 	b	"komihash::hash::hash_of_one_word::<=5>"
+.LBB28_6:
+	cmp	x1, #127
+	b.hi	.LBB28_11
+	b	"komihash::hash::hash_of_one_block::<=5>"
 .LBB28_8:
-	b	"komihash::hash::hash_of_blocks::<=5>"
-.LBB28_9:
-	cmp	x1, #16
-	b.ne	.LBB28_12
-	mov	x1, x2
-	b	"komihash::hash::hash_of_16_bytes::<=5>"
-.LBB28_11:
 	mov	x9, #2259
 	mov	x11, #4983
 	and	x8, x2, #0x5555555555555555
@@ -3302,6 +3295,13 @@ komihash_v5:
 	add	x9, x9, x10
 	eor	x0, x9, x8
 	ret
+.LBB28_9:
+	cmp	x1, #16
+	b.ne	.LBB28_12
+	mov	x1, x2
+	b	"komihash::hash::hash_of_16_bytes::<=5>"
+.LBB28_11:
+	b	"komihash::hash::hash_of_blocks::<=5>"
 .LBB28_12:
 	b	"komihash::hash::hash_of_words::<=5>"
 .Lfunc_end28:

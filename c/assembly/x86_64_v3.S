@@ -2068,24 +2068,24 @@
 komihash_v4:
 	.cfi_startproc
 	endbr64
-	cmpq	$63, %rsi
-	ja	.LBB14_7
 	cmpq	$7, %rsi
-	ja	.LBB14_4
+	ja	.LBB14_3
 	testq	%rsi, %rsi
 	je	.LBB14_9
 	jmp	"komihash::hash::hash_of_partial_word::<=4>"
-.LBB14_7:
-	cmpq	$127, %rsi
-	jbe	"komihash::hash::hash_of_one_block::<=4>"
-	jmp	"komihash::hash::hash_of_blocks::<=4>"
-.LBB14_4:
+.LBB14_3:
+	cmpq	$63, %rsi
+	ja	.LBB14_7
 	cmpq	$15, %rsi
 	jbe	"komihash::hash::hash_of_one_word::<=4>"
 	cmpq	$16, %rsi
 	jne	"komihash::hash::hash_of_words::<=4>"
 	movq	%rdx, %rsi
 	jmp	"komihash::hash::hash_of_16_bytes::<=4>"
+.LBB14_7:
+	cmpq	$127, %rsi
+	jbe	"komihash::hash::hash_of_one_block::<=4>"
+	jmp	"komihash::hash::hash_of_blocks::<=4>"
 .LBB14_9:
 	movabsq	$6148914691236517205, %rcx
 	andq	%rdx, %rcx
@@ -3368,24 +3368,24 @@ komihash_v4_write:
 komihash_v5:
 	.cfi_startproc
 	endbr64
-	cmpq	$63, %rsi
-	ja	.LBB28_7
 	cmpq	$7, %rsi
-	ja	.LBB28_4
+	ja	.LBB28_3
 	testq	%rsi, %rsi
 	je	.LBB28_9
 	jmp	"komihash::hash::hash_of_partial_word::<=5>"
-.LBB28_7:
-	cmpq	$127, %rsi
-	jbe	"komihash::hash::hash_of_one_block::<=5>"
-	jmp	"komihash::hash::hash_of_blocks::<=5>"
-.LBB28_4:
+.LBB28_3:
+	cmpq	$63, %rsi
+	ja	.LBB28_7
 	cmpq	$15, %rsi
 	jbe	"komihash::hash::hash_of_one_word::<=5>"
 	cmpq	$16, %rsi
 	jne	"komihash::hash::hash_of_words::<=5>"
 	movq	%rdx, %rsi
 	jmp	"komihash::hash::hash_of_16_bytes::<=5>"
+.LBB28_7:
+	cmpq	$127, %rsi
+	jbe	"komihash::hash::hash_of_one_block::<=5>"
+	jmp	"komihash::hash::hash_of_blocks::<=5>"
 .LBB28_9:
 	movabsq	$6148914691236517205, %rcx
 	andq	%rdx, %rcx

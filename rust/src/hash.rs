@@ -40,7 +40,6 @@ fn hash_of_16_bytes<const V: u8>(bytes: &[u8], seed: u64) -> u64 {
 fn hash_of_words<const V: u8>(bytes: &[u8], seed: u64) -> u64 {
     let pair = seed_pair(seed);
     let final_word = final_word_of_many(bytes, padding_byte::<V>(bytes));
-    // A `&&[u8]`, because a `&[u8]` is what has `WholeWords`.
     hash_from_pair(pair, &bytes, last_whole_word(bytes), final_word)
 }
 
@@ -88,13 +87,13 @@ fn hash_of_blocks<const V: u8>(bytes: &[u8], seed: u64) -> u64 {
 /// The tests of the length are inlined into the caller, and vanish where it knows the length.
 #[inline(always)]
 pub(crate) fn hash_message<const V: u8>(bytes: &[u8], seed: u64) -> u64 {
-    if bytes.len() < 64 {
-        if bytes.len() < 8 {
-            if bytes.is_empty() {
-                return close(seed_pair(seed), 0, 0);
-            }
-            hash_of_partial_word::<V>(bytes, seed)
-        } else if bytes.len() < 16 {
+    if bytes.len() < 8 {
+        if bytes.is_empty() {
+            return close(seed_pair(seed), 0, 0);
+        }
+        hash_of_partial_word::<V>(bytes, seed)
+    } else if bytes.len() < 64 {
+        if bytes.len() < 16 {
             hash_of_one_word::<V>(bytes, seed)
         } else if bytes.len() > 16 {
             hash_of_words::<V>(bytes, seed)

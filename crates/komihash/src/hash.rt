@@ -69,7 +69,6 @@ fn hash_of_words<const V: u8>(bytes: &[u8], seed: u64, tally: &mut Tally) -> u64
 {
     let pair = seed_pair(seed, tally);
     let final_word = final_word_of_many(bytes, padding_byte::<V>(bytes));
-    // A `&&[u8]`, because a `&[u8]` is what has `WholeWords`.
     hash_from_pair(pair, &bytes, last_whole_word(bytes), final_word, tally)
 }
 
@@ -129,13 +128,13 @@ pub(crate) fn hash_message<const V: u8>(bytes: &[u8], seed: u64, tally: &mut Tal
     ensures hash { result ≡ komi V seed bytes.now }
     ensures costs { Costs tally (hash_products (length bytes.now)) 0 }
 {
-    if bytes.len() < 64 {
-        if bytes.len() < 8 {
-            if bytes.is_empty() {
-                return close(seed_pair(seed, tally), 0, 0, tally);
-            }
-            hash_of_partial_word::<V>(bytes, seed, tally)
-        } else if bytes.len() < 16 {
+    if bytes.len() < 8 {
+        if bytes.is_empty() {
+            return close(seed_pair(seed, tally), 0, 0, tally);
+        }
+        hash_of_partial_word::<V>(bytes, seed, tally)
+    } else if bytes.len() < 64 {
+        if bytes.len() < 16 {
             hash_of_one_word::<V>(bytes, seed, tally)
         } else if bytes.len() > 16 {
             hash_of_words::<V>(bytes, seed, tally)

@@ -71,8 +71,8 @@ fn append_whole_words(words: &mut [u64; 8], len: usize, bytes: &[u8]) {
         store_words(&mut words[next..next + chunks.len()], chunks);
     } else {
         if chunks.len() == 1 || len + bytes.len() < 64 {
-            // If no whole word follows the partial one, `append_eight_or_more` overwrites what this
-            // stores, because a test would cost a jump.
+            // If the next word isn't whole, `append_eight_or_more` overwrites what this stores. A
+            // test whether it is would cost a jump.
             words[next] = word_at(bytes, (8 - over).min(bytes.len() - 8));
         }
     }
@@ -164,7 +164,7 @@ impl Pending {
 impl WholeWords for Pending {
     #[inline(always)]
     fn holds(&self, count: usize) -> bool {
-        8 * count <= self.len
+        self.len / 8 >= count
     }
 
     #[inline(always)]

@@ -19,7 +19,7 @@ pub(crate) trait WholeWords {
     /// Returns whether the number of words is odd.
     fn is_odd(&self) -> bool;
 
-    /// Returns the word at index `at`.
+    /// Returns the word at index `at`, one of the first eight, which the search needs to know.
     fn word(&self, at: usize) -> u64;
 }
 

@@ -73,8 +73,8 @@ fn append_below_eight(words: &mut [u64; 8], len: usize, bytes: &[u8])
 fn append_within_word(words: &mut [u64; 8], len: usize, bytes: &[u8])
     requires pending { ArePending words.old len }
     requires at_least_8 { 8 ≤ length bytes.now }
-    // The words from `gap` on and below `gap_end` are missing. From `gap_end` on no byte belongs,
-    // so zeros are right there. `append_whole_words` needs this for two gaps.
+    // All words are right but those of a gap, from `gap` on and below `gap_end`, which other calls
+    // store. No byte belongs to those after the gap. `append_whole_words` needs it for two gaps.
     ensures { (gap gap_end : ℕ)
         → (gap ≤ len / 8 + 1) × (gap_end < 8 → len + length bytes.now ≤ 8 * gap_end)
         → StoresBut words.new (pending_bytes words.old len ++ bytes.now) gap gap_end }
@@ -137,8 +137,8 @@ fn append_whole_words(words: &mut [u64; 8], len: usize, bytes: &[u8])
     } else {
         let has_next = chunks.len() == 1 || len + bytes.len() < 64;
         if has_next {
-            // If no whole word follows the partial one, `append_eight_or_more` overwrites what this
-            // stores, because a test would cost a jump.
+            // If the next word isn't whole, `append_eight_or_more` overwrites what this stores. A
+            // test whether it is would cost a jump.
             words[next] = word_at(bytes, (8 - over).min(bytes.len() - 8));
         }
     }
@@ -283,7 +283,7 @@ impl WholeWords for Pending {
 
     #[inline(always)]
     fn holds(&self, count: usize) -> bool {
-        8 * count <= self.len
+        self.len / 8 >= count
     }
 
     #[inline(always)]

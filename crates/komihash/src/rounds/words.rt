@@ -28,14 +28,13 @@ pub(crate) trait WholeWords {
 
     /// Returns whether there are at least `count` words.
     fn holds(&self, count: usize) -> bool
-        requires at_most_8 { count ≤ 8 }
         ensures { IsTrue result ↔ (count ≤ length (words self.now)) };
 
     /// Returns whether the number of words is odd.
     fn is_odd(&self) -> bool
         ensures { IsTrue result ↔ (length (words self.now) % 2 ≡ 1) };
 
-    /// Returns the word at index `at`.
+    /// Returns the word at index `at`, one of the first eight, which the search needs to know.
     fn word(&self, at: usize) -> u64
         requires within { at < length (words self.now) }
         requires below_8 { at < 8 }
