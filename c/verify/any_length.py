@@ -4,7 +4,7 @@ import functools
 import z3
 from calls import NO_MESSAGE, apart, generator, named, padded_content, some_lanes, some_state
 from checks import accepted, check, check_bytes, check_generator
-from definition import (TRUE, State, block_round, hash_from_pair, joined, lanes, next_pair,
+from definition import (TRUE, State, block_round, hash_from_pair, join_lanes, lanes, next_pair,
                         padded_words, padding_byte, seed_pair, top_bit, words_of)
 from induction import Induction
 from memory import Array
@@ -65,7 +65,7 @@ class Hash(Blocks):
             words = padded_words(self.version, last[64 - rest:])
         else:
             words = words_of([padding_byte(self.version, last[-1])])
-        self.wanted = hash_from_pair(self.call.products, joined(TRUE, s), words)
+        self.wanted = hash_from_pair(self.call.products, join_lanes(TRUE, s), words)
         return [*s, *words_of([*named('earlier', range(8)), *last][64 - rest:72 - rest])]
 
     def check_end(self, cpu):

@@ -72,7 +72,7 @@ def block_round(products, version, s, block):
     return [simple(t[k - 1] ^ r[k][0]) for k in range(4)] + t
 
 
-def joined(had_block, s):
+def join_lanes(had_block, s):
     # If the flag is no number, this is an error, after which nothing is claimed.
     folded = [simple(functools.reduce(lambda x, y: x ^ y, half)) for half in (s[:4], s[4:])]
     return {0: [s[0], s[4]], 1: folded}[const(had_block)]
@@ -108,7 +108,7 @@ def hash_from_pair(products, pair, w):
 def hash_from_lanes(products, version, s, w, had_block):
     while len(w) >= 9:
         s, w, had_block = block_round(products, version, s, w[:8]), w[8:], TRUE
-    return hash_from_pair(products, joined(had_block, s), w)
+    return hash_from_pair(products, join_lanes(had_block, s), w)
 
 
 def komi(products, version, seed, message):
@@ -135,7 +135,7 @@ class State:
         words = padded_words(version, self.pending)
         if {0: False, 1: True}[const(self.had_block)] and not self.pending:
             words = words_of([simple(self.top_bit + 1)])
-        return hash_from_pair(products, joined(self.had_block, self.lanes), words)
+        return hash_from_pair(products, join_lanes(self.had_block, self.lanes), words)
 
     def text(self, version):
         head = [bv(version, 8), self.had_block, self.top_bit, bv(len(self.pending), 8)]

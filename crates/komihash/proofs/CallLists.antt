@@ -102,6 +102,7 @@ pub record CallFirst (v : ℕ) (s next : State) (call : Call) (calls : List Call
       ≡ onward_kept_bytes (length s.pending) (call ∷ [])
       + onward_kept_bytes (length next.pending) calls
 
+-- the first call of a list, of which a turn of `run_on` makes one
 pub onward-first : (v : ℕ) (s next : State) (call : Call) (calls : List Call)
     → length s.pending < 64 → next ≡ absorb v s (bytes_of_calls (call ∷ []))
     → CallFirst v s next call calls

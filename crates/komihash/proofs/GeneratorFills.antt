@@ -64,7 +64,7 @@ outputs-at v zero k s lt = absurd (omega arith)
 outputs-at v (suc n) zero s lt = refl
 outputs-at v (suc n) (suc k) s lt = outputs-at v n k (next v s) (omega arith)
 
--- output k, from the pair before it
+-- output k, from the pair before it, which `fill_bytes` needs for each word that it writes
 pub outputs-next : (v k n : ℕ) (s now : ℕ × ℕ) → k < n → now ≡ after_steps v k s
     → ((next v now).0 ≡ slice_index (outputs v n s) k) × (next v now ≡ after_steps v (k + 1) s)
     × (k < length (outputs v n s))
@@ -98,7 +98,7 @@ fill-add v x y s whole =
     let more = outputs-add v (fill_steps x) (fill_steps y) s in
     grind (arith, elements, length-outputs_bytes, more, flat_map-append)
 
--- ---- one output
+-- ---- one output, whose form depends on the version
 
 if-lt : (b : Bool) (x y n : ℕ) → x < n → y < n → (if b then x else y) < n
 if-lt true x y n p q = p

@@ -13,6 +13,7 @@ use Rattle.komihash.proofs.WordOf.{AreBytes-typed, AreBytes-drop, word_of-last, 
 use Rattle.komihash.proofs.WordOf.{word_of-zeros}
 use Rattle.komihash.proofs.WholeWords.{stored_words-last, words_of-whole}
 
+-- for messages that are not empty, which `unpad` reads back
 pub padding_or_zero-some : (v : ℕ) (m : List ℕ) → 0 < length m
     → (padding_or_zero v m ≡ padding_byte v m) × (0 < padding_or_zero v m)
 padding_or_zero-some v m some = grind arith

@@ -20,7 +20,8 @@ use Rattle.komihash.proofs.WordOf.{AreBytes-typed, AreBytes-take, AreBytes-drop}
 
 -- ---- the parts of a text
 
--- if bytes are put from `a` to `n`, they end what is before `n`, and what is after it stays
+-- if bytes are put from `a` to `n`, they end what is before `n`, and what is after it stays, as
+-- `write_lanes` and `write_pending` need
 pub part-put : (a n : ℕ) (out part bytes : List ℕ) → a ≤ n → n ≤ length out
     → length part ≡ length (take (n - a) (drop a out)) → take (n - a) part ≡ bytes
     → (take n (put_mid a (n - a) out part) ≡ take a out ++ bytes)

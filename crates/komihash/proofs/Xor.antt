@@ -38,7 +38,7 @@ pub xor_around : (c x : ℕ) → bit_xor c (bit_xor x c) ≡ x
 xor_around c x = ap (bit_xor c) (xor_comm x c) ∙ xor_again c x
 
 -- what joining the lanes needs: words and low halves change places, and a word met twice cancels
-pub ruleset joined = (xor_middle, xor_turn, xor_around)
+pub ruleset join_lanes = (xor_middle, xor_turn, xor_around)
 
 -- the bits of a word at even and at odd places make the word
 pub xor_masks : (n : ℕ) → n < 2 ^ 64

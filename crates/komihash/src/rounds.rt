@@ -36,9 +36,9 @@ const C7: u64 = 0xc0ac_29b7_c97c_50dd;
 
 const C8: u64 = 0x3f84_d5b5_b547_0917;
 
-/// The low half of a product, and the word e. Alone, it is the pair (a, e), where a is low xor e;
-/// in `Lanes`, the low half belongs to the word e of the pair before. The word a is computed only
-/// for a factor, and as the hash, so that the way from one product to the next is one xor shorter.
+/// What stores a pair (a, e): a xor e, which is the low half of the last product, and e. The word a
+/// is computed only for a factor, and as the hash, so that the way from one product to the next is
+/// one xor shorter.
 #[repr(C)]
 #[derive(Clone, Copy)]
 pub(crate) struct Pair(u64, u64);
@@ -286,7 +286,7 @@ pub(crate) fn absorb_blocks<'a, const V: u8>(
 /// Returns the pair of the lanes: s1 to s4 xored and s5 to s8 xored if a block was absorbed,
 /// otherwise s1 and s5.
 #[inline(always)]
-#[tactic(auto, using(crate::proofs::Xor::joined))]
+#[tactic(auto, using(crate::proofs::Xor::join_lanes))]
 pub(crate) fn join(lanes: &Lanes, had_block: bool) -> Pair
     ensures { pair_of result ≡ join had_block lanes.now }
 {

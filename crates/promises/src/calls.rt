@@ -25,7 +25,7 @@ const _: () = prove!(LONGEST_TEXT == 131);
 const _: () = prove!(size_of::<Tally>() == 0);
 
 /// The words of generators that begin with one seed and with two, an output with the words after
-/// it, and the words after a fill.
+/// it, and the words after a fill. `Komirand::words`, which isn't stable, shows them.
 #[derive(Clone, Copy)]
 pub struct Drawn {
     one: (u64, u64),

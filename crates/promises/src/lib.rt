@@ -1,6 +1,5 @@
-//! The promises of `komihash`, proved by a caller from its public contracts alone. If a contract no
-//! longer says what a promise needs, this crate is no longer proved. Of `by_search`, that may also
-//! mean that the search finds less.
+//! The promises of `komihash`, proved by a caller from its public contracts and stable rulesets. If
+//! these no longer say what a promise needs, or the search finds less, this crate isn't proved.
 #![tactic(auto)]
 
 pub mod by_search;
