@@ -49,7 +49,7 @@ pub record Stored (v : ℕ) (now : State) (out : Mut (List ℕ)) (result : ℕ) 
       → IsTextAfter v seed m (take result out.exit.now)
   pub version : (w : ℕ) (s : State) → IsState w s → text w s ≡ text v now → w ≡ v
   pub only : (w : ℕ) (s : State) → IsState w s → text w s ≡ text v now → s ≡ now
-  -- what the call does
+  -- what the call does; below these fields, their names no longer mean the functions
   pub length : result ≡ length (text v now)
   pub text : take result out.exit.now ≡ text v now
   pub rest : drop result out.exit.now ≡ drop result out.entry.now
@@ -64,6 +64,6 @@ pub record Restored {A : Type 0} (v : ℕ) (view : A → State) (bytes : List �
   pub message : (seed : ℕ) (m : List ℕ) → IsTextAfter v seed m bytes
       → IsSomeAnd result (λ stream. HasAbsorbed v seed (view stream) m)
   pub most : IfSome result (λ _. length bytes ≤ longest_text)
-  -- what the call does
+  -- what the call does; `text` stands last for the same reason
   pub none : IsNone result ↔ ¬ IsText v bytes
   pub text : IfSome result (λ stream. text v (view stream) ≡ bytes)
