@@ -25,9 +25,9 @@ const C7: u64 = 0xc0ac_29b7_c97c_50dd;
 
 const C8: u64 = 0x3f84_d5b5_b547_0917;
 
-/// What stores a pair (a, e): a xor e, which is the low half of the last product, and e. The word a
-/// is computed only for a factor, and as the hash, so that the way from one product to the next is
-/// one xor shorter.
+/// How the code stores a pair (a, e): as a xor e, which is the low half of the last product, and e.
+/// The word a is computed only for a factor, and as the hash, so that the way from one product to
+/// the next is one xor shorter.
 #[repr(C)]
 #[derive(Clone, Copy, PartialEq, Eq)]
 pub(crate) struct Pair(u64, u64);

@@ -2,7 +2,8 @@
 -- buffer, in two parts.
 use Rattle.std.proofs.Common.{◌≡◌, ℕ, zero, suc, ◌+◌, ◌-◌, ◌*◌, ◌%◌, ◌<◌, ◌≤◌, [], ◌∷◌, ◌++◌}
 use Rattle.std.proofs.Common.{length, refl, ap, sym, arith, ◌∙◌, zero-add, suc-add}
-use Rattle.std.proofs.Common.{w64, slice_index, bit_xor, Bool, true, false, ◌==◌, ◌^◌, if◌then◌else◌}
+use Rattle.std.proofs.Common.{w64, slice_index, bit_xor, Bool, true, false, ◌==◌, ◌^◌}
+use Rattle.std.proofs.Common.{if◌then◌else◌}
 use Rattle.std.proofs.lemmas.List.{append-nil}
 use Rattle.std.proofs.lemmas.Nat.{xor_lt}
 use Rattle.std.proofs.lemmas.List.Concat.{flat_map-append}
@@ -72,7 +73,8 @@ unfolding after_steps
 outputs-next v k n s now lt is = grind (arith, outputs-at, after_steps-add v k 1 s, length-outputs)
 
 length-outputs_bytes : (v n : ℕ) (s : ℕ × ℕ) → length (all_bytes (outputs v n s)) ≡ 8 * n
-length-outputs_bytes v n s = length-all_bytes (outputs v n s) ∙ ap (λ k. 8 * k) (length-outputs v n s)
+length-outputs_bytes v n s =
+    length-all_bytes (outputs v n s) ∙ ap (λ k. 8 * k) (length-outputs v n s)
 
 -- ---- fills in two parts, the first of whole words
 

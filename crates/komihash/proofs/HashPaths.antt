@@ -30,7 +30,8 @@ hash_from_pair_two s ws at final le = absurd (omega arith)
 
 -- fewer than eight words and the final word make no block
 hash_from_lanes-without_block : (v : ℕ) (s : Lanes) (ws : List ℕ) (final : ℕ) → length ws < 8
-    → hash_from_lanes v s false (ws ++ final ∷ []) ≡ hash_from_pair (join false s) (ws ++ final ∷ [])
+    → hash_from_lanes v s false (ws ++ final ∷ [])
+    ≡ hash_from_pair (join false s) (ws ++ final ∷ [])
 hash_from_lanes-without_block v s (w0 ∷ w1 ∷ w2 ∷ w3 ∷ w4 ∷ w5 ∷ w6 ∷ w7 ∷ ws) final lt =
     absurd (omega arith)
 hash_from_lanes-without_block v s ws final lt = refl

@@ -1,6 +1,6 @@
--- Lemmas about the definitions. They prove the laws of `src/laws.rt`, and the search finds most laws
--- in a crate that names the ruleset `laws` in its root file. Some prove no law, but callers need
--- them, as `of_the_lemmas` of `promises` shows.
+-- Lemmas about the definitions. They prove the laws of `src/laws.rt`, and the search finds most
+-- laws in a crate that names the ruleset `laws` in its root file. Some prove no law, but callers
+-- need them, as `of_the_lemmas` of `promises` shows.
 use Rattle.std.proofs.Common.{append-nil, append_assoc, length-append, take_all}
 use Rattle.std.proofs.lemmas.Grind.{take_at_read, take-set_at}
 use Rattle.std.proofs.lemmas.List.{map-append}

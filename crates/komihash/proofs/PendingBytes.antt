@@ -24,7 +24,8 @@ use Rattle.komihash.proofs.WordOf.{word_of-join}
 -- one of these, the word must be the one that belongs there.
 pub StoresBut-put : {ws zs : List ℕ} {gap gap_end : ℕ} → StoresBut ws zs gap gap_end
     → (i next word : ℕ) → (i ≤ gap) × (next ≤ i + 1)
-    → ((next ≤ i → gap_end ≤ i) → word ≡ stored_word zs i) → StoresBut (set ws i word) zs next gap_end
+    → ((next ≤ i → gap_end ≤ i) → word ≡ stored_word zs i)
+    → StoresBut (set ws i word) zs next gap_end
 StoresBut-put but i next word within is = grind (arith, elements)
 
 -- if no word is missing, all are stored

@@ -51,12 +51,14 @@ blocks_state v s bytes =
       top_bit = if few then s.top_bit else pads_with_two v last;
     }
 
+-- bytes that complete no block are appended to the pending ones
 blocks_state-few : (v : ℕ) (s : State) (bytes : List ℕ) → length s.pending + length bytes < 64
     → blocks_state v s bytes ≡ record s { pending = s.pending ++ bytes }
 blocks_state-few v s bytes few =
     let lanes = block_lanes-few_bytes v s.lanes (s.pending ++ bytes) in
     grind (arith, lanes, length-append {A = ℕ})
 
+-- the byte that completes a block leaves none pending, and what follows goes on from the new lanes
 absorb_byte-full : (v : ℕ) (s : State) (b : ℕ) (bytes : List ℕ) → length s.pending ≡ 63
     → ((absorb_byte v s b).pending ≡ [])
     × (blocks_state v (absorb_byte v s b) bytes ≡ blocks_state v s (b ∷ bytes))
@@ -65,6 +67,7 @@ absorb_byte-full v s b bytes full =
     let on = completed v s.lanes s.pending (b ∷ bytes) 1 in
     grind (arith, elements, on, words_of-whole 8 all)
 
+-- byte after byte, as in the definition, leads where block after block does, as in the code
 pub absorb-blocks : (v : ℕ) (s : State) (bytes : List ℕ) → length s.pending < 64
     → absorb v s bytes ≡ blocks_state v s bytes
 unfolding absorb

@@ -14,6 +14,6 @@ hash_from_lanes v s had_block (w0 ∷ w1 ∷ w2 ∷ w3 ∷ w4 ∷ w5 ∷ w6 ∷ 
     hash_from_lanes v (block_round v s (w0 ∷ w1 ∷ w2 ∷ w3 ∷ w4 ∷ w5 ∷ w6 ∷ w7 ∷ [])) true (w ∷ ws)
 hash_from_lanes v s had_block ws = hash_from_pair (join had_block s) ws
 
--- the hash of a message with a seed in version v
+-- the hash of a message with a seed in version v, which is 4 or 5
 unfoldable pub komi : ℕ → ℕ → List ℕ → ℕ
 komi v seed m = hash_from_lanes v (lanes (seed_pair seed)) false (padded_words v m)

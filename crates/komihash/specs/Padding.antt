@@ -56,7 +56,7 @@ pub record Unpadded (v : ℕ) (words : List ℕ) (out : Mut (List ℕ)) (result 
   pub some : IsSome result ↔ ArePadded v words
   pub rest : IfSome result (λ n. drop n out.exit.now ≡ drop n out.entry.now)
   pub unchanged : IfNone result (out.exit.now ≡ out.entry.now)
-  -- what follows, for the search, because no two messages have the same padded words
+  -- what follows, for the search; `same`, because no two messages have the same padded words
   pub same : (m : List ℕ) → AreBytes m → padded_words v m ≡ words
       → IsSomeAnd result (λ n. take n out.exit.now ≡ m)
   pub length : IfSome result (λ n. n / 8 + 1 ≡ length words)

@@ -42,8 +42,7 @@ IsTextAfter v seed m bytes = (s : State) × IsState v s × HasAbsorbed v seed s 
 -- a call writes the text of a stream to the front of `out`, leaves the rest, and returns the length
 -- of the text
 pub record Stored (v : ℕ) (now : State) (out : Mut (List ℕ)) (result : ℕ) : Type 0 where
-  -- what follows from the last three, for the search, because `now` is a state, and no two states
-  -- share a text
+  -- what follows, for the search, because `now` is a state, and no two states share a text
   pub most : result ≤ longest_text
   pub message : (seed : ℕ) (m : List ℕ) → HasAbsorbed v seed now m
       → IsTextAfter v seed m (take result out.exit.now)

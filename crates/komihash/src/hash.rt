@@ -98,7 +98,7 @@ fn hash_of_blocks<const V: u8>(bytes: &[u8], seed: u64, tally: &mut Tally) -> u6
     ensures hash { result ≡ komi V seed bytes.now }
     ensures costs { Costs tally (hash_products (length bytes.now)) 0 }
 {
-    // The compiler then tests no index below.
+    // This tells the compiler what the condition says, so that it tests no index below.
     if bytes.len() < 128 {
         unreachable!()
     }

@@ -147,8 +147,8 @@ pub fn fill_of_outputs()
     ensures pair { (v n : ℕ) (s : ℕ × ℕ) → after_fill v s (8 * n) ≡ after_steps v n s }
 {}
 
-/// Proves that a fill of eight bytes is the bytes of one output, which is below 2^64, and leaves the
-/// pair after one step. Those who read the bytes of a fill back as a number need it.
+/// Proves that a fill of eight bytes is the bytes of one output, which is below 2^64, and leaves
+/// the pair after one step. Those who read the bytes of a fill back as a number need it.
 pub fn one_output()
     ensures bytes { (v : ℕ) (s : ℕ × ℕ) → fill v s 8 ≡ to_le_bytes w64 (next v s).0 }
     ensures pair { (v : ℕ) (s : ℕ × ℕ) → after_fill v s 8 ≡ next v s }

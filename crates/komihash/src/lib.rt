@@ -15,7 +15,7 @@
 // `rust/erase.py` makes the crate for Rust of the other files. In them,
 // - `Rattle alone.` begins what Rust lacks, up to an empty line;
 // - `Rust instead:` says what Rust has in place of the next line, perhaps nothing;
-// - the examples, `# Panics`, and what is said of `Debug`, `version` and clippy are for Rust alone;
+// - the examples, `# Panics`, and what is said of Rust, `Debug` and clippy are for Rust alone;
 // - `#[track_caller]` is too: such a function leaves the test of a length to one that it calls.
 
 #![tactic(auto)]

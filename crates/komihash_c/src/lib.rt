@@ -4,9 +4,9 @@
 //! C passes a slice as two arguments, a pointer and a length. The pointer to an empty slice may be
 //! null.
 //!
-//! Only these calls change a stream, as the header asks. So `is_state` holds of all streams but those
-//! that `init` and `resume` are given, which C need not have set; they read nothing of these, as the
-//! check of the machine code shows.
+//! Only these calls change a stream, as the header asks. So `is_state` holds of all streams but
+//! those that `init` and `resume` are given, which C need not have set; they read nothing of these,
+//! as the check of the machine code shows.
 #![tactic(auto)]
 
 mod rand;

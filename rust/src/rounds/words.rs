@@ -1,6 +1,6 @@
 // Made by rust/erase.py of crates/komihash/src, where changes belong.
-//! Whole words, which the rounds on pairs take from a message's bytes or from a stream, and the end
-//! of each hash, which takes what is left of them.
+//! The whole words of a message or a stream, the pair rounds on them, and the end of each hash, which
+//! takes the word that may be left and the final word.
 
 use super::{Pair, close, pair_round};
 
@@ -24,7 +24,7 @@ pub(crate) trait WholeWords {
 }
 
 /// The whole words of a message's bytes.
-// It is for the reference, because no type parameter of Rattle stands for `[u8]`.
+// The impl is for `&[u8]`, because no type parameter of Rattle stands for `[u8]`.
 impl WholeWords for &[u8] {
     #[inline(always)]
     fn holds(&self, count: usize) -> bool {

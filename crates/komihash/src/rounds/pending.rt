@@ -52,7 +52,7 @@ fn word_index(len: usize) -> usize
     len / 8 % 8
 }
 
-// Appends fewer than eight bytes. What does not fit in the partial word is 0 if all fit.
+// Appends fewer than eight bytes. If all fit in the partial word, 0 goes to the next word.
 #[inline(always)]
 fn append_below_eight(words: &mut [u64; 8], len: usize, bytes: &[u8])
     requires pending { ArePending words.old len }
@@ -64,7 +64,8 @@ fn append_below_eight(words: &mut [u64; 8], len: usize, bytes: &[u8])
     let bits = 8 * (len % 8);
     words[word_index(len)] |= word << bits;
     // The rotation has what the shift keeps, in its place, and below that, from the lowest byte on,
-    // what the shift drops. The difference is therefore what goes to the front of the next word.
+    // what the shift drops. The difference is therefore what goes to the front of the next word. A
+    // shift to the right by 64 - bits would be by 64 if the partial word is empty.
     words[(len / 8 + 1) % 8] |= word.rotate_left(bits as u32) - (word << bits);
 }
 

@@ -1,5 +1,5 @@
-//! Whole words, which the rounds on pairs take from a message's bytes or from a stream, and the end
-//! of each hash, which takes what is left of them.
+//! The whole words of a message or a stream, the pair rounds on them, and the end of each hash, which
+//! takes the word that may be left and the final word.
 
 #![tactic(auto, using(crate::proofs::WholeWords::read_words))]
 
@@ -42,7 +42,7 @@ pub(crate) trait WholeWords {
 }
 
 /// The whole words of a message's bytes.
-// It is for the reference, because no type parameter of Rattle stands for `[u8]`.
+// The impl is for `&[u8]`, because no type parameter of Rattle stands for `[u8]`.
 impl WholeWords for &[u8] {
     ghost words = { λ bytes. whole_words bytes.now };
 

@@ -33,7 +33,13 @@ returns g c =
     -- the byte that the code reads is the last one
     let last = byte_at are (len - 1) (omega arith) in
     let padding : c.padding_after-padding.result ≡ padding_byte g.row.V xs =
-    rw (c.padding_after-padding.ensures, c.pads_with_two.ensures, c.word_index.ensures, last, are.count)
+    rw (
+      c.padding_after-padding.ensures,
+      c.pads_with_two.ensures,
+      c.word_index.ensures,
+      last,
+      are.count,
+    )
     refl in
     -- the word that it reads is that of the bytes after the last whole word
     let size = length-partial are in
