@@ -183,9 +183,9 @@ END
 by_cmake="$scratch/by 'CMake'"
 cmake_installs() {
     rm -rf "$scratch/c 'make'" "$by_cmake"
-    cmake -B "$scratch/c 'make'" -D "CMAKE_C_COMPILER=$CC" -S "$@" -D "KOMIHASH_RATTLE_FROM=$FROM" \
+    cmake -B "$scratch/c 'make'" -D "CMAKE_C_COMPILER=$CC" -D "KOMIHASH_RATTLE_FROM=$FROM" \
         ${CROSS:+-D "CMAKE_SYSTEM_NAME=$system" -D "CMAKE_SYSTEM_PROCESSOR=${machine%%-*}"} \
-        -D "CMAKE_INSTALL_PREFIX=$by_cmake" -D CMAKE_INSTALL_LIBDIR=lib >&2 &&
+        -D "CMAKE_INSTALL_PREFIX=$by_cmake" -D CMAKE_INSTALL_LIBDIR=lib -S "$@" >&2 &&
         cmake --build "$scratch/c 'make'" >&2 && cmake --install "$scratch/c 'make'" >&2
 }
 by_cmake() { # Runs komihashsum, as CMake installs it.
@@ -194,19 +194,24 @@ by_cmake() { # Runs komihashsum, as CMake installs it.
 }
 fetched_by_cmake() {
     LD_LIBRARY_PATH=/none
-    by_cmake examples -D "PACKAGE=$scratch/libkomihash_rattle-$version.tar.gz"
+    by_cmake examples -D "PACKAGE=$scratch/libkomihash_rattle-$version.tar.gz" \
+        -D BUILD_SHARED_LIBS=ON
 }
 files_of() { (cd "$1" && find . ! -type d | sort); }
+original_by_package() { # LIBDIR
+    ! command -v pkg-config || PKG_CONFIG_PATH="$1/pkgconfig" \
+        runs_by_package komihash_rattle_komihash_h tests/original.c
+}
 installed_by_cmake() {
-    cmake_installs . || return
-    ! command -v pkg-config || PKG_CONFIG_PATH="$by_cmake/lib/pkgconfig" \
-        runs_by_package komihash_rattle_komihash_h tests/original.c || return
-    mv "$by_cmake" "$scratch/alone"
-    LD_LIBRARY_PATH="$scratch/alone/lib" WINEPATH="Z:$scratch/alone/bin"
-    files_of "$prefix" > "$scratch/files"
-    files_of "$scratch/alone" | diff "$scratch/files" - &&
-        rm "$scratch/alone/lib/libkomihash_rattle.a" && # as some distributions do
-        prints "$hash_of_a" by_cmake examples -D "CMAKE_PREFIX_PATH=$scratch/alone"
+    cmake_installs . -D "CMAKE_INSTALL_LIBDIR=$scratch/apart" &&
+        original_by_package "$scratch/apart" || return
+    moved="$scratch/a new folder"
+    cmake_installs . && mv "$by_cmake" "$moved" || return
+    LD_LIBRARY_PATH="$moved/lib" WINEPATH="Z:$moved/bin"
+    original_by_package "$moved/lib" && files_of "$prefix" > "$scratch/files" &&
+        files_of "$moved" | diff "$scratch/files" - &&
+        rm "$moved/lib/libkomihash_rattle.a" && # as some distributions do
+        prints "$hash_of_a" by_cmake examples -D "CMAKE_PREFIX_PATH=$moved"
 }
 # Whether make and CMake install the same files with these options, none of them by this name, and
 # another project links what is there.
