@@ -77,7 +77,8 @@ below_prefix() {
 }
 for file in templates/*; do
     case $file in *.pc) special="[\"'\\\\# ]" ;; *) special='^$' ;; esac
-    sed "s|@VERSION@|$version|; s|@PREFIX@|$(quoted "$prefix")|; s|@BINDIR@|$(quoted "$bindir")|
+    sed "s|@VERSION@|$version|; s|@CMAKE_SIZEOF_VOID_P@|${pointer_bytes-}|
+        s|@PREFIX@|$(quoted "$prefix")|; s|@BINDIR@|$(quoted "$bindir")|
         s|@LIBDIR@|$(below_prefix "$libdir")|
         s|@INCLUDEDIR@|$(below_prefix "$includedir")|" "$file" > "$filled/${file##*/}"
 done

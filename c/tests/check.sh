@@ -241,13 +241,16 @@ END
         files_of "$by_cmake" > "$scratch/files" && ! grep -F "${linked##*/}" "$scratch/files"
 }
 
-# Whether CMake finds the library for each VERSION:1 or RANGE:1, and not for those with 0, and links
-# the static one, also with the names of the C original.
+# Whether CMake finds the library for each VERSION:1 or RANGE:1, but not for those with 0 or by
+# pointers of another width, and links the static one, also with the names of the C original.
 requested() {
     mkdir "$scratch/requested" && cat > "$scratch/requested/CMakeLists.txt" << END
 cmake_minimum_required(VERSION 3.19)
 project(requested C)
-foreach(request $*)
+foreach(request $* 1:0)
+  if(request STREQUAL "1:0")
+    math(EXPR CMAKE_SIZEOF_VOID_P "12 - \${CMAKE_SIZEOF_VOID_P}")
+  endif()
   string(REGEX MATCHALL "[^,:]+" arguments \${request})
   list(POP_BACK arguments wanted)
   unset(komihash_rattle_DIR CACHE)
