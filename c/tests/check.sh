@@ -227,18 +227,26 @@ exported_by_cmake() {
     mkdir "$scratch/exported" && cat > "$scratch/exported/CMakeLists.txt" << END
 cmake_minimum_required(VERSION 3.14)
 project(exported C)
+include(GNUInstallDirs)
 add_subdirectory("$PWD" library)
 if(NOT komihash_rattle_VERSION VERSION_EQUAL $version)
   message(SEND_ERROR "\${komihash_rattle_VERSION}")
 endif()
+set_property(DIRECTORY "$PWD" PROPERTY EXCLUDE_FROM_ALL "\${EXCLUDED}")
 add_library(exported STATIC "$PWD/komihashsum.c")
 target_link_libraries(exported PUBLIC komihash_rattle::\${LINKED} komihash_rattle::komihash_h)
 install(TARGETS exported EXPORT exported)
 install(EXPORT exported DESTINATION lib)
 END
     cmake_installs "$scratch/exported" -D BUILD_SHARED_LIBS=ON -D LINKED=static &&
-        cmake_installs "$scratch/exported" -D BUILD_SHARED_LIBS=OFF -D LINKED=komihash_rattle &&
-        files_of "$by_cmake" > "$scratch/files" && ! grep -F "${linked##*/}" "$scratch/files"
+        files_of "$by_cmake" | grep -F "${linked##*/}" &&
+        test -f "$by_cmake/share/doc/komihash_rattle/LICENSE" || return
+    for option in -DBUILD_SHARED_LIBS=OFF -DEXCLUDED=ON; do
+        cmake_installs "$scratch/exported" "$option" -D LINKED=komihash_rattle &&
+            files_of "$scratch/c 'make'" > "$scratch/files" &&
+            ! grep -F "${linked##*/}" "$scratch/files" || return
+    done
+    files_of "$by_cmake" > "$scratch/files" && ! grep komihash "$scratch/files"
 }
 
 # Whether CMake finds the library for each VERSION:1 or RANGE:1, but not for those with 0 or by
