@@ -41,10 +41,11 @@ static const char HELP[] =
     "      --strict          fail also if there are lines of another form\n"
     "  -w, --warn            name each line of another form\n\n"
     "A line has 16 hexadecimal digits, two spaces and a name. With --tag, it is\n"
-    "KOMIHASH5 (NAME) = DIGITS, with KOMIHASH5-SEED for a seed that isn't 0, which has\n"
-    "hexadecimal digits. If a line begins with a backslash, the name has \\\\, \\n and \\r\n"
-    "for backslash, newline and carriage return. As in sha256sum, the second space is\n"
-    "an asterisk with -b or --binary, and a space with -t or --text.\n";
+    "KOMIHASH5 (NAME) = DIGITS, with KOMIHASH5-SEED for a seed that isn't 0. There\n"
+    "the seed is hexadecimal, without 0x: --seed=16 gives KOMIHASH5-10. If a line\n"
+    "begins with a backslash, the name has \\\\, \\n and \\r for backslash, newline and\n"
+    "carriage return. As in sha256sum, the second space is an asterisk with -b or\n"
+    "--binary, and a space with -t or --text.\n";
 
 /* What is told of a check: the last of these options counts. */
 enum { ALL, QUIET, STATUS, WARN };
