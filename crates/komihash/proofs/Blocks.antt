@@ -16,6 +16,7 @@ block_lanes-round : (v : ℕ) (l : Lanes) (ws us : List ℕ) → length ws ≡ 8
 block_lanes-round v l (w0 ∷ w1 ∷ w2 ∷ w3 ∷ w4 ∷ w5 ∷ w6 ∷ w7 ∷ []) us e = refl
 block_lanes-round v l ws us e = absurd (omega arith)
 
+-- fewer than eight words, or 64 bytes, have no block
 block_lanes-few_words : (v : ℕ) (l : Lanes) (ws : List ℕ) → length ws < 8 → block_lanes v l ws ≡ l
 block_lanes-few_words v l (w0 ∷ w1 ∷ w2 ∷ w3 ∷ w4 ∷ w5 ∷ w6 ∷ w7 ∷ ws) lt = absurd (omega arith)
 block_lanes-few_words v l ws lt = refl
@@ -27,6 +28,7 @@ block_lanes-few_bytes v l xs lt =
 
 -- ---- the bytes
 
+-- fewer than 64 bytes all stand after the blocks; of more, those after the first block decide
 pub after_blocks-few : (xs : List ℕ) → length xs < 64 → after_blocks xs ≡ xs
 after_blocks-few xs lt = ap (λ k. drop k xs) {y = 0} (omega arith)
 

@@ -14,6 +14,7 @@ use Rattle.komihash.proofs.Streams.{absorb-append, absorb-nothing, absorb-blocks
 
 -- ---- how many bytes are pending
 
+-- all bytes since the last block are pending
 pub absorb-pending : (v : ℕ) (s : State) (bytes : List ℕ) → length s.pending < 64
     → length (absorb v s bytes).pending ≡ (length s.pending + length bytes) % 64
 absorb-pending v s bytes few =
@@ -40,6 +41,7 @@ answers_after-same f g m n (Absorb bytes ∷ calls) same =
 answers_after-same f g m n (Answer ∷ calls) same =
     grind (arith, append-nil, same [], answers_after-same f g m n calls same)
 
+-- the answers of two lists are those of the first, and then those of the second after its bytes
 pub answers_after-append : (f : List ℕ → ℕ) (m : List ℕ) (xs ys : List Call)
     → answers_after f m (xs ++ ys)
     ≡ answers_after f m xs ++ answers_after f (m ++ bytes_of_calls xs) ys
@@ -59,6 +61,7 @@ onward-message v seed s m calls is =
 
 -- ---- bytes and costs
 
+-- the bytes of two lists are those of the first, and then those of the second
 pub bytes_of_calls-append : (xs ys : List Call)
     → bytes_of_calls (xs ++ ys) ≡ bytes_of_calls xs ++ bytes_of_calls ys
 bytes_of_calls-append [] ys = refl

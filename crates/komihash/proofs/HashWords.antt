@@ -49,6 +49,7 @@ hash_from_lanes-lt v s had_block (w0 ∷ w1 ∷ w2 ∷ w3 ∷ w4 ∷ w5 ∷ w6 �
     hash_from_lanes-lt v (block_round v s block) true (w ∷ ws)
 hash_from_lanes-lt v s had_block ws = hash_from_pair-lt (join had_block s) ws
 
+-- a hash is a word
 pub komi-lt : (v seed : ℕ) (m : List ℕ) → komi v seed m < 2 ^ 64
 unfolding komi
 komi-lt v seed m = hash_from_lanes-lt v (lanes (seed_pair seed)) _ (padded_words v m)
