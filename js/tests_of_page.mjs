@@ -1,9 +1,9 @@
 // Hashes files in komihash.html in Chromium, and prints what it shows: tests_of_page.mjs URL
-// PROFILE GONE BIG OTHER.. Chooses two files, at first with a wrong seed, and then
-// drops the others.
+// PROFILE GONE BIG HUGE OTHER.. Chooses GONE and BIG, at first with wrong seeds. Then it chooses
+// HUGE twice, and stops it by the button, and by dropping the others.
 import { spawn } from "node:child_process";
 
-const [url, profile, gone, big, ...files] = process.argv.slice(2);
+const [url, profile, gone, big, huge, ...others] = process.argv.slice(2);
 const browser = spawn("chromium", ["--headless", "--no-sandbox", "--remote-debugging-pipe",
     "--allow-file-access-from-files", `--user-data-dir=${profile}`],
     { stdio: ["ignore", "ignore", "ignore", "pipe", "pipe"] });
@@ -22,23 +22,32 @@ async function run(expression) {
     const { result } = await call("Runtime.evaluate", { expression, awaitPromise: true });
     return result.value ?? result.objectId;
 }
-const choose = async (seed) => call("DOM.setFileInputFiles",
-    { files: [gone, big], objectId: await run(`seed.value = ${seed}, files`) });
+const choose = async (seed, ...files) => call("DOM.setFileInputFiles",
+    { files, objectId: await run(`seed.value = ${seed}, files`) });
+const finish = async () => { while (await run("!hashing.hidden")); };
 
 const { targetId } = await call("Target.createTarget", { url });
 ({ sessionId } = await call("Target.attachToTarget", { targetId, flatten: true }));
 while (await run("document.URL + document.readyState + told.textContent") !== `${url}complete`);
-await choose("'0b11'");
-console.log(await run("told.textContent"));
+for (const wrong of ["'0b11'", "2n ** 64n"]) {
+    await choose(wrong, gone, big);
+    console.log(await run("`${told.textContent} ${seed.ariaInvalid}`"));
+}
 await run(`steps = 0, new MutationObserver((list) => steps += list.length)
-    .observe(progress, { subtree: true, attributeFilter: ["value"] })`);
-await choose(0);
+    .observe(bar, { attributeFilter: ["value"] })`);
+await choose(0, gone, big);
 await run("seed.value = '0xA', version.value = 4");
+await finish();
+console.log(await run("`progress: ${steps > 9 && bar.position === 1}`"));
+await choose("'0xA'", huge);
+await run("stopper.click()");
+await finish();
+await choose("'0xA'", huge);
 for (const type of ["dragEnter", "dragOver", "drop"])
     await call("Input.dispatchDragEvent",
-        { type, x: 9, y: 9, data: { items: [], files, dragOperationsMask: 1 } });
-while (await run("progress.children.length"));
-const failures = "${failed.textContent.split(':')[0]} failed\n";
-const shown = `\`\${told.textContent}${failures}\${lines.textContent}progress: \${steps > 9}\``;
+        { type, x: 9, y: 9, data: { items: [], files: others, dragOperationsMask: 1 } });
+await finish();
+const failures = "${failed.textContent.replace(/(?<=gone: ).*/, 'failed')}";
+const shown = `\`\${told.textContent}${failures}\${lines.textContent}\${seed.ariaInvalid}\``;
 console.log(await run(`fetch("data:,").catch(() => ${shown})`));
 browser.kill();

@@ -127,14 +127,14 @@ page_in_chromium() {
     chromium --headless --no-sandbox --user-data-dir="$profile" --dump-dom "$page" |
         grep 'needs a server' || return
     in_package out/komihashsum && mkdir -p "$files/folder" && : > "$files/empty" &&
-        seq 99 > "$files/$odd" && seq 12500000 > "$files/big" &&
+        seq 99 > "$files/$odd" && seq 12500000 > "$files/big" && truncate -s 99G "$files/huge" &&
         timeout 120 node js/tests_of_page.mjs "$page" "$profile" \
-            "$files"/{gone,big,"$odd",empty,folder} > "$scratch/shown" && cd "$files" &&
+            "$files"/{gone,big,huge,"$odd",empty,folder} > "$scratch/shown" && cd "$files" &&
         PATH=$(echo "$scratch"/libkomihash_rattle-*/out):$PATH && diff "$scratch/shown" <(
-            echo 'The seed must be a whole number from 0 to 2^64 - 1.'
-            printf '%s\n' 'Folders are not hashed.' 'gone failed'
+            printf '%s\n' 'The seed must be a whole number from 0 to 2^64 - 1. true'{,} \
+                'progress: true' 'Folders are not hashed.' 'gone: failed' 'huge: stopped'{,}
             komihashsum big && komihashsum -4 -s 0xA --tag "$odd" empty
-            echo 'progress: true'
+            echo false
         )
 }
 js_required() {
