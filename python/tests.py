@@ -222,6 +222,12 @@ class Tests(unittest.TestCase):
                 seen.add(stream.copy().intdigest())
         self.assertLessEqual(seen, {komihash_int(b"a"), komihash_int(b"a" + whole)})
 
+    def test_threads_may_share_a_generator(self):
+        shared, alone, lengths = Komirand(7), Komirand(7), [2**20] * 16
+        with ThreadPoolExecutor(4) as threads:
+            parts = {komihash_int(part) for part in threads.map(shared.fill, lengths)}
+        self.assertEqual(parts, {komihash_int(alone.fill(length)) for length in lengths})
+
     def test_nothing_leaks(self):
         def use():
             seed = int("9" * 19)
