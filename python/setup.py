@@ -1,4 +1,5 @@
 """Builds a module for each version, with the library for C inside."""
+import os
 import shlex
 import shutil
 import sys
@@ -23,17 +24,21 @@ USED = ("c/Makefile", "c/from_rust.sh", "c/exports.rs", "c/komihash_rattle.h", "
 # From 3.11 on, CPython's stable interface can read bytes, so one build serves all later ones.
 STABLE = sys.version_info >= (3, 11) and not sysconfig.get_config_var("Py_GIL_DISABLED")
 
+# Whether to link the library that is installed, as distributors want it.
+SYSTEM = bool(os.environ.get("KOMIHASH_RATTLE_SYSTEM"))
+
 
 class Build(build_ext):
     """Makes the library first, of its assembly, or where there is none, of the crate for Rust."""
 
     def build_extensions(self):
+        if SYSTEM:
+            return super().build_extensions()
         # The makefile takes no path with a space, so it gets the folder's name alone.
         with tempfile.TemporaryDirectory(dir=ABOVE / "c") as folder:
             out, library = Path(folder).name, "/libkomihash_rattle.a"
             compiler = shlex.join(self.compiler.compiler)
             self.spawn(["make", "-C", f"{ABOVE}/c", f"CC={compiler}", f"OUT={out}", out + library])
-            self.force = True  # Modules that were built before may have an older library.
             for extension in self.extensions:
                 extension.extra_objects = [folder + library]
             super().build_extensions()
@@ -54,9 +59,12 @@ def module(version):
     macros = [("VERSION", version)] + STABLE * [("Py_LIMITED_API", "0x030b0000")]
     hidden = ["-Wl,--exclude-libs,ALL"] if sys.platform.startswith("linux") else []
     return Extension(f"komihash_rattle.v{version}", ["src/komihash_rattle/version.c"],
-                     include_dirs=[str(ABOVE / "c")], define_macros=macros, extra_link_args=hidden,
+                     include_dirs=[] if SYSTEM else [str(ABOVE / "c")], define_macros=macros,
+                     libraries=SYSTEM * ["komihash_rattle"], extra_link_args=hidden,
                      py_limited_api=STABLE)
 
 
 setup(ext_modules=[module("4"), module("5")], cmdclass={"build_ext": Build, "sdist": Distribution},
-      options={"bdist_wheel": {"py_limited_api": "cp311"}} if STABLE else {})
+      # Modules that were built before may have an older library.
+      options={"build": {"force": True},
+               "bdist_wheel": {"py_limited_api": "cp311"} if STABLE else {}})

@@ -77,16 +77,27 @@ all_rows() { cat rust/tests/*.tsv "$scratch/rows"; }
 fails() { ! "${@:2}" > "$scratch/failure" 2>&1 && [ "$(wc -l < "$scratch/failure")" = "$1" ]; }
 
 # Makes the package for Python, installs it by Debian's tools, and runs the tests that are in it.
-debian_python() { PYTHONPATH=$scratch/python /usr/bin/python3 -B "$@"; }
+installed=$scratch/python
+debian_python() { PYTHONPATH=$installed /usr/bin/python3 -B "$@"; }
+install_python() {
+    TMPDIR="$scratch/s dist" debian_python -m pip install --no-index --no-build-isolation \
+        --target "$installed" "$scratch/s dist"
+}
 python_package() {
     release python && mkdir "$scratch/s dist" &&
         tar -xzf "$packed"/python/*.tar.gz -C "$scratch/s dist" --strip-components=1 &&
-        TMPDIR="$scratch/s dist" debian_python -m pip install --no-index --no-build-isolation \
-            --target "$scratch/python" "$scratch/s dist" &&
+        install_python &&
         debian_python -W error "$scratch/s dist/tests.py" "$scratch/rows" &&
         debian_python -W error python/tests.py &&
         fails 1 debian_python python/tests.py "$scratch/none" &&
         debian_python -m doctest python/README.md
+}
+# Links an installed library for C, without which the modules can't be imported.
+python_of_system() {
+    local system=$scratch/system installed=$scratch/linked
+    in_package install "PREFIX=$system" && KOMIHASH_RATTLE_SYSTEM=1 CFLAGS=-I$system/include \
+        LDFLAGS=-L$system/lib install_python && ! debian_python -c 'import komihash_rattle' &&
+        LD_LIBRARY_PATH=$system/lib debian_python "$scratch/s dist/tests.py"
 }
 
 # Makes the package for JavaScript, and installs it in a folder that has nothing else but tests,
@@ -186,6 +197,8 @@ done
 
 always needs cargo 'random calls have values' random_rows
 always needs '/usr/bin/pip3 /usr/bin/python3-config' 'the package for Python' python_package
+needs '/usr/bin/pip3 /usr/bin/python3-config' 'the package for Python, with an installed library' \
+    python_of_system
 needs /usr/bin/mypy 'the types of the package for Python' \
     debian_python -m mypy.stubtest komihash_rattle
 always needs npm 'the package for JavaScript is packed and installed' js_package
