@@ -84,7 +84,7 @@ in_order-back (a ∷ b ∷ c ∷ d ∷ e ∷ f ∷ g ∷ h ∷ []) eight = refl
 in_order-back ws eight = absurd (omega arith)
 
 -- what the proof of `from_order` needs
-pub ruleset lanes_back = (in_order-back, xor_again)
+pub ruleset lanes_of_words = (in_order-back, xor_again)
 
 -- the same as IsText by the first four bytes and the length, as the code tests it
 pub record IsLaidOut (v : ℕ) (bytes : List ℕ) : Type 0 where

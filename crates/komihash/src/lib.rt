@@ -15,8 +15,10 @@
 // `rust/erase.py` makes the crate for Rust of the other files. In them,
 // - `Rattle alone.` begins what Rust lacks, up to an empty line;
 // - `Rust instead:` says what Rust has in place of the next line, perhaps nothing;
-// - the examples, `# Panics`, and what is said of Rust, `Debug` and clippy are for Rust alone;
-// - `#[track_caller]` is too: such a function leaves the test of a length to one that it calls.
+// - for Rust alone are the examples below items, which CALLING has for Rattle, `# Panics`, and what
+//   is said of Rust, `version`, `Debug` and clippy;
+// - so are `const fn`, which calls that are `const` in Rust need, and `#[track_caller]`: such a
+//   function leaves the test of a length to one that it calls.
 
 #![tactic(auto)]
 

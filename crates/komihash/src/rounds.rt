@@ -144,7 +144,7 @@ pub(crate) fn in_order(lanes: &Lanes) -> [u64; 8]
 
 /// Returns the lanes from their words in that order.
 #[inline(always)]
-#[tactic(auto, using(crate::proofs::SavedTexts::lanes_back))]
+#[tactic(auto, using(crate::proofs::SavedTexts::lanes_of_words))]
 pub(crate) fn from_order(lanes: &[u64; 8]) -> Lanes
     ensures { in_order result ≡ lanes.now }
 {

@@ -7,6 +7,7 @@
 //! Only these calls change a stream, as the header asks. So `is_state` holds of all streams but
 //! those that `init` and `resume` are given, which C need not have set; they read nothing of these,
 //! as the check of the machine code shows.
+
 #![tactic(auto)]
 
 mod rand;

@@ -117,7 +117,7 @@ pub extern "C" fn komihash_v4_save(stream: &Stream, out: &mut [u8]) -> usize
 }
 
 /// Sets the stream to the one that has these bytes as its saved text, and returns true. Changes
-/// nothing, and returns false, if no stream of this version has.
+/// nothing, and returns false, if no stream of this version has this text.
 #[unsafe(no_mangle)]
 pub extern "C" fn komihash_v4_resume(stream: &mut Stream, bytes: &[u8]) -> bool
     ensures restored { result ≡ true

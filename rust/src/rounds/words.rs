@@ -19,7 +19,7 @@ pub(crate) trait WholeWords {
     /// Returns whether the number of words is odd.
     fn is_odd(&self) -> bool;
 
-    /// Returns the word at index `at`, one of the first eight, which the search needs to know.
+    /// Returns the word at index `at`. It is one of the first eight, as the search must know.
     fn word(&self, at: usize) -> u64;
 }
 
@@ -43,15 +43,15 @@ impl WholeWords for &[u8] {
     }
 }
 
-// Returns the pair after a round on the two words from index `at`. The remaining words hash the
-// same from it.
+// Returns the pair after a round on the two words from index `at`. From it, the words after these
+// give the hash that all from `at` on give from the pair before.
 #[inline(always)]
 fn round_at<W: WholeWords>(pair: Pair, left: &W, at: usize) -> Pair {
     pair_round(pair, left.word(at), left.word(at + 1))
 }
 
-// Returns the pair after a round on each two words. The word that may remain hashes the same from
-// it.
+// Returns the pair after a round on each two words. From it, the word that may remain gives the
+// hash that all words give from the pair before.
 #[inline(always)]
 fn round_each<W: WholeWords>(pair: Pair, left: &W) -> Pair {
     if !left.holds(2) {

@@ -109,7 +109,7 @@ impl RawStream {
     }
 
     /// Returns the stream that has these bytes as its saved text, or `None` if no stream of this
-    /// version has.
+    /// version has this text.
     #[inline(always)]
     pub fn restore<const V: u8>(bytes: &[u8]) -> Option<RawStream>
     where

@@ -63,9 +63,8 @@ fn append_below_eight(words: &mut [u64; 8], len: usize, bytes: &[u8])
     let word = read_partial_word(bytes, 0);
     let bits = 8 * (len % 8);
     words[word_index(len)] |= word << bits;
-    // The rotation has what the shift keeps, in its place, and below that, from the lowest byte on,
-    // what the shift drops. The difference is therefore what goes to the front of the next word. A
-    // shift to the right by 64 - bits would be by 64 if the partial word is empty.
+    // The rotation is the shifted word plus what the shift drops, moved to the lowest bytes, where
+    // the next word begins. A shift to the right would be by 64 where the partial word is empty.
     words[(len / 8 + 1) % 8] |= word.rotate_left(bits as u32) - (word << bits);
 }
 

@@ -34,7 +34,7 @@ pub(crate) trait WholeWords {
     fn is_odd(&self) -> bool
         ensures { IsTrue result ↔ (length (words self.now) % 2 ≡ 1) };
 
-    /// Returns the word at index `at`, one of the first eight, which the search needs to know.
+    /// Returns the word at index `at`. It is one of the first eight, as the search must know.
     fn word(&self, at: usize) -> u64
         requires within { at < length (words self.now) }
         requires below_8 { at < 8 }
@@ -63,8 +63,8 @@ impl WholeWords for &[u8] {
     }
 }
 
-// Returns the pair after a round on the two words from index `at`. The remaining words hash the
-// same from it.
+// Returns the pair after a round on the two words from index `at`. From it, the words after these
+// give the hash that all from `at` on give from the pair before.
 #[inline(always)]
 #[tactic(auto, using(crate::proofs::HashPaths::hash_from_pair_two))]
 fn round_at<W: WholeWords>(pair: Pair, left: &W, at: usize, tally: &mut Tally) -> Pair
@@ -78,8 +78,8 @@ fn round_at<W: WholeWords>(pair: Pair, left: &W, at: usize, tally: &mut Tally) -
     pair_round(pair, left.word(at), left.word(at + 1), tally)
 }
 
-// Returns the pair after a round on each two words. The word that may remain hashes the same from
-// it.
+// Returns the pair after a round on each two words. From it, the word that may remain gives the
+// hash that all words give from the pair before.
 #[inline(always)]
 fn round_each<W: WholeWords>(pair: Pair, left: &W, tally: &mut Tally) -> Pair
     requires { length (W.words left.now) < 8 }

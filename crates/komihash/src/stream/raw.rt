@@ -176,7 +176,7 @@ impl RawStream {
     }
 
     /// Returns the stream that has these bytes as its saved text, or `None` if no stream of this
-    /// version has.
+    /// version has this text.
     #[inline(always)]
     #[tactic(auto, unfolding(crate::specs::Saved::IsTextAfter))]
     pub fn restore<const V: u8>(bytes: &[u8]) -> Option<RawStream>
