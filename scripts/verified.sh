@@ -8,7 +8,7 @@ part_with "$python" in_package verify
 part_with "$arm-gcc $python" in_package verify "CROSS=$arm-"
 part_with "cvc5 $python" in_package verify LEVEL=x86-64 SECOND=cvc5 \
     'FUNCTION=komihash_v5 komihash_v5_finish komihash_v5_save'
-part_with "rustc $python" in_package verify FROM=rust LEVEL=x86-64-v2
+part_with "rustc $python" in_package verify FROM=rust
 part_with "$arm-gcc $debian $python" from_rust aarch64-unknown-linux-gnu verify FROM=rust \
     "CROSS=$arm-" 'FUNCTION=komihash_v4 komihash_v4_write komihash_v4_finish'
 

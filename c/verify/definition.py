@@ -83,9 +83,8 @@ def words_of(content):
     return [join(content[k:k + 8]) for k in range(0, len(content), 8)]
 
 
-# The byte's highest bit, because z3 compares with signs.
 def top_bit(version, last):
-    return choose(z3.And(version == 4, last < 0), TRUE, FALSE)
+    return choose(z3.And(version == 4, last < 0), TRUE, FALSE)  # z3 compares with signs.
 
 
 def padding_byte(version, last):

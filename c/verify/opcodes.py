@@ -17,7 +17,7 @@ X86 = {
         movaps 0f28 0f29; movups 0f10 0f11; movdqa 66:0f6f 66:0f7f; movdqu f3:0f6f f3:0f7f
         movq 66W:0f6e 66W:0f7e f3:0f7e 66:0fd6; pxor 66:0fef; xorps 0f57
         punpcklqdq 66:0f6c; punpckhqdq 66:0f6d; unpckhpd 66:0f15; movlhps 0f16
-        paddq 66:0fd4''',
+        paddq 66:0fd4; shufps 0fc6''',
     'x86-64-v2': '''palignr 66:0f3a0f; pextrq 66W:0f3a16''',
     'x86-64-v3': '''lzcnt f3:0fbd f3W:0fbd; andn v:0f38f2 vW:0f38f2; mulx vf2W:0f38f6
         shlx v66:0f38f7 v66W:0f38f7; shrx vf2:0f38f7 vf2W:0f38f7

@@ -279,6 +279,7 @@ def vector(c, i):
 SSE = {
     'paddq': (64, 128, lambda a, b, n: [x + y for x, y in zip(a, b)]),
     'palignr': (8, 128, lambda a, b, n: (b + a)[n:n + 16]),
+    'shufps': (32, 128, lambda a, b, n: [(a, a, b, b)[k][n >> 2 * k & 3] for k in range(4)]),
     **dict.fromkeys(('pxor', 'xorps'), (64, 128, lambda a, b, n: [x ^ y for x, y in zip(a, b)])),
     **dict.fromkeys(('punpcklqdq', 'movlhps'), (64, 128, lambda a, b, n: [a[0], b[0]])),
     **dict.fromkeys(('punpckhqdq', 'unpckhpd'), (64, 128, lambda a, b, n: [a[1], b[1]]))}
