@@ -26,7 +26,7 @@ where
 
 /// Writes are joined, whereas a [`KomiHasher`] hashes each by itself. What a value writes depends
 /// on the machine and on Rust's version, so don't store or send such hashes. With [`fmt::Write`] in
-/// scope too, call `fmt::Write::write_str` by this name, because Rust may give hashers one.
+/// scope too, call `fmt::Write::write_str` by this name, since hashers may get a `write_str`.
 ///
 /// ```
 /// use komihash_rattle::{StreamedKomihash, komihash};

@@ -5,8 +5,8 @@
 //! padding of messages that end in a byte of 128 or more, in the generator's step, and in the saved
 //! texts of streams.
 //!
-//! Both give a message of fewer than 64 bytes the same hash if its last byte is below 128. So
-//! tell by longer messages which version made a hash.
+//! Both give a message of fewer than 64 bytes the same hash if it is empty or its last byte is below
+//! 128. So tell by longer messages which version made a hash.
 //!
 //! Examples of methods are those of version 5: write `v4` where they have `v5`.
 // Made of v5.rt by scripts/twins.py, except for the comment above.
@@ -30,8 +30,8 @@ pub type StreamedKomihash = stream::streamed::StreamedKomihash<4>;
 /// The hasher of version 4, which chains the hashes of its writes.
 ///
 /// Its writes are not joined: each replaces its number by the hash of the bytes, with the number
-/// as the seed. Use it for maps alone, whose keys no attacker chooses, as the type of both versions
-/// explains.
+/// as the seed. In Rust, use it for maps alone, whose keys no attacker chooses, as the type of both
+/// versions explains.
 ///
 /// ```
 /// use komihash_rattle::v4::{KomiHasher, komihash};

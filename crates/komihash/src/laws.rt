@@ -24,16 +24,16 @@ ghost use Rattle.komihash.specs.declared.stream.Call.TheVariants.{Answer};
 
 // ---- Hashes, seeds and padded words
 
-/// Proves that the two words that a seed is made into give the seed back, so no two seeds share
-/// both of their words. Those who derive seeds and need them distinct need it.
+/// Proves that a seed can be computed from the two words that it is made into (`seed_words`), so no
+/// two seeds share both. Those who derive seeds and need them distinct need it.
 pub fn seed_back()
     ensures { (seed : ℕ) → seed < 2 ^ 64 → bit_xor (bit_xor (seed_words seed).0 (constant 1))
         (bit_xor (seed_words seed).1 (constant 5)) ≡ seed }
 {}
 
 /// Proves that both versions give a message the same hash if it has fewer than 64 bytes and the
-/// last is below 128; of the empty message, `slice_index` gives 0. Those who go on from one version
-/// to the other and keep hashes of text need it.
+/// last is below 128, or if it is empty, of which `slice_index` gives 0. Those who go on from one
+/// version to the other and keep hashes of text need it.
 pub fn same_below_64()
     ensures { (seed : ℕ) (m : List ℕ) → length m < 64 → slice_index m (length m - 1) < 128 →
         komi 4 seed m ≡ komi 5 seed m }

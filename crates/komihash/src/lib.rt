@@ -15,10 +15,11 @@
 // `rust/erase.py` makes the crate for Rust of the other files. In them,
 // - `Rattle alone.` begins what Rust lacks, up to an empty line;
 // - `Rust instead:` says what Rust has in place of the next line, perhaps nothing;
-// - for Rust alone are the examples below items, which CALLING has for Rattle, `# Panics`, and what
-//   is said of Rust, `version`, `Debug` and clippy;
-// - so are `const fn`, which calls that are `const` in Rust need, and `#[track_caller]`: such a
-//   function leaves the test of a length to one that it calls.
+// - for Rust alone are the examples in comments of items (CALLING has those for Rattle), `# Panics`,
+//   links in brackets, what is said of Rust, `version`, `Debug` and clippy, and "the type of both
+//   versions", which Rust's pages show beside the other name of a type;
+// - so are `const fn`, which calls that are `const` in Rust need, `repr` of public types, and
+//   `#[track_caller]`, whose function leaves the test of a length to the one that it calls.
 
 #![tactic(auto)]
 

@@ -36,17 +36,17 @@ const C7: u64 = 0xc0ac_29b7_c97c_50dd;
 
 const C8: u64 = 0x3f84_d5b5_b547_0917;
 
-/// How the code stores a pair (a, e): as a xor e, which is the low half of the last product, and e.
-/// The word a is computed only for a factor, and as the hash, so that the way from one product to
-/// the next is one xor shorter.
+/// How the code stores a pair (a, e): as a xor e, which after `mix` is the low half of its product,
+/// and e. The word a is computed only for a factor, and as the hash, so that the way from one
+/// product to the next is one xor shorter.
 #[repr(C)]
 #[derive(Clone, Copy)]
 pub(crate) struct Pair(u64, u64);
 
 /// The eight lanes as the code stores them: four pairs in a ring, one for each product of a block.
 ///
-/// s5 to s8 are the words e of the pairs. s1 to s4 are the low halves, each xor the word e of the
-/// pair before it. The fourth pair is the one before the first, so it stands there.
+/// s5 to s8 are the words e of the pairs. s1 to s4 are the first words, each xor the word e of
+/// the pair before it. The fourth pair is the one before the first, so it stands there.
 #[repr(C)]
 #[derive(Clone, Copy)]
 pub(crate) struct Lanes {

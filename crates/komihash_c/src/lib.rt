@@ -5,8 +5,8 @@
 //! null.
 //!
 //! Only these calls change a stream, as the header asks. So `is_state` holds of all streams but
-//! those that `init` and `resume` are given, which C need not have set; they read nothing of these,
-//! as the check of the machine code shows.
+//! those that `init` and `resume` are given, which C need not have set: these two read nothing of
+//! them, as the check of the machine code shows.
 
 #![tactic(auto)]
 

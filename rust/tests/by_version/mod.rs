@@ -203,6 +203,15 @@ fn hashers_of_maps() {
 }
 
 #[test]
+fn streams_are_hashers_and_writers_of_text() {
+    let streams = BuildHasherDefault::<StreamedKomihash>::default();
+    assert_eq!(streams.hash_one((7_u8, 8_u8)), komihash(&[7, 8], 0));
+    let mut stream = StreamedKomihash::new();
+    std::fmt::Write::write_fmt(&mut stream, format_args!("{}:{}", "port", 443)).unwrap();
+    assert_eq!(stream.finish(), komihash(b"port:443", 0));
+}
+
+#[test]
 fn hashers_of_a_seed() {
     const SEEDED: (KomiHasher, KomiBuildHasher) =
         (KomiHasher::new(SEED), KomiBuildHasher::new(SEED));
