@@ -14,25 +14,28 @@ const bytes = new Uint8Array(memory.buffer);
 const room = bytes.subarray(piece, piece + ROOM);
 const encoder = new TextEncoder();
 
-// These read views of any page or worker, whatever a subclass overrides.
+// These read views of any page or worker, whatever an object or its class overrides.
 const getter = (of, name) => Object.getOwnPropertyDescriptor(of, name).get;
 const arrays = Object.getPrototypeOf(Uint8Array.prototype), { keys } = arrays;
-const typeOf = getter(arrays, Symbol.toStringTag);
+const [typeOf, sizeOf] = [Symbol.toStringTag, "byteLength"].map((it) => getter(arrays, it));
 const [ofArray, ofDataView] = [arrays, DataView.prototype].map((of) => {
     const [buffer, at, size] = ["buffer", "byteOffset", "byteLength"].map((it) => getter(of, it));
     return (data) => new Uint8Array(buffer.call(data), at.call(data), size.call(data));
 });
 
+/** Returns an error that says what was wanted, and of what type something else was. */
+const wrong = (wanted, given) => new TypeError(
+    `${wanted}, and was of type ${Object.prototype.toString.call(given).slice(8, -1)}`);
+
 /** Returns the bytes of anything but a string. */
-function viewed(data) {
+function viewed(data, wanted = "a message must be a string,") {
     try {
         if (!typeOf.call(data))
             return ofDataView(ArrayBuffer.isView(data) ? data : new DataView(data));
         keys.call(data); // This throws if the buffer shrank below an array.
-        return Object.getPrototypeOf(data) === Uint8Array.prototype ? data : ofArray(data);
-    } catch (cause) {
-        const wanted = "an ArrayBuffer or a view of one, not detached or shrunk";
-        throw new TypeError(`the data must be ${wanted}, or for a hash a string`, { cause });
+        return ofArray(data);
+    } catch {
+        throw wrong(`${wanted} an ArrayBuffer or a view of one, not detached or shrunk`, data);
     }
 }
 
@@ -40,17 +43,17 @@ function viewed(data) {
 function placed(data) {
     if (typeof data === "string" && 3 * data.length <= ROOM)
         return encoder.encodeInto(data, room).written;
+    const size = typeOf.call(data) === "Uint8Array" ? sizeOf.call(data) : 0;
+    if (size > 0 && size <= ROOM) { room.set(data); return size; }
     const message = typeof data === "string" ? encoder.encode(data) : viewed(data);
-    if (message.length > ROOM) return message;
-    room.set(message);
-    return message.length;
+    return message.length > ROOM ? message : message.length && placed(message);
 }
 
 /** Returns a number that the library can take. */
-function word(number) {
-    if (typeof number !== "bigint") throw new TypeError("a seed must be a bigint, such as 7n");
+function word(number, name = "a seed") {
+    if (typeof number !== "bigint") throw wrong(`${name} must be a bigint, such as 7n`, number);
     if (BigInt.asUintN(64, number) === number) return number;
-    throw new RangeError("a seed must be at least 0n and below 2n ** 64n");
+    throw new RangeError(`${name} must be at least 0n and below 2n ** 64n`);
 }
 
 /** Returns the first bytes of what a call writes to `object`. */
@@ -93,8 +96,9 @@ function version(number) {
         digest() { return BigInt.asUintN(64, within(this.#state, finish)); }
         hexdigest() { return this.digest().toString(16).padStart(16, "0"); }
         save() { return room.slice(0, within(this.#state, save, piece, ROOM)); }
-        static resume(text, ...given) {
-            const stream = new this(...given), length = placed(viewed(text));
+        static resume(saved, ...given) {
+            const stream = new this(...given);
+            const length = placed(viewed(saved, "a saved stream must be"));
             if (typeof length === "number" && within(stream.#state, resume, piece, length))
                 return stream;
             throw new RangeError("the bytes are not what save() of this version returns");
@@ -108,18 +112,18 @@ function version(number) {
         }
         static fromWords(s1, s2, first = 0n, ...others) {
             const rand = new this(first, ...others);
-            rand.#state = made(16, ofWords, word(s1), word(s2));
+            rand.#state = made(16, ofWords, word(s1, "a word"), word(s2, "a word"));
             return rand;
         }
         next() { return BigInt.asUintN(64, within(this.#state, next)); }
-        fill(array) {
-            const out = viewed(array);
+        fill(data) {
+            const out = viewed(data, "what is filled must be");
             for (let at = 0; at < out.length; at += ROOM) {
                 const part = out.subarray(at, at + ROOM);
                 within(this.#state, fill, piece, part.length);
                 part.set(room.subarray(0, part.length));
             }
-            return array;
+            return data;
         }
     }
 

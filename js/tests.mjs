@@ -5,8 +5,9 @@ import { Komihash, Komirand, komihash, v4, v5 } from "komihash_rattle";
 
 const failed = [];
 const test = (name, holds) => holds || failed.push(name);
-function throws(error, call) {
-    try { call(); } catch (thrown) { return thrown instanceof error; }
+function throws(error, call, text = "") {
+    try { call(); }
+    catch (it) { return it instanceof error && it.message.match(text) && !it.cause; }
 }
 
 const number = (digits) => BigInt(`0x${digits}`);
@@ -59,12 +60,20 @@ const Shared = globalThis.SharedArrayBuffer ?? ArrayBuffer; // which pages may l
 test("shared memory", komihash(new Shared(9)) === komihash(new Uint8Array(9)));
 for (const text of ["", "aß€😀", "€".repeat(1e5), "€".repeat(2e5)])
     test("a string", komihash(text, 7n) === komihash(new TextEncoder().encode(text), 7n));
-class Odd extends Uint8Array { byteLength = 3; keys = () => { throw 0; }; }
-const views = [new DataView(long.buffer, 8, 80), new Odd(long.buffer, 8, 80)];
-for (const view of [...views, new Uint16Array(long.buffer, 8, 40)])
+class Odd extends Uint8Array {
+    byteLength = 3; length = 3; subarray = () => this; keys = () => { throw 0; };
+}
+/** Returns a Uint8Array of no subclass, which itself has these properties and a constructor. */
+const own = (buffer, at, size) => Object.assign(
+    Object.setPrototypeOf(new Odd(buffer, at, size), Uint8Array.prototype), { constructor: Array });
+const views = [DataView, Odd].map((it) => new it(long.buffer, 8, 80));
+for (const view of [...views, new Uint16Array(long.buffer, 8, 40), own(long.buffer, 8, 80)])
     test("a view", komihash(view) === komihash(long.buffer.slice(8, 88)));
-const rand = new Komirand(7n);
-test("outputs", new Komirand(7n).fill(new BigUint64Array(1e5)).every((it) => it === rand.next()));
+for (const view of [new Odd(long.buffer), own(long.buffer)])
+    test("a long view", komihash(view) === komihash(long));
+const rand = new Komirand(7n), array = new BigUint64Array(1e5);
+test("outputs", new Komirand(7n).fill(array).every((it) => it === rand.next()));
+test("what is filled", komihash(new Komirand(7n).fill(own(8e5))) === komihash(array));
 
 const seeded = [(it) => komihash("", it), (it) => new Komihash(it)];
 const drawn = [(it) => new Komirand(it), (it) => new Komirand(0n, it)];
@@ -86,6 +95,15 @@ const resume = (it) => Komihash.resume(it), fill = (it) => new Komirand(7n).fill
 for (const call of [komihash, (it) => new Komihash().update(it), resume, fill])
     // @ts-expect-error
     test("no bytes", wrong.every((it) => throws(TypeError, () => call(it))));
+const refusing = {
+    "a message must be a string, an ArrayBuffer or": (it) => new Komihash().update(it),
+    "a saved stream must be an ArrayBuffer or": resume,
+    "what is filled must be an ArrayBuffer or": fill,
+    "a seed must be a bigint": (it) => new Komirand(it),
+    "a word must be a bigint": (it) => Komirand.fromWords(0n, it),
+};
+for (const [text, call] of Object.entries(refusing))
+    test(text, throws(TypeError, () => call([7]), `^${text}.*, and was of type Array$`));
 test("a wrong text", throws(RangeError, () => Komihash.resume(long)));
 const saved = ["ä", "b"].map((it) => new Komihash().update(it).save());
 test("saved texts", Komihash.resume(saved[0]).digest() === v5.komihash("ä"));
