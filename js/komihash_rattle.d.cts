@@ -20,7 +20,7 @@ export class Komihash {
      * constructor of a subclass takes the further arguments.
      */
     static resume<S extends Komihash, Given extends unknown[]>(
-        this: new (...given: Given) => S, text: ArrayBufferView | ArrayBufferLike, ...given: Given
+        this: new (...given: Given) => S, saved: ArrayBufferView | ArrayBufferLike, ...given: Given
     ): S;
 }
 
@@ -30,13 +30,18 @@ export class Komirand {
     constructor(seed: bigint, extraSeed?: bigint);
     /** Returns the generator that has two words as its state. Takes further arguments likewise. */
     static fromWords<R extends Komirand, Given extends unknown[]>(
-        this: new (...given: Given) => R, s1: bigint, s2: bigint, ...given: Given | []
+        this: new (...given: Given) => R, s1: bigint, s2: bigint, ...given: Given
+    ): R;
+    /** Without further arguments, the constructor takes the seed 0n. */
+    static fromWords<R extends Komirand>(
+        this: new (seed: bigint) => R, s1: bigint, s2: bigint
     ): R;
     /** Returns the next output, which is at least 0n and below 2n ** 64n. */
     next(): bigint;
-    /** Fills an array with the bytes of the next outputs, the lowest first, and returns it. */
-    fill<A extends ArrayBufferView | ArrayBufferLike>(array: A): A;
+    /** Fills data with the bytes of the next outputs, the lowest first, and returns it. */
+    fill<A extends ArrayBufferView | ArrayBufferLike>(data: A): A;
 }
 
 type Version = { komihash: typeof komihash; Komihash: typeof Komihash; Komirand: typeof Komirand };
+/** The names of each version. Those above are of version 5. */
 export const v4: Version, v5: Version;

@@ -116,9 +116,14 @@ class Named extends Komihash {
 const named = Named.resume(saved[0], { name: "a" }).update("b");
 test("a subclass", named.count() === 1 && named.name === "a");
 test("the stream of a subclass", named.digest() === komihash("äb"));
-class Sided extends Komirand { constructor(sides, seed) { super(seed); this.sides = sides; } }
+class Sided extends Komirand {
+    /** @param {number} sides @param {bigint} seed */
+    constructor(sides, seed) { super(seed); this.sides = sides; }
+}
 const sided = Sided.fromWords(1n, 2n, 6, 7n), unsided = Komirand.fromWords(1n, 2n);
 test("a subclass of a generator", sided.sides === 6 && sided.next() === unsided.next());
+// @ts-expect-error
+test("a subclass without its arguments", throws(TypeError, () => Sided.fromWords(1n, 2n)));
 
 const told = [`${rows.length} rows, ${failed.length} failures`, ...failed].join("\n");
 page ? (page.textContent = told) : console.log(told);
