@@ -1,6 +1,6 @@
 // Hashes files in komihash.html in Chromium, and prints what it shows: tests_of_page.mjs URL
 // PROFILE GONE BIG HUGE OTHER.. Chooses GONE and BIG, at first with wrong seeds. Then it chooses
-// HUGE twice, and stops it by the button, and by dropping the others.
+// HUGE twice, and stops it by the button, and by dropping the others, whose lines it copies.
 import { spawn } from "node:child_process";
 
 const [url, profile, gone, big, huge, ...others] = process.argv.slice(2);
@@ -26,6 +26,8 @@ const choose = async (seed, ...files) => call("DOM.setFileInputFiles",
     { files, objectId: await run(`seed.value = ${seed}, files`) });
 const finish = async () => { while (await run("!hashing.hidden")); };
 
+await call("Browser.grantPermissions",
+    { permissions: ["clipboardReadWrite", "clipboardSanitizedWrite"] });
 const { targetId } = await call("Target.createTarget", { url });
 ({ sessionId } = await call("Target.attachToTarget", { targetId, flatten: true }));
 while (await run("document.URL + document.readyState + told.textContent") !== `${url}complete`);
@@ -38,16 +40,19 @@ await run(`steps = 0, new MutationObserver((list) => steps += list.length)
 await choose(0, gone, big);
 await run("seed.value = '0xA', version.value = 4");
 await finish();
-console.log(await run("`progress: ${steps > 9 && bar.position === 1}`"));
+const failures = "${failed.textContent.replace(/(?<=gone: ).*/, 'failed')}";
+console.log(await run(`\`${failures}progress: \${steps > 9 && bar.position === 1}\``));
 await choose("'0xA'", huge);
 await run("stopper.click()");
 await finish();
-await choose("'0xA'", huge);
+console.log(await run("failed.textContent.trim()"));
+await choose("' 0xA '", huge);
 for (const type of ["dragEnter", "dragOver", "drop"])
     await call("Input.dispatchDragEvent",
         { type, x: 9, y: 9, data: { items: [], files: others, dragOperationsMask: 1 } });
 await finish();
-const failures = "${failed.textContent.replace(/(?<=gone: ).*/, 'failed')}";
-const shown = `\`\${told.textContent}${failures}\${lines.textContent}\${seed.ariaInvalid}\``;
-console.log(await run(`fetch("data:,").catch(() => ${shown})`));
+await run("document.querySelector('[onclick]').click()");
+while (!await run("navigator.clipboard.readText()"));
+const shown = "told.textContent + failed.textContent + await navigator.clipboard.readText()";
+console.log(await run(`fetch("data:,").catch(async () => ${shown} + seed.ariaInvalid)`));
 browser.kill();

@@ -143,7 +143,8 @@ page_in_chromium() {
             "$files"/{gone,big,huge,"$odd",empty,folder} > "$scratch/shown" && cd "$files" &&
         PATH=$(echo "$scratch"/libkomihash_rattle-*/out):$PATH && diff "$scratch/shown" <(
             printf '%s\n' 'The seed must be a whole number from 0 to 2^64 - 1. true'{,} \
-                'progress: true' 'Folders are not hashed.' 'gone: failed' 'huge: stopped'{,}
+                'gone: failed' 'progress: true' 'huge: stopped' 'Folders are not hashed.' \
+                'huge: stopped'
             komihashsum big && komihashsum -4 -s 0xA --tag "$odd" empty
             echo false
         )
