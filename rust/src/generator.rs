@@ -85,7 +85,7 @@ where
     /// assert_eq!([restored.next(), restored.next()], [generator.next(), generator.next()]);
     /// ```
     #[must_use]
-    // The library for C needs it. In Rattle, it isn't stable, and Rust doesn't hide it.
+    // The library for C needs it. In Rattle, it isn't stable.
     #[inline(always)]
     pub const fn words(&self) -> (u64, u64) {
         (self.s1, self.s2)

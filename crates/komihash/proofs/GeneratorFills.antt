@@ -94,6 +94,7 @@ outputs-whole v n s = sym (fill-whole v n s)
 pub after_fill-whole : (v n : ℕ) (s : ℕ × ℕ) → after_fill v s (8 * n) ≡ after_steps v n s
 after_fill-whole v n s = ap (λ k. after_steps v k s) (omega arith)
 
+-- a fill in two parts, the first of whole words, is a fill of both
 pub fill-add : (v x y : ℕ) (s : ℕ × ℕ) → x % 8 ≡ 0
     → fill v s x ++ fill v (after_fill v s x) y ≡ fill v s (x + y)
 fill-add v x y s whole =

@@ -73,12 +73,13 @@ module _ (v seed : ℕ) (m : List ℕ) where
       (hash_from_lanes-without_block v (lanes pair) (whole_words m) _
       (omega (arith, length-whole_words m)))
 
-  -- the hash of 1 to 63 bytes, whose final word has a padding byte
+  -- the hash of 1 to 63 bytes, whose final word has a padding byte, as `hash_of_words` needs it
   pub komi-few_nonempty : 1 ≤ length m → length m < 64
       → komi v seed m ≡ hash_from_pair pair (whole_words m ++ final ∷ [])
   komi-few_nonempty some lt = grind (arith, komi-few)
 
-  -- the hash of 64 bytes or more: whole blocks first, and then the bytes after them
+  -- the hash of 64 bytes or more, as `hash_of_one_block` and `hash_of_blocks` need it: whole blocks
+  -- first, and then the bytes after them
   pub komi-long : 64 ≤ length m
       → komi v seed m ≡ hash_from_pair (join true (block_lanes v (lanes pair) (whole_words m)))
       (whole_words (after_blocks m) ++ final ∷ [])

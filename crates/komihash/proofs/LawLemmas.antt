@@ -15,7 +15,7 @@ use Rattle.komihash.proofs.GeneratorFills.{after_steps-few, outputs-few}
 use Rattle.komihash.proofs.GeneratorFills.{next-lt, fill-one, after_fill-one}
 use Rattle.komihash.proofs.GeneratorFills.{length-outputs, outputs-at, fill-whole, outputs-whole}
 use Rattle.komihash.proofs.GeneratorFills.{after_fill-whole}
-use Rattle.komihash.proofs.Unpadding.{same_message}
+use Rattle.komihash.proofs.Unpadding.{padded_words-same}
 use Rattle.komihash.proofs.SavedTexts.{text-same_version, text-same_state, IsTextAfter-most}
 use Rattle.komihash.proofs.Streams.{absorb-append, absorb-nothing, answer-joined}
 use Rattle.komihash.proofs.Streams.{HasAbsorbed-same_state, IsTextAfter-same_text}
@@ -37,7 +37,7 @@ pub ruleset of_streams = (
 pub ruleset of_calls = (answers_after-append, bytes_of_calls-append, run_products-pieces)
 
 pub ruleset of_texts_and_words =
-    (text-same_version, text-same_state, IsTextAfter-most, same_message)
+    (text-same_version, text-same_state, IsTextAfter-most, padded_words-same)
 
 pub ruleset of_steps =
     (after_steps-add, outputs-add, after_steps-none, outputs-none, after_steps-few, outputs-few)

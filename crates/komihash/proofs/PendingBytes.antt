@@ -80,6 +80,7 @@ module _ {ws : List ℕ} {len : ℕ} (are : ArePending ws len) where
   -- words that store the pending bytes and others after them
   module _ (new bytes : List ℕ) (typed : (k : ℕ) → Fits w8 (get_or bytes k 0))
       (is : new ≡ stored_words 8 (pending ++ bytes)) where
+    -- if these fill no block, they are the pending bytes
     pub pending_bytes-put : len + length bytes < 64
         → pending_bytes new (len + length bytes) ≡ pending ++ bytes
     pending_bytes-put few =

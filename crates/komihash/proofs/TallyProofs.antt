@@ -23,8 +23,8 @@ module _ {M : Type 1} {𝓤 : Ura M} (𝓛 : Logic 𝓤) (P : Fml) where
       subst (λ F. Gives F (owned_by_tally m' n')) (sym (opened (view (record {})) m n))
       (tally_made m' n')
 
--- two facts that own nothing make the separating conjunction with which handwritten proofs of
--- bodies end
+-- two facts own nothing, so together they prove the separating conjunction that ends a handwritten
+-- proof
 pub both : {M : Type 1} (𝓤 : Ura M) {φ ψ : Type 0} → φ → ψ
     → ent 𝓤 (emp 𝓤) (sep 𝓤 (fact 𝓤 φ) (fact 𝓤 ψ))
 both 𝓤 {φ} {ψ} p q =

@@ -37,14 +37,14 @@ same_end (x ∷ xs) [] a b j k some_a some_b is = grind (arith, zeros-only k xs 
 same_end (x ∷ xs) (y ∷ ys) a b j k some_a some_b is = grind (arith, same_end xs ys a b j k)
 
 -- bytes whose word is 0 are zeros, and bytes whose word is a byte are this byte and zeros
-all_zeros : (xs : List ℕ) → word_of xs ≡ 0 → xs ≡ replicate (length xs) 0
-all_zeros [] is = refl
-all_zeros (x ∷ xs) is = grind (arith, all_zeros xs)
+word_of-zero : (xs : List ℕ) → word_of xs ≡ 0 → xs ≡ replicate (length xs) 0
+word_of-zero [] is = refl
+word_of-zero (x ∷ xs) is = grind (arith, word_of-zero xs)
 
-one_byte : (xs : List ℕ) (k : ℕ) → length xs ≡ suc k → word_of xs < 256
+word_of-byte : (xs : List ℕ) (k : ℕ) → length xs ≡ suc k → word_of xs < 256
     → xs ≡ word_of xs ∷ replicate k 0
-one_byte [] k size small = absurd (omega arith)
-one_byte (x ∷ xs) k size small = grind (arith, all_zeros xs)
+word_of-byte [] k size small = absurd (omega arith)
+word_of-byte (x ∷ xs) k size small = grind (arith, word_of-zero xs)
 
 -- ---- the bytes of padded words
 
@@ -62,9 +62,9 @@ bytes_of_padded v (b ∷ m) are is =
     grind (arith, elements, words_of-whole, all_bytes-whole_words (padded_bytes v xs) padded)
 
 -- no two messages share their padded words
-pub same_message : (v : ℕ) (x y : List ℕ) → AreBytes x → AreBytes y
+pub padded_words-same : (v : ℕ) (x y : List ℕ) → AreBytes x → AreBytes y
     → padded_words v x ≡ padded_words v y → x ≡ y
-same_message v x y are_x are_y same =
+padded_words-same v x y are_x are_y same =
     let bytes = bytes_of_padded v x are_x same in
     let same_bytes = bytes_of_padded v y are_y refl in
     grind (arith, same_end, bytes, same_bytes)
@@ -87,8 +87,8 @@ module _ (v : ℕ) (ws : List ℕ) (fit : (k : ℕ) → Fits w64 (get_or ws k 0)
       grind (arith, eight, take-all_bytes ws i 8, drop-drop r (8 * i) bytes)
 
   -- padded words whose last word is 0 are those of the empty message
-  pub padded_zero : ArePadded v ws → last ≡ 0 → length ws ≡ 1
-  padded_zero (m, are, is) none =
+  pub ArePadded-zero : ArePadded v ws → last ≡ 0 → length ws ≡ 1
+  ArePadded-zero (m, are, is) none =
       let n = length m in
       let end = padding_or_zero v m in
       let zeros : List ℕ = replicate (7 - n % 8) 0 in
@@ -118,7 +118,7 @@ module _ (v : ℕ) (ws : List ℕ) (fit : (k : ℕ) → Fits w64 (get_or ws k 0)
         grind (
           arith,
           elements,
-          one_byte (drop size (all_bytes ws)) (7 - r),
+          word_of-byte (drop size (all_bytes ws)) (7 - r),
           word_from r some,
           length-all_bytes ws,
           take-append-drop size (all_bytes ws),
@@ -140,18 +140,21 @@ module _ (v : ℕ) (ws : List ℕ) (fit : (k : ℕ) → Fits w64 (get_or ws k 0)
 
 -- ---- what the code finds
 
+-- the highest bit of a word tells its highest byte that is not 0
 pub highest : (w bit : ℕ) → bit < 64 → 2 ^ bit ≤ w → w < 2 * 2 ^ bit → IsHighestByte w (bit / 8)
 highest w bit few low high =
     grind (arith, pow_mono, pow-add)
 
+-- byte `at` of the words is a byte of word `at / 8`
 pub byte_of_words : (ws : List ℕ) (at : ℕ) → at < 8 * length ws
     → get_or (to_le_bytes w64 (get_or ws (at / 8) 0)) (at % 8) 0 ≡ get_or (all_bytes ws) at 0
 byte_of_words ws at lt = grind (arith, elements, take-all_bytes ws (at / 8) 8)
 
+-- the padding byte of the first n bytes, from the last of them
 pub padding_byte_at : (v : ℕ) (ws : List ℕ) (n last : ℕ) → 0 < n → n ≤ 8 * length ws
     → last ≡ slice_index (all_bytes ws) (n - 1)
     → padding_after (pads_with_two v last) ≡ padding_byte v (take n (all_bytes ws))
 padding_byte_at v ws n last some le is = grind (arith, elements, length-all_bytes)
 
 -- what the proof of `unpad` needs
-pub ruleset unpad_laws = (AreBytes-take, AreBytes-all_bytes, same_message)
+pub ruleset unpad_laws = (AreBytes-take, AreBytes-all_bytes, padded_words-same)

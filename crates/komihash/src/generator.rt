@@ -105,9 +105,7 @@ where
     /// assert_eq!([restored.next(), restored.next()], [generator.next(), generator.next()]);
     /// ```
     #[must_use]
-    // The library for C needs it. In Rattle, it isn't stable, and Rust doesn't hide it.
-    // Rust instead:
-    #[doc(hidden)]
+    // The library for C needs it. In Rattle, it isn't stable.
     #[inline(always)]
     pub fn words(&self) -> (u64, u64)
         ensures { result ≡ self.now }

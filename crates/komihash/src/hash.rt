@@ -72,7 +72,7 @@ fn hash_of_words<const V: u8>(bytes: &[u8], seed: u64, tally: &mut Tally) -> u64
     hash_from_pair(pair, &bytes, last_whole_word(bytes), final_word, tally)
 }
 
-// One block needs no loop. What reads blocks stays out of callers, which would get long.
+// One block needs no loop. Functions that read blocks aren't inlined: callers would get long.
 #[inline(never)]
 fn hash_of_one_block<const V: u8>(bytes: &[u8], seed: u64, tally: &mut Tally) -> u64
     requires least { 64 ≤ length bytes.now }

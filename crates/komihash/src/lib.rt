@@ -12,14 +12,16 @@
 //! In one version, `komihash` and streams return the same hash for the same bytes and seed, however
 //! the bytes were cut. It is proved to be the hash that the definitions in `specs/` give.
 
-// `rust/erase.py` makes the crate for Rust of the other files. In them,
+// `rust/erase.py` makes the crate for Rust of the other files, but for `version`, which Rust has by
+// hand, and `laws`, `tally` and `tests`, which it lacks. In them,
 // - `Rattle alone.` begins what Rust lacks, up to an empty line;
 // - `Rust instead:` says what Rust has in place of the next line, perhaps nothing;
 // - for Rust alone are the examples in comments of items (CALLING has those for Rattle), `# Panics`,
 //   links in brackets, what is said of Rust, `version`, `Debug` and clippy, and "the type of both
 //   versions", which Rust's pages show beside the other name of a type;
-// - so are `const fn`, which calls that are `const` in Rust need, `repr` of public types, and
-//   `#[track_caller]`, whose function leaves the test of a length to the one that it calls.
+// - so are `const fn`, which calls that are `const` in Rust need, `repr` of `StreamedKomihash` and
+//   `Komirand`, and `#[track_caller]`, by which `erase.py` knows that the called function tests the
+//   length.
 
 #![tactic(auto)]
 

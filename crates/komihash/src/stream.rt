@@ -13,8 +13,7 @@ ghost use Rattle.komihash.specs.Stream.{Started, Absorbed, Answered};
 use crate::tally::Tally;
 pub use saved::LONGEST_TEXT;
 
-// Rust instead:
-#[doc(hidden)]
+// It is public for the library for C, and isn't stable.
 // Rust instead: mod raw;
 pub mod raw;
 mod saved;
@@ -25,8 +24,8 @@ pub(crate) mod streamed;
 /// The methods have other names than those of `StreamedKomihash`, so that the name alone tells
 /// which of the two a call means.
 /// `start`, `absorb`, `answer`, `store` and `restore` do what `new_with_seed`, `write`, `finish`,
-/// `save` and `resume` do. Use this trait for code that also serves streams of your own type,
-/// which may implement it, and otherwise [`StreamedKomihash<V>`](crate::version::StreamedKomihash).
+/// `save` and `resume` do. Streams of your own type may implement the trait. In Rust, code that
+/// serves no other streams can take [`StreamedKomihash<V>`](crate::version::StreamedKomihash).
 ///
 /// An implementation keeps three laws: `answer` is the hash of version `VERSION` with the seed, of
 /// the bytes so far, however cut; `restore` of what `store` wrote gives a stream with the same

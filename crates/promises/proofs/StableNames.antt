@@ -1,7 +1,6 @@
 -- The names of `komihash` that the contracts and proofs of callers may cite, with their arguments,
 -- file by file, and then the records with their fields. The change that takes one away, or changes
--- the number or the types of its arguments, fails here, and needs a new first number of the
--- version.
+-- the number or the types of its arguments, fails here, and needs a new major version.
 use Rattle.std.specs.Prelude.{ℕ, Bool, true, List, [], ◌∷◌, Option, ◌≡◌, ◌↔◌, ◌<◌, ◌≤◌, ◌+◌, ◌/◌}
 use Rattle.std.specs.Prelude.{◌++◌, ◌^◌, length, take, drop, slice_index}
 use Rattle.std.specs.Prelude.{IfSome, IfNone, IsSome, IsSomeAnd, IsNone}

@@ -10,7 +10,7 @@ use crate::rounds::{Lanes, absorb_blocks, block_round, close, join, lanes_of, pl
 use crate::version::{IsVersion, Versions};
 
 /// A stream of either version, which each call names. The calls do what those of `KomiStream` do.
-/// Rust callers use `StreamedKomihash`, whose type names the version. It and its parts are laid out
+/// Callers use `StreamedKomihash`, whose type names the version. It and its parts are laid out
 /// as C does, because it is also the stream of the library for C.
 #[repr(C)]
 #[derive(Clone, PartialEq, Eq)]

@@ -18,7 +18,7 @@ use crate::version::{IsVersion, Versions};
 use std::marker::Model;
 
 /// A stream of either version, which each call names. The calls do what those of `KomiStream` do.
-/// Rust callers use `StreamedKomihash`, whose type names the version. It and its parts are laid out
+/// Callers use `StreamedKomihash`, whose type names the version. It and its parts are laid out
 /// as C does, because it is also the stream of the library for C.
 #[repr(C)]
 #[derive(Drop)]
