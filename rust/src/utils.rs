@@ -34,8 +34,7 @@ fn half_word_at(bytes: &[u8], at: usize) -> u64 {
 pub(crate) fn read_partial_word(bytes: &[u8], end: u64) -> u64 {
     let n = bytes.len();
     if n >= 4 {
-        let last = half_word_at(bytes, n - 4) | end << 32;
-        half_word_at(bytes, 0) | (last >> (64 - 8 * n)) << 32
+        half_word_at(bytes, 0) | (half_word_at(bytes, n - 4) | end << 32) >> (64 - 8 * n) << 32
     } else if n > 0 {
         let middle = u64::from(bytes[n / 2]) << 8;
         let last = u64::from(bytes[n - 1]) << 16;
