@@ -1,5 +1,5 @@
-"""Tests the package that is installed: tests.py [OPTION..] [Tests.NAME..] [FILE..]. Options are
-those of unittest, and a file has rows as in rust/tests."""
+"""Tests the package that is installed: tests.py [OPTION..] [Tests.NAME..] [FILE.tsv..]. Options
+are those of unittest, and a file has rows as in rust/tests."""
 import array
 import copy
 import gc
@@ -256,9 +256,9 @@ class Tests(unittest.TestCase):
 
 
 if __name__ == "__main__":
-    arguments = [name for name in sys.argv if name.startswith(("-", "Tests"))]
-    FILES += [Path(name) for name in sys.argv[1:] if name not in arguments]
+    arguments = [name for name in sys.argv if not name.endswith(".tsv")]
+    FILES += [Path(name) for name in sys.argv if name not in arguments]
     missing = [str(file) for file in FILES if not file.exists()]
     if missing:
         sys.exit("missing: " + ", ".join(missing))
-    unittest.main(argv=sys.argv[:1] + arguments)
+    unittest.main(argv=arguments)

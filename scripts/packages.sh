@@ -70,9 +70,9 @@ tests_for() {
 # Writes 100,000 random calls, with the values that the crate for Rust gives. It also makes others.
 random_rows() {
     cargo run --manifest-path rust/Cargo.toml --offline --release --example random_rows 1 180000 |
-        grep -vE '^(stream|hash_one|order|next)' > "$scratch/rows"
+        grep -vE '^(stream|hash_one|order|next)' > "$scratch/rows.tsv"
 }
-all_rows() { cat rust/tests/*.tsv "$scratch/rows"; }
+all_rows() { cat rust/tests/*.tsv "$scratch/rows.tsv"; }
 # Whether tests fail, and print so many lines: fails COUNT COMMAND..
 fails() { ! "${@:2}" > "$scratch/failure" 2>&1 && [ "$(wc -l < "$scratch/failure")" = "$1" ]; }
 
@@ -87,9 +87,10 @@ python_package() {
     release python && mkdir "$scratch/s dist" &&
         tar -xzf "$packed"/python/*.tar.gz -C "$scratch/s dist" --strip-components=1 &&
         install_python &&
-        debian_python -W error "$scratch/s dist/tests.py" "$scratch/rows" &&
+        debian_python -W error "$scratch/s dist/tests.py" "$scratch/rows.tsv" &&
         debian_python -W error python/tests.py &&
-        fails 1 debian_python python/tests.py "$scratch/none" &&
+        debian_python python/tests.py -k errors 2>&1 | grep '^Ran 1 test ' &&
+        fails 1 debian_python python/tests.py "$scratch/none.tsv" &&
         debian_python -m doctest python/README.md
 }
 # Links an installed library for C, without which the modules can't be imported.
@@ -119,7 +120,7 @@ made_again() {
 all_right() { diff <(echo "$(all_rows | grep -cvE '^(#|unpad)') rows, 0 failures") -; }
 as_on_page() { diff <(sed -n 's|.*; // ||p' "$scratch/js/page.mjs") -; }
 js_in_node() {
-    node "$scratch/js/tests.mjs" "$scratch/rows" | all_right &&
+    node "$scratch/js/tests.mjs" "$scratch/rows.tsv" | all_right &&
         node js/tests.mjs && fails 1 node js/tests.mjs "$scratch/none" &&
         fails 2 node js/tests.mjs <(echo $'5\t0\t\tno hash') &&
         node "$scratch/js/page.mjs" | as_on_page
