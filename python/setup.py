@@ -25,7 +25,14 @@ USED = ("c/Makefile", "c/from_rust.sh", "c/exports.rs", "c/komihash_rattle.h", "
 STABLE = sys.version_info >= (3, 11) and not sysconfig.get_config_var("Py_GIL_DISABLED")
 
 # Whether to link the library that is installed, as distributors want it.
-SYSTEM = bool(os.environ.get("KOMIHASH_RATTLE_SYSTEM"))
+SYSTEM = os.environ.get("KOMIHASH_RATTLE_SYSTEM") == "1"
+
+if not SYSTEM and not (ABOVE / USED[0]).exists():
+    sys.exit(f"{ABOVE / 'c'} is missing: take the whole repository or a source distribution")
+
+# What the makefile would take from the environment, where it may be for something else.
+SETTINGS = (f"FROM={os.environ.get('KOMIHASH_RATTLE_FROM', '')}", "BUILD_STATIC=", "BUILD_SHARED=",
+            "CROSS=", "LEVEL=", "OPT=")
 
 
 class Build(build_ext):
@@ -38,7 +45,8 @@ class Build(build_ext):
         with tempfile.TemporaryDirectory(dir=ABOVE / "c") as folder:
             out, library = Path(folder).name, "/libkomihash_rattle.a"
             compiler = shlex.join(self.compiler.compiler)
-            self.spawn(["make", "-C", f"{ABOVE}/c", f"CC={compiler}", f"OUT={out}", out + library])
+            self.spawn(["make", "-C", f"{ABOVE}/c", f"CC={compiler}", f"OUT={out}", *SETTINGS,
+                        out + library])
             for extension in self.extensions:
                 extension.extra_objects = [folder + library]
             super().build_extensions()

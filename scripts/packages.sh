@@ -86,12 +86,15 @@ install_python() {
 python_package() {
     release python && mkdir "$scratch/s dist" &&
         tar -xzf "$packed"/python/*.tar.gz -C "$scratch/s dist" --strip-components=1 &&
-        install_python &&
+        ! KOMIHASH_RATTLE_FROM=rust RUSTC=none install_python &&
+        KOMIHASH_RATTLE_SYSTEM=0 FROM=alpine BUILD_SHARED=ON CROSS=none- install_python &&
         debian_python -W error "$scratch/s dist/tests.py" "$scratch/rows.tsv" &&
         debian_python -W error python/tests.py &&
         debian_python python/tests.py -k errors 2>&1 | grep '^Ran 1 test ' &&
         fails 1 debian_python python/tests.py "$scratch/none.tsv" &&
-        debian_python -m doctest python/README.md
+        debian_python -m doctest python/README.md &&
+        mkdir "$scratch/alone" && cp python/setup.py "$scratch/alone" &&
+        fails 1 debian_python "$scratch/alone/setup.py" build
 }
 # Links an installed library for C, without which the modules can't be imported.
 python_of_system() {
