@@ -130,13 +130,16 @@ class Tests(unittest.TestCase):
             self.assertRaises(BufferError, call, memoryview(LONG)[::2])
         for names in {"data": b""}, {"sead": 0}, {"seed": 0, "data": b""}:
             self.assertRaises(TypeError, komihash_int, b"", **names)
-        seeded = [lambda seed: komihash(seed=seed), lambda seed: komihash_int(b"", seed), Komirand]
-        seeded += [lambda seed: Komirand(0, seed), lambda seed: Komirand.from_words(0, seed)]
-        seeded += [lambda seed: Komirand.from_words(seed, 0)]
-        for call in seeded:
+        words = Komirand.from_words
+        seeded = [("seed", lambda seed: komihash(seed=seed)), ("s1", lambda s1: words(s1, 0))]
+        seeded += [("seed", lambda seed: komihash_int(b"", seed)), ("s2", lambda s2: words(0, s2))]
+        seeded += [("seed", Komirand), ("extra_seed", lambda extra: Komirand(0, extra))]
+        for name, call in seeded:
             call(2**64 - 1)
-            for seed, error in (-1, OverflowError), (2**64, OverflowError), (0.5, TypeError):
-                self.assertRaises(error, call, seed)
+            self.assertRaises(TypeError, call, 0.5)
+            for seed in -1, 2**64:
+                with self.assertRaisesRegex(OverflowError, f"^{name} must be from 0 to 2"):
+                    call(seed)
         self.assertRaises(ValueError, Komirand(0).fill, -1)
 
     def test_a_failed_call_changes_nothing(self):
@@ -174,7 +177,7 @@ class Tests(unittest.TestCase):
     def test_copies_of_generators(self):
         for version in v4, v5:
             original = version.Komirand(7)
-            originals = copies(original)
+            originals = [*copies(original), version.Komirand.from_words(*original.words())]
             outputs = {it.fill(19) for it in originals}
             self.assertEqual(outputs, {version.Komirand(7).fill(19)})
             self.assertEqual(len({it.next() for it in originals}), 1)
@@ -240,6 +243,8 @@ class Tests(unittest.TestCase):
                 it.hexdigest()
             for it in (Komirand.from_words(seed, seed), *copies(Komirand(seed, seed))):
                 it.fill(it.next() % 8)
+                it.words()
+            self.assertRaises(OverflowError, Komirand, 10 * seed)
             self.assertRaises(ValueError, komihash.resume, bytearray(8))
             self.assertRaises(BufferError, komihash, memoryview(bytearray(8))[::2], seed)
 

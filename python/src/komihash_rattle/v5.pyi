@@ -1,4 +1,4 @@
-from typing import ClassVar, SupportsIndex, TypeVar
+from typing import ClassVar, SupportsIndex, TypeVar, type_check_only
 
 from _typeshed import ReadableBuffer
 
@@ -8,6 +8,7 @@ _Generator = TypeVar("_Generator", bound=_Komirand)
 def komihash_int(data: ReadableBuffer, /, seed: SupportsIndex = 0) -> int: ...
 
 # What the classes of both versions have, of which none is a subclass of another.
+@type_check_only
 class _Komihash:
     name: ClassVar[str]
     digest_size: ClassVar[int]
@@ -28,12 +29,14 @@ class _Komihash:
     @classmethod
     def resume(cls: type[_Stream], text: ReadableBuffer, /) -> _Stream: ...
 
+@type_check_only
 class _Komirand:
     def __init__(self, seed: SupportsIndex, extra_seed: SupportsIndex | None = None) -> None: ...
     @classmethod
     def from_words(
         cls: type[_Generator], s1: SupportsIndex, s2: SupportsIndex, /
     ) -> _Generator: ...
+    def words(self) -> tuple[int, int]: ...
     def next(self) -> int: ...
     def fill(self, length: SupportsIndex, /) -> bytes: ...
 

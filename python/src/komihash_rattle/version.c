@@ -26,13 +26,14 @@ typedef struct {
     KOMIHASH(_rand) state;
 } Generator;
 
-static bool is_word(PyObject *number, uint64_t *word) {
+static bool is_word(PyObject *number, const char *name, uint64_t *word) {
     PyObject *index = PyNumber_Index(number);
     if (index == NULL)
         return false;
     *word = PyLong_AsUnsignedLongLong(index);
     Py_DECREF(index);
-    return *word != UINT64_MAX || !PyErr_Occurred();
+    return *word != UINT64_MAX || !PyErr_Occurred() ||
+        PyErr_Format(PyExc_OverflowError, "%s must be from 0 to 2**64 - 1", name) != NULL;
 }
 
 static bool has_bytes(PyObject *data, Py_buffer *bytes) {
@@ -49,7 +50,7 @@ static PyObject *hash(PyObject *module, PyObject *const *args, Py_ssize_t count,
     if (count < 1 || all > 2 ||
         (all > count && PyUnicode_CompareWithASCIIString(PyTuple_GetItem(names, 0), "seed") != 0))
         return PyErr_Format(PyExc_TypeError, "komihash_int takes the arguments (data, /, seed=0)");
-    if ((all == 2 && !is_word(args[1], &seed)) || !has_bytes(args[0], &bytes))
+    if ((all == 2 && !is_word(args[1], "seed", &seed)) || !has_bytes(args[0], &bytes))
         return NULL;
     PyThreadState *thread = bytes.len < MANY ? NULL : PyEval_SaveThread();
     hash = KOMIHASH()(bytes.buf, (size_t)bytes.len, seed);
@@ -119,7 +120,7 @@ static int start_stream(PyObject *self, PyObject *args, PyObject *names) {
     int ignored;
     if (!PyArg_ParseTupleAndKeywords(args, names, "|OO$p:komihash", known, &data, &number,
                                      &ignored) ||
-        (number != NULL && !is_word(number, &seed)))
+        (number != NULL && !is_word(number, "seed", &seed)))
         return -1;
     const KOMIHASH(_stream) before = state_of(self);
     set_state(self, KOMIHASH(_start)(seed));
@@ -239,7 +240,8 @@ static int start_generator(PyObject *self, PyObject *args, PyObject *names) {
     PyObject *number, *extra = Py_None;
     uint64_t seed, extra_seed;
     if (!PyArg_ParseTupleAndKeywords(args, names, "O|O:Komirand", known, &number, &extra) ||
-        !is_word(number, &seed) || !is_word(extra == Py_None ? number : extra, &extra_seed))
+        !is_word(number, "seed", &seed) ||
+        !is_word(extra == Py_None ? number : extra, "extra_seed", &extra_seed))
         return -1;
     ((Generator *)self)->state = KOMIHASH(_rand_init_with_extra_seed)(seed, extra_seed);
     return 0;
@@ -249,7 +251,7 @@ static PyObject *from_words(PyObject *type, PyObject *args) {
     PyObject *numbers[2];
     uint64_t s1, s2;
     if (!PyArg_ParseTuple(args, "OO:from_words", &numbers[0], &numbers[1]) ||
-        !is_word(numbers[0], &s1) || !is_word(numbers[1], &s2))
+        !is_word(numbers[0], "s1", &s1) || !is_word(numbers[1], "s2", &s2))
         return NULL;
     PyObject *self = new_generator((PyTypeObject *)type, NULL, NULL);
     if (self != NULL)
@@ -271,13 +273,16 @@ static PyObject *fill(PyObject *self, PyObject *number) {
     return bytes;
 }
 
+static PyObject *words(PyObject *self, PyObject *unused) {
+    const uint64_t *state = ((Generator *)self)->state.state;
+    return Py_BuildValue("KK", (unsigned long long)state[0], (unsigned long long)state[1]);
+}
+
 static PyObject *reduce_generator(PyObject *self, PyObject *unused) {
-    const uint64_t *words = ((Generator *)self)->state.state;
     PyObject *extra = extra_state(self);
     return extra == NULL
         ? NULL
-        : Py_BuildValue("N(KK)N", class_method(self, "from_words"), (unsigned long long)words[0],
-                        (unsigned long long)words[1], extra);
+        : Py_BuildValue("NNN", class_method(self, "from_words"), words(self, NULL), extra);
 }
 
 #define DOC(call, text) PyDoc_STR(call "\n--\n\n" text)
@@ -310,6 +315,8 @@ static PyType_Slot stream_slots[] = {
 static PyMethodDef generator_methods[] = {
     {"from_words", from_words, METH_VARARGS | METH_CLASS,
      DOC("from_words($type, s1, s2, /)", "Return the generator that has these two ints as state.")},
+    {"words", words, METH_NOARGS,
+     DOC("words($self)", "Return the state as two ints, which from_words() takes.")},
     {"next", next, METH_NOARGS, DOC("next($self)", "Return the next output, an int below 2**64.")},
     {"fill", fill, METH_O,
      DOC("fill($self, length, /)", "Return the bytes of the next outputs, the lowest first.")},
