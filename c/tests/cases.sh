@@ -3,12 +3,12 @@
 # names have it in them, and those that others need. Above the last line stands how to run alone
 # what failed.
 export LC_ALL=C
-passed=0 failed=0 skipped=0 CASE=${CASE:-} alone="bash $0"
+passed=0 failed=0 skipped=0 met= CASE=${CASE:-} alone="bash $0"
 scratch=$(mktemp -d) && scratch=$(realpath "$scratch") || exit
 trap 'rm -rf "$scratch"' EXIT
 : > "$scratch/to_run"
 
-wanted() { case $1 in *"$CASE"*) ;; *) false ;; esac; }
+wanted() { case $1 in *"$CASE"*) met=${CASE:-$met} ;; *) false ;; esac; }
 # Runs a case that others need: always COMMAND..
 always() {
     only=$CASE CASE=
@@ -48,6 +48,7 @@ needs() {
 
 counted() {
     cat "$scratch/to_run"
+    [ "$met" = "$CASE" ] || echo "FAILED: no case has '$CASE' in its name"
     echo "$passed passed, $failed failed$([ "$skipped" = 0 ] || echo ", $skipped skipped")"
-    [ "$failed" = 0 ] && [ "$passed$skipped" != 00 ]
+    [ "$failed" = 0 ] && [ "$passed$skipped" != 00 ] && [ "$met" = "$CASE" ]
 }
