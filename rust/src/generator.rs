@@ -84,8 +84,8 @@ where
     /// let mut restored = Komirand::new(s1, s2);
     /// assert_eq!([restored.next(), restored.next()], [generator.next(), generator.next()]);
     /// ```
+    // The library for C reads the pair by this. In Rattle, it isn't stable.
     #[must_use]
-    // The library for C needs it. In Rattle, it isn't stable.
     #[inline(always)]
     pub const fn words(&self) -> (u64, u64) {
         (self.s1, self.s2)

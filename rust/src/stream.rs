@@ -16,10 +16,10 @@ pub(crate) mod streamed;
 /// `save` and `resume` do. Streams of your own type may implement the trait. In Rust, code that
 /// serves no other streams can take [`StreamedKomihash<V>`](crate::version::StreamedKomihash).
 ///
-/// An implementation keeps three laws: `answer` is the hash of version `VERSION` with the seed, of
+/// In Rust, where nothing checks it, an implementation keeps three laws: `answer` is the hash of version `VERSION` with the seed, of
 /// the bytes so far, however cut; `restore` of what `store` wrote gives a stream with the same
 /// answers, also to later bytes; and `store` writes at most [`LONGEST_TEXT`] bytes, and changes
-/// no others.
+/// no others. There, no call has a tally:
 ///
 /// ```
 /// use komihash_rattle::stream::KomiStream;

@@ -47,7 +47,7 @@ hash_from_lanes-after_block v s (w0 ∷ w1 ∷ w2 ∷ w3 ∷ w4 ∷ w5 ∷ w6 �
     grind (arith, drops, more)
 hash_from_lanes-after_block v s ws final = refl
 
--- eight words or more and the final word make a block, so it is the same if there was one before
+-- eight words or more and the final word make a block, so `had_block` makes no difference
 hash_from_lanes-first_block : (v : ℕ) (s : Lanes) (ws : List ℕ) (final : ℕ) → 8 ≤ length ws
     → hash_from_lanes v s false (ws ++ final ∷ []) ≡ hash_from_lanes v s true (ws ++ final ∷ [])
 hash_from_lanes-first_block v s (w0 ∷ w1 ∷ w2 ∷ w3 ∷ w4 ∷ w5 ∷ w6 ∷ w7 ∷ []) final le = refl

@@ -9,7 +9,7 @@ use Rattle.komihash.specs.Words.{AreBytes, words_of}
 abbrev pub has_two : ℕ → Bool
 has_two v = v == 4
 
--- the same as a proposition: such a version must keep the top bit
+-- `has_two` as a proposition: such a version must keep the top bit
 abbrev pub KeepsTopBit : ℕ → Type 0
 KeepsTopBit v = v ≡ 4
 

@@ -48,7 +48,7 @@ pub record Stored (v : ℕ) (now : State) (out : Mut (List ℕ)) (result : ℕ) 
       → IsTextAfter v seed m (take result out.exit.now)
   pub version : (w : ℕ) (s : State) → IsState w s → text w s ≡ text v now → w ≡ v
   pub only : (w : ℕ) (s : State) → IsState w s → text w s ≡ text v now → s ≡ now
-  -- what the call does; below these fields, their names no longer mean the functions
+  -- what the call does, last because a field hides the function of its name in later fields
   pub length : result ≡ length (text v now)
   pub text : take result out.exit.now ≡ text v now
   pub rest : drop result out.exit.now ≡ drop result out.entry.now

@@ -90,7 +90,7 @@ pub fn pad<const V: u8>(bytes: &[u8], out: &mut [u64]) -> usize
 where
     Versions: IsVersion<V>,
     requires { length bytes.now / 8 + 1 ≤ length out.old }
-    // These are the fields of `Padded`, of which the search finds more proofs one by one.
+    // These are the fields of `Padded`, one by one, because the search then proves more.
     ensures count { result ≡ length bytes.now / 8 + 1 }
     ensures padded { take result out.new ≡ padded_words V bytes.now }
     ensures only { (m : List ℕ) → AreBytes m → padded_words V m ≡ padded_words V bytes.now

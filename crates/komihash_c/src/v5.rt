@@ -25,6 +25,8 @@ pub struct Stream {
 
 const _: () = prove!(size_of::<Stream>() == 144);
 
+const _: () = prove!(align_of::<Stream>() == 8);
+
 /// Returns the hash of a message with a seed.
 #[unsafe(no_mangle)]
 pub extern "C" fn komihash_v5(bytes: &[u8], seed: u64) -> u64

@@ -10,8 +10,8 @@ use crate::rounds::{Lanes, absorb_blocks, block_round, close, join, lanes_of, pl
 use crate::version::{IsVersion, Versions};
 
 /// A stream of either version, which each call names. The calls do what those of `KomiStream` do.
-/// Callers use `StreamedKomihash`, whose type names the version. It and its parts are laid out
-/// as C does, because it is also the stream of the library for C.
+/// Callers use `StreamedKomihash`, whose type names the version. A `RawStream` and its parts are
+/// laid out as C does, because it is also the stream of the library for C.
 #[repr(C)]
 #[derive(Clone, PartialEq, Eq)]
 pub struct RawStream {

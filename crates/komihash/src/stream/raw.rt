@@ -18,8 +18,8 @@ use crate::version::{IsVersion, Versions};
 use std::marker::Model;
 
 /// A stream of either version, which each call names. The calls do what those of `KomiStream` do.
-/// Callers use `StreamedKomihash`, whose type names the version. It and its parts are laid out
-/// as C does, because it is also the stream of the library for C.
+/// Callers use `StreamedKomihash`, whose type names the version. A `RawStream` and its parts are
+/// laid out as C does, because it is also the stream of the library for C.
 #[repr(C)]
 #[derive(Drop)]
 pub struct RawStream {
@@ -158,7 +158,7 @@ impl RawStream {
     where
         Versions: IsVersion<V>,
         requires { LONGEST_TEXT ≤ length out.old }
-        // These are the fields of `Stored`, of which the search finds more proofs one by one.
+        // These are the fields of `Stored`, one by one, because the search then proves more.
         ensures length { result ≡ length (text V self.now) }
         ensures most { result ≤ LONGEST_TEXT }
         ensures version { IsState V self.now → (w : ℕ) (s : State) → IsState w s
