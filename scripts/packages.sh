@@ -36,9 +36,10 @@ names_for_macos() {
             <(grep -aoE '\b_komihash_v\w+' "$library" | cut -c2- | sort -u)
 }
 
-# Whether the crate for Rust is what the script makes of the source, but for files by hand.
+# Whether the package for C makes its crate for Rust anew, but for files by hand.
 erased() {
-    mkdir "$scratch/erased" && python3 -B rust/erase.py crates/komihash/src "$scratch/erased" &&
+    cd "$scratch"/libkomihash_rattle-*/ && mkdir "$scratch/erased" &&
+        python3 -B rust/erase.py crates/komihash/src "$scratch/erased" &&
         diff -r -x lib.rs -x version.rs -x traits.rs -x io.rs "$scratch/erased" rust/src
 }
 
@@ -114,7 +115,7 @@ js_package() {
 # Whether a copy with other times makes packages of the same bytes, and nothing is left in it.
 made_again() {
     mkdir "$scratch/copy" &&
-        tar --create --exclude=out --exclude=target LICENSE c js python rust scripts |
+        tar --create --exclude=out --exclude=target LICENSE c crates js python rust scripts |
         tar --extract --touch --directory="$scratch/copy" &&
         (cd "$scratch/copy" && find . | sort > "$scratch/files" &&
             PYTHON=/usr/bin/python3 bash scripts/release.sh "$scratch/again" c js python &&
