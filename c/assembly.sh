@@ -3,11 +3,11 @@
 # Rattle kit, whose compiler proves the crate before it makes anything of it.
 set -euo pipefail
 folder=$(realpath -m "$1")
-rt=$(command -v rt) || { echo 'assembly.sh: there is no rt, the Rattle kit' >&2; exit 1; }
+cd "$(dirname "${BASH_SOURCE[0]}")/../crates/komihash_c" 2> /dev/null && rt=$(command -v rt) ||
+    { echo 'assembly.sh needs the repository, and rt, the Rattle kit' >&2; exit 1; }
 kit=$(dirname "$(dirname "$(readlink -f "$rt")")")
 scratch=$(mktemp -d)
 trap 'rm -rf "$scratch"' EXIT
-cd "$(dirname "${BASH_SOURCE[0]}")/../crates/komihash_c"
 
 # The kit's toolchain, whose clang here edits the module that it gets, and also writes the assembly.
 # - The module adds 4096 to a null pointer, which takes instructions. The edit adds 0: where a
