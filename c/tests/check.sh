@@ -23,7 +23,8 @@ Darwin) linked="$lib/$dylib" soname=$dylib ;;
 esac
 case $CC in *clang*) clang= ;; esac
 program=$scratch/program${exe=}
-export LD_LIBRARY_PATH="$lib" WINEPATH="Z:$prefix/bin" PKG_CONFIG_PATH="$lib/pkgconfig"
+loaded=${LD_LIBRARY_PATH:+:$LD_LIBRARY_PATH} # Tools such as fakeroot need it.
+export LD_LIBRARY_PATH="$lib$loaded" WINEPATH="Z:$prefix/bin" PKG_CONFIG_PATH="$lib/pkgconfig"
 export DYLD_LIBRARY_PATH="$lib"
 unset MAKEFLAGS PREFIX BINDIR LIBDIR INCLUDEDIR DOCDIR DESTDIR BUILD_SHARED BUILD_STATIC
 
@@ -141,7 +142,7 @@ beside_a_copy() {
 # Calls both versions in a shared library, with a signal at each of its instructions.
 with_signals() {
     mkdir -p "$scratch/only" && cp "$1" "$scratch/only" || return
-    LD_LIBRARY_PATH="$scratch/only"
+    LD_LIBRARY_PATH="$scratch/only$loaded"
     calls "$scratch/only/$soname" signals.c
 }
 
@@ -193,7 +194,7 @@ by_cmake() { # Runs komihashsum, as CMake installs it.
         printf a | $RUN "$by_cmake/bin/komihashsum$exe"
 }
 fetched_by_cmake() {
-    LD_LIBRARY_PATH=/none
+    LD_LIBRARY_PATH="/none$loaded"
     by_cmake examples -D "PACKAGE=$scratch/libkomihash_rattle-$version.tar.gz" \
         -D BUILD_SHARED_LIBS=ON
 }
@@ -219,7 +220,7 @@ one_kind() { # MAKE_OPTION CMAKE_OPTION NAME
     build install "PREFIX=$scratch/one" "$1" && cmake_installs . -D "$2" || return
     files_of "$scratch/one" > "$scratch/files"
     files_of "$by_cmake" | diff "$scratch/files" - && ! grep -F "/$3" "$scratch/files" || return
-    LD_LIBRARY_PATH="$scratch/one/lib" WINEPATH="Z:$scratch/one/bin"
+    LD_LIBRARY_PATH="$scratch/one/lib$loaded" WINEPATH="Z:$scratch/one/bin"
     prints "$hash_of_a" by_cmake examples -D "CMAKE_PREFIX_PATH=$scratch/one" &&
         build uninstall "PREFIX=$scratch/one" && gone "$scratch/one"
 }
