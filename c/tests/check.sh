@@ -185,7 +185,7 @@ by_cmake="$scratch/by 'CMake'"
 cmake_installs() {
     rm -rf "$scratch/c 'make'" "$by_cmake"
     cmake -B "$scratch/c 'make'" -D "CMAKE_C_COMPILER=$CC" -D "KOMIHASH_RATTLE_FROM=$FROM" \
-        ${CROSS:+-D "CMAKE_SYSTEM_NAME=$system" -D "CMAKE_SYSTEM_PROCESSOR=${machine%%-*}"} \
+        ${CROSS:+${exe:+-D CMAKE_SYSTEM_NAME=Windows}} \
         -D "CMAKE_INSTALL_PREFIX=$by_cmake" -D CMAKE_INSTALL_LIBDIR=lib -S "$@" >&2 &&
         cmake --build "$scratch/c 'make'" >&2 && cmake --install "$scratch/c 'make'" >&2
 }
