@@ -206,9 +206,11 @@ original_by_package() { # LIBDIR
 installed_by_cmake() {
     cmake_installs . -D "CMAKE_INSTALL_LIBDIR=$scratch/apart" &&
         original_by_package "$scratch/apart" || return
-    moved="$scratch/a new folder"
-    cmake_installs . && mv "$by_cmake" "$moved" || return
-    LD_LIBRARY_PATH="$moved/lib" WINEPATH="Z:$moved/bin"
+    cmake_installs . && rm -r "$by_cmake" && moved="$scratch/a new folder" &&
+        DESTDIR="$scratch/cmake" cmake --install "$scratch/c 'make'" --prefix /usr &&
+        grep -x prefix=/usr "$scratch/cmake/usr/lib/pkgconfig/komihash_rattle.pc" &&
+        cmake --install "$scratch/c 'make'" --prefix "$moved" || return
+    LD_LIBRARY_PATH="$moved/lib$loaded" WINEPATH="Z:$moved/bin"
     original_by_package "$moved/lib" && files_of "$prefix" > "$scratch/files" &&
         files_of "$moved" | diff "$scratch/files" - &&
         rm "$moved/lib/libkomihash_rattle.a" && # as some distributions do
