@@ -204,8 +204,9 @@ original_by_package() { # LIBDIR
         runs_by_package komihash_rattle_komihash_h tests/original.c
 }
 installed_by_cmake() {
-    cmake_installs . -D "CMAKE_INSTALL_LIBDIR=$scratch/apart" &&
+    cmake_installs . -D "CMAKE_INSTALL_LIBDIR=$scratch/apart" -D CMAKE_C_FLAGS=-g &&
         original_by_package "$scratch/apart" || return
+    [ "$from" = rust ] || "${CROSS}objdump" -h "$scratch/apart/$soname" | grep debug_line || return
     cmake_installs . && rm -r "$by_cmake" && moved="$scratch/a new folder" &&
         DESTDIR="$scratch/cmake" cmake --install "$scratch/c 'make'" --prefix /usr &&
         grep -x prefix=/usr "$scratch/cmake/usr/lib/pkgconfig/komihash_rattle.pc" &&
@@ -358,6 +359,8 @@ if [ ! "$CROSS" ]; then
         needs "${compiler%% *}" "the names of the C original, by $compiler" \
             original -x c++ -std=c++11
     done
+    needs cmake 'the tests, by ctest' sh -c 'cmake -B "$0" . && cd "$0" &&
+        CASE="an empty PREFIX" ctest --no-tests=error --output-on-failure' "$scratch/ctest"
     compiler='musl-gcc -static'
     needs musl-gcc 'calls.c with musl' prints "$values" calls "$archive"
     needs gdb 'gdb finds main from each instruction of the library' unwinds "$archive" 4 5
