@@ -16,9 +16,13 @@ target=${RUST_TARGET:-$(echo "$machine" | sed -E 's/^arm64/aarch64/; s/^i[345]86
 
 fail() { echo "komihash_rattle for $machine is built from Rust, and $1" >&2; exit 1; }
 command -v "${rustc%% *}" > /dev/null || fail "there is no Rust compiler '$rustc'"
-libraries=$($rustc --target "$target" --print target-libdir 2> /dev/null) &&
-    ls "$libraries"/libcore[-.]* > /dev/null 2>&1 ||
-    fail "'$rustc' has no core library for $target: try 'rustup target add $target', or name
+# Distributions may name a Linux otherwise. If `cc` compiles for it, it is the host of rustc.
+host=$([ "${RUST_TARGET:-}" ] || [ "$(cc -dumpmachine 2> /dev/null)" != "$machine" ] ||
+    $rustc -vV | sed -n 's/^host: \(.*-linux-\)/\1/p')
+for target in "$target" $host; do
+    libraries=$($rustc --target "$target" --print target-libdir 2> /dev/null) &&
+        ls "$libraries"/libcore[-.]* > /dev/null 2>&1 && break
+done || fail "'$rustc' has no core library for $target: try 'rustup target add $target', or name
 the target in another way by RUST_TARGET"
 
 scratch=$(mktemp -d)

@@ -282,6 +282,10 @@ END
         "$NM" "$by_cmake/bin/komihashsum$exe" | grep 'T komihash_v5$' &&
         cat "$by_cmake"/*/"$soname" > "$scratch/library" && $RUN "$by_cmake/bin/original$exe"
 }
+for_host() {
+    printf '#!/bin/sh\necho sun4-linux\n' > "$scratch/cc" && chmod +x "$scratch/cc" &&
+        PATH=$scratch:$PATH sh from_rust.sh sun4-linux "$scratch/host.o"
+}
 other_source() { FROM=assembly fails 'may be rust' cmake_installs .; }
 other_machine() {
     OUT=$scratch/other && build all && echo sun4-linux > "$OUT/machine" &&
@@ -361,6 +365,7 @@ if [ ! "$CROSS" ]; then
     done
     needs cmake 'the tests, by ctest' sh -c 'cmake -B "$0" . && cd "$0" &&
         CASE="an empty PREFIX" ctest --no-tests=error --output-on-failure' "$scratch/ctest"
+    needs rustc 'a machine that rustc calls otherwise' for_host
     compiler='musl-gcc -static'
     needs musl-gcc 'calls.c with musl' prints "$values" calls "$archive"
     needs gdb 'gdb finds main from each instruction of the library' unwinds "$archive" 4 5
