@@ -34,6 +34,8 @@ each_file() {
         "$1" 644 "$file" "$libdir/cmake/komihash_rattle/${file##*/}"
     done
     for file in $libraries; do
+        # An older build for AVX2 may not stay, because glibc prefers it.
+        rm -f "${DESTDIR-}$libdir/glibc-hwcaps/x86-64-v3/$file" "${DESTDIR-}$libdir/${file%.a}_v3.a"
         case $file in
         *.dll) "$1" 755 "$OUT/$file" "$bindir/$file" ;;
         *.a | *.def) "$1" 644 "$OUT/$file" "$libdir/$file" ;;

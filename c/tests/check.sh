@@ -290,7 +290,12 @@ other_source() { FROM=assembly fails 'may be rust' cmake_installs .; }
 other_machine() {
     OUT=$scratch/other && build all && echo sun4-linux > "$OUT/machine" &&
         fails 'was built for sun4-linux' build install "PREFIX=$OUT" &&
-        build all > "$scratch/made" && grep -E -- '-o [^ ]+\.o |from_rust' "$scratch/made"
+        build all > "$scratch/made" && grep -E -- '-o [^ ]+\.o |from_rust' "$scratch/made" &&
+        echo "$machine" | sed 's/-/-vendor-/' > "$OUT/machine" && build install "PREFIX=$OUT/as"
+}
+older_build() {
+    build install "PREFIX=$scratch/older" && build install "PREFIX=$scratch/older" v3= &&
+        ! find "$scratch/older" -type f | grep v3
 }
 only_the_program() {
     build install "PREFIX=$scratch/only program" BUILD_SHARED=no BUILD_STATIC=no &&
@@ -409,6 +414,7 @@ needs cmake 'the static libraries alone' \
     one_kind BUILD_SHARED=no BUILD_SHARED_LIBS=OFF "${linked##*/}"
 run_case 'komihashsum alone is installed' only_the_program
 run_case 'what was built for another machine' other_machine
+run_case 'an older build for AVX2 does not stay' older_build
 needs cmake 'another source than rust' other_source
 
 . ./tests/komihashsum.sh
