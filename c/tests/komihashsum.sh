@@ -172,7 +172,39 @@ tagged() (
         head -n 4 tags | komihashsum -4s9 -cw --status
 )
 
+# Whether files about as long as a read, and a far longer one, have the hashes that the Rust crate
+# komihash 0.5.0 gives, by name and in a pipe that is written in uneven pieces.
+hashes_long_files() (
+    cd "$scratch" && sizes='131071 131072 131073 1000001' || return
+    for size in $sizes; do seq 160000 | head -c "$size" > "$size"; done
+    for kind in -4 -4s7 -s0 -s7; do
+        komihashsum "$kind" --tag $sizes
+        for size in $sizes; do
+            { dd bs=1 count=1; dd bs=70001 count=1; cat; } < "$size" |
+                komihashsum "$kind" --tag | sed "s/(-)/($size)/"
+        done
+    done | sort | uniq -d > long && diff - long << END
+KOMIHASH4 (1000001) = f62564efc06d9851
+KOMIHASH4 (131071) = d8567d4ffa83537d
+KOMIHASH4 (131072) = 6721cab209948047
+KOMIHASH4 (131073) = e19c8c80ca241638
+KOMIHASH4-7 (1000001) = 169a01f84ba6ecb1
+KOMIHASH4-7 (131071) = 1cfa9d738e438149
+KOMIHASH4-7 (131072) = 289bc4ba3843c9e8
+KOMIHASH4-7 (131073) = 1ad7e311e3b07f7a
+KOMIHASH5 (1000001) = 89a4257ae0663274
+KOMIHASH5 (131071) = a2dd7aa6e8a8984a
+KOMIHASH5 (131072) = 4f74dce21a19bb1d
+KOMIHASH5 (131073) = dc3d77b42f1503c2
+KOMIHASH5-7 (1000001) = 8b1216e507dc460b
+KOMIHASH5-7 (131071) = eacdd27e8ec61b10
+KOMIHASH5-7 (131072) = e21a9da53ccbff17
+KOMIHASH5-7 (131073) = 2090234bf4d17c45
+END
+)
+
 run_case 'komihashsum, versions and seeds' seeded
+run_case 'komihashsum, long files, by name and through pipes' hashes_long_files
 run_case 'komihashsum, lines that tell version and seed' tagged
 run_case 'komihashsum, a decimal seed' prints '615eba9060114e6f  -' \
     komihashsum -s 09223372036854775808 < /dev/null
