@@ -116,16 +116,16 @@ static char *quote(const char *name) {
     return text;
 }
 
-/* Prints at most so many bytes of a name and a problem to standard error. */
-static void show(const char *format, int most, const char *name, const char *problem) {
+/* Prints a name and a problem to standard error. */
+static void show(const char *format, const char *name, const char *problem) {
     char *text = quote(name);
-    fprintf(stderr, format, most, text ? text : "", problem);
+    fprintf(stderr, format, text ? text : "", problem);
     free(text);
 }
 
 /* Reports a problem with a file, and returns false. */
 static bool fail(const char *name, const char *problem) {
-    show("komihashsum: %.*s: %s\n", INT_MAX, name, problem);
+    show("komihashsum: %s: %s\n", name, problem);
     return false;
 }
 
@@ -145,20 +145,20 @@ static int flush(void) {
 /* Opens a file, and returns its number, which is 0 for standard input, or -1. */
 static int open_file(const char *name);
 
-/* Shows once a second how much of a file was read, in the place of what was shown before. */
-#define CLEAR "\r%79s\r"
-static bool is_shown;
+/* Shows once a second, in one row in the place of the last, how much of a file was read. */
+#define CLEAR "\r\033[K"
 static void show_progress(int file, const char *name, uint64_t length) {
     static time_t last;
     struct stat about;
     if (!progress || time(NULL) == last)
         return;
     last = time(NULL);
-    is_shown = true;
-    fprintf(stderr, CLEAR "%" PRIu64, "", length >> 20);
+    fprintf(stderr, CLEAR "\033[?7l%" PRIu64, length >> 20);
     if (fstat(file, &about) == 0 && about.st_size)
         fprintf(stderr, " of %" PRIu64, (uint64_t)about.st_size >> 20);
-    show(" MiB  %.*s%s", 50, name, "");
+    while (strlen(name) > 50 || (*name & 0xC0) == 0x80) /* within a character of UTF-8 */
+        name++;
+    show(" MiB  %s%s\033[?7h", name, "");
 }
 
 /* Sets the hash to that of a file, and returns 0. If the file can't be read, returns why. */
@@ -176,9 +176,8 @@ static int hash_file(const char *name, struct kind *kind) {
         show_progress(file, name, total += length);
     }
     const int error = length < 0 ? errno : 0;
-    if (is_shown)
-        fprintf(stderr, CLEAR, "");
-    is_shown = false;
+    if (progress)
+        fputs(CLEAR, stderr);
     if (file > 0)
         close(file);
     kind->hash = kind->version == 4 ? komihash_v4_finish(&stream_4) : komihash_v5_finish(&stream_5);
@@ -435,6 +434,7 @@ int main(void) {
             WideCharToMultiByte(CP_UTF8, 0, wide[k], -1, names[k], 3 * wcslen(wide[k]) + 1, 0, 0);
     _setmode(0, _O_BINARY);
     _setmode(1, _O_BINARY);
+    SetConsoleMode(GetStdHandle(STD_ERROR_HANDLE), 7); /* 7 lets a console read CLEAR. */
     return names ? run(count, names) : 1;
 }
 #else

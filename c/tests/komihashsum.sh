@@ -137,14 +137,17 @@ refuses() {
         fails "^komihashsum: --$option: .* not for --check" komihashsum -c "--$option" || return
     done
 }
-# What a terminal gets, between carriage returns.
-shows_progress() {
-    odd=$scratch/large$(printf '\033') && ln -s tree/large "$odd" || return
-    script -qec "$RUN '$built' --progress '$odd'" /dev/null \
+# What a terminal gets, between carriage returns: of a long name, characters in the last 50 bytes.
+shows_progress() (
+    export LC_ALL=C.UTF-8 clear="$(printf '\033[K')"
+    end=$(printf %21s | sed 's/ /ü/g').large odd=$scratch/üüüü$end$(printf '\033')
+    ln -s tree/large "$odd" && script -qec "$RUN '$built' --progress '$odd'" /dev/null \
         < /dev/null | tr '\r' '\n' > "$scratch/shown"
-    grep "^0 of 0 MiB  .*large'\$'.033'" "$scratch/shown" && grep "^$(komihashsum "$odd")" \
-        "$scratch/shown" && ! komihashsum --progress "$odd" 2>&1 | grep MiB
-}
+    printf "\033[?7l0 of 0 MiB  '%s'\$'\\\\033'\033[?7h" "$end" > "$scratch/row"
+    grep -Fx "$clear$(cat "$scratch/row")" "$scratch/shown" &&
+        grep -F "$clear$(komihashsum "$odd")" "$scratch/shown" &&
+        ! komihashsum --progress "$odd" 2>&1 | grep -F "$clear"
+)
 # Whether lists whose lines fill the memory for them are read within it.
 within_memory() {
     $CC -g -fsanitize=address,undefined -I. -o "$scratch/sanitized" komihashsum.c "$archive" &&
