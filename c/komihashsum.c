@@ -63,7 +63,7 @@ static const struct option OPTIONS[] = {
     {"seed", required_argument, NULL, 's'},
     {"status", no_argument, &told, STATUS},
     {"strict", no_argument, &strict, 1},
-    {"tag", no_argument, &tag, 1},
+    {"tag", no_argument, NULL, 'T'},
     {"text", no_argument, NULL, 't'},
     {"version", no_argument, NULL, 'v'},
     {"warn", no_argument, &told, WARN},
@@ -396,6 +396,7 @@ static int run(int count, char **arguments) {
         case 'b': mark = '*'; break;
         case 'c': check = 1; break;
         case 'h': fputs(HELP, stdout); return flush();
+        case 'T': tag = 1, mark = 0; break;
         case 't': mark = ' '; break;
         case 'v': puts("komihashsum " KOMIHASH_RATTLE_VERSION); return flush();
         case 'w': told = WARN; break;
