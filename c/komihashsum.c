@@ -49,8 +49,8 @@ static const char HELP[] =
 
 /* What is told of a check: the last of these options counts. */
 enum { ALL, QUIET, STATUS, WARN };
-static int check, ignore_missing, progress, strict, tag, told;
-static struct kind { int version; uint64_t seed, hash; } given = {5, 0, 0};
+static int check, ignore_missing, progress, strict, tag, told, untagged_failures;
+static struct kind { int version; uint64_t seed, hash; bool is_tagged; } given = {.version = 5};
 static char mark, line_end = '\n'; /* what stands before a name, if asked for, and after a line */
 static unsigned char bytes[131072];
 static const struct option OPTIONS[] = {
@@ -287,10 +287,11 @@ static char *parse_line(char *line, char *last, struct kind *kind) {
     line += strspn(line, BLANKS);
     const bool is_escaped = *line == '\\';
     line += is_escaped;
-    if (strncmp(line, "KOMIHASH4", 9) == 0 || strncmp(line, "KOMIHASH5", 9) == 0)
+    kind->is_tagged = strncmp(line, "KOMIHASH4", 9) == 0 || strncmp(line, "KOMIHASH5", 9) == 0;
+    if (kind->is_tagged)
         return parse_tag(line + 8, last, is_escaped, kind);
     if (strspn(line, DIGITS) != 16 || (line[16] != ' ' && line[16] != '\t') ||
-        (line[17] != ' ' && line[17] != '*') || !line[18] ||
+        (line[17] != ' ' && line[17] != '*') || line + 18 == last ||
         (is_escaped && !unescape(line + 18, last)))
         return NULL;
     kind->hash = strtoull(line, NULL, 16);
@@ -310,6 +311,7 @@ static int check_file(const char *name, struct kind kind) {
     if (error)
         fail(name, strerror(error));
     const int result = error ? UNREADABLE : kind.hash == wanted ? MATCHES : DIFFERS;
+    untagged_failures += result == DIFFERS && !kind.is_tagged;
     if (told != STATUS && !(told == QUIET && result == MATCHES))
         print(strchr(name, '\n'), "", name, TEXTS[result]);
     return result;
@@ -412,6 +414,8 @@ static int run(int count, char **arguments) {
     bool holds = true;
     for (; optind < count; optind++)
         holds = (check ? check_list : print_hash)(arguments[optind]) && holds;
+    warn_of(untagged_failures, "line that failed has", "lines that failed have",
+        "no version: give the -4 and --seed that the list was made with");
     return !holds;
 }
 
