@@ -385,7 +385,7 @@ static bool set_seed(const char *text) {
     errno = 0;
     given.seed = strtoull(text, &end, strncmp(text, "0x", 2) == 0 ? 16 : 10);
     return (text[0] >= '0' && text[0] <= '9' && !*end && errno == 0) ||
-        fail(text, "the seed must be a number below 2^64");
+        fail(text, "the seed must be decimal digits, or hexadecimal ones after 0x, and below 2^64");
 }
 
 static int run(int count, char **arguments) {

@@ -132,7 +132,8 @@ ends() { # STATUS ARGUMENT..
 }
 refuses() {
     for wrong; do ends 2 "$wrong" README.md || return; done
-    komihashsum "--seed=$((1 << 31))" README.md && ends 2 --tag --text README.md || return
+    komihashsum "--seed=$((1 << 31))" README.md && ends 2 --tag --text README.md &&
+        fails '^komihashsum: ff: the seed must be decimal digits, or' komihashsum -s ff || return
     for option in ignore-missing quiet status strict warn; do
         fails "^komihashsum: --$option: .* only for --check" komihashsum "--$option" || return
     done
@@ -218,7 +219,7 @@ run_case 'komihashsum, lines that tell version and seed' tagged
 run_case 'komihashsum, a decimal seed' prints '615eba9060114e6f  -' \
     komihashsum -s 09223372036854775808 < /dev/null
 run_case 'komihashsum, arguments that are wrong' refuses -x --check=1 --seed= --seed=-1 --seed=7x \
-    --seed=0x --seed=0x1g --seed=18446744073709551616 --strict
+    --seed=0x --seed=0x1g --seed=0X10 --seed=+7 --seed=18446744073709551616 --strict
 run_case 'komihashsum, help' fails '^Usage: komihashsum ' eval '! komihashsum --help'
 run_case 'komihashsum, bytes that end lines elsewhere' \
     prints '41788abed31c8f17  -' eval "printf 'a\r\n\032b' | komihashsum"
