@@ -17,7 +17,7 @@ there are.
 The cuts and the invariants are found by trying, and how doesn't matter: if they are wrong or too
 weak, one of the three ways fails.
 
-Lengths are GRAIN * q + r, with q at least LEAST. The number q stays a symbol. In the first two ways, so
+Lengths are GRAIN * q + r, with q at least LEAST, which stays a symbol. In the first two ways, so
 does r; in the third, each r is run by itself, so that the number of bytes after the loop is known.
 """
 import z3

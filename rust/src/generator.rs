@@ -67,6 +67,7 @@ where
     #[must_use]
     #[inline]
     pub const fn init_with_extra_seed(s1: u64, s2: u64) -> Self {
+        // In Rust, this is `const`, so it has no `for`.
         let mut generator = Komirand::new(s1, s2);
         generator.next();
         generator.next();

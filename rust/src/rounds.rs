@@ -25,9 +25,10 @@ const C7: u64 = 0xc0ac_29b7_c97c_50dd;
 
 const C8: u64 = 0x3f84_d5b5_b547_0917;
 
-/// How the code stores a pair (a, e): as a xor e, which after `mix` is the low half of its product,
-/// and e. The word a is computed only for a factor, and as the hash, so that the way from one
-/// product to the next is one xor shorter.
+/// The low half of a product, and the word e to which its high half was added. So the pair (a, e)
+/// is stored, where a is the low half xor e; `Lanes` joins these words in another way. The word a
+/// is computed only for a factor, and as the hash, so that the way from one product to the next is
+/// one xor shorter.
 #[repr(C)]
 #[derive(Clone, Copy, PartialEq, Eq)]
 pub(crate) struct Pair(u64, u64);

@@ -56,7 +56,7 @@ pub(crate) fn write_word(word: u64, out: &mut [u8]) {
     *chunk = word.to_le_bytes();
 }
 
-// Fills `out`, of N bytes, with N bytes. Assigns an array too.
+// Fills `out` with bytes, N of both. Like `write_word`, it assigns an array.
 #[inline(always)]
 fn copy_array<const N: usize>(bytes: &[u8], out: &mut [u8]) {
     let Some(array) = bytes.first_chunk::<N>() else { unreachable!() };

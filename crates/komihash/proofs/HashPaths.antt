@@ -10,8 +10,8 @@ use Rattle.komihash.specs.Hash.{hash_from_pair, hash_from_lanes, komi}
 use Rattle.komihash.specs.Internals.{stored_words, whole_words, after_eights, final_word}
 use Rattle.komihash.specs.Internals.{padding_or_zero, block_lanes, after_blocks}
 use Rattle.komihash.specs.Words.{word_of}
-use Rattle.komihash.proofs.Blocks.{after_eights-whole_words, length-after_blocks}
 use Rattle.komihash.specs.Padding.{padding_byte}
+use Rattle.komihash.proofs.Blocks.{after_eights-whole_words, length-after_blocks}
 use Rattle.komihash.proofs.PaddedWords.{padded_words-by_tail, final_word-whole}
 use Rattle.komihash.proofs.WholeWords.{length-whole_words, whole_words-few}
 

@@ -1,7 +1,7 @@
 -- How the code reads and stores what the other definitions speak of. An auditor may skip this file:
 -- no public contract cites it. Private contracts do, and lemmas prove that both say the same.
--- A stream's state shows pending bytes through `pending_bytes`. It needs no trust: if it were wrong,
--- what `finish` promises, which is `komi` of all bytes written, would have no proof.
+-- A stream's state shows pending bytes through `pending_bytes`. It needs no trust: if it were
+-- wrong, what `finish` promises, which is `komi` of all bytes written, would have no proof.
 use Rattle.std.specs.Prelude.{ℕ, zero, suc, Bool, ◌≡◌, ◌-◌, ◌*◌, ◌/◌, ◌%◌, ◌^◌, ◌<◌, ◌≤◌, bit_xor}
 use Rattle.std.specs.Int.{from_le_bytes, w64}
 use Rattle.std.specs.Int.Bits.{xor_assoc, xor_self, xor_zero_l}

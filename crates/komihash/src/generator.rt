@@ -87,6 +87,7 @@ where
     pub fn init_with_extra_seed(s1: u64, s2: u64) -> Self
         ensures { result ≡ after_steps V 4 (s1, s2) }
     {
+        // In Rust, this is `const`, so it has no `for`.
         let mut generator = Komirand::new(s1, s2);
         generator.next();
         generator.next();

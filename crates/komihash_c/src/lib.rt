@@ -2,7 +2,8 @@
 //! a caller must observe.
 //!
 //! C passes a slice as two arguments, a pointer and a length. The pointer to an empty slice may be
-//! null.
+//! null. The proofs take all of `out` for the call's alone; where room that isn't written overlaps
+//! something else, as the header allows, see the check of the machine code.
 //!
 //! Only these calls change a stream, as the header asks. So `is_state` holds of all streams but
 //! those that `init` and `resume` are given, which C need not have set: these two read nothing of

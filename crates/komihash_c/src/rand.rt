@@ -12,6 +12,8 @@ pub struct Rand {
 
 const _: () = prove!(size_of::<Rand>() == 16);
 
+const _: () = prove!(align_of::<Rand>() == 8);
+
 impl Model for Rand {
     ghost use Rattle.std.specs.Prelude.{ℕ};
 

@@ -1,6 +1,6 @@
 // Made by rust/erase.py of crates/komihash/src, where changes belong.
-//! The whole words of a message or a stream, the pair rounds on them, and the end of each hash, which
-//! takes the word that may be left and the final word.
+//! The whole words of a message or a stream, the pair rounds on them, and the end of each hash,
+//! which takes the word that may be left and the final word.
 
 use super::{Pair, close, pair_round};
 
@@ -19,7 +19,7 @@ pub(crate) trait WholeWords {
     /// Returns whether the number of words is odd.
     fn is_odd(&self) -> bool;
 
-    /// Returns the word at index `at`. It is one of the first eight, as the search must know.
+    /// Returns the word at index `at`, which is below 8, though the search can't find that.
     fn word(&self, at: usize) -> u64;
 }
 

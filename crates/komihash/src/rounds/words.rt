@@ -1,5 +1,5 @@
-//! The whole words of a message or a stream, the pair rounds on them, and the end of each hash, which
-//! takes the word that may be left and the final word.
+//! The whole words of a message or a stream, the pair rounds on them, and the end of each hash,
+//! which takes the word that may be left and the final word.
 
 #![tactic(auto, using(crate::proofs::WholeWords::read_words))]
 
@@ -34,7 +34,7 @@ pub(crate) trait WholeWords {
     fn is_odd(&self) -> bool
         ensures { IsTrue result ↔ (length (words self.now) % 2 ≡ 1) };
 
-    /// Returns the word at index `at`. It is one of the first eight, as the search must know.
+    /// Returns the word at index `at`, which is below 8, though the search can't find that.
     fn word(&self, at: usize) -> u64
         requires within { at < length (words self.now) }
         requires below_8 { at < 8 }
