@@ -87,23 +87,24 @@ fn hash_of_blocks<const V: u8>(bytes: &[u8], seed: u64) -> u64 {
 /// The tests of the length are inlined into the caller, and vanish where it knows the length.
 #[inline(always)]
 pub(crate) fn hash_message<const V: u8>(bytes: &[u8], seed: u64) -> u64 {
-    if bytes.len() < 8 {
-        if bytes.is_empty() {
-            return close(seed_pair(seed), 0, 0);
-        }
-        hash_of_partial_word::<V>(bytes, seed)
-    } else if bytes.len() < 64 {
-        if bytes.len() < 16 {
+    if bytes.len() >= 8 {
+        if bytes.len() >= 64 {
+            if bytes.len() >= 128 {
+                hash_of_blocks::<V>(bytes, seed)
+            } else {
+                hash_of_one_block::<V>(bytes, seed)
+            }
+        } else if bytes.len() < 16 {
             hash_of_one_word::<V>(bytes, seed)
         } else if bytes.len() > 16 {
             hash_of_words::<V>(bytes, seed)
         } else {
             hash_of_16_bytes::<V>(bytes, seed)
         }
-    } else if bytes.len() < 128 {
-        hash_of_one_block::<V>(bytes, seed)
+    } else if bytes.is_empty() {
+        close(seed_pair(seed), 0, 0)
     } else {
-        hash_of_blocks::<V>(bytes, seed)
+        hash_of_partial_word::<V>(bytes, seed)
     }
 }
 

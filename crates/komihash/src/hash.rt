@@ -128,23 +128,24 @@ pub(crate) fn hash_message<const V: u8>(bytes: &[u8], seed: u64, tally: &mut Tal
     ensures hash { result ≡ komi V seed bytes.now }
     ensures costs { Costs tally (hash_products (length bytes.now)) 0 }
 {
-    if bytes.len() < 8 {
-        if bytes.is_empty() {
-            return close(seed_pair(seed, tally), 0, 0, tally);
-        }
-        hash_of_partial_word::<V>(bytes, seed, tally)
-    } else if bytes.len() < 64 {
-        if bytes.len() < 16 {
+    if bytes.len() >= 8 {
+        if bytes.len() >= 64 {
+            if bytes.len() >= 128 {
+                hash_of_blocks::<V>(bytes, seed, tally)
+            } else {
+                hash_of_one_block::<V>(bytes, seed, tally)
+            }
+        } else if bytes.len() < 16 {
             hash_of_one_word::<V>(bytes, seed, tally)
         } else if bytes.len() > 16 {
             hash_of_words::<V>(bytes, seed, tally)
         } else {
             hash_of_16_bytes::<V>(bytes, seed, tally)
         }
-    } else if bytes.len() < 128 {
-        hash_of_one_block::<V>(bytes, seed, tally)
+    } else if bytes.is_empty() {
+        close(seed_pair(seed, tally), 0, 0, tally)
     } else {
-        hash_of_blocks::<V>(bytes, seed, tally)
+        hash_of_partial_word::<V>(bytes, seed, tally)
     }
 }
 

@@ -17,11 +17,11 @@
 // - `Rattle alone.` begins what Rust lacks, up to an empty line;
 // - `Rust instead:` says what Rust has in place of the next line, perhaps nothing;
 // - in comments, for Rust alone are examples (CALLING has those for Rattle), `# Panics`, links in
-//   brackets, what is said of Rust, `version`, `Debug` and clippy, and "the type of both versions",
-//   which Rust's pages show beside the other name of a type;
+//   brackets, what is said of Rust, `version` and `Debug`, and "the type of both versions", which
+//   Rust's pages show beside the other name of a type;
 // - in code, for Rust alone are `const fn`, which calls that are `const` in Rust need, `repr` of
-//   `StreamedKomihash` and `Komirand`, and `#[track_caller]`, by which `erase.py` knows that the
-//   called function tests the length.
+//   `StreamedKomihash` and `Komirand`, `allow(clippy::..)`, and `#[track_caller]`, by which
+//   `erase.py` knows that the called function tests the length.
 
 #![tactic(auto)]
 

@@ -36,10 +36,10 @@ const C7: u64 = 0xc0ac_29b7_c97c_50dd;
 
 const C8: u64 = 0x3f84_d5b5_b547_0917;
 
-/// The low half of a product, and the word e to which its high half was added. So the pair (a, e)
-/// is stored, where a is the low half xor e; `Lanes` joins these words in another way. The word a
-/// is computed only for a factor, and as the hash, so that the way from one product to the next is
-/// one xor shorter.
+/// Stores the pair (a, e) as a xor e, and e. After a product, a xor e is its low half, and e the
+/// word to which its high half was added. The word a is computed only for a factor, and as the
+/// hash, so that the way from one product to the next is one xor shorter. `Lanes` joins these words
+/// in another way.
 #[repr(C)]
 #[derive(Clone, Copy)]
 pub(crate) struct Pair(u64, u64);

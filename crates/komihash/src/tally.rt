@@ -26,7 +26,7 @@ impl Model for Tally {
 }
 
 // Gives proofs in this crate the key of `specs/Sealed.antt`. No proof can make or raise a tally
-// without it, and no other crate can name this private struct. No value of it is ever made.
+// without it, and no other crate can name this private struct. No code makes a value of it.
 struct TallyKey;
 
 impl Model for TallyKey {
