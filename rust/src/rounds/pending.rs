@@ -163,13 +163,8 @@ impl Pending {
 
 impl WholeWords for Pending {
     #[inline(always)]
-    fn holds(&self, count: usize) -> bool {
-        self.len / 8 >= count
-    }
-
-    #[inline(always)]
-    fn is_odd(&self) -> bool {
-        self.len / 8 % 2 == 1
+    fn count(&self) -> usize {
+        self.len / 8
     }
 
     #[inline(always)]

@@ -13,11 +13,8 @@ pub(crate) fn last_whole_word(bytes: &[u8]) -> u64 {
 
 /// Whole words, wherever they lie: in a message's bytes, or in the words of a stream.
 pub(crate) trait WholeWords {
-    /// Returns whether there are at least `count` words.
-    fn holds(&self, count: usize) -> bool;
-
-    /// Returns whether the number of words is odd.
-    fn is_odd(&self) -> bool;
+    /// Returns how many words there are.
+    fn count(&self) -> usize;
 
     /// Returns the word at index `at`, which is below 8, though the search can't find that.
     fn word(&self, at: usize) -> u64;
@@ -27,13 +24,8 @@ pub(crate) trait WholeWords {
 // The impl is for `&[u8]`, because no type parameter of Rattle stands for `[u8]`.
 impl WholeWords for &[u8] {
     #[inline(always)]
-    fn holds(&self, count: usize) -> bool {
-        self.len() / 8 >= count
-    }
-
-    #[inline(always)]
-    fn is_odd(&self) -> bool {
-        self.len() / 8 % 2 == 1
+    fn count(&self) -> usize {
+        self.len() / 8
     }
 
     #[inline(always)]
@@ -54,15 +46,15 @@ fn round_at<W: WholeWords>(pair: Pair, left: &W, at: usize) -> Pair {
 // hash that all words give from the pair before.
 #[inline(always)]
 fn round_each<W: WholeWords>(pair: Pair, left: &W) -> Pair {
-    if !left.holds(2) {
+    if left.count() < 2 {
         return pair;
     }
     let pair = round_at(pair, left, 0);
-    if !left.holds(4) {
+    if left.count() < 4 {
         return pair;
     }
     let pair = round_at(pair, left, 2);
-    if !left.holds(6) {
+    if left.count() < 6 {
         return pair;
     }
     round_at(pair, left, 4)
@@ -80,6 +72,6 @@ pub(crate) fn hash_from_pair<W: WholeWords>(
     let pair = round_each(pair, left);
     // The closing of one word is that of two, the second of which is 0. So it needs no jump.
     let (first, second) =
-        if left.is_odd() { (last_whole_word, final_word) } else { (final_word, 0) };
+        if left.count() % 2 == 1 { (last_whole_word, final_word) } else { (final_word, 0) };
     close(pair, first, second)
 }

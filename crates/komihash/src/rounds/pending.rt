@@ -282,13 +282,8 @@ impl WholeWords for Pending {
     ghost words = { λ pending. whole_words pending };
 
     #[inline(always)]
-    fn holds(&self, count: usize) -> bool {
-        self.len / 8 >= count
-    }
-
-    #[inline(always)]
-    fn is_odd(&self) -> bool {
-        self.len / 8 % 2 == 1
+    fn count(&self) -> usize {
+        self.len / 8
     }
 
     #[inline(always)]

@@ -3,7 +3,7 @@
 
 #![tactic(auto, using(crate::proofs::WholeWords::read_words))]
 
-ghost use Rattle.std.specs.Prelude.{◌≡◌, ℕ, ◌+◌, ◌-◌, ◌*◌, ◌/◌, ◌%◌, ◌<◌, ◌≤◌, ◌↔◌, IsTrue};
+ghost use Rattle.std.specs.Prelude.{◌≡◌, ℕ, ◌+◌, ◌-◌, ◌*◌, ◌/◌, ◌%◌, ◌<◌, ◌≤◌};
 ghost use Rattle.std.specs.Prelude.{List, [], ◌∷◌, ◌++◌, length, drop, slice_index};
 ghost use Rattle.komihash.specs.Counts.{Costs};
 ghost use Rattle.komihash.specs.Hash.{hash_from_pair};
@@ -26,13 +26,9 @@ pub(crate) fn last_whole_word(bytes: &[u8]) -> u64
 pub(crate) trait WholeWords {
     ghost words: { Self → List ℕ };
 
-    /// Returns whether there are at least `count` words.
-    fn holds(&self, count: usize) -> bool
-        ensures { IsTrue result ↔ (count ≤ length (words self.now)) };
-
-    /// Returns whether the number of words is odd.
-    fn is_odd(&self) -> bool
-        ensures { IsTrue result ↔ (length (words self.now) % 2 ≡ 1) };
+    /// Returns how many words there are.
+    fn count(&self) -> usize
+        ensures { result ≡ length (words self.now) };
 
     /// Returns the word at index `at`, which is below 8, though the search can't find that.
     fn word(&self, at: usize) -> u64
@@ -47,13 +43,8 @@ impl WholeWords for &[u8] {
     ghost words = { λ bytes. whole_words bytes.now };
 
     #[inline(always)]
-    fn holds(&self, count: usize) -> bool {
-        self.len() / 8 >= count
-    }
-
-    #[inline(always)]
-    fn is_odd(&self) -> bool {
-        self.len() / 8 % 2 == 1
+    fn count(&self) -> usize {
+        self.len() / 8
     }
 
     #[inline(always)]
@@ -88,15 +79,15 @@ fn round_each<W: WholeWords>(pair: Pair, left: &W, tally: &mut Tally) -> Pair
         ≡ hash_from_pair (pair_of pair) (W.words left.now ++ final_word ∷ []) }
     ensures costs { Costs tally (length (W.words left.now) / 2) 0 }
 {
-    if !left.holds(2) {
+    if left.count() < 2 {
         return pair;
     }
     let pair = round_at(pair, left, 0, tally);
-    if !left.holds(4) {
+    if left.count() < 4 {
         return pair;
     }
     let pair = round_at(pair, left, 2, tally);
-    if !left.holds(6) {
+    if left.count() < 6 {
         return pair;
     }
     round_at(pair, left, 4, tally)
@@ -121,7 +112,7 @@ pub(crate) fn hash_from_pair<W: WholeWords>(
 {
     let pair = round_each(pair, left, tally);
     // The closing of one word is that of two, the second of which is 0. So it needs no jump.
-    let (first, second) = if left.is_odd() {
+    let (first, second) = if left.count() % 2 == 1 {
         (last_whole_word, final_word)
     } else {
         (final_word, 0)
