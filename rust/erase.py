@@ -24,7 +24,10 @@ DERIVED = dict.fromkeys(('Call', 'StreamedKomihash', 'RawStream', 'Lanes', 'Pair
     **dict.fromkeys(('KomiBuildHasher', 'Komirand'), 'Debug, PartialEq, Eq')}
 ADDED = {rf'^( *pub )(?=fn {name}\b)': r'\1const ' for name in CONST} | {
     rf'^(?=pub(?:\(crate\))? (?:enum|struct) {name}\b)': f'#[derive({traits})]\n'
-    for name, traits in DERIVED.items()}
+    for name, traits in DERIVED.items()} | {
+    # src/version.rs has these compiled with this crate in debug builds.
+    r'^( *)#\[inline\]\n': r'\1#[cfg_attr(debug_assertions, inline(never))]\n'
+                            r'\1#[cfg_attr(not(debug_assertions), inline)]\n'}
 MADE = '// Made by rust/erase.py of crates/komihash/src, where changes belong.\n'
 RUSTFMT = 'rustfmt', '--edition', '2024', '--config', 'use_small_heuristics=Max'
 ONLY_RATTLE = 'laws', 'tally', 'tests'  # modules

@@ -39,7 +39,8 @@ where
     /// assert_eq!(START.clone().next(), 0x5555555555555555);
     /// ```
     #[must_use]
-    #[inline]
+    #[cfg_attr(debug_assertions, inline(never))]
+    #[cfg_attr(not(debug_assertions), inline)]
     pub const fn new(s1: u64, s2: u64) -> Self {
         Komirand { s1, s2 }
     }
@@ -52,7 +53,8 @@ where
     /// assert_eq!(one.next(), other.next());
     /// ```
     #[must_use]
-    #[inline]
+    #[cfg_attr(debug_assertions, inline(never))]
+    #[cfg_attr(not(debug_assertions), inline)]
     pub const fn init(seed: u64) -> Self {
         Komirand::init_with_extra_seed(seed, seed)
     }
@@ -65,7 +67,8 @@ where
     /// assert_ne!(one.next(), other.next());
     /// ```
     #[must_use]
-    #[inline]
+    #[cfg_attr(debug_assertions, inline(never))]
+    #[cfg_attr(not(debug_assertions), inline)]
     pub const fn init_with_extra_seed(s1: u64, s2: u64) -> Self {
         // In Rust, this is `const`, so it has no `for`.
         let mut generator = Komirand::new(s1, s2);
@@ -101,7 +104,8 @@ where
     /// assert!((1..=6).contains(&throw));
     /// ```
     #[allow(clippy::should_implement_trait)]
-    #[inline]
+    #[cfg_attr(debug_assertions, inline(never))]
+    #[cfg_attr(not(debug_assertions), inline)]
     pub const fn next(&mut self) -> u64 {
         let (low, high) = multiply128(self.s1, self.s2);
         let sum = self.s2.wrapping_add(high);
@@ -125,7 +129,8 @@ where
     /// assert_eq!(bytes[..8], first.to_le_bytes());
     /// assert_eq!(bytes[8..], second.to_le_bytes()[..3]);
     /// ```
-    #[inline]
+    #[cfg_attr(debug_assertions, inline(never))]
+    #[cfg_attr(not(debug_assertions), inline)]
     pub fn fill_bytes(&mut self, buffer: &mut [u8]) {
         let whole = buffer.len() / 8;
         for i in 0..whole {

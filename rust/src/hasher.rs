@@ -39,7 +39,8 @@ where
     /// assert_eq!(hasher.finish(), komihash(b"rt", komihash(b"po", 7)));
     /// ```
     #[must_use]
-    #[inline]
+    #[cfg_attr(debug_assertions, inline(never))]
+    #[cfg_attr(not(debug_assertions), inline)]
     pub const fn new(seed: u64) -> Self {
         KomiHasher { number: seed }
     }
@@ -50,7 +51,8 @@ where
     Versions: IsVersion<V>,
 {
     /// Returns the hasher of the number 0.
-    #[inline]
+    #[cfg_attr(debug_assertions, inline(never))]
+    #[cfg_attr(not(debug_assertions), inline)]
     fn default() -> Self {
         KomiHasher::new(0)
     }
@@ -61,13 +63,15 @@ where
     Versions: IsVersion<V>,
 {
     /// Returns the number. The hasher is unchanged, and takes further writes.
-    #[inline]
+    #[cfg_attr(debug_assertions, inline(never))]
+    #[cfg_attr(not(debug_assertions), inline)]
     fn finish(&self) -> u64 {
         self.number
     }
 
     /// Replaces the number by the hash of the bytes, with the number as the seed.
-    #[inline]
+    #[cfg_attr(debug_assertions, inline(never))]
+    #[cfg_attr(not(debug_assertions), inline)]
     fn write(&mut self, bytes: &[u8]) {
         self.number = hash_message::<V>(bytes, self.number);
     }
@@ -101,7 +105,8 @@ where
     /// assert_eq!(ports["https"], 443);
     /// ```
     #[must_use]
-    #[inline]
+    #[cfg_attr(debug_assertions, inline(never))]
+    #[cfg_attr(not(debug_assertions), inline)]
     pub const fn new(seed: u64) -> Self {
         KomiBuildHasher { seed }
     }
@@ -112,7 +117,8 @@ where
     Versions: IsVersion<V>,
 {
     /// Returns the `BuildHasher` of seed 0.
-    #[inline]
+    #[cfg_attr(debug_assertions, inline(never))]
+    #[cfg_attr(not(debug_assertions), inline)]
     fn default() -> Self {
         KomiBuildHasher::new(0)
     }
@@ -125,7 +131,8 @@ where
     type Hasher = KomiHasher<V>;
 
     /// Returns the hasher of the seed.
-    #[inline]
+    #[cfg_attr(debug_assertions, inline(never))]
+    #[cfg_attr(not(debug_assertions), inline)]
     fn build_hasher(&self) -> KomiHasher<V> {
         KomiHasher::new(self.seed)
     }

@@ -75,7 +75,8 @@ pub type Komirand = generator::Komirand<4>;
 /// assert!(shard < 8);
 /// ```
 #[must_use]
-#[inline]
+#[cfg_attr(debug_assertions, inline(never))]
+#[cfg_attr(not(debug_assertions), inline)]
 pub fn komihash(bytes: &[u8], seed: u64) -> u64 {
     hash::komihash::<4>(bytes, seed)
 }
@@ -97,7 +98,8 @@ pub fn komihash(bytes: &[u8], seed: u64) -> u64 {
 /// assert_eq!(pad(b"abc", &mut words), 1);
 /// assert_eq!(words, [0x01636261]);
 /// ```
-#[inline]
+#[cfg_attr(debug_assertions, inline(never))]
+#[cfg_attr(not(debug_assertions), inline)]
 #[track_caller]
 pub fn pad(bytes: &[u8], out: &mut [u64]) -> usize {
     padding::pad::<4>(bytes, out)
@@ -121,7 +123,8 @@ pub fn pad(bytes: &[u8], out: &mut [u64]) -> usize {
 /// assert_eq!(unpad(&[1], &mut message), None);
 /// ```
 #[must_use]
-#[inline]
+#[cfg_attr(debug_assertions, inline(never))]
+#[cfg_attr(not(debug_assertions), inline)]
 #[track_caller]
 pub fn unpad(words: &[u64], out: &mut [u8]) -> Option<usize> {
     padding::unpad::<4>(words, out)

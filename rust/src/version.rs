@@ -56,3 +56,30 @@ pub enum Versions {}
 impl IsVersion<4> for Versions {}
 
 impl IsVersion<5> for Versions {}
+
+// Functions that aren't inlined are shared by the crates that call them. So debug builds of callers
+// take those that are compiled for this, and are fast if cargo optimizes their dependencies.
+#[cfg(debug_assertions)]
+#[used]
+static COMPILED: fn(&mut [u8], &mut [u64]) = |bytes, words| {
+    call_all::<4>(bytes, words);
+    call_all::<5>(bytes, words);
+};
+
+#[cfg(debug_assertions)]
+fn call_all<const V: u8>(bytes: &mut [u8], words: &mut [u64])
+where
+    Versions: IsVersion<V>,
+{
+    use core::hash::Hasher;
+
+    let mut stream = StreamedKomihash::<V>::new();
+    stream.write(bytes);
+    let _ = (stream.save(bytes), StreamedKomihash::<V>::resume(bytes));
+    let mut hasher = KomiHasher::<V>::new(stream.finish());
+    hasher.write(bytes);
+    let mut generator = Komirand::<V>::init(hasher.finish());
+    generator.next();
+    generator.fill_bytes(bytes);
+    let _ = (pad::<V>(bytes, words), unpad::<V>(words, bytes), komihash::<V>(bytes, 0));
+}

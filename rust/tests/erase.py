@@ -22,7 +22,8 @@ LEFT = {
         'fn f() { if !(a) { } }',
     # One that is marked leaves the test to the function that it calls.
     f'/// x\n#[track_caller]\n#[inline]\npub {DECLARED}\n{{ }}\npub {DECLARED}\n{{ }}':
-        '/// x\n#[track_caller]\n#[inline]\npub fn f(out: &mut [u8]) { }\n'
+        '/// x\n#[track_caller]\n#[cfg_attr(debug_assertions, inline(never))]\n'
+        '#[cfg_attr(not(debug_assertions), inline)]\npub fn f(out: &mut [u8]) { }\n'
         f'{TEST.replace("fn f", "pub fn f")}',
     'pub struct Komirand;\nimpl Komirand {\n    pub fn next() {}\n    fn new() {}\n}':
         '#[derive(Debug, PartialEq, Eq)]\npub struct Komirand;\n'

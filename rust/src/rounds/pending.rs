@@ -91,7 +91,8 @@ fn append_eight_or_more(words: &mut [u64; 8], len: usize, bytes: &[u8]) {
 
 // Appends bytes, at most as many as the block has room for after the first `len`. Only this
 // function puts bytes into the words.
-#[inline]
+#[cfg_attr(debug_assertions, inline(never))]
+#[cfg_attr(not(debug_assertions), inline)]
 fn append_to_block(words: &mut [u64; 8], len: usize, bytes: &[u8]) {
     if bytes.len() < 8 {
         append_below_eight(words, len, bytes);

@@ -37,7 +37,8 @@ where
     /// LOG.lock().unwrap().write(b"port");
     /// ```
     #[must_use]
-    #[inline]
+    #[cfg_attr(debug_assertions, inline(never))]
+    #[cfg_attr(not(debug_assertions), inline)]
     pub const fn new() -> Self {
         StreamedKomihash::new_with_seed(0)
     }
@@ -53,7 +54,8 @@ where
     /// assert_eq!(stream.finish(), komihash(b"port", 7));
     /// ```
     #[must_use]
-    #[inline]
+    #[cfg_attr(debug_assertions, inline(never))]
+    #[cfg_attr(not(debug_assertions), inline)]
     pub const fn new_with_seed(seed: u64) -> Self {
         // In Rust, this is `const`, so it can't call `start`, a method of a trait.
         StreamedKomihash { raw: RawStream::start::<V>(seed) }
@@ -73,7 +75,8 @@ where
     /// }
     /// let hash = stream.finish();
     /// ```
-    #[inline]
+    #[cfg_attr(debug_assertions, inline(never))]
+    #[cfg_attr(not(debug_assertions), inline)]
     pub fn write(&mut self, bytes: &[u8]) {
         self.absorb(bytes);
     }
@@ -88,7 +91,8 @@ where
     /// assert_eq!([stream.finish(), stream.finish()], [komihash(b"port", 0); 2]);
     /// ```
     #[must_use]
-    #[inline]
+    #[cfg_attr(debug_assertions, inline(never))]
+    #[cfg_attr(not(debug_assertions), inline)]
     pub fn finish(&self) -> u64 {
         self.answer()
     }
@@ -119,7 +123,8 @@ where
     /// assert_eq!(resumed.finish(), komihash(b"port", 0));
     /// ```
     #[must_use]
-    #[inline]
+    #[cfg_attr(debug_assertions, inline(never))]
+    #[cfg_attr(not(debug_assertions), inline)]
     #[track_caller]
     pub fn save(&self, out: &mut [u8]) -> usize {
         self.store(out)
@@ -134,7 +139,8 @@ where
     /// assert!(stream.is_none());
     /// ```
     #[must_use]
-    #[inline]
+    #[cfg_attr(debug_assertions, inline(never))]
+    #[cfg_attr(not(debug_assertions), inline)]
     pub fn resume(bytes: &[u8]) -> Option<Self> {
         StreamedKomihash::restore(bytes)
     }
@@ -145,7 +151,8 @@ where
     Versions: IsVersion<V>,
 {
     /// Returns the new stream of seed 0.
-    #[inline]
+    #[cfg_attr(debug_assertions, inline(never))]
+    #[cfg_attr(not(debug_assertions), inline)]
     fn default() -> Self {
         StreamedKomihash::new()
     }
@@ -157,29 +164,34 @@ where
 {
     const VERSION: u8 = V;
 
-    #[inline]
+    #[cfg_attr(debug_assertions, inline(never))]
+    #[cfg_attr(not(debug_assertions), inline)]
     fn start(seed: u64) -> Self {
         StreamedKomihash { raw: RawStream::start::<V>(seed) }
     }
 
-    #[inline]
+    #[cfg_attr(debug_assertions, inline(never))]
+    #[cfg_attr(not(debug_assertions), inline)]
     fn absorb(&mut self, bytes: &[u8]) {
         self.raw.absorb::<V>(bytes);
     }
 
-    #[inline]
+    #[cfg_attr(debug_assertions, inline(never))]
+    #[cfg_attr(not(debug_assertions), inline)]
     fn answer(&self) -> u64 {
         self.raw.answer::<V>()
     }
 
-    #[inline]
+    #[cfg_attr(debug_assertions, inline(never))]
+    #[cfg_attr(not(debug_assertions), inline)]
     #[track_caller]
     fn store(&self, out: &mut [u8]) -> usize {
         assert!(LONGEST_TEXT <= out.len(), "`out` is too short");
         self.raw.store::<V>(out)
     }
 
-    #[inline]
+    #[cfg_attr(debug_assertions, inline(never))]
+    #[cfg_attr(not(debug_assertions), inline)]
     fn restore(bytes: &[u8]) -> Option<Self> {
         Some(StreamedKomihash { raw: RawStream::restore::<V>(bytes)? })
     }
