@@ -36,12 +36,18 @@ export class Komirand {
     static fromWords<R extends Komirand>(
         this: new (seed: bigint) => R, s1: bigint, s2: bigint
     ): R;
+    /** Returns the two words of the state, which `fromWords` takes. */
+    words(): [s1: bigint, s2: bigint];
     /** Returns the next output, which is at least 0n and below 2n ** 64n. */
     next(): bigint;
     /** Fills data with the bytes of the next outputs, the lowest first, and returns it. */
     fill<A extends ArrayBufferView | ArrayBufferLike>(data: A): A;
 }
 
+type Stream = Komihash;
+type Generator = Komirand;
 type Version = { komihash: typeof komihash; Komihash: typeof Komihash; Komirand: typeof Komirand };
 /** The names of each version. Those above are of version 5. */
 export const v4: Version, v5: Version;
+export namespace v4 { type Komihash = Stream; type Komirand = Generator; }
+export namespace v5 { type Komihash = Stream; type Komirand = Generator; }

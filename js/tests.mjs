@@ -71,7 +71,10 @@ for (const view of [...views, new Uint16Array(long.buffer, 8, 40), own(long.buff
     test("a view", komihash(view) === komihash(long.buffer.slice(8, 88)));
 for (const view of [new Odd(long.buffer), own(long.buffer)])
     test("a long view", komihash(view) === komihash(long));
+/** @type {v5.Komirand} */
+const highest = Komirand.fromWords(7n, 2n ** 64n - 1n);
 const rand = new Komirand(7n), array = new BigUint64Array(1e5);
+test("words", highest.words().join() === "7,18446744073709551615");
 test("outputs", new Komirand(7n).fill(array).every((it) => it === rand.next()));
 test("what is filled", komihash(new Komirand(7n).fill(own(8e5))) === komihash(array));
 
@@ -82,9 +85,9 @@ for (const call of [...seeded, ...drawn, ...ofWords]) {
     test("a wrong seed", [-1n, 2n ** 64n].every((it) => throws(RangeError, () => call(it))));
     test("the highest seed", call(2n ** 64n - 1n) !== undefined);
 }
-for (const seed of [7, "7"])
+for (const [kind, seed] of Object.entries({ "a number": 7, "a string": "7", null: null }))
     // @ts-expect-error
-    test("no bigint", throws(TypeError, () => komihash("", seed)));
+    test("no bigint", throws(TypeError, () => komihash("", seed), ` and was ${kind}$`));
 const shrinking = Reflect.construct(ArrayBuffer, [16, { maxByteLength: 16 }]);
 const lost = [DataView, Uint8Array].map((it) => new it(shrinking, 8, 8));
 const whole = new Uint16Array(shrinking, 2);
@@ -103,7 +106,7 @@ const refusing = {
     "a word must be a bigint": (it) => Komirand.fromWords(0n, it),
 };
 for (const [text, call] of Object.entries(refusing))
-    test(text, throws(TypeError, () => call([7]), `^${text}.*, and was of type Array$`));
+    test(text, throws(TypeError, () => call([7]), `^${text}.*, and was an object Array$`));
 test("a wrong text", throws(RangeError, () => Komihash.resume(long)));
 const saved = ["ä", "b"].map((it) => new Komihash().update(it).save());
 test("saved texts", Komihash.resume(saved[0]).digest() === v5.komihash("ä"));
@@ -115,6 +118,8 @@ class Named extends Komihash {
 }
 const named = Named.resume(saved[0], { name: "a" }).update("b");
 test("a subclass", named.count() === 1 && named.name === "a");
+const texts = ["ab", "x".repeat(100)], streams = texts.map((it) => new Komihash(7n).update(it));
+test("streams in turn", streams.every((it, k) => it.digest() === komihash(texts[k], 7n)));
 test("the stream of a subclass", named.digest() === komihash("äb"));
 class Sided extends Komirand {
     /** @param {number} sides @param {bigint} seed */
