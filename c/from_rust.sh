@@ -37,10 +37,10 @@ esac
 llvm='-disable-loop-idiom-memcpy'
 case $target in aarch64*) llvm="$llvm -reserve-regs-for-regalloc=X18" ;; esac
 compile() {
-    $rustc --target "$target" --cap-lints allow -C opt-level=3 -C codegen-units=1 -C panic=abort \
-        -C force-unwind-tables=yes -C "llvm-args=$llvm" "$@"
+    $rustc --target "$target" --cap-lints allow --out-dir "$scratch" -C opt-level=3 \
+        -C codegen-units=1 -C panic=abort -C force-unwind-tables=yes -C "llvm-args=$llvm" "$@"
 }
 compile "$@" --edition "$(sed -n 's/^edition = "\(.*\)"/\1/p' "$crate/Cargo.toml")" \
-    --crate-name komihash_rattle --crate-type rlib --out-dir "$scratch" "$crate/src/lib.rs"
+    --crate-name komihash_rattle --crate-type rlib "$crate/src/lib.rs"
 compile "$@" --edition 2021 -C lto=fat --crate-type "$kind" --emit "$files" -L "$scratch" \
     --extern komihash_rattle "$here/exports.rs"

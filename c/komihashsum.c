@@ -50,8 +50,9 @@ static const char HELP[] =
 
 /* What is told of a check: the last of these options counts. */
 enum { ALL, QUIET, STATUS, WARN };
-static int check, ignore_missing, progress, strict, tag, told, untagged_failures;
+static int check, ignore_missing, progress, strict, tag, told;
 static struct kind { int version; uint64_t seed, hash; bool is_tagged; } given = {.version = 5};
+static unsigned long untagged[2]; /* lines without a version that match, and that don't */
 static char mark, line_end = '\n'; /* what stands before a name, if asked for, and after a line */
 static unsigned char bytes[131072];
 static const struct option OPTIONS[] = {
@@ -312,7 +313,8 @@ static int check_file(const char *name, struct kind kind) {
     if (error)
         fail(name, strerror(error));
     const int result = error ? UNREADABLE : kind.hash == wanted ? MATCHES : DIFFERS;
-    untagged_failures += result == DIFFERS && !kind.is_tagged;
+    if (result <= DIFFERS && !kind.is_tagged)
+        untagged[result]++;
     if (told != STATUS && !(told == QUIET && result == MATCHES))
         print(strchr(name, '\n'), "", name, TEXTS[result]);
     return result;
@@ -415,8 +417,8 @@ static int run(int count, char **arguments) {
     bool holds = true;
     for (; optind < count; optind++)
         holds = (check ? check_list : print_hash)(arguments[optind]) && holds;
-    warn_of(untagged_failures, "line that failed has", "lines that failed have",
-        "no version: give the -4 and --seed that the list was made with");
+    warn_of(untagged[MATCHES] ? 0 : untagged[DIFFERS], "line that failed has",
+        "lines that failed have", "no version: the list may need another -4 or --seed");
     return !holds;
 }
 
