@@ -1,6 +1,7 @@
 #!/usr/bin/env bash
-# Tests the library for C as its package is unpacked, with nothing beside it, and the packages for
-# Rust, Python and JavaScript. verified.sh then verifies machine code.
+# Tests the library for C as its package is unpacked, with nothing beside it, then the packages for
+# Rust, Python and JavaScript, and verifies machine code by verified.sh: packages.sh [SECTION..].
+# The sections are library, languages and verified.
 set -uo pipefail
 cd "$(dirname "$0")/.." || exit 1
 . scripts/parts.sh
@@ -95,7 +96,8 @@ python_package() {
         fails 1 debian_python python/tests.py "$scratch/none.tsv" &&
         debian_python -m doctest python/README.md &&
         mkdir "$scratch/alone" && cp python/setup.py "$scratch/alone" &&
-        fails 1 debian_python "$scratch/alone/setup.py" build
+        fails 1 debian_python "$scratch/alone/setup.py" build &&
+        KOMIHASH_RATTLE_SYSTEM=yes fails 1 debian_python python/setup.py --name
 }
 # Links an installed library for C, without which the modules can't be imported.
 python_of_system() {
@@ -165,62 +167,70 @@ export WINEDLLOVERRIDES='mscoree,mshtml=' CARGO_TARGET_DIR=$scratch/crate
 python=$(make -s -C c python) || python=python3-with-z3-and-capstone
 
 always run_case 'the package of the library for C is made again from itself' unpack
-part in_package check
-arm=aarch64-linux-gnu windows=x86_64-w64-mingw32
-part_with "$windows-gcc wine64 lld-link $debian" from_rust x86_64-pc-windows-gnu \
-    check CROSS=$windows- RUN=wine64
-part_with "$arm-gcc qemu-aarch64" in_package check "CROSS=$arm-" RUN=qemu-aarch64
-part_with rustc in_package check FROM=rust
-part_with "s390x-linux-gnu-gcc qemu-s390x $debian" from_rust s390x-unknown-linux-gnu \
-    check CROSS=s390x-linux-gnu- RUN=qemu-s390x
-part_with "i686-linux-gnu-gcc $debian" from_rust i686-unknown-linux-gnu \
-    check CROSS=i686-linux-gnu-
-needs "clang lld $debian" 'the library for C links for macOS, with the names of the header' \
-    names_for_macos
+arm=aarch64-linux-gnu
+library() {
+    local windows=x86_64-w64-mingw32
+    part in_package check
+    # Debian ends the server of wine with each program, and then one program in some 500 finds none.
+    mkdir "$WINEPREFIX" && wineserver -p600 < /dev/null > "$scratch/case" 2>&1
+    part_with "$windows-gcc wine64 lld-link $debian" from_rust x86_64-pc-windows-gnu \
+        check CROSS=$windows- RUN=wine64
+    part_with "$arm-gcc qemu-aarch64" in_package check "CROSS=$arm-" RUN=qemu-aarch64
+    part_with rustc in_package check FROM=rust
+    part_with "s390x-linux-gnu-gcc qemu-s390x $debian" from_rust s390x-unknown-linux-gnu \
+        check CROSS=s390x-linux-gnu- RUN=qemu-s390x
+    part_with "i686-linux-gnu-gcc $debian" from_rust i686-unknown-linux-gnu \
+        check CROSS=i686-linux-gnu-
+    needs "clang lld $debian" 'the library for C links for macOS, with the names of the header' \
+        names_for_macos
+}
+languages() {
+    needs python3 'erase.py is not misled' python3 -B rust/tests/erase.py
+    needs 'python3 rustfmt' 'rust/src is erased from the source' erased
+    always needs cargo 'the crate for Rust is packed, and builds as it is unpacked' unpack_crate
+    for features in '' --all-features; do
+        needs cargo "the crate for Rust, with debug assertions $features" \
+            in_crate cargo test --offline $features
+    done
+    RUSTFLAGS='-C target-cpu=native' needs cargo 'the crate for Rust, for this processor' \
+        in_crate cargo test --offline --release --all-features --tests
+    needs cargo-clippy 'the crate for Rust, by clippy (optional)' \
+        in_crate cargo clippy --offline --all-features --all-targets -- -D warnings \
+        -D clippy::must_use_candidate
+    needs rustfmt 'the crate for Rust, by rustfmt' in_crate cargo fmt --check
+    needs "$debian" 'the crate for Rust needs core alone' without_std
+    needs 'cargo python3' 'the pages of the crate for Rust' pages
+    sources='/usr/bin/cargo /usr/lib/rustlib/src/rust/x.py'
+    for machine in s390x aarch64 i686; do
+        [ $machine = i686 ] && runner=env || runner="qemu-$machine -L /usr/$machine-linux-gnu"
+        needs "$machine-linux-gnu-gcc ${runner%% *} $sources" "the crate for Rust, for $machine" \
+            tests_for $machine-unknown-linux-gnu $machine-linux-gnu-gcc $runner
+    done
 
-needs python3 'erase.py is not misled' python3 -B rust/tests/erase.py
-needs 'python3 rustfmt' 'rust/src is erased from the source' erased
-always needs cargo 'the crate for Rust is packed, and builds as it is unpacked' unpack_crate
-for features in '' --all-features; do
-    needs cargo "the crate for Rust, with debug assertions $features" \
-        in_crate cargo test --offline $features
+    always needs cargo 'random calls have values' random_rows
+    always needs '/usr/bin/pip3 /usr/bin/python3-config' 'the package for Python' python_package
+    needs '/usr/bin/pip3 /usr/bin/python3-config' \
+        'the package for Python, with an installed library' python_of_system
+    needs /usr/bin/mypy 'the types of the package for Python' \
+        debian_python -m mypy.stubtest komihash_rattle
+    always needs npm 'the package for JavaScript is packed and installed' js_package
+    needs npm 'another copy makes the same packages' made_again
+    needs node 'the package for JavaScript, in Node' js_in_node
+    needs chromium 'the package for JavaScript, in Chromium' js_in_chromium
+    needs 'chromium cc' 'the page of the package for JavaScript, in Chromium' page_in_chromium
+    needs tsc 'the types of the package for JavaScript' tsc --noEmit --allowJs --checkJs \
+        --target es2022 --module es2022 --moduleResolution node16 "$scratch/js/tests.mjs"
+    needs 'node tsc' 'the types of the package for JavaScript, by require' js_required
+    made_by=$(sed -n '$s/.* \/\/ //p' js/komihash_rattle.js)
+    if [[ $(/usr/bin/rustc --version) = "$made_by"* ]]; then
+        needs "wasm-ld $debian" 'the WebAssembly in it is made of the crate for Rust' made_of_web
+    else
+        skip 'the WebAssembly in it is made of the crate for Rust (optional)' "$made_by"
+    fi
+}
+verified() { . scripts/verified.sh; }
+for section in ${@:-library languages verified}; do
+    declare -F "$section" || exit
+    $section
 done
-RUSTFLAGS='-C target-cpu=native' needs cargo 'the crate for Rust, for this processor' \
-    in_crate cargo test --offline --release --all-features --tests
-needs cargo-clippy 'the crate for Rust, by clippy (optional)' \
-    in_crate cargo clippy --offline --all-features --all-targets -- -D warnings \
-    -D clippy::must_use_candidate
-needs rustfmt 'the crate for Rust, by rustfmt' \
-    in_crate cargo fmt --check -- --config use_small_heuristics=Max
-needs "$debian" 'the crate for Rust needs core alone' without_std
-needs 'cargo python3' 'the pages of the crate for Rust' pages
-sources='/usr/bin/cargo /usr/lib/rustlib/src/rust/x.py'
-for machine in s390x aarch64 i686; do
-    [ $machine = i686 ] && runner=env || runner="qemu-$machine -L /usr/$machine-linux-gnu"
-    needs "$machine-linux-gnu-gcc ${runner%% *} $sources" "the crate for Rust, for $machine" \
-        tests_for $machine-unknown-linux-gnu $machine-linux-gnu-gcc $runner
-done
-
-always needs cargo 'random calls have values' random_rows
-always needs '/usr/bin/pip3 /usr/bin/python3-config' 'the package for Python' python_package
-needs '/usr/bin/pip3 /usr/bin/python3-config' 'the package for Python, with an installed library' \
-    python_of_system
-needs /usr/bin/mypy 'the types of the package for Python' \
-    debian_python -m mypy.stubtest komihash_rattle
-always needs npm 'the package for JavaScript is packed and installed' js_package
-needs npm 'another copy makes the same packages' made_again
-needs node 'the package for JavaScript, in Node' js_in_node
-needs chromium 'the package for JavaScript, in Chromium' js_in_chromium
-needs 'chromium cc' 'the page of the package for JavaScript, in Chromium' page_in_chromium
-needs tsc 'the types of the package for JavaScript' tsc --noEmit --allowJs --checkJs \
-    --target es2022 --module es2022 --moduleResolution node16 "$scratch/js/tests.mjs"
-needs 'node tsc' 'the types of the package for JavaScript, by require' js_required
-made_by=$(sed -n '$s/.* \/\/ //p' js/komihash_rattle.js)
-if [[ $(/usr/bin/rustc --version) = "$made_by"* ]]; then
-    needs "wasm-ld $debian" 'the WebAssembly in it is made of the crate for Rust' made_of_web
-else
-    skip 'the WebAssembly in it is made of the crate for Rust (optional)' "$made_by"
-fi
-
-. scripts/verified.sh
 counted

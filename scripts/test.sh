@@ -29,10 +29,12 @@ by_their_clauses() {
         [ "$(wc -l < "$scratch/refusals")" = "$(grep -c '\.edit: refused' "$scratch/told")" ]
 }
 
-if wanted packages; then
-    CASE= TMPDIR=$scratch nice -n 19 bash scripts/packages.sh > "$scratch/packages" 2>&1 &
-fi
-pid=${!:-}
+declare -A begun
+for section in library languages verified; do
+    wanted "packages $section" || continue
+    CASE= TMPDIR=$scratch nice -n 19 bash scripts/packages.sh $section > "$scratch/$section" 2>&1 &
+    begun[$section]=$!
+done
 if part python3 scripts/check_pages.py && part rt ci; then
     run_case 'each must-fail edit is refused' all_refused
     if grep -q '\.edit: refused' "$scratch/told"; then
@@ -45,10 +47,12 @@ if part python3 scripts/check_pages.py && part rt ci; then
 else
     echo 'FAILED: the parts that need these were not run'
 fi
-wait $pid
-ended=$?
-packages() { cat "$scratch/packages"; return $ended; }
-part packages
+packages() { cat "$scratch/$1"; return $ended; }
+for section in "${!begun[@]}"; do
+    wait ${begun[$section]}
+    ended=$?
+    part packages $section
+done
 
 grep -E '^(skipped|run it alone): ' "$scratch/told"
 if [ "${REQUIRE_ALL:-}" = 1 ]; then
