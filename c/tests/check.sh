@@ -210,7 +210,7 @@ installed_by_cmake() {
     [ "$from" = rust ] || "${CROSS}objdump" -h "$scratch/apart/$soname" | grep debug_line || return
     moved="$scratch/a new folder" older=glibc-hwcaps/x86-64-v3 # which does not stay
     mkdir -p "$moved/lib/$older" && touch "$moved/lib/libkomihash_rattle_v3.a" \
-        "$moved/lib/$older/libkomihash_rattle.so.1"
+        "$moved/lib/$older/libkomihash_rattle.so.${version%%.*}"
     cmake_installs . && rm -r "$by_cmake" &&
         DESTDIR="$scratch/cmake" cmake --install "$scratch/c 'make'" --prefix /usr &&
         grep -x prefix=/usr "$scratch/cmake/usr/lib/pkgconfig/komihash_rattle.pc" &&
