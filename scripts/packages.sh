@@ -1,7 +1,6 @@
 #!/usr/bin/env bash
 # Tests the library for C as its package is unpacked, with nothing beside it, then the packages for
 # Rust, Python and JavaScript, and verifies machine code by verified.sh: packages.sh [SECTION..].
-# The sections are library, languages and verified.
 set -uo pipefail
 cd "$(dirname "$0")/.." || exit 1
 . scripts/parts.sh
@@ -229,7 +228,7 @@ languages() {
     fi
 }
 verified() { . scripts/verified.sh; }
-for section in ${@:-library languages verified}; do
+for section in ${@:-$sections}; do
     declare -F "$section" || exit
     $section
 done

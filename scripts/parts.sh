@@ -2,6 +2,8 @@
 # a command, or a function, whose last line has counts, as c/tests/cases.sh prints them.
 . c/tests/cases.sh
 
+sections='library languages verified' # of packages.sh
+
 # Runs a part, and adds the counts in its last line.
 part() {
     wanted "$*" || return 0

@@ -30,7 +30,7 @@ by_their_clauses() {
 }
 
 declare -A begun
-for section in library languages verified; do
+for section in $sections; do
     wanted "packages $section" || continue
     CASE= TMPDIR=$scratch nice -n 19 bash scripts/packages.sh $section > "$scratch/$section" 2>&1 &
     begun[$section]=$!
