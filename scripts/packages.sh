@@ -145,7 +145,7 @@ page_in_chromium() {
         grep 'needs a server' || return
     in_package out/komihashsum && mkdir -p "$files/folder" && : > "$files/empty" &&
         seq 99 > "$files/$odd" && seq 12500000 > "$files/big" && truncate -s 99G "$files/huge" &&
-        timeout 120 node js/tests_of_page.mjs "$page" "$profile" \
+        timeout 600 node js/tests_of_page.mjs "$page" "$profile" \
             "$files"/{gone,big,huge,"$odd",empty,folder} > "$scratch/shown" && cd "$files" &&
         PATH=$(echo "$scratch"/libkomihash_rattle-*/out):$PATH && diff "$scratch/shown" <(
             printf '%s\n' 'The seed must be a whole number from 0 to 2^64 - 1. true'{,} \
@@ -171,9 +171,10 @@ library() {
     local windows=x86_64-w64-mingw32
     part in_package check
     # Debian ends the server of wine with each program, and then one program in some 500 finds none.
-    mkdir "$WINEPREFIX" && wineserver -p600 < /dev/null > "$scratch/case" 2>&1
+    mkdir "$WINEPREFIX" && wineserver -p3600 < /dev/null > "$scratch/case" 2>&1
     part_with "$windows-gcc wine64 lld-link $debian" from_rust x86_64-pc-windows-gnu \
         check CROSS=$windows- RUN=wine64
+    wineserver -k > "$scratch/case" 2>&1
     part_with "$arm-gcc qemu-aarch64" in_package check "CROSS=$arm-" RUN=qemu-aarch64
     part_with rustc in_package check FROM=rust
     part_with "s390x-linux-gnu-gcc qemu-s390x $debian" from_rust s390x-unknown-linux-gnu \

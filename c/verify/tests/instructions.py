@@ -250,7 +250,7 @@ def replies_of(kind, images, compiler, emulator):
         program = f'{folder}/program'
         subprocess.run([compiler, *(f'-D{name}={value}' for name, value in values.items()), '-xc',
                         '-D_GNU_SOURCE', '-o', program, '-'], input=PROGRAM.encode(), check=True)
-        done = subprocess.run(['timeout', '60', *emulator, program], input=b''.join(images),
+        done = subprocess.run(['timeout', '600', *emulator, program], input=b''.join(images),
                               stdout=subprocess.PIPE, check=False).stdout
     # The first is what the program left before it ran an instruction.
     return [done[k:k + SIZE] for k in range(SIZE, len(done) - SIZE + 1, SIZE)]
