@@ -211,7 +211,7 @@ languages() {
     always needs '/usr/bin/pip3 /usr/bin/python3-config' 'the package for Python' python_package
     needs '/usr/bin/pip3 /usr/bin/python3-config' \
         'the package for Python, with an installed library' python_of_system
-    needs /usr/bin/mypy 'the types of the package for Python' \
+    MYPY_CACHE_DIR=$scratch/mypy needs /usr/bin/mypy 'the types of the package for Python' \
         debian_python -m mypy.stubtest komihash_rattle
     always needs npm 'the package for JavaScript is packed and installed' js_package
     needs npm 'another copy makes the same packages' made_again

@@ -3,6 +3,7 @@
 . c/tests/cases.sh
 
 sections='library languages verified' # of packages.sh
+: > "$scratch/told"
 
 # Runs a part, and adds the counts in its last line.
 part() {

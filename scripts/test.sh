@@ -11,6 +11,10 @@ set -uo pipefail
 cd "$(dirname "$0")/.." || exit 1
 . scripts/parts.sh
 export CASE=${1:-$CASE}
+# These cases read what `rt ci` prints.
+refused='rt ci refuses each must-fail edit'
+by_clause='rt ci refuses each edit by the clause that controls.txt names'
+[ ! "$CASE" ] || [[ "$refused, $by_clause" != *"$CASE"* ]] || CASE='rt ci'
 
 # An edit that can't be applied counts for nothing in `rt ci`, which prints a line for each edit
 # that it tries in this run, and only the number of all where it kept earlier results.
@@ -36,11 +40,11 @@ for section in $sections; do
     begun[$section]=$!
 done
 if part python3 scripts/check_pages.py && part rt ci; then
-    run_case 'each must-fail edit is refused' all_refused
+    run_case "$refused" all_refused
     if grep -q '\.edit: refused' "$scratch/told"; then
-        run_case 'each is refused by the clause that controls.txt names' by_their_clauses
+        run_case "$by_clause" by_their_clauses
     else
-        skip 'the clauses that refuse edits (optional)' 'edits that this run of rt ci tries'
+        skip "$by_clause (optional)" 'edits that this run of rt ci tries'
     fi
     part python3 scripts/controls.py
     for name in attacks program compare_assembly; do part bash scripts/$name.sh; done

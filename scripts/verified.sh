@@ -14,9 +14,12 @@ part_with "$arm-gcc $debian $python" from_rust aarch64-unknown-linux-gnu verify 
 
 tests=c/verify/tests out=$(echo "$scratch"/libkomihash_rattle-*/out) so=libkomihash_rattle.so.1
 libraries=("x86-64:$out/$so" "x86-64-v3:$out/glibc-hwcaps/x86-64-v3/$so")
+always run_case 'the libraries that are edited' in_package
+always needs $arm-gcc 'the library for ARM64 that is edited' in_package "CROSS=$arm-"
 [ ! -d "$out/$arm" ] || libraries+=("armv8-a:$out/$arm/$so")
 part_with "$python" "$python" -B $tests/bodies.py x86-64 "${CC:-cc}"
-part_with "$python" "$python" -B $tests/changes.py "x86-64:$out/$so"
+needs "$python" 'calls that are left out, and other definitions, are noticed' \
+    "$python" -B $tests/changes.py "${libraries[0]}"
 part_with "$python $arm-gcc" "$python" -B $tests/bodies.py armv8-a $arm-gcc
 needs "$python" 'edits of files are refused' "$python" -B $tests/attacks.py "${libraries[@]}"
 if grep -qw avx2 /proc/cpuinfo; then
