@@ -27,8 +27,8 @@ const C8: u64 = 0x3f84_d5b5_b547_0917;
 
 /// Stores the pair (a, e) as a xor e, and e. After a product, a xor e is its low half, and e the
 /// word to which its high half was added. The word a is computed only for a factor, and as the
-/// hash, so that the way from one product to the next is one xor shorter. `Lanes` joins these words
-/// in another way.
+/// hash, so that the way from one product to the next is one xor shorter. `Lanes` pairs them
+/// otherwise.
 #[repr(C)]
 #[derive(Clone, Copy, PartialEq, Eq)]
 pub(crate) struct Pair(u64, u64);
@@ -146,7 +146,7 @@ pub(crate) fn absorb_first_block<'a, const V: u8>(lanes: &mut Lanes, bytes: &'a 
     rest
 }
 
-/// Does what `absorb_blocks` does, where one block alone is whole, and so without a loop.
+/// Does what `absorb_blocks` does for bytes with one whole block, and so without a loop.
 #[inline(always)]
 pub(crate) fn absorb_only_block<'a, const V: u8>(lanes: &mut Lanes, bytes: &'a [u8]) -> &'a [u8] {
     absorb_first_block::<V>(lanes, bytes)

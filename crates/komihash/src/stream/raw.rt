@@ -158,7 +158,8 @@ impl RawStream {
     where
         Versions: IsVersion<V>,
         requires { LONGEST_TEXT ≤ length out.old }
-        // These are the fields of `Stored`, one by one, because the search then proves more.
+        // These are the fields of `Stored`, three of them for states of `V` alone, one by one,
+        // because the search then proves more.
         ensures length { result ≡ length (text V self.now) }
         ensures most { result ≤ LONGEST_TEXT }
         ensures version { IsState V self.now → (w : ℕ) (s : State) → IsState w s
