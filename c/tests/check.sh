@@ -204,13 +204,17 @@ original_by_package() { # LIBDIR
     ! command -v pkg-config || PKG_CONFIG_PATH="$1/pkgconfig" \
         runs_by_package komihash_rattle_komihash_h tests/original.c
 }
+plant_older() { # LIBDIR gets an older build for AVX2, which may not stay.
+    mkdir -p "$1/glibc-hwcaps/x86-64-v3" && touch "$1/libkomihash_rattle_v3.a" \
+        "$1/glibc-hwcaps/x86-64-v3/libkomihash_rattle.so.${version%%.*}"
+}
 installed_by_cmake() {
+    moved="$scratch/a new folder"
+    plant_older "$scratch/apart" && plant_older "$moved/lib" && files_of "$lib" > "$scratch/files"
     cmake_installs . -D "CMAKE_INSTALL_LIBDIR=$scratch/apart" -D CMAKE_C_FLAGS=-g &&
-        original_by_package "$scratch/apart" || return
+        original_by_package "$scratch/apart" &&
+        files_of "$scratch/apart" | diff "$scratch/files" - || return
     [ "$from" = rust ] || "${CROSS}objdump" -h "$scratch/apart/$soname" | grep debug_line || return
-    moved="$scratch/a new folder" older=glibc-hwcaps/x86-64-v3 # which does not stay
-    mkdir -p "$moved/lib/$older" && touch "$moved/lib/libkomihash_rattle_v3.a" \
-        "$moved/lib/$older/libkomihash_rattle.so.${version%%.*}"
     cmake_installs . && rm -r "$by_cmake" &&
         DESTDIR="$scratch/cmake" cmake --install "$scratch/c 'make'" --prefix /usr &&
         grep -x prefix=/usr "$scratch/cmake/usr/lib/pkgconfig/komihash_rattle.pc" &&
