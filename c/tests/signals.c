@@ -12,11 +12,22 @@
 
 enum { FILLED = 4096, CALLER = 16384, PAGE = 65536 };
 static uint8_t stack[PAGE];
-static volatile sig_atomic_t is_over;
+static volatile sig_atomic_t is_over, signals; /* of the library */
+static uint8_t file[1 << 20], *base;
+static size_t size;
+
+static void find_library(void) {
+    Dl_info library;
+    CHECK(dladdr((void *)(uintptr_t)KOMIHASH(), &library));
+    size = fread(file, 1, sizeof file, fopen(library.dli_fname, "rb"));
+    CHECK(size && size < sizeof file);
+    base = library.dli_fbase;
+}
 
 #ifdef __x86_64__
 /* The processor traps after each instruction that begins with this flag. */
 enum { TRAP = 0x100, RED_ZONE = 128 };
+#define PC gregs[REG_RIP]
 static void begin(void) { raise(SIGTRAP); }
 static uint8_t *go_on(mcontext_t *at) {
     at->gregs[REG_EFL] = is_over ? at->gregs[REG_EFL] & ~TRAP : at->gregs[REG_EFL] | TRAP;
@@ -24,19 +35,13 @@ static uint8_t *go_on(mcontext_t *at) {
 }
 #else
 /* A trap stands in place of each instruction of the library but the one that runs next. */
-static uint8_t file[1 << 20], *base;
+#define PC pc
 static uint32_t trap = 0xd4200000, *next = &trap;
 static void put(uint32_t *at, uint32_t instruction) {
     *at = instruction;
     __builtin___clear_cache((char *)at, (char *)(at + 1));
 }
 static void begin(void) {
-    Dl_info library;
-    CHECK(dladdr((void *)(uintptr_t)KOMIHASH(), &library));
-    FILE *const content = fopen(library.dli_fname, "rb");
-    const size_t size = fread(file, 1, sizeof file, content);
-    CHECK(size && size < sizeof file);
-    base = library.dli_fbase;
     const Elf64_Ehdr *const head = (const void *)file;
     const Elf64_Shdr *section = (const void *)(file + head->e_shoff);
     for (; !(section->sh_flags & SHF_EXECINSTR); section++)
@@ -55,7 +60,9 @@ static uint8_t *go_on(mcontext_t *at) {
 
 static void handle(int number, siginfo_t *info, void *context) {
     (void)number, (void)info;
-    memset(go_on(&((ucontext_t *)context)->uc_mcontext) - FILLED, 0xa5, FILLED);
+    mcontext_t *const at = &((ucontext_t *)context)->uc_mcontext;
+    signals += at->PC - (uintptr_t)base < size;
+    memset(go_on(at) - FILLED, 0xa5, FILLED);
 }
 
 int main(void) {
@@ -65,9 +72,11 @@ int main(void) {
     sigaltstack(&(stack_t){.ss_sp = stack, .ss_size = sizeof stack}, NULL);
     sigaction(SIGTRAP, &(struct sigaction){.sa_sigaction = handle,
                                            .sa_flags = SA_SIGINFO | SA_ONSTACK}, NULL);
+    find_library();
     begin();
     calls();
     is_over = 1;
+    CHECK(signals > 10000);
     for (int i = 0; i < CALLER; i++)
         CHECK(bytes[i] == i % 251);
 }
