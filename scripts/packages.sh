@@ -4,6 +4,7 @@
 set -uo pipefail
 cd "$(dirname "$0")/.." || exit 1
 . scripts/parts.sh
+alone="$alone $*"
 
 packed=$scratch/packed
 release() { PYTHON=/usr/bin/python3 bash scripts/release.sh "$packed" "$1"; }

@@ -5,7 +5,7 @@ set -u
 cd "$(dirname "$0")/.." || exit 1
 . ./tests/cases.sh
 
-alone='make check'
+alone="make check${CROSS:+ CROSS=$CROSS}${RUN:+ RUN='$RUN'}${FROM:+ FROM=$FROM}"
 prefix="$scratch/a & 'b'"
 lib="$prefix/lib"
 archive="$lib/libkomihash_rattle.a"
