@@ -1,7 +1,7 @@
 #!/usr/bin/env bash
 # Runs every proof and test: the checks of pages, which take seconds, `rt ci`, and the tests of the
 # built program and of the library for C, whose assembly is made anew. The packages need none of the
-# other parts, so they are tested beside them.
+# other parts, so they are tested beside them, at a lower priority, because those take longer.
 #
 # The last line is 'N passed, M failed', the sum of all parts, with ', K skipped' if a tool is
 # missing; lines above it say which. With REQUIRE_ALL=1 in the environment, skipped is failed, but
@@ -36,7 +36,7 @@ by_their_clauses() {
 declare -A begun
 for section in $sections; do
     wanted "packages $section" || continue
-    CASE= TMPDIR=$scratch bash scripts/packages.sh $section > "$scratch/$section" 2>&1 &
+    CASE= TMPDIR=$scratch nice -n 5 bash scripts/packages.sh $section > "$scratch/$section" 2>&1 &
     begun[$section]=$!
 done
 if part python3 scripts/check_pages.py && part rt ci; then
