@@ -158,7 +158,7 @@ pub extern "C" fn komihash_v5_rand_init_with_extra_seed(seed: u64, extra_seed: u
 pub extern "C" fn komihash_v5_rand_init_words(s1: u64, s2: u64) -> Rand
     ensures { result ≡ (s1, s2) }
 {
-    Rand { s1, s2 }
+    Rand { s1, s2 } // in this order
 }
 
 /// Takes one step, and returns its output.
