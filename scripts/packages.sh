@@ -1,5 +1,5 @@
 #!/usr/bin/env bash
-# Tests the library for C as its package is unpacked, with nothing beside it, then the packages for
+# Tests the library for C as its package is unpacked, with nothing beside it, and the packages for
 # Rust, Python and JavaScript, and verifies machine code by verified.sh: packages.sh [SECTION..].
 set -uo pipefail
 cd "$(dirname "$0")/.." || exit 1

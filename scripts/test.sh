@@ -1,7 +1,7 @@
 #!/usr/bin/env bash
 # Runs every proof and test: the checks of pages, which take seconds, `rt ci`, and the tests of the
 # built program and of the library for C, whose assembly is made anew. The packages need none of the
-# other parts, so they are tested beside them, at a lower priority, because those take longer.
+# other parts, which take longer, so they are tested beside these, at a lower priority.
 #
 # The last line is 'N passed, M failed', the sum of all parts, with ', K skipped' if a tool is
 # missing; lines above it say which. With REQUIRE_ALL=1 in the environment, skipped is failed, but
@@ -13,7 +13,7 @@ cd "$(dirname "$0")/.." || exit 1
 export CASE=${1:-$CASE}
 # These cases read what `rt ci` prints.
 refused='rt ci refuses each must-fail edit'
-by_clause='rt ci refuses each edit by the clause that controls.txt names'
+by_clause='rt ci refuses each edit by the clause that is to refuse it'
 case $CASE in 'rt ci '*) CASE='rt ci' ;; esac
 
 # An edit that can't be applied counts for nothing in `rt ci`, which prints a line for each edit
