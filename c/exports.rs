@@ -1,10 +1,12 @@
 //! The functions of komihash_rattle.h, by the crate for Rust; with `--cfg rust_crate`, those that
-//! the crate `komihash` has, by that one. Each `unsafe` here rests on the first comment of that
-//! header, which says what callers see to. Where it lets room overlap an input, `out` overlaps a
-//! shared slice, but what overlaps is never written, or read through `out`.
+//! the crate `komihash` has, by that one. Each `unsafe` here rests on what that header asks of
+//! callers. It asks less than Rust does: what `out` points to may never have been written, and may
+//! overlap a stream or an input where a call writes nothing. No call reads through `out`, or what
+//! overlaps after it wrote; verify shows that of the machine code.
 #![no_std]
 #![allow(improper_ctypes_definitions)] // Callers see streams and generators as arrays of words.
 use core::mem::{align_of, size_of};
+use core::ptr;
 use core::slice::{from_raw_parts, from_raw_parts_mut};
 
 // No call panics, but tests of lengths may stay in the code.
@@ -59,9 +61,11 @@ macro_rules! export {
                     = komihash(array(bytes, length), seed);
                 "_start"(seed: u64) -> StreamedKomihash = StreamedKomihash::new_with_seed(seed);
                 "_init"(stream: *mut StreamedKomihash, seed: u64) -> ()
-                    = stream.write(StreamedKomihash::new_with_seed(seed));
+                    = ptr::write(stream, StreamedKomihash::new_with_seed(seed));
                 "_write"(stream: &mut StreamedKomihash, bytes: *const u8, length: usize) -> ()
-                    = stream.write(array(bytes, length));
+                    = if length > 0 {
+                        stream.write(from_raw_parts(bytes, length))
+                    };
                 "_finish"(stream: &StreamedKomihash) -> u64 = stream.finish();
                 "_rand_init"(seed: u64) -> Komirand = Komirand::init(seed);
                 "_rand_init_with_extra_seed"(seed: u64, extra_seed: u64) -> Komirand
@@ -69,11 +73,15 @@ macro_rules! export {
                 "_rand_init_words"(s1: u64, s2: u64) -> Komirand = Komirand::new(s1, s2);
                 "_rand_next"(rand: &mut Komirand) -> u64 = rand.next();
                 "_rand_fill"(rand: &mut Komirand, out: *mut u8, length: usize) -> ()
-                    = rand.fill_bytes(array_mut(out, length));
+                    = if length > 0 {
+                        rand.fill_bytes(from_raw_parts_mut(out, length))
+                    };
             }
 
             #[cfg(not(rust_crate))]
             use komihash_rattle::{stream::LONGEST_TEXT, $version::{pad, unpad}};
+            #[cfg(not(rust_crate))]
+            const _: () = assert!(LONGEST_TEXT == 131);
 
             #[cfg(not(rust_crate))]
             functions! { $name:
@@ -86,7 +94,7 @@ macro_rules! export {
                 "_resume"(stream: *mut StreamedKomihash, text: *const u8, length: usize) -> bool
                     = match StreamedKomihash::resume(array(text, length)) {
                         Some(resumed) => {
-                            stream.write(resumed);
+                            ptr::write(stream, resumed);
                             true
                         }
                         None => false,

@@ -37,7 +37,7 @@ esac
 llvm='-disable-loop-idiom-memcpy'
 case $target in aarch64*) llvm="$llvm -reserve-regs-for-regalloc=X18" ;; esac
 compile() {
-    $rustc --target "$target" --cap-lints allow --out-dir "$scratch" -C opt-level=3 \
+    $rustc --target "$target" --cap-lints allow --out-dir "$scratch" --cfg for_c -C opt-level=3 \
         -C codegen-units=1 -C panic=abort -C force-unwind-tables=yes -C "llvm-args=$llvm" "$@"
 }
 compile "$@" --edition "$(sed -n 's/^edition = "\(.*\)"/\1/p' "$crate/Cargo.toml")" \

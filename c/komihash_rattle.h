@@ -61,9 +61,9 @@ extern "C" {
 #endif
 
 /* The version of this library, whose first number is that of the soname. */
-#define KOMIHASH_RATTLE_VERSION "1.4.0"
+#define KOMIHASH_RATTLE_VERSION "1.5.0"
 #define KOMIHASH_RATTLE_VERSION_MAJOR 1
-#define KOMIHASH_RATTLE_VERSION_MINOR 4
+#define KOMIHASH_RATTLE_VERSION_MINOR 5
 #define KOMIHASH_RATTLE_VERSION_PATCH 0
 
 /* What `unpad` returns instead of a length. */
@@ -74,8 +74,8 @@ extern "C" {
 
 /* A stream of each version. Only `start`, `init` and `resume` make one: `= {0}` doesn't. It may be
  * copied by assignment, and each copy then goes on by itself. Only the calls below change a stream:
- * after any other change, they may return wrong hashes and access memory outside of it. So store or
- * send its saved text and not the stream itself: `resume` checks the text. */
+ * after any other change, they may return wrong hashes, access memory outside of it, or never return.
+ * So store or send its saved text and not the stream itself: `resume` checks the text. */
 typedef struct { uint64_t state[18]; } komihash_v4_stream;
 typedef struct { uint64_t state[18]; } komihash_v5_stream;
 

@@ -17,17 +17,20 @@ from pathlib import Path
 CHOICES = {r'^ *// Rattle alone\.\n(?:.+\n)+': '',
            r'^( *)// Rust instead:(?: (.*))?\n.+\n': r'\1\2\n'}
 # Public functions that are const in Rust, and types that derive traits there.
-CONST = 'init', 'init_with_extra_seed', 'new', 'new_with_seed', 'next', 'start', 'words'
-DERIVED = dict.fromkeys(('Call', 'StreamedKomihash', 'RawStream', 'Lanes', 'Pair', 'Pending'),
+CONST = 'init', 'init_with_extra_seed', 'new', 'new_with_seed', 'next', 'words'
+DERIVED = dict.fromkeys(('Call', 'StreamedKomihash', 'Lanes', 'XoredPair', 'Pending'),
                         'PartialEq, Eq') | {
     'KomiHasher': 'Copy, Debug, PartialEq, Eq, Hash',
     **dict.fromkeys(('KomiBuildHasher', 'Komirand'), 'Debug, PartialEq, Eq')}
 ADDED = {rf'^( *pub )(?=fn {name}\b)': r'\1const ' for name in CONST} | {
     rf'^(?=pub(?:\(crate\))? (?:enum|struct) {name}\b)': f'#[derive({traits})]\n'
     for name, traits in DERIVED.items()} | {
-    # src/version.rs has these compiled with this crate in debug builds.
-    r'^( *)#\[inline\]\n': r'\1#[cfg_attr(debug_assertions, inline(never))]\n'
-                            r'\1#[cfg_attr(not(debug_assertions), inline)]\n'}
+    # src/version.rs has these compiled with this crate in debug builds. The library for C, which
+    # has one copy of each, keeps the short hashes apart, where LLVM saves fewer registers.
+    rf'^( *)#\[inline{mark}\]\n': rf'\1#[cfg_attr({here}, inline(never))]\n'
+                                  rf'\1#[cfg_attr(not({here}), inline)]\n'
+    for mark, here in {'': 'debug_assertions',
+                       r'\(not_in_c\)': 'any(debug_assertions, for_c)'}.items()}
 MADE = '// Made by rust/erase.py of crates/komihash/src, where changes belong.\n'
 RUSTFMT = 'rustfmt', '--edition', '2024', '--config', 'use_small_heuristics=Max'
 ONLY_RATTLE = 'laws', 'tally', 'tests'  # modules
@@ -50,7 +53,7 @@ SPELLED = {'#[derive(Drop)]': '#[derive(Clone)]', 'use std::': 'use core::',
            'pub trait KomiStream: Sized + Drop': 'pub trait KomiStream: Sized'}
 NAMED = re.compile(r'let (\w+) = ([^;{}]*);\n *((?:let \w+ = |return )?if )\1 (?=\{)')
 ATTRIBUTES = re.compile(r'#!?\[([^]]*)\]'), re.compile('|'.join((
-    r'inline(\((always|never)\))?', 'track_caller', 'must_use', r'repr\((C|transparent)\)',
+    r'inline(\((always|never|not_in_c)\))?', 'track_caller', 'must_use', r'repr\((C|transparent)\)',
     r'derive\((Clone|Clone, Copy)\)', r'allow\([\w:, ]+\)')))
 MACROS = (re.compile(r'\b(?!(?:if|while|match|return|in)\b)(\w+)\s*!(?!=)'),
           re.compile('assert|unreachable'))
@@ -214,11 +217,12 @@ def main(source, out):
     files = [file.relative_to(source) for file in source.rglob('*.rt')]
     texts = {file: (source / file).read_text('utf-8') for file in files
              if file.parts[0].removesuffix('.rt') not in (*ONLY_RATTLE, *BY_HAND)}
+    codes = [chosen(text)[0] for text in texts.values()]
     for place in ADDED:
-        any(re.search(place, it, re.M) for it in texts.values()) or refuse('nothing has', place)
+        any(re.search(place, code, re.M) for code in codes) or refuse('nothing has', place)
     traits = {}
-    for text in texts.values():
-        traits |= traits_in(chosen(text)[0])
+    for code in codes:
+        traits |= traits_in(code)
     for file, text in texts.items():
         made = (out / file).with_suffix('.rs')
         made.parent.mkdir(parents=True, exist_ok=True)

@@ -2,8 +2,9 @@
 # Checks that no other crate can raise a tally, write a stream that promises less, or hash in a
 # version 3. Each attack in attacks.txt is a module of a crate above `komihash`, or a file of that
 # crate's proofs. `tally_raised_by_hand` has the handwritten proof of `Tally::raise`, but where this
-# uses the key of tallies, it says that nothing changes. `stream_not_counted` is an example whose
-# answer isn't counted, and `stream_with_weaker_contract` has a contract that doesn't ask for that.
+# uses the key of tallies, it says that nothing changes. `stream_of_version_three` is an example
+# that says so, `stream_not_counted` one whose answer isn't counted, and
+# `stream_with_weaker_contract` has a contract that doesn't ask for that.
 set -u
 cd "$(dirname "$0")" || exit 1
 . ../c/tests/cases.sh
@@ -17,9 +18,11 @@ awk -v "above=$above" '
     /^\/\/ [a-z_]+$/ { file = above "/src/" $2 ".rt" }
     /^-- [a-z_]+$/ { file = above "/proofs/" $2 ".antt" }
     file { print > file }' attacks.txt
+own=../crates/examples/src/own_streams.rt
+sed -e 's/= 5;/= 3;/; s/{ 5 }/{ 3 }/; s/^    ghost versions.*/& \/\/ refused: versions/' $own \
+    > "$above/src/stream_of_version_three.rt"
 sed -e 's/, tally: \(.*\) -> u64 {/, _tally: \1 -> u64 { \/\/ refused: costs/' \
-    -e 's/answer(tally)/finish()/' ../crates/examples/src/own_streams.rt \
-    > "$above/src/stream_not_counted.rt"
+    -e 's/answer(tally)/finish()/' $own > "$above/src/stream_not_counted.rt"
 sed -e '1a ghost use Rattle.komihash.specs.Stream.{Answered};' \
     -e 's/^impl KomiStream.*/& \/\/ refused: answer-tells/' \
     -e 's/ -> u64 .*costs/ -> u64 ensures { Answered 5 self.now.0.state result } {/' \

@@ -1,6 +1,7 @@
 #!/usr/bin/env bash
 # Tests the library for C as its package is unpacked, with nothing beside it, and the packages for
-# Rust, Python and JavaScript, and verifies machine code by verified.sh: packages.sh [SECTION..].
+# Rust, Python and JavaScript, and verifies machine code of the library and of both crates for Rust:
+# packages.sh [SECTION..].
 set -uo pipefail
 cd "$(dirname "$0")/.." || exit 1
 . scripts/parts.sh
@@ -19,11 +20,29 @@ in_package() { make -C "$scratch"/libkomihash_rattle-*/ --no-print-directory "$@
 # Makes something from Rust for another processor: by Debian's compiler, with a core library that is
 # made here: from_rust 'TARGET [OPTION..]' ARGUMENT..
 debian='/usr/bin/rustc /usr/lib/rustlib/src/rust/x.py'
-sysroot() { [ -d "$scratch/$1" ] || bash scripts/sysroot.sh "$1" "$scratch/$1" >&2; }
+sysroot() { [ -d "$scratch/$1" ] || bash c/sysroot.sh "$1" "$scratch/$1" >&2; }
 from_rust() {
     local target=${1%% *}
     sysroot "$target" &&
         in_package "RUSTC=/usr/bin/rustc --sysroot $scratch/$target${1#"$target"}" "${@:2}"
+}
+# Runs a case if the compiler that a file names is here, and other tools are:
+# by_its_compiler FILE 'TOOL..' NAME COMMAND..
+by_its_compiler() {
+    local compiler
+    compiler=$(grep -aoE 'rustc [0-9.]+ \([0-9a-f]+ [0-9-]+\)' "$1" | tail -n 1)
+    if [[ $(/usr/bin/rustc --version) = "$compiler"* ]]; then
+        needs "${@:2}"
+    else
+        skip "$3 (optional)" "$compiler"
+    fi
+}
+names_its_sources() {
+    local made_of
+    made_of=$(bash c/assembly.sh) && [ "$(grep -l "SHA-256 $made_of$" c/assembly/*.S | wc -l)" = 3 ]
+}
+made_of_crate() {
+    in_package assembly "ASSEMBLY=$scratch/assembly" && diff -r "$scratch/assembly" c/assembly
 }
 made_of_web() {
     from_rust 'wasm32-unknown-unknown -C linker=wasm-ld' wasm "OUT=$scratch/web" &&
@@ -170,6 +189,9 @@ always run_case 'the package of the library for C is made again from itself' unp
 arm=aarch64-linux-gnu
 library() {
     local windows=x86_64-w64-mingw32
+    run_case 'the assembly names the sources that it is made of' names_its_sources
+    by_its_compiler c/assembly/x86_64.S "$debian" 'the assembly is made of the crate for Rust' \
+        made_of_crate
     part in_package check
     # Debian ends the server of wine with each program, and then one program in some 500 finds none.
     mkdir "$WINEPREFIX" && wineserver -p3600 < /dev/null > "$scratch/case" 2>&1
@@ -222,14 +244,48 @@ languages() {
     needs tsc 'the types of the package for JavaScript' tsc --noEmit --allowJs --checkJs \
         --target es2022 --module es2022 --moduleResolution node16 "$scratch/js/tests.mjs"
     needs 'node tsc' 'the types of the package for JavaScript, by require' js_required
-    made_by=$(sed -n '$s/.* \/\/ //p' js/komihash_rattle.js)
-    if [[ $(/usr/bin/rustc --version) = "$made_by"* ]]; then
-        needs "wasm-ld $debian" 'the WebAssembly in it is made of the crate for Rust' made_of_web
+    by_its_compiler js/komihash_rattle.js "wasm-ld $debian" \
+        'the WebAssembly in it is made of the crate for Rust' made_of_web
+}
+verified() {
+    # These are all builds of the assembly, some functions by a second solver too, and one from the
+    # crate for Rust.
+    part_with "$python" in_package verify
+    part_with "$arm-gcc $python" in_package verify "CROSS=$arm-"
+    part_with "cvc5 $python" in_package verify LEVEL=x86-64 SECOND=cvc5 \
+        'FUNCTION=komihash_v5 komihash_v5_finish komihash_v5_save'
+    part_with "rustc $python" in_package verify FROM=rust
+
+    tests=c/verify/tests out=$(echo "$scratch"/libkomihash_rattle-*/out) so=libkomihash_rattle.so.1
+    libraries=("x86-64:$out/$so" "x86-64-v3:$out/glibc-hwcaps/x86-64-v3/$so")
+    always run_case 'the libraries that are edited' in_package
+    always needs $arm-gcc 'the library for ARM64 that is edited' in_package "CROSS=$arm-"
+    [ ! -d "$out/$arm" ] || libraries+=("armv8-a:$out/$arm/$so")
+    part_with "$python" "$python" -B $tests/bodies.py x86-64 "${CC:-cc}"
+    needs "$python" 'calls that are left out, and other definitions, are noticed' \
+        "$python" -B $tests/changes.py "${libraries[0]}"
+    part_with "$python $arm-gcc" "$python" -B $tests/bodies.py armv8-a $arm-gcc
+    needs "$python" 'edits of files are refused' "$python" -B $tests/attacks.py "${libraries[@]}"
+    if grep -qw avx2 /proc/cpuinfo; then
+        needs "$python" 'random instructions do in the model what they do on the processor' \
+            "$python" -B $tests/instructions.py x86-64-v3 "${CC:-cc}"
     else
-        skip 'the WebAssembly in it is made of the crate for Rust (optional)' "$made_by"
+        skip 'random instructions (optional)' 'a processor with AVX2'
+    fi
+    needs "$python $arm-gcc qemu-aarch64" 'unsound changes of the check are noticed' \
+        "$python" -B $tests/mutants.py "${libraries[@]}"
+    needs "$python $arm-gcc qemu-aarch64" \
+        'random instructions of ARM64 do in the model what they do in an emulator' \
+        "$python" -B $tests/instructions.py armv8-a $arm-gcc qemu-aarch64 -L /usr/$arm
+
+    # Of the Rust crate, a build is verified.
+    if [ "${KOMIHASH_CRATE:-}" ]; then
+        BUILDS=x86-64-v2:3 part_with "rustc $python" bash compare/run.sh verify
+        needs cargo 'random calls have the values of the Rust crate' bash compare/run.sh fuzz 1 2000
+    else
+        skip 'what the Rust crate computes (optional)' 'its folder as KOMIHASH_CRATE'
     fi
 }
-verified() { . scripts/verified.sh; }
 for section in ${@:-$sections}; do
     declare -F "$section" || exit
     $section

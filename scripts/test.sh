@@ -1,7 +1,7 @@
 #!/usr/bin/env bash
 # Runs every proof and test: the checks of pages, which take seconds, `rt ci`, and the tests of the
-# built program and of the library for C, whose assembly is made anew. The packages need none of the
-# other parts, which take longer, so they are tested beside these, at a lower priority.
+# built program. The packages, among them the library for C, need none of the other parts, which
+# take longer, so they are tested beside these, at a lower priority.
 #
 # The last line is 'N passed, M failed', the sum of all parts, with ', K skipped' if a tool is
 # missing; lines above it say which. With REQUIRE_ALL=1 in the environment, skipped is failed, but
@@ -47,7 +47,7 @@ if part python3 scripts/check_pages.py && part rt ci; then
         skip "$by_clause (optional)" 'edits that this run of rt ci tries'
     fi
     part python3 scripts/controls.py
-    for name in attacks program compare_assembly; do part bash scripts/$name.sh; done
+    for name in attacks program; do part bash scripts/$name.sh; done
 else
     echo 'FAILED: the parts that need these were not run'
 fi

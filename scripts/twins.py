@@ -1,6 +1,6 @@
 #!/usr/bin/env python3
-"""Makes v4.rt of v5.rt in `komihash` and `komihash_c`, but for its first comment, and in `promises`
-the impl for version 4 of that for version 5."""
+"""Makes v4.rt of v5.rt in `komihash`, but for its first comment, and in `promises` the impl for
+version 4 of that for version 5."""
 import re
 from pathlib import Path
 

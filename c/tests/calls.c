@@ -21,6 +21,8 @@
 typedef KOMIHASH(_stream) Stream;
 typedef KOMIHASH(_rand) Rand;
 enum { ROOM = KOMIHASH_LONGEST_TEXT, PAGES = 65536 };
+/* What exports.rs and verify take for granted. */
+typedef char sizes[sizeof(Stream) == 144 && sizeof(Rand) == 16 && ROOM == 131 ? 1 : -1];
 
 static uint8_t *message_end, *out_end, *copy_end;
 

@@ -66,12 +66,13 @@ calls_each() {
     done | sed 's/^_//; s/ U$//' | sort | diff "$scratch/declared" -
 }
 # Whether a library is marked for IBT and SHSTK, or for BTI: by a note, and in each function that it
-# exports.
+# exports, some by two names.
 marked() {
-    case ${1##*/} in *.a) flag= ;; *) flag=-D ;; esac
+    case ${1##*/} in *.a) flag=-t ;; *) flag=-T ;; esac
     "${CROSS}readelf" -n "$1" | grep -E 'feature: (IBT, SHSTK|BTI)$' &&
         "${CROSS}objdump" -d "$1" | grep -oE 'endbr64|bti.c' > "$scratch/marks" &&
-        test "$(wc -l < "$scratch/marks")" = "$("$NM" -P -g $flag "$1" | grep -c ' T ')"
+        test "$(wc -l < "$scratch/marks")" = "$("${CROSS}objdump" $flag "$1" |
+            awk '$2 == "g" && $3 ~ /F/ { print $1, $4 }' | sort -u | wc -l)"
 }
 without_libraries() { ! "${CROSS}objdump" -p "$OUT/$dll" | grep 'DLL Name'; }
 # Opens the DLL, as other languages do, and looks for a function and its unwind table.
@@ -441,8 +442,6 @@ for missing in "no-rustc:there is no Rust compiler 'no-rustc'" \
         build machine=sun4-linux "RUSTC=${missing%%:*}" "OUT=$scratch/none"
 done
 [ "$from" != assembly ] || run_case '32-bit pointers' fails '64-bit pointers' build CFLAGS=-m32
-needs bash 'assembly.sh without the repository' fails 'needs the repository' \
-    sh -c 'cp assembly.sh "$0" && bash "$0/assembly.sh" here' "$scratch"
 run_case 'an OUT with spaces' fails 'no spaces' build OUT='a b'
 run_case 'a missing compiler' fails "'none -dumpmachine' names no machine" build CC=none
 run_case 'a compiler other than gcc and clang' fails 'CC must be gcc or clang' build CC=true

@@ -67,6 +67,12 @@ def form_of(places, stable, first, second, word):
         if symbols(constant) <= stable and \
                 z3.eq(constant, simple(b - linear(other.units, other.base, other.length))):
             return constant + linear(*places)
+    # As of a write whose last bytes are counted before the loop is left.
+    def left(units, _, length):
+        return length - units & 63
+    if first.facts.holds((), a == left(one.units, one.base, one.length)) and \
+            second.facts.holds((), b == left(other.units, other.base, other.length)):
+        return left(*places[:3])
     count = range(len(one.words))
     for key in [*zip(count), *itertools.combinations(count, 2)]:
         def xored(words):

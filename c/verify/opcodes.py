@@ -29,6 +29,7 @@ X86 = {
         vunpckhpd v66:0f15 vL66:0f15
         vpextrq v.66W:0f3a16; vextracti128 vL.66:0f3a39; vinserti128 vL66:0f3a38
         vpermq vL.66W:0f3a00; vpermpd vL.66W:0f3a01; vbroadcastsd vL.66:0f3819
+        vbroadcastf128 vL.66:0f381a
         vblendps v66:0f3a0c vL66:0f3a0c'''}
 ARITHMETIC = {0: 'add', 1: 'or', 2: 'adc', 4: 'and', 5: 'sub', 6: 'xor', 7: 'cmp'}
 SHIFTS = {0: 'rol', 4: 'shl', 5: 'shr', 7: 'sar'}

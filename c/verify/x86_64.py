@@ -110,6 +110,7 @@ TABLE.update({
     'lea': lambda c, i: c.put(i, 0, part(c.address(i, i.ops[1]), 0, 8 * i.ops[0].size)),
     'not': lambda c, i: c.put(i, 0, ~c.get(i, 0)),
     'vbroadcastsd': lambda c, i: c.put(i, 0, join([c.get(i, 1, 64)] * 4)),
+    'vbroadcastf128': lambda c, i: c.put(i, 0, join([c.get(i, 1, 128)] * 2)),
     **{f'set{code}': lambda c, i: c.put(i, 0, choose(
         c.selector(i.mnemonic[3:]), bv(1, 8), bv(0, 8))) for code in CONDITIONS},
     **{f'cmov{code}': lambda c, i: c.put(i, 0, choose(

@@ -88,7 +88,7 @@ where
     /// let mut restored = Komirand::new(s1, s2);
     /// assert_eq!([restored.next(), restored.next()], [generator.next(), generator.next()]);
     /// ```
-    // The library for C reads the pair by this. In Rattle, it isn't stable.
+    // In Rattle, this isn't stable.
     #[must_use]
     #[inline(always)]
     pub const fn words(&self) -> (u64, u64) {

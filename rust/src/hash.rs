@@ -13,8 +13,8 @@ use crate::rounds::{
 use crate::utils::{read_partial_word, read_word, word_at};
 use crate::version::{IsVersion, Versions};
 
-#[cfg_attr(debug_assertions, inline(never))]
-#[cfg_attr(not(debug_assertions), inline)]
+#[cfg_attr(any(debug_assertions, for_c), inline(never))]
+#[cfg_attr(not(any(debug_assertions, for_c)), inline)]
 fn hash_of_partial_word<const V: u8>(bytes: &[u8], seed: u64) -> u64 {
     let pair = seed_pair(seed);
     let final_word = read_partial_word(bytes, padding_byte::<V>(bytes));
@@ -22,8 +22,8 @@ fn hash_of_partial_word<const V: u8>(bytes: &[u8], seed: u64) -> u64 {
 }
 
 // The final word comes first, so that its shift doesn't take registers that the products need.
-#[cfg_attr(debug_assertions, inline(never))]
-#[cfg_attr(not(debug_assertions), inline)]
+#[cfg_attr(any(debug_assertions, for_c), inline(never))]
+#[cfg_attr(not(any(debug_assertions, for_c)), inline)]
 fn hash_of_one_word<const V: u8>(bytes: &[u8], seed: u64) -> u64 {
     let final_word = final_word_of_many(bytes, padding_byte::<V>(bytes));
     let pair = seed_pair(seed);
@@ -31,16 +31,16 @@ fn hash_of_one_word<const V: u8>(bytes: &[u8], seed: u64) -> u64 {
 }
 
 // This function is apart from the next one, because keys often have 16 bytes.
-#[cfg_attr(debug_assertions, inline(never))]
-#[cfg_attr(not(debug_assertions), inline)]
+#[cfg_attr(any(debug_assertions, for_c), inline(never))]
+#[cfg_attr(not(any(debug_assertions, for_c)), inline)]
 fn hash_of_16_bytes<const V: u8>(bytes: &[u8], seed: u64) -> u64 {
     let pair = seed_pair(seed);
     let pair = pair_round(pair, read_word(bytes), word_at(bytes, 8));
     close(pair, padding_byte::<V>(bytes), 0)
 }
 
-#[cfg_attr(debug_assertions, inline(never))]
-#[cfg_attr(not(debug_assertions), inline)]
+#[cfg_attr(any(debug_assertions, for_c), inline(never))]
+#[cfg_attr(not(any(debug_assertions, for_c)), inline)]
 fn hash_of_words<const V: u8>(bytes: &[u8], seed: u64) -> u64 {
     let pair = seed_pair(seed);
     let final_word = final_word_of_many(bytes, padding_byte::<V>(bytes));

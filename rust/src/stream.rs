@@ -3,8 +3,6 @@
 
 pub use saved::LONGEST_TEXT;
 
-// It is public for the library for C, and isn't stable.
-mod raw;
 mod saved;
 pub(crate) mod streamed;
 

@@ -92,14 +92,20 @@ pub(crate) fn read_whole_words(bytes: &[u8], out: &mut [u64]) {
     }
 }
 
+/// Fills `out`, of eight bytes for each word, with the bytes of words.
+#[inline(always)]
+pub(crate) fn write_words(words: &[u64], out: &mut [u8]) {
+    for i in 0..words.len() {
+        write_word(words[i], &mut out[8 * i..8 * i + 8]);
+    }
+}
+
 /// Writes the first `count` bytes of `words` to the front of `out`.
 #[inline(always)]
 pub(crate) fn write_first_bytes(words: &[u64], count: usize, out: &mut [u8]) {
     let whole = count / 8;
-    let front = &words[..whole];
-    for i in 0..whole {
-        write_word(front[i], &mut out[8 * i..8 * i + 8]);
-    }
+    // Since the compiler sees both lengths, the loop in `write_words` tests no index.
+    write_words(&words[..whole], &mut out[..8 * whole]);
     if count % 8 > 0 {
         write_partial_word(words[whole], &mut out[8 * whole..count]);
     }

@@ -15,7 +15,8 @@ LIBRARY = 'libkomihash_rattle.so.1'
 # A name, a function (or that of NAME), why it is refused, if it is, and a body, before which `red
 # zone` may stand. If the name of a case and `..` come before the reason, only such cases are run.
 # `pad` is a whole body of that function, with something before its loop, in each turn, and after.
-# What follows `turn:` or `next:` goes to where a turn of the function's own loop begins, or ends.
+# What follows `turn:` or `next:` goes to where a turn of the function's own loop begins, or ends,
+# and names its registers as ROLES does.
 X86 = '''
 .macro after code; push rdi; push rsi; push rdx; call body; pop rdx; pop rsi; pop rdi; \\code
     1: ret; .endm
@@ -36,8 +37,8 @@ more than the stack||out of the stack|sub rsp, 4097; add rsp, 4097
 a return address that a loop loses|v5_pad|Pad..not written|pad "add rsp, 8", "", "sub rsp, 8"
 rbx after a turn|v5_pad|Pad..rbx of the caller|pad "", "cmp r9, 400; jne .Lturn; bts rbx, 63", ""
 rbx if refused|v5_pad|Pad..rbx of the caller|test rcx, rcx; jne body; bts rbx, 63; xor eax, eax; ret
-an old generator|v5_rand_fill|Fill..does not have|push rbp; mov rbp, [rdi]; call body; pop rbp; ret;
-    turn: cmp r14, 500; jne 1f; mov rcx, rbp; 1:
+an old generator|v5_rand_fill|Fill..does not have|push r15; mov r15, [rdi]; call body; pop r15; ret;
+    turn: cmp INDEX, 500; jne 1f; mov FACTOR, r15; 1:
 a word that a loop loses|v5_pad|Pad..not written|
     pad "sub rsp, 8; cmp rsi, 5000; jb 1f; mov [rsp], rsi; 1:", "", "mov r11, [rsp]; add rsp, 8"
 a stack that is lower at the end||not where the caller left it|push [rsp]
@@ -54,8 +55,8 @@ a byte far below||not written|
 a jump by a register of the caller|v5_save|save(5,)..depends on r10|test r10, r10; je 1f; 1:
 an old lane|v5_write|Write(13,)..at 72|push rdi; push [rdi + 72]; call body; pop rax; pop rdi;
     mov [rdi + 72], rax; ret
-a jump by a low half|v5|Hash(0,)..depends on low|call body; test rcx, rcx; je 1f; 1: ret
-a jump by a lane|v5|Hash(6,)..depends on|next: test rcx, rcx; je 1f; 1:
+a jump by a low half|v5|Hash(6,)..depends on low|next: test rax, rax; je 1f; 1:
+a jump by a lane|v5|Hash(6,)..depends on|turn: test LANE, LANE; je 1f; 1:
 a jump by what a loop lost|v5_pad|Pad..depends on undefined|
     pad "", "cmp rsi, 5000; jne .Lturn; test rax, rax; je 1f; 1: mov rax, r10", ""
 a write where there may be no room|v5_save|in no array|mov byte ptr [rsi], 0
@@ -91,11 +92,11 @@ two registers that turns change|v5_pad|Pad..many values|
 a byte after the last block|v5_write|Write(13,)..in no array|
     mov r9, [rdi + 64]; lea r10, [rdx + r9]; and r10, -64; sub r10, r9; mov al, [rsi + r10]
 a byte that may not be there|v5_write|Write(13,)..in no array|
-    turn: 8: cmp [rsi], al; cmp r13, 127; jbe 9f; next: jmp 8b; 9:
+    turn: 8: cmp [BYTES], al; cmp LEFT, 127; jbe 9f; next: jmp 8b; 9:
 a word of 160 bytes of one|v5_rand_fill|Fill..bytes: found|
-    next: cmp r8, 160; jne 1f; not byte ptr [rsi + 8*r14 - 8]; 1:
-a hash of 150 bytes|v5|Hash(6,)..does not have|
-    push rsi; call body; pop rsi; ret; next: cmp qword ptr [rsp + 72], 150; jne 1f; not rbx; 1:
+    next: cmp COUNT, 20; jne 1f; not byte ptr [OUT + 8*INDEX - 8]; 1:
+a hash of 270 bytes|v5|Hash(6,)..does not have|push rsi; call body; pop rsi; ret;
+    next: cmp qword ptr [rsp + FRAME], 270; jne 1f; not LANE; 1:
 a jump by the seed|v5|Hash(0,)..depends on seed|cmp rdx, 5; jb 1f; 1:
 a jump by the top bit|v4_save|save(5,)..depends on top bit|cmp byte ptr [rdi + 137], 1; jb 1f; 1:
 one of an address|v5_save|save(5,)..depends|mov al, [rdi + 72]; and eax, 1; mov al, [rdi + rax]
@@ -128,17 +129,19 @@ SAVED = {'x86-64': [(one, f'bts {one}, 32') for one in 'rbx rbp r12 r13 r14 r15'
 ACCESS = {'read': 'cmp {} ptr [{}], 0', 'write': 'mov {} ptr [{}], 0', 'both': 'or {} ptr [{}], 0'}
 ARRAYS = '''
 v5|hash_of(9,)|read rdi 9 rsi
-v5|Hash(0,)|read rdi 128 rsi|read rdi+rsi-64 64|read rdi 128 rsi: turn: cmp rsi, 5000; jne 1f; _; 1:
+v5|Hash(0,)|read rdi 128 rsi|read rdi+rsi-64 64|
+    read BYTES 128 LEFT: turn: cmp LEFT, 5000; jne 1f; _; 1:
 v5_init|start_of|write rdi 144
 v5_write|write_within(5, 9)|both rdi 144|read rsi 9 rdx
-v5_write|Write(13,)|both rdi 144|read rsi 50|read rsi 128: turn: cmp r13, 5000; jne 1f; _; 1:|
+v5_write|Write(13,)|both rdi 144|read rsi 50|
+    read BYTES 128: turn: cmp LEFT, 5000; jne 1f; _; 1:|
     read rsi+r9-1 1: after "mov r9, rdx; sub r9, [rdi + 64]; _"
 v5_finish|finish(5, 1)|read rdi 144
 v5_save|save(5,)|read rdi 144|write rsi 73: cmp rdx, 131; jb body; _
 v5_resume|resume(68,)|write rdi 144: after "test al, al; je 1f; _"|read rsi 68 rdx
 v5_rand_next|rand_next()|both rdi 16
 v5_rand_fill|rand_fill(5,)|both rdi 16|write rsi 5 rdx
-v5_rand_fill|Fill|both rdi 16|write rsi+8*r14 8: turn: cmp r14, 500; jne 1f; _; 1:
+v5_rand_fill|Fill|both rdi 16|write OUT+8*INDEX 8: turn: cmp INDEX, 500; jne 1f; _; 1:
 v5_pad|pad(9,)|read rdi 9 rsi|write rdx 16: cmp rcx, 2; jb body; _
 v5_pad|Pad|read rdi+rsi-128 128
 v5_unpad|unpad(2, (0, 1))|read rdi 16 8*rsi|both rdx 8: after "cmp rax, -1; je 1f; _"
@@ -170,8 +173,14 @@ v5_unpad|Unpad(None,)|length: cmp rsi, 40; jne 1f; inc rax
 v5_unpad|Unpad((7, 1),)|length: cmp rsi, 33; jne 1f; or al, 128|
     length: cmp rsi, 48; jne 1f; or al, 128
 '''
-LOOPS = {'v5': 'komihash::hash::hash_of_blocks::<=5>', 'v5_rand_fill': 'komihash_v5_rand_fill',
-         'v5_write': 'komihash::stream::raw::RawStream::complete_blocks::<=5>'}
+LOOPS = {'v5': '_R.*hash_of_blocksKh5_.*', 'v5_rand_fill': 'komihash_v5_rand_fill',
+         'v5_write': '_R.*Kh5_.*complete_blocks.*'}
+# The registers of these loops, whatever the compiler chose: what is multiplied, a lane, the address
+# of the bytes that are read, and how many are left; in a fill the address, the index of the word,
+# and how many words there are. FRAME is how far above the stack pointer a body's last push lies.
+ROLES = {'FACTOR': r'mulq\t%(\w+)', 'LANE': r'addq\t%(\w+), %', 'BYTES': r'\t56\(%(\w+)\)',
+         'LEFT': r'cmpq\t\$\d+, %(\w+)\n\tja', 'OUT': r'\(%(\w+),%\w+,8\)',
+         'INDEX': r'\(%\w+,%(\w+),8\)', 'COUNT': r'cmpq\t%\w+, %(\w+)\n\tjne'}
 OUTPUTS += 'v5_start|start_of|address: inc rax' + ''.join(
     f'|at {k & -8}: not byte ptr [rdi + {k}]' for k in (*range(7, 136, 8), 136))
 # Assembly, marks after which bodies begin, the syntax of bodies and of the rest, macros and rows.
@@ -224,10 +233,17 @@ def build(path, level, compiler, name, body):
     """Builds the library with a body before that of a function."""
     source, mark, begin, end, (macros, _) = KINDS[level]
     whole = (C / f'assembly/{source}.S').read_text()
+    # Functions of the same code are one, which has two names.
+    name = re.search(f'\nkomihash_{name} = komihash_(.*)|$', whole)[1] or name
     body, *parts = re.split('(?:^|; )(turn|next): ', body)
     for part, code in zip(parts[::2], parts[1::2]):
-        loop = r'(\.L\w+):\n(?P<turn>)(?:.*\n)*?(?P<next>).*\n\tj\w+\t\1\n'
-        at = re.search(f'\n"?{LOOPS[name]}"?:\n(?:.*\n)*?{loop}', whole).start(part)
+        loop = r'(?P<at>\.L\w+):\n(?P<turn>)(?P<loop>(?:.*\n)*?' \
+            r'(?P<next>).*\n\tj(?!mp)\w+\t(?P=at)\n)'
+        found = re.search(f'\n{LOOPS[name]}:\n(?P<before>(?:.*\n)*?){loop}', whole)
+        at, pushes = found.start(part), found['before'].count('\tpushq\t')
+        frame = sum(map(int, re.findall(r'subq\t\$(\d+), %rsp', found['before'])), 8 * pushes + 8)
+        code = re.sub('|'.join(ROLES), lambda it: re.search(ROLES[it[0]], found['loop'])[1],
+                      code.replace('FRAME', str(frame)))
         whole = f'{whole[:at]}{begin}{code}\n{end}{whole[at:]}'
     before, mark, after = re.split(f'(\nkomihash_{name}:\n.*\n{mark})', whole, 1)
     code = f'{begin}{macros}{end}{before}{mark}{begin}{body}\nbody:\n{end}{after}'

@@ -6,13 +6,12 @@ use Rattle.std.proofs.Common.{w64}
 use Rattle.std.proofs.lemmas.List.{drop-drop}
 use Rattle.std.proofs.lemmas.List.{take-append-le}
 use Rattle.std.proofs.lemmas.Slice.{take-put_mid, drop-put_mid}
-use borrow.Rule.Slice.PartMut.{put_mid}
 use Rattle.std.proofs.Math.Nat.{div-div-eq-div-mul}
 use Rattle.std.specs.Hash.{le_bytes}
 use Rattle.std.specs.Int.{to_le_bytes, bytes_low_first}
 use Rattle.std.specs.Simd.Lanes.{digits_l}
 use Rattle.std.proofs.lemmas.Grind.{elements, common_steps}
-use Rattle.komihash.specs.Internals.{stored_words, whole_words}
+use Rattle.komihash.specs.Internals.{packed_words, whole_words}
 use Rattle.komihash.specs.Words.{AreBytes, AreWords, word_of, all_bytes}
 use Rattle.komihash.proofs.WholeWords.{length-whole_words}
 use Rattle.komihash.proofs.WordOf.{AreBytes-drop, word_of-take-lt}
@@ -40,6 +39,13 @@ take-all_bytes (w ∷ ws) zero over lt le = take-append-le over (to_le_bytes w64
 take-all_bytes (w ∷ ws) (suc i) over lt le =
     grind (arith, drop-drop (8 * i) 8 (all_bytes (w ∷ ws)), take-all_bytes ws i over)
 
+-- the bytes of the first words come first
+pub all_bytes-take : (ws : List ℕ) (n : ℕ) → all_bytes (take n ws) ≡ take (8 * n) (all_bytes ws)
+all_bytes-take [] n = grind (arith, elements)
+all_bytes-take (w ∷ ws) zero = refl
+all_bytes-take (w ∷ ws) (suc n) =
+    grind (arith, take-add 8 (8 * n) (all_bytes (w ∷ ws)), all_bytes-take ws n)
+
 -- the first n items of out are those of all, and the others those of old
 pub record Covers (n : ℕ) (out all old : List ℕ) : Type 0 where
   pub front : take n out ≡ take n all
@@ -51,19 +57,17 @@ pub Covers-next : (i x : ℕ) {out all old : List ℕ} → Covers i out all old
     → Covers (i + 1) (set out i x) all old
 Covers-next i x so (fits, some) is = grind (arith, common_steps)
 
--- the lowest j bytes of word i are written over k bytes of `out`, up to byte n
-pub record WordWritten (ws out new : List ℕ) (i j k n : ℕ) : Type 0 where
-  pub bytes : new ≡ take j (to_le_bytes w64 (get_or ws i 0))
-  pub is_word : i < length ws
-  pub at_most_8 : j ≤ 8
-  pub end : 8 * i + j ≡ n
-  pub replaced : 8 * i + k ≡ n
-  pub room : n ≤ length out
-
-pub Covers-more : {ws out new old : List ℕ} {i j k n : ℕ} → Covers (8 * i) out (all_bytes ws) old
-    → WordWritten ws out new i j k n → Covers n (put_mid (8 * i) k out new) (all_bytes ws) old
-Covers-more so word =
-    grind (arith, elements, take-all_bytes, take-put_mid, take-add, drop-put_mid)
+-- what is read of a list into which bytes of words were put
+pub ruleset written = (
+  elements,
+  take-append-le,
+  take-all_bytes,
+  take-put_mid,
+  take-add,
+  drop-put_mid,
+  length-all_bytes,
+  all_bytes-take,
+)
 
 -- a word's first digits are the bytes that it was made of
 digits-word_of : (n : ℕ) (xs : List ℕ) → AreBytes xs
@@ -82,30 +86,30 @@ take-word_of xs are =
     ap (take (length xs)) (sym (simp div-div-eq-div-mul)) ∙ digits-word_of 8 xs are
 
 -- the words that store bytes have these bytes
-pub bytes-stored_words : (n : ℕ) (xs : List ℕ) → AreBytes xs → length xs ≤ 8 * n
-    → take (length xs) (all_bytes (stored_words n xs)) ≡ xs
-unfolding stored_words
-bytes-stored_words zero [] are le = refl
-bytes-stored_words zero (x ∷ xs) are le = absurd (omega arith)
-bytes-stored_words (suc n) xs are le =
-    let others = bytes-stored_words n (drop 8 xs) (AreBytes-drop 8 xs are) in
+pub bytes-packed_words : (n : ℕ) (xs : List ℕ) → AreBytes xs → length xs ≤ 8 * n
+    → take (length xs) (all_bytes (packed_words n xs)) ≡ xs
+unfolding packed_words
+bytes-packed_words zero [] are le = refl
+bytes-packed_words zero (x ∷ xs) are le = absurd (omega arith)
+bytes-packed_words (suc n) xs are le =
+    let others = bytes-packed_words n (drop 8 xs) (AreBytes-drop 8 xs are) in
     let word = take-word_of xs are in
     grind (arith, others, word)
 
 pub all_bytes-whole_words : (xs : List ℕ) → AreBytes xs → length xs % 8 ≡ 0
     → all_bytes (whole_words xs) ≡ xs
 all_bytes-whole_words xs are whole =
-    let stored = bytes-stored_words (length xs / 8) xs are in
+    let stored = bytes-packed_words (length xs / 8) xs are in
     grind (arith, elements, length-all_bytes, length-whole_words, stored)
 
-pub AreWords-stored_words : (n : ℕ) (xs : List ℕ) → AreBytes xs → AreWords (stored_words n xs)
-unfolding stored_words
-AreWords-stored_words zero xs are = tt
-AreWords-stored_words (suc n) xs are =
-    (word_of-take-lt 8 xs are, AreWords-stored_words n (drop 8 xs) (AreBytes-drop 8 xs are))
+pub AreWords-packed_words : (n : ℕ) (xs : List ℕ) → AreBytes xs → AreWords (packed_words n xs)
+unfolding packed_words
+AreWords-packed_words zero xs are = tt
+AreWords-packed_words (suc n) xs are =
+    (word_of-take-lt 8 xs are, AreWords-packed_words n (drop 8 xs) (AreBytes-drop 8 xs are))
 
-pub stored_words-all_bytes : (ws : List ℕ) → AreWords ws
-    → stored_words (length ws) (all_bytes ws) ≡ ws
-unfolding stored_words
-stored_words-all_bytes [] fit = refl
-stored_words-all_bytes (w ∷ ws) fit = grind (arith, stored_words-all_bytes ws fit.1)
+pub packed_words-all_bytes : (ws : List ℕ) → AreWords ws
+    → packed_words (length ws) (all_bytes ws) ≡ ws
+unfolding packed_words
+packed_words-all_bytes [] fit = refl
+packed_words-all_bytes (w ∷ ws) fit = grind (arith, packed_words-all_bytes ws fit.1)

@@ -1,8 +1,7 @@
 -- Whole blocks of a message: the lanes after them, and the bytes after them.
 use Rattle.std.proofs.Common.{◌≡◌, ℕ, ◌+◌, ◌-◌, ◌*◌, ◌/◌, ◌%◌, ◌<◌, ◌≤◌, List, [], ◌∷◌, ◌++◌}
 use Rattle.std.proofs.Common.{length, take, drop, refl, ap, arith, ◌∙◌, sym}
-use Rattle.std.proofs.lemmas.List.{length-drop, take-append-drop, drop-drop}
-use Rattle.std.proofs.lemmas.List.{drop_at, append_assoc}
+use Rattle.std.proofs.lemmas.List.{length-drop, take-append-drop, drop-drop, drop_at, append_assoc}
 use Rattle.std.proofs.lemmas.Grind.{elements}
 use Rattle.komihash.specs.Rounds.{Lanes, block_round}
 use Rattle.komihash.specs.Internals.{whole_words, after_eights, block_lanes, after_blocks}
@@ -35,8 +34,7 @@ after_blocks-few xs lt = ap (λ k. drop k xs) {y = 0} (omega arith)
 pub after_blocks-more : (xs : List ℕ) → 64 ≤ length xs → after_blocks xs ≡ after_blocks (drop 64 xs)
 after_blocks-more xs le =
     let whole = length (drop 64 xs) - length (drop 64 xs) % 64 in
-    let n : length xs - length xs % 64 ≡ 64 + whole = omega (arith, length-drop 64 xs) in
-    ap (λ k. drop k xs) n ∙ sym (drop-drop whole 64 xs)
+    ap (λ k. drop k xs) (omega (arith, length-drop 64 xs)) ∙ sym (drop-drop whole 64 xs)
 
 pub length-after_blocks : (m : List ℕ) → length (after_blocks m) ≡ length m % 64
 length-after_blocks m = omega (arith, length-drop (length m - length m % 64) m)
@@ -56,17 +54,15 @@ pub completed : (v : ℕ) (l : Lanes) (xs bytes : List ℕ) (k : ℕ) → length
 completed v l xs bytes k full enough =
     let block = xs ++ take k bytes in
     let cut : xs ++ bytes ≡ block ++ drop k bytes = rw (append_assoc, take-append-drop) refl in
-    let words = whole_words-append block (drop k bytes) 8 in
-    let back = drop_at block (drop k bytes) 64 in
     grind (
       arith,
       elements,
       cut,
-      words,
+      whole_words-append block (drop k bytes) 8,
       block_lanes-round,
       after_blocks-more,
       length-whole_words,
-      back,
+      drop_at block (drop k bytes) 64,
     )
 
 -- of a message, the first block is absorbed first

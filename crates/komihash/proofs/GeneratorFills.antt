@@ -1,9 +1,8 @@
 -- The generator: its steps in two parts, each of its outputs, and the bytes of outputs that fill a
 -- buffer, in two parts.
 use Rattle.std.proofs.Common.{◌≡◌, ℕ, zero, suc, ◌+◌, ◌-◌, ◌*◌, ◌%◌, ◌<◌, ◌≤◌, [], ◌∷◌, ◌++◌}
-use Rattle.std.proofs.Common.{length, refl, ap, sym, arith, ◌∙◌, zero-add, suc-add}
-use Rattle.std.proofs.Common.{w64, slice_index, bit_xor, Bool, true, false, ◌==◌, ◌^◌}
-use Rattle.std.proofs.Common.{if◌then◌else◌}
+use Rattle.std.proofs.Common.{length, refl, ap, sym, arith, ◌∙◌, zero-add, suc-add, w64}
+use Rattle.std.proofs.Common.{slice_index, bit_xor, Bool, true, false, ◌==◌, ◌^◌, if◌then◌else◌}
 use Rattle.std.proofs.lemmas.List.{append-nil}
 use Rattle.std.proofs.lemmas.Nat.{xor_lt}
 use Rattle.std.proofs.lemmas.List.Concat.{flat_map-append}
@@ -112,10 +111,8 @@ unfolding next
 next-lt v s =
     let p : ℕ = s.0 * s.1 in
     let second : ℕ = plus (plus s.1 (high p)) 0xaaaaaaaaaaaaaaaa in
-    let low_lt : low p < 2 ^ 64 = omega arith in
-    let second_lt : second < 2 ^ 64 = omega arith in
     if-lt (v == 4) (bit_xor (low p) second) (plus (bit_xor (low p) (high p)) 0x5555555555555555)
-    (2 ^ 64) (xor_lt 64 (low p) second low_lt second_lt) (omega arith)
+    (2 ^ 64) (xor_lt 64 (low p) second (omega arith) (omega arith)) (omega arith)
 
 pub fill-one : (v : ℕ) (s : ℕ × ℕ) → fill v s 8 ≡ to_le_bytes w64 (next v s).0
 unfolding outputs

@@ -7,7 +7,7 @@ use Rattle.std.proofs.lemmas.Grind.{elements}
 use native.Mathlib.Numerals.{unary_clauses}
 use Rattle.komihash.specs.Rounds.{Lanes, lanes, seed_pair, block_round, pair_round, join, closing}
 use Rattle.komihash.specs.Hash.{hash_from_pair, hash_from_lanes, komi}
-use Rattle.komihash.specs.Internals.{stored_words, whole_words, after_eights, final_word}
+use Rattle.komihash.specs.Internals.{packed_words, whole_words, after_eights, final_word}
 use Rattle.komihash.specs.Internals.{padding_or_zero, block_lanes, after_blocks}
 use Rattle.komihash.specs.Words.{word_of}
 use Rattle.komihash.specs.Padding.{padding_byte}
@@ -42,9 +42,8 @@ hash_from_lanes-after_block : (v : ℕ) (s : Lanes) (ws : List ℕ) (final : ℕ
     ≡ hash_from_pair (join true (block_lanes v s ws)) (after_eights ws ++ final ∷ [])
 hash_from_lanes-after_block v s (w0 ∷ w1 ∷ w2 ∷ w3 ∷ w4 ∷ w5 ∷ w6 ∷ w7 ∷ w ∷ ws) final =
     let block = w0 ∷ w1 ∷ w2 ∷ w3 ∷ w4 ∷ w5 ∷ w6 ∷ w7 ∷ [] in
-    let drops = drop-drop (8 * (length (w ∷ ws) / 8)) 8 (block ++ w ∷ ws) in
     let more = hash_from_lanes-after_block v (block_round v s block) (w ∷ ws) final in
-    grind (arith, drops, more)
+    grind (arith, drop-drop (8 * (length (w ∷ ws) / 8)) 8 (block ++ w ∷ ws), more)
 hash_from_lanes-after_block v s ws final = refl
 
 -- eight words or more and the final word make a block, so `had_block` makes no difference
@@ -92,13 +91,13 @@ module _ (v seed : ℕ) (m : List ℕ) where
   -- for `hash_of_partial_word`
   pub komi-partial_word : 1 ≤ length m → length m < 8
       → komi v seed m ≡ closing pair (word_of (m ++ padding_byte v m ∷ []) ∷ [])
-  unfolding stored_words
+  unfolding packed_words
   komi-partial_word some lt = grind (arith, komi-few_nonempty)
 
   -- for `hash_of_one_word`
   pub komi-one_word : 8 ≤ length m → length m < 16
       → komi v seed m ≡ closing pair (word_of (take 8 m) ∷ final ∷ [])
-  unfolding stored_words
+  unfolding packed_words
   komi-one_word le lt =
       let count : length m / 8 ≡ 1 = omega arith in
       rw (komi-few_nonempty (omega arith) (omega arith), count) refl
@@ -107,7 +106,7 @@ module _ (v seed : ℕ) (m : List ℕ) where
   pub komi-two_words : 16 ≤ length m → length m < 24
       → komi v seed m
       ≡ closing (pair_round pair (word_of (take 8 m)) (word_of (take 8 (drop 8 m)))) (final ∷ [])
-  unfolding stored_words
+  unfolding packed_words
   komi-two_words le lt =
       let count : length m / 8 ≡ 2 = omega arith in
       rw (komi-few_nonempty (omega arith) (omega arith), count) refl

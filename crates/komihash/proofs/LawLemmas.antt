@@ -10,9 +10,8 @@ use Rattle.komihash.proofs.CallLists.{answers_after-append, bytes_of_calls-appen
 use Rattle.komihash.proofs.CallLists.{run_products-pieces, HasAbsorbed-pending}
 use Rattle.komihash.proofs.AllBytes.{le_bytes-digits}
 use Rattle.komihash.proofs.GeneratorFills.{after_steps-add, outputs-add, fill-add, after_fill-add}
-use Rattle.komihash.proofs.GeneratorFills.{after_steps-none, outputs-none}
-use Rattle.komihash.proofs.GeneratorFills.{after_steps-few, outputs-few}
-use Rattle.komihash.proofs.GeneratorFills.{next-lt, fill-one, after_fill-one}
+use Rattle.komihash.proofs.GeneratorFills.{after_steps-none, outputs-none, after_steps-few}
+use Rattle.komihash.proofs.GeneratorFills.{outputs-few, next-lt, fill-one, after_fill-one}
 use Rattle.komihash.proofs.GeneratorFills.{length-outputs, outputs-at, fill-whole, outputs-whole}
 use Rattle.komihash.proofs.GeneratorFills.{after_fill-whole}
 use Rattle.komihash.proofs.Unpadding.{padded_words-same}

@@ -7,11 +7,11 @@ use Rattle.std.proofs.lemmas.Bool.Decides.{nat_tests}
 use Rattle.std.proofs.lemmas.Grind.{common_steps, elements}
 use Rattle.komihash.specs.Padding.{padded_words, padding_byte}
 use Rattle.komihash.specs.Words.{word_of}
-use Rattle.komihash.specs.Internals.{stored_words, whole_words, after_eights, final_word}
+use Rattle.komihash.specs.Internals.{packed_words, whole_words, after_eights, final_word}
 use Rattle.komihash.specs.Internals.{padding_or_zero}
 use Rattle.komihash.proofs.WordOf.{AreBytes-typed, AreBytes-drop, word_of-last, word_of-push}
 use Rattle.komihash.proofs.WordOf.{word_of-zeros}
-use Rattle.komihash.proofs.WholeWords.{stored_words-last, words_of-whole}
+use Rattle.komihash.proofs.WholeWords.{packed_words-last, words_of-whole}
 
 -- for messages that are not empty, which `unpad` reads back
 pub padding_or_zero-some : (v : ℕ) (m : List ℕ) → 0 < length m
@@ -21,7 +21,7 @@ padding_or_zero-some v m some = grind arith
 -- the padded words as the code reads them
 pub padded_words-by_tail : (v : ℕ) (m : List ℕ)
     → padded_words v m ≡ whole_words m ++ final_word m (padding_or_zero v m) ∷ []
-unfolding stored_words
+unfolding packed_words
 padded_words-by_tail v [] = refl
 padded_words-by_tail v (b ∷ m) =
     let xs = b ∷ m in
@@ -29,7 +29,7 @@ padded_words-by_tail v (b ∷ m) =
     let n = length xs in
     let zeros = replicate (7 - n % 8) 0 in
     let size : length (end ∷ zeros) ≡ 8 - n % 8 = omega (arith, length-replicate {A = ℕ}) in
-    let ending = stored_words-last (n / 8) xs (end ∷ zeros) in
+    let ending = packed_words-last (n / 8) xs (end ∷ zeros) in
     let order = append_assoc (after_eights xs) (end ∷ []) zeros in
     grind (arith, size, words_of-whole, ending, length-append {A = ℕ}, order, word_of-zeros)
 

@@ -1,9 +1,8 @@
 -- Saved texts: how their parts are put together, how the state is read back from one, which bytes
 -- are one, and what the calls that save and resume say.
 use Rattle.std.proofs.Common.{◌≡◌, ℕ, ◌+◌, ◌-◌, ◌/◌, ◌≤◌, ◌↔◌, List, [], ◌∷◌, ◌++◌, length, take}
-use Rattle.std.proofs.Common.{drop, get_or, refl, arith, Fits, w8, Some}
-use Rattle.std.proofs.Common.{length-drop, length-take-le, take-append-drop}
-use Rattle.std.proofs.Common.{slice_index, ◌==◌}
+use Rattle.std.proofs.Common.{drop, get_or, refl, arith, Fits, w8, Some, length-drop}
+use Rattle.std.proofs.Common.{length-take-le, take-append-drop, slice_index, ◌==◌}
 use Rattle.std.proofs.lemmas.Slice.{take-put_mid, drop-put_mid}
 use borrow.Rule.Slice.PartMut.{put_mid}
 use Rattle.std.proofs.lemmas.Grind.{elements}
@@ -14,18 +13,18 @@ use Rattle.komihash.specs.Stream.{State, IsState, HasAbsorbed}
 use Rattle.komihash.specs.Internals.{IsHead, whole_words, xor_again}
 use Rattle.komihash.specs.Words.{AreBytes, AreWords}
 use Rattle.komihash.proofs.WholeWords.{length-whole_words}
-use Rattle.komihash.proofs.AllBytes.{stored_words-all_bytes}
-use Rattle.komihash.proofs.AllBytes.{all_bytes-whole_words, AreWords-stored_words}
+use Rattle.komihash.proofs.AllBytes.{packed_words-all_bytes}
+use Rattle.komihash.proofs.AllBytes.{all_bytes-whole_words, AreWords-packed_words}
 use Rattle.komihash.proofs.WordOf.{AreBytes-typed, AreBytes-take, AreBytes-drop}
 
 -- ---- the parts of a text
 
 -- if bytes are put from `a` to `n`, they end what is before `n`, and what is after it stays, as
--- `write_lanes` and `write_pending` need
+-- `write_pending` needs
 pub part-put : (a n : ℕ) (out part bytes : List ℕ) → a ≤ n → n ≤ length out
     → length part ≡ length (take (n - a) (drop a out)) → take (n - a) part ≡ bytes
     → (take n (put_mid a (n - a) out part) ≡ take a out ++ bytes)
-    × ((m : ℕ) → n ≤ m → drop m (put_mid a (n - a) out part) ≡ drop m out)
+    × (drop n (put_mid a (n - a) out part) ≡ drop n out)
 part-put a n out part bytes le within room is = grind (arith, elements, take-put_mid, drop-put_mid)
 
 -- ---- a text, and the state that is read from it
@@ -56,7 +55,7 @@ state_of bytes = record {
 state_of-text : (v : ℕ) (s : State) → AreWords (in_order s.lanes) → state_of (text v s) ≡ s
 unfolding text
 state_of-text v s are =
-    let words = stored_words-all_bytes (in_order s.lanes) are in grind (arith, words)
+    let words = packed_words-all_bytes (in_order s.lanes) are in grind (arith, words)
 
 pub length-text : (v : ℕ) (s : State) → length (text v s) ≡ pending_at + length s.pending
 unfolding text
@@ -122,10 +121,9 @@ module _ (v : ℕ) (bytes : List ℕ) (are : AreBytes bytes) (laid : IsLaidOut v
 
   laid_out-state : IsState v (state_of bytes)
   laid_out-state =
-      let words = AreWords-stored_words (length lanes / 8) lanes AreBytes-lanes in
-      let pending = AreBytes-drop pending_at bytes are in
+      let words = AreWords-packed_words (length lanes / 8) lanes AreBytes-lanes in
       let size = length-drop pending_at bytes in
-      grind (arith, words, pending, lanes-back, size)
+      grind (arith, words, AreBytes-drop pending_at bytes are, lanes-back, size)
 
 -- the text of a state is laid out as `IsLaidOut` says
 text-laid_out : (v : ℕ) (s : State) → IsState v s → IsLaidOut v (text v s)

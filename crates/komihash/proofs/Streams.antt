@@ -12,8 +12,8 @@ use Rattle.komihash.specs.Hash.{komi, hash_from_pair}
 use Rattle.komihash.specs.Padding.{pads_with_two, padding_byte}
 use Rattle.komihash.specs.Rounds.{join, closing}
 use Rattle.komihash.specs.Saved.{IsTextAfter}
-use Rattle.komihash.specs.Internals.{stored_words, whole_words, block_lanes, after_blocks, tail_end}
-use Rattle.komihash.specs.Internals.{final_word, padding_or_zero}
+use Rattle.komihash.specs.Internals.{packed_words, whole_words, block_lanes, after_blocks}
+use Rattle.komihash.specs.Internals.{tail_end, final_word, padding_or_zero}
 use Rattle.komihash.specs.Stream.{State, IsState, HasAbsorbed, start, absorb, absorb_byte, answer}
 use Rattle.komihash.specs.Stream.{tail_of, Answered}
 use Rattle.komihash.specs.Words.{AreBytes}
@@ -107,7 +107,7 @@ pub ruleset more_absorbed = (absorb-append, absorb-few, IsState-absorb, AreBytes
 tail_of-words : (v : ℕ) (m : List ℕ) (had_block top_bit : Bool)
     → tail_of v m had_block top_bit
     ≡ whole_words m ++ final_word m (tail_end v m had_block top_bit) ∷ []
-unfolding stored_words
+unfolding packed_words
 tail_of-words v m had_block top_bit = grind (arith, padded_words-by_tail v m)
 
 -- an answer is the hash from the pair of the lanes, of the whole words and the final word

@@ -14,7 +14,7 @@ use Rattle.komihash.specs.Padding.{ArePadded, pads_with_two, padding_after, padd
 use Rattle.komihash.specs.Padding.{padding_byte, padded_bytes}
 use Rattle.komihash.specs.Words.{AreBytes, word_of, all_bytes}
 use Rattle.komihash.proofs.AllBytes.{length-all_bytes, AreBytes-all_bytes, take-all_bytes}
-use Rattle.komihash.proofs.AllBytes.{all_bytes-whole_words, stored_words-all_bytes}
+use Rattle.komihash.proofs.AllBytes.{all_bytes-whole_words, packed_words-all_bytes}
 use Rattle.komihash.proofs.PaddedWords.{padding_or_zero-some}
 use Rattle.komihash.proofs.WholeWords.{words_of-whole}
 use Rattle.komihash.proofs.WordOf.{AreBytes-append, AreBytes-take, AreBytes-drop, word_of-drop}
@@ -65,9 +65,7 @@ bytes_of_padded v (b ∷ m) are is =
 pub padded_words-same : (v : ℕ) (x y : List ℕ) → AreBytes x → AreBytes y
     → padded_words v x ≡ padded_words v y → x ≡ y
 padded_words-same v x y are_x are_y same =
-    let bytes = bytes_of_padded v x are_x same in
-    let same_bytes = bytes_of_padded v y are_y refl in
-    grind (arith, same_end, bytes, same_bytes)
+    grind (arith, same_end, bytes_of_padded v x are_x same, bytes_of_padded v y are_y refl)
 
 -- ---- the highest byte of the last word that is not 0, which can only be the padding byte
 
@@ -90,17 +88,14 @@ module _ (v : ℕ) (ws : List ℕ) (fit : (k : ℕ) → Fits w64 (get_or ws k 0)
   pub ArePadded-zero : ArePadded v ws → last ≡ 0 → length ws ≡ 1
   ArePadded-zero (m, are, is) none =
       let n = length m in
-      let end = padding_or_zero v m in
-      let zeros : List ℕ = replicate (7 - n % 8) 0 in
       let bytes = bytes_of_padded v m are is in
       let count : length ws ≡ n / 8 + 1 = grind (
         arith,
-        length-append m (end ∷ zeros),
+        length-append m ((padding_or_zero v m) ∷ (replicate (7 - n % 8) 0)),
         length-replicate {A = ℕ},
         length-all_bytes ws,
       ) in
-      let word = word_from (n % 8) in
-      grind (arith, bytes, drop_at, word)
+      grind (arith, bytes, drop_at, word_from (n % 8))
 
   -- the message that would end below index r of the last word
   module _ {r : ℕ} (some : 0 < length ws) (is_highest : IsHighestByte last r) where
@@ -128,7 +123,7 @@ module _ (v : ℕ) (ws : List ℕ) (fit : (k : ℕ) → Fits w64 (get_or ws k 0)
     pub unpadded : 0 < size → last / 2 ^ (8 * r) ≡ padding_byte v message
         → padded_words v message ≡ ws
     unpadded long is =
-        let fits = stored_words-all_bytes ws (Each1-from_get_or _ ws 0 (λ k _. (fit k).fits)) in
+        let fits = packed_words-all_bytes ws (Each1-from_get_or _ ws 0 (λ k _. (fit k).fits)) in
         grind (arith, split, words_of-whole, length-all_bytes, fits)
 
     -- if there is a message, it can end nowhere else

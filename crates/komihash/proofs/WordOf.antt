@@ -1,9 +1,8 @@
 -- Words of lists of bytes that are cut and joined.
 use Rattle.std.proofs.Common.{◌≡◌, ℕ, zero, suc, ◌+◌, ◌-◌, ◌*◌, ◌/◌, ◌%◌, ◌^◌, ◌<◌, ◌≤◌, List, []}
-use Rattle.std.proofs.Common.{◌∷◌, ◌++◌, length, take, drop, get_or, ap, arith, ◌∙◌}
-use Rattle.std.proofs.Common.{Fits, w8, refl, replicate, length-append}
-use Rattle.std.proofs.Common.{take_all, get_or-drop, take_at, drop_at}
-use Rattle.std.proofs.Common.{pow-add, pow_pos, bit_or}
+use Rattle.std.proofs.Common.{◌∷◌, ◌++◌, length, take, drop, get_or, ap, arith, ◌∙◌, Fits, w8}
+use Rattle.std.proofs.Common.{refl, replicate, length-append, take_all, get_or-drop, take_at}
+use Rattle.std.proofs.Common.{drop_at, pow-add, pow_pos, bit_or}
 use Rattle.std.proofs.lemmas.Grind.{elements}
 use Rattle.std.proofs.lemmas.List.{get_or_past, drop-append-le}
 use Rattle.std.proofs.lemmas.Nat.{shl-shr, mod-pow-add}
@@ -78,8 +77,7 @@ shl_mod w b c = simp (mod-pow-add, shl-shr, mul-mod_left) (omega arith)
 pub word_of-join : (xs ys : List ℕ) (n : ℕ) → AreBytes xs → AreBytes ys → length xs ≡ n → n ≤ 8
     → bit_or (word_of xs) (word_of ys * 2 ^ (8 * n) % 2 ^ 64) ≡ word_of (xs ++ take (8 - n) ys)
 word_of-join xs ys n h g size le =
-    let k = 8 * n in
-    let fit = shl_mod (word_of ys) k (8 * (8 - n)) in
+    let fit = shl_mod (word_of ys) (8 * n) (8 * (8 - n)) in
     let below = word_of-take-lt n xs h in
     grind (arith, elements, fit, below, word_of-take, word_of-append, or_shifted_r)
 
@@ -116,8 +114,7 @@ word_of-two_ends xs b s h least most small e =
     let four_are = AreBytes-take 4 zs are in
     let join = word_of-join (take 4 zs) (drop 4 zs) 4 four_are (AreBytes-drop 4 zs are) in
     let four = take_all 4 (drop k xs) in
-    let eight = take_all 8 zs in
-    grind (arith, push, last, join, four, eight, length-append xs (b ∷ []), drop-append-le)
+    grind (arith, push, last, join, four, take_all 8 zs, length-append xs (b ∷ []), drop-append-le)
 
 -- at most three bytes are read one by one
 pub word_of-few : (xs : List ℕ) → length xs < 4

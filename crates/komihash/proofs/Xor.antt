@@ -50,6 +50,5 @@ xor_masks n h =
     ap (bit_and m) (and_comm n k) ∙ sym (and_assoc n m k) in
     let apart : bit_and (bit_and n m) (bit_and n k) ≡ 0 =
     and_assoc (bit_and n k) n m ∙ ap (bit_and n) none ∙ and_comm n 0 in
-    let whole : bit_and k n + bit_and m n ≡ n = and-not 64 m n (lit< tt) h in
     xor_disjoint (bit_and n m) (bit_and n k) apart
-    ∙ omega (arith, whole, and_comm n m, and_comm n k)
+    ∙ omega (arith, and-not 64 m n (lit< tt) h, and_comm n m, and_comm n k)

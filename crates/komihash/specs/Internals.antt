@@ -11,18 +11,18 @@ use Rattle.komihash.specs.Padding.{KeepsTopBit, padding_byte}
 use Rattle.komihash.specs.Rounds.{Lanes, block_round}
 use Rattle.komihash.specs.Stream.{end_after_blocks}
 use Rattle.komihash.specs.Words.{word_of, all_bytes}
-use Rattle.komihash.specs.declared.rounds.Pair.{Pair}
+use Rattle.komihash.specs.declared.rounds.XoredPair.{XoredPair}
 
 -- ---- a message: its whole words, the bytes after them, and its whole blocks
 
 -- the n words that store these bytes, with zeros after them
-unfoldable pub stored_words : ℕ → List ℕ → List ℕ
-stored_words zero bytes = []
-stored_words (suc n) bytes = word_of (take 8 bytes) ∷ stored_words n (drop 8 bytes)
+unfoldable pub packed_words : ℕ → List ℕ → List ℕ
+packed_words zero bytes = []
+packed_words (suc n) bytes = word_of (take 8 bytes) ∷ packed_words n (drop 8 bytes)
 
 -- the words of each eight bytes, without the fewer than eight at the end
 abbrev pub whole_words : List ℕ → List ℕ
-whole_words bytes = stored_words (length bytes / 8) bytes
+whole_words bytes = packed_words (length bytes / 8) bytes
 
 -- the word at an index of chunks of eight bytes
 abbrev pub chunk_word : List (List ℕ) → ℕ → ℕ
@@ -67,7 +67,7 @@ tail_end v [] had_block top_bit = end_after_blocks had_block top_bit
 -- ---- a pair
 
 -- the pair (a, e) of what the code stores: a xor e, and e
-abbrev pub pair_of : Pair → ℕ × ℕ
+abbrev pub pair_of : XoredPair → ℕ × ℕ
 pair_of p = (bit_xor p.1 p.0, p.1)
 
 -- ---- pending bytes: in eight words, with zeros after the last byte
@@ -80,17 +80,17 @@ pending_bytes ws len = take len (all_bytes ws)
 pub record ArePending (ws : List ℕ) (len : ℕ) : Type 0 where
   pub few : len < 64
   pub count : length (pending_bytes ws len) ≡ len
-  pub words : ws ≡ stored_words 8 (pending_bytes ws len)
+  pub words : ws ≡ packed_words 8 (pending_bytes ws len)
 
 -- the word at index k of those that store these bytes
-abbrev pub stored_word : List ℕ → ℕ → ℕ
-stored_word bytes k = word_of (take 8 (drop (8 * k) bytes))
+abbrev pub packed_word : List ℕ → ℕ → ℕ
+packed_word bytes k = word_of (take 8 (drop (8 * k) bytes))
 
 -- of eight words, all but those from index `gap` on and below `gap_end` store these bytes: `gap` is
 -- 3 and `gap_end` is 4 if word 3 alone is still missing
-pub record StoresBut (ws bytes : List ℕ) (gap gap_end : ℕ) : Type 0 where
+pub record PacksBut (ws bytes : List ℕ) (gap gap_end : ℕ) : Type 0 where
   pub size : length ws ≡ 8
-  pub words : (k : ℕ) → k < 8 → (gap ≤ k → gap_end ≤ k) → get_or ws k 0 ≡ stored_word bytes k
+  pub words : (k : ℕ) → k < 8 → (gap ≤ k → gap_end ≤ k) → get_or ws k 0 ≡ packed_word bytes k
 
 -- ---- a saved text
 

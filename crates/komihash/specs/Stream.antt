@@ -75,7 +75,7 @@ pub record StateOf (v : ℕ) : Type 0 where
   pub state : State
   pub is_state : IsState v state
 
--- ---- what a call does, which the trait, the stream of callers and that of C state alike
+-- ---- what a call does, which the trait and the stream of callers state alike
 
 -- a new stream is in the first state of its seed, and has absorbed nothing
 pub record Started (v seed : ℕ) (new : State) : Type 0 where

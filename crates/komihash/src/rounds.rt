@@ -42,7 +42,7 @@ const C8: u64 = 0x3f84_d5b5_b547_0917;
 /// otherwise.
 #[repr(C)]
 #[derive(Clone, Copy)]
-pub(crate) struct Pair(u64, u64);
+pub(crate) struct XoredPair(u64, u64);
 
 /// The eight lanes as the code stores them: four pairs in a ring, one for each product of a block.
 ///
@@ -51,10 +51,10 @@ pub(crate) struct Pair(u64, u64);
 #[repr(C)]
 #[derive(Clone, Copy)]
 pub(crate) struct Lanes {
-    fourth: Pair,
-    first: Pair,
-    second: Pair,
-    third: Pair,
+    fourth: XoredPair,
+    first: XoredPair,
+    second: XoredPair,
+    third: XoredPair,
 }
 
 impl Model for Lanes {
@@ -90,14 +90,14 @@ impl Model for Lanes {
 /// Mixes the product of `x` and `y` into the word `e`, and returns the pair.
 #[inline(always)]
 #[tactic(auto, unfolding(crate::specs::Rounds::mix))]
-pub(crate) const fn mix(x: u64, y: u64, e: u64, tally: &mut Tally) -> Pair
+pub(crate) const fn mix(x: u64, y: u64, e: u64, tally: &mut Tally) -> XoredPair
     ensures pair { pair_of result ≡ mix x y e }
     ensures low { result.0 ≡ low (x * y) }
     ensures raised { result.1 ≡ plus e (high (x * y)) }
     ensures costs { Costs tally 1 0 }
 {
     let (low, high) = multiply128(x, y, tally);
-    Pair(low, e.wrapping_add(high))
+    XoredPair(low, e.wrapping_add(high))
 }
 
 #[inline(always)]
@@ -112,7 +112,7 @@ pub(crate) const fn seed_words(seed: u64) -> (u64, u64)
 
 /// Returns the pair that a hash with the seed begins with.
 #[inline(always)]
-pub(crate) const fn seed_pair(seed: u64, tally: &mut Tally) -> Pair
+pub(crate) const fn seed_pair(seed: u64, tally: &mut Tally) -> XoredPair
     ensures pair { pair_of result ≡ seed_pair seed }
     ensures costs { Costs tally 1 0 }
 {
@@ -121,15 +121,15 @@ pub(crate) const fn seed_pair(seed: u64, tally: &mut Tally) -> Pair
 }
 
 #[inline(always)]
-pub(crate) const fn lanes_of(pair: Pair) -> Lanes
+pub(crate) const fn lanes_of(pair: XoredPair) -> Lanes
     ensures { result ≡ lanes (pair_of pair) }
 {
-    let Pair(low, e) = pair;
+    let XoredPair(low, e) = pair;
     Lanes {
-        fourth: Pair((C4 ^ C7) ^ low, C8 ^ e),
-        first: Pair(C8 ^ low, e),
-        second: Pair(C2 ^ low, C6 ^ e),
-        third: Pair((C3 ^ C6) ^ low, C7 ^ e),
+        fourth: XoredPair((C4 ^ C7) ^ low, C8 ^ e),
+        first: XoredPair(C8 ^ low, e),
+        second: XoredPair(C2 ^ low, C6 ^ e),
+        third: XoredPair((C3 ^ C6) ^ low, C7 ^ e),
     }
 }
 
@@ -138,8 +138,8 @@ pub(crate) const fn lanes_of(pair: Pair) -> Lanes
 pub(crate) fn in_order(lanes: &Lanes) -> [u64; 8]
     ensures { result ≡ in_order lanes.now }
 {
-    let (Pair(low4, e4), Pair(low1, e1)) = (lanes.fourth, lanes.first);
-    let (Pair(low2, e2), Pair(low3, e3)) = (lanes.second, lanes.third);
+    let (XoredPair(low4, e4), XoredPair(low1, e1)) = (lanes.fourth, lanes.first);
+    let (XoredPair(low2, e2), XoredPair(low3, e3)) = (lanes.second, lanes.third);
     [e4 ^ low1, e1 ^ low2, e2 ^ low3, e3 ^ low4, e1, e2, e3, e4]
 }
 
@@ -151,10 +151,10 @@ pub(crate) fn from_order(lanes: &[u64; 8]) -> Lanes
 {
     let [s1, s2, s3, s4, s5, s6, s7, s8] = *lanes;
     Lanes {
-        fourth: Pair(s7 ^ s4, s8),
-        first: Pair(s8 ^ s1, s5),
-        second: Pair(s5 ^ s2, s6),
-        third: Pair(s6 ^ s3, s7),
+        fourth: XoredPair(s7 ^ s4, s8),
+        first: XoredPair(s8 ^ s1, s5),
+        second: XoredPair(s5 ^ s2, s6),
+        third: XoredPair(s6 ^ s3, s7),
     }
 }
 
@@ -185,8 +185,8 @@ pub(crate) fn block_round(
     ensures lanes { lanes.new ≡ block_round_by places lanes.old words.now }
     ensures costs { Costs tally 4 0 }
 {
-    let (Pair(low4, e4), Pair(low1, e1)) = (lanes.fourth, lanes.first);
-    let (Pair(low2, e2), Pair(low3, e3)) = (lanes.second, lanes.third);
+    let (XoredPair(low4, e4), XoredPair(low1, e1)) = (lanes.fourth, lanes.first);
+    let (XoredPair(low2, e2), XoredPair(low3, e3)) = (lanes.second, lanes.third);
     let [p0, p1, p2, p3, p4, p5, p6, p7] = places;
     // These factors are made before the first product, so that each sum may overwrite its word e.
     // Each takes the low half of a product first, which is ready before the sum that follows.
@@ -196,8 +196,8 @@ pub(crate) fn block_round(
     let x1 = (words[p0] ^ low1) ^ e4;
     let x4 = (words[p6] ^ low4) ^ e3;
     lanes.second = mix(words[p3] ^ e2, x2, e2, tally);
-    lanes.third = mix(words[p5] ^ e3, x3, e3, tally);
     lanes.first = mix(words[p1] ^ e1, x1, e1, tally);
+    lanes.third = mix(words[p5] ^ e3, x3, e3, tally);
     lanes.fourth = mix(words[p7] ^ e4, x4, e4, tally);
 }
 
@@ -288,42 +288,42 @@ pub(crate) fn absorb_blocks<'a, const V: u8>(
 /// otherwise s1 and s5.
 #[inline(always)]
 #[tactic(auto, using(crate::proofs::Xor::join_lanes))]
-pub(crate) fn join(lanes: &Lanes, had_block: bool) -> Pair
+pub(crate) fn join(lanes: &Lanes, had_block: bool) -> XoredPair
     ensures { pair_of result ≡ join had_block lanes.now }
 {
-    let (Pair(low4, e4), Pair(low1, e1)) = (lanes.fourth, lanes.first);
-    let (Pair(low2, e2), Pair(low3, e3)) = (lanes.second, lanes.third);
+    let (XoredPair(low4, e4), XoredPair(low1, e1)) = (lanes.fourth, lanes.first);
+    let (XoredPair(low2, e2), XoredPair(low3, e3)) = (lanes.second, lanes.third);
     if had_block {
-        Pair(low1 ^ low2 ^ low3 ^ low4, e1 ^ e2 ^ e3 ^ e4)
+        XoredPair(low1 ^ low2 ^ low3 ^ low4, e1 ^ e2 ^ e3 ^ e4)
     } else {
-        Pair(e4 ^ low1 ^ e1, e1)
+        XoredPair(e4 ^ low1 ^ e1, e1)
     }
 }
 
 #[inline(always)]
 #[tactic(auto, using(crate::proofs::Xor::xor_late))]
-pub(crate) fn pair_round(pair: Pair, w0: u64, w1: u64, tally: &mut Tally) -> Pair
+pub(crate) fn pair_round(pair: XoredPair, w0: u64, w1: u64, tally: &mut Tally) -> XoredPair
     ensures pair { pair_of result ≡ pair_round (pair_of pair) w0 w1 }
     ensures costs { Costs tally 1 0 }
 {
-    let Pair(low, e) = pair;
+    let XoredPair(low, e) = pair;
     mix((w0 ^ low) ^ e, w1 ^ e, e, tally)
 }
 
 // Returns the hash from the pair of the closing's first mix.
 #[inline(always)]
-fn mix_again(pair: Pair, tally: &mut Tally) -> u64
+fn mix_again(pair: XoredPair, tally: &mut Tally) -> u64
     ensures hash { result ≡ mix_again (pair_of pair) }
     ensures costs { Costs tally 1 0 }
 {
-    let Pair(low, e) = pair;
-    let Pair(low, e) = mix(e ^ low, e, e, tally);
+    let XoredPair(low, e) = pair;
+    let XoredPair(low, e) = mix(e ^ low, e, e, tally);
     e ^ low
 }
 
 /// Returns the hash from a pair and the two words that are left, or the one that is left and 0.
 #[inline(always)]
-pub(crate) fn close(pair: Pair, first: u64, second: u64, tally: &mut Tally) -> u64
+pub(crate) fn close(pair: XoredPair, first: u64, second: u64, tally: &mut Tally) -> u64
     ensures hash { result ≡ closing (pair_of pair) (first ∷ second ∷ []) }
     ensures alone { second ≡ 0 → result ≡ closing (pair_of pair) (first ∷ []) }
     ensures costs { Costs tally 2 0 }

@@ -13,9 +13,6 @@ ghost use Rattle.komihash.specs.Stream.{Started, Absorbed, Answered};
 use crate::tally::Tally;
 pub use saved::LONGEST_TEXT;
 
-// It is public for the library for C, and isn't stable.
-// Rust instead: mod raw;
-pub mod raw;
 mod saved;
 pub(crate) mod streamed;
 

@@ -143,8 +143,21 @@ pub(crate) fn read_whole_words(bytes: &[u8], out: &mut [u64])
     }
 }
 
+/// Fills `out`, of eight bytes for each word, with the bytes of words.
+#[inline(always)]
+#[tactic(auto, using(crate::proofs::AllBytes::written))]
+pub(crate) fn write_words(words: &[u64], out: &mut [u8])
+    requires { length out.old ≡ 8 * length words.now }
+    ensures { out.new ≡ all_bytes words.now }
+{
+    'words: for i in 0..words.len() {
+        write_word(words[i], &mut out[8 * i..8 * i + 8]);
+    }
+}
+
 /// Writes the first `count` bytes of `words` to the front of `out`.
 #[inline(always)]
+#[tactic(auto, using(crate::proofs::AllBytes::written))]
 pub(crate) fn write_first_bytes(words: &[u64], count: usize, out: &mut [u8])
     requires within { count ≤ 8 * length words.now }
     requires room { count ≤ length out.old }
@@ -152,10 +165,8 @@ pub(crate) fn write_first_bytes(words: &[u64], count: usize, out: &mut [u8])
     ensures rest { drop count out.new ≡ drop count out.old }
 {
     let whole = count / 8;
-    let front = &words[..whole];
-    'whole: for i in 0..whole {
-        write_word(front[i], &mut out[8 * i..8 * i + 8]);
-    }
+    // Since the compiler sees both lengths, the loop in `write_words` tests no index.
+    write_words(&words[..whole], &mut out[..8 * whole]);
     let has_remainder = count % 8 > 0;
     if has_remainder {
         write_partial_word(words[whole], &mut out[8 * whole..count]);

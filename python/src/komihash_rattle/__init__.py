@@ -2,5 +2,5 @@
 from . import v4, v5
 from .v5 import Komirand, komihash, komihash_int
 
-__version__ = "1.1.0"
+__version__ = "1.1.1"
 __all__ = ["Komirand", "komihash", "komihash_int", "v4", "v5"]

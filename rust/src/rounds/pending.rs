@@ -20,7 +20,8 @@ fn word_index(len: usize) -> usize {
     len / 8 % 8
 }
 
-// Appends fewer than eight bytes. If all fit in the partial word, 0 goes to the next word.
+// Appends fewer than eight bytes. If all fit in the partial word, 0 goes to the next word, which
+// after the last is the first.
 #[inline(always)]
 fn append_below_eight(words: &mut [u64; 8], len: usize, bytes: &[u8]) {
     let word = read_partial_word(bytes, 0);
@@ -40,10 +41,12 @@ fn append_within_word(words: &mut [u64; 8], len: usize, bytes: &[u8]) {
 // Stores two of the words that `chunks` have, from index `at` on.
 #[inline(always)]
 fn store_two_words(words: &mut [u64], chunks: &[[u8; 8]], at: usize) {
-    let first = u64::from_le_bytes(chunks[at]);
-    let second = u64::from_le_bytes(chunks[at + 1]);
-    words[at] = first;
-    words[at + 1] = second;
+    let from = &chunks[at..];
+    let to = &mut words[at..];
+    let first = u64::from_le_bytes(from[0]);
+    let second = u64::from_le_bytes(from[1]);
+    to[0] = first;
+    to[1] = second;
 }
 
 // Stores the two to seven words that `chunks` have, two at a time from both ends, and some twice,
@@ -51,12 +54,13 @@ fn store_two_words(words: &mut [u64], chunks: &[[u8; 8]], at: usize) {
 #[inline(always)]
 fn store_words(words: &mut [u64], chunks: &[[u8; 8]]) {
     let count = chunks.len();
+    // In this order, a stream of one write takes fewer instructions than in others.
+    store_two_words(words, chunks, count - 2);
     store_two_words(words, chunks, 0);
     if count >= 4 {
-        store_two_words(words, chunks, 2);
         store_two_words(words, chunks, count - 4);
+        store_two_words(words, chunks, 2);
     }
-    store_two_words(words, chunks, count - 2);
 }
 
 // Appends the bytes of eight or more that belong to whole words. Some complete the partial word.
@@ -70,11 +74,9 @@ fn append_whole_words(words: &mut [u64; 8], len: usize, bytes: &[u8]) {
     if chunks.len() >= 2 {
         store_words(&mut words[next..next + chunks.len()], chunks);
     } else {
-        if chunks.len() == 1 || len + bytes.len() < 64 {
-            // If the next word isn't whole, `append_eight_or_more` overwrites what this stores. A
-            // test whether it is would cost a jump.
-            words[next] = word_at(bytes, (8 - over).min(bytes.len() - 8));
-        }
+        // If the next word isn't whole, `append_eight_or_more` overwrites what this stores. A test
+        // whether it is would cost a jump. The remainder tells the compiler that `next` is in range.
+        words[next % 8] = word_at(bytes, (8 - over).min(bytes.len() - 8));
     }
 }
 
@@ -83,21 +85,79 @@ fn append_whole_words(words: &mut [u64; 8], len: usize, bytes: &[u8]) {
 fn append_eight_or_more(words: &mut [u64; 8], len: usize, bytes: &[u8]) {
     append_whole_words(words, len, bytes);
     let end = len + bytes.len();
-    if end < 64 {
-        // The shift by 8 comes last, because LLVM would otherwise read seven bytes in three pieces.
-        words[word_index(end)] = last_word(bytes) >> (56 - 8 * (end % 8)) >> 8;
-    }
+    // The shift by 8 comes last, because LLVM would otherwise read seven bytes in three pieces.
+    words[word_index(end)] = last_word(bytes) >> (56 - 8 * (end % 8)) >> 8;
 }
 
-// Appends bytes, at most as many as the block has room for after the first `len`. Only this
-// function puts bytes into the words.
-#[cfg_attr(debug_assertions, inline(never))]
-#[cfg_attr(not(debug_assertions), inline)]
+// Appends bytes that do not complete the block.
+#[inline(always)]
 fn append_to_block(words: &mut [u64; 8], len: usize, bytes: &[u8]) {
     if bytes.len() < 8 {
         append_below_eight(words, len, bytes);
     } else {
         append_eight_or_more(words, len, bytes);
+    }
+}
+
+// Stores the whole words of eight bytes or more where none is pending.
+#[inline(always)]
+fn store_whole_words(words: &mut [u64; 8], bytes: &[u8]) {
+    let (chunks, _) = bytes.as_chunks::<8>();
+    if chunks.len() >= 2 {
+        store_words(&mut words[..chunks.len()], chunks);
+    } else {
+        words[0] = read_word(bytes);
+    }
+}
+
+// Stores bytes where none is pending.
+#[inline(always)]
+fn store_bytes(words: &mut [u64; 8], bytes: &[u8]) {
+    if bytes.len() < 8 {
+        words[0] = read_partial_word(bytes, 0);
+    } else {
+        store_whole_words(words, bytes);
+        // The shift by 8 comes last, as above.
+        words[word_index(bytes.len())] = last_word(bytes) >> (56 - 8 * (bytes.len() % 8)) >> 8;
+    }
+}
+
+// Stores two words of the bytes, those from index `from` on.
+#[inline(always)]
+fn store_two(words: &mut [u64; 8], at: usize, bytes: &[u8], from: usize) {
+    let first = word_at(bytes, from);
+    let second = word_at(bytes, from + 8);
+    words[at] = first;
+    words[at + 1] = second;
+}
+
+// Stores the bytes that complete the block, some words twice, first from the front and then from
+// the back. Each array, and each remainder of an index, tells the compiler what is in range.
+#[inline(always)]
+fn complete_block(words: &mut [u64; 8], len: usize, bytes: &[u8]) {
+    if bytes.len() < 8 {
+        words[7] |= read_partial_word(bytes, 0) << (8 * (len % 8));
+        return;
+    }
+    append_within_word(words, len, bytes);
+    let from = 8 - len % 8;
+    let over_32 = bytes.len() > 32;
+    let over_16 = bytes.len() > 16;
+    if over_32 {
+        let next = len / 8 % 4 + 1;
+        let Some(front) = bytes.first_chunk::<32>() else { unreachable!() };
+        let Some(back) = bytes.last_chunk::<32>() else { unreachable!() };
+        store_two(words, next, front, from);
+        words[next + 2] = word_at(front, from + 16);
+        store_two(words, 4, back, 0);
+        store_two(words, 6, back, 16);
+    } else if over_16 {
+        let Some(front) = bytes.first_chunk::<16>() else { unreachable!() };
+        let Some(back) = bytes.last_chunk::<16>() else { unreachable!() };
+        words[len / 8 % 2 + 5] = word_at(front, from);
+        store_two(words, 6, back, 0);
+    } else {
+        words[7] = last_word(bytes);
     }
 }
 
@@ -115,16 +175,19 @@ impl Pending {
     /// Appends bytes that do not complete a block.
     #[inline(always)]
     pub(crate) fn append(&mut self, bytes: &[u8]) {
-        append_to_block(&mut self.words, self.len, bytes);
-        self.len += bytes.len();
+        let len = self.len;
+        self.len = len + bytes.len();
+        append_to_block(&mut self.words, len, bytes);
     }
 
     /// Appends bytes where none is pending. Does what `append` does, but the compiler knows that
     /// the length was 0.
     #[inline(always)]
     pub(crate) fn append_to_none(&mut self, bytes: &[u8]) {
+        // The remainder tells the compiler that the words have room. Often there are no bytes.
+        let bytes = &bytes[..bytes.len() % 64];
         if !bytes.is_empty() {
-            append_to_block(&mut self.words, 0, bytes);
+            store_bytes(&mut self.words, bytes);
             self.len = bytes.len();
         }
     }
@@ -132,27 +195,34 @@ impl Pending {
     /// Returns the words of the block that the bytes complete, and leaves no byte pending.
     #[inline(always)]
     pub(crate) fn complete(&mut self, bytes: &[u8]) -> [u64; 8] {
-        append_to_block(&mut self.words, self.len, bytes);
+        complete_block(&mut self.words, self.len, bytes);
         let block = self.words;
         self.words = [0; 8];
         self.len = 0;
         block
     }
 
-    /// Returns the last whole word, or any word if there is none.
+    // Returns the padding byte of at least one byte.
     #[inline(always)]
-    pub(crate) fn last_whole_word(&self) -> u64 {
-        self.words[(self.len / 8 + 7) % 8]
-    }
-
-    /// Returns the final word of at least one byte: those after the last whole word, and the
-    /// padding byte.
-    #[inline(always)]
-    pub(crate) fn final_word<const V: u8>(&self) -> u64 {
+    fn padding_byte<const V: u8>(&self) -> u64 {
         let last = self.len - 1;
         let last_byte = (self.words[word_index(last)] >> (8 * (last % 8)) & 0xff) as u8;
-        let padding = padding_after(pads_with_two::<V>(last_byte));
-        self.words[word_index(self.len)] | padding << (8 * (self.len % 8))
+        padding_after(pads_with_two::<V>(last_byte))
+    }
+
+    /// Returns the last two words of at least one byte: the last whole word and the final word, or
+    /// if the whole words are even in number the final word and 0.
+    ///
+    /// They are two of the eight words, the first at an even index, and one of them has the padding
+    /// byte. This takes fewer instructions than to choose between words.
+    #[inline(always)]
+    pub(crate) fn last_two<const V: u8>(&self) -> (u64, u64) {
+        let padding = self.padding_byte::<V>() << (8 * (self.len % 8));
+        let in_first = if self.len / 8 % 2 == 1 { 0 } else { padding };
+        // In this way LLVM reads the words at an index that one instruction makes of the length.
+        let (pairs, _) = self.words.as_chunks::<2>();
+        let two = &pairs[self.len / 16 % 4];
+        (two[0] | in_first, two[1] | (padding - in_first))
     }
 
     /// Writes the bytes to the front of `out`. The rest of `out` is unchanged.

@@ -1,8 +1,8 @@
 // Made by rust/erase.py of crates/komihash/src, where changes belong.
-//! The whole words of a message or a stream, the pair rounds on them, and the end of each hash,
+//! The whole words of a message or a stream, the pair rounds on them, and for messages the closing,
 //! which takes the word that may be left and the final word.
 
-use super::{Pair, close, pair_round};
+use super::{XoredPair, close, pair_round};
 
 /// Returns the last whole word of at least eight bytes.
 #[inline(always)]
@@ -16,7 +16,7 @@ pub(crate) trait WholeWords {
     /// Returns how many words there are.
     fn count(&self) -> usize;
 
-    /// Returns the word at index `at`, which is below 8, though the search can't find that.
+    /// Returns the word at index `at`.
     fn word(&self, at: usize) -> u64;
 }
 
@@ -38,14 +38,14 @@ impl WholeWords for &[u8] {
 // Returns the pair after a round on the two words from index `at`. From it, the words after these
 // give the hash that all from `at` on give from the pair before.
 #[inline(always)]
-fn round_at<W: WholeWords>(pair: Pair, left: &W, at: usize) -> Pair {
+fn round_at<W: WholeWords>(pair: XoredPair, left: &W, at: usize) -> XoredPair {
     pair_round(pair, left.word(at), left.word(at + 1))
 }
 
-// Returns the pair after a round on each two words. From it, the word that may remain gives the
-// hash that all words give from the pair before.
+/// Returns the pair after a round on each two words. From it, the word that may remain gives the
+/// hash that all words give from the pair before.
 #[inline(always)]
-fn round_each<W: WholeWords>(pair: Pair, left: &W) -> Pair {
+pub(crate) fn round_each<W: WholeWords>(pair: XoredPair, left: &W) -> XoredPair {
     if left.count() < 2 {
         return pair;
     }
@@ -64,7 +64,7 @@ fn round_each<W: WholeWords>(pair: Pair, left: &W) -> Pair {
 /// word is any word if there are none.
 #[inline(always)]
 pub(crate) fn hash_from_pair<W: WholeWords>(
-    pair: Pair,
+    pair: XoredPair,
     left: &W,
     last_whole_word: u64,
     final_word: u64,

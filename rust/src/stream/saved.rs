@@ -5,7 +5,7 @@
 use crate::padding::has_two;
 use crate::rounds::pending::Pending;
 use crate::rounds::{Lanes, from_order, in_order};
-use crate::utils::{read_whole_words, write_first_bytes};
+use crate::utils::{read_whole_words, write_words};
 
 const LANES_AT: usize = 4;
 
@@ -31,7 +31,7 @@ pub(crate) fn write_head<const V: u8>(
 /// Writes the lanes after the first four bytes.
 #[inline(always)]
 pub(crate) fn write_lanes(lanes: &Lanes, out: &mut [u8]) {
-    write_first_bytes(&in_order(lanes), 64, &mut out[LANES_AT..PENDING_AT]);
+    write_words(&in_order(lanes), &mut out[LANES_AT..PENDING_AT]);
 }
 
 /// Writes the pending bytes after the lanes, and returns where they end.

@@ -1,8 +1,11 @@
 // Made by rust/erase.py of crates/komihash/src, where changes belong.
 //! The stream of both versions.
 
-use super::raw::RawStream;
-use super::{KomiStream, LONGEST_TEXT};
+use super::{KomiStream, LONGEST_TEXT, saved};
+use crate::padding::{has_two, padding_after, pads_with_two};
+use crate::rounds::pending::Pending;
+use crate::rounds::words::round_each;
+use crate::rounds::{Lanes, absorb_blocks, block_round, close, join, lanes_of, places, seed_pair};
 use crate::version::{IsVersion, Versions};
 
 /// A stream of version V: it takes a message in pieces, and returns the hash of all bytes so far at
@@ -14,14 +17,20 @@ use crate::version::{IsVersion, Versions};
 /// at most 63 of each.
 ///
 /// It is not for messages that an attacker may choose, whatever the seed is.
-// In Rust, `c/exports.rs` needs this layout.
-#[repr(transparent)]
+// In Rust, `c/verify/layout.py` describes this layout.
+#[repr(C)]
 #[derive(Clone, PartialEq, Eq)]
 pub struct StreamedKomihash<const V: u8>
 where
     Versions: IsVersion<V>,
 {
-    raw: RawStream,
+    // This field is first, so that its words have the stream's address, which takes no register.
+    pending: Pending,
+    lanes: Lanes,
+    // Whether a block was absorbed.
+    had_block: bool,
+    // In version 4, whether the last byte of the last block is at least 128.
+    top_bit: bool,
 }
 
 impl<const V: u8> StreamedKomihash<V>
@@ -57,8 +66,44 @@ where
     #[cfg_attr(debug_assertions, inline(never))]
     #[cfg_attr(not(debug_assertions), inline)]
     pub const fn new_with_seed(seed: u64) -> Self {
-        // In Rust, this is `const`, so it can't call `start`, a method of a trait.
-        StreamedKomihash { raw: RawStream::start::<V>(seed) }
+        StreamedKomihash::begin(seed)
+    }
+
+    // In Rust, this is `const`, and `start`, a method of a trait, can't be.
+    #[inline(always)]
+    const fn begin(seed: u64) -> Self {
+        StreamedKomihash {
+            pending: Pending::new(),
+            lanes: lanes_of(seed_pair(seed)),
+            had_block: false,
+            top_bit: false,
+        }
+    }
+
+    // Absorbs bytes that complete a block or more. Copies those that complete the partial block, if
+    // there is one, and those after the last block. It stays out of callers, which would get long.
+    #[inline(never)]
+    fn complete_blocks(&mut self, bytes: &[u8]) {
+        let pending_len = self.pending.len();
+        let blocks_end = bytes.len() - (pending_len + bytes.len()) % 64;
+        // The first test keeps version 5 from computing an index and reading a byte.
+        self.top_bit = has_two::<V>() && pads_with_two::<V>(bytes[blocks_end - 1]);
+        self.had_block = true;
+        let mut lanes;
+        let mut rest = bytes;
+        if pending_len == 0 {
+            lanes = self.lanes;
+        } else {
+            let (front, after) = bytes.split_at(64 - pending_len);
+            rest = after;
+            let block = self.pending.complete(front);
+            // The lanes are read after `complete`, which needs the registers itself.
+            lanes = self.lanes;
+            block_round(&mut lanes, &block, places::<V>());
+        }
+        let left = absorb_blocks::<V>(&mut lanes, rest);
+        self.lanes = lanes;
+        self.pending.append_to_none(left);
     }
 
     /// Absorbs any number of bytes.
@@ -167,19 +212,32 @@ where
     #[cfg_attr(debug_assertions, inline(never))]
     #[cfg_attr(not(debug_assertions), inline)]
     fn start(seed: u64) -> Self {
-        StreamedKomihash { raw: RawStream::start::<V>(seed) }
+        StreamedKomihash::begin(seed)
     }
 
-    #[cfg_attr(debug_assertions, inline(never))]
-    #[cfg_attr(not(debug_assertions), inline)]
+    // Where a crate calls this and `answer` more than once, LLVM would not inline them by itself, and
+    // would forget that a new stream is empty.
+    #[inline(always)]
     fn absorb(&mut self, bytes: &[u8]) {
-        self.raw.absorb::<V>(bytes);
+        if self.pending.len() + bytes.len() < 64 {
+            self.pending.append(bytes);
+        } else {
+            self.complete_blocks(bytes);
+        }
     }
 
-    #[cfg_attr(debug_assertions, inline(never))]
-    #[cfg_attr(not(debug_assertions), inline)]
+    #[inline(always)]
     fn answer(&self) -> u64 {
-        self.raw.answer::<V>()
+        let pair = join(&self.lanes, self.had_block);
+        if self.pending.len() == 0 {
+            // The padding byte of the last block, or 0 if no block was absorbed.
+            let end = if self.had_block { padding_after(self.top_bit) } else { 0 };
+            return close(pair, end, 0);
+        }
+        // The rounds come first, because they need the registers that the last two words take.
+        let pair = round_each(pair, &self.pending);
+        let (first, second) = self.pending.last_two::<V>();
+        close(pair, first, second)
     }
 
     #[cfg_attr(debug_assertions, inline(never))]
@@ -187,12 +245,23 @@ where
     #[track_caller]
     fn store(&self, out: &mut [u8]) -> usize {
         assert!(LONGEST_TEXT <= out.len(), "`out` is too short");
-        self.raw.store::<V>(out)
+        saved::write_head::<V>(self.had_block, self.top_bit, self.pending.len(), out);
+        saved::write_lanes(&self.lanes, out);
+        saved::write_pending(&self.pending, out)
     }
 
     #[cfg_attr(debug_assertions, inline(never))]
     #[cfg_attr(not(debug_assertions), inline)]
     fn restore(bytes: &[u8]) -> Option<Self> {
-        Some(StreamedKomihash { raw: RawStream::restore::<V>(bytes)? })
+        if !saved::is_text::<V>(bytes) {
+            return None;
+        }
+        let (had_block, top_bit) = saved::read_flags(bytes);
+        Some(StreamedKomihash {
+            pending: saved::read_pending(bytes),
+            lanes: saved::read_lanes(bytes),
+            had_block,
+            top_bit,
+        })
     }
 }

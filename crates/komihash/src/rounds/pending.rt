@@ -4,11 +4,11 @@
 
 ghost use Rattle.std.specs.Prelude.{◌≡◌, ℕ, ◌+◌, ◌-◌, ◌*◌, ◌/◌, ◌%◌, ◌<◌, ◌≤◌};
 ghost use Rattle.std.specs.Prelude.{List, [], ◌++◌, length, take, drop, set, slice_index};
-ghost use Rattle.std.proofs.Common.{sym};
 ghost use Rattle.komihash.specs.Counts.{Costs};
 ghost use Rattle.komihash.specs.Padding.{padding_byte};
-ghost use Rattle.komihash.specs.Internals.{pending_bytes, ArePending, StoresBut};
-ghost use Rattle.komihash.specs.Internals.{stored_words, whole_words, final_word, chunk_word};
+ghost use Rattle.komihash.specs.Internals.{pending_bytes, ArePending, PacksBut};
+ghost use Rattle.komihash.specs.Internals.{packed_words, whole_words, final_word, chunk_word};
+ghost use Rattle.komihash.specs.Words.{word_of};
 
 use super::words::WholeWords;
 use crate::padding::{padding_after, pads_with_two};
@@ -30,16 +30,6 @@ impl Model for Pending {
     ghost view = { λ p. pending_bytes p.words p.len };
 
     ghost invariant = { λ p. ArePending p.words p.len };
-
-    ghost inverse = { λ bytes. record {
-      words = stored_words 8 bytes;
-      len = length bytes;
-    } };
-
-    ghost inverse_ok = { λ p are i. record {
-      words = sym are.words i;
-      len = are.count i;
-    } };
 }
 
 // Returns the index of the word that has the byte after the first `len`. The remainder tells the
@@ -52,13 +42,14 @@ fn word_index(len: usize) -> usize
     len / 8 % 8
 }
 
-// Appends fewer than eight bytes. If all fit in the partial word, 0 goes to the next word.
+// Appends fewer than eight bytes. If all fit in the partial word, 0 goes to the next word, which
+// after the last is the first.
 #[inline(always)]
 fn append_below_eight(words: &mut [u64; 8], len: usize, bytes: &[u8])
     requires pending { ArePending words.old len }
     requires below_8 { length bytes.now < 8 }
     requires room { len + length bytes.now ≤ 64 }
-    ensures { words.new ≡ stored_words 8 (pending_bytes words.old len ++ bytes.now) }
+    ensures { words.new ≡ packed_words 8 (pending_bytes words.old len ++ bytes.now) }
 {
     let word = read_partial_word(bytes, 0);
     let bits = 8 * (len % 8);
@@ -77,7 +68,7 @@ fn append_within_word(words: &mut [u64; 8], len: usize, bytes: &[u8])
     // byte belongs to those after the gap. `append_whole_words` needs it for two gaps.
     ensures { (gap gap_end : ℕ)
         → (gap ≤ len / 8 + 1) × (gap_end < 8 → len + length bytes.now ≤ 8 * gap_end)
-        → StoresBut words.new (pending_bytes words.old len ++ bytes.now) gap gap_end }
+        → PacksBut words.new (pending_bytes words.old len ++ bytes.now) gap gap_end }
 {
     words[word_index(len)] |= read_word(bytes) << (8 * (len % 8));
 }
@@ -90,10 +81,12 @@ fn store_two_words(words: &mut [u64], chunks: &[[u8; 8]], at: usize)
     ensures { words.new ≡ set (set words.old at (chunk_word chunks.now at)) (at + 1)
         (chunk_word chunks.now (at + 1)) }
 {
-    let first = u64::from_le_bytes(chunks[at]);
-    let second = u64::from_le_bytes(chunks[at + 1]);
-    words[at] = first;
-    words[at + 1] = second;
+    let from = &chunks[at..];
+    let to = &mut words[at..];
+    let first = u64::from_le_bytes(from[0]);
+    let second = u64::from_le_bytes(from[1]);
+    to[0] = first;
+    to[1] = second;
 }
 
 // Stores the two to seven words that `chunks` have, two at a time from both ends, and some twice,
@@ -108,13 +101,14 @@ fn store_words(words: &mut [u64], chunks: &[[u8; 8]])
         → slice_index words.new k ≡ chunk_word chunks.now k }
 {
     let count = chunks.len();
+    // In this order, a stream of one write takes fewer instructions than in others.
+    store_two_words(words, chunks, count - 2);
     store_two_words(words, chunks, 0);
     let has_four = count >= 4;
     if has_four {
-        store_two_words(words, chunks, 2);
         store_two_words(words, chunks, count - 4);
+        store_two_words(words, chunks, 2);
     }
-    store_two_words(words, chunks, count - 2);
 }
 
 // Appends the bytes of eight or more that belong to whole words. Some complete the partial word.
@@ -122,8 +116,8 @@ fn store_words(words: &mut [u64], chunks: &[[u8; 8]])
 fn append_whole_words(words: &mut [u64; 8], len: usize, bytes: &[u8])
     requires pending { ArePending words.old len }
     requires at_least_8 { 8 ≤ length bytes.now }
-    requires room { len + length bytes.now ≤ 64 }
-    ensures { StoresBut words.new (pending_bytes words.old len ++ bytes.now)
+    requires room { len + length bytes.now < 64 }
+    ensures { PacksBut words.new (pending_bytes words.old len ++ bytes.now)
         ((len + length bytes.now) / 8) ((len + length bytes.now) / 8 + 1) }
 {
     append_within_word(words, len, bytes);
@@ -135,12 +129,9 @@ fn append_whole_words(words: &mut [u64; 8], len: usize, bytes: &[u8])
     if has_two_more {
         store_words(&mut words[next..next + chunks.len()], chunks);
     } else {
-        let has_next = chunks.len() == 1 || len + bytes.len() < 64;
-        if has_next {
-            // If the next word isn't whole, `append_eight_or_more` overwrites what this stores. A
-            // test whether it is would cost a jump.
-            words[next] = word_at(bytes, (8 - over).min(bytes.len() - 8));
-        }
+        // If the next word isn't whole, `append_eight_or_more` overwrites what this stores. A test
+        // whether it is would cost a jump. The remainder tells the compiler that `next` is in range.
+        words[next % 8] = word_at(bytes, (8 - over).min(bytes.len() - 8));
     }
 }
 
@@ -149,39 +140,117 @@ fn append_whole_words(words: &mut [u64; 8], len: usize, bytes: &[u8])
 fn append_eight_or_more(words: &mut [u64; 8], len: usize, bytes: &[u8])
     requires pending { ArePending words.old len }
     requires at_least_8 { 8 ≤ length bytes.now }
-    requires room { len + length bytes.now ≤ 64 }
-    ensures { words.new ≡ stored_words 8 (pending_bytes words.old len ++ bytes.now) }
+    requires room { len + length bytes.now < 64 }
+    ensures { words.new ≡ packed_words 8 (pending_bytes words.old len ++ bytes.now) }
 {
     append_whole_words(words, len, bytes);
     let end = len + bytes.len();
-    let has_remainder = end < 64;
-    if has_remainder {
-        // The shift by 8 comes last, because LLVM would otherwise read seven bytes in three pieces.
-        words[word_index(end)] = last_word(bytes) >> (56 - 8 * (end % 8)) >> 8;
-    }
+    // The shift by 8 comes last, because LLVM would otherwise read seven bytes in three pieces.
+    words[word_index(end)] = last_word(bytes) >> (56 - 8 * (end % 8)) >> 8;
 }
 
-// Appends bytes, at most as many as the block has room for after the first `len`. Only this
-// function puts bytes into the words.
-// Rust instead: #[inline]
+// Appends bytes that do not complete the block.
 #[inline(always)]
-fn append_to_block(words: &mut [u64; 8], len: usize, bytes: &[u8], tally: &mut Tally)
+fn append_to_block(words: &mut [u64; 8], len: usize, bytes: &[u8])
     requires pending { ArePending words.old len }
-    requires room { len + length bytes.now ≤ 64 }
-    ensures block { 64 ≤ len + length bytes.now
-        → words.new ≡ whole_words (pending_bytes words.old len ++ bytes.now) }
-    ensures bytes { len + length bytes.now < 64
-        → pending_bytes words.new (len + length bytes.now)
-        ≡ pending_bytes words.old len ++ bytes.now }
-    ensures pending { len + length bytes.now < 64
-        → ArePending words.new (len + length bytes.now) }
-    ensures costs { Costs tally 0 (length bytes.now) }
+    requires room { len + length bytes.now < 64 }
+    ensures { words.new ≡ packed_words 8 (pending_bytes words.old len ++ bytes.now) }
 {
-    tally.raise(0, bytes.len());
     if bytes.len() < 8 {
         append_below_eight(words, len, bytes);
     } else {
         append_eight_or_more(words, len, bytes);
+    }
+}
+
+// Stores the whole words of eight bytes or more where none is pending.
+#[inline(always)]
+fn store_whole_words(words: &mut [u64; 8], bytes: &[u8])
+    requires none { ArePending words.old 0 }
+    requires at_least_8 { 8 ≤ length bytes.now }
+    requires below_64 { length bytes.now < 64 }
+    ensures { PacksBut words.new bytes.now (length bytes.now / 8) (length bytes.now / 8 + 1) }
+{
+    let (chunks, _) = bytes.as_chunks::<8>();
+    let has_two_words = chunks.len() >= 2;
+    if has_two_words {
+        store_words(&mut words[..chunks.len()], chunks);
+    } else {
+        words[0] = read_word(bytes);
+    }
+}
+
+// Stores bytes where none is pending.
+#[inline(always)]
+fn store_bytes(words: &mut [u64; 8], bytes: &[u8])
+    requires none { ArePending words.old 0 }
+    requires below_64 { length bytes.now < 64 }
+    ensures { words.new ≡ packed_words 8 bytes.now }
+{
+    let is_short = bytes.len() < 8;
+    if is_short {
+        words[0] = read_partial_word(bytes, 0);
+    } else {
+        store_whole_words(words, bytes);
+        // The shift by 8 comes last, as above.
+        words[word_index(bytes.len())] = last_word(bytes) >> (56 - 8 * (bytes.len() % 8)) >> 8;
+    }
+}
+
+// Stores two words of the bytes, those from index `from` on.
+#[inline(always)]
+fn store_two(words: &mut [u64; 8], at: usize, bytes: &[u8], from: usize)
+    requires room { at + 2 ≤ 8 }
+    requires within { from + 16 ≤ length bytes.now }
+    ensures { words.new ≡ set (set words.old at (word_of (take 8 (drop from bytes.now)))) (at + 1)
+        (word_of (take 8 (drop (from + 8) bytes.now))) }
+{
+    let first = word_at(bytes, from);
+    let second = word_at(bytes, from + 8);
+    words[at] = first;
+    words[at + 1] = second;
+}
+
+// Stores the bytes that complete the block, some words twice, first from the front and then from
+// the back. Each array, and each remainder of an index, tells the compiler what is in range.
+#[inline(always)]
+fn complete_block(words: &mut [u64; 8], len: usize, bytes: &[u8])
+    requires pending { ArePending words.old len }
+    requires full { len + length bytes.now ≡ 64 }
+    ensures { words.new ≡ packed_words 8 (pending_bytes words.old len ++ bytes.now) }
+{
+    let is_short = bytes.len() < 8;
+    if is_short {
+        words[7] |= read_partial_word(bytes, 0) << (8 * (len % 8));
+        return;
+    }
+    append_within_word(words, len, bytes);
+    let from = 8 - len % 8;
+    let over_32 = bytes.len() > 32;
+    let over_16 = bytes.len() > 16;
+    if over_32 {
+        let next = len / 8 % 4 + 1;
+        let Some(front) = bytes.first_chunk::<32>() else {
+            unreachable!()
+        };
+        let Some(back) = bytes.last_chunk::<32>() else {
+            unreachable!()
+        };
+        store_two(words, next, front, from);
+        words[next + 2] = word_at(front, from + 16);
+        store_two(words, 4, back, 0);
+        store_two(words, 6, back, 16);
+    } else if over_16 {
+        let Some(front) = bytes.first_chunk::<16>() else {
+            unreachable!()
+        };
+        let Some(back) = bytes.last_chunk::<16>() else {
+            unreachable!()
+        };
+        words[len / 8 % 2 + 5] = word_at(front, from);
+        store_two(words, 6, back, 0);
+    } else {
+        words[7] = last_word(bytes);
     }
 }
 
@@ -211,8 +280,10 @@ impl Pending {
         ensures bytes { self.new ≡ self.old ++ bytes.now }
         ensures costs { Costs tally 0 (length bytes.now) }
     {
-        append_to_block(&mut self.words, self.len, bytes, tally);
-        self.len += bytes.len();
+        let len = self.len;
+        self.len = len + bytes.len();
+        tally.raise(0, bytes.len());
+        append_to_block(&mut self.words, len, bytes);
     }
 
     /// Appends bytes where none is pending. Does what `append` does, but the compiler knows that
@@ -224,8 +295,11 @@ impl Pending {
         ensures bytes { self.new ≡ bytes.now }
         ensures costs { Costs tally 0 (length bytes.now) }
     {
+        // The remainder tells the compiler that the words have room. Often there are no bytes.
+        let bytes = &bytes[..bytes.len() % 64];
         if !bytes.is_empty() {
-            append_to_block(&mut self.words, 0, bytes, tally);
+            tally.raise(0, bytes.len());
+            store_bytes(&mut self.words, bytes);
             self.len = bytes.len();
         }
     }
@@ -238,33 +312,47 @@ impl Pending {
         ensures none { self.new ≡ [] }
         ensures costs { Costs tally 0 (length bytes.now) }
     {
-        append_to_block(&mut self.words, self.len, bytes, tally);
+        tally.raise(0, bytes.len());
+        complete_block(&mut self.words, self.len, bytes);
         let block = self.words;
         self.words = [0; 8];
         self.len = 0;
         block
     }
 
-    /// Returns the last whole word, or any word if there is none.
+    // Returns the padding byte of at least one byte.
     #[inline(always)]
-    pub(crate) fn last_whole_word(&self) -> u64
-        ensures { 8 ≤ length self.now
-            → result ≡ slice_index (whole_words self.now) (length self.now / 8 - 1) }
-    {
-        self.words[(self.len / 8 + 7) % 8]
-    }
-
-    /// Returns the final word of at least one byte: those after the last whole word, and the
-    /// padding byte.
-    #[inline(always)]
-    pub(crate) fn final_word<const V: u8>(&self) -> u64
+    fn padding_byte<const V: u8>(&self) -> u64
         requires { 0 < length self.now }
-        ensures { result ≡ final_word self.now (padding_byte V self.now) }
+        ensures byte { result ≡ padding_byte V self.now }
+        ensures small { result < 4 }
     {
         let last = self.len - 1;
         let last_byte = (self.words[word_index(last)] >> (8 * (last % 8)) & 0xff) as u8;
-        let padding = padding_after(pads_with_two::<V>(last_byte));
-        self.words[word_index(self.len)] | padding << (8 * (self.len % 8))
+        padding_after(pads_with_two::<V>(last_byte))
+    }
+
+    /// Returns the last two words of at least one byte: the last whole word and the final word, or
+    /// if the whole words are even in number the final word and 0.
+    ///
+    /// They are two of the eight words, the first at an even index, and one of them has the padding
+    /// byte. This takes fewer instructions than to choose between words.
+    #[inline(always)]
+    pub(crate) fn last_two<const V: u8>(&self) -> (u64, u64)
+        requires { 0 < length self.now }
+        ensures odd { length self.now / 8 % 2 ≡ 1
+            → (result.0 ≡ slice_index (whole_words self.now) (length self.now / 8 - 1))
+            × (result.1 ≡ final_word self.now (padding_byte V self.now)) }
+        ensures even { length self.now / 8 % 2 ≡ 0
+            → (result.0 ≡ final_word self.now (padding_byte V self.now)) × (result.1 ≡ 0) }
+    {
+        let padding = self.padding_byte::<V>() << (8 * (self.len % 8));
+        let is_odd = self.len / 8 % 2 == 1;
+        let in_first = if is_odd { 0 } else { padding };
+        // In this way LLVM reads the words at an index that one instruction makes of the length.
+        let (pairs, _) = self.words.as_chunks::<2>();
+        let two = &pairs[self.len / 16 % 4];
+        (two[0] | in_first, two[1] | (padding - in_first))
     }
 
     /// Writes the bytes to the front of `out`. The rest of `out` is unchanged.

@@ -1,4 +1,4 @@
-//! The whole words of a message or a stream, the pair rounds on them, and the end of each hash,
+//! The whole words of a message or a stream, the pair rounds on them, and for messages the closing,
 //! which takes the word that may be left and the final word.
 
 #![tactic(auto, using(crate::proofs::WholeWords::read_words))]
@@ -9,7 +9,7 @@ ghost use Rattle.komihash.specs.Counts.{Costs};
 ghost use Rattle.komihash.specs.Hash.{hash_from_pair};
 ghost use Rattle.komihash.specs.Internals.{pair_of, whole_words};
 
-use super::{Pair, close, pair_round};
+use super::{XoredPair, close, pair_round};
 use crate::tally::Tally;
 
 /// Returns the last whole word of at least eight bytes.
@@ -30,7 +30,7 @@ pub(crate) trait WholeWords {
     fn count(&self) -> usize
         ensures { result ≡ length (words self.now) };
 
-    /// Returns the word at index `at`, which is below 8, though the search can't find that.
+    /// Returns the word at index `at`.
     fn word(&self, at: usize) -> u64
         requires within { at < length (words self.now) }
         requires below_8 { at < 8 }
@@ -58,7 +58,7 @@ impl WholeWords for &[u8] {
 // give the hash that all from `at` on give from the pair before.
 #[inline(always)]
 #[tactic(auto, using(crate::proofs::HashPaths::hash_from_pair_two))]
-fn round_at<W: WholeWords>(pair: Pair, left: &W, at: usize, tally: &mut Tally) -> Pair
+fn round_at<W: WholeWords>(pair: XoredPair, left: &W, at: usize, tally: &mut Tally) -> XoredPair
     requires within { at + 2 ≤ length (W.words left.now) }
     requires place { at < 7 }
     ensures hash { (final_word : ℕ)
@@ -69,10 +69,10 @@ fn round_at<W: WholeWords>(pair: Pair, left: &W, at: usize, tally: &mut Tally) -
     pair_round(pair, left.word(at), left.word(at + 1), tally)
 }
 
-// Returns the pair after a round on each two words. From it, the word that may remain gives the
-// hash that all words give from the pair before.
+/// Returns the pair after a round on each two words. From it, the word that may remain gives the
+/// hash that all words give from the pair before.
 #[inline(always)]
-fn round_each<W: WholeWords>(pair: Pair, left: &W, tally: &mut Tally) -> Pair
+pub(crate) fn round_each<W: WholeWords>(pair: XoredPair, left: &W, tally: &mut Tally) -> XoredPair
     requires { length (W.words left.now) < 8 }
     ensures hash { (final_word : ℕ) → hash_from_pair (pair_of result)
         (drop (length (W.words left.now) / 2 * 2) (W.words left.now) ++ final_word ∷ [])
@@ -98,7 +98,7 @@ fn round_each<W: WholeWords>(pair: Pair, left: &W, tally: &mut Tally) -> Pair
 #[inline(always)]
 #[tactic(auto, using(std::proofs::lemmas::List::drop_all, std::proofs::lemmas::List::drop_more))]
 pub(crate) fn hash_from_pair<W: WholeWords>(
-    pair: Pair,
+    pair: XoredPair,
     left: &W,
     last_whole_word: u64,
     final_word: u64,

@@ -12,7 +12,7 @@ use crate::padding::has_two;
 use crate::rounds::pending::Pending;
 use crate::rounds::{Lanes, from_order, in_order};
 use crate::tally::Tally;
-use crate::utils::{read_whole_words, write_first_bytes};
+use crate::utils::{read_whole_words, write_words};
 
 const LANES_AT: usize = 4;
 
@@ -44,13 +44,14 @@ pub(crate) fn write_head<const V: u8>(
 
 /// Writes the lanes after the first four bytes.
 #[inline(always)]
+#[tactic(auto, using(crate::proofs::AllBytes::written))]
 pub(crate) fn write_lanes(lanes: &Lanes, out: &mut [u8])
     requires { PENDING_AT ≤ length out.old }
     ensures lanes { take PENDING_AT out.new
         ≡ take LANES_AT out.old ++ all_bytes (in_order lanes.now) }
     ensures after { (n : ℕ) → PENDING_AT ≤ n → drop n out.new ≡ drop n out.old }
 {
-    write_first_bytes(&in_order(lanes), 64, &mut out[LANES_AT..PENDING_AT]);
+    write_words(&in_order(lanes), &mut out[LANES_AT..PENDING_AT]);
 }
 
 /// Writes the pending bytes after the lanes, and returns where they end.

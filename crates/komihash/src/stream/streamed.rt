@@ -1,11 +1,15 @@
 //! The stream of both versions.
 
-ghost use Rattle.std.specs.Prelude.{◌≤◌, length};
+ghost use Rattle.std.specs.Prelude.{◌≡◌, ◌+◌, ◌≤◌, length};
+ghost use Rattle.komihash.specs.Counts.{Costs, absorb_products, absorb_kept_bytes};
 ghost use Rattle.komihash.specs.Saved.{Stored, Restored};
-ghost use Rattle.komihash.specs.Stream.{StateOf, IsState, Started, Absorbed, Answered};
+ghost use Rattle.komihash.specs.Stream.{State, StateOf, IsState, absorb, Started, Absorbed, Answered};
 
-use super::raw::RawStream;
-use super::{KomiStream, LONGEST_TEXT};
+use super::{KomiStream, LONGEST_TEXT, saved};
+use crate::padding::{has_two, padding_after, pads_with_two};
+use crate::rounds::pending::Pending;
+use crate::rounds::words::round_each;
+use crate::rounds::{Lanes, absorb_blocks, block_round, close, join, lanes_of, places, seed_pair};
 use crate::tally::Tally;
 use crate::version::{IsVersion, Versions};
 use std::marker::Model;
@@ -19,15 +23,26 @@ use std::marker::Model;
 /// at most 63 of each.
 ///
 /// It is not for messages that an attacker may choose, whatever the seed is.
-// In Rust, `c/exports.rs` needs this layout.
-#[repr(transparent)]
+// In Rust, `c/verify/layout.py` describes this layout.
+#[repr(C)]
 #[derive(Drop)]
 pub struct StreamedKomihash<const V: u8>
 where
     Versions: IsVersion<V>,
 {
-    raw: RawStream,
-    ghost is_state: { IsState V raw },
+    // This field is first, so that its words have the stream's address, which takes no register.
+    pending: Pending,
+    lanes: Lanes,
+    // Whether a block was absorbed.
+    had_block: bool,
+    // In version 4, whether the last byte of the last block is at least 128.
+    top_bit: bool,
+    ghost is_state: { IsState V (record {
+      lanes = lanes;
+      pending = pending;
+      had_block = had_block;
+      top_bit = top_bit;
+    }) },
 }
 
 impl<const V: u8> Model for StreamedKomihash<V>
@@ -37,7 +52,12 @@ where
     ghost Value = { StateOf V };
 
     ghost view = { λ s. record {
-      state = s.raw;
+      state = record {
+        lanes = s.lanes;
+        pending = s.pending;
+        had_block = s.had_block;
+        top_bit = s.top_bit;
+      };
       is_state = s.is_state;
     } };
 }
@@ -77,10 +97,56 @@ where
     pub fn new_with_seed(seed: u64) -> Self
         ensures { Started V seed result.state }
     {
-        // In Rust, this is `const`, so it can't call `start`, a method of a trait.
+        StreamedKomihash::begin(seed, &mut Tally::new())
+    }
+
+    // In Rust, this is `const`, and `start`, a method of a trait, can't be.
+    #[inline(always)]
+    #[tactic(auto, unfolding(crate::specs::Stream::HasAbsorbed, crate::specs::Stream::absorb))]
+    const fn begin(seed: u64, tally: &mut Tally) -> Self
+        ensures started { Started V seed result.state }
+        ensures costs { Costs tally 1 0 }
+    {
         StreamedKomihash {
-            raw: RawStream::start::<V>(seed, &mut Tally::new()),
+            pending: Pending::new(),
+            lanes: lanes_of(seed_pair(seed, tally)),
+            had_block: false,
+            top_bit: false,
         }
+    }
+
+    // Absorbs bytes that complete a block or more. Copies those that complete the partial block, if
+    // there is one, and those after the last block. It stays out of callers, which would get long.
+    #[inline(never)]
+    #[tactic(auto, using(crate::proofs::Streams::blocks_completed))]
+    fn complete_blocks(&mut self, bytes: &[u8], tally: &mut Tally)
+        requires { 64 ≤ length self.old.state.pending + length bytes.now }
+        ensures state { self.new.state ≡ absorb V self.old.state bytes.now }
+        ensures costs { Costs tally
+            (absorb_products (length self.old.state.pending) (length bytes.now))
+            (absorb_kept_bytes (length self.old.state.pending) (length bytes.now)) }
+    {
+        let pending_len = self.pending.len();
+        let blocks_end = bytes.len() - (pending_len + bytes.len()) % 64;
+        // The first test keeps version 5 from computing an index and reading a byte.
+        self.top_bit = has_two::<V>() && pads_with_two::<V>(bytes[blocks_end - 1]);
+        self.had_block = true;
+        let mut lanes;
+        let mut rest = bytes;
+        let none_pending = pending_len == 0;
+        if none_pending {
+            lanes = self.lanes;
+        } else {
+            let (front, after) = bytes.split_at(64 - pending_len);
+            rest = after;
+            let block = self.pending.complete(front, tally);
+            // The lanes are read after `complete`, which needs the registers itself.
+            lanes = self.lanes;
+            block_round(&mut lanes, &block, places::<V>(), tally);
+        }
+        let left = absorb_blocks::<V>(&mut lanes, rest, tally);
+        self.lanes = lanes;
+        self.pending.append_to_none(left, tally);
     }
 
     /// Absorbs any number of bytes.
@@ -198,30 +264,63 @@ where
 
     #[inline]
     fn start(seed: u64, tally: &mut Tally) -> Self {
-        StreamedKomihash {
-            raw: RawStream::start::<V>(seed, tally),
+        StreamedKomihash::begin(seed, tally)
+    }
+
+    // Where a crate calls this and `answer` more than once, LLVM would not inline them by itself, and
+    // would forget that a new stream is empty.
+    #[inline(always)]
+    #[tactic(auto, unfolding(crate::specs::Stream::HasAbsorbed), using(crate::proofs::Streams::more_absorbed))]
+    fn absorb(&mut self, bytes: &[u8], tally: &mut Tally) {
+        let is_partial = self.pending.len() + bytes.len() < 64;
+        if is_partial {
+            self.pending.append(bytes, tally);
+        } else {
+            self.complete_blocks(bytes, tally);
         }
     }
 
-    #[inline]
-    fn absorb(&mut self, bytes: &[u8], tally: &mut Tally) {
-        self.raw.absorb::<V>(bytes, tally);
-    }
-
-    #[inline]
+    #[inline(always)]
+    #[tactic(auto, using(crate::proofs::WholeWords::read_words))]
     fn answer(&self, tally: &mut Tally) -> u64 {
-        self.raw.answer::<V>(tally)
+        let pair = join(&self.lanes, self.had_block);
+        let none_pending = self.pending.len() == 0;
+        if none_pending {
+            // The padding byte of the last block, or 0 if no block was absorbed.
+            let had_block = self.had_block;
+            let end = if had_block {
+                padding_after(self.top_bit)
+            } else {
+                0
+            };
+            return close(pair, end, 0, tally);
+        }
+        // The rounds come first, because they need the registers that the last two words take.
+        let pair = round_each(pair, &self.pending, tally);
+        let (first, second) = self.pending.last_two::<V>();
+        close(pair, first, second, tally)
     }
 
     #[inline]
+    #[tactic(auto, unfolding(crate::specs::Saved::text), using(crate::proofs::SavedTexts::store_laws))]
     fn store(&self, out: &mut [u8]) -> usize {
-        self.raw.store::<V>(out)
+        saved::write_head::<V>(self.had_block, self.top_bit, self.pending.len(), out);
+        saved::write_lanes(&self.lanes, out);
+        saved::write_pending(&self.pending, out)
     }
 
     #[inline]
+    #[tactic(auto, unfolding(crate::specs::Saved::IsTextAfter))]
     fn restore(bytes: &[u8]) -> Option<Self> {
+        if !saved::is_text::<V>(bytes) {
+            return None;
+        }
+        let (had_block, top_bit) = saved::read_flags(bytes);
         Some(StreamedKomihash {
-            raw: RawStream::restore::<V>(bytes)?,
+            pending: saved::read_pending(bytes),
+            lanes: saved::read_lanes(bytes),
+            had_block,
+            top_bit,
         })
     }
 

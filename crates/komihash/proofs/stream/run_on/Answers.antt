@@ -15,9 +15,8 @@ loop-call-preserved g c =
     let v = g.S.KomiStream.VERSION in
     let now = g.S.KomiStream.state c.loop-call.stream in
     let few = (g.met.S.KomiStream.is_state c.loop-call.stream).few in
-    let calls = c.args.calls.now in
     let i = c.loop-call.call-index in
-    let after = drop (i + 1) calls in
+    let after = drop (i + 1) c.args.calls.now in
     elim c.match-call.branch [
       | in-Absorb w ↦
           let bytes = w.in-Absorb.bytes in

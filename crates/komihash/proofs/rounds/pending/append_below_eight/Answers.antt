@@ -10,9 +10,8 @@ use Rattle.std.specs.Int.Bits.{or_zero_l, or_zero_r, or_self}
 use Rattle.komihash.specs.Internals.{pending_bytes}
 use Rattle.komihash.specs.Words.{word_of}
 use Rattle.komihash.proofs.WordOf.{AreBytes-typed, shl_mod, word_of-drop, word_of-zeros}
-use Rattle.komihash.proofs.PendingBytes.{StoresBut-put, StoresBut-all, StoresBut-partial}
-use Rattle.komihash.proofs.PendingBytes.{stored_word-after}
-use Rattle.komihash.proofs.PendingBytes.{get_or-after_partial}
+use Rattle.komihash.proofs.PendingBytes.{PacksBut-put, PacksBut-all, PacksBut-partial}
+use Rattle.komihash.proofs.PendingBytes.{packed_word-after, get_or-after_partial}
 use Rattle.komihash.proofs.rounds.pending.append_below_eight.Goals as goal
 
 -- a rotation has the bits that a shift to the left keeps, and those that it drops
@@ -33,7 +32,7 @@ returns c =
     let are = AreBytes-typed bytes c.type_inv.bytes in
     let word = c.read_partial_word-word.ensures ∙ word_of-zeros bytes 1 in
     let first = word ∙ ap word_of (sym (take_all 8 bytes (omega arith))) in
-    let partial = StoresBut-partial c.requires.pending bytes _ (c.args.len / 8 + 1)
+    let partial = PacksBut-partial c.requires.pending bytes _ (c.args.len / 8 + 1)
     ((c.args.len + length bytes + 7) / 8) are first (omega arith) in
     -- the difference of the code is the word of those that don't fit
     let left = c.read_partial_word-word.result * 2 ^ (8 * over) % 2 ^ 64 in
@@ -43,11 +42,11 @@ returns c =
       | inl more ↦
           let zero = get_or-after_partial c.requires.pending at (omega arith) (omega arith) in
           let whole = take_all 8 (drop fit bytes) (omega (arith, length-drop fit bytes)) in
-          let next = stored_word-after xs bytes at fit (omega arith) in
-          StoresBut-all (StoresBut-put partial at (at + 1) _ (omega arith)
+          let next = packed_word-after xs bytes at fit (omega arith) in
+          PacksBut-all (PacksBut-put partial at (at + 1) _ (omega arith)
           (λ _. rw (zero, or_zero_l (word_of (drop fit bytes)), ← next, whole) refl)) (omega arith)
       | inr all ↦
-          rw (drop_all fit bytes all, or_zero_r, set-get_or) (StoresBut-all partial (omega arith))
+          rw (drop_all fit bytes all, or_zero_r, set-get_or) (PacksBut-all partial (omega arith))
     ])
 
 pub overflow_sub-words : goal.overflow_sub-words

@@ -1,13 +1,7 @@
--- The lanes follow the first four bytes.
+-- What is after the lanes stays.
 use Rattle.std.proofs.Common.{arith}
-use Rattle.komihash.specs.Saved.{lanes_at, pending_at}
-use Rattle.komihash.proofs.SavedTexts.{part-put}
+use Rattle.std.proofs.lemmas.Slice.{drop-put_mid}
 use Rattle.komihash.proofs.stream.saved.write_lanes.Goals as goal
 
-pub returns : goal.returns
-returns c =
-    let bytes = rw c.in_order.ensures at c.write_first_bytes.ensures.bytes in
-    let (lanes, after) =
-    part-put lanes_at pending_at c.args.out.now _ _ (omega arith) (omega arith)
-    c.write_first_bytes.auto.out bytes in
-    record { lanes = lanes; after = after }
+pub returns-clause-after : goal.returns-clause-after
+returns-clause-after c = λ n le. drop-put_mid 4 64 _ _ n le (omega arith) (omega arith)

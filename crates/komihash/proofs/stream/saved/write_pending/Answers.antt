@@ -11,4 +11,4 @@ returns c =
     let (bytes, after) =
     part-put pending_at end c.args.out.now _ _ (omega arith) (omega arith) c.write_to.auto.out
     (rw size at c.write_to.ensures.bytes) in
-    record { end = omega arith; bytes = bytes; after = after end (omega arith) }
+    record { end = omega arith; bytes = bytes; after = after }
