@@ -1,16 +1,14 @@
 #!/usr/bin/env bash
-# Writes the assembly of the library for C into a folder: assembly.sh FOLDER, by Debian's packages
-# rustc-web and rust-web-src. Without FOLDER, prints the SHA-256 of what it is made of and by, which
-# the head of each file has too.
+# Compiles a crate for Rust to the assembly of the library for C, in a folder, by Debian's packages
+# rustc-web and rust-web-src: assembly.sh CRATE FOLDER. Without FOLDER, prints the SHA-256 of what
+# the assembly is made of and by, which the head of each file has too.
 set -euo pipefail
-folder=$(realpath -m "${1:-.}")
+crate=$(realpath "$1") folder=$(realpath -m "${2:-.}")
 cd "$(dirname "${BASH_SOURCE[0]}")"
-crate=rust
-[ -d $crate ] || crate=../rust
-made_of=$({ grep ^edition $crate/Cargo.toml
-    (cd $crate/src && find . -name '*.rs' | LC_ALL=C sort | xargs sha256sum)
+made_of=$({ grep ^edition "$crate/Cargo.toml"
+    (cd "$crate/src" && find . -name '*.rs' | LC_ALL=C sort | xargs sha256sum)
     sha256sum exports.rs {from_rust,assembly,sysroot}.sh; } | sha256sum | cut -d ' ' -f 1)
-[ $# = 1 ] || { echo "$made_of"; exit; }
+[ $# = 2 ] || { echo "$made_of"; exit; }
 scratch=$(mktemp -d)
 trap 'rm -rf "$scratch"' EXIT
 
@@ -23,12 +21,14 @@ trap 'rm -rf "$scratch"' EXIT
 #   start of each exported function an instruction. They are unstable, hence RUSTC_BOOTSTRAP.
 # - align-all-functions lets functions begin where 64 bytes do. At other addresses, hashes of 8
 #   bytes for plain x86-64 may take 10% longer.
+# - slp-threshold keeps LLVM from building the vectors that a new stream is stored by, which would
+#   take six instructions more. AVX2 has better ones.
 assembly_for() {
     local target=$2-unknown-linux-gnu options=(-C no-redzone=yes "${@:3}")
     export RUSTC_BOOTSTRAP=1
     bash sysroot.sh "$target" "$scratch/$1" "${options[@]}"
     RUSTC="/usr/bin/rustc --sysroot $scratch/$1" RUST_TARGET=$target \
-        sh from_rust.sh "$2-linux-gnu" "$scratch/$1.s" "${options[@]}"
+        sh from_rust.sh "$crate" "$2-linux-gnu" "$scratch/$1.s" "${options[@]}"
     cat > "$scratch/$1.S" << END
 /* SPDX-License-Identifier: MIT
  * Copyright (c) 2026 the authors of komihash_rattle
@@ -41,7 +41,8 @@ assembly_for() {
 END
     sed '/^\t\.aeabi_/d' "$scratch/$1.s" >> "$scratch/$1.S"
 }
-assembly_for x86_64 x86_64 -Z cf-protection=full -C llvm-args=-align-all-functions=6
+assembly_for x86_64 x86_64 -Z cf-protection=full -C llvm-args=-align-all-functions=6 \
+    -C llvm-args=-slp-threshold=-2
 assembly_for x86_64_v3 x86_64 -Z cf-protection=full -C target-cpu=x86-64-v3
 assembly_for aarch64 aarch64 -Z branch-protection=bti
 mkdir -p "$folder"

@@ -1,15 +1,12 @@
 #!/bin/sh
-# Compiles the crate for Rust, with the names of the header: from_rust.sh MACHINE FILE [OPTION..].
-# MACHINE is what C compilers print for -dumpmachine. FILE gets an object, or if it ends in .wasm a
-# module, in .s assembly. The options are for rustc. The environment may have RUSTC, also with
-# options, RUST_TARGET, what rustc calls the machine, and RUST_CRATE, the folder of another crate.
+# Compiles the crate for Rust in a folder, with the names of the header: from_rust.sh FOLDER MACHINE
+# FILE [OPTION..]. MACHINE is what C compilers print for -dumpmachine. FILE gets an object, or if it
+# ends in .wasm a module, in .s assembly. The options are for rustc. The environment may have RUSTC,
+# also with options, and RUST_TARGET, what rustc calls the machine.
 set -eu
 unset MAKEFLAGS MFLAGS # whose job server is closed here
-rustc=${RUSTC:-rustc} machine=$1 file=$2
-shift 2
-here=$(dirname "$0")
-crate=${RUST_CRATE:-$here/rust}
-[ -d "$crate" ] || crate=$here/../rust
+rustc=${RUSTC:-rustc} crate=$1 machine=$2 file=$3
+shift 3
 target=${RUST_TARGET:-$(echo "$machine" | sed -E 's/^arm64/aarch64/; s/^i[345]86/i686/
     s/^riscv64/&gc/; s/-([a-z]*-)?linux/-unknown-linux/; s/-linux$/&-gnu/
     s/-w64-mingw32$/-pc-windows-gnu/; s/(-darwin|bsd)[0-9.]*$/\1/')}
@@ -43,4 +40,4 @@ compile() {
 compile "$@" --edition "$(sed -n 's/^edition = "\(.*\)"/\1/p' "$crate/Cargo.toml")" \
     --crate-name komihash_rattle --crate-type rlib "$crate/src/lib.rs"
 compile "$@" --edition 2021 -C lto=fat --crate-type "$kind" --emit "$files" -L "$scratch" \
-    --extern komihash_rattle "$here/exports.rs"
+    --extern komihash_rattle "$(dirname "$0")/exports.rs"

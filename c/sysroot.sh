@@ -8,7 +8,8 @@ options=("${@:3}")
 cd /usr/lib/rustlib/src/rust/library
 mkdir -p "$folder"
 
-# The library uses features that only the compiler's own version may use. Cargo would set the rest.
+# Only a compiler of the same version may compile the library, which uses unstable features. Cargo
+# would set the cfg values.
 export RUSTC_BOOTSTRAP=1 CFG_VERSION=none
 compile() { # NAME SOURCE [OPTION..]
     /usr/bin/rustc --edition 2024 --target "$target" --sysroot "${folder%/lib/rustlib/*}" \

@@ -24,8 +24,8 @@ build() {
     fi
     echo '#![no_std] pub use core::*;' | $rustc --target "$target" -C panic=abort \
         --crate-name std --crate-type rlib -o "$dir/libstd.rlib" -
-    RUSTC="$rustc --cfg rust_crate -L $dir --extern std=$dir/libstd.rlib" RUST_CRATE=$crate \
-        sh from_rust.sh "${target/-unknown/}" "$dir/crate.s" "${options[@]}"
+    RUSTC="$rustc --cfg rust_crate -L $dir --extern std=$dir/libstd.rlib" \
+        sh from_rust.sh "$crate" "${target/-unknown/}" "$dir/crate.s" "${options[@]}"
     echo ".text; .globl memcpy; .hidden memcpy; memcpy: $memcpy" >> "$dir/crate.s"
     "${cross}as" --gdwarf-5 -o "$dir/crate.o" "$dir/crate.s"
     "${cross}objcopy" --remove-relocations='.data.rel.ro*' "$dir/crate.o"

@@ -39,7 +39,9 @@ by_its_compiler() {
 }
 names_its_sources() {
     local made_of
-    made_of=$(bash c/assembly.sh) && [ "$(grep -l "SHA-256 $made_of$" c/assembly/*.S | wc -l)" = 3 ]
+    made_of=$(bash c/assembly.sh rust) &&
+        ! grep -L "SHA-256 $made_of$" c/assembly/*.S js/komihash_rattle.js | grep . &&
+        ! grep -nE '^\s*(#|\.(if|else|macro|inc|rept|irp|set|equ|org))' c/assembly/*.S
 }
 made_of_crate() {
     in_package assembly "ASSEMBLY=$scratch/assembly" && diff -r "$scratch/assembly" c/assembly
@@ -189,7 +191,7 @@ always run_case 'the package of the library for C is made again from itself' unp
 arm=aarch64-linux-gnu
 library() {
     local windows=x86_64-w64-mingw32
-    run_case 'the assembly names the sources that it is made of' names_its_sources
+    run_case 'the assembly and the WebAssembly name their sources' names_its_sources
     by_its_compiler c/assembly/x86_64.S "$debian" 'the assembly is made of the crate for Rust' \
         made_of_crate
     part in_package check

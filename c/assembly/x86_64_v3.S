@@ -2,7 +2,7 @@
  * Copyright (c) 2026 the authors of komihash_rattle
  *
  * `make assembly` made this file from the crate for Rust. Do not edit it.
- * Made of: SHA-256 da5f2ef0fe20b98e167f3c0a57b77bedf84cf46a0c331ba774680d6249d05722
+ * Made of: SHA-256 bca5f69bfda2552d9dbf800606c7146e2dad2f6411a51fd2f7fde55de266e934
  * Options: those of from_rust.sh, and -C no-redzone=yes -Z cf-protection=full -C target-cpu=x86-64-v3
  * Compiler: rustc 1.96.0 (ac68faa20 2026-05-25) (built from a source tarball)
  */
@@ -2382,123 +2382,128 @@ komihash_v4_rand_fill:
 	.cfi_startproc
 	endbr64
 	testq	%rdx, %rdx
-	je	.LBB18_17
+	je	.LBB18_16
 	pushq	%r15
 	.cfi_def_cfa_offset 16
 	pushq	%r14
 	.cfi_def_cfa_offset 24
-	pushq	%rbx
+	pushq	%r12
 	.cfi_def_cfa_offset 32
-	pushq	%rax
+	pushq	%rbx
 	.cfi_def_cfa_offset 40
-	.cfi_offset %rbx, -32
+	pushq	%rax
+	.cfi_def_cfa_offset 48
+	.cfi_offset %rbx, -40
+	.cfi_offset %r12, -32
 	.cfi_offset %r14, -24
 	.cfi_offset %r15, -16
-	movq	%rdx, %rax
-	movabsq	$-6148914691236517206, %r10
-	movq	%rdx, %r15
-	shrq	$3, %r15
-	je	.LBB18_8
-	movq	(%rdi), %rdx
-	movq	8(%rdi), %r11
-	movl	%r15d, %ebx
-	andl	$3, %ebx
-	cmpq	$32, %rax
-	jae	.LBB18_13
-	xorl	%r14d, %r14d
+	movq	%rdx, %r8
+	movabsq	$-6148914691236517206, %r9
+	movq	(%rdi), %rcx
+	movq	8(%rdi), %rax
+	movq	%rdx, %rbx
+	shrq	$3, %rbx
+	je	.LBB18_7
+	movl	%ebx, %r10d
+	andl	$3, %r10d
+	cmpq	$32, %r8
+	jae	.LBB18_12
+	xorl	%r11d, %r11d
 	jmp	.LBB18_5
-.LBB18_13:
-	andq	$-4, %r15
-	xorl	%r14d, %r14d
+.LBB18_12:
+	andq	$-4, %rbx
+	xorl	%r11d, %r11d
 	.p2align	4
-.LBB18_14:
-	mulxq	%r11, %rcx, %rdx
-	addq	%r10, %r11
-	addq	%rdx, %r11
-	xorq	%r11, %rcx
-	movq	%rcx, %rdx
-	mulxq	%r11, %r8, %rdx
-	addq	%r10, %r11
-	addq	%rdx, %r11
-	xorq	%r11, %r8
-	movq	%r8, %rdx
-	mulxq	%r11, %r9, %rdx
-	movq	%rcx, (%rsi,%r14,8)
-	addq	%r10, %r11
-	addq	%rdx, %r11
-	xorq	%r11, %r9
-	movq	%r9, %rdx
-	mulxq	%r11, %rdx, %rcx
-	movq	%r8, 8(%rsi,%r14,8)
-	movq	%r9, 16(%rsi,%r14,8)
-	addq	%r10, %r11
-	addq	%rcx, %r11
-	xorq	%r11, %rdx
-	movq	%rdx, 24(%rsi,%r14,8)
-	addq	$4, %r14
-	cmpq	%r14, %r15
-	jne	.LBB18_14
-	testq	%rbx, %rbx
+.LBB18_13:
+	movq	%rax, %rdx
+	mulxq	%rcx, %r14, %rcx
+	addq	%r9, %rax
+	addq	%rcx, %rax
+	xorq	%rax, %r14
+	movq	%rax, %rdx
+	mulxq	%r14, %r15, %rcx
+	addq	%r9, %rax
+	addq	%rcx, %rax
+	xorq	%rax, %r15
+	movq	%rax, %rdx
+	mulxq	%r15, %r12, %rcx
+	movq	%r14, (%rsi,%r11,8)
+	addq	%r9, %rax
+	addq	%rcx, %rax
+	xorq	%rax, %r12
+	movq	%rax, %rdx
+	mulxq	%r12, %rcx, %rdx
+	movq	%r15, 8(%rsi,%r11,8)
+	movq	%r12, 16(%rsi,%r11,8)
+	addq	%r9, %rax
+	addq	%rdx, %rax
+	xorq	%rax, %rcx
+	movq	%rcx, 24(%rsi,%r11,8)
+	addq	$4, %r11
+	cmpq	%r11, %rbx
+	jne	.LBB18_13
+	testq	%r10, %r10
 	je	.LBB18_7
 .LBB18_5:
-	leaq	(%rsi,%r14,8), %rcx
-	xorl	%r8d, %r8d
+	leaq	(%rsi,%r11,8), %r11
+	xorl	%ebx, %ebx
 	.p2align	4
 .LBB18_6:
-	mulxq	%r11, %rdx, %r9
-	addq	%r10, %r11
-	addq	%r9, %r11
-	xorq	%r11, %rdx
-	movq	%rdx, (%rcx,%r8,8)
-	incq	%r8
-	cmpq	%r8, %rbx
+	movq	%rax, %rdx
+	mulxq	%rcx, %rcx, %rdx
+	addq	%r9, %rax
+	addq	%rdx, %rax
+	xorq	%rax, %rcx
+	movq	%rcx, (%r11,%rbx,8)
+	incq	%rbx
+	cmpq	%rbx, %r10
 	jne	.LBB18_6
 .LBB18_7:
-	movq	%r11, 8(%rdi)
-	movq	%rdx, (%rdi)
-.LBB18_8:
-	movq	%rax, %rcx
-	andq	$7, %rcx
-	je	.LBB18_16
-	movq	8(%rdi), %rdx
-	mulxq	(%rdi), %r8, %r9
-	addq	%rdx, %r10
-	addq	%r9, %r10
-	xorq	%r10, %r8
-	movq	%r8, (%rdi)
-	movq	%r10, 8(%rdi)
-	movabsq	$9223372036854775800, %rdx
-	andq	%rdx, %rax
-	addq	%rax, %rsi
-	movq	%r8, (%rsp)
-	cmpl	$3, %ecx
-	jbe	.LBB18_10
-	movl	%r8d, (%rsi)
-	movl	-4(%rsp,%rcx), %eax
-	movl	%eax, -4(%rsi,%rcx)
-	jmp	.LBB18_16
-.LBB18_10:
-	cmpl	$1, %ecx
-	jne	.LBB18_15
-	movb	%r8b, (%rsi)
-	jmp	.LBB18_16
+	movq	%r8, %r10
+	andq	$7, %r10
+	je	.LBB18_15
+	movq	%rcx, %rdx
+	mulxq	%rax, %rcx, %rdx
+	movabsq	$9223372036854775800, %r11
+	andq	%r11, %r8
+	addq	%r9, %rax
+	addq	%rdx, %rax
+	xorq	%rax, %rcx
+	addq	%r8, %rsi
+	movq	%rcx, (%rsp)
+	cmpl	$3, %r10d
+	jbe	.LBB18_9
+	movl	%ecx, (%rsi)
+	movl	-4(%rsp,%r10), %edx
+	movl	%edx, -4(%rsi,%r10)
+	jmp	.LBB18_15
+.LBB18_9:
+	cmpl	$1, %r10d
+	jne	.LBB18_14
+	movb	%cl, (%rsi)
+	jmp	.LBB18_15
+.LBB18_14:
+	movw	%cx, (%rsi)
+	movzwl	-2(%rsp,%r10), %edx
+	movw	%dx, -2(%rsi,%r10)
 .LBB18_15:
-	movw	%r8w, (%rsi)
-	movzwl	-2(%rsp,%rcx), %eax
-	movw	%ax, -2(%rsi,%rcx)
-.LBB18_16:
+	movq	%rcx, (%rdi)
+	movq	%rax, 8(%rdi)
 	addq	$8, %rsp
-	.cfi_def_cfa_offset 32
+	.cfi_def_cfa_offset 40
 	popq	%rbx
+	.cfi_def_cfa_offset 32
+	popq	%r12
 	.cfi_def_cfa_offset 24
 	popq	%r14
 	.cfi_def_cfa_offset 16
 	popq	%r15
 	.cfi_def_cfa_offset 8
 	.cfi_restore %rbx
+	.cfi_restore %r12
 	.cfi_restore %r14
 	.cfi_restore %r15
-.LBB18_17:
+.LBB18_16:
 	retq
 .Lfunc_end18:
 	.size	komihash_v4_rand_fill, .Lfunc_end18-komihash_v4_rand_fill
@@ -2629,85 +2634,81 @@ komihash_v4_resume:
 	vxorps	%xmm0, %xmm0, %xmm0
 	vmovups	%ymm0, 32(%rsp)
 	vmovups	%ymm0, (%rsp)
-	leaq	-68(%rdx), %r8
-	movq	%r8, 64(%rsp)
-	cmpq	$76, %rdx
-	jae	.LBB23_15
-	cmpq	$71, %rdx
-	jbe	.LBB23_18
+	movq	$0, 64(%rsp)
+	movl	%edx, %r9d
+	andl	$63, %r9d
+	cmpq	$4, %r9
+	je	.LBB23_24
+	addq	$60, %rdx
+	movl	%edx, %r8d
+	andl	$63, %r8d
+	cmpl	$8, %r8d
+	jae	.LBB23_16
+	cmpl	$3, %r8d
+	jbe	.LBB23_19
 	movl	68(%rsi), %r9d
-	movl	-4(%rsi,%rdx), %edx
-	negb	%r8b
-	shlb	$3, %r8b
-	shrxq	%r8, %rdx, %rdx
+	movl	64(%rsi,%r8), %r10d
+	negb	%dl
+	shlb	$3, %dl
+	shrxq	%rdx, %r10, %rdx
 	shlq	$32, %rdx
 	orq	%r9, %rdx
-	jmp	.LBB23_24
+	jmp	.LBB23_20
 .LBB23_5:
 	.cfi_def_cfa_offset 8
 	xorl	%eax, %eax
 	retq
-.LBB23_15:
+.LBB23_16:
 	.cfi_def_cfa_offset 80
+	movl	%r8d, %edx
+	shrl	$3, %edx
+	cmpq	$15, %r8
+	jbe	.LBB23_21
+	leal	(,%rdx,8), %r10d
+	vmovups	52(%rsi,%r10), %xmm0
+	movq	%rsp, %r9
+	vmovups	%xmm0, -16(%r10,%r9)
+	vmovups	68(%rsi), %xmm0
+	vmovaps	%xmm0, (%rsp)
+	cmpl	$32, %r8d
+	jb	.LBB23_22
+	leal	(,%rdx,8), %r10d
+	vmovups	36(%rsi,%r10), %xmm0
+	vmovups	%xmm0, -32(%r10,%r9)
+	vmovups	84(%rsi), %xmm0
+	vmovaps	%xmm0, 16(%rsp)
+	jmp	.LBB23_22
+.LBB23_19:
+	movl	%r8d, %edx
+	shrl	%edx
+	movzbl	68(%rsi,%rdx), %r10d
+	shll	$8, %r10d
+	movzbl	67(%rsi,%r8), %r11d
+	shll	$16, %r11d
+	xorl	%edx, %edx
+	cmpq	$5, %r9
+	cmoveq	%rdx, %r10
+	cmpq	$7, %r9
+	cmovneq	%rdx, %r11
+	movzbl	68(%rsi), %edx
+	orq	%r10, %rdx
+	orq	%r11, %rdx
+.LBB23_20:
+	movq	%rdx, (%rsp)
+	jmp	.LBB23_23
+.LBB23_21:
 	movq	68(%rsi), %r9
 	movq	%r9, (%rsp)
-	leaq	-76(%rdx), %r9
-	cmpq	$91, %rdx
-	jbe	.LBB23_20
-	shrq	$3, %r9
-	vmovups	60(%rsi,%r9,8), %xmm0
-	vmovups	%xmm0, -8(%rsp,%r9,8)
-	vmovups	76(%rsi), %xmm0
-	vmovups	%xmm0, 8(%rsp)
-	cmpq	$108, %rdx
-	jb	.LBB23_22
-	vmovups	44(%rsi,%r9,8), %xmm0
-	vmovups	%xmm0, -24(%rsp,%r9,8)
-	leaq	32(%rsp), %r10
-	movq	92(%rsi), %r11
-	movq	100(%rsi), %r9
-	movq	%r11, 24(%rsp)
-	jmp	.LBB23_21
-.LBB23_18:
-	testq	%r8, %r8
-	je	.LBB23_23
-	movq	%r8, %r9
-	shrq	%r9
-	movzbl	68(%rsi,%r9), %r9d
-	shll	$8, %r9d
-	movzbl	-1(%rsi,%rdx), %r10d
-	shll	$16, %r10d
-	xorl	%edx, %edx
-	cmpq	$1, %r8
-	cmoveq	%rdx, %r9
-	cmpq	$3, %r8
-	cmovneq	%rdx, %r10
-	movzbl	68(%rsi), %edx
-	orq	%r9, %rdx
-	orq	%r10, %rdx
-	jmp	.LBB23_24
-.LBB23_20:
-	leaq	8(%rsp), %r10
-	cmpq	$8, %r9
-	movl	$8, %r11d
-	cmovbq	%r9, %r11
-	movq	68(%rsi,%r11), %r9
-.LBB23_21:
-	movq	%r9, (%r10)
 .LBB23_22:
 	movl	%r8d, %r9d
 	notl	%r9d
 	shll	$3, %r9d
-	shrxq	%r9, -8(%rsi,%rdx), %rdx
-	andq	$-8, %r8
-	shrq	$8, %rdx
-	movq	%rdx, (%rsp,%r8)
-	jmp	.LBB23_25
+	shrxq	%r9, 60(%rsi,%r8), %r9
+	shrq	$8, %r9
+	movq	%r9, (%rsp,%rdx,8)
 .LBB23_23:
-	xorl	%edx, %edx
+	movq	%r8, 64(%rsp)
 .LBB23_24:
-	movq	%rdx, (%rsp)
-.LBB23_25:
 	movq	52(%rsi), %rdx
 	movq	60(%rsi), %r8
 	movq	28(%rsi), %r9
@@ -2718,15 +2719,11 @@ komihash_v4_resume:
 	vbroadcastf128	36(%rsi), %ymm0
 	vxorps	12(%rsi), %xmm0, %xmm1
 	movq	64(%rsp), %rcx
-	movq	(%rsp), %rsi
-	vmovups	8(%rsp), %xmm2
-	movq	24(%rsp), %r11
+	vmovups	(%rsp), %ymm2
 	vmovups	32(%rsp), %ymm3
 	sete	136(%rdi)
 	cmpb	$1, %al
-	movq	%rsi, (%rdi)
-	vmovups	%xmm2, 8(%rdi)
-	movq	%r11, 24(%rdi)
+	vmovups	%ymm2, (%rdi)
 	vmovups	%ymm3, 32(%rdi)
 	movq	%rcx, 64(%rdi)
 	movq	%r9, 72(%rdi)
@@ -3115,8 +3112,8 @@ komihash_v4_write:
 	endbr64
 	testq	%rdx, %rdx
 	je	.LBB27_13
-	movq	64(%rdi), %rcx
-	leaq	(%rcx,%rdx), %r9
+	movq	64(%rdi), %r8
+	leaq	(%r8,%rdx), %r9
 	cmpq	$64, %r9
 	jae	_RNvMNtNtCs8bZijcGi7rV_15komihash_rattle6stream8streamedINtB2_16StreamedKomihashKh4_E15complete_blocksCs8oLE2nCYeZq_7exports
 	movq	%r9, 64(%rdi)
@@ -3124,36 +3121,36 @@ komihash_v4_write:
 	jae	.LBB27_3
 	cmpq	$3, %rdx
 	jbe	.LBB27_10
-	movl	(%rsi), %r8d
+	movl	(%rsi), %ecx
 	movl	-4(%rsi,%rdx), %eax
 	negb	%dl
 	shlb	$3, %dl
 	shrxq	%rdx, %rax, %rax
 	shlq	$32, %rax
-	orq	%r8, %rax
+	orq	%rcx, %rax
 	jmp	.LBB27_12
 .LBB27_3:
-	movl	%ecx, %eax
+	movl	%r8d, %eax
 	shrl	$3, %eax
-	leal	(,%rcx,8), %r8d
-	shlxq	%r8, (%rsi), %r8
+	leal	(,%r8,8), %ecx
+	shlxq	%rcx, (%rsi), %rcx
 	andl	$7, %eax
-	orq	%r8, (%rdi,%rax,8)
+	orq	%rcx, (%rdi,%rax,8)
 	incq	%rax
-	andl	$7, %ecx
-	movl	$8, %r8d
-	subq	%rcx, %r8
+	andl	$7, %r8d
+	movl	$8, %ecx
+	subq	%r8, %rcx
 	movq	%rdx, %r10
-	subq	%r8, %r10
+	subq	%rcx, %r10
 	cmpq	$15, %r10
 	jbe	.LBB27_4
 	movq	%r10, %r11
 	shrq	$3, %r11
-	leaq	(%r11,%rax), %r8
-	cmpq	$9, %r8
+	leaq	(%r11,%rax), %rcx
+	cmpq	$9, %rcx
 	jae	.LBB27_14
-	negq	%rcx
-	addq	%rsi, %rcx
+	negq	%r8
+	leaq	(%rsi,%r8), %rcx
 	addq	$8, %rcx
 	leaq	(%rdi,%rax,8), %r8
 	vmovups	-16(%rcx,%r11,8), %xmm0
@@ -3170,38 +3167,36 @@ komihash_v4_write:
 .LBB27_10:
 	movq	%rdx, %rax
 	shrq	%rax
-	movzbl	(%rsi,%rax), %r8d
-	shll	$8, %r8d
+	movzbl	(%rsi,%rax), %ecx
+	shll	$8, %ecx
 	movzbl	-1(%rsi,%rdx), %r9d
 	shll	$16, %r9d
 	xorl	%eax, %eax
 	cmpq	$1, %rdx
-	cmoveq	%rax, %r8
+	cmoveq	%rax, %rcx
 	cmpq	$3, %rdx
 	cmovneq	%rax, %r9
 	movzbl	(%rsi), %eax
-	orq	%r8, %rax
+	orq	%rcx, %rax
 	orq	%r9, %rax
 .LBB27_12:
-	movq	%rcx, %rdx
-	shrq	$3, %rdx
-	movl	%edx, %esi
-	andl	$7, %esi
-	shll	$3, %ecx
-	shlxq	%rcx, %rax, %r8
-	orq	%r8, (%rdi,%rsi,8)
+	leal	(,%r8,8), %ecx
+	shlxq	%rcx, %rax, %rdx
+	movl	%r8d, %esi
+	andl	$56, %esi
+	orq	%rdx, (%rdi,%rsi)
 	rolq	%cl, %rax
-	incl	%edx
-	andl	$7, %edx
-	subq	%r8, %rax
-	orq	%rax, (%rdi,%rdx,8)
+	addl	$8, %r8d
+	subq	%rdx, %rax
+	andl	$56, %r8d
+	orq	%rax, (%rdi,%r8)
 .LBB27_13:
 	retq
 .LBB27_4:
-	leaq	-8(%rdx), %rcx
-	cmpq	%r8, %rcx
-	cmovbq	%rcx, %r8
-	movq	(%rsi,%r8), %rcx
+	leaq	-8(%rdx), %r8
+	cmpq	%rcx, %r8
+	cmovbq	%r8, %rcx
+	movq	(%rsi,%rcx), %rcx
 	andl	$7, %eax
 	movq	%rcx, (%rdi,%rax,8)
 .LBB27_8:
@@ -3218,7 +3213,7 @@ komihash_v4_write:
 	.cfi_def_cfa_offset 16
 	movl	$8, %edx
 	movq	%rax, %rdi
-	movq	%r8, %rsi
+	movq	%rcx, %rsi
 	callq	_RNvNtNtCs2DxGA1hvVcO_4core5slice5index16slice_index_fail
 .Lfunc_end27:
 	.size	komihash_v4_write, .Lfunc_end27-komihash_v4_write
@@ -3505,7 +3500,7 @@ komihash_v5_rand_fill:
 	.cfi_startproc
 	endbr64
 	testq	%rdx, %rdx
-	je	.LBB31_16
+	je	.LBB31_15
 	pushq	%r15
 	.cfi_def_cfa_offset 16
 	pushq	%r14
@@ -3517,84 +3512,83 @@ komihash_v5_rand_fill:
 	.cfi_offset %rbx, -32
 	.cfi_offset %r14, -24
 	.cfi_offset %r15, -16
-	movq	%rdx, %rax
-	movabsq	$-6148914691236517206, %r8
-	movabsq	$6148914691236517205, %r9
+	movq	%rdx, %r8
+	movabsq	$-6148914691236517206, %r9
+	movabsq	$6148914691236517205, %r10
+	movq	(%rdi), %rcx
+	movq	8(%rdi), %rax
 	movq	%rdx, %rbx
 	shrq	$3, %rbx
-	je	.LBB31_7
-	movq	(%rdi), %rdx
-	movq	8(%rdi), %r10
+	je	.LBB31_6
 	cmpq	$1, %rbx
-	jne	.LBB31_12
+	jne	.LBB31_11
 	xorl	%r11d, %r11d
 	jmp	.LBB31_5
-.LBB31_12:
+.LBB31_11:
 	movq	%rbx, %r14
 	andq	$-2, %r14
 	xorl	%r11d, %r11d
 	.p2align	4
-.LBB31_13:
-	mulxq	%r10, %rcx, %rdx
-	addq	%r8, %r10
-	addq	%rdx, %r10
+.LBB31_12:
+	movq	%rax, %rdx
+	mulxq	%rcx, %r15, %rcx
+	xorq	%rcx, %r15
+	addq	%r10, %r15
+	addq	%r9, %rax
+	addq	%rcx, %rax
+	movq	%rax, %rdx
+	mulxq	%r15, %rcx, %rdx
+	movq	%r15, (%rsi,%r11,8)
 	xorq	%rdx, %rcx
-	addq	%r9, %rcx
-	movq	%rcx, %rdx
-	mulxq	%r10, %rdx, %r15
-	movq	%rcx, (%rsi,%r11,8)
-	addq	%r8, %r10
-	addq	%r15, %r10
-	xorq	%r15, %rdx
-	addq	%r9, %rdx
-	movq	%rdx, 8(%rsi,%r11,8)
+	addq	%r10, %rcx
+	addq	%r9, %rax
+	addq	%rdx, %rax
+	movq	%rcx, 8(%rsi,%r11,8)
 	addq	$2, %r11
 	cmpq	%r11, %r14
-	jne	.LBB31_13
+	jne	.LBB31_12
 	testb	$1, %bl
 	je	.LBB31_6
 .LBB31_5:
-	mulxq	%r10, %rdx, %rcx
-	addq	%r8, %r10
-	addq	%rcx, %r10
-	xorq	%rcx, %rdx
-	addq	%r9, %rdx
-	movq	%rdx, (%rsi,%r11,8)
+	movq	%rax, %rdx
+	mulxq	%rcx, %rcx, %rdx
+	xorq	%rdx, %rcx
+	addq	%r10, %rcx
+	addq	%r9, %rax
+	addq	%rdx, %rax
+	movq	%rcx, (%rsi,%r11,8)
 .LBB31_6:
-	movq	%r10, 8(%rdi)
-	movq	%rdx, (%rdi)
-.LBB31_7:
-	movq	%rax, %rcx
-	andq	$7, %rcx
-	je	.LBB31_15
-	movq	8(%rdi), %rdx
-	mulxq	(%rdi), %r10, %r11
-	addq	%rdx, %r8
-	addq	%r11, %r8
-	xorq	%r11, %r10
-	addq	%r9, %r10
-	movq	%r10, (%rdi)
-	movq	%r8, 8(%rdi)
-	movabsq	$9223372036854775800, %rdx
-	andq	%rdx, %rax
-	addq	%rax, %rsi
-	movq	%r10, (%rsp)
-	cmpl	$3, %ecx
-	jbe	.LBB31_9
-	movl	%r10d, (%rsi)
-	movl	-4(%rsp,%rcx), %eax
-	movl	%eax, -4(%rsi,%rcx)
-	jmp	.LBB31_15
-.LBB31_9:
-	cmpl	$1, %ecx
-	jne	.LBB31_14
-	movb	%r10b, (%rsi)
-	jmp	.LBB31_15
+	movq	%r8, %r11
+	andq	$7, %r11
+	je	.LBB31_14
+	movabsq	$9223372036854775800, %rbx
+	movq	%rcx, %rdx
+	mulxq	%rax, %rcx, %rdx
+	andq	%rbx, %r8
+	xorq	%rdx, %rcx
+	addq	%r10, %rcx
+	addq	%r9, %rax
+	addq	%rdx, %rax
+	addq	%r8, %rsi
+	movq	%rcx, (%rsp)
+	cmpl	$3, %r11d
+	jbe	.LBB31_8
+	movl	%ecx, (%rsi)
+	movl	-4(%rsp,%r11), %edx
+	movl	%edx, -4(%rsi,%r11)
+	jmp	.LBB31_14
+.LBB31_8:
+	cmpl	$1, %r11d
+	jne	.LBB31_13
+	movb	%cl, (%rsi)
+	jmp	.LBB31_14
+.LBB31_13:
+	movw	%cx, (%rsi)
+	movzwl	-2(%rsp,%r11), %edx
+	movw	%dx, -2(%rsi,%r11)
 .LBB31_14:
-	movw	%r10w, (%rsi)
-	movzwl	-2(%rsp,%rcx), %eax
-	movw	%ax, -2(%rsi,%rcx)
-.LBB31_15:
+	movq	%rcx, (%rdi)
+	movq	%rax, 8(%rdi)
 	addq	$8, %rsp
 	.cfi_def_cfa_offset 32
 	popq	%rbx
@@ -3606,7 +3600,7 @@ komihash_v5_rand_fill:
 	.cfi_restore %rbx
 	.cfi_restore %r14
 	.cfi_restore %r15
-.LBB31_16:
+.LBB31_15:
 	retq
 .Lfunc_end31:
 	.size	komihash_v5_rand_fill, .Lfunc_end31-komihash_v5_rand_fill
@@ -3734,85 +3728,81 @@ komihash_v5_resume:
 	vxorps	%xmm0, %xmm0, %xmm0
 	vmovups	%ymm0, 32(%rsp)
 	vmovups	%ymm0, (%rsp)
-	leaq	-68(%rdx), %rcx
-	movq	%rcx, 64(%rsp)
-	cmpq	$76, %rdx
-	jae	.LBB35_15
-	cmpq	$71, %rdx
-	jbe	.LBB35_18
+	movq	$0, 64(%rsp)
+	movl	%edx, %r8d
+	andl	$63, %r8d
+	cmpq	$4, %r8
+	je	.LBB35_24
+	addq	$60, %rdx
+	movl	%edx, %ecx
+	andl	$63, %ecx
+	cmpl	$8, %ecx
+	jae	.LBB35_16
+	cmpl	$3, %ecx
+	jbe	.LBB35_19
 	movl	68(%rsi), %r8d
-	movl	-4(%rsi,%rdx), %edx
-	negb	%cl
-	shlb	$3, %cl
-	shrxq	%rcx, %rdx, %rcx
-	shlq	$32, %rcx
-	orq	%r8, %rcx
-	jmp	.LBB35_24
+	movl	64(%rsi,%rcx), %r9d
+	negb	%dl
+	shlb	$3, %dl
+	shrxq	%rdx, %r9, %rdx
+	shlq	$32, %rdx
+	orq	%r8, %rdx
+	jmp	.LBB35_20
 .LBB35_5:
 	.cfi_def_cfa_offset 8
 	xorl	%eax, %eax
 	retq
-.LBB35_15:
+.LBB35_16:
 	.cfi_def_cfa_offset 80
+	movl	%ecx, %edx
+	shrl	$3, %edx
+	cmpq	$15, %rcx
+	jbe	.LBB35_21
+	leal	(,%rdx,8), %r9d
+	vmovups	52(%rsi,%r9), %xmm0
+	movq	%rsp, %r8
+	vmovups	%xmm0, -16(%r9,%r8)
+	vmovups	68(%rsi), %xmm0
+	vmovaps	%xmm0, (%rsp)
+	cmpl	$32, %ecx
+	jb	.LBB35_22
+	leal	(,%rdx,8), %r9d
+	vmovups	36(%rsi,%r9), %xmm0
+	vmovups	%xmm0, -32(%r9,%r8)
+	vmovups	84(%rsi), %xmm0
+	vmovaps	%xmm0, 16(%rsp)
+	jmp	.LBB35_22
+.LBB35_19:
+	movl	%ecx, %edx
+	shrl	%edx
+	movzbl	68(%rsi,%rdx), %r9d
+	shll	$8, %r9d
+	movzbl	67(%rsi,%rcx), %r10d
+	shll	$16, %r10d
+	xorl	%edx, %edx
+	cmpq	$5, %r8
+	cmoveq	%rdx, %r9
+	cmpq	$7, %r8
+	cmovneq	%rdx, %r10
+	movzbl	68(%rsi), %edx
+	orq	%r9, %rdx
+	orq	%r10, %rdx
+.LBB35_20:
+	movq	%rdx, (%rsp)
+	jmp	.LBB35_23
+.LBB35_21:
 	movq	68(%rsi), %r8
 	movq	%r8, (%rsp)
-	leaq	-76(%rdx), %r8
-	cmpq	$91, %rdx
-	jbe	.LBB35_20
-	shrq	$3, %r8
-	vmovups	60(%rsi,%r8,8), %xmm0
-	vmovups	%xmm0, -8(%rsp,%r8,8)
-	vmovups	76(%rsi), %xmm0
-	vmovups	%xmm0, 8(%rsp)
-	cmpq	$108, %rdx
-	jb	.LBB35_22
-	vmovups	44(%rsi,%r8,8), %xmm0
-	vmovups	%xmm0, -24(%rsp,%r8,8)
-	leaq	32(%rsp), %r9
-	movq	92(%rsi), %r10
-	movq	100(%rsi), %r8
-	movq	%r10, 24(%rsp)
-	jmp	.LBB35_21
-.LBB35_18:
-	testq	%rcx, %rcx
-	je	.LBB35_23
-	movq	%rcx, %r8
-	shrq	%r8
-	movzbl	68(%rsi,%r8), %r8d
-	shll	$8, %r8d
-	movzbl	-1(%rsi,%rdx), %edx
-	shll	$16, %edx
-	xorl	%r9d, %r9d
-	cmpq	$1, %rcx
-	cmoveq	%r9, %r8
-	cmpq	$3, %rcx
-	cmovneq	%r9, %rdx
-	movzbl	68(%rsi), %ecx
-	orq	%r8, %rcx
-	orq	%rdx, %rcx
-	jmp	.LBB35_24
-.LBB35_20:
-	leaq	8(%rsp), %r9
-	cmpq	$8, %r8
-	movl	$8, %r10d
-	cmovbq	%r8, %r10
-	movq	68(%rsi,%r10), %r8
-.LBB35_21:
-	movq	%r8, (%r9)
 .LBB35_22:
 	movl	%ecx, %r8d
 	notl	%r8d
 	shll	$3, %r8d
-	shrxq	%r8, -8(%rsi,%rdx), %rdx
-	andq	$-8, %rcx
-	shrq	$8, %rdx
-	movq	%rdx, (%rsp,%rcx)
-	jmp	.LBB35_25
+	shrxq	%r8, 60(%rsi,%rcx), %r8
+	shrq	$8, %r8
+	movq	%r8, (%rsp,%rdx,8)
 .LBB35_23:
-	xorl	%ecx, %ecx
+	movq	%rcx, 64(%rsp)
 .LBB35_24:
-	movq	%rcx, (%rsp)
-.LBB35_25:
 	movq	52(%rsi), %rcx
 	movq	60(%rsi), %rdx
 	movq	28(%rsi), %r8
@@ -3822,13 +3812,9 @@ komihash_v5_resume:
 	cmpb	$1, %al
 	vbroadcastf128	36(%rsi), %ymm0
 	vxorps	12(%rsi), %xmm0, %xmm1
-	movq	(%rsp), %rax
-	vmovups	8(%rsp), %xmm2
-	movq	24(%rsp), %rsi
+	vmovups	(%rsp), %ymm2
 	vmovups	32(%rsp), %ymm3
-	movq	%rax, (%rdi)
-	vmovups	%xmm2, 8(%rdi)
-	movq	%rsi, 24(%rdi)
+	vmovups	%ymm2, (%rdi)
 	vmovups	%ymm3, 32(%rdi)
 	movq	64(%rsp), %rax
 	movq	%rax, 64(%rdi)
@@ -4161,8 +4147,8 @@ komihash_v5_write:
 	endbr64
 	testq	%rdx, %rdx
 	je	.LBB38_13
-	movq	64(%rdi), %rcx
-	leaq	(%rcx,%rdx), %r9
+	movq	64(%rdi), %r8
+	leaq	(%r8,%rdx), %r9
 	cmpq	$64, %r9
 	jae	_RNvMNtNtCs8bZijcGi7rV_15komihash_rattle6stream8streamedINtB2_16StreamedKomihashKh5_E15complete_blocksCs8oLE2nCYeZq_7exports
 	movq	%r9, 64(%rdi)
@@ -4170,36 +4156,36 @@ komihash_v5_write:
 	jae	.LBB38_3
 	cmpq	$3, %rdx
 	jbe	.LBB38_10
-	movl	(%rsi), %r8d
+	movl	(%rsi), %ecx
 	movl	-4(%rsi,%rdx), %eax
 	negb	%dl
 	shlb	$3, %dl
 	shrxq	%rdx, %rax, %rax
 	shlq	$32, %rax
-	orq	%r8, %rax
+	orq	%rcx, %rax
 	jmp	.LBB38_12
 .LBB38_3:
-	movl	%ecx, %eax
+	movl	%r8d, %eax
 	shrl	$3, %eax
-	leal	(,%rcx,8), %r8d
-	shlxq	%r8, (%rsi), %r8
+	leal	(,%r8,8), %ecx
+	shlxq	%rcx, (%rsi), %rcx
 	andl	$7, %eax
-	orq	%r8, (%rdi,%rax,8)
+	orq	%rcx, (%rdi,%rax,8)
 	incq	%rax
-	andl	$7, %ecx
-	movl	$8, %r8d
-	subq	%rcx, %r8
+	andl	$7, %r8d
+	movl	$8, %ecx
+	subq	%r8, %rcx
 	movq	%rdx, %r10
-	subq	%r8, %r10
+	subq	%rcx, %r10
 	cmpq	$15, %r10
 	jbe	.LBB38_4
 	movq	%r10, %r11
 	shrq	$3, %r11
-	leaq	(%r11,%rax), %r8
-	cmpq	$9, %r8
+	leaq	(%r11,%rax), %rcx
+	cmpq	$9, %rcx
 	jae	.LBB38_14
-	negq	%rcx
-	addq	%rsi, %rcx
+	negq	%r8
+	leaq	(%rsi,%r8), %rcx
 	addq	$8, %rcx
 	leaq	(%rdi,%rax,8), %r8
 	vmovups	-16(%rcx,%r11,8), %xmm0
@@ -4216,38 +4202,36 @@ komihash_v5_write:
 .LBB38_10:
 	movq	%rdx, %rax
 	shrq	%rax
-	movzbl	(%rsi,%rax), %r8d
-	shll	$8, %r8d
+	movzbl	(%rsi,%rax), %ecx
+	shll	$8, %ecx
 	movzbl	-1(%rsi,%rdx), %r9d
 	shll	$16, %r9d
 	xorl	%eax, %eax
 	cmpq	$1, %rdx
-	cmoveq	%rax, %r8
+	cmoveq	%rax, %rcx
 	cmpq	$3, %rdx
 	cmovneq	%rax, %r9
 	movzbl	(%rsi), %eax
-	orq	%r8, %rax
+	orq	%rcx, %rax
 	orq	%r9, %rax
 .LBB38_12:
-	movq	%rcx, %rdx
-	shrq	$3, %rdx
-	movl	%edx, %esi
-	andl	$7, %esi
-	shll	$3, %ecx
-	shlxq	%rcx, %rax, %r8
-	orq	%r8, (%rdi,%rsi,8)
+	leal	(,%r8,8), %ecx
+	shlxq	%rcx, %rax, %rdx
+	movl	%r8d, %esi
+	andl	$56, %esi
+	orq	%rdx, (%rdi,%rsi)
 	rolq	%cl, %rax
-	incl	%edx
-	andl	$7, %edx
-	subq	%r8, %rax
-	orq	%rax, (%rdi,%rdx,8)
+	addl	$8, %r8d
+	subq	%rdx, %rax
+	andl	$56, %r8d
+	orq	%rax, (%rdi,%r8)
 .LBB38_13:
 	retq
 .LBB38_4:
-	leaq	-8(%rdx), %rcx
-	cmpq	%r8, %rcx
-	cmovbq	%rcx, %r8
-	movq	(%rsi,%r8), %rcx
+	leaq	-8(%rdx), %r8
+	cmpq	%rcx, %r8
+	cmovbq	%r8, %rcx
+	movq	(%rsi,%rcx), %rcx
 	andl	$7, %eax
 	movq	%rcx, (%rdi,%rax,8)
 .LBB38_8:
@@ -4264,7 +4248,7 @@ komihash_v5_write:
 	.cfi_def_cfa_offset 16
 	movl	$8, %edx
 	movq	%rax, %rdi
-	movq	%r8, %rsi
+	movq	%rcx, %rsi
 	callq	_RNvNtNtCs2DxGA1hvVcO_4core5slice5index16slice_index_fail
 .Lfunc_end38:
 	.size	komihash_v5_write, .Lfunc_end38-komihash_v5_write

@@ -123,9 +123,7 @@ runs_by_package() { # MODULE ARGUMENT..
         "${CROSS}objdump" -p "$program" | grep -F "$soname" > "$scratch/case"
 }
 tab=$(printf '\t')
-# The tables of the crate for Rust, which is in this folder or beside it.
-tables=$(ls -d rust/tests ../rust/tests 2> "$scratch/case" | head -n 1)
-rows() { grep -hE "^([a-z_]+$tab)?$1$tab" "$tables"/*.tsv; }
+rows() { grep -hE "^([a-z_]+$tab)?$1$tab" "$crate"/tests/*.tsv; }
 calls() { # LIBRARY [SOURCE]
     for number in 4 5; do
         rows $number | runs -std=c11 -D "VERSION=$number" -I "$prefix/include" \
@@ -293,7 +291,7 @@ END
 }
 for_host() {
     printf '#!/bin/sh\necho sun4-linux\n' > "$scratch/cc" && chmod +x "$scratch/cc" &&
-        PATH=$scratch:$PATH sh from_rust.sh sun4-linux "$scratch/host.o"
+        PATH=$scratch:$PATH sh from_rust.sh "$crate" sun4-linux "$scratch/host.o"
 }
 other_source() { FROM=assembly fails 'may be rust' cmake_installs .; }
 other_machine() {

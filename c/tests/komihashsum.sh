@@ -119,7 +119,7 @@ compared() {
 
 # Whether the hash of the empty message is the one of these rows, by their versions and seeds.
 seeded() {
-    grep "$tab$tab" "$tables/vectors.tsv" > "$scratch/rows" && while read -r number seed hash; do
+    grep "$tab$tab" "$crate/tests/vectors.tsv" > "$scratch/rows" && while read -r number seed hash; do
         case $number in 4) version_4=-4 ;; *) version_4= ;; esac
         prints "$hash  -" komihashsum $version_4 "--seed=0x$seed" < /dev/null || return
     done < "$scratch/rows"

@@ -13,7 +13,6 @@ use crate::version::{IsVersion, Versions};
 /// `s2 + high + 0xaaaaaaaaaaaaaaaa`. The new first word is the exclusive or of low and that word
 /// in version 4, and `(low ^ high) + 0x5555555555555555` in version 5. These sums wrap around.
 /// `Debug` shows both words. Nothing is claimed of how random its outputs are.
-// In Rust, `c/exports.rs` needs this layout.
 #[repr(C)]
 #[derive(Clone, Debug, PartialEq, Eq)]
 pub struct Komirand<const V: u8>
@@ -132,14 +131,17 @@ where
     #[cfg_attr(debug_assertions, inline(never))]
     #[cfg_attr(not(debug_assertions), inline)]
     pub fn fill_bytes(&mut self, buffer: &mut [u8]) {
+        // A copy stays in registers, also from the last whole word to the remainder.
+        let mut generator = Komirand::new(self.s1, self.s2);
         let whole = buffer.len() / 8;
         for i in 0..whole {
-            let word = self.next();
+            let word = generator.next();
             write_word(word, &mut buffer[8 * i..8 * i + 8]);
         }
         if buffer.len() % 8 > 0 {
-            let output = self.next();
+            let output = generator.next();
             write_partial_word(output, &mut buffer[8 * whole..]);
         }
+        *self = generator;
     }
 }

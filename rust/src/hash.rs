@@ -44,7 +44,7 @@ fn hash_of_16_bytes<const V: u8>(bytes: &[u8], seed: u64) -> u64 {
 fn hash_of_words<const V: u8>(bytes: &[u8], seed: u64) -> u64 {
     let pair = seed_pair(seed);
     let final_word = final_word_of_many(bytes, padding_byte::<V>(bytes));
-    hash_from_pair(pair, &bytes, last_whole_word(bytes), final_word)
+    hash_from_pair(pair, bytes, last_whole_word(bytes), final_word)
 }
 
 // One block needs no loop. Functions that read blocks aren't inlined: callers would get long.
@@ -59,7 +59,7 @@ fn hash_of_one_block<const V: u8>(bytes: &[u8], seed: u64) -> u64 {
     }
     let final_word = final_word_of_many(bytes, padding_byte::<V>(bytes));
     // `rest` may have no whole word. If it has one, its last is that of all bytes.
-    hash_from_pair(pair, &rest, last_whole_word(bytes), final_word)
+    hash_from_pair(pair, rest, last_whole_word(bytes), final_word)
 }
 
 #[inline(never)]
@@ -83,7 +83,7 @@ fn hash_of_blocks<const V: u8>(bytes: &[u8], seed: u64) -> u64 {
     if rest.len() < 8 {
         return close(pair, final_word, 0);
     }
-    hash_from_pair(pair, &rest, last_whole_word(rest), final_word)
+    hash_from_pair(pair, rest, last_whole_word(rest), final_word)
 }
 
 /// Returns the hash of a message with a seed in version V.

@@ -56,7 +56,7 @@ a jump by a register of the caller|v5_save|save(5,)..depends on r10|test r10, r1
 an old lane|v5_write|Write(13,)..at 72|push rdi; push [rdi + 72]; call body; pop rax; pop rdi;
     mov [rdi + 72], rax; ret
 a jump by a low half|v5|Hash(6,)..depends on low|next: test rax, rax; je 1f; 1:
-a jump by a lane|v5|Hash(6,)..depends on|turn: test LANE, LANE; je 1f; 1:
+a jump by a lane|v5|Hash(6,)..depends on value|next: test LANE, LANE; je 1f; 1:
 a jump by what a loop lost|v5_pad|Pad..depends on undefined|
     pad "", "cmp rsi, 5000; jne .Lturn; test rax, rax; je 1f; 1: mov rax, r10", ""
 a write where there may be no room|v5_save|in no array|mov byte ptr [rsi], 0

@@ -17,7 +17,6 @@ use std::marker::Model;
 /// `s2 + high + 0xaaaaaaaaaaaaaaaa`. The new first word is the exclusive or of low and that word
 /// in version 4, and `(low ^ high) + 0x5555555555555555` in version 5. These sums wrap around.
 /// `Debug` shows both words. Nothing is claimed of how random its outputs are.
-// In Rust, `c/exports.rs` needs this layout.
 #[repr(C)]
 #[derive(Drop)]
 pub struct Komirand<const V: u8>
@@ -161,15 +160,18 @@ where
         ensures bytes { buffer.new ≡ fill V self.old (length buffer.old) }
         ensures pair { self.new ≡ after_fill V self.old (length buffer.old) }
     {
+        // A copy stays in registers, also from the last whole word to the remainder.
+        let mut generator = Komirand::new(self.s1, self.s2);
         let whole = buffer.len() / 8;
         'words: for i in 0..whole {
-            let word = self.next();
+            let word = generator.next();
             write_word(word, &mut buffer[8 * i..8 * i + 8]);
         }
         let has_remainder = buffer.len() % 8 > 0;
         if has_remainder {
-            let output = self.next();
+            let output = generator.next();
             write_partial_word(output, &mut buffer[8 * whole..]);
         }
+        *self = generator;
     }
 }

@@ -69,7 +69,7 @@ fn hash_of_words<const V: u8>(bytes: &[u8], seed: u64, tally: &mut Tally) -> u64
 {
     let pair = seed_pair(seed, tally);
     let final_word = final_word_of_many(bytes, padding_byte::<V>(bytes));
-    hash_from_pair(pair, &bytes, last_whole_word(bytes), final_word, tally)
+    hash_from_pair(pair, bytes, last_whole_word(bytes), final_word, tally)
 }
 
 // One block needs no loop. Functions that read blocks aren't inlined: callers would get long.
@@ -89,7 +89,7 @@ fn hash_of_one_block<const V: u8>(bytes: &[u8], seed: u64, tally: &mut Tally) ->
     }
     let final_word = final_word_of_many(bytes, padding_byte::<V>(bytes));
     // `rest` may have no whole word. If it has one, its last is that of all bytes.
-    hash_from_pair(pair, &rest, last_whole_word(bytes), final_word, tally)
+    hash_from_pair(pair, rest, last_whole_word(bytes), final_word, tally)
 }
 
 #[inline(never)]
@@ -117,7 +117,7 @@ fn hash_of_blocks<const V: u8>(bytes: &[u8], seed: u64, tally: &mut Tally) -> u6
     if rest.len() < 8 {
         return close(pair, final_word, 0, tally);
     }
-    hash_from_pair(pair, &rest, last_whole_word(rest), final_word, tally)
+    hash_from_pair(pair, rest, last_whole_word(rest), final_word, tally)
 }
 
 /// Returns the hash of a message with a seed in version V.

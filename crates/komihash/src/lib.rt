@@ -19,9 +19,10 @@
 // - in comments, for Rust alone are examples (CALLING has those for Rattle), `# Panics`, links in
 //   brackets, what is said of Rust, `version` and `Debug`, and "the type of both versions", which
 //   Rust's pages show beside the other name of a type;
-// - in code, for Rust alone are `const fn`, which calls that are `const` in Rust need, `repr` of
-//   `StreamedKomihash` and `Komirand`, `allow(clippy::..)`, and `#[track_caller]`, by which
-//   `erase.py` knows that the called function tests the length.
+// - in code, for Rust alone are `const fn`, which calls that are `const` in Rust need, `repr(C)`,
+//   since C and `c/verify/layout.py` know where the words of streams and generators lie,
+//   `allow(clippy::..)`, and `#[track_caller]`, by which `erase.py` knows that the called function
+//   tests the length.
 
 #![tactic(auto)]
 

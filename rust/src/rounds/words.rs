@@ -63,15 +63,15 @@ pub(crate) fn round_each<W: WholeWords>(pair: XoredPair, left: &W) -> XoredPair 
 /// Returns the hash from a pair, fewer than eight whole words, and the final word. The last whole
 /// word is any word if there are none.
 #[inline(always)]
-pub(crate) fn hash_from_pair<W: WholeWords>(
+pub(crate) fn hash_from_pair(
     pair: XoredPair,
-    left: &W,
+    left: &[u8],
     last_whole_word: u64,
     final_word: u64,
 ) -> u64 {
-    let pair = round_each(pair, left);
+    let pair = round_each(pair, &left);
     // The closing of one word is that of two, the second of which is 0. So it needs no jump.
     let (first, second) =
-        if left.count() % 2 == 1 { (last_whole_word, final_word) } else { (final_word, 0) };
+        if left.len() / 8 % 2 == 1 { (last_whole_word, final_word) } else { (final_word, 0) };
     close(pair, first, second)
 }

@@ -75,6 +75,6 @@ pub(crate) fn read_lanes(bytes: &[u8]) -> Lanes {
 #[inline(always)]
 pub(crate) fn read_pending(bytes: &[u8]) -> Pending {
     let mut pending = Pending::new();
-    pending.append(&bytes[PENDING_AT..]);
+    pending.append_to_none(&bytes[PENDING_AT..]);
     pending
 }

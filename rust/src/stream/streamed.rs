@@ -17,7 +17,6 @@ use crate::version::{IsVersion, Versions};
 /// at most 63 of each.
 ///
 /// It is not for messages that an attacker may choose, whatever the seed is.
-// In Rust, `c/verify/layout.py` describes this layout.
 #[repr(C)]
 #[derive(Clone, PartialEq, Eq)]
 pub struct StreamedKomihash<const V: u8>

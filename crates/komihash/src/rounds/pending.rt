@@ -48,7 +48,7 @@ fn word_index(len: usize) -> usize
 fn append_below_eight(words: &mut [u64; 8], len: usize, bytes: &[u8])
     requires pending { ArePending words.old len }
     requires below_8 { length bytes.now < 8 }
-    requires room { len + length bytes.now ≤ 64 }
+    requires room { len + length bytes.now < 64 }
     ensures { words.new ≡ packed_words 8 (pending_bytes words.old len ++ bytes.now) }
 {
     let word = read_partial_word(bytes, 0);
@@ -56,7 +56,7 @@ fn append_below_eight(words: &mut [u64; 8], len: usize, bytes: &[u8])
     words[word_index(len)] |= word << bits;
     // The rotation is the shifted word plus what the shift drops, moved to the lowest bytes, where
     // the next word begins. A shift to the right would be by 64 where the partial word is empty.
-    words[(len / 8 + 1) % 8] |= word.rotate_left(bits as u32) - (word << bits);
+    words[(len + 8) / 8 % 8] |= word.rotate_left(bits as u32) - (word << bits);
 }
 
 // Appends those of eight or more bytes that complete the partial word.
@@ -73,26 +73,26 @@ fn append_within_word(words: &mut [u64; 8], len: usize, bytes: &[u8])
     words[word_index(len)] |= read_word(bytes) << (8 * (len % 8));
 }
 
-// Stores two of the words that `chunks` have, from index `at` on.
+// Stores two of the chunks as words, those from index `at` on.
 #[inline(always)]
-fn store_two_words(words: &mut [u64], chunks: &[[u8; 8]], at: usize)
+fn store_two_chunks(words: &mut [u64], chunks: &[[u8; 8]], at: usize)
     requires size { length words.old ≡ length chunks.now }
     requires within { at + 2 ≤ length chunks.now }
     ensures { words.new ≡ set (set words.old at (chunk_word chunks.now at)) (at + 1)
         (chunk_word chunks.now (at + 1)) }
 {
-    let from = &chunks[at..];
-    let to = &mut words[at..];
-    let first = u64::from_le_bytes(from[0]);
-    let second = u64::from_le_bytes(from[1]);
-    to[0] = first;
-    to[1] = second;
+    let two = &chunks[at..];
+    let first = u64::from_le_bytes(two[0]);
+    let second = u64::from_le_bytes(two[1]);
+    let out = &mut words[at..];
+    out[0] = first;
+    out[1] = second;
 }
 
-// Stores the two to seven words that `chunks` have, two at a time from both ends, and some twice,
-// which saves jumps.
+// Stores two to seven chunks as words, two at a time from both ends, and some twice, which saves
+// jumps.
 #[inline(always)]
-fn store_words(words: &mut [u64], chunks: &[[u8; 8]])
+fn store_chunks(words: &mut [u64], chunks: &[[u8; 8]])
     requires size { length words.old ≡ length chunks.now }
     requires least { 2 ≤ length chunks.now }
     requires most { length chunks.now ≤ 7 }
@@ -102,12 +102,12 @@ fn store_words(words: &mut [u64], chunks: &[[u8; 8]])
 {
     let count = chunks.len();
     // In this order, a stream of one write takes fewer instructions than in others.
-    store_two_words(words, chunks, count - 2);
-    store_two_words(words, chunks, 0);
+    store_two_chunks(words, chunks, count - 2);
+    store_two_chunks(words, chunks, 0);
     let has_four = count >= 4;
     if has_four {
-        store_two_words(words, chunks, count - 4);
-        store_two_words(words, chunks, 2);
+        store_two_chunks(words, chunks, count - 4);
+        store_two_chunks(words, chunks, 2);
     }
 }
 
@@ -122,16 +122,16 @@ fn append_whole_words(words: &mut [u64; 8], len: usize, bytes: &[u8])
 {
     append_within_word(words, len, bytes);
     let next = word_index(len) + 1;
-    let over = len % 8;
+    let next_at = 8 - len % 8;
     // The words after the partial word that are whole with the bytes.
-    let (chunks, _) = bytes[8 - over..].as_chunks::<8>();
+    let (chunks, _) = bytes[next_at..].as_chunks::<8>();
     let has_two_more = chunks.len() >= 2;
     if has_two_more {
-        store_words(&mut words[next..next + chunks.len()], chunks);
+        store_chunks(&mut words[next..next + chunks.len()], chunks);
     } else {
         // If the next word isn't whole, `append_eight_or_more` overwrites what this stores. A test
         // whether it is would cost a jump. The remainder tells the compiler that `next` is in range.
-        words[next % 8] = word_at(bytes, (8 - over).min(bytes.len() - 8));
+        words[next % 8] = word_at(bytes, next_at.min(bytes.len() - 8));
     }
 }
 
@@ -174,7 +174,7 @@ fn store_whole_words(words: &mut [u64; 8], bytes: &[u8])
     let (chunks, _) = bytes.as_chunks::<8>();
     let has_two_words = chunks.len() >= 2;
     if has_two_words {
-        store_words(&mut words[..chunks.len()], chunks);
+        store_chunks(&mut words[..chunks.len()], chunks);
     } else {
         words[0] = read_word(bytes);
     }
@@ -197,16 +197,16 @@ fn store_bytes(words: &mut [u64; 8], bytes: &[u8])
     }
 }
 
-// Stores two words of the bytes, those from index `from` on.
+// Stores the 16 bytes from index `start` on as two words, from index `at` on.
 #[inline(always)]
-fn store_two(words: &mut [u64; 8], at: usize, bytes: &[u8], from: usize)
+fn store_two_words(words: &mut [u64; 8], at: usize, bytes: &[u8], start: usize)
     requires room { at + 2 ≤ 8 }
-    requires within { from + 16 ≤ length bytes.now }
-    ensures { words.new ≡ set (set words.old at (word_of (take 8 (drop from bytes.now)))) (at + 1)
-        (word_of (take 8 (drop (from + 8) bytes.now))) }
+    requires within { start + 16 ≤ length bytes.now }
+    ensures { words.new ≡ set (set words.old at (word_of (take 8 (drop start bytes.now)))) (at + 1)
+        (word_of (take 8 (drop (start + 8) bytes.now))) }
 {
-    let first = word_at(bytes, from);
-    let second = word_at(bytes, from + 8);
+    let first = word_at(bytes, start);
+    let second = word_at(bytes, start + 8);
     words[at] = first;
     words[at + 1] = second;
 }
@@ -225,7 +225,7 @@ fn complete_block(words: &mut [u64; 8], len: usize, bytes: &[u8])
         return;
     }
     append_within_word(words, len, bytes);
-    let from = 8 - len % 8;
+    let next_at = 8 - len % 8;
     let over_32 = bytes.len() > 32;
     let over_16 = bytes.len() > 16;
     if over_32 {
@@ -236,10 +236,10 @@ fn complete_block(words: &mut [u64; 8], len: usize, bytes: &[u8])
         let Some(back) = bytes.last_chunk::<32>() else {
             unreachable!()
         };
-        store_two(words, next, front, from);
-        words[next + 2] = word_at(front, from + 16);
-        store_two(words, 4, back, 0);
-        store_two(words, 6, back, 16);
+        store_two_words(words, next, front, next_at);
+        words[next + 2] = word_at(front, next_at + 16);
+        store_two_words(words, 4, back, 0);
+        store_two_words(words, 6, back, 16);
     } else if over_16 {
         let Some(front) = bytes.first_chunk::<16>() else {
             unreachable!()
@@ -247,8 +247,8 @@ fn complete_block(words: &mut [u64; 8], len: usize, bytes: &[u8])
         let Some(back) = bytes.last_chunk::<16>() else {
             unreachable!()
         };
-        words[len / 8 % 2 + 5] = word_at(front, from);
-        store_two(words, 6, back, 0);
+        words[len / 8 % 2 + 5] = word_at(front, next_at);
+        store_two_words(words, 6, back, 0);
     } else {
         words[7] = last_word(bytes);
     }

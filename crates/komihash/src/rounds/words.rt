@@ -96,23 +96,23 @@ pub(crate) fn round_each<W: WholeWords>(pair: XoredPair, left: &W, tally: &mut T
 /// Returns the hash from a pair, fewer than eight whole words, and the final word. The last whole
 /// word is any word if there are none.
 #[inline(always)]
-#[tactic(auto, using(std::proofs::lemmas::List::drop_all, std::proofs::lemmas::List::drop_more))]
-pub(crate) fn hash_from_pair<W: WholeWords>(
+#[tactic(auto, using(crate::proofs::WholeWords::read_words, std::proofs::lemmas::List::drop_all, std::proofs::lemmas::List::drop_more))]
+pub(crate) fn hash_from_pair(
     pair: XoredPair,
-    left: &W,
+    left: &[u8],
     last_whole_word: u64,
     final_word: u64,
     tally: &mut Tally,
 ) -> u64
-    requires below_8 { length (W.words left.now) < 8 }
-    requires word { 0 < length (W.words left.now)
-        → last_whole_word ≡ slice_index (W.words left.now) (length (W.words left.now) - 1) }
-    ensures hash { result ≡ hash_from_pair (pair_of pair) (W.words left.now ++ final_word ∷ []) }
-    ensures costs { Costs tally (2 + length (W.words left.now) / 2) 0 }
+    requires below_64 { length left.now < 64 }
+    requires word { 8 ≤ length left.now
+        → last_whole_word ≡ slice_index (whole_words left.now) (length left.now / 8 - 1) }
+    ensures hash { result ≡ hash_from_pair (pair_of pair) (whole_words left.now ++ final_word ∷ []) }
+    ensures costs { Costs tally (2 + length left.now / 16) 0 }
 {
-    let pair = round_each(pair, left, tally);
+    let pair = round_each(pair, &left, tally);
     // The closing of one word is that of two, the second of which is 0. So it needs no jump.
-    let (first, second) = if left.count() % 2 == 1 {
+    let (first, second) = if left.len() / 8 % 2 == 1 {
         (last_whole_word, final_word)
     } else {
         (final_word, 0)

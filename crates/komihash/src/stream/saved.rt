@@ -57,8 +57,7 @@ pub(crate) fn write_lanes(lanes: &Lanes, out: &mut [u8])
 /// Writes the pending bytes after the lanes, and returns where they end.
 #[inline(always)]
 pub(crate) fn write_pending(pending: &Pending, out: &mut [u8]) -> usize
-    requires below_64 { length pending.now < 64 }
-    requires room { LONGEST_TEXT ≤ length out.old }
+    requires { LONGEST_TEXT ≤ length out.old }
     ensures end { result ≡ PENDING_AT + length pending.now }
     ensures bytes { take result out.new ≡ take PENDING_AT out.old ++ pending.now }
     ensures after { drop result out.new ≡ drop result out.old }
@@ -119,6 +118,6 @@ pub(crate) fn read_pending(bytes: &[u8]) -> Pending
     ensures { result ≡ drop PENDING_AT bytes.now }
 {
     let mut pending = Pending::new();
-    pending.append(&bytes[PENDING_AT..], &mut Tally::new());
+    pending.append_to_none(&bytes[PENDING_AT..], &mut Tally::new());
     pending
 }

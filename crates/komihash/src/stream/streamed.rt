@@ -23,7 +23,6 @@ use std::marker::Model;
 /// at most 63 of each.
 ///
 /// It is not for messages that an attacker may choose, whatever the seed is.
-// In Rust, `c/verify/layout.py` describes this layout.
 #[repr(C)]
 #[derive(Drop)]
 pub struct StreamedKomihash<const V: u8>

@@ -3,6 +3,8 @@ use Rattle.std.proofs.Common.{◌≡◌, ◌+◌, ◌/◌, ◌∙◌, length, ar
 use Rattle.komihash.proofs.AllBytes.{written}
 use Rattle.komihash.proofs.GeneratorFills.{outputs-next}
 use Rattle.komihash.proofs.generator.Komirand.fill_bytes.Goals as goal
+use Rattle.komihash.proofs.generator.Komirand.fill_bytes.Goals.{then-has_remainder}
+use Rattle.komihash.proofs.generator.Komirand.fill_bytes.Goals.{else-has_remainder}
 
 pub words-preserved : goal.words-preserved
 words-preserved g c =
@@ -12,14 +14,24 @@ words-preserved g c =
     let bytes = rw (c.next-word.ensures.output, word) at c.write_word.ensures in
     record { bytes = grind (arith, written, bytes); pair = c.next-word.ensures.pair ∙ pair }
 
-pub returns-then-has_remainder : goal.returns-then-has_remainder
-returns-then-has_remainder g c =
+pub returns : goal.returns
+returns g c =
     let steps = (length c.args.buffer.now + 7) / 8 in
-    let last : steps ≡ c.words.i + 1 = omega arith in
-    let (word, pair, size) =
-    outputs-next g.row.V c.words.i steps c.args.self.now _ (omega arith) c.words.invariant.pair in
-    let bytes = rw (c.next-output.ensures.output, word) at c.write_partial_word.ensures in
-    record {
-      bytes = grind (arith, written, take_all, bytes);
-      pair = rw last (c.next-output.ensures.pair ∙ pair);
-    }
+    elim c.if-has_remainder.branch [
+      | then-has_remainder w ↦
+          let last : steps ≡ c.words.i + 1 = omega arith in
+          let (word, pair, size) =
+          outputs-next g.row.V c.words.i steps c.args.self.now _ (omega arith)
+          c.words.invariant.pair in
+          let bytes = rw (w.next-output.ensures.output, word) at w.write_partial_word.ensures in
+          record {
+            bytes = grind (arith, written, take_all, bytes);
+            pair = rw last (grind (arith, pair));
+          }
+      | else-has_remainder w ↦
+          let last : steps ≡ c.words.i = omega arith in
+          record {
+            bytes = grind (arith, written, take_all);
+            pair = rw last (grind arith);
+          }
+    ]

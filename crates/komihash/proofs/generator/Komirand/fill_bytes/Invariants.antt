@@ -9,5 +9,5 @@ abbrev pub invariant-words : goal.invariant-words
 invariant-words g l = record {
   bytes : Covers (8 * l.i) l.buffer
       (all_bytes (outputs g.row.V (fill_steps (length l.fn.buffer)) l.fn.self)) l.fn.buffer;
-  pair : l.self ≡ after_steps g.row.V l.i l.fn.self;
+  pair : l.generator ≡ after_steps g.row.V l.i l.fn.self;
 }

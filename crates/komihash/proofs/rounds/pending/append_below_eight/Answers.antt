@@ -27,7 +27,7 @@ returns c =
     let xs = pending_bytes c.args.words.now c.args.len in
     let over = c.args.len % 8 in
     let fit = 8 - over in
-    let at = (c.args.len / 8 + 1) % 8 in
+    let at = (c.args.len + 8) / 8 % 8 in
     -- the word of the bytes, of which the partial word takes those that fit
     let are = AreBytes-typed bytes c.type_inv.bytes in
     let word = c.read_partial_word-word.ensures ∙ word_of-zeros bytes 1 in

@@ -18,7 +18,7 @@ returns-then-has_two_more c =
     let piece = take_all (length bytes - from) (drop from bytes) (omega arith) in
     let front = rw piece at c.as_chunks.ensures.front in
     rw (c.word_index-next.ensures, width)
-    (PacksBut-chunks _ _ _ from _ partial front c.store_words.ensures.words (omega arith))
+    (PacksBut-chunks _ _ _ from _ partial front c.store_chunks.ensures.words (omega arith))
 
 pub returns-else-has_two_more : goal.returns-else-has_two_more
 returns-else-has_two_more c =

@@ -54,7 +54,7 @@ returns-in-Some-last_chunk c =
     let front : c.in-Some.front.now ≡ take 32 bytes = search rules in
     let back : c.in-Some-last_chunk.back.now ≡ drop m bytes = search rules in
     let part = last_part 32 bytes (omega arith) in
-    rw (c.store_two-then-over_32-2.ensures, c.store_two-then-over_32.ensures, c.store_two.ensures)
+    rw (c.store_two_words-then-over_32-2.ensures, c.store_two_words-then-over_32.ensures, c.store_two_words.ensures)
     (rw (c.word_at.ensures, front, back, ← part) (PacksBut-all p6 (omega arith)))
 
 pub returns-in-Some-last_chunk-2 : goal.returns-in-Some-last_chunk-2
@@ -71,7 +71,7 @@ returns-in-Some-last_chunk-2 c =
     let front : c.in-Some-first_chunk.front.now ≡ take 16 bytes = search rules in
     let back : c.in-Some-last_chunk-2.back.now ≡ drop m bytes = search rules in
     let part = last_part 16 bytes (omega arith) in
-    rw (c.store_two-then-over_16.ensures, c.word_at-then-over_16.ensures, front, back, ← part)
+    rw (c.store_two_words-then-over_16.ensures, c.word_at-then-over_16.ensures, front, back, ← part)
     (PacksBut-all p2 (omega arith))
 
 pub returns-else-over_16 : goal.returns-else-over_16

@@ -8,7 +8,7 @@ returns-then-has_two_words c =
     let bytes = c.args.bytes.now in
     let piece = take_all (length bytes) bytes (omega arith) in
     let none = PacksBut-none c.requires.none bytes (length bytes / 8 + 1) (omega arith) in
-    PacksBut-chunks [] bytes _ 0 _ none c.as_chunks.ensures.front c.store_words.ensures.words
+    PacksBut-chunks [] bytes _ 0 _ none c.as_chunks.ensures.front c.store_chunks.ensures.words
     (omega arith)
 
 pub returns-else-has_two_words : goal.returns-else-has_two_words

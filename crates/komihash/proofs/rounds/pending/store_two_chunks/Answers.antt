@@ -3,7 +3,7 @@ use Rattle.std.proofs.Common.{◌≡◌, ℕ, ◌+◌, ◌-◌, ◌≤◌, List,
 use Rattle.std.proofs.Common.{take_all, get_or-drop, length-drop, take-append-drop, append-nil}
 use Rattle.std.proofs.lemmas.List.{drop-set-add, take-set-le, drop_all}
 use borrow.Rule.Slice.PartMut.{put_mid}
-use Rattle.komihash.proofs.rounds.pending.store_two_words.Goals as goal
+use Rattle.komihash.proofs.rounds.pending.store_two_chunks.Goals as goal
 
 two_set : (ws : List ℕ) (at a b : ℕ) → at + 2 ≤ length ws
     → put_mid at (length ws - at) ws (set (set (take (length ws - at) (drop at ws)) 0 a) 1 b)
