@@ -75,6 +75,7 @@ pub(crate) fn read_lanes(bytes: &[u8]) -> Lanes {
 #[inline(always)]
 pub(crate) fn read_pending(bytes: &[u8]) -> Pending {
     let mut pending = Pending::new();
-    pending.append_to_none(&bytes[PENDING_AT..]);
+    // Here this takes fewer instructions than `append_to_none`.
+    pending.append(&bytes[PENDING_AT..]);
     pending
 }

@@ -118,6 +118,7 @@ pub(crate) fn read_pending(bytes: &[u8]) -> Pending
     ensures { result ≡ drop PENDING_AT bytes.now }
 {
     let mut pending = Pending::new();
-    pending.append_to_none(&bytes[PENDING_AT..], &mut Tally::new());
+    // Here this takes fewer instructions than `append_to_none`.
+    pending.append(&bytes[PENDING_AT..], &mut Tally::new());
     pending
 }

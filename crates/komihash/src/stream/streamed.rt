@@ -193,8 +193,9 @@ where
     /// stream from the text, also on another machine. The text is bytes, not UTF-8: one each for
     /// the version, for whether a block was absorbed, for the top bit of that block's last byte in
     /// version 4 (0 in version 5), and for the number of pending bytes; the eight lanes, the lowest
-    /// byte first; and the pending bytes as they are. Before 64 bytes were absorbed, the seed can
-    /// be calculated from the lanes, so whoever may read the text may hash with this seed.
+    /// byte first; and the pending bytes as they are. Keep the text as secret as the seed, which
+    /// can be calculated from it until 64 bytes were absorbed, and until 128 by whoever knows the
+    /// first 64.
     ///
     /// # Panics
     ///

@@ -8,4 +8,4 @@ returns c =
     let bytes = c.args.bytes.now in
     let size = length-drop pending_at bytes in
     let all = take_all (length bytes - pending_at) (drop pending_at bytes) (omega arith) in
-    rw all at c.append_to_none.ensures.bytes
+    rw (c.new-pending.ensures, all) at c.append.ensures.bytes
