@@ -23,12 +23,19 @@ all_refused() {
     [ "$(grep -c '\.edit: refused' "$scratch/told")" = ${#edits[@]} ] ||
         grep "must-fail edits: ${#edits[@]} refused" "$scratch/told"
 }
-# Whether the clause that refused each edit in this run is the one that controls.txt names. `rt`
-# prints the first 160 characters of a message, and so of one name all but the last letter.
+# Whether what refused each edit in this run is the clause that controls.txt names, in the file that
+# is edited. `rt` prints the first 160 characters of a message, and so of one name all but the last
+# letter.
 by_their_clauses() {
-    sed -nE 's/^(\S+: \w+): .*/\1/p' crates/controls.txt > "$scratch/clauses"
-    sed -nE '/\.edit: refused/s|.* (\S+)\.edit: .*\(`(\S*-clause-)?(\w+).*|\1: \3|p' \
-        "$scratch/told" | sed 's/: returns.*/: ensures/; s/: invarian$/&t/' > "$scratch/refusals"
+    local edit name
+    for edit in crates/*/must-fail/*.edit; do
+        name=${edit#crates/} name=${name/must-fail\//} name=${name%.edit}
+        sed -nE "s|^($name): (\w+): .*|\1: $(sed -n 's/^file: //p;q' "$edit"): \2|p" \
+            crates/controls.txt
+    done > "$scratch/clauses"
+    grep '\.edit: refused' "$scratch/told" |
+        sed -nE 's|.* (\S+)\.edit: .*[ /](src/[^: ]+):.*\(`(\S*-clause-)?(\w+).*|\1: \2: \4|p' |
+        sed 's/: returns.*/: ensures/; s/: invarian$/&t/' > "$scratch/refusals"
     ! grep -vxFf "$scratch/clauses" "$scratch/refusals" &&
         [ "$(wc -l < "$scratch/refusals")" = "$(grep -c '\.edit: refused' "$scratch/told")" ]
 }
