@@ -21,8 +21,6 @@ trap 'rm -rf "$scratch"' EXIT
 #   start of each exported function an instruction. They are unstable, hence RUSTC_BOOTSTRAP.
 # - align-all-functions lets functions begin where 64 bytes do. At other addresses, hashes of 8
 #   bytes for plain x86-64 may take 10% longer.
-# - slp-threshold keeps LLVM from building the vectors that a new stream is stored by, which would
-#   take six instructions more. AVX2 has better ones.
 assembly_for() {
     local target=$2-unknown-linux-gnu options=(-C no-redzone=yes "${@:3}")
     export RUSTC_BOOTSTRAP=1
@@ -41,8 +39,7 @@ assembly_for() {
 END
     sed '/^\t\.aeabi_/d' "$scratch/$1.s" >> "$scratch/$1.S"
 }
-assembly_for x86_64 x86_64 -Z cf-protection=full -C llvm-args=-align-all-functions=6 \
-    -C llvm-args=-slp-threshold=-2
+assembly_for x86_64 x86_64 -Z cf-protection=full -C llvm-args=-align-all-functions=6
 assembly_for x86_64_v3 x86_64 -Z cf-protection=full -C target-cpu=x86-64-v3
 assembly_for aarch64 aarch64 -Z branch-protection=bti
 mkdir -p "$folder"

@@ -15,7 +15,7 @@ X86 = {
         rep_movsb f3:a4; rep_movsq f3W:a5; ret c3; jmp eb e9; call e8 67:e8
         test 84 85 a8 a9 f6/0 f7/0; nop 90 0f1f/0; endbr64 f3:0f1e
         movaps 0f28 0f29; movups 0f10 0f11; movdqa 66:0f6f 66:0f7f; movdqu f3:0f6f f3:0f7f
-        movq 66W:0f6e 66W:0f7e f3:0f7e 66:0fd6; movsd f2:0f10; pxor 66:0fef; xorps 0f57
+        movq 66W:0f6e 66W:0f7e f3:0f7e 66:0fd6; pxor 66:0fef; xorps 0f57
         punpcklqdq 66:0f6c; punpckhqdq 66:0f6d; unpckhpd 66:0f15; movlhps 0f16
         paddq 66:0fd4; shufps 0fc6''',
     'x86-64-v2': '''palignr 66:0f3a0f; pextrq 66W:0f3a16''',

@@ -252,10 +252,8 @@ def call(c, i):
     return i.ops[0].imm
 
 
-@means(TABLE, 'movq', 'vmovq', 'movsd')
+@means(TABLE, 'movq', 'vmovq')
 def move_quad(c, i):
-    if i.mnemonic == 'movsd' and i.ops[1].type != X.X86_OP_MEM:  # It keeps the high half.
-        raise unknown(i)
     value = c.get(i, 1, 64)
     to_vector = i.ops[0].type == X.X86_OP_REG and i.ops[0].size == 16
     c.put(i, 0, resize(value, 128) if to_vector else value)

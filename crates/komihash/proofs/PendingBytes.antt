@@ -148,15 +148,14 @@ module _ {ws : List ℕ} {len : ℕ} (are : ArePending ws len) where
       grind (arith, get_or-pending (len / 8), length-partial, drop-append-le)
 
   -- with that word stored, only words after it are missing, and none that stays 0
-  pub PacksBut-partial : (bytes : List ℕ) (word gap gap_end : ℕ) → AreBytes bytes
-      → word ≡ word_of (take 8 bytes)
-      → (gap ≤ len / 8 + 1) × (gap_end < 8 → len + length bytes ≤ 8 * gap_end)
+  pub PacksBut-partial : (bytes : List ℕ) (word gap_end : ℕ) → AreBytes bytes
+      → word ≡ word_of (take 8 bytes) → (gap_end < 8 → len + length bytes ≤ 8 * gap_end)
       → PacksBut
       (set ws (len / 8) (bit_or (get_or ws (len / 8) 0) (word * 2 ^ (8 * (len % 8)) % 2 ^ 64)))
-      (pending ++ bytes) gap gap_end
-  PacksBut-partial bytes word gap gap_end typed is (le, room) =
-      PacksBut-put (PacksBut-before_partial bytes gap_end room) (len / 8) gap _ (omega arith)
-      (λ _. rw is (packed_word-partial bytes typed))
+      (pending ++ bytes) (len / 8 + 1) gap_end
+  PacksBut-partial bytes word gap_end typed is room =
+      PacksBut-put (PacksBut-before_partial bytes gap_end room) (len / 8) (len / 8 + 1) _
+      (omega arith) (λ _. rw is (packed_word-partial bytes typed))
 
 -- where none is pending, only the words of the bytes are missing
 pub PacksBut-none : {ws : List ℕ} → ArePending ws 0 → (bytes : List ℕ) (gap_end : ℕ)

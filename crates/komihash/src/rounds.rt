@@ -36,10 +36,11 @@ const C7: u64 = 0xc0ac_29b7_c97c_50dd;
 
 const C8: u64 = 0x3f84_d5b5_b547_0917;
 
-/// Stores the pair (a, e) as a xor e, and e. After a product, a xor e is its low half, and e the
-/// word to which its high half was added. The word a is computed only for a factor, and as the
-/// hash, so that the way from one product to the next is one xor shorter. `Lanes` pairs them
-/// otherwise.
+/// The pair (a, e), stored as `.0 = a ^ e` and `.1 = e`.
+///
+/// After a product, `.0` is its low half, and `.1` the word to which its high half was added. The
+/// word a is computed only for a factor and as the hash, so the way from one product to the next is
+/// one xor shorter. `Lanes` has pairs of other words.
 #[repr(C)]
 #[derive(Clone, Copy)]
 pub(crate) struct XoredPair(u64, u64);

@@ -215,8 +215,8 @@ where
         StreamedKomihash::begin(seed)
     }
 
-    // Where a crate calls this and `answer` more than once, LLVM would not inline them by itself, and
-    // would forget that a new stream is empty.
+    // Where a crate calls this and `answer` more than once, LLVM would not inline them by itself.
+    // Then it couldn't use that a new stream is empty.
     #[inline(always)]
     fn absorb(&mut self, bytes: &[u8]) {
         if self.pending.len() + bytes.len() < 64 {

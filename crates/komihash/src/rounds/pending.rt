@@ -64,11 +64,10 @@ fn append_below_eight(words: &mut [u64; 8], len: usize, bytes: &[u8])
 fn append_within_word(words: &mut [u64; 8], len: usize, bytes: &[u8])
     requires pending { ArePending words.old len }
     requires at_least_8 { 8 ≤ length bytes.now }
-    // All words are right but those from `gap` on and below `gap_end`, which other calls store. No
-    // byte belongs to those after the gap. `append_whole_words` needs it for two gaps.
-    ensures { (gap gap_end : ℕ)
-        → (gap ≤ len / 8 + 1) × (gap_end < 8 → len + length bytes.now ≤ 8 * gap_end)
-        → PacksBut words.new (pending_bytes words.old len ++ bytes.now) gap gap_end }
+    // All words are right but those after the partial word and below `end`, which other calls store.
+    // No byte belongs to those from `end` on.
+    ensures { (end : ℕ) → (end < 8 → len + length bytes.now ≤ 8 * end)
+        → PacksBut words.new (pending_bytes words.old len ++ bytes.now) (len / 8 + 1) end }
 {
     words[word_index(len)] |= read_word(bytes) << (8 * (len % 8));
 }

@@ -33,6 +33,7 @@ pub(crate) trait WholeWords {
     /// Returns the word at index `at`.
     fn word(&self, at: usize) -> u64
         requires within { at < length (words self.now) }
+        // For the search, which doesn't see that a stream has no more.
         requires below_8 { at < 8 }
         ensures { result ≡ slice_index (words self.now) at };
 }

@@ -34,6 +34,7 @@ pub(crate) fn write_head<const V: u8>(
     ensures head { out.new
         ≡ (V ∷ flag_byte had_block ∷ flag_byte top_bit ∷ pending_len ∷ [])
         ++ drop LANES_AT out.old }
+    // This follows, and is for the search.
     ensures after { (n : ℕ) → LANES_AT ≤ n → drop n out.new ≡ drop n out.old }
 {
     out[0] = V;

@@ -267,8 +267,8 @@ where
         StreamedKomihash::begin(seed, tally)
     }
 
-    // Where a crate calls this and `answer` more than once, LLVM would not inline them by itself, and
-    // would forget that a new stream is empty.
+    // Where a crate calls this and `answer` more than once, LLVM would not inline them by itself.
+    // Then it couldn't use that a new stream is empty.
     #[inline(always)]
     #[tactic(auto, unfolding(crate::specs::Stream::HasAbsorbed), using(crate::proofs::Streams::more_absorbed))]
     fn absorb(&mut self, bytes: &[u8], tally: &mut Tally) {

@@ -32,7 +32,7 @@ returns c =
     let are = AreBytes-typed bytes c.type_inv.bytes in
     let word = c.read_partial_word-word.ensures ∙ word_of-zeros bytes 1 in
     let first = word ∙ ap word_of (sym (take_all 8 bytes (omega arith))) in
-    let partial = PacksBut-partial c.requires.pending bytes _ (c.args.len / 8 + 1)
+    let partial = PacksBut-partial c.requires.pending bytes _
     ((c.args.len + length bytes + 7) / 8) are first (omega arith) in
     -- the difference of the code is the word of those that don't fit
     let left = c.read_partial_word-word.result * 2 ^ (8 * over) % 2 ^ 64 in

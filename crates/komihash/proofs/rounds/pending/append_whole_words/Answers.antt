@@ -13,7 +13,7 @@ returns-then-has_two_more c =
     let n = length c.as_chunks.result.0.now in
     let count = length-drop from bytes in
     let end = (c.args.len + length bytes) / 8 in
-    let partial = c.append_within_word.ensures at (end + 1) (omega arith) in
+    let partial = c.append_within_word.ensures (end + 1) (omega arith) in
     let width : at + n - at ≡ n = omega arith in
     let piece = take_all (length bytes - from) (drop from bytes) (omega arith) in
     let front = rw piece at c.as_chunks.ensures.front in
@@ -25,7 +25,7 @@ returns-else-has_two_more c =
     let bytes = c.args.bytes.now in
     let at = c.args.len / 8 + 1 in
     let end = (c.args.len + length bytes) / 8 in
-    let partial = c.append_within_word.ensures at (end + 1) (grind (arith, nat_tests)) in
+    let partial = c.append_within_word.ensures (end + 1) (grind (arith, nat_tests)) in
     let in_words : at % 8 ≡ at = grind (arith, nat_tests) in
     rw (c.word_index-next.ensures, in_words)
     (PacksBut-put partial at end _ (grind (arith, nat_tests))

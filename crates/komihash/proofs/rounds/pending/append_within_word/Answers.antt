@@ -4,6 +4,6 @@ use Rattle.komihash.proofs.PendingBytes.{PacksBut-partial}
 use Rattle.komihash.proofs.rounds.pending.append_within_word.Goals as goal
 
 pub returns : goal.returns
-returns c gap gap_end =
-    rw c.word_index.ensures (PacksBut-partial c.requires.pending c.args.bytes.now _ gap gap_end
-    (AreBytes-typed c.args.bytes.now c.type_inv.bytes) c.read_word.ensures)
+returns c end short =
+    rw c.word_index.ensures (PacksBut-partial c.requires.pending c.args.bytes.now _ end
+    (AreBytes-typed c.args.bytes.now c.type_inv.bytes) c.read_word.ensures short)

@@ -17,7 +17,7 @@ returns-then-is_short c =
     let place : c.args.len / 8 ≡ 7 = omega arith in
     let word = c.read_partial_word.ensures ∙ word_of-zeros bytes 1 in
     let first = word ∙ ap word_of (sym (take_all 8 bytes (omega arith))) in
-    let partial = PacksBut-partial c.requires.pending bytes _ 8 8 are first (omega arith) in
+    let partial = PacksBut-partial c.requires.pending bytes _ 8 are first (omega arith) in
     rw place at (PacksBut-all partial (omega arith))
 
 -- a word of the n bytes from index m on is stored
@@ -43,7 +43,7 @@ returns-in-Some-last_chunk c =
     let m = length bytes - 32 in
     let from = 8 - c.args.len % 8 in
     let next = c.args.len / 8 % 4 + 1 in
-    let partial = c.append_within_word.ensures (c.args.len / 8 + 1) 8 (omega arith) in
+    let partial = c.append_within_word.ensures 8 (omega arith) in
     let p0 = put_word xs bytes partial 0 32 next from (omega arith) in
     let p1 = put_word xs bytes p0 0 32 (next + 1) (from + 8) (omega arith) in
     let p2 = put_word xs bytes p1 0 32 (next + 2) (from + 16) (omega arith) in
@@ -64,7 +64,7 @@ returns-in-Some-last_chunk-2 c =
     let m = length bytes - 16 in
     let from = 8 - c.args.len % 8 in
     let next = c.args.len / 8 % 2 + 5 in
-    let partial = c.append_within_word.ensures (c.args.len / 8 + 1) 8 (omega arith) in
+    let partial = c.append_within_word.ensures 8 (omega arith) in
     let p0 = put_word xs bytes partial 0 16 next from (omega arith) in
     let p1 = put_word xs bytes p0 m 16 6 0 (omega arith) in
     let p2 = put_word xs bytes p1 m 16 7 8 (omega arith) in
@@ -79,6 +79,6 @@ returns-else-over_16 c =
     let xs = pending_bytes c.args.words.now c.args.len in
     let bytes = c.args.bytes.now in
     let from = length bytes - 8 in
-    let partial = c.append_within_word.ensures (c.args.len / 8 + 1) 8 (omega arith) in
+    let partial = c.append_within_word.ensures 8 (omega arith) in
     PacksBut-all (PacksBut-put partial 7 8 _ (omega arith)
     (λ _. c.last_word.ensures ∙ packed_word-after xs bytes 7 from (omega arith))) (omega arith)
