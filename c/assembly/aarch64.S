@@ -2,7 +2,7 @@
  * Copyright (c) 2026 the authors of komihash_rattle
  *
  * `make assembly` made this file from the crate for Rust. Do not edit it.
- * Made of: SHA-256 bca5f69bfda2552d9dbf800606c7146e2dad2f6411a51fd2f7fde55de266e934
+ * Made of: SHA-256 69b583ac4e49b6f9b95bac1b3c51cac1c81040c3d47081a5b2f6cd146528f947
  * Options: those of from_rust.sh, and -C no-redzone=yes -Z branch-protection=bti
  * Compiler: rustc 1.96.0 (ac68faa20 2026-05-25) (built from a source tarball)
  */
@@ -2664,7 +2664,7 @@ komihash_v4_rand_next:
 komihash_v4_resume:
 	.cfi_startproc
 	hint	#34
-	cmp	x2, #68
+	subs	x11, x2, #68
 	b.lo	.LBB23_4
 	ldrb	w8, [x1]
 	cmp	w8, #4
@@ -2679,93 +2679,102 @@ komihash_v4_resume:
 	mov	w0, wzr
 	ret
 .LBB23_5:
-	ldrb	w11, [x1, #3]
+	ldrb	w12, [x1, #3]
 	mov	w8, wzr
-	cmp	w11, #63
-	b.hi	.LBB23_20
-	add	x11, x11, #68
-	cmp	x2, x11
-	b.ne	.LBB23_20
+	cmp	w12, #63
+	b.hi	.LBB23_21
+	add	x12, x12, #68
+	cmp	x2, x12
+	b.ne	.LBB23_21
 	sub	sp, sp, #80
 	.cfi_def_cfa_offset 80
 	movi	v0.2d, #0000000000000000
-	and	x12, x2, #0x3f
-	str	xzr, [sp, #64]
-	cmp	x12, #4
+	subs	x14, x2, #76
+	add	x8, x1, #68
+	str	x11, [sp, #64]
 	stp	q0, q0, [sp]
 	stp	q0, q0, [sp, #32]
-	b.eq	.LBB23_19
-	add	x13, x2, #60
-	add	x11, x1, #68
-	and	x8, x13, #0x3f
-	cmp	x8, #8
-	b.hs	.LBB23_11
-	cmp	x8, #3
-	b.ls	.LBB23_14
-	lsl	w12, w13, #6
-	add	x14, x11, x8
-	ldr	w11, [x11]
-	sub	w12, w12, w13, lsl #3
-	ldur	w13, [x14, #-4]
-	and	x12, x12, #0x38
-	lsr	x12, x13, x12
-	orr	x11, x11, x12, lsl #32
-	b	.LBB23_15
-.LBB23_11:
-	lsr	x12, x8, #3
-	cmp	x8, #15
-	b.ls	.LBB23_16
-	lsl	x13, x12, #3
-	mov	x14, sp
-	ldr	q0, [x11]
-	cmp	x8, #32
-	sub	x15, x13, #16
-	add	x16, x11, x15
-	add	x15, x14, x15
-	ldp	x17, x16, [x16]
-	stp	x17, x16, [x15]
-	str	q0, [sp]
-	b.lo	.LBB23_17
-	sub	x13, x13, #32
-	ldur	q0, [x1, #84]
-	add	x15, x11, x13
-	add	x13, x14, x13
-	ldp	x16, x14, [x15]
-	stp	x16, x14, [x13]
-	str	q0, [sp, #16]
-	b	.LBB23_17
-.LBB23_14:
-	lsr	x13, x8, #1
-	add	x14, x11, x8
-	cmp	x12, #5
-	ldurb	w14, [x14, #-1]
-	ldrb	w13, [x11, x13]
-	ldrb	w11, [x11]
-	lsl	x14, x14, #16
-	lsl	x13, x13, #8
-	csel	x13, xzr, x13, eq
-	cmp	x12, #7
-	csel	x12, x14, xzr, eq
-	orr	x11, x11, x12
-	orr	x11, x13, x11
-.LBB23_15:
-	str	x11, [sp]
-	b	.LBB23_18
-.LBB23_16:
-	ldr	x13, [x11]
-	str	x13, [sp]
-.LBB23_17:
-	add	x11, x11, x8
-	mvn	w13, w8, lsl #3
-	ldur	x11, [x11, #-8]
-	and	x13, x13, #0x38
-	lsr	x11, x11, x13
+	b.hs	.LBB23_10
+	cmp	x2, #71
+	b.ls	.LBB23_13
+	lsl	w12, w11, #6
+	add	x13, x8, x2
+	ldr	w8, [x8]
+	sub	w11, w12, w11, lsl #3
+	ldur	w12, [x13, #-72]
+	and	x11, x11, #0x38
+	lsr	x11, x12, x11
+	orr	x8, x8, x11, lsl #32
+	b	.LBB23_19
+.LBB23_10:
+	ldur	x15, [x1, #68]
 	mov	x13, sp
-	lsr	x11, x11, #8
-	str	x11, [x13, x12, lsl #3]
+	cmp	x2, #91
+	add	x12, x13, #8
+	str	x15, [sp]
+	b.ls	.LBB23_15
+	lsr	x14, x14, #3
+	cmp	x2, #108
+	lsl	x15, x14, #3
+	add	x14, x1, #76
+	ldr	q0, [x14]
+	sub	x16, x15, #16
+	add	x17, x14, x16
+	add	x16, x12, x16
+	ldp	x3, x17, [x17]
+	stp	x3, x17, [x16]
+	stur	q0, [sp, #8]
+	b.lo	.LBB23_17
+	sub	x15, x15, #32
+	ldur	x17, [x1, #92]
+	add	x13, x13, #32
+	add	x14, x14, x15
+	add	x12, x12, x15
+	ldp	x16, x15, [x14]
+	ldur	x14, [x1, #100]
+	stp	x16, x15, [x12]
+	mov	x12, x13
+	str	x17, [sp, #24]
+	b	.LBB23_16
+.LBB23_13:
+	cbz	x11, .LBB23_18
+	lsr	x12, x11, #1
+	cmp	x11, #1
+	ldrb	w8, [x8, x12]
+	add	x12, x1, x2
+	ldurb	w12, [x12, #-1]
+	lsl	x8, x8, #8
+	lsl	x12, x12, #16
+	csel	x8, xzr, x8, eq
+	cmp	x11, #3
+	ldrb	w11, [x1, #68]
+	csel	x12, x12, xzr, eq
+	orr	x11, x11, x12
+	orr	x8, x8, x11
+	b	.LBB23_19
+.LBB23_15:
+	cmp	x14, #8
+	mov	w13, #8
+	csel	x13, x14, x13, lo
+	ldr	x14, [x8, x13]
+.LBB23_16:
+	str	x14, [x12]
+.LBB23_17:
+	add	x8, x8, x2
+	mvn	w12, w11, lsl #3
+	and	x11, x11, #0xfffffffffffffff8
+	ldur	x8, [x8, #-76]
+	and	x12, x12, #0x38
+	lsr	x8, x8, x12
+	mov	x12, sp
+	lsr	x8, x8, #8
+	str	x8, [x12, x11]
+	b	.LBB23_20
 .LBB23_18:
-	str	x8, [sp, #64]
+	mov	x8, xzr
 .LBB23_19:
+	str	x8, [sp]
+.LBB23_20:
 	ldur	x8, [x1, #4]
 	ldur	x17, [x1, #60]
 	cmp	w10, #1
@@ -2797,7 +2806,7 @@ komihash_v4_resume:
 	strb	w10, [x0, #137]
 	add	sp, sp, #80
 	.cfi_def_cfa_offset 0
-.LBB23_20:
+.LBB23_21:
 	mov	w0, w8
 	ret
 .Lfunc_end23:
@@ -3814,7 +3823,7 @@ komihash_v5_rand_next:
 komihash_v5_resume:
 	.cfi_startproc
 	hint	#34
-	cmp	x2, #68
+	subs	x10, x2, #68
 	b.lo	.LBB35_4
 	ldrb	w8, [x1]
 	cmp	w8, #5
@@ -3828,92 +3837,101 @@ komihash_v5_resume:
 	mov	w0, wzr
 	ret
 .LBB35_5:
-	ldrb	w10, [x1, #3]
-	cmp	w10, #63
-	b.hi	.LBB35_20
-	add	x10, x10, #68
-	cmp	x2, x10
-	b.ne	.LBB35_20
+	ldrb	w11, [x1, #3]
+	cmp	w11, #63
+	b.hi	.LBB35_21
+	add	x11, x11, #68
+	cmp	x2, x11
+	b.ne	.LBB35_21
 	sub	sp, sp, #80
 	.cfi_def_cfa_offset 80
 	movi	v0.2d, #0000000000000000
-	and	x11, x2, #0x3f
-	str	xzr, [sp, #64]
-	cmp	x11, #4
+	subs	x13, x2, #76
+	add	x8, x1, #68
+	str	x10, [sp, #64]
 	stp	q0, q0, [sp]
 	stp	q0, q0, [sp, #32]
-	b.eq	.LBB35_19
-	add	x12, x2, #60
-	add	x10, x1, #68
-	and	x8, x12, #0x3f
-	cmp	x8, #8
-	b.hs	.LBB35_11
-	cmp	x8, #3
-	b.ls	.LBB35_14
-	lsl	w11, w12, #6
-	add	x13, x10, x8
-	ldr	w10, [x10]
-	sub	w11, w11, w12, lsl #3
-	ldur	w12, [x13, #-4]
-	and	x11, x11, #0x38
-	lsr	x11, x12, x11
-	orr	x10, x10, x11, lsl #32
-	b	.LBB35_15
-.LBB35_11:
-	lsr	x11, x8, #3
-	cmp	x8, #15
-	b.ls	.LBB35_16
-	lsl	x12, x11, #3
-	mov	x13, sp
-	ldr	q0, [x10]
-	cmp	x8, #32
-	sub	x14, x12, #16
-	add	x15, x10, x14
-	add	x14, x13, x14
-	ldp	x16, x15, [x15]
-	stp	x16, x15, [x14]
-	str	q0, [sp]
-	b.lo	.LBB35_17
-	sub	x12, x12, #32
-	ldur	q0, [x1, #84]
-	add	x14, x10, x12
-	add	x12, x13, x12
-	ldp	x15, x13, [x14]
-	stp	x15, x13, [x12]
-	str	q0, [sp, #16]
-	b	.LBB35_17
-.LBB35_14:
-	lsr	x12, x8, #1
-	add	x13, x10, x8
-	cmp	x11, #5
-	ldurb	w13, [x13, #-1]
-	ldrb	w12, [x10, x12]
-	ldrb	w10, [x10]
-	lsl	x13, x13, #16
-	lsl	x12, x12, #8
-	csel	x12, xzr, x12, eq
-	cmp	x11, #7
-	csel	x11, x13, xzr, eq
-	orr	x10, x10, x11
-	orr	x10, x12, x10
-.LBB35_15:
-	str	x10, [sp]
-	b	.LBB35_18
-.LBB35_16:
-	ldr	x12, [x10]
-	str	x12, [sp]
-.LBB35_17:
-	add	x10, x10, x8
-	mvn	w12, w8, lsl #3
-	ldur	x10, [x10, #-8]
-	and	x12, x12, #0x38
-	lsr	x10, x10, x12
+	b.hs	.LBB35_10
+	cmp	x2, #71
+	b.ls	.LBB35_13
+	lsl	w11, w10, #6
+	add	x12, x8, x2
+	ldr	w8, [x8]
+	sub	w10, w11, w10, lsl #3
+	ldur	w11, [x12, #-72]
+	and	x10, x10, #0x38
+	lsr	x10, x11, x10
+	orr	x8, x8, x10, lsl #32
+	b	.LBB35_19
+.LBB35_10:
+	ldur	x14, [x1, #68]
 	mov	x12, sp
-	lsr	x10, x10, #8
-	str	x10, [x12, x11, lsl #3]
+	cmp	x2, #91
+	add	x11, x12, #8
+	str	x14, [sp]
+	b.ls	.LBB35_15
+	lsr	x13, x13, #3
+	cmp	x2, #108
+	lsl	x14, x13, #3
+	add	x13, x1, #76
+	ldr	q0, [x13]
+	sub	x15, x14, #16
+	add	x16, x13, x15
+	add	x15, x11, x15
+	ldp	x17, x16, [x16]
+	stp	x17, x16, [x15]
+	stur	q0, [sp, #8]
+	b.lo	.LBB35_17
+	sub	x14, x14, #32
+	ldur	x16, [x1, #92]
+	add	x12, x12, #32
+	add	x13, x13, x14
+	add	x11, x11, x14
+	ldp	x15, x14, [x13]
+	ldur	x13, [x1, #100]
+	stp	x15, x14, [x11]
+	mov	x11, x12
+	str	x16, [sp, #24]
+	b	.LBB35_16
+.LBB35_13:
+	cbz	x10, .LBB35_18
+	lsr	x11, x10, #1
+	cmp	x10, #1
+	ldrb	w8, [x8, x11]
+	add	x11, x1, x2
+	ldurb	w11, [x11, #-1]
+	lsl	x8, x8, #8
+	lsl	x11, x11, #16
+	csel	x8, xzr, x8, eq
+	cmp	x10, #3
+	ldrb	w10, [x1, #68]
+	csel	x11, x11, xzr, eq
+	orr	x10, x10, x11
+	orr	x8, x8, x10
+	b	.LBB35_19
+.LBB35_15:
+	cmp	x13, #8
+	mov	w12, #8
+	csel	x12, x13, x12, lo
+	ldr	x13, [x8, x12]
+.LBB35_16:
+	str	x13, [x11]
+.LBB35_17:
+	add	x8, x8, x2
+	mvn	w11, w10, lsl #3
+	and	x10, x10, #0xfffffffffffffff8
+	ldur	x8, [x8, #-76]
+	and	x11, x11, #0x38
+	lsr	x8, x8, x11
+	mov	x11, sp
+	lsr	x8, x8, #8
+	str	x8, [x11, x10]
+	b	.LBB35_20
 .LBB35_18:
-	str	x8, [sp, #64]
+	mov	x8, xzr
 .LBB35_19:
+	str	x8, [sp]
+.LBB35_20:
 	ldur	x8, [x1, #4]
 	ldur	x16, [x1, #60]
 	cmp	w9, #1
@@ -3943,7 +3961,7 @@ komihash_v5_resume:
 	strb	wzr, [x0, #137]
 	add	sp, sp, #80
 	.cfi_def_cfa_offset 0
-.LBB35_20:
+.LBB35_21:
 	mov	w0, w8
 	ret
 .Lfunc_end35:

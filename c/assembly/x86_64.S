@@ -2,8 +2,8 @@
  * Copyright (c) 2026 the authors of komihash_rattle
  *
  * `make assembly` made this file from the crate for Rust. Do not edit it.
- * Made of: SHA-256 bca5f69bfda2552d9dbf800606c7146e2dad2f6411a51fd2f7fde55de266e934
- * Options: those of from_rust.sh, and -C no-redzone=yes -Z cf-protection=full -C llvm-args=-align-all-functions=6 -C llvm-args=-slp-threshold=-2
+ * Made of: SHA-256 69b583ac4e49b6f9b95bac1b3c51cac1c81040c3d47081a5b2f6cd146528f947
+ * Options: those of from_rust.sh, and -C no-redzone=yes -Z cf-protection=full -C llvm-args=-align-all-functions=6
  * Compiler: rustc 1.96.0 (ac68faa20 2026-05-25) (built from a source tarball)
  */
 	.section	.note.gnu.property,"a",@note
@@ -2370,17 +2370,6 @@ komihash_v4_finish:
 	.size	komihash_v4_finish, .Lfunc_end15-komihash_v4_finish
 	.cfi_endproc
 
-	.section	.rodata.cst16,"aM",@progbits,16
-	.p2align	4, 0x0
-.LCPI16_0:
-	.quad	-3998401319710606252
-	.quad	4577018097722394903
-.LCPI16_1:
-	.quad	1376283091369227076
-	.quad	-4732044268327596948
-.LCPI16_2:
-	.quad	1899778990314765756
-	.quad	-4563226453097033507
 	.section	.text.komihash_v4_init,"ax",@progbits
 	.globl	komihash_v4_init
 	.p2align	6
@@ -2398,27 +2387,34 @@ komihash_v4_init:
 	xorq	%rcx, %rsi
 	mulq	%rsi
 	addq	%rsi, %rdx
-	movabsq	$4577018097722394903, %rcx
+	movabsq	$-3998401319710606252, %rcx
 	xorq	%rax, %rcx
+	movabsq	$4577018097722394903, %rsi
+	movq	%rdx, %r8
+	xorq	%rsi, %r8
+	xorq	%rax, %rsi
+	movabsq	$1376283091369227076, %r9
+	xorq	%rax, %r9
+	movabsq	$-4732044268327596948, %r10
+	xorq	%rdx, %r10
+	movabsq	$1899778990314765756, %r11
+	xorq	%rax, %r11
+	movabsq	$-4563226453097033507, %rax
+	xorq	%rdx, %rax
 	xorps	%xmm0, %xmm0
 	movups	%xmm0, 48(%rdi)
 	movups	%xmm0, 32(%rdi)
 	movups	%xmm0, 16(%rdi)
 	movups	%xmm0, (%rdi)
 	movq	$0, 64(%rdi)
-	movq	%rax, %xmm0
-	movq	%rdx, %xmm1
-	punpcklqdq	%xmm1, %xmm0
-	movdqa	.LCPI16_0(%rip), %xmm1
-	pxor	%xmm0, %xmm1
-	movdqu	%xmm1, 72(%rdi)
-	movq	%rcx, 88(%rdi)
+	movq	%rcx, 72(%rdi)
+	movq	%r8, 80(%rdi)
+	movq	%rsi, 88(%rdi)
 	movq	%rdx, 96(%rdi)
-	movdqa	.LCPI16_1(%rip), %xmm1
-	pxor	%xmm0, %xmm1
-	movdqu	%xmm1, 104(%rdi)
-	pxor	.LCPI16_2(%rip), %xmm0
-	movdqu	%xmm0, 120(%rdi)
+	movq	%r9, 104(%rdi)
+	movq	%r10, 112(%rdi)
+	movq	%r11, 120(%rdi)
+	movq	%rax, 128(%rdi)
 	movw	$0, 136(%rdi)
 	retq
 .Lfunc_end16:
@@ -2774,155 +2770,177 @@ komihash_v4_resume:
 	jb	.LBB23_5
 	cmpb	$4, (%rsi)
 	jne	.LBB23_5
-	movzbl	1(%rsi), %r8d
-	cmpb	$1, %r8b
+	movzbl	1(%rsi), %r9d
+	cmpb	$1, %r9b
 	ja	.LBB23_5
-	movzbl	2(%rsi), %eax
-	cmpb	%r8b, %al
+	movzbl	2(%rsi), %r8d
+	cmpb	%r9b, %r8b
 	ja	.LBB23_5
-	movzbl	3(%rsi), %ecx
-	cmpq	$63, %rcx
+	movzbl	3(%rsi), %eax
+	cmpq	$63, %rax
 	ja	.LBB23_5
-	addq	$68, %rcx
-	cmpq	%rcx, %rdx
+	addq	$68, %rax
+	cmpq	%rax, %rdx
 	jne	.LBB23_5
-	pushq	%r14
+	pushq	%r15
 	.cfi_def_cfa_offset 16
-	pushq	%rbx
+	pushq	%r14
 	.cfi_def_cfa_offset 24
+	pushq	%r12
+	.cfi_def_cfa_offset 32
+	pushq	%rbx
+	.cfi_def_cfa_offset 40
 	subq	$72, %rsp
-	.cfi_def_cfa_offset 96
-	.cfi_offset %rbx, -24
-	.cfi_offset %r14, -16
+	.cfi_def_cfa_offset 112
+	.cfi_offset %rbx, -40
+	.cfi_offset %r12, -32
+	.cfi_offset %r14, -24
+	.cfi_offset %r15, -16
 	xorps	%xmm0, %xmm0
 	movaps	%xmm0, 48(%rsp)
 	movaps	%xmm0, 32(%rsp)
 	movaps	%xmm0, 16(%rsp)
 	movaps	%xmm0, (%rsp)
-	movq	$0, 64(%rsp)
-	movl	%edx, %ecx
-	andl	$63, %ecx
-	cmpq	$4, %rcx
-	je	.LBB23_24
-	addq	$60, %rdx
-	movl	%edx, %r9d
-	andl	$63, %r9d
-	cmpl	$8, %r9d
-	jae	.LBB23_16
-	cmpl	$3, %r9d
-	jbe	.LBB23_19
-	movl	64(%rsi,%r9), %r10d
-	negb	%dl
-	shlb	$3, %dl
-	movl	%edx, %ecx
-	shrq	%cl, %r10
-	movl	68(%rsi), %ecx
-	shlq	$32, %r10
-	orq	%rcx, %r10
-	jmp	.LBB23_20
+	leaq	-68(%rdx), %rax
+	movq	%rax, 64(%rsp)
+	cmpq	$76, %rdx
+	jae	.LBB23_15
+	cmpq	$71, %rdx
+	jbe	.LBB23_18
+	movl	-4(%rsi,%rdx), %edx
+	negb	%al
+	shlb	$3, %al
+	movl	%eax, %ecx
+	shrq	%cl, %rdx
+	movl	68(%rsi), %eax
+	shlq	$32, %rdx
+	orq	%rax, %rdx
+	jmp	.LBB23_24
 .LBB23_5:
 	.cfi_def_cfa_offset 8
 	.cfi_restore %rbx
+	.cfi_restore %r12
 	.cfi_restore %r14
+	.cfi_restore %r15
 	xorl	%eax, %eax
 	retq
-.LBB23_16:
-	.cfi_def_cfa_offset 96
-	.cfi_offset %rbx, -24
-	.cfi_offset %r14, -16
-	movl	%r9d, %edx
-	shrl	$3, %edx
-	cmpq	$15, %r9
-	jbe	.LBB23_21
-	leal	(,%rdx,8), %r10d
-	movups	52(%rsi,%r10), %xmm0
-	movq	%rsp, %rcx
-	movups	%xmm0, -16(%r10,%rcx)
-	movups	68(%rsi), %xmm0
-	movaps	%xmm0, (%rsp)
-	cmpl	$32, %r9d
-	jb	.LBB23_22
-	leal	(,%rdx,8), %r10d
-	movups	36(%rsi,%r10), %xmm0
-	movups	%xmm0, -32(%r10,%rcx)
-	movups	84(%rsi), %xmm0
-	movaps	%xmm0, 16(%rsp)
-	jmp	.LBB23_22
-.LBB23_19:
-	movl	%r9d, %edx
-	shrl	%edx
-	movzbl	68(%rsi,%rdx), %edx
-	shll	$8, %edx
-	movzbl	67(%rsi,%r9), %r11d
-	shll	$16, %r11d
-	xorl	%r10d, %r10d
-	cmpq	$5, %rcx
-	cmoveq	%r10, %rdx
-	cmpq	$7, %rcx
-	cmovneq	%r10, %r11
-	movzbl	68(%rsi), %r10d
-	orq	%rdx, %r10
-	orq	%r11, %r10
-.LBB23_20:
-	movq	%r10, (%rsp)
-	jmp	.LBB23_23
-.LBB23_21:
+.LBB23_15:
+	.cfi_def_cfa_offset 112
+	.cfi_offset %rbx, -40
+	.cfi_offset %r12, -32
+	.cfi_offset %r14, -24
+	.cfi_offset %r15, -16
 	movq	68(%rsi), %rcx
 	movq	%rcx, (%rsp)
+	leaq	-76(%rdx), %rcx
+	cmpq	$91, %rdx
+	jbe	.LBB23_20
+	shrq	$3, %rcx
+	movups	60(%rsi,%rcx,8), %xmm0
+	movups	%xmm0, -8(%rsp,%rcx,8)
+	movups	76(%rsi), %xmm0
+	movups	%xmm0, 8(%rsp)
+	cmpq	$108, %rdx
+	jb	.LBB23_22
+	leaq	32(%rsp), %r10
+	movups	44(%rsi,%rcx,8), %xmm0
+	movups	%xmm0, -24(%rsp,%rcx,8)
+	movq	92(%rsi), %r11
+	movq	100(%rsi), %rcx
+	movq	%r11, 24(%rsp)
+	jmp	.LBB23_21
+.LBB23_18:
+	testq	%rax, %rax
+	je	.LBB23_23
+	movq	%rax, %rcx
+	shrq	%rcx
+	movzbl	68(%rsi,%rcx), %ecx
+	shll	$8, %ecx
+	movzbl	-1(%rsi,%rdx), %r10d
+	shll	$16, %r10d
+	xorl	%edx, %edx
+	cmpq	$1, %rax
+	cmoveq	%rdx, %rcx
+	cmpq	$3, %rax
+	cmovneq	%rdx, %r10
+	movzbl	68(%rsi), %edx
+	orq	%rcx, %rdx
+	orq	%r10, %rdx
+	jmp	.LBB23_24
+.LBB23_20:
+	leaq	8(%rsp), %r10
+	cmpq	$8, %rcx
+	movl	$8, %r11d
+	cmovbq	%rcx, %r11
+	movq	68(%rsi,%r11), %rcx
+.LBB23_21:
+	movq	%rcx, (%r10)
 .LBB23_22:
-	movq	60(%rsi,%r9), %r10
-	movl	%r9d, %ecx
+	movq	-8(%rsi,%rdx), %rdx
+	movl	%eax, %ecx
 	notl	%ecx
 	shll	$3, %ecx
-	shrq	%cl, %r10
-	shrq	$8, %r10
-	movq	%r10, (%rsp,%rdx,8)
+	shrq	%cl, %rdx
+	andq	$-8, %rax
+	shrq	$8, %rdx
+	movq	%rdx, (%rsp,%rax)
+	jmp	.LBB23_25
 .LBB23_23:
-	movq	%r9, 64(%rsp)
+	xorl	%edx, %edx
 .LBB23_24:
-	movq	36(%rsi), %r9
-	movq	44(%rsi), %rdx
-	movq	52(%rsi), %rcx
+	movq	%rdx, (%rsp)
+.LBB23_25:
+	movq	36(%rsi), %rdx
+	movq	44(%rsi), %rcx
+	movq	52(%rsi), %rax
 	movq	60(%rsi), %r10
 	movq	28(%rsi), %r11
-	xorq	%rcx, %r11
+	xorq	%rax, %r11
 	movq	4(%rsi), %rbx
 	xorq	%r10, %rbx
 	movq	12(%rsi), %r14
-	xorq	%r9, %r14
+	xorq	%rdx, %r14
 	movq	20(%rsi), %rsi
-	xorq	%rdx, %rsi
-	cmpb	$1, %r8b
-	movaps	(%rsp), %xmm0
-	movaps	16(%rsp), %xmm1
-	movaps	32(%rsp), %xmm2
-	movaps	48(%rsp), %xmm3
-	movq	64(%rsp), %r8
+	xorq	%rcx, %rsi
+	cmpb	$1, %r9b
+	movq	(%rsp), %r9
+	movq	8(%rsp), %r15
+	movaps	16(%rsp), %xmm0
+	movaps	32(%rsp), %xmm1
+	movaps	48(%rsp), %xmm2
+	movq	64(%rsp), %r12
 	sete	136(%rdi)
-	cmpb	$1, %al
-	movq	%r8, 64(%rdi)
-	movups	%xmm3, 48(%rdi)
-	movups	%xmm2, 32(%rdi)
-	movups	%xmm1, 16(%rdi)
-	movups	%xmm0, (%rdi)
+	cmpb	$1, %r8b
+	movq	%r12, 64(%rdi)
+	movups	%xmm2, 48(%rdi)
+	movups	%xmm1, 32(%rdi)
+	movups	%xmm0, 16(%rdi)
+	movq	%r9, (%rdi)
+	movq	%r15, 8(%rdi)
 	movq	%r11, 72(%rdi)
 	movq	%r10, 80(%rdi)
 	movq	%rbx, 88(%rdi)
-	movq	%r9, 96(%rdi)
+	movq	%rdx, 96(%rdi)
 	movq	%r14, 104(%rdi)
-	movq	%rdx, 112(%rdi)
+	movq	%rcx, 112(%rdi)
 	movq	%rsi, 120(%rdi)
-	movq	%rcx, 128(%rdi)
+	movq	%rax, 128(%rdi)
 	sete	137(%rdi)
 	movb	$1, %al
 	addq	$72, %rsp
-	.cfi_def_cfa_offset 24
+	.cfi_def_cfa_offset 40
 	popq	%rbx
-	.cfi_def_cfa_offset 16
+	.cfi_def_cfa_offset 32
+	popq	%r12
+	.cfi_def_cfa_offset 24
 	popq	%r14
+	.cfi_def_cfa_offset 16
+	popq	%r15
 	.cfi_def_cfa_offset 8
 	.cfi_restore %rbx
+	.cfi_restore %r12
 	.cfi_restore %r14
+	.cfi_restore %r15
 	retq
 .Lfunc_end23:
 	.size	komihash_v4_resume, .Lfunc_end23-komihash_v4_resume
@@ -2950,27 +2968,26 @@ komihash_v4_save:
 	movb	$4, (%rsi)
 	movw	%ax, 1(%rsi)
 	movb	%cl, 3(%rsi)
-	movups	80(%rdi), %xmm0
-	movups	96(%rdi), %xmm1
-	movq	80(%rdi), %rax
-	movaps	%xmm0, %xmm2
-	unpckhpd	%xmm1, %xmm2
-	movlhps	%xmm1, %xmm0
-	xorps	%xmm2, %xmm0
-	movups	%xmm0, 4(%rsi)
-	movups	72(%rdi), %xmm0
-	movups	104(%rdi), %xmm1
-	shufps	$78, %xmm0, %xmm1
-	movq	128(%rdi), %rdx
 	movups	120(%rdi), %xmm0
-	xorps	%xmm1, %xmm0
-	movups	%xmm0, 20(%rsi)
-	movups	96(%rdi), %xmm0
-	movsd	112(%rdi), %xmm1
-	movlhps	%xmm1, %xmm0
-	movups	%xmm0, 36(%rsi)
-	movq	%rdx, 52(%rsi)
-	movq	%rax, 60(%rsi)
+	movups	72(%rdi), %xmm1
+	movups	104(%rdi), %xmm2
+	movups	88(%rdi), %xmm3
+	movq	128(%rdi), %rax
+	movq	112(%rdi), %rdx
+	movq	96(%rdi), %r8
+	movq	80(%rdi), %r9
+	movaps	%xmm3, %xmm4
+	movlhps	%xmm2, %xmm4
+	shufps	$78, %xmm1, %xmm2
+	xorps	%xmm0, %xmm2
+	unpckhpd	%xmm3, %xmm1
+	xorps	%xmm4, %xmm1
+	movups	%xmm1, 4(%rsi)
+	movups	%xmm2, 20(%rsi)
+	movq	%r8, 36(%rsi)
+	movq	%rdx, 44(%rsi)
+	movq	%rax, 52(%rsi)
+	movq	%r9, 60(%rsi)
 	leaq	68(%rcx), %rax
 	cmpq	$63, %rcx
 	ja	.LBB24_15
@@ -3048,17 +3065,6 @@ komihash_v4_save:
 	.size	komihash_v4_save, .Lfunc_end24-komihash_v4_save
 	.cfi_endproc
 
-	.section	.rodata.cst16,"aM",@progbits,16
-	.p2align	4, 0x0
-.LCPI25_0:
-	.quad	-3998401319710606252
-	.quad	4577018097722394903
-.LCPI25_1:
-	.quad	1376283091369227076
-	.quad	-4732044268327596948
-.LCPI25_2:
-	.quad	1899778990314765756
-	.quad	-4563226453097033507
 	.section	.text.komihash_v4_start,"ax",@progbits
 	.globl	komihash_v4_start
 	.p2align	6
@@ -3075,31 +3081,37 @@ komihash_v4_start:
 	movabsq	$4983270260364809079, %rsi
 	xorq	%rcx, %rsi
 	mulq	%rsi
-	movq	%rax, %rcx
-	movq	%rdi, %rax
 	addq	%rsi, %rdx
+	movabsq	$-3998401319710606252, %rcx
+	xorq	%rax, %rcx
 	movabsq	$4577018097722394903, %rsi
-	xorq	%rcx, %rsi
+	movq	%rdx, %r8
+	xorq	%rsi, %r8
+	xorq	%rax, %rsi
+	movabsq	$1376283091369227076, %r9
+	xorq	%rax, %r9
+	movabsq	$-4732044268327596948, %r10
+	xorq	%rdx, %r10
+	movabsq	$1899778990314765756, %r11
+	xorq	%rax, %r11
+	movabsq	$-4563226453097033507, %rax
+	xorq	%rdx, %rax
 	xorps	%xmm0, %xmm0
 	movups	%xmm0, 48(%rdi)
 	movups	%xmm0, 32(%rdi)
 	movups	%xmm0, 16(%rdi)
 	movups	%xmm0, (%rdi)
 	movq	$0, 64(%rdi)
-	movq	%rcx, %xmm0
-	movq	%rdx, %xmm1
-	punpcklqdq	%xmm1, %xmm0
-	movdqa	.LCPI25_0(%rip), %xmm1
-	pxor	%xmm0, %xmm1
-	movdqu	%xmm1, 72(%rdi)
+	movq	%rcx, 72(%rdi)
+	movq	%r8, 80(%rdi)
 	movq	%rsi, 88(%rdi)
 	movq	%rdx, 96(%rdi)
-	movdqa	.LCPI25_1(%rip), %xmm1
-	pxor	%xmm0, %xmm1
-	pxor	.LCPI25_2(%rip), %xmm0
-	movdqu	%xmm1, 104(%rdi)
-	movdqu	%xmm0, 120(%rdi)
+	movq	%r9, 104(%rdi)
+	movq	%r10, 112(%rdi)
+	movq	%r11, 120(%rdi)
+	movq	%rax, 128(%rdi)
 	movw	$0, 136(%rdi)
+	movq	%rdi, %rax
 	retq
 .Lfunc_end25:
 	.size	komihash_v4_start, .Lfunc_end25-komihash_v4_start
@@ -3818,145 +3830,159 @@ komihash_v5_resume:
 	jb	.LBB35_5
 	cmpb	$5, (%rsi)
 	jne	.LBB35_5
-	movzbl	1(%rsi), %eax
-	cmpb	$1, %al
+	movzbl	1(%rsi), %r8d
+	cmpb	$1, %r8b
 	ja	.LBB35_5
 	cmpb	$0, 2(%rsi)
 	jne	.LBB35_5
-	movzbl	3(%rsi), %ecx
-	cmpq	$63, %rcx
+	movzbl	3(%rsi), %eax
+	cmpq	$63, %rax
 	ja	.LBB35_5
-	addq	$68, %rcx
-	cmpq	%rcx, %rdx
+	addq	$68, %rax
+	cmpq	%rax, %rdx
 	jne	.LBB35_5
-	pushq	%rbx
+	pushq	%r14
 	.cfi_def_cfa_offset 16
-	subq	$80, %rsp
+	pushq	%rbx
+	.cfi_def_cfa_offset 24
+	subq	$72, %rsp
 	.cfi_def_cfa_offset 96
-	.cfi_offset %rbx, -16
+	.cfi_offset %rbx, -24
+	.cfi_offset %r14, -16
 	xorps	%xmm0, %xmm0
 	movaps	%xmm0, 48(%rsp)
 	movaps	%xmm0, 32(%rsp)
 	movaps	%xmm0, 16(%rsp)
 	movaps	%xmm0, (%rsp)
-	movq	$0, 64(%rsp)
-	movl	%edx, %ecx
-	andl	$63, %ecx
-	cmpq	$4, %rcx
-	je	.LBB35_24
-	addq	$60, %rdx
-	movl	%edx, %r8d
-	andl	$63, %r8d
-	cmpl	$8, %r8d
-	jae	.LBB35_16
-	cmpl	$3, %r8d
-	jbe	.LBB35_19
-	movl	64(%rsi,%r8), %r9d
-	negb	%dl
-	shlb	$3, %dl
-	movl	%edx, %ecx
-	shrq	%cl, %r9
-	movl	68(%rsi), %ecx
-	shlq	$32, %r9
-	orq	%rcx, %r9
-	jmp	.LBB35_20
+	leaq	-68(%rdx), %rax
+	movq	%rax, 64(%rsp)
+	cmpq	$76, %rdx
+	jae	.LBB35_15
+	cmpq	$71, %rdx
+	jbe	.LBB35_18
+	movl	-4(%rsi,%rdx), %edx
+	negb	%al
+	shlb	$3, %al
+	movl	%eax, %ecx
+	shrq	%cl, %rdx
+	movl	68(%rsi), %eax
+	shlq	$32, %rdx
+	orq	%rax, %rdx
+	jmp	.LBB35_24
 .LBB35_5:
 	.cfi_def_cfa_offset 8
 	.cfi_restore %rbx
+	.cfi_restore %r14
 	xorl	%eax, %eax
 	retq
-.LBB35_16:
+.LBB35_15:
 	.cfi_def_cfa_offset 96
-	.cfi_offset %rbx, -16
-	movl	%r8d, %edx
-	shrl	$3, %edx
-	cmpq	$15, %r8
-	jbe	.LBB35_21
-	leal	(,%rdx,8), %r9d
-	movups	52(%rsi,%r9), %xmm0
-	movq	%rsp, %rcx
-	movups	%xmm0, -16(%r9,%rcx)
-	movups	68(%rsi), %xmm0
-	movaps	%xmm0, (%rsp)
-	cmpl	$32, %r8d
-	jb	.LBB35_22
-	leal	(,%rdx,8), %r9d
-	movups	36(%rsi,%r9), %xmm0
-	movups	%xmm0, -32(%r9,%rcx)
-	movups	84(%rsi), %xmm0
-	movaps	%xmm0, 16(%rsp)
-	jmp	.LBB35_22
-.LBB35_19:
-	movl	%r8d, %edx
-	shrl	%edx
-	movzbl	68(%rsi,%rdx), %edx
-	shll	$8, %edx
-	movzbl	67(%rsi,%r8), %r10d
-	shll	$16, %r10d
-	xorl	%r9d, %r9d
-	cmpq	$5, %rcx
-	cmoveq	%r9, %rdx
-	cmpq	$7, %rcx
-	cmovneq	%r9, %r10
-	movzbl	68(%rsi), %r9d
-	orq	%rdx, %r9
-	orq	%r10, %r9
-.LBB35_20:
-	movq	%r9, (%rsp)
-	jmp	.LBB35_23
-.LBB35_21:
+	.cfi_offset %rbx, -24
+	.cfi_offset %r14, -16
 	movq	68(%rsi), %rcx
 	movq	%rcx, (%rsp)
+	leaq	-76(%rdx), %rcx
+	cmpq	$91, %rdx
+	jbe	.LBB35_20
+	shrq	$3, %rcx
+	movups	60(%rsi,%rcx,8), %xmm0
+	movups	%xmm0, -8(%rsp,%rcx,8)
+	movups	76(%rsi), %xmm0
+	movups	%xmm0, 8(%rsp)
+	cmpq	$108, %rdx
+	jb	.LBB35_22
+	leaq	32(%rsp), %r9
+	movups	44(%rsi,%rcx,8), %xmm0
+	movups	%xmm0, -24(%rsp,%rcx,8)
+	movq	92(%rsi), %r10
+	movq	100(%rsi), %rcx
+	movq	%r10, 24(%rsp)
+	jmp	.LBB35_21
+.LBB35_18:
+	testq	%rax, %rax
+	je	.LBB35_23
+	movq	%rax, %rcx
+	shrq	%rcx
+	movzbl	68(%rsi,%rcx), %ecx
+	shll	$8, %ecx
+	movzbl	-1(%rsi,%rdx), %r9d
+	shll	$16, %r9d
+	xorl	%edx, %edx
+	cmpq	$1, %rax
+	cmoveq	%rdx, %rcx
+	cmpq	$3, %rax
+	cmovneq	%rdx, %r9
+	movzbl	68(%rsi), %edx
+	orq	%rcx, %rdx
+	orq	%r9, %rdx
+	jmp	.LBB35_24
+.LBB35_20:
+	leaq	8(%rsp), %r9
+	cmpq	$8, %rcx
+	movl	$8, %r10d
+	cmovbq	%rcx, %r10
+	movq	68(%rsi,%r10), %rcx
+.LBB35_21:
+	movq	%rcx, (%r9)
 .LBB35_22:
-	movq	60(%rsi,%r8), %r9
-	movl	%r8d, %ecx
+	movq	-8(%rsi,%rdx), %rdx
+	movl	%eax, %ecx
 	notl	%ecx
 	shll	$3, %ecx
-	shrq	%cl, %r9
-	shrq	$8, %r9
-	movq	%r9, (%rsp,%rdx,8)
+	shrq	%cl, %rdx
+	andq	$-8, %rax
+	shrq	$8, %rdx
+	movq	%rdx, (%rsp,%rax)
+	jmp	.LBB35_25
 .LBB35_23:
-	movq	%r8, 64(%rsp)
+	xorl	%edx, %edx
 .LBB35_24:
-	movq	36(%rsi), %r8
-	movq	44(%rsi), %rdx
-	movq	52(%rsi), %rcx
+	movq	%rdx, (%rsp)
+.LBB35_25:
+	movq	36(%rsi), %rdx
+	movq	44(%rsi), %rcx
+	movq	52(%rsi), %rax
 	movq	60(%rsi), %r9
 	movq	28(%rsi), %r10
-	xorq	%rcx, %r10
+	xorq	%rax, %r10
 	movq	4(%rsi), %r11
 	xorq	%r9, %r11
 	movq	12(%rsi), %rbx
-	xorq	%r8, %rbx
+	xorq	%rdx, %rbx
 	movq	20(%rsi), %rsi
-	xorq	%rdx, %rsi
-	cmpb	$1, %al
-	movq	64(%rsp), %rax
-	movq	%rax, 64(%rdi)
-	movaps	(%rsp), %xmm0
-	movaps	16(%rsp), %xmm1
-	movaps	32(%rsp), %xmm2
-	movaps	48(%rsp), %xmm3
-	movups	%xmm3, 48(%rdi)
-	movups	%xmm2, 32(%rdi)
-	movups	%xmm1, 16(%rdi)
-	movups	%xmm0, (%rdi)
+	xorq	%rcx, %rsi
+	cmpb	$1, %r8b
+	movq	64(%rsp), %r8
+	movq	%r8, 64(%rdi)
+	movq	(%rsp), %r8
+	movq	8(%rsp), %r14
+	movaps	16(%rsp), %xmm0
+	movaps	32(%rsp), %xmm1
+	movaps	48(%rsp), %xmm2
+	movups	%xmm2, 48(%rdi)
+	movups	%xmm1, 32(%rdi)
+	movups	%xmm0, 16(%rdi)
+	movq	%r8, (%rdi)
+	movq	%r14, 8(%rdi)
 	movq	%r10, 72(%rdi)
 	movq	%r9, 80(%rdi)
 	movq	%r11, 88(%rdi)
-	movq	%r8, 96(%rdi)
+	movq	%rdx, 96(%rdi)
 	movq	%rbx, 104(%rdi)
-	movq	%rdx, 112(%rdi)
+	movq	%rcx, 112(%rdi)
 	movq	%rsi, 120(%rdi)
-	movq	%rcx, 128(%rdi)
+	movq	%rax, 128(%rdi)
 	sete	136(%rdi)
 	movb	$0, 137(%rdi)
 	movb	$1, %al
-	addq	$80, %rsp
-	.cfi_def_cfa_offset 16
+	addq	$72, %rsp
+	.cfi_def_cfa_offset 24
 	popq	%rbx
+	.cfi_def_cfa_offset 16
+	popq	%r14
 	.cfi_def_cfa_offset 8
 	.cfi_restore %rbx
+	.cfi_restore %r14
 	retq
 .Lfunc_end35:
 	.size	komihash_v5_resume, .Lfunc_end35-komihash_v5_resume
@@ -3984,27 +4010,26 @@ komihash_v5_save:
 	movb	$5, (%rsi)
 	movw	%ax, 1(%rsi)
 	movb	%cl, 3(%rsi)
-	movups	80(%rdi), %xmm0
-	movups	96(%rdi), %xmm1
-	movq	80(%rdi), %rax
-	movaps	%xmm0, %xmm2
-	unpckhpd	%xmm1, %xmm2
-	movlhps	%xmm1, %xmm0
-	xorps	%xmm2, %xmm0
-	movups	%xmm0, 4(%rsi)
-	movups	72(%rdi), %xmm0
-	movups	104(%rdi), %xmm1
-	shufps	$78, %xmm0, %xmm1
-	movq	128(%rdi), %rdx
 	movups	120(%rdi), %xmm0
-	xorps	%xmm1, %xmm0
-	movups	%xmm0, 20(%rsi)
-	movups	96(%rdi), %xmm0
-	movsd	112(%rdi), %xmm1
-	movlhps	%xmm1, %xmm0
-	movups	%xmm0, 36(%rsi)
-	movq	%rdx, 52(%rsi)
-	movq	%rax, 60(%rsi)
+	movups	72(%rdi), %xmm1
+	movups	104(%rdi), %xmm2
+	movups	88(%rdi), %xmm3
+	movq	128(%rdi), %rax
+	movq	112(%rdi), %rdx
+	movq	96(%rdi), %r8
+	movq	80(%rdi), %r9
+	movaps	%xmm3, %xmm4
+	movlhps	%xmm2, %xmm4
+	shufps	$78, %xmm1, %xmm2
+	xorps	%xmm0, %xmm2
+	unpckhpd	%xmm3, %xmm1
+	xorps	%xmm4, %xmm1
+	movups	%xmm1, 4(%rsi)
+	movups	%xmm2, 20(%rsi)
+	movq	%r8, 36(%rsi)
+	movq	%rdx, 44(%rsi)
+	movq	%rax, 52(%rsi)
+	movq	%r9, 60(%rsi)
 	leaq	68(%rcx), %rax
 	cmpq	$63, %rcx
 	ja	.LBB36_15

@@ -2,7 +2,7 @@
  * Copyright (c) 2026 the authors of komihash_rattle
  *
  * `make assembly` made this file from the crate for Rust. Do not edit it.
- * Made of: SHA-256 bca5f69bfda2552d9dbf800606c7146e2dad2f6411a51fd2f7fde55de266e934
+ * Made of: SHA-256 69b583ac4e49b6f9b95bac1b3c51cac1c81040c3d47081a5b2f6cd146528f947
  * Options: those of from_rust.sh, and -C no-redzone=yes -Z cf-protection=full -C target-cpu=x86-64-v3
  * Compiler: rustc 1.96.0 (ac68faa20 2026-05-25) (built from a source tarball)
  */
@@ -2634,81 +2634,85 @@ komihash_v4_resume:
 	vxorps	%xmm0, %xmm0, %xmm0
 	vmovups	%ymm0, 32(%rsp)
 	vmovups	%ymm0, (%rsp)
-	movq	$0, 64(%rsp)
-	movl	%edx, %r9d
-	andl	$63, %r9d
-	cmpq	$4, %r9
-	je	.LBB23_24
-	addq	$60, %rdx
-	movl	%edx, %r8d
-	andl	$63, %r8d
-	cmpl	$8, %r8d
-	jae	.LBB23_16
-	cmpl	$3, %r8d
-	jbe	.LBB23_19
+	leaq	-68(%rdx), %r8
+	movq	%r8, 64(%rsp)
+	cmpq	$76, %rdx
+	jae	.LBB23_15
+	cmpq	$71, %rdx
+	jbe	.LBB23_18
 	movl	68(%rsi), %r9d
-	movl	64(%rsi,%r8), %r10d
-	negb	%dl
-	shlb	$3, %dl
-	shrxq	%rdx, %r10, %rdx
+	movl	-4(%rsi,%rdx), %edx
+	negb	%r8b
+	shlb	$3, %r8b
+	shrxq	%r8, %rdx, %rdx
 	shlq	$32, %rdx
 	orq	%r9, %rdx
-	jmp	.LBB23_20
+	jmp	.LBB23_24
 .LBB23_5:
 	.cfi_def_cfa_offset 8
 	xorl	%eax, %eax
 	retq
-.LBB23_16:
+.LBB23_15:
 	.cfi_def_cfa_offset 80
-	movl	%r8d, %edx
-	shrl	$3, %edx
-	cmpq	$15, %r8
-	jbe	.LBB23_21
-	leal	(,%rdx,8), %r10d
-	vmovups	52(%rsi,%r10), %xmm0
-	movq	%rsp, %r9
-	vmovups	%xmm0, -16(%r10,%r9)
-	vmovups	68(%rsi), %xmm0
-	vmovaps	%xmm0, (%rsp)
-	cmpl	$32, %r8d
-	jb	.LBB23_22
-	leal	(,%rdx,8), %r10d
-	vmovups	36(%rsi,%r10), %xmm0
-	vmovups	%xmm0, -32(%r10,%r9)
-	vmovups	84(%rsi), %xmm0
-	vmovaps	%xmm0, 16(%rsp)
-	jmp	.LBB23_22
-.LBB23_19:
-	movl	%r8d, %edx
-	shrl	%edx
-	movzbl	68(%rsi,%rdx), %r10d
-	shll	$8, %r10d
-	movzbl	67(%rsi,%r8), %r11d
-	shll	$16, %r11d
-	xorl	%edx, %edx
-	cmpq	$5, %r9
-	cmoveq	%rdx, %r10
-	cmpq	$7, %r9
-	cmovneq	%rdx, %r11
-	movzbl	68(%rsi), %edx
-	orq	%r10, %rdx
-	orq	%r11, %rdx
-.LBB23_20:
-	movq	%rdx, (%rsp)
-	jmp	.LBB23_23
-.LBB23_21:
 	movq	68(%rsi), %r9
 	movq	%r9, (%rsp)
+	leaq	-76(%rdx), %r9
+	cmpq	$91, %rdx
+	jbe	.LBB23_20
+	shrq	$3, %r9
+	vmovups	60(%rsi,%r9,8), %xmm0
+	vmovups	%xmm0, -8(%rsp,%r9,8)
+	vmovups	76(%rsi), %xmm0
+	vmovups	%xmm0, 8(%rsp)
+	cmpq	$108, %rdx
+	jb	.LBB23_22
+	vmovups	44(%rsi,%r9,8), %xmm0
+	vmovups	%xmm0, -24(%rsp,%r9,8)
+	leaq	32(%rsp), %r10
+	movq	92(%rsi), %r11
+	movq	100(%rsi), %r9
+	movq	%r11, 24(%rsp)
+	jmp	.LBB23_21
+.LBB23_18:
+	testq	%r8, %r8
+	je	.LBB23_23
+	movq	%r8, %r9
+	shrq	%r9
+	movzbl	68(%rsi,%r9), %r9d
+	shll	$8, %r9d
+	movzbl	-1(%rsi,%rdx), %r10d
+	shll	$16, %r10d
+	xorl	%edx, %edx
+	cmpq	$1, %r8
+	cmoveq	%rdx, %r9
+	cmpq	$3, %r8
+	cmovneq	%rdx, %r10
+	movzbl	68(%rsi), %edx
+	orq	%r9, %rdx
+	orq	%r10, %rdx
+	jmp	.LBB23_24
+.LBB23_20:
+	leaq	8(%rsp), %r10
+	cmpq	$8, %r9
+	movl	$8, %r11d
+	cmovbq	%r9, %r11
+	movq	68(%rsi,%r11), %r9
+.LBB23_21:
+	movq	%r9, (%r10)
 .LBB23_22:
 	movl	%r8d, %r9d
 	notl	%r9d
 	shll	$3, %r9d
-	shrxq	%r9, 60(%rsi,%r8), %r9
-	shrq	$8, %r9
-	movq	%r9, (%rsp,%rdx,8)
+	shrxq	%r9, -8(%rsi,%rdx), %rdx
+	andq	$-8, %r8
+	shrq	$8, %rdx
+	movq	%rdx, (%rsp,%r8)
+	jmp	.LBB23_25
 .LBB23_23:
-	movq	%r8, 64(%rsp)
+	xorl	%edx, %edx
 .LBB23_24:
+	movq	%rdx, (%rsp)
+.LBB23_25:
 	movq	52(%rsi), %rdx
 	movq	60(%rsi), %r8
 	movq	28(%rsi), %r9
@@ -2719,11 +2723,15 @@ komihash_v4_resume:
 	vbroadcastf128	36(%rsi), %ymm0
 	vxorps	12(%rsi), %xmm0, %xmm1
 	movq	64(%rsp), %rcx
-	vmovups	(%rsp), %ymm2
+	movq	(%rsp), %rsi
+	vmovups	8(%rsp), %xmm2
+	movq	24(%rsp), %r11
 	vmovups	32(%rsp), %ymm3
 	sete	136(%rdi)
 	cmpb	$1, %al
-	vmovups	%ymm2, (%rdi)
+	movq	%rsi, (%rdi)
+	vmovups	%xmm2, 8(%rdi)
+	movq	%r11, 24(%rdi)
 	vmovups	%ymm3, 32(%rdi)
 	movq	%rcx, 64(%rdi)
 	movq	%r9, 72(%rdi)
@@ -3728,81 +3736,85 @@ komihash_v5_resume:
 	vxorps	%xmm0, %xmm0, %xmm0
 	vmovups	%ymm0, 32(%rsp)
 	vmovups	%ymm0, (%rsp)
-	movq	$0, 64(%rsp)
-	movl	%edx, %r8d
-	andl	$63, %r8d
-	cmpq	$4, %r8
-	je	.LBB35_24
-	addq	$60, %rdx
-	movl	%edx, %ecx
-	andl	$63, %ecx
-	cmpl	$8, %ecx
-	jae	.LBB35_16
-	cmpl	$3, %ecx
-	jbe	.LBB35_19
+	leaq	-68(%rdx), %rcx
+	movq	%rcx, 64(%rsp)
+	cmpq	$76, %rdx
+	jae	.LBB35_15
+	cmpq	$71, %rdx
+	jbe	.LBB35_18
 	movl	68(%rsi), %r8d
-	movl	64(%rsi,%rcx), %r9d
-	negb	%dl
-	shlb	$3, %dl
-	shrxq	%rdx, %r9, %rdx
-	shlq	$32, %rdx
-	orq	%r8, %rdx
-	jmp	.LBB35_20
+	movl	-4(%rsi,%rdx), %edx
+	negb	%cl
+	shlb	$3, %cl
+	shrxq	%rcx, %rdx, %rcx
+	shlq	$32, %rcx
+	orq	%r8, %rcx
+	jmp	.LBB35_24
 .LBB35_5:
 	.cfi_def_cfa_offset 8
 	xorl	%eax, %eax
 	retq
-.LBB35_16:
+.LBB35_15:
 	.cfi_def_cfa_offset 80
-	movl	%ecx, %edx
-	shrl	$3, %edx
-	cmpq	$15, %rcx
-	jbe	.LBB35_21
-	leal	(,%rdx,8), %r9d
-	vmovups	52(%rsi,%r9), %xmm0
-	movq	%rsp, %r8
-	vmovups	%xmm0, -16(%r9,%r8)
-	vmovups	68(%rsi), %xmm0
-	vmovaps	%xmm0, (%rsp)
-	cmpl	$32, %ecx
-	jb	.LBB35_22
-	leal	(,%rdx,8), %r9d
-	vmovups	36(%rsi,%r9), %xmm0
-	vmovups	%xmm0, -32(%r9,%r8)
-	vmovups	84(%rsi), %xmm0
-	vmovaps	%xmm0, 16(%rsp)
-	jmp	.LBB35_22
-.LBB35_19:
-	movl	%ecx, %edx
-	shrl	%edx
-	movzbl	68(%rsi,%rdx), %r9d
-	shll	$8, %r9d
-	movzbl	67(%rsi,%rcx), %r10d
-	shll	$16, %r10d
-	xorl	%edx, %edx
-	cmpq	$5, %r8
-	cmoveq	%rdx, %r9
-	cmpq	$7, %r8
-	cmovneq	%rdx, %r10
-	movzbl	68(%rsi), %edx
-	orq	%r9, %rdx
-	orq	%r10, %rdx
-.LBB35_20:
-	movq	%rdx, (%rsp)
-	jmp	.LBB35_23
-.LBB35_21:
 	movq	68(%rsi), %r8
 	movq	%r8, (%rsp)
+	leaq	-76(%rdx), %r8
+	cmpq	$91, %rdx
+	jbe	.LBB35_20
+	shrq	$3, %r8
+	vmovups	60(%rsi,%r8,8), %xmm0
+	vmovups	%xmm0, -8(%rsp,%r8,8)
+	vmovups	76(%rsi), %xmm0
+	vmovups	%xmm0, 8(%rsp)
+	cmpq	$108, %rdx
+	jb	.LBB35_22
+	vmovups	44(%rsi,%r8,8), %xmm0
+	vmovups	%xmm0, -24(%rsp,%r8,8)
+	leaq	32(%rsp), %r9
+	movq	92(%rsi), %r10
+	movq	100(%rsi), %r8
+	movq	%r10, 24(%rsp)
+	jmp	.LBB35_21
+.LBB35_18:
+	testq	%rcx, %rcx
+	je	.LBB35_23
+	movq	%rcx, %r8
+	shrq	%r8
+	movzbl	68(%rsi,%r8), %r8d
+	shll	$8, %r8d
+	movzbl	-1(%rsi,%rdx), %edx
+	shll	$16, %edx
+	xorl	%r9d, %r9d
+	cmpq	$1, %rcx
+	cmoveq	%r9, %r8
+	cmpq	$3, %rcx
+	cmovneq	%r9, %rdx
+	movzbl	68(%rsi), %ecx
+	orq	%r8, %rcx
+	orq	%rdx, %rcx
+	jmp	.LBB35_24
+.LBB35_20:
+	leaq	8(%rsp), %r9
+	cmpq	$8, %r8
+	movl	$8, %r10d
+	cmovbq	%r8, %r10
+	movq	68(%rsi,%r10), %r8
+.LBB35_21:
+	movq	%r8, (%r9)
 .LBB35_22:
 	movl	%ecx, %r8d
 	notl	%r8d
 	shll	$3, %r8d
-	shrxq	%r8, 60(%rsi,%rcx), %r8
-	shrq	$8, %r8
-	movq	%r8, (%rsp,%rdx,8)
+	shrxq	%r8, -8(%rsi,%rdx), %rdx
+	andq	$-8, %rcx
+	shrq	$8, %rdx
+	movq	%rdx, (%rsp,%rcx)
+	jmp	.LBB35_25
 .LBB35_23:
-	movq	%rcx, 64(%rsp)
+	xorl	%ecx, %ecx
 .LBB35_24:
+	movq	%rcx, (%rsp)
+.LBB35_25:
 	movq	52(%rsi), %rcx
 	movq	60(%rsi), %rdx
 	movq	28(%rsi), %r8
@@ -3812,9 +3824,13 @@ komihash_v5_resume:
 	cmpb	$1, %al
 	vbroadcastf128	36(%rsi), %ymm0
 	vxorps	12(%rsi), %xmm0, %xmm1
-	vmovups	(%rsp), %ymm2
+	movq	(%rsp), %rax
+	vmovups	8(%rsp), %xmm2
+	movq	24(%rsp), %rsi
 	vmovups	32(%rsp), %ymm3
-	vmovups	%ymm2, (%rdi)
+	movq	%rax, (%rdi)
+	vmovups	%xmm2, 8(%rdi)
+	movq	%rsi, 24(%rdi)
 	vmovups	%ymm3, 32(%rdi)
 	movq	64(%rsp), %rax
 	movq	%rax, 64(%rdi)
