@@ -146,14 +146,6 @@ with_signals() {
     calls "$scratch/only/$soname" signals.c
 }
 
-# Whether programs keep their shadow call stack, which only ARM64 has, in calls of both versions.
-keeps_shadow_stack() {
-    for number in 4 5; do
-        compiler=$clang runs -O1 -fsanitize=shadow-call-stack -ffixed-x18 -D "VERSION=$number" \
-            -I "$prefix/include" tests/shadow.c "$archive" || return
-    done
-}
-
 # Whether gdb finds its way from each instruction of these versions in a library to main.
 unwinds() { # LIBRARY NUMBER..
     library=$1
@@ -390,9 +382,6 @@ if [ ! "$CROSS" ]; then
     needs gdb 'gdb finds main where the library has lines of source code' \
         unwinds "$ASSEMBLY/${machine%%-*}.S" 5
 fi
-case $machine in aarch64*)
-    needs clang 'programs with a shadow call stack' keeps_shadow_stack
-esac
 compiler=$CC
 [ "$from$system" != assemblyLinux ] || while read -r file; do
     case $file in *.a) continue ;; */x86-64-v3/*) grep -qw avx2 /proc/cpuinfo || continue ;; esac
