@@ -116,18 +116,6 @@ fn fills_are_outputs() {
     }
 }
 
-#[test]
-fn lists_of_calls() {
-    let message: Vec<u8> = (0..200).collect();
-    let calls =
-        [Call::Answer, Call::Absorb(&message[..70]), Call::Absorb(&message[70..71]), Call::Answer];
-    let mut out = [7; 5];
-    assert_eq!(run::<StreamedKomihash>(SEED, &calls, &mut out), 2);
-    assert_eq!(out[..2], [komihash(b"", SEED), komihash(&message[..71], SEED)]);
-    assert_eq!(out[2..], [7; 3]);
-    assert_eq!(StreamedKomihash::VERSION.to_string(), NUMBER);
-}
-
 /// Notes the bytes of each call, and answers how many there were.
 struct Recorder(Vec<String>);
 
@@ -169,37 +157,29 @@ fn each_call_of_a_list_is_made_once() {
 }
 
 #[test]
-fn lists_of_calls_on_one_stream() {
+fn lists_of_calls() {
     let message: Vec<u8> = (0..200).collect();
     let lengths = [0, 7, 64, 200, 1, 130];
     let calls = lengths.map(|it| [Call::Answer, Call::Absorb(&message[..it])]).concat();
-    let (mut stream, mut out) = (StreamedKomihash::start(SEED), [0; 12]);
+    let (mut stream, mut out) = (StreamedKomihash::start(SEED), [7; 13]);
     stream.absorb(&message[..64]);
     assert_eq!(run_on(&mut stream, &calls, &mut out), 6);
+    assert_eq!(out[6..], [7; 7]);
     let mut joined = message[..64].to_vec();
     for (answer, length) in out.iter().zip(lengths) {
         assert_eq!(*answer, komihash(&joined, SEED));
         joined.extend(&message[..length]);
     }
+    let all = [&[Call::Answer, Call::Absorb(&message[..64])], &calls[..]].concat();
+    let mut of_new = [7; 14];
+    assert_eq!(run::<StreamedKomihash>(SEED, &all, &mut of_new), 7);
+    assert_eq!((of_new[0], &of_new[1..]), (komihash(b"", SEED), &out[..]));
+    assert_eq!(StreamedKomihash::VERSION.to_string(), NUMBER);
     out.fill(7);
     assert_eq!(run_on(&mut stream, &[Call::Absorb(b"more")], &mut out), 0);
-    assert_eq!(out, [7; 12]);
+    assert_eq!(out, [7; 13]);
     joined.extend(b"more");
     assert_eq!(stream.answer(), komihash(&joined, SEED));
-}
-
-#[test]
-fn hashers_of_maps() {
-    let mut map = HashMap::<String, u64, BuildHasherDefault<KomiHasher>>::default();
-    map.extend((0..1000).map(|i| (i.to_string(), i)));
-    map.extend((0..1000).map(|i| (i.to_string(), 2 * i)));
-    assert!(map.len() == 1000 && (0..1000).all(|i| map[&i.to_string()] == 2 * i));
-    let (mut one, mut other) = (KomiHasher::new(1), KomiHasher::new(1));
-    (7u64, "port").hash(&mut one);
-    one.clone().write(b"more");
-    assert_eq!(one.clone().finish(), one.finish());
-    (7u64, "port").hash(&mut other);
-    assert_eq!(one.finish(), other.finish());
 }
 
 #[test]
