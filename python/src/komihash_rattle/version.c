@@ -157,13 +157,10 @@ static PyObject *digest(PyObject *self, PyObject *unused) {
 }
 
 static PyObject *hexdigest(PyObject *self, PyObject *unused) {
-    KOMIHASH(_stream) state = state_of(self);
-    char digits[17];
-    uint64_t hash = KOMIHASH(_finish)(&state);
-    for (int i = 0; i < 16; i++)
-        digits[i] = "0123456789abcdef"[hash >> (60 - 4 * i) & 15];
-    digits[16] = 0;
-    return PyUnicode_FromString(digits);
+    PyObject *bytes = digest(self, NULL);
+    PyObject *digits = bytes == NULL ? NULL : PyObject_CallMethod(bytes, "hex", NULL);
+    Py_XDECREF(bytes);
+    return digits;
 }
 
 static PyObject *save(PyObject *self, PyObject *unused) {
@@ -336,29 +333,21 @@ static PyType_Spec stream_type = {PACKAGE "komihash", sizeof(Stream), 0, TYPE, s
 static PyType_Spec generator_type = {PACKAGE "Komirand", sizeof(Generator), 0, TYPE,
                                      generator_slots};
 
-/* Adds a type to the module, and returns it. */
-static PyObject *add(PyObject *module, const char *name, PyType_Spec *spec) {
-    PyObject *type = PyType_FromSpec(spec);
-    if (type != NULL && PyObject_SetAttrString(module, name, type) != 0)
-        Py_CLEAR(type);
-    return type;
-}
-
-static int set(PyObject *type, const char *name, PyObject *value) {
-    int failed = type == NULL || value == NULL || PyObject_SetAttrString(type, name, value) != 0;
+/* Sets an attribute of the module or of a type to a new object, or fails if one is missing. */
+static int set(PyObject *of, const char *name, PyObject *value) {
+    int failed = of == NULL || value == NULL || PyObject_SetAttrString(of, name, value) != 0;
     Py_XDECREF(value);
     return failed;
 }
 
 static int fill_module(PyObject *module) {
-    PyObject *stream = add(module, "komihash", &stream_type);
-    PyObject *generator = add(module, "Komirand", &generator_type);
-    int failed = generator == NULL ||
-        set(stream, "name", PyUnicode_FromString("komihash_v" NAME_OF(VERSION))) ||
+    PyObject *stream = PyType_FromSpec(&stream_type);
+    int failed = set(stream, "name", PyUnicode_FromString("komihash_v" NAME_OF(VERSION))) ||
         set(stream, "digest_size", PyLong_FromLong(8)) ||
-        set(stream, "block_size", PyLong_FromLong(64));
+        set(stream, "block_size", PyLong_FromLong(64)) ||
+        PyObject_SetAttrString(module, "komihash", stream) != 0 ||
+        set(module, "Komirand", PyType_FromSpec(&generator_type));
     Py_XDECREF(stream);
-    Py_XDECREF(generator);
     return -failed;
 }
 
