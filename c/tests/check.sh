@@ -58,7 +58,6 @@ complete() {
         awk -v "kinds=$kinds" '$2 ~ kinds { print $1 }' | sort |
         diff "$scratch/declared" -
 }
-# Whether calls.c calls each function of the header.
 calls_each() {
     for number in 4 5; do
         $CC -I. -D "VERSION=$number" -c -o "$scratch/calls.o" tests/calls.c &&
@@ -139,7 +138,6 @@ beside_a_copy() {
         $CC -fsyntax-only -I "$prefix/include/komihash_rattle" "$scratch/copy/original.c"
 }
 
-# Calls both versions in a shared library, with a signal at each of its instructions.
 with_signals() {
     mkdir -p "$scratch/only" && cp "$1" "$scratch/only" || return
     LD_LIBRARY_PATH="$scratch/only$loaded"
@@ -330,11 +328,14 @@ run_case 'the numbers in the header are those of its version' test "$version" = 
 grep -o 'komihash_v[a-z0-9_]*(' komihash_rattle.h | tr -d '(' | sort > "$scratch/declared"
 run_case 'calls.c calls each function of the header' calls_each
 find "$prefix" -type f -name 'lib*' ! -name '*.dll' > "$scratch/libraries"
+values=$(rows 4 && rows 5) compiler=$CC
 while read -r file; do
     name=${file#"$prefix/"}
     run_case "$name has the functions of the header alone" complete "$file"
-    [ "$from$system" != assemblyLinux ] ||
-        run_case "$name is marked for IBT and SHSTK, or BTI" marked "$file"
+    [ "$from$system" = assemblyLinux ] || continue
+    run_case "$name is marked for IBT and SHSTK, or BTI" marked "$file"
+    case $file in *.a) continue ;; */x86-64-v3/*) grep -qw avx2 /proc/cpuinfo || continue ;; esac
+    run_case "$name with a signal at each instruction" prints "$values" with_signals "$file"
 done < "$scratch/libraries"
 run_case 'shared libraries are the same in whichever folder they are built' same_elsewhere
 
@@ -344,7 +345,6 @@ if [ "$system" = Windows ]; then
     run_case "$dll, by LoadLibrary" prints $hash opened_on_windows
     needs 'clang lld-link' 'calls for the ABI of MSVC, by clang' for_msvc
 fi
-values=$(rows 4 && rows 5)
 sed -n '/^```c$/,/^```$/{/^```/!p;}' README.md > "$scratch/example.c"
 for compiler in "$CC" ${clang:+"$clang"}; do
     tool=${compiler%% *} name=${compiler%% -Q*}
@@ -383,11 +383,6 @@ if [ ! "$CROSS" ]; then
         unwinds "$ASSEMBLY/${machine%%-*}.S" 5
 fi
 compiler=$CC
-[ "$from$system" != assemblyLinux ] || while read -r file; do
-    case $file in *.a) continue ;; */x86-64-v3/*) grep -qw avx2 /proc/cpuinfo || continue ;; esac
-    run_case "${file#"$prefix/"} with a signal at each instruction" \
-        prints "$values" with_signals "$file"
-done < "$scratch/libraries"
 for target in aarch64_be:big-endian x86_64-linux-gnux32:64-bit; do
     needs clang "the header refuses ${target%:*}, by one error" refused_header $target
 done
