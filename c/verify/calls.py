@@ -71,6 +71,7 @@ class Call:
 
     def begin(self, args):
         self.args = args
+        self.cpu.r.update(zip(self.cpu.ARGS, args))
         self.library.before(self)
         self.check_possible()
 
@@ -82,7 +83,8 @@ class Call:
     def run(self, *args):
         """Runs the call. Yields the processor at each return, at which all products are made."""
         self.begin(args)
-        for end in self.cpu.call(self.name, *args):
+        for end, _ in self.cpu.run(self.library.image.functions[self.name]):
+            end.check_return()
             self.check_products(end)
             yield end
 

@@ -8,6 +8,7 @@ the loop of a hash,
 - eight other words are the lanes, or two lanes xored: words of the world;
 - the stack pointer, and what the caller had in its registers, stay as they are: fixed terms.
 Beside forms, some conditions hold, as that a turn of the loop is left."""
+import collections
 from guesses import form_of
 from terms import join, part, put_for, sym, symbols, width_of
 
@@ -16,12 +17,9 @@ PLACES = [sym(f'place {k} of a world') for k in range(12)]
 COUNTS = frozenset().union(*map(symbols, PLACES))
 
 
-class World:
+class World(collections.namedtuple('World', 'words units base length')):
     """What the definition says at an arrival: its words, how many units of bytes were taken, where
     the bytes begin, and how many there are."""
-
-    def __init__(self, words, units, base, length):
-        self.words, self.units, self.base, self.length = words, units, base, length
 
     def value(self, form):
         """The term that a form is in this world."""

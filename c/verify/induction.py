@@ -97,7 +97,6 @@ class Induction:
         """A call before its first instruction. With `sure`, only those that are accepted."""
         self.units = bv(0)
         args, cpu = self.at_start(least, *self.case, **more), self.call.cpu
-        cpu.r.update(zip(cpu.ARGS, args))
         if sure:
             cpu.facts.add(self.accepted())
         self.call.begin(args)

@@ -98,14 +98,6 @@ class Cpu:
 
     # Calls and paths
 
-    def call(self, name, *args):
-        """Runs a function; yields the state at each return."""
-        for register, value in zip(self.ARGS, args):
-            self.r[register] = value
-        for cpu, _ in self.run(self.image.functions[name]):
-            cpu.check_return()
-            yield cpu
-
     def check_return(self):
         for register in self.SAVED:
             if not z3.eq(self.r[register], self.before[register]):
