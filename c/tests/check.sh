@@ -397,8 +397,6 @@ if tar --version | grep GNU > "$scratch/case"; then
 else
     skip 'the package, and CMake with it' 'GNU tar'
 fi
-needs cmake 'komihashsum, by CMake, with the installed library' \
-    prints "$hash_of_a" by_cmake examples -D "CMAKE_PREFIX_PATH=$prefix"
 needs cmake 'a library that CMake exports, with the static one' exported_by_cmake
 needs cmake 'what CMake may ask for, and the static library' requested \
     1:1 1.0:1 "$version:1" "$version,EXACT:1" 1.0...2:1 '1...<2:1' "0.9...$version:1" \

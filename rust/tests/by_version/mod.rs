@@ -5,7 +5,6 @@ use crate::by_name::{bytes, calls, hexadecimal, number, row, word};
 use crate::version::*;
 use crate::{NUMBER, SUM};
 use komihash_rattle::stream::{Call, KomiStream, LONGEST_TEXT, run, run_on};
-use std::collections::HashMap;
 use std::hash::{BuildHasher, BuildHasherDefault, Hash, Hasher};
 use std::panic::{AssertUnwindSafe, catch_unwind, set_hook, take_hook};
 use std::sync::{Mutex, PoisonError};
@@ -202,11 +201,7 @@ fn hashers_of_a_seed() {
     assert_eq!(hasher.finish(), komihash(b"port", SEED));
     let defaults = (KomiHasher::default(), KomiBuildHasher::default().build_hasher());
     assert_eq!((defaults.0.finish(), defaults.1.finish()), (0, 0));
-    let mut map = HashMap::with_hasher(build);
-    map.insert("port", 443);
-    assert_eq!((map["port"], map.get("host")), (443, None));
-    assert_eq!(map.clone()["port"], 443);
-    let hash = map.hasher().hash_one((9_u64, 8_u16));
+    let hash = build.hash_one((9_u64, 8_u16));
     assert_eq!(hash, komihash(&8_u16.to_ne_bytes(), build.hash_one(9_u64)));
     assert_eq!(build.hash_one(9_u64), komihash(&9_u64.to_ne_bytes(), SEED));
 }
