@@ -2,7 +2,7 @@
 -- buffer, in two parts.
 use Rattle.std.proofs.Common.{◌≡◌, ℕ, zero, suc, ◌+◌, ◌-◌, ◌*◌, ◌%◌, ◌<◌, ◌≤◌, [], ◌∷◌, ◌++◌}
 use Rattle.std.proofs.Common.{length, refl, ap, sym, arith, ◌∙◌, zero-add, suc-add, w64}
-use Rattle.std.proofs.Common.{slice_index, bit_xor, Bool, true, false, ◌==◌, ◌^◌, if◌then◌else◌}
+use Rattle.std.proofs.Common.{slice_index, ◌^◌}
 use Rattle.std.proofs.lemmas.List.{append-nil}
 use Rattle.std.proofs.lemmas.Nat.{xor_lt}
 use Rattle.std.proofs.lemmas.List.Concat.{flat_map-append}
@@ -10,7 +10,6 @@ use Rattle.std.specs.Int.{to_le_bytes}
 use Rattle.std.specs.List.{flat_map}
 use Rattle.std.proofs.lemmas.Grind.{elements}
 use Rattle.komihash.specs.Generator.{next, after_steps, outputs, fill_steps, fill, after_fill}
-use Rattle.komihash.specs.Rounds.{low, high, plus}
 use Rattle.komihash.specs.Words.{all_bytes}
 use Rattle.komihash.proofs.AllBytes.{length-all_bytes}
 
@@ -71,10 +70,6 @@ pub outputs-next : (v k n : ℕ) (s now : ℕ × ℕ) → k < n → now ≡ afte
 unfolding after_steps
 outputs-next v k n s now lt is = grind (arith, outputs-at, after_steps-add v k 1 s, length-outputs)
 
-length-outputs_bytes : (v n : ℕ) (s : ℕ × ℕ) → length (all_bytes (outputs v n s)) ≡ 8 * n
-length-outputs_bytes v n s =
-    length-all_bytes (outputs v n s) ∙ ap (λ k. 8 * k) (length-outputs v n s)
-
 -- ---- fills in two parts, the first of whole words
 
 pub after_fill-add : (v x y : ℕ) (s : ℕ × ℕ) → x % 8 ≡ 0
@@ -84,7 +79,7 @@ after_fill-add v x y s whole = grind (arith, after_steps-add v (fill_steps x) (f
 -- a fill of whole words is the bytes of as many outputs
 pub fill-whole : (v n : ℕ) (s : ℕ × ℕ)
     → fill v s (8 * n) ≡ flat_map (λ output. to_le_bytes w64 output) (outputs v n s)
-fill-whole v n s = grind (arith, elements, length-outputs_bytes)
+fill-whole v n s = grind (arith, elements, length-all_bytes, length-outputs)
 
 -- the reverse, for goals that begin with outputs
 pub outputs-whole : (v n : ℕ) (s : ℕ × ℕ) → all_bytes (outputs v n s) ≡ fill v s (8 * n)
@@ -98,21 +93,14 @@ pub fill-add : (v x y : ℕ) (s : ℕ × ℕ) → x % 8 ≡ 0
     → fill v s x ++ fill v (after_fill v s x) y ≡ fill v s (x + y)
 fill-add v x y s whole =
     let more = outputs-add v (fill_steps x) (fill_steps y) s in
-    grind (arith, elements, length-outputs_bytes, more, flat_map-append)
+    grind (arith, elements, length-all_bytes, length-outputs, more, flat_map-append)
 
 -- ---- one output, whose form depends on the version
-
-if-lt : (b : Bool) (x y n : ℕ) → x < n → y < n → (if b then x else y) < n
-if-lt true x y n p q = p
-if-lt false x y n p q = q
 
 pub next-lt : (v : ℕ) (s : ℕ × ℕ) → (next v s).0 < 2 ^ 64
 unfolding next
 next-lt v s =
-    let p : ℕ = s.0 * s.1 in
-    let second : ℕ = plus (plus s.1 (high p)) 0xaaaaaaaaaaaaaaaa in
-    if-lt (v == 4) (bit_xor (low p) second) (plus (bit_xor (low p) (high p)) 0x5555555555555555)
-    (2 ^ 64) (xor_lt 64 (low p) second (omega arith) (omega arith)) (omega arith)
+    grind (arith, xor_lt 64)
 
 pub fill-one : (v : ℕ) (s : ℕ × ℕ) → fill v s 8 ≡ to_le_bytes w64 (next v s).0
 unfolding outputs

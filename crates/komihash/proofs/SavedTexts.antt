@@ -90,12 +90,6 @@ pub record IsLaidOut (v : ℕ) (bytes : List ℕ) : Type 0 where
   pub head : IsHead v bytes
   pub size : length bytes ≡ pending_at + slice_index bytes 3
 
--- the first four items of a list
-four : (xs : List ℕ) → 4 ≤ length xs → xs
-    ≡ slice_index xs 0 ∷ slice_index xs 1 ∷ slice_index xs 2 ∷ slice_index xs 3 ∷ drop 4 xs
-four (a ∷ b ∷ c ∷ d ∷ xs) le = refl
-four xs le = absurd (omega arith)
-
 -- bytes that are laid out so are the text of the state that is read from them
 module _ (v : ℕ) (bytes : List ℕ) (are : AreBytes bytes) (laid : IsLaidOut v bytes) where
   abbrev lanes : List ℕ

@@ -3,7 +3,7 @@
 use Rattle.std.proofs.Common.{◌≡◌, ℕ, zero, suc, ◌+◌, ◌-◌, ◌*◌, ◌/◌, ◌%◌, ◌^◌, ◌<◌, ◌≤◌, List, []}
 use Rattle.std.proofs.Common.{◌∷◌, ◌++◌, length, take, drop, get_or, replicate, refl, arith}
 use Rattle.std.proofs.Common.{w64, pow_mono, drop-drop, drop_at, length-append}
-use Rattle.std.proofs.Common.{length-drop, length-take-le, take-append-drop, take_all, pow-add}
+use Rattle.std.proofs.Common.{length-drop, take-append-drop, take_all, pow-add}
 use Rattle.std.proofs.Common.{slice_index, Fits}
 use Rattle.std.proofs.lemmas.Grind.{elements}
 use Rattle.std.proofs.lemmas.List.{length-replicate, get_or_past}
@@ -104,9 +104,6 @@ module _ (v : ℕ) (ws : List ℕ) (fit : (k : ℕ) → Fits w64 (get_or ws k 0)
 
     abbrev message : List ℕ
     message = take size (all_bytes ws)
-
-    length-message : length message ≡ size
-    length-message = length-take-le size (all_bytes ws) (omega (arith, length-all_bytes ws))
 
     split : all_bytes ws ≡ message ++ last / 2 ^ (8 * r) ∷ replicate (7 - length message % 8) 0
     split =
