@@ -3,8 +3,7 @@
 use Rattle.std.proofs.Common.{◌≡◌, ℕ, zero, suc, ◌+◌, ◌*◌, ◌/◌, ◌%◌, ◌<◌, ◌≤◌, List, [], ◌∷◌}
 use Rattle.std.proofs.Common.{length, take, drop, get_or, set, refl, ap, arith, ◌∙◌, sym, take-add}
 use Rattle.std.proofs.Common.{w64}
-use Rattle.std.proofs.lemmas.List.{drop-drop}
-use Rattle.std.proofs.lemmas.List.{take-append-le}
+use Rattle.std.proofs.lemmas.List.{drop-drop, take-append-le}
 use Rattle.std.proofs.lemmas.Slice.{take-put_mid, drop-put_mid}
 use Rattle.std.proofs.Math.Nat.{div-div-eq-div-mul}
 use Rattle.std.specs.Hash.{le_bytes}
@@ -72,13 +71,10 @@ pub ruleset written = (
 -- a word's first digits are the bytes that it was made of
 digits-word_of : (n : ℕ) (xs : List ℕ) → AreBytes xs
     → take (length xs) (digits_l 256 n (word_of (take n xs))) ≡ take n xs
-digits-word_of zero [] are = refl
-digits-word_of zero (x ∷ xs) are = refl
+digits-word_of zero xs are = grind (arith, elements)
 digits-word_of (suc n) [] are = refl
 digits-word_of (suc n) (x ∷ xs) are =
-    let low : (x + 256 * word_of (take n xs)) % 256 ≡ x = omega (arith, are 0) in
-    let high : (x + 256 * word_of (take n xs)) / 256 ≡ word_of (take n xs) = omega (arith, are 0) in
-    rw (low, high) (ap (λ bs. x ∷ bs) (digits-word_of n xs (λ k. are (suc k))))
+    grind (arith, are 0, digits-word_of n xs (λ k. are (suc k)))
 
 take-word_of : (xs : List ℕ) → AreBytes xs
     → take (length xs) (to_le_bytes w64 (word_of (take 8 xs))) ≡ take 8 xs
@@ -93,8 +89,7 @@ bytes-packed_words zero [] are le = refl
 bytes-packed_words zero (x ∷ xs) are le = absurd (omega arith)
 bytes-packed_words (suc n) xs are le =
     let others = bytes-packed_words n (drop 8 xs) (AreBytes-drop 8 xs are) in
-    let word = take-word_of xs are in
-    grind (arith, others, word)
+    grind (arith, others, take-word_of xs are)
 
 pub all_bytes-whole_words : (xs : List ℕ) → AreBytes xs → length xs % 8 ≡ 0
     → all_bytes (whole_words xs) ≡ xs

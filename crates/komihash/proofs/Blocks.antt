@@ -54,16 +54,9 @@ pub completed : (v : ℕ) (l : Lanes) (xs bytes : List ℕ) (k : ℕ) → length
 completed v l xs bytes k full enough =
     let block = xs ++ take k bytes in
     let cut : xs ++ bytes ≡ block ++ drop k bytes = rw (append_assoc, take-append-drop) refl in
-    grind (
-      arith,
-      elements,
-      cut,
-      whole_words-append block (drop k bytes) 8,
-      block_lanes-round,
-      after_blocks-more,
-      length-whole_words,
-      drop_at block (drop k bytes) 64,
-    )
+    let all = whole_words-append block (drop k bytes) 8 in
+    let end = drop_at block (drop k bytes) 64 in
+    grind (arith, elements, cut, all, end, block_lanes-round, after_blocks-more, length-whole_words)
 
 -- of a message, the first block is absorbed first
 pub block_lanes-more : (v : ℕ) (l : Lanes) (xs : List ℕ) → 64 ≤ length xs

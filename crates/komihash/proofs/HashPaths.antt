@@ -99,8 +99,7 @@ module _ (v seed : ℕ) (m : List ℕ) where
       → komi v seed m ≡ closing pair (word_of (take 8 m) ∷ final ∷ [])
   unfolding packed_words
   komi-one_word le lt =
-      let count : length m / 8 ≡ 1 = omega arith in
-      rw (komi-few_nonempty (omega arith) (omega arith), count) refl
+      let count : length m / 8 ≡ 1 = omega arith in grind (arith, komi-few_nonempty)
 
   -- for `hash_of_16_bytes`, and for the test `zero_and_more`
   pub komi-two_words : 16 ≤ length m → length m < 24
@@ -108,8 +107,7 @@ module _ (v seed : ℕ) (m : List ℕ) where
       ≡ closing (pair_round pair (word_of (take 8 m)) (word_of (take 8 (drop 8 m)))) (final ∷ [])
   unfolding packed_words
   komi-two_words le lt =
-      let count : length m / 8 ≡ 2 = omega arith in
-      rw (komi-few_nonempty (omega arith) (omega arith), count) refl
+      let count : length m / 8 ≡ 2 = omega arith in grind (arith, komi-few_nonempty, drop-drop)
 
 -- for `hash_of_blocks`, where no whole word is left
 pub komi-blocks : (v seed : ℕ) (m : List ℕ) → 64 ≤ length m → length m % 64 < 8

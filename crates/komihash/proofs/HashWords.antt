@@ -19,15 +19,12 @@ pub AreWords-seed_pair : (seed : ℕ) → AreWords (in_order (lanes (seed_pair s
 unfolding mix
 AreWords-seed_pair seed = search (arith, xor_lt 64, mixed-lt)
 
-AreWords-block : (v : ℕ) (s : Lanes) (ws : List ℕ) → AreWords (in_order (block_round v s ws))
-unfolding block_round_by
-AreWords-block v s ws = search (arith, mixed-lt)
-
 pub AreWords-block_lanes : (v : ℕ) (s : Lanes) (ws : List ℕ) → AreWords (in_order s)
     → AreWords (in_order (block_lanes v s ws))
+unfolding block_round_by
 AreWords-block_lanes v s (w0 ∷ w1 ∷ w2 ∷ w3 ∷ w4 ∷ w5 ∷ w6 ∷ w7 ∷ ws) words =
     AreWords-block_lanes v (block_round v s (w0 ∷ w1 ∷ w2 ∷ w3 ∷ w4 ∷ w5 ∷ w6 ∷ w7 ∷ [])) ws
-    (AreWords-block v s _)
+    (search (arith, mixed-lt))
 AreWords-block_lanes v s ws words = words
 
 -- ---- hashes

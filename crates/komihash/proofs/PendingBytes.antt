@@ -2,15 +2,14 @@
 use Rattle.std.proofs.Common.{◌≡◌, ℕ, ◌+◌, ◌*◌, ◌<◌, ◌≤◌, List, [], ◌∷◌, ◌++◌, Fits, length, take}
 use Rattle.std.proofs.Common.{drop, get_or, set, refl, ap, arith, ◌∙◌, w8, ◌-◌, ◌/◌, ◌%◌, ◌^◌}
 use Rattle.std.proofs.Common.{length-append, length-drop, length-take, take_all, shr-shr}
-use Rattle.std.proofs.Common.{append_assoc, take-append-drop, bit_or}
+use Rattle.std.proofs.Common.{append_assoc, take-append-drop, bit_or, slice_index}
 use Rattle.std.proofs.lemmas.Grind.{elements}
 use Rattle.std.proofs.lemmas.List.{drop_all, drop-append-le}
 use Rattle.std.proofs.Math.Seq.{drop-append-add}
-use Rattle.std.specs.Prelude.{slice_index}
 use Rattle.std.specs.Simd.{first_chunks}
 use borrow.Rule.Slice.PartMut.{put_mid}
-use Rattle.komihash.specs.Internals.{packed_words, pending_bytes, ArePending, PacksBut}
-use Rattle.komihash.specs.Internals.{whole_words, packed_word, chunk_word}
+use Rattle.komihash.specs.Internals.{packed_words, pending_bytes, ArePending, PacksBut, whole_words}
+use Rattle.komihash.specs.Internals.{packed_word, chunk_word}
 use Rattle.komihash.specs.Words.{AreBytes, word_of}
 use Rattle.komihash.proofs.AllBytes.{AreBytes-all_bytes, bytes-packed_words}
 use Rattle.komihash.proofs.WholeWords.{length-packed_words, get_or-packed_words, read_words}
@@ -49,8 +48,7 @@ pub packed_words-last : (xs bytes : List ℕ) {ws : List ℕ} {end : ℕ}
     ≡ packed_words 8 (xs ++ bytes)
 packed_words-last xs bytes {ws} {end} but typed (sum, least, few) =
     let from = length bytes - end % 8 in
-    let are = AreBytes-typed bytes typed in
-    let last = word_of-last 8 from (56 - 8 * (end % 8) + 8) bytes are in
+    let last = word_of-last 8 from (56 - 8 * (end % 8) + 8) bytes (AreBytes-typed bytes typed) in
     let left = take_all 8 (drop from bytes) (omega (arith, length-drop from bytes)) in
     PacksBut-all (PacksBut-put but (end / 8) (end / 8 + 1) _ (omega arith)
     (λ _. rw shr-shr (grind (arith, last, packed_word-after xs bytes, left)))) (omega arith)
@@ -102,12 +100,9 @@ module _ {ws : List ℕ} {len : ℕ} (are : ArePending ws len) where
         → new ≡ whole_words (pending ++ take (64 - len) bytes)
     unfolding packed_words
     whole_words-put full =
-        let front = take (64 - len) bytes in
-        let rest = drop (64 - len) bytes in
-        let cut : pending ++ bytes ≡ (pending ++ front) ++ rest =
-        rw (append_assoc, take-append-drop) refl in
-        let front_words = packed_words-append 8 0 (pending ++ front) rest in
-        grind (arith, length-append {A = ℕ}, length-take {A = ℕ}, front_words)
+        let front = pending ++ take (64 - len) bytes in
+        let words = packed_words-append 8 0 front (drop (64 - len) bytes) in
+        grind (arith, append_assoc, take-append-drop, length-append, length-take, words)
 
   -- the word at index i is the one of the pending bytes there
   pub get_or-pending : (i : ℕ) → i < 8 → get_or ws i 0 ≡ packed_word pending i
@@ -143,9 +138,8 @@ module _ {ws : List ℕ} {len : ℕ} (are : ArePending ws len) where
       ≡ packed_word (pending ++ bytes) (len / 8)
   packed_word-partial bytes typed =
       let these = AreBytes-take 8 bytes typed in
-      let word =
-      word_of-join (take 8 partial) (take 8 bytes) (len % 8) (AreBytes-word (len / 8)) these in
-      grind (arith, get_or-pending (len / 8), length-partial, drop-append-le)
+      let word = word_of-join (take 8 partial) (take 8 bytes) (len % 8) (AreBytes-word (len / 8)) in
+      grind (arith, word, get_or-pending (len / 8), length-partial, drop-append-le)
 
   -- with that word stored, only words after it are missing, and none that stays 0
   pub PacksBut-partial : (bytes : List ℕ) (word gap_end : ℕ) → AreBytes bytes

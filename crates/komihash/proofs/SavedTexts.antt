@@ -1,8 +1,8 @@
 -- Saved texts: how their parts are put together, how the state is read back from one, which bytes
 -- are one, and what the calls that save and resume say.
 use Rattle.std.proofs.Common.{◌≡◌, ℕ, ◌+◌, ◌-◌, ◌/◌, ◌≤◌, ◌↔◌, List, [], ◌∷◌, ◌++◌, length, take}
-use Rattle.std.proofs.Common.{drop, get_or, refl, arith, Fits, w8, Some, length-drop}
-use Rattle.std.proofs.Common.{length-take-le, take-append-drop, slice_index, ◌==◌}
+use Rattle.std.proofs.Common.{drop, get_or, refl, arith, Fits, w8, Some, length-drop, length-take}
+use Rattle.std.proofs.Common.{take-append-drop, slice_index, ◌==◌}
 use Rattle.std.proofs.lemmas.Slice.{take-put_mid, drop-put_mid}
 use borrow.Rule.Slice.PartMut.{put_mid}
 use Rattle.std.proofs.lemmas.Grind.{elements}
@@ -96,22 +96,19 @@ module _ (v : ℕ) (bytes : List ℕ) (are : AreBytes bytes) (laid : IsLaidOut v
   lanes = take 64 (drop lanes_at bytes)
 
   length-lanes : length lanes ≡ 64
-  length-lanes =
-      length-take-le 64 (drop lanes_at bytes) (omega (arith, laid.size, length-drop lanes_at bytes))
+  length-lanes = omega (arith, laid.size, length-drop {A = ℕ}, length-take {A = ℕ})
 
   AreBytes-lanes : AreBytes lanes
   AreBytes-lanes = AreBytes-take 64 (drop lanes_at bytes) (AreBytes-drop lanes_at bytes are)
 
   lanes-back : in_order (lanes_from (whole_words lanes)) ≡ whole_words lanes
-  lanes-back =
-      in_order-back (whole_words lanes) (omega (arith, length-whole_words lanes, length-lanes))
+  lanes-back = grind (arith, in_order-back, length-whole_words, length-lanes)
 
   laid_out-text : text v (state_of bytes) ≡ bytes
   unfolding text
   laid_out-text =
       let words = all_bytes-whole_words lanes AreBytes-lanes (omega (arith, length-lanes)) in
-      let whole = take-append-drop 64 (drop lanes_at bytes) in
-      grind (arith, laid.size, lanes-back)
+      grind (arith, laid.size, lanes-back, take-append-drop 64 (drop lanes_at bytes))
 
   laid_out-state : IsState v (state_of bytes)
   laid_out-state =
@@ -119,16 +116,12 @@ module _ (v : ℕ) (bytes : List ℕ) (are : AreBytes bytes) (laid : IsLaidOut v
       let size = length-drop pending_at bytes in
       grind (arith, words, AreBytes-drop pending_at bytes are, lanes-back, size)
 
--- the text of a state is laid out as `IsLaidOut` says
-text-laid_out : (v : ℕ) (s : State) → IsState v s → IsLaidOut v (text v s)
-unfolding text
-text-laid_out v s is = grind (arith)
-
 pub IsLaidOut-text : (v : ℕ) (bytes : List ℕ) → ((k : ℕ) → Fits w8 (get_or bytes k 0))
     → IsLaidOut v bytes ↔ IsText v bytes
+unfolding text
 IsLaidOut-text v bytes typed =
     let are = AreBytes-typed bytes typed in
-    grind (arith, laid_out-state v bytes are, laid_out-text v bytes are, text-laid_out v)
+    grind (arith, laid_out-state v bytes are, laid_out-text v bytes are)
 
 -- ---- what the calls say
 

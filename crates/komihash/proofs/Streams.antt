@@ -94,8 +94,7 @@ IsState-start v seed = grind (arith, AreWords-seed_pair)
 pub IsState-absorb : (v : ℕ) (s : State) (bytes : List ℕ) → IsState v s → AreBytes bytes
     → IsState v (absorb v s bytes)
 IsState-absorb v s bytes is are =
-    let all = s.pending ++ bytes in
-    let words = AreWords-block_lanes v s.lanes (whole_words all) is.words in
+    let words = AreWords-block_lanes v s.lanes (whole_words (s.pending ++ bytes)) is.words in
     grind (arith, AreBytes-append, AreBytes-drop, words, absorb-blocks, length-after_blocks)
 
 -- what the proof of a write needs
@@ -136,16 +135,12 @@ tail_end-drop : (v n : ℕ) (m : List ℕ) → 0 < n → n ≤ length m
 tail_end-drop v n m some le =
     grind (arith, length-drop, tail_end-pending, get_or-drop)
 
--- the tail of a stream that has had no block ends with the padding byte of its message, or 0
-tail_end-start : (v : ℕ) (m : List ℕ) → tail_end v m false false ≡ padding_or_zero v m
-tail_end-start v m = grind arith
-
 -- the answer of a new stream that absorbed a message is the message's hash
 pub answer-joined : (v seed : ℕ) (m : List ℕ) → answer v (absorb v (start seed) m) ≡ komi v seed m
 answer-joined v seed m =
     elim (cases_lt (length m) 64) [
       | inl lt ↦
-          let end = tail_end-start v m in
+          let end : tail_end v m false false ≡ padding_or_zero v m = grind arith in
           let hash = komi-few v seed m lt in
           rw (absorb-few v (start seed) m (omega arith))
           (answer-by_pair v (record (start seed) { pending = m }) ∙ cc)

@@ -1,10 +1,9 @@
 -- Padded words read back. Their bytes are the message, the byte that ends it, which is 0 only if
 -- the message is empty, and zeros. So the padding byte is the last byte that is not 0.
 use Rattle.std.proofs.Common.{◌≡◌, ℕ, zero, suc, ◌+◌, ◌-◌, ◌*◌, ◌/◌, ◌%◌, ◌^◌, ◌<◌, ◌≤◌, List, []}
-use Rattle.std.proofs.Common.{◌∷◌, ◌++◌, length, take, drop, get_or, replicate, refl, arith}
-use Rattle.std.proofs.Common.{w64, pow_mono, drop-drop, drop_at, length-append}
-use Rattle.std.proofs.Common.{length-drop, take-append-drop, take_all, pow-add}
-use Rattle.std.proofs.Common.{slice_index, Fits}
+use Rattle.std.proofs.Common.{◌∷◌, ◌++◌, length, take, drop, get_or, replicate, refl, arith, w64}
+use Rattle.std.proofs.Common.{pow_mono, drop-drop, drop_at, length-append, length-drop}
+use Rattle.std.proofs.Common.{take-append-drop, take_all, pow-add, slice_index, Fits}
 use Rattle.std.proofs.lemmas.Grind.{elements}
 use Rattle.std.proofs.lemmas.List.{length-replicate, get_or_past}
 use Rattle.std.proofs.lemmas.Simd.{Each1-from_get_or}
@@ -56,10 +55,9 @@ bytes_of_padded : (v : ℕ) (m : List ℕ) {ws : List ℕ} → AreBytes m → pa
 bytes_of_padded v [] are is = grind arith
 bytes_of_padded v (b ∷ m) are is =
     let xs = b ∷ m in
-    let zeros : List ℕ = replicate (7 - length xs % 8) 0 in
-    let end = padding_byte v xs in
-    let padded = AreBytes-append xs (end ∷ zeros) are (AreBytes-end end _ (grind arith)) in
-    grind (arith, elements, words_of-whole, all_bytes-whole_words (padded_bytes v xs) padded)
+    let end = AreBytes-end (padding_byte v xs) (7 - length xs % 8) (grind arith) in
+    let padded = all_bytes-whole_words (padded_bytes v xs) (AreBytes-append xs _ are end) in
+    grind (arith, elements, words_of-whole, padded)
 
 -- no two messages share their padded words
 pub padded_words-same : (v : ℕ) (x y : List ℕ) → AreBytes x → AreBytes y
@@ -89,12 +87,8 @@ module _ (v : ℕ) (ws : List ℕ) (fit : (k : ℕ) → Fits w64 (get_or ws k 0)
   ArePadded-zero (m, are, is) none =
       let n = length m in
       let bytes = bytes_of_padded v m are is in
-      let count : length ws ≡ n / 8 + 1 = grind (
-        arith,
-        length-append m ((padding_or_zero v m) ∷ (replicate (7 - n % 8) 0)),
-        length-replicate {A = ℕ},
-        length-all_bytes ws,
-      ) in
+      let count : length ws ≡ n / 8 + 1 =
+      grind (arith, length-append {A = ℕ}, length-replicate {A = ℕ}, length-all_bytes ws) in
       grind (arith, bytes, drop_at, word_from (n % 8))
 
   -- the message that would end below index r of the last word
@@ -107,14 +101,9 @@ module _ (v : ℕ) (ws : List ℕ) (fit : (k : ℕ) → Fits w64 (get_or ws k 0)
 
     split : all_bytes ws ≡ message ++ last / 2 ^ (8 * r) ∷ replicate (7 - length message % 8) 0
     split =
-        grind (
-          arith,
-          elements,
-          word_of-byte (drop size (all_bytes ws)) (7 - r),
-          word_from r some,
-          length-all_bytes ws,
-          take-append-drop size (all_bytes ws),
-        )
+        let byte = word_of-byte (drop size (all_bytes ws)) (7 - r) in
+        let cut = take-append-drop size (all_bytes ws) in
+        grind (arith, elements, byte, cut, word_from r some, length-all_bytes ws)
 
     -- if the highest byte is the padding byte of what stands before it, that is the message
     pub unpadded : 0 < size → last / 2 ^ (8 * r) ≡ padding_byte v message
@@ -126,9 +115,7 @@ module _ (v : ℕ) (ws : List ℕ) (fit : (k : ℕ) → Fits w64 (get_or ws k 0)
     -- if there is a message, it can end nowhere else
     pub one_place : ArePadded v ws → (0 < size) × (last / 2 ^ (8 * r) ≡ padding_byte v message)
     one_place (m, are, is) =
-        let ends = same_end message m _ _ (7 - length message % 8) (7 - length m % 8) in
-        let same = ends (λ _. is_highest.some) (λ some. (padding_or_zero-some v m some).1) in
-        grind (arith, same, split, bytes_of_padded v m are is)
+        grind (arith, same_end message m, split, padding_or_zero-some, bytes_of_padded v m are is)
 
 -- ---- what the code finds
 

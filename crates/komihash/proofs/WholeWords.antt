@@ -15,8 +15,7 @@ unfolding packed_words
 get_or-packed_words zero i xs lt = absurd (omega arith)
 get_or-packed_words (suc n) zero xs lt = refl
 get_or-packed_words (suc n) (suc i) xs lt =
-    let next : 8 + 8 * i ≡ 8 * suc i = omega arith in
-    rw (get_or-packed_words n i (drop 8 xs) (omega arith), drop-drop (8 * i) 8 xs, next) refl
+    grind (arith, drop-drop (8 * i) 8 xs, get_or-packed_words n i (drop 8 xs))
 
 pub length-packed_words : (n : ℕ) (xs : List ℕ) → length (packed_words n xs) ≡ n
 unfolding packed_words

@@ -78,8 +78,7 @@ pub word_of-join : (xs ys : List ℕ) (n : ℕ) → AreBytes xs → AreBytes ys 
     → bit_or (word_of xs) (word_of ys * 2 ^ (8 * n) % 2 ^ 64) ≡ word_of (xs ++ take (8 - n) ys)
 word_of-join xs ys n h g size le =
     let fit = shl_mod (word_of ys) (8 * n) (8 * (8 - n)) in
-    let below = word_of-take-lt n xs h in
-    grind (arith, elements, fit, below, word_of-take, word_of-append, or_shifted_r)
+    grind (arith, elements, fit, word_of-take-lt n xs h, word_of-take, word_of-append, or_shifted_r)
 
 -- a shift to the left and `|` set one byte after others
 pub word_of-push : (xs : List ℕ) (n b : ℕ) → AreBytes xs → length xs ≡ n → n < 8 → b < 256

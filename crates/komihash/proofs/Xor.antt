@@ -1,8 +1,7 @@
 -- Laws of xor: orders of words, words that cancel, and two masks.
-use Rattle.std.proofs.Common.{◌≡◌, ℕ, ◌+◌, ◌^◌, ◌<◌, ap, ◌∙◌, sym, arith, lit<}
-use Rattle.std.proofs.Math.Nat.{mul_comm}
+use Rattle.std.proofs.Common.{◌≡◌, ℕ, ◌+◌, ◌^◌, ◌<◌, ap, ◌∙◌, sym, arith, lit<, mul_comm, bit_xor}
+use Rattle.std.proofs.Common.{bit_and}
 use Rattle.std.proofs.lemmas.Nat.{and_comm, and_assoc, and-not}
-use Rattle.std.specs.Prelude.{bit_xor, bit_and}
 use Rattle.komihash.specs.Internals.{xor_again}
 use Rattle.std.specs.Int.Bits.{xor_assoc, xor_comm, xor_disjoint}
 

@@ -11,8 +11,7 @@ returns-else-is_one_word-clause-none g c p =
 pub returns-then-is_without_bytes-clause-none : goal.returns-then-is_without_bytes-clause-none
 returns-then-is_without_bytes-clause-none g c p =
     let place = c.highest_place-place.ensures in
-    let found = one_place g.row.V _ c.type_inv.words (omega arith) place p in
-    omega (arith, found.0)
+    omega (arith, (one_place g.row.V _ c.type_inv.words (omega arith) place p).0)
 
 pub returns-then-is_padding_byte-clause-message : goal.returns-then-is_padding_byte-clause-message
 returns-then-is_padding_byte-clause-message g c = grind (arith, unpadded)

@@ -1,14 +1,13 @@
 -- A turn makes the first of the calls that are left (`onward-first`). After the loop none is left,
 -- so the answers so far are all answers, and those of a stream that absorbed a message are hashes.
-use Rattle.std.proofs.Common.{sym, ◌+◌, drop, ap, arith, rules, ◌∙◌}
-use Rattle.std.proofs.lemmas.List.{append-nil}
+use Rattle.std.proofs.Common.{sym, ◌+◌, drop, ap, arith, rules, ◌∙◌, append-nil}
 use Rattle.std.proofs.lemmas.Grind.{common_steps}
 use Rattle.komihash.specs.Stream.{absorb, HasAbsorbed}
 use Rattle.komihash.specs.declared.stream.Call.TheVariants.{Absorb}
 use Rattle.komihash.proofs.CallLists.{onward-first, onward-message}
 use Rattle.komihash.proofs.Streams.{absorb-nothing, more_absorbed}
-use Rattle.komihash.proofs.stream.run_on.Goals as goal
 use Rattle.komihash.proofs.stream.run_on.Goals.{in-Absorb, in-Answer}
+use Rattle.komihash.proofs.stream.run_on.Goals as goal
 
 pub loop-call-preserved : goal.loop-call-preserved
 loop-call-preserved g c =

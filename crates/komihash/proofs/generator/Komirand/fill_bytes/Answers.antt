@@ -1,5 +1,5 @@
 -- Each turn covers eight more bytes of the buffer; fewer than eight may be left after the loop.
-use Rattle.std.proofs.Common.{◌≡◌, ◌+◌, ◌/◌, ◌∙◌, length, arith, take_all}
+use Rattle.std.proofs.Common.{◌+◌, ◌/◌, ◌∙◌, length, arith, take_all}
 use Rattle.komihash.proofs.AllBytes.{written}
 use Rattle.komihash.proofs.GeneratorFills.{outputs-next}
 use Rattle.komihash.proofs.generator.Komirand.fill_bytes.Goals as goal
@@ -19,19 +19,11 @@ returns g c =
     let steps = (length c.args.buffer.now + 7) / 8 in
     elim c.if-has_remainder.branch [
       | then-has_remainder w ↦
-          let last : steps ≡ c.words.i + 1 = omega arith in
           let (word, pair, size) =
           outputs-next g.row.V c.words.i steps c.args.self.now _ (omega arith)
           c.words.invariant.pair in
           let bytes = rw (w.next-output.ensures.output, word) at w.write_partial_word.ensures in
-          record {
-            bytes = grind (arith, written, take_all, bytes);
-            pair = rw last (grind (arith, pair));
-          }
+          record { bytes = grind (arith, written, take_all, bytes); pair = grind (arith, pair) }
       | else-has_remainder w ↦
-          let last : steps ≡ c.words.i = omega arith in
-          record {
-            bytes = grind (arith, written, take_all);
-            pair = rw last (grind arith);
-          }
+          grind (arith, written, take_all)
     ]

@@ -1,5 +1,5 @@
 -- The bytes after the last whole word are read with the last eight.
-use Rattle.std.proofs.Common.{[], arith, ◌∙◌, take_all}
+use Rattle.std.proofs.Common.{[], arith, take_all}
 use Rattle.komihash.proofs.WordOf.{word_of-zeros}
 use Rattle.komihash.proofs.PendingBytes.{PacksBut-put, PacksBut-all, PacksBut-none}
 use Rattle.komihash.proofs.PendingBytes.{packed_words-last}
@@ -8,10 +8,9 @@ use Rattle.komihash.proofs.rounds.pending.store_bytes.Goals as goal
 pub returns-then-is_short : goal.returns-then-is_short
 returns-then-is_short c =
     let bytes = c.args.bytes.now in
-    let word = c.read_partial_word.ensures ∙ word_of-zeros bytes 1 in
-    let whole = take_all 8 bytes (omega arith) in
-    PacksBut-all (PacksBut-put (PacksBut-none c.requires.none bytes 1 (omega arith)) 0 1 _
-    (omega arith) (λ _. rw whole word)) (omega arith)
+    let none = PacksBut-none c.requires.none bytes 1 (omega arith) in
+    PacksBut-all (PacksBut-put none 0 1 _ (omega arith)
+    (λ _. grind (arith, take_all 8 bytes, word_of-zeros bytes 1))) (omega arith)
 
 pub returns-else-is_short : goal.returns-else-is_short
 returns-else-is_short c =

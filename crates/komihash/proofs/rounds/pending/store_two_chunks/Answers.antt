@@ -9,13 +9,10 @@ two_set : (ws : List ℕ) (at a b : ℕ) → at + 2 ≤ length ws
     → put_mid at (length ws - at) ws (set (set (take (length ws - at) (drop at ws)) 0 a) 1 b)
     ≡ set (set ws at a) (at + 1) b
 two_set ws at a b le =
-    let size = length-drop at ws in
-    let all = take_all (length ws - at) (drop at ws) (omega arith) in
     let one = drop-set-add at ws 0 a in
     let two = drop-set-add at (set ws at a) 1 b in
     let cut = take-append-drop at (set (set ws at a) (at + 1) b) in
-    rw (all, drop_all (length ws - at) (drop at ws) (omega arith), append-nil)
-    (grind (arith, take-set-le {A = ℕ}))
+    grind (arith, take_all, drop_all, append-nil, length-drop {A = ℕ}, take-set-le {A = ℕ})
 
 pub returns : goal.returns
 returns c =

@@ -6,10 +6,8 @@ use Rattle.komihash.proofs.stream.saved.is_text.Goals as goal
 
 pub returns-then-is_head-clause-text : goal.returns-then-is_head-clause-text
 returns-then-is_head-clause-text g c =
-    let laid = IsLaidOut-text g.row.V c.args.bytes.now c.type_inv.bytes in
-    grind (arith, nat_tests, laid.0, laid.1)
+    grind (arith, nat_tests, IsLaidOut-text g.row.V c.args.bytes.now c.type_inv.bytes)
 
 pub returns-else-is_head-clause-text : goal.returns-else-is_head-clause-text
 returns-else-is_head-clause-text g c =
-    let laid = IsLaidOut-text g.row.V c.args.bytes.now c.type_inv.bytes in
-    grind (arith, nat_tests, laid.0, laid.1)
+    grind (arith, nat_tests, IsLaidOut-text g.row.V c.args.bytes.now c.type_inv.bytes)

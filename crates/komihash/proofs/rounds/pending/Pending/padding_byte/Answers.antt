@@ -29,12 +29,4 @@ returns-clause-byte g c =
     let some : 0 < len = omega (arith, ap length c.self.view_is) in
     -- the byte that the code reads is the last one
     let last = byte_at are (len - 1) (omega arith) in
-    rw (
-      ← c.self.view_is,
-      c.padding_after.ensures,
-      c.pads_with_two.ensures,
-      c.word_index.ensures,
-      last,
-      are.count,
-    )
-    refl
+    rw (← c.self.view_is) (cc (last, are.count))

@@ -15,10 +15,4 @@ returns g c =
     let (is, made) = restored g.row.V c.args.bytes.now _ (c.is_text.ensures.text.0 (search rules))
     c.read_lanes.ensures c.read_pending.ensures c.read_flags-had_block.ensures.had_block
     c.read_flags-had_block.ensures.top_bit in
-    record {
-      same = made.same;
-      message = made.message;
-      most = made.most;
-      none = made.none;
-      text = made.text;
-    }
+    search (rules, made)
