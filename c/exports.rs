@@ -64,7 +64,7 @@ macro_rules! export {
                 "_start"(seed: u64) -> StreamedKomihash = StreamedKomihash::new_with_seed(seed);
                 "_init"(stream: *mut StreamedKomihash, seed: u64) -> ()
                     = ptr::write(stream, StreamedKomihash::new_with_seed(seed));
-                // Here and in `_rand_fill`, where no bytes change nothing, this test is faster than
+                // Here and in `_rand_fill`, which do nothing for no bytes, this test is faster than
                 // that of `array`.
                 "_write"(stream: &mut StreamedKomihash, bytes: *const u8, length: usize) -> ()
                     = if length > 0 {

@@ -33,7 +33,7 @@
 #include <stddef.h>
 #include <stdint.h>
 
-/* The assembly for these processors is for one kind of memory alone. */
+/* The assembly for these processors is for one order of bytes and one width of pointers. */
 #if defined(__x86_64__) || defined(__aarch64__)
 #if defined(__BYTE_ORDER__) && __BYTE_ORDER__ != __ORDER_LITTLE_ENDIAN__
 #error "komihash_rattle has no big-endian build for ARM64: use komihash.h, the C original, there"
@@ -47,7 +47,7 @@
 #define KOMIHASH_CALL
 
 /* Marks of functions: the first argument is never null; the result says whether the call failed.
- * The first begins by `__extension__`, because C89 has no bool. */
+ * `__extension__` keeps `-pedantic` in C89 from warning of bool. */
 #ifdef __GNUC__
 #define KOMIHASH_NONNULL __extension__ __attribute__((nonnull(1)))
 #define KOMIHASH_CHECK_RESULT __attribute__((warn_unused_result))

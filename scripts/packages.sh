@@ -37,6 +37,7 @@ by_its_compiler() {
         skip "$3 (optional)" "$compiler"
     fi
 }
+# Also whether no directive lets another build get other code.
 names_its_sources() {
     local made_of
     made_of=$(bash c/assembly.sh rust) &&

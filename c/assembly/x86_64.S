@@ -2,7 +2,7 @@
  * Copyright (c) 2026 the authors of komihash_rattle
  *
  * `make assembly` made this file from the crate for Rust. Do not edit it.
- * Made of: SHA-256 69b583ac4e49b6f9b95bac1b3c51cac1c81040c3d47081a5b2f6cd146528f947
+ * Made of: SHA-256 72261c0c1639918e907374c228009dd34df97b531e5fbf206697d66a1ef1526c
  * Options: those of from_rust.sh, and -C no-redzone=yes -Z cf-protection=full -C llvm-args=-align-all-functions=6
  * Compiler: rustc 1.96.0 (ac68faa20 2026-05-25) (built from a source tarball)
  */

@@ -39,14 +39,14 @@ pub packed_word-after : (xs bytes : List ℕ) (at from : ℕ) → length xs + fr
 packed_word-after xs bytes at from place = rw (← place, drop-append-add xs bytes from) refl
 
 -- the bytes after the last whole word are read with the last eight
-pub packed_words-last : (xs bytes : List ℕ) {ws : List ℕ} {end : ℕ}
+pub PacksBut-last : (xs bytes : List ℕ) {ws : List ℕ} {end : ℕ}
     → PacksBut ws (xs ++ bytes) (end / 8) (end / 8 + 1)
     → ((k : ℕ) → Fits w8 (get_or bytes k 0))
     → (length xs + length bytes ≡ end) × (8 ≤ length bytes) × (end < 64)
     → set ws (end / 8)
     (word_of (take 8 (drop (length bytes - 8) bytes)) / 2 ^ (56 - 8 * (end % 8)) / 2 ^ 8)
     ≡ packed_words 8 (xs ++ bytes)
-packed_words-last xs bytes {ws} {end} but typed (sum, least, few) =
+PacksBut-last xs bytes {ws} {end} but typed (sum, least, few) =
     let from = length bytes - end % 8 in
     let last = word_of-last 8 from (56 - 8 * (end % 8) + 8) bytes (AreBytes-typed bytes typed) in
     let left = take_all 8 (drop from bytes) (omega (arith, length-drop from bytes)) in
@@ -165,5 +165,5 @@ pub ruleset pending_laws = (
   whole_words-put,
   get_or-pending,
   read_words,
-  packed_words-last,
+  PacksBut-last,
 )

@@ -63,7 +63,7 @@ fn store_chunks(words: &mut [u64], chunks: &[[u8; 8]]) {
     }
 }
 
-// Appends the bytes of eight or more that belong to whole words. Some complete the partial word.
+// Of eight bytes or more, appends those that end up in whole words.
 #[inline(always)]
 fn append_whole_words(words: &mut [u64; 8], len: usize, bytes: &[u8]) {
     append_within_word(words, len, bytes);

@@ -65,7 +65,7 @@ fn append_within_word(words: &mut [u64; 8], len: usize, bytes: &[u8])
     requires pending { ArePending words.old len }
     requires at_least_8 { 8 ≤ length bytes.now }
     // All words are right but those after the partial word and below `end`, which other calls store.
-    // No byte belongs to those from `end` on.
+    // No byte belongs to those from `end` on; if it is 8 or more, there are none.
     ensures { (end : ℕ) → (end < 8 → len + length bytes.now ≤ 8 * end)
         → PacksBut words.new (pending_bytes words.old len ++ bytes.now) (len / 8 + 1) end }
 {
@@ -110,7 +110,7 @@ fn store_chunks(words: &mut [u64], chunks: &[[u8; 8]])
     }
 }
 
-// Appends the bytes of eight or more that belong to whole words. Some complete the partial word.
+// Of eight bytes or more, appends those that end up in whole words.
 #[inline(always)]
 fn append_whole_words(words: &mut [u64; 8], len: usize, bytes: &[u8])
     requires pending { ArePending words.old len }

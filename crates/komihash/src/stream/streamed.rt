@@ -191,8 +191,8 @@ where
     ///
     /// `out` needs room for [`LONGEST_TEXT`] bytes, whatever is pending. `resume` makes the same
     /// stream from the text, also on another machine. The text is bytes, not UTF-8: one each for
-    /// the version, for whether a block was absorbed, for the top bit of that block's last byte in
-    /// version 4 (0 in version 5), and for the number of pending bytes; the eight lanes, the lowest
+    /// the version, for whether a block was absorbed, for the top bit of the last block's last byte
+    /// in version 4 (0 in version 5), and for the number of pending bytes; the eight lanes, the lowest
     /// byte first; and the pending bytes as they are. Keep the text as secret as the seed, which
     /// can be calculated from it until 64 bytes were absorbed, and until 128 by whoever knows the
     /// first 64.

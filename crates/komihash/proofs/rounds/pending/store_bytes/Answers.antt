@@ -2,7 +2,7 @@
 use Rattle.std.proofs.Common.{[], arith, take_all}
 use Rattle.komihash.proofs.WordOf.{word_of-zeros}
 use Rattle.komihash.proofs.PendingBytes.{PacksBut-put, PacksBut-all, PacksBut-none}
-use Rattle.komihash.proofs.PendingBytes.{packed_words-last}
+use Rattle.komihash.proofs.PendingBytes.{PacksBut-last}
 use Rattle.komihash.proofs.rounds.pending.store_bytes.Goals as goal
 
 pub returns-then-is_short : goal.returns-then-is_short
@@ -15,4 +15,4 @@ returns-then-is_short c =
 pub returns-else-is_short : goal.returns-else-is_short
 returns-else-is_short c =
     rw (c.word_index.ensures, c.last_word.ensures)
-    (packed_words-last [] _ c.store_whole_words.ensures c.type_inv.bytes (omega arith))
+    (PacksBut-last [] _ c.store_whole_words.ensures c.type_inv.bytes (omega arith))
