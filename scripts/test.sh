@@ -23,9 +23,8 @@ all_refused() {
     [ "$(grep -c '\.edit: refused' "$scratch/told")" = ${#edits[@]} ] ||
         grep "must-fail edits: ${#edits[@]} refused" "$scratch/told"
 }
-# Whether what refused each edit in this run is the clause that controls.txt names, in the file that
-# is edited. `rt` prints the first 160 characters of a message, and so of one name all but the last
-# letter.
+# Whether what refused each edit in this run is the clause that controls.txt names, in the edited
+# file. `rt` prints 160 characters of a message, and so of one name all but the last letter.
 by_their_clauses() {
     local edit name
     for edit in crates/*/must-fail/*.edit; do

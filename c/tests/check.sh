@@ -74,16 +74,17 @@ marked() {
             awk '$2 == "g" && $3 ~ /F/ { print $1, $4 }' | sort -u | wc -l)"
 }
 without_libraries() { ! "${CROSS}objdump" -p "$OUT/$dll" | grep 'DLL Name'; }
-# Opens the DLL, as other languages do, and looks for a function and its unwind table.
+# Opens the DLL, as other languages do, and looks for a function, and for an unwind table.
 opened_on_windows() {
     cat << 'END' | $CC -x c -o "$program" - && $RUN "$program" "Z:$prefix/bin/$dll"
 #include <windows.h>
 #include <stdint.h>
 #include <stdio.h>
 int main(int count, char **arguments) {
-    void *found = GetProcAddress(LoadLibraryA(arguments[count - 1]), "komihash_v5");
-    uint64_t (*hash)(const void *, size_t, uint64_t) = found, base;
-    if (RtlLookupFunctionEntry((uintptr_t)found + 1, &base, NULL))
+    HMODULE dll = LoadLibraryA(arguments[count - 1]);
+    uint64_t (*hash)(const void *, size_t, uint64_t) = (void *)GetProcAddress(dll, "komihash_v5");
+    uint64_t pad = (uintptr_t)GetProcAddress(dll, "komihash_v5_pad"), base;
+    if (RtlLookupFunctionEntry(pad + 1, &base, NULL))
         printf("%016I64x\n", hash("port", 4, 7));
 }
 END

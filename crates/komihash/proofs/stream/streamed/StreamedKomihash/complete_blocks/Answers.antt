@@ -4,6 +4,8 @@ use Rattle.komihash.specs.Stream.{State, absorb}
 use Rattle.komihash.proofs.Streams.{blocks_completed, IsState-absorb}
 use Rattle.komihash.proofs.WordOf.{AreBytes-typed}
 use Rattle.komihash.proofs.stream.streamed.StreamedKomihash.complete_blocks.Goals as goal
+use Rattle.komihash.proofs.stream.streamed.StreamedKomihash.complete_blocks.Goals.{then-none_pending}
+use Rattle.komihash.proofs.stream.streamed.StreamedKomihash.complete_blocks.Goals.{else-none_pending}
 
 pub invariant_of-self-inside : goal.invariant_of-self-inside
 invariant_of-self-inside g c =
@@ -18,5 +20,8 @@ invariant_of-self-inside g c =
     let are = AreBytes-typed bytes c.type_inv.bytes in
     let is = IsState-absorb g.row.V old bytes c.args.self.now.is_state are in
     let state : new ≡ absorb g.row.V old bytes =
-    grind (arith, c.if-none_pending.branch, blocks_completed) in
+    elim c.if-none_pending.branch [
+      | then-none_pending w ↦ grind (arith, blocks_completed)
+      | else-none_pending w ↦ grind (arith, blocks_completed)
+    ] in
     (rw state is, tt)
