@@ -15,8 +15,8 @@ trap 'rm -rf "$scratch"' EXIT
 # assembly_for FILE PROCESSOR OPTION.. compiles the crate, and by the same options Rust's core, so
 # that LLVM can merge them and leave out what only the texts of panics need. What LLVM writes stays
 # as it is, but for attributes of builds, which older assemblers don't know.
-# - no-redzone keeps values out of the memory below the stack pointer, because kernels, which may
-#   compile the assembly too, overwrite it.
+# - no-redzone keeps values out of the memory below the stack pointer, so that verify can refuse
+#   each access there.
 # - cf-protection and branch-protection ask for what IBT, SHSTK and BTI demand: a note, and at the
 #   start of each exported function an instruction. They are unstable, hence RUSTC_BOOTSTRAP.
 # - align-all-functions lets functions begin where 64 bytes do. At other addresses, hashes of 8

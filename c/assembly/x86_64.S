@@ -2,7 +2,7 @@
  * Copyright (c) 2026 the authors of komihash_rattle
  *
  * `make assembly` made this file from the crate for Rust. Do not edit it.
- * Made of: SHA-256 72261c0c1639918e907374c228009dd34df97b531e5fbf206697d66a1ef1526c
+ * Made of: SHA-256 e68c18833a9160cae7811cab0f32e421c7f79e34bfd75063b1494767aa35d2c4
  * Options: those of from_rust.sh, and -C no-redzone=yes -Z cf-protection=full -C llvm-args=-align-all-functions=6
  * Compiler: rustc 1.96.0 (ac68faa20 2026-05-25) (built from a source tarball)
  */

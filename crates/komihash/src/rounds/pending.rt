@@ -64,8 +64,8 @@ fn append_below_eight(words: &mut [u64; 8], len: usize, bytes: &[u8])
 fn append_within_word(words: &mut [u64; 8], len: usize, bytes: &[u8])
     requires pending { ArePending words.old len }
     requires at_least_8 { 8 ≤ length bytes.now }
-    // All words are right but those after the partial word and below `end`, which other calls store.
-    // No byte belongs to those from `end` on; if it is 8 or more, there are none.
+    // All words up to the partial word are right, and those from `end` on, to which no byte belongs.
+    // Other calls store those between: with an `end` of 8, all after the partial word.
     ensures { (end : ℕ) → (end < 8 → len + length bytes.now ≤ 8 * end)
         → PacksBut words.new (pending_bytes words.old len ++ bytes.now) (len / 8 + 1) end }
 {

@@ -70,8 +70,8 @@ fn round_at<W: WholeWords>(pair: XoredPair, left: &W, at: usize, tally: &mut Tal
     pair_round(pair, left.word(at), left.word(at + 1), tally)
 }
 
-/// Returns the pair after a round on each two words. The word that may remain hashes from it as all
-/// words do from the pair before.
+/// Returns the pair after a round on each two words. From this, the word that may remain gives the
+/// hash that all words give from `pair`.
 #[inline(always)]
 pub(crate) fn round_each<W: WholeWords>(pair: XoredPair, left: &W, tally: &mut Tally) -> XoredPair
     requires { length (W.words left.now) < 8 }
