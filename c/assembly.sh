@@ -1,7 +1,7 @@
 #!/usr/bin/env bash
 # Compiles a crate for Rust to the assembly of the library for C, in a folder, by Debian's packages
-# rustc-web and rust-web-src: assembly.sh CRATE FOLDER. Without FOLDER, prints the SHA-256 of what
-# the assembly is made of and by, which the head of each file has too.
+# rustc-web and rust-web-src: assembly.sh CRATE FOLDER. Without FOLDER, prints the SHA-256 of the
+# Rust, of exports.rs and of these scripts, which the head of each file has too.
 set -euo pipefail
 crate=$(realpath "$1") folder=$(realpath -m "${2:-.}")
 cd "$(dirname "${BASH_SOURCE[0]}")"

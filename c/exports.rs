@@ -1,8 +1,9 @@
 //! The functions of komihash_rattle.h, by the crate for Rust; with `--cfg rust_crate`, those that
 //! the crate `komihash` has, by that one. Each `unsafe` here rests on what that header asks of
 //! callers. It asks less than Rust does: what `out` points to may never have been written, and may
-//! overlap a stream or an input where a call writes nothing. No call reads through `out`, nor, once
-//! it has written there, what may overlap it, as verify shows of each library that it reads.
+//! overlap a stream or an input where a call writes nothing. As verify shows of each library that
+//! it reads, no call reads a byte of `out` before it wrote it, and each writes only what the header
+//! keeps apart from all else.
 #![no_std]
 #![allow(improper_ctypes_definitions)] // Callers see streams and generators as arrays of words.
 use core::mem::{align_of, size_of};

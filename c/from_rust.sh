@@ -9,7 +9,7 @@ rustc=${RUSTC:-rustc} crate=$1 machine=$2 file=$3
 shift 3
 target=${RUST_TARGET:-$(echo "$machine" | sed -E 's/^arm64/aarch64/; s/^i[345]86/i686/
     s/^riscv64/&gc/; s/-([a-z]*-)?linux/-unknown-linux/; s/-linux$/&-gnu/
-    s/-w64-mingw32$/-pc-windows-gnu/; s/(-darwin|bsd)[0-9.]*$/\1/')}
+    s/-w64-(mingw32|windows-gnu)$/-pc-windows-gnu/; s/(-darwin|bsd)[0-9.]*$/\1/')}
 
 fail() { echo "komihash_rattle for $machine is built from Rust, and $1" >&2; exit 1; }
 command -v "${rustc%% *}" > /dev/null || fail "there is no Rust compiler '$rustc'"

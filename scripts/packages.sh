@@ -42,7 +42,7 @@ names_its_sources() {
     local made_of
     made_of=$(bash c/assembly.sh rust) &&
         [ "$(grep -l "SHA-256 $made_of$" c/assembly/*.S js/komihash_rattle.js | wc -l)" = 4 ] &&
-        ! grep -nE '^\s*(#|\.(if|else|macro|inc|rept|irp|set|equ|org))' c/assembly/*.S
+        ! grep -nE '(^|:)\s*(#|\.(if|else|macro|inc|rept|irp|set|equ|org))|;|__' c/assembly/*.S
 }
 made_of_crate() {
     in_package assembly "ASSEMBLY=$scratch/assembly" && diff -r "$scratch/assembly" c/assembly

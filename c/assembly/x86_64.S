@@ -2,7 +2,7 @@
  * Copyright (c) 2026 the authors of komihash_rattle
  *
  * `make assembly` made this file from the crate for Rust. Do not edit it.
- * Made of: SHA-256 e68c18833a9160cae7811cab0f32e421c7f79e34bfd75063b1494767aa35d2c4
+ * Made of: SHA-256 25a059de90872276db5611b409f9edb4eecdfc00260b37e81920af16a3c4c257
  * Options: those of from_rust.sh, and -C no-redzone=yes -Z cf-protection=full -C llvm-args=-align-all-functions=6
  * Compiler: rustc 1.96.0 (ac68faa20 2026-05-25) (built from a source tarball)
  */

@@ -13,9 +13,10 @@
 //! the bytes were cut. It is proved to be the hash that the definitions in `specs/` give.
 
 // `rust/erase.py` makes the crate for Rust of the other files, but for `version`, which Rust has by
-// hand, and `laws`, `tally` and `tests`, which it lacks. In them,
+// hand, and `laws`, `tally` and `tests`, which it lacks. In the others,
 // - `Rattle alone.` begins what Rust lacks, up to an empty line;
-// - `Rust instead:` says what Rust has in place of the next line, perhaps nothing;
+// - `Rust instead:` says what Rust has in place of the next line, perhaps nothing; `not_in_c`
+//   there means inlined, but not in debug builds or the library for C, which has one copy;
 // - in comments, for Rust alone are examples (CALLING has those for Rattle), `# Panics`, links in
 //   brackets, what is said of Rust, `version` and `Debug`, and "the type of both versions", which
 //   Rust's pages show beside the other name of a type;
