@@ -1,5 +1,5 @@
 -- With no pending bytes, one word is left. Otherwise the tail is read as its whole words and a
--- final word, which is `answer-by_pair`. The rounds leave one whole word if they are odd in number.
+-- final word, which is `answer-by_pair`. The rounds leave one of an odd number of whole words.
 use Rattle.std.proofs.Common.{arith}
 use Rattle.std.proofs.lemmas.List.{nil_from_length, drop_all, drop_more}
 use Rattle.komihash.proofs.WholeWords.{length-whole_words}
