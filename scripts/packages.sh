@@ -264,22 +264,25 @@ verified() {
     always run_case 'the libraries that are edited' in_package
     always needs $arm-gcc 'the library for ARM64 that is edited' in_package "CROSS=$arm-"
     [ ! -d "$out/$arm" ] || libraries+=("armv8-a:$out/$arm/$so")
-    part_with "$python" "$python" -B $tests/bodies.py x86-64 "${CC:-cc}"
+    for level in x86-64 x86-64-v3; do
+        part_with "$python" "$python" -B $tests/bodies.py $level "${CC:-cc}"
+    done
     needs "$python" 'calls that are left out, and other definitions, are noticed' \
         "$python" -B $tests/changes.py "${libraries[0]}"
     part_with "$python $arm-gcc" "$python" -B $tests/bodies.py armv8-a $arm-gcc
     needs "$python" 'edits of files are refused' "$python" -B $tests/attacks.py "${libraries[@]}"
     if grep -qw avx2 /proc/cpuinfo; then
         needs "$python" 'random instructions do in the model what they do on the processor' \
-            "$python" -B $tests/instructions.py x86-64-v3 "${CC:-cc}"
+            "$python" -B $tests/instructions.py "x86-64-v3:$out/$so:${libraries[1]#*:}" "${CC:-cc}"
     else
         skip 'random instructions (optional)' 'a processor with AVX2'
     fi
-    needs "$python $arm-gcc qemu-aarch64" 'unsound changes of the check are noticed' \
-        "$python" -B $tests/mutants.py "${libraries[@]}"
+    SAMPLE=16 needs "$python $arm-gcc qemu-aarch64" 'changes of the check are noticed' \
+        "$python" -B $tests/mutants.py "${libraries[0]}" "armv8-a:$out/$arm/$so"
     needs "$python $arm-gcc qemu-aarch64" \
         'random instructions of ARM64 do in the model what they do in an emulator' \
-        "$python" -B $tests/instructions.py armv8-a $arm-gcc qemu-aarch64 -L /usr/$arm
+        "$python" -B $tests/instructions.py "armv8-a:$out/$arm/$so" $arm-gcc \
+        qemu-aarch64 -L /usr/$arm
 
     # Of the Rust crate, a build is verified.
     if [ "${KOMIHASH_CRATE:-}" ]; then

@@ -56,7 +56,7 @@ class Arm(Cpu):
         """Operand k, shifted as it says."""
         op = i.ops[k]
         if op.type == A.ARM64_OP_IMM:
-            value = bv(op.imm % 2**width, width)
+            value = bv(op.imm, width)
         else:
             n, size = register(i.reg_name(op.reg))
             value = bv(0, size) if n is None else part(self.r[n], 0, size)
@@ -85,6 +85,7 @@ class Arm(Cpu):
     def check_differ(i, operands, *more):
         """Whether these registers are different ones, without which the outcome varies."""
         names = [register(i.reg_name(i.ops[k].reg))[0] for k in operands] + [*more]
+        names = [name for name in names if name]  # The zero register may come twice.
         if len({*names}) < len(names):
             raise unknown(i)
 
@@ -199,7 +200,8 @@ def shift(c, i):
 @means(TABLE, 'bfxil')
 def insert_low(c, i):
     a, width = c.get(i, 0), i.ops[3].imm
-    c.put(i, 0, join([bits(c, i), part(a, width, a.size() - width)]))
+    above = [part(a, width, a.size() - width)] if width < a.size() else []
+    c.put(i, 0, join([bits(c, i), *above]))
 
 
 @means(TABLE, 'mul', 'umulh')

@@ -6,7 +6,7 @@ from memory import Array
 from terms import Unknown, address, bv, choose, secret, simple, sym
 
 # What `unpad` returns instead of a length.
-NO_MESSAGE = bv(2**64 - 1)
+NO_MESSAGE = bv(-1)
 
 
 def apart(base, size, other, length):

@@ -40,7 +40,7 @@ FUNCTIONS = {
     '_start': Function('1', False, {fixed.start_of: [('_start',)]}),
     '_init': Function('1', False, {fixed.start_of: [('_init',)]}),
     '_write': Function('4*((p+n)//64)', False, {
-        fixed.write_within: [(p, n) for p in range(64) for n in range(64 - p)], Write: PENDING}),
+        fixed.write_of: [(p, n) for p in range(64) for n in range(64 - p)], Write: PENDING}),
     '_finish': Function('2 + p//16', False, {
         fixed.finish: [(p, b) for p in range(64) for b in (0, 1)]}),
     '_save': Function('0', False, {fixed.save: PENDING}),
@@ -58,6 +58,18 @@ FUNCTIONS = {
                                    for last in fixed.LAST_BYTES)],
         Unpad: each(fixed.LAST_BYTES)}),
 }
+# Calls that the induction shows too, run one by one below LONGEST bytes, since it isn't believed
+# alone: those of one turn that takes 128 bytes, or two. Fills end in a whole word, or lack a byte of
+# it. Of writes, each length is met, and each number of pending bytes with one to four blocks.
+LONGEST = 320
+AGAIN = {
+    '': {fixed.hash_of: each(range(Hash.LEAST * Hash.GRAIN, LONGEST))},
+    '_write': {fixed.write_of: [(p, n) for p in range(64) for n in range(64 - p, LONGEST)
+                                if (3 * p + n) % 61 == 0]},
+    '_rand_fill': {fixed.rand_fill: each(n for n in range(Fill.GRAIN, LONGEST) if n % 8 in (0, 7))},
+    '_pad': {fixed.pad: each(range(Pad.GRAIN, LONGEST))},
+    '_unpad': {fixed.unpad: [(n, (n % 8, byte)) for n in range(Unpad.GRAIN // 8 + 1, LONGEST // 8)
+                             for byte in (1, 2)]}}
 NAMES = [f'komihash_v{version}{suffix}' for version in VERSIONS for suffix in FUNCTIONS]
 
 
@@ -111,8 +123,8 @@ class AllCalls(Case):
         return header.check_all(library, self.args).seen
 
 
-# What a case gave: why it failed, or what ran and how deep the stack was; and how much was asked.
-Done = collections.namedtuple('Done', 'case failure seconds ran depth asked')
+# What a case gave: why it failed, or how deep the stack was; and how much was asked.
+Done = collections.namedtuple('Done', 'case failure seconds depth asked')
 
 
 def row_of(name):
@@ -120,8 +132,16 @@ def row_of(name):
 
 
 def cases_of(name):
-    cases = [Case(name, check, args) for check, some in row_of(name).cases.items() for args in some]
+    cases = listed(name, row_of(name).cases)
     return [AllCalls(name, None, cases), *cases]
+
+
+def cases_again(name):
+    return listed(name, AGAIN.get(name[len('komihash_v4'):], {}))
+
+
+def listed(name, cases):
+    return [Case(name, check, args) for check, some in cases.items() for args in some]
 
 
 def open_library(content, level, layout=Ours, red_zone=False):
@@ -140,10 +160,10 @@ def run_case(case):
     signal.signal(signal.SIGPROF, give_up)
     signal.setitimer(signal.ITIMER_PROF, SECONDS, 1)
     terms.ASKED[0] = 0
-    begin, ran, depth, failure = time.process_time(), frozenset(), 0, None
+    begin, depth, failure = time.process_time(), 0, None
     try:
         seen = case.run(LIBRARY)
-        ran, depth = frozenset(seen.ran), seen.depth
+        depth = seen.depth
         if seen.by_contents and not row_of(case.name).by_contents:
             failure = f'a jump or an address depends on {sorted(seen.by_contents)[0]}'
     except Unknown as unknown:
@@ -153,13 +173,14 @@ def run_case(case):
     except Exception as error:
         failure = Unknown(f'{type(error).__name__}: {error}')
     signal.setitimer(signal.ITIMER_PROF, 0)
-    return Done(case, failure, time.process_time() - begin, ran, depth, terms.ASKED[0])
+    return Done(case, failure, time.process_time() - begin, depth, terms.ASKED[0])
 
 
-def results(jobs, do, tasks, begin=None):
+def results(jobs, do, tasks):
     """What a function returns for each task, in any order. The processes are forks, so they know
-    what this one has read. Each begins with a call of `begin`."""
-    with ProcessPoolExecutor(jobs, multiprocessing.get_context('fork'), begin) as pool:
+    what this one has read. An interrupt ends them with this one."""
+    with ProcessPoolExecutor(jobs, multiprocessing.get_context('fork'), signal.signal,
+                             (signal.SIGINT, signal.SIG_IGN)) as pool:
         try:
             yield from (one.result() for one in as_completed(pool.submit(do, t) for t in tasks))
         except BrokenProcessPool:

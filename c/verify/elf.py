@@ -30,7 +30,7 @@ COUNTED, STRINGS, SYMBOLS, STRINGS_SIZE, SONAME, HASHES = 4, 5, 6, 10, 14, 0x6ff
 FLAGS, FLAGS_1 = 30, 0x6ffffffb
 NEEDED = {STRINGS, SYMBOLS, STRINGS_SIZE, HASHES}
 ALLOWED = NEEDED | {COUNTED, SONAME, FLAGS, FLAGS_1, 11, 16, 24, 0x70000001}
-BITS = {FLAGS: 2 | 8, FLAGS_1: 1 | 8}
+BITS = {FLAGS: 10, FLAGS_1: 9}
 # Symbols: their bindings (global and weak), type, visibilities (default and protected), and where
 # numbers of sections end. Notes of GNU: the identifier of the build, and properties.
 BINDINGS, FUNCTION, VISIBILITIES, RESERVED = (1, 2), 2, (0, 3), 0xff00
@@ -107,18 +107,12 @@ class Elf:
             need(s.type not in (DYNAMIC, RELRO) or part.flags & WRITE and
                  s.start + s.size <= part.start + part.size + 4095 & -4096,
                  'what the loader writes can not be written')
-        need(self.keeps(start, start + size) and
+        # Loaders take it to be in the first part whose pages have it.
+        first = self.parts[0]
+        need(not first.flags & WRITE and
+             first.offset <= start and start + size <= first.offset + first.filled and
              all(s.offset == start and s.size >= size for s in self.of_type(TABLE)),
              'the table of segments is another one in memory')
-
-    def keeps(self, start, end):
-        """Whether these bytes of the file stay in memory as they are. Loaders take them to be in
-        the first part whose pages have them."""
-        page = PAGES[self.machine]
-        first = next((p for p in self.parts if p.offset & -page <= start and
-                      end <= (p.offset + len(p.data) + page - 1 & -page)), None)
-        return first and not first.flags & WRITE and \
-            first.offset <= start and end <= first.offset + len(first.data)
 
     def part_of(self, address, length=1):
         """The part that has these bytes of the file, or None."""
@@ -156,7 +150,8 @@ class Elf:
                 need(NEEDED <= set(table), 'there is no DT_GNU_HASH, or not all that it needs')
                 return table
             need(tag in ALLOWED and not value & ~BITS.get(tag, value),
-                 f'the loader would do more than load it: {tag:#x} is {value:#x}')
+                 'the loader would do more than load it: '
+                 f'{"NEEDED" if tag == 1 else hex(tag)} is {value:#x}')
             need(tag not in table, f'the dynamic table has {tag:#x} twice')
             table[tag] = value
         raise Unknown('the dynamic table has no end')
@@ -172,9 +167,8 @@ class Elf:
         need(self.strings and not self.strings[-1], 'the strings are not in memory, or have no end')
         self.symbols = [(self.string(name), *more) for name, *more in
                         self.array(SYMBOL, table[SYMBOLS], end + 1)]
-        name = self.string(table.get(SONAME, 0))
-        need(SONAME not in table or re.fullmatch(rb'libkomihash[\w.-]*', name),
-             f'a loader would take it for {name}')
+        name = self.string(table[SONAME]) if SONAME in table else b'libkomihash'
+        need(re.fullmatch(rb'libkomihash[\w.-]*', name), f'a loader would take it for {name}')
 
     def read_hashes(self, at):
         """Reads the table of hashes, and returns the number of the last symbol."""

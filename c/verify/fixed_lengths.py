@@ -33,8 +33,7 @@ def start_of(library, version, name):
     return end
 
 
-def write_within(library, version, pending, length):
-    """A write of a fixed length. Those in cases.py complete no block."""
+def write_of(library, version, pending, length):
     call = Call(library, version, '_write')
     state = some_state(version, pending)
     stream = call.stream(state, writable=True)

@@ -67,9 +67,10 @@ def allowed(call):
 
 
 def any_state(call, args):
-    """A stream is in some state: only `start`, `init` and `resume` make one; calls change it."""
-    return [z3.ULT(PENDING, 64), z3.ULE(HAD_BLOCK, 1),
-            z3.ULE(TOP_BIT, HAD_BLOCK if call.version == 4 else 0), *call.layout.any_more(args)]
+    """A stream is in some state: only `start`, `init` and `resume` make one; calls change it. Each
+    number of pending bytes is asked by itself."""
+    return [z3.ULE(HAD_BLOCK, 1), z3.ULE(TOP_BIT, HAD_BLOCK if call.version == 4 else 0),
+            *call.layout.any_more(args)]
 
 
 class Begun(Exception):
@@ -90,7 +91,7 @@ def has_any_contents(call):
     """Whether each lane and byte that a case passes is a symbol of its own, but in the last word
     of `unpad`."""
     parts = [*(call.state.lanes + call.state.pending if call.state else ()), *(
-        term for (name, _), (term, k, _) in call.memory.data.items()
+        term for (name, _), (term, k) in call.memory.data.items()
         if k == 0 and name not in ('stream', 'stack', 'shadow'))]
     free = [part.get_id() for part in parts if z3.is_const(part) and const(part) is None]
     fixed = 8 if call.last_bytes else 0

@@ -42,14 +42,13 @@ def means(table, *names):
 
 
 class Seen:
-    """What the paths of one case met: instructions, also in the order in which they ran, bytes of
-    stack, and symbols for contents on which a jump or an address depends."""
+    """What the paths of one case met: instructions in the order in which they ran, bytes of stack,
+    and symbols for contents on which a jump or an address depends."""
 
     def __init__(self):
-        self.ran, self.order, self.depth, self.by_contents = set(), [], 0, set()
+        self.order, self.depth, self.by_contents = [], 0, set()
 
     def include(self, other):
-        self.ran |= other.ran
         self.by_contents |= other.by_contents
         self.depth = max(self.depth, other.depth)
 
@@ -127,7 +126,6 @@ class Cpu:
         """Runs the instruction at a place: the next place, or None at the return."""
         i = self.image.instruction(pc)
         self.pc = pc
-        self.seen.ran.add(pc)
         self.seen.order.append(pc)
         if len(self.seen.order) > STEPS:
             raise Refused(f'more than {STEPS} instructions')
@@ -204,10 +202,11 @@ class Cpu:
         self.memory.lose('stack', offset - self.red_zone)
 
     def check_stack(self, name, offset):
-        """Judges an access by the stack pointer before the instruction, or the one after it."""
+        """Judges a store by the stack pointer before the instruction, or the one after it. Bytes
+        below it have no content, so they aren't read."""
         if name == 'stack':
             both = (signed(simple(p - self.sp)) for p in (self.stack_pointer, self.r[self.SP]))
-            if all(k is None or offset < k - self.red_zone for k in both):
+            if all(offset < k - self.red_zone for k in both):
                 raise Refused('access below the stack pointer')
             self.seen.depth = max(self.seen.depth, self.ABOVE - offset)
 
@@ -223,7 +222,7 @@ class Cpu:
     def give_back(self, to):
         """A return, which must be that of the last call that has not returned."""
         last = signed(self.r['ssp'])
-        if last is None or not z3.eq(to, self.memory.content('shadow', last, 8)):
+        if not z3.eq(to, self.memory.content('shadow', last, 8)):
             raise Refused(f'a return to {to}, which is not the caller')
         self.r['ssp'] = simple(self.r['ssp'] + 8)
         return const(simple(to - LOADED)) if last else RETURN

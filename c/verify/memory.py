@@ -23,8 +23,8 @@ class Memory:
     changes no other. The header asks that of the bytes that a call writes, and stores to others are
     refused at its end; if two are only read, an overlap changes nothing.
 
-    A byte is kept as the term that was stored, its number in it, and how many bytes the term has.
-    A byte that isn't kept has no content, and may not be read."""
+    A byte is kept as the term that was stored, and its number in it. One that isn't kept has no
+    content, and may not be read."""
 
     def __init__(self):
         self.arrays, self.data = [], {}
@@ -37,7 +37,7 @@ class Memory:
     def add(self, array, content=(), start=0):
         self.arrays.append(array)
         for k, byte in enumerate(content):
-            self.data[array.name, start + k] = byte, 0, 1
+            self.data[array.name, start + k] = byte, 0
 
     def find(self, cpu, address, length, write):
         """The array of an address, and the offset in it, which must be one number on this path.
@@ -65,9 +65,7 @@ class Memory:
                                           for some in (array.high, offset + length))
 
     def load(self, cpu, address, length):
-        name, offset = self.find(cpu, address, length, False)
-        cpu.check_stack(name, offset)
-        return self.content(name, offset, length)
+        return self.content(*self.find(cpu, address, length, False), length)
 
     def content(self, name, offset, length):
         """The bytes as one term."""
@@ -75,13 +73,12 @@ class Memory:
         for k in range(offset, offset + length):
             if (name, k) not in self.data:
                 raise Refused(f'read of a byte at {name}{k:+} that was not written')
-            term, number, size = self.data[name, k]
+            term, number = self.data[name, k]
             if pieces and pieces[-1][0] is term and pieces[-1][2] == number:
                 pieces[-1][2] += 1
             else:
-                pieces.append([term, number, number + 1, size])
-        return join([term if high - low == size else part(term, 8 * low, 8 * (high - low))
-                     for term, low, high, size in pieces])
+                pieces.append([term, number, number + 1])
+        return join([part(term, 8 * low, 8 * (high - low)) for term, low, high in pieces])
 
     def store(self, cpu, address, value):
         name, offset = self.find(cpu, address, value.size() // 8, True)
@@ -89,9 +86,8 @@ class Memory:
         self.put(name, offset, value)
 
     def put(self, name, offset, value):
-        size = width_of(value) // 8
-        for k in range(size):
-            self.data[name, offset + k] = value, k, size
+        for k in range(width_of(value) // 8):
+            self.data[name, offset + k] = value, k
 
     def lose(self, name, end):
         """Forgets the bytes of an array before an offset."""

@@ -6,7 +6,7 @@ import argparse
 import hashlib
 import os
 import sys
-from cases import NAMES, cases_of, open_library, results, run_case
+from cases import NAMES, cases_again, cases_of, open_library, results, run_case
 from elf import MEMORY
 from layout import Ours
 from progress import Progress
@@ -44,7 +44,7 @@ def verify(level, path, args, layout):
           f'red zone of {image.processor.RED_ZONE * args.red_zone} bytes, '
           f'SHA-256 {hashlib.sha256(content).hexdigest()}')
     names = names_there(image, args.function, args.some)
-    cases = [case for name in names for case in cases_of(name)]
+    cases = [case for name in names for case in (*cases_of(name), *cases_again(name))]
     progress, left = Progress(cases, args.jobs), len(cases)
     # Those that take longest come first, so that no process is left with one at the end.
     cases.sort(key=lambda case: not case.has_loop())
@@ -90,7 +90,7 @@ def main(text, layout=Ours):
             level, path = one.split(':', 1)
             right, wrong = verify(level, path, args, layout)
             passed, failed = passed + right, failed + wrong
-    except Exception as error:
+    except (Exception, KeyboardInterrupt) as error:
         kind = '' if isinstance(error, (OSError, Unknown)) else f'{type(error).__name__}: '
         print(f'verify: nothing is claimed: {path}: {kind}{error}', file=sys.stderr)
         return 2

@@ -55,7 +55,7 @@ class X86(Cpu):
         return [address], address
 
     def address(self, i, op):
-        m, a = op.mem, bv(op.mem.disp % 2**64)
+        m, a = op.mem, bv(op.mem.disp)
         if m.base:
             name = i.reg_name(m.base)
             a = a + (LOADED + (i.address + i.size) if name == 'rip' else self.r[name])
@@ -73,7 +73,7 @@ class X86(Cpu):
         """Operand k, of this width or its own."""
         op = i.ops[k]
         if op.type == X.X86_OP_IMM:
-            return bv(op.imm % 2**(width or 64), width or 64)
+            return bv(op.imm, width or 64)
         if op.type == X.X86_OP_MEM:
             return self.load(self.aligned_address(i, op), (width or 8 * op.size) // 8)
         n, low, size = REGISTERS[i.reg_name(op.reg)]

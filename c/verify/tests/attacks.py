@@ -1,17 +1,13 @@
 """Changes the file of a library or bytes of its code, one at a time. Each must be refused for the
 reason that stands beside it: attacks.py LEVEL:LIBRARY.."""
-import os
+import functools
 import struct
 import subprocess
 import sys
 import tempfile
-VERIFY = os.path.dirname(os.path.dirname(os.path.abspath(__file__)))
-sys.path.append(VERIFY)
-import cases
+from rows import VERIFY, Row, cases, count, refusal
 import elf
 from elf import DYNAMIC, EXECUTE, FRAMES, LOAD, NOTES, RELRO, SONAME, STACK, TABLE
-from report import names_there
-from terms import Unknown
 
 NAME, OTHER_NAME, LONG_NAME = 'komihash_v5_rand_next', 'komihash_v4_rand_next', 'komihash_v4'
 KIND, RIGHTS, OFFSET, START, FILLED, SIZE, ALIGN = \
@@ -23,8 +19,8 @@ SYMBOLS = {INFO: [k for k in range(256) if (k & 15 == 2) != (k >> 4 in (1, 2))],
            VALUE: (0, 2**40)}
 # Entries of the dynamic table, and bits of its flags, by which loaders do more, and one they skip.
 TAGS, BIND_NOW = {*range(1, 39), *range(0x6ffffff0, 0x70000008), 0x7ffffffd, 0x7fffffff} - {
-    4, 5, 6, 10, 11, 14, 16, 24, 30, elf.FLAGS_1, 0x70000001}, 24
-BITS = {elf.FLAGS: (0, 2, 4), elf.FLAGS_1: (1, 2, *range(4, 28))}
+    4, 5, 6, 10, 11, 14, 16, 24, 30, 0x6ffffffb, 0x70000001}, 24
+BITS = {30: (0, 2, 4), 0x6ffffffb: (1, 2, *range(4, 28))}
 
 
 class Edit:
@@ -57,6 +53,12 @@ class Edit:
         while (found := elf.ENTRY.unpack_from(self.content, at))[0] != tag:
             at += elf.ENTRY.size
         elf.ENTRY.pack_into(self.content, at, new, found[1] if value is None else value)
+
+    def move_table(self, at):
+        """Moves the table of segments within the file."""
+        start, size = elf.HEADER.size, elf.SEGMENT.size * len(self.elf.segments)
+        self.put((32, 8), at)
+        self.content[at:at + size] = self.content[start:start + size]
 
     def symbol(self, field, number):
         found = self.elf.table[elf.SYMBOLS] + elf.SYMBOL.size * self.elf.find(NAME.encode())
@@ -91,31 +93,56 @@ def of_header_and_marks(e):
         *((f'another byte {k}', f'byte {k} is 0x3', e.put, (k, 1), 3) for k in range(16)),
         ('a program', 'no shared library', e.put, (16, 2), 2),
         ('longer segments', 'no shared library', e.put, (54, 2), 112),
-        ('the end is cut off', 'too short', e.content.__delitem__, slice(600, None)),
+        *((f'only {size} bytes', 'too short', e.content.__delitem__, slice(size, None))
+          for size in (63, 600)),
+        ('a file of 64 MiB', 'more than 67108864', e.content.extend, bytes(2**26)),
+        ('more segments', 'more than 64', e.put, (56, 2), 65),
+        *((f'segments at {at:#x}', 'too short', e.put, (32, 8), at)
+          for at in (2**40, len(e.content) - 100)),
         ('a function without a mark', 'has none', e.bytes_at, *nothing),
         *((f'marks {notes}, and a function without', 'has none',
            lambda notes=notes: (e.note(elf.PROPERTY, kind, *notes), e.bytes_at(*nothing)))
           for notes in ([[1]], [[0, 1]], [[0], [1]])),
-        ('marks after a short note', 'has none', lambda: (e.bytes_at(*nothing), e.note(
-            elf.PROPERTY, kind, [1], first=struct.pack('<III4s8x', 4, 4, 1, b'XXX')))),
+        ('marks after another note', 'has none', lambda: (e.bytes_at(*nothing), e.note(
+            elf.PROPERTY, kind, [1], first=struct.pack('<III12s8x', 5, 1, 1, b'XXXX')))),
+        ('marks after a longer property', 'has none', lambda: (
+            e.bytes_at(*nothing), e.note(elf.PROPERTY, kind, first=struct.pack(
+                '<III4sIIQIIII', 4, 32, 5, b'GNU\0', kind, 8, 0, kind, 4, 1, 0)))),
         ('marks of an unknown kind', 'unknown: 0xc0', e.note, elf.PROPERTY, kind, [64]),
+        *((f'a property {one:#x}', 'None', e.note, NOTES, one, [8])
+          for one in (0xc0010001, 0xc0010002) if e.elf.machine == 62),
         ('an unknown property', 'unknown: 0xc0008002', e.note, NOTES, 0xc0008002, [8]),
-        ('a note of another kind', 'of GNU of type 1', e.bytes_at, of_notes + 8, b'\1')]
+        ('a note of another kind', 'of GNU of type 1', e.bytes_at, of_notes + 8, b'\1'),
+        ('a note without an end', 'note has no end', e.bytes_at, of_notes + 4, b'\0\1'),
+        ('a property without an end', 'property has no end', e.bytes_at,
+         e.elf.of_type(elf.PROPERTY)[0].start + 20, b'\0\0\0\1')]
 
 
 def of_segments(e):
     code, last, relro, after = e.code, e.parts[-1], e.elf.of_type(RELRO)[0], e.parts[e.code_at + 1]
     here, align = ((START, code.start), (OFFSET, code.offset)), (ALIGN, code.align)
     small, at_64 = {62: 2**11, 183: 2**15}[e.elf.machine], ((OFFSET, 64), (START, 64))
+    size, whole = elf.SEGMENT.size * len(e.elf.segments), ((FILLED, len(e.content)),
+                                                           (SIZE, len(e.content)))
+    to_page = code.align - code.start % code.align + 1
     nothing = (OFFSET, 0), (START, 2**20), (FILLED, 0), (SIZE, 0), align
     beyond = (last.start + last.size + 4095 & -4096) + 1 - relro.start
     return [(name, reason, e.segment, *change) for name, reason, *change in (
         ('a part over the last page of code', 'mapped over', LOAD, e.code_at + 1,
          (START, code.start + code.size - 1 & -code.align | after.offset % code.align)),
+        ('zeros after variables', 'None', LOAD, -1, (SIZE, last.size + 8)),
+        ('a part over the end of the file', 'too short', LOAD, -1, *whole),
+        ('two parts to protect', 'at most one RELRO', NOTES, 0, (KIND, RELRO)),
+        ('notes of another alignment', 'as loaders have it', elf.PROPERTY, 0, (ALIGN, 16)),
+        ('the table of parts', 'None', NOTES, 0, (KIND, TABLE), *at_64, (FILLED, size),
+         (SIZE, size)),
+        ('a dynamic table without an end', 'no end', DYNAMIC, 0, (FILLED, 32), (SIZE, 32)),
         ('an empty part', 'a part is empty', NOTES, 0, (KIND, LOAD), *nothing),
         ('smaller pages', 'not aligned', LOAD, 0, (ALIGN, small)),
         ('notes elsewhere in the file', 'elsewhere in', NOTES, 0, (OFFSET, code.offset)),
         ('a table over the end of a part', 'elsewhere in', LOAD, -1, (FILLED, last.filled - 8)),
+        ('a part at another place of its pages', 'not aligned', LOAD, e.code_at,
+         (OFFSET, code.offset + 16)),
         ('pages of another size', 'not aligned', LOAD, 0, (ALIGN, code.align * 5 // 4)),
         ('memory without end', 'more than 67108864', LOAD, -1, (SIZE, 2**46)),
         ('tables that can not be read', 'can not be read', LOAD, 0, (RIGHTS, EXECUTE)),
@@ -132,7 +159,15 @@ def of_segments(e):
         ('no dynamic table in the file', 'elsewhere in', DYNAMIC, 0, (FILLED, 0)),
         ('another table of parts', 'another', NOTES, 0, (KIND, TABLE), (FILLED, 999), (SIZE, 999)),
         ('a shorter table of parts', 'another one', NOTES, 0, (KIND, TABLE), *at_64),
+        ('a dynamic table at address 0', 'at address 0', DYNAMIC, 0, (START, 0), (OFFSET, 0)),
         ('a table of parts that can change', 'another one', LOAD, 0, (RIGHTS, 6)))] + [
+            ('a table of parts over the end of one', 'another one', e.move_table,
+             code.offset + code.filled - 100),
+            *[('a part over a page of one byte', 'mapped over', lambda: (
+                e.segment(LOAD, e.code_at, (FILLED, to_page), (SIZE, to_page)),
+                e.segment(LOAD, e.code_at + 1, (
+                    START, (code.start + to_page - 1) + after.offset % code.align))))][
+                        e.elf.machine == 183:],
             ('another dynamic table in the file', 'elsewhere in', lambda: (
                 e.segment(DYNAMIC, 0, (OFFSET, len(e.content))),
                 e.content.extend(e.content[last.offset:last.offset + 256])))]
@@ -143,12 +178,20 @@ def of_dynamic_table(e):
     count, code = struct.pack('<II', 1, len(e.elf.symbols)), e.code.start
     return [(name, reason, e.entry, *change) for name, reason, *change in (
         *((f'an entry {tag:#x}', 'do more', SONAME, tag, code) for tag in sorted(TAGS)),
-        *((f'a flag {1 << bit:#x} of {tag:#x}', 'do more', elf.FLAGS, tag, 1 << bit)
+        *((f'a flag {1 << bit:#x} of {tag:#x}', 'do more', 30, tag, 1 << bit)
           for tag, bits in BITS.items() for bit in bits),
+        ('no name', 'None', SONAME, BIND_NOW),
+        ('flags that are allowed', 'None', 30, 30, 10),
+        ('other flags that are allowed', 'None', SONAME, 0x6ffffffb, 9),
         ('no table of hashes', 'no DT_GNU_HASH', elf.HASHES, BIND_NOW),
         ('two of them', 'twice', SONAME, elf.HASHES, code),
         ('a table beyond memory', 'not in memory', SONAME, elf.COUNTED, 2**40),
+        ('strings beyond memory', 'strings are not', elf.STRINGS, elf.STRINGS, 2**40),
+        ('strings without an end', 'have no end', elf.STRINGS_SIZE, elf.STRINGS_SIZE,
+         e.elf.table[elf.STRINGS_SIZE] - 1),
         ('a count of other symbols', 'counts other', SONAME, elf.COUNTED, names))] + [
+            ('a count of its symbols', 'None',
+             lambda: (e.entry(SONAME, elf.COUNTED, e.place + 8), e.bytes_at(e.place + 8, count))),
             ('a table that can be written', 'only read',
              lambda: (e.entry(SONAME, elf.COUNTED, written), e.bytes_at(written, count)))]
 
@@ -161,18 +204,26 @@ def of_names(e):
     chains, code = buckets + 4 * len(e.elf.buckets), e.elf.chains[at]
     every, numbers = b'\xff' * size, [*e.elf.buckets, *e.elf.chains]
     three = struct.pack(f'<II24s{len(numbers)}I', 3, e.elf.shift, every, *numbers)
-    word, bits = code // 64 % len(e.elf.filter), (3 << (code & 62), 1 << (code >> e.elf.shift) % 64)
+    first = e.elf.symbols[e.elf.first][0].decode()
+    filters = [(name, number // 64 % len(e.elf.filter), bit) for name, number in (
+        (NAME, code), (first, e.elf.chains[0])) for bit in (
+            3 << (number & 62), 1 << (number >> e.elf.shift) % 64)]
     early = next(k for k, one in enumerate(e.elf.chains) if not one & 1)
     return [(name, reason, e.bytes_at, *change) for name, reason, *change in (
         ('the name of another library', 'would take it for', soname, b'libc.so.6\0'),
         *((f'{one} in its name', 'would take it for', soname + 11, one.encode()) for one in '/$'),
+        ('no buckets', 'in different ways', names, bytes(4)),
+        ('a filter of no words', 'in different ways', names + 8, bytes(4)),
         ('a symbol before the first', 'before its first', names + 4, b'\0\0\1'),
         ('a filter of three words', 'in different ways', names + 8, three),
-        ('a shift of 40 bits', 'in different ways', names + 12, bytes([40, 0, 0, 0]) + every),
+        ('a shift of 32 bits', 'in different ways', names + 12, bytes([32, 0, 0, 0]) + every),
         ('a name of no function', 'lacks..also exports', e.elf.table[elf.STRINGS] +
          e.elf.strings.index(b'komihash_v4_pad\0'), b's'),
-        *((f'a filter without bit {k}', f'lacks..{NAME}', names + 16 + 8 * word,
-           struct.pack('<Q', e.elf.filter[word] & ~bit)) for k, bit in enumerate(bits)),
+        *((f'a filter without {bit:#x} of {name}', f'lacks..{name}', names + 16 + 8 * word,
+           struct.pack('<Q', e.elf.filter[word] & ~bit)) for name, word, bit in filters),
+        ('many buckets', 'names need', names, struct.pack('<I', 2**17)),
+        ('another last hash', 'lacks', chains + 4 * len(e.elf.chains) - 4,
+         bytes([e.elf.chains[-1] & 255 ^ 2])),
         ('another hash', f'lacks..{NAME}', chains + 4 * at + 2, bytes([code >> 16 & 255 ^ 1])),
         ('a chain that ends early', 'lacks', chains + 4 * early,
          bytes([e.elf.chains[early] & 255 | 1])))] + [
@@ -180,7 +231,11 @@ def of_names(e):
                  *((f'a symbol with {number:#x} at {field[0]}', 'no function', field, number)
                    for field, numbers in SYMBOLS.items() for number in numbers),
                  *((f'a symbol with {number:#x} at {field[0]}', 'None', field, number)
-                   for field, number in ((EXTENT, 0), (INFO, 0x22), (OTHER, 3))),
+                   for field, number in ((EXTENT, 0), (INFO, 0x22), (OTHER, 3), (SECTION, 1))),
+                 *[('a symbol of data', 'no function', VALUE, e.elf.table[elf.STRINGS])][
+                     e.elf.machine == 183:],
+                 ('a symbol before the code', 'no function', VALUE, (e.code.start - 8) % 2**64),
+                 ('a name beyond the strings', 'not among', NAMED, 2**31),
                  ('two functions with one name', f'lacks..{NAME}', NAMED, other),
                  ('another function', f'{NAME}, rand_next()', VALUE, elsewhere))]
 
@@ -199,60 +254,37 @@ def changes(e):
              e.instruction, '', 10)]
 
 
-def refusal(content, level, name=NAME, red_zone=False, among=''):
-    """Why a library is refused, as far as those cases of a function show it that have `among` in
-    their names; or None. Loops come first."""
-    try:
-        image = cases.open_library(bytes(content), level, red_zone=red_zone)
-        names_there(image, cases.NAMES, False)
-    except Unknown as unknown:
-        return f'{unknown}'
-    some = [case for case in cases.cases_of(name) if among in f'{case}']
-    assert some, f'no case has {among} in its name'
-    found = map(cases.run_case, sorted(some, key=lambda case: not case.has_loop()))
-    return next((f'{done.case}: {done.failure}' for done in found if done.failure), None)
-
-
-def is_wanted(name):
-    """Whether a row is to be run. With ROW in the environment, only the row of this name is."""
-    return os.environ.get('ROW', name) == name
-
-
-def count(found):
-    """Prints rows, and whether each part of a reason was found: `..` parts them, `/` choices."""
-    passed = failed = 0
-    for name, reason, why in found:
-        fits = why is None if reason == 'None' else all(
-            any(one in f'{why}' for one in part.split('/')) for part in reason.split('..'))
-        passed, failed = passed + fits, failed + (not fits)
-        print(f'{"ok" if fits else "FAILED"}: {name}: {why}', flush=True)
-    print(f'{passed} passed, {failed} failed')
-    return failed > 0
-
-
-def told(edit, level, right):
-    """What the command prints of a file and a right one, and its status."""
+def told(edit, change, level, right):
+    """What the command prints of an edited file and the right one, and its status."""
+    change()
     with tempfile.NamedTemporaryFile(buffering=0) as file:
         file.write(edit.content)
-        done = subprocess.run([sys.executable, '-B', VERIFY, '--some', '--function', OTHER_NAME,
-                               NAME, '--', f'{level}:{file.name}', right], check=False, text=True,
-                              stdout=subprocess.PIPE, stderr=subprocess.DEVNULL)
+        done = subprocess.run(
+            [sys.executable, '-B', VERIFY, '--some', '--function', OTHER_NAME, NAME, '--',
+             level + file.name, level + right], check=False, text=True, stdout=subprocess.PIPE,
+            stderr=subprocess.DEVNULL)
     return f'{done.stdout}{done.returncode}'
 
 
-def rows(libraries):
+def refused(edit, content, level, change, *args):
+    """Why an edited library is refused, if it is."""
+    edit.content[:] = content
+    change(*args)
+    return refusal(edit.content, level, NAME)
+
+
+def rows(*libraries):
     for level, path in (one.split(':', 1) for one in libraries):
         with open(path, 'rb') as file:
             content = file.read()
         edit = Edit(content, level)
-        for name, reason, change, *args in changes(edit):
-            edit.content[:] = content
-            change(*args)
-            if is_wanted(name):
-                yield name, reason, refusal(edit.content, level)
-            if name in TOLD and is_wanted(f'{name}, by the command'):
-                yield f'{name}, by the command', TOLD[name], told(edit, level, f'{level}:{path}')
+        for name, reason, *change in changes(edit):
+            find = functools.partial(refused, edit, content, level, *change)
+            yield Row(name, reason, find)
+            if name in TOLD:
+                yield Row(f'{name}, by the command', TOLD[name], functools.partial(
+                    told, edit, find, f'{level}:', path))
 
 
 if __name__ == '__main__':
-    sys.exit(count(rows(sys.argv[1:])))
+    sys.exit(count(rows(*sys.argv[1:])))

@@ -7,10 +7,9 @@ import re
 import subprocess
 import sys
 import tempfile
-C = pathlib.Path(__file__).resolve().parent.parent.parent
-from attacks import NAME, count, is_wanted, refusal
-from cases import results
+from rows import Row, cases, count, refusal
 
+C = pathlib.Path(__file__).resolve().parent.parent.parent
 LIBRARY = 'libkomihash_rattle.so.1'
 # A name, a function (or that of NAME), why it is refused, if it is, and a body, before which `red
 # zone` may stand. If the name of a case and `..` come before the reason, only such cases are run.
@@ -32,6 +31,12 @@ a call of the next||no meaning|xor eax, eax; call 1f; 1: inc eax; cmp eax, 2; ja
 flags of a shift|v5_save|save(5,)..flag z is read|mov rcx, rdx; cmp rax, rax; shl r8, cl; jne 1f; 1:
 the red zone|||red zone; mov [rsp - 128], rdi; mov rdi, [rsp - 128]
 below the red zone||below the stack pointer|red zone; mov [rsp - 129], al
+a red zone that stays|||red zone; mov [rsp - 64], rdi; push rax; pop rax; mov rdi, [rsp - 64]
+all of the stack|||sub rsp, 4096; add rsp, 4096
+a vector of one byte further||not aligned to 16|sub rsp, 40; movaps [rsp + 1], xmm0; add rsp, 40
+a frame by the room|v5_save|save(5,)..|mov r10, rdx; and r10d, 8; sub rsp, r10; add rsp, r10
+a number by the room|v5_save|save(5,)..|cmp rdx, 5000; cmovb r10, rdx
+where in its page the library is|||lea rax, [rip + __ehdr_start]; test eax, 4095; je body; not rdi
 a red zone moved||not written|red zone; mov [rsp - 121], al; pop rax; push rax; mov al, [rsp - 121]
 more than the stack||out of the stack|sub rsp, 4097; add rsp, 4097
 a return address that a loop loses|v5_pad|Pad..not written|pad "add rsp, 8", "", "sub rsp, 8"
@@ -42,13 +47,26 @@ an old generator|v5_rand_fill|Fill..does not have|push r15; mov r15, [rdi]; call
 a word that a loop loses|v5_pad|Pad..not written|
     pad "sub rsp, 8; cmp rsi, 5000; jb 1f; mov [rsp], rsi; 1:", "", "mov r11, [rsp]; add rsp, 8"
 a stack that is lower at the end||not where the caller left it|push [rsp]
+a step over the caller's frame||out of the stack|lea rsp, [rsp + 256]; lea rsp, [rsp - 256]
+a byte that was popped||not written|push rdi; pop rax; sub rsp, 8; mov rdi, [rsp]; add rsp, 8
+a turn that writes after the generator|v5_rand_fill|Fill..in no array|turn: cmp INDEX, 500; jne 1f;
+    mov [rdi + 16], INDEX; 1:
+a call that begins at the exit|v5_pad|Pad..the rest|pad "cmp rsi, 200; je .Lrest", "", ""
+a write that takes bytes before its own|v5_write|Write(5,)..more than all was taken|
+    cmp qword ptr [rdi + 64], 5; jne body; lea rax, [rdx + 5]; cmp rax, 128; jb body; test al, 64;
+    jne body; mov rdx, rax; sub rsi, 5; xor eax, eax; mov [rdi], rax; mov [rdi + 64], rax; jmp body
+one by one of 32 values|v5_save|save(5,)..must be refused|mov r10, rdx; and r10d, 31;
+    cmp byte ptr [rdi + r10], 0; cmp r10, 31; jne body; mov eax, 1; ret
+a write of 150 bytes|v5_write|Write(13,)..the stream at|
+    push rdx; call body; pop rdx; ret; next: cmp qword ptr [rsp + FRAME], 150; jne 1f; not LANE; 1:
+a constant over the end||in no array|.hidden __etext; lea rax, [rip + __etext]; mov rax, [rax - 4];
+    shr rax, 32; je 1f; xor eax, eax; ret; 1:
 a loop without end||more than 20000|1: jmp 1b
 code where nothing can run||not known|jmp 1f; .pushsection .rodata; 1: jmp body; .popsection
 the highest bit of 0||2 ways|mov rcx, -1; xor eax, eax; bsr ecx, eax; shr rcx, 32; jne 1f; 1:
 a byte above the call||in no array|mov [rsp + 8], al
 what may be written||in no array|.pushsection .data; 2: .quad 0; .popsection; mov rax, [rip + 2b]
 an address of 32 bits||not known|.byte 0x67; lea rax, [-1]
-an instruction of newer processors||not known for x86-64|palignr xmm0, xmm0, 1
 a word half below the stack||below the stack pointer|mov [rsp - 4], rdi
 a byte far below||not written|
     sub rsp, 256; mov [rsp], al; add rsp, 256; sub rsp, 256; mov al, [rsp]; add rsp, 256
@@ -66,6 +84,9 @@ another result of one|v5_pad|Pad..length: found 0x1|test rcx, rcx; jne body; mov
 a long one that is copied|v5_pad|Pad..a turn of a call that is refused|mov rcx, -1; pad "", "", ""
 one that needs less room|v5_save|save(0,)..must be refused|cmp rdx, 130; jb body; mov edx, 131
 a refused text that is written|v5_resume|resume(0,)..of stream were written|mov byte ptr [rdi], 0
+a word of 0|v5_unpad|unpad(1, None)..|nop
+a word of 0 after another|v5_unpad|unpad(2, None)..|nop
+a word of 1|v5_unpad|unpad(1, (0, 1))..|nop
 no text, and a bool of 2|v5_resume|resume(0,)..result: found 0x2|mov eax, 2; ret
 a byte of an old stream|v5_init|not written|mov al, [rdi + 80]
 one after a long write to five bytes|v5_write|Write(5,)..at 0|
@@ -102,8 +123,20 @@ a jump by the top bit|v4_save|save(5,)..depends on top bit|cmp byte ptr [rdi + 1
 one of an address|v5_save|save(5,)..depends|mov al, [rdi + 72]; and eax, 1; mov al, [rdi + rax]
 a jump by where the library is||2 ways|lea rax, [rip + __ehdr_start]; test eax, 4096; jne 1f; 1:
 '''
+V2 = X86[0], X86[1] + '''
+an instruction of newer processors||not known for x86-64|palignr xmm0, xmm0, 1
+a jump by a high half|v5|Hash(0,)..depends on high|call body; test rdx, rdx; je 1f; 1: ret
+'''
+V3 = X86[0], X86[1] + '''
+an instruction of newer processors||not known for x86-64-v3|vpternlogq ymm0, ymm0, ymm0, 1
+a vector over a generator||in no array|vmovups xmm0, [rdi]; vmovups [rdi], ymm0; vzeroupper
+a vector on the stack|||
+    vmovups ymm0, [rip + __ehdr_start]; sub rsp, 40; vmovups [rsp], ymm0; add rsp, 40
+'''
 ARM = '', '''
 a frame not aligned||not aligned to 16|sub sp, sp, 8; str x0, [sp]; add sp, sp, 8
+a load from a frame not aligned||not aligned to 16|sub sp, sp, 24; mov x10, sp; str x9, [x10];
+    ldr x9, [sp]; add sp, sp, 24
 a store of the register that it moves||no meaning|mov x9, sp; .inst 0xf8008529
 a hint that changes x30||not known|hint 25
 another one||not known|hint 7
@@ -132,7 +165,7 @@ v5|hash_of(9,)|read rdi 9 rsi
 v5|Hash(0,)|read rdi 128 rsi|read rdi+rsi-64 64|
     read BYTES 128 LEFT: turn: cmp LEFT, 5000; jne 1f; _; 1:
 v5_init|start_of|write rdi 144
-v5_write|write_within(5, 9)|both rdi 144|read rsi 9 rdx
+v5_write|write_of(5, 9)|both rdi 144|read rsi 9 rdx
 v5_write|Write(13,)|both rdi 144|read rsi 50|
     read BYTES 128: turn: cmp LEFT, 5000; jne 1f; _; 1:|
     read rsi+r9-1 1: after "mov r9, rdx; sub r9, [rdi + 64]; _"
@@ -141,7 +174,7 @@ v5_save|save(5,)|read rdi 144|write rsi 73: cmp rdx, 131; jb body; _
 v5_resume|resume(68,)|write rdi 144: after "test al, al; je 1f; _"|read rsi 68 rdx
 v5_rand_next|rand_next()|both rdi 16
 v5_rand_fill|rand_fill(5,)|both rdi 16|write rsi 5 rdx
-v5_rand_fill|Fill|both rdi 16|write OUT+8*INDEX 8: turn: cmp INDEX, 500; jne 1f; _; 1:
+v5_rand_fill|Fill|both rdi 16|write OUT+8*INDEX TURN: turn: cmp INDEX, 500; jne 1f; _; 1:
 v5_pad|pad(9,)|read rdi 9 rsi|write rdx 16: cmp rcx, 2; jb body; _
 v5_pad|Pad|read rdi+rsi-128 128
 v5_unpad|unpad(2, (0, 1))|read rdi 16 8*rsi|both rdx 8: after "cmp rax, -1; je 1f; _"
@@ -152,12 +185,13 @@ OUTPUTS = '''
 v5|hash_of(9,)|hash: bts rax, 63
 v5|Hash(0,)|hash: cmp rsi, 256; jne 1f; bts rax, 63
 v5|Hash(7,)|hash: cmp rsi, 319; jne 1f; bts rax, 63
-v5_write|write_within(5, 3)|at 136: not byte ptr [rdi + 136]
+v5_write|write_of(5, 3)|at 136: not byte ptr [rdi + 136]|at 16: not byte ptr [rdi + 20]
 v5_write|Write(13,)|at 0: cmp byte ptr [rdi + 64], 0; jne 1f; not byte ptr [rdi]|
-    at 0: cmp byte ptr [rdi + 64], 63; jne 1f; not byte ptr [rdi]
+    at 0: cmp byte ptr [rdi + 64], 63; jne 1f; not byte ptr [rdi]|
+    at 0: cmp rdx, 100; jne 1f; not byte ptr [rdi]
 v5_finish|finish(5, 1)|hash: xor al, [rdi + 143]
 v5_save|save(5,)|bytes: test al, al; je 1f; rol qword ptr [rsi + 4], 8|result: inc rax|
-    result: cmp rax, 1; adc eax, 0
+    result: bts rax, 40|result: cmp rax, 1; adc eax, 0
 v5_resume|resume(68,)|at 137: test al, al; je 1f; or byte ptr [rdi + 137], 2
 v5_rand_init_with_extra_seed|rand_init|s1: inc rax|s2: inc rdx
 v5_rand_next|rand_next|output: inc rax|s2: not byte ptr [rdi + 8]
@@ -175,25 +209,28 @@ v5_unpad|Unpad((7, 1),)|length: cmp rsi, 33; jne 1f; or al, 128|
 '''
 LOOPS = {'v5': '_R.*hash_of_blocksKh5_.*', 'v5_rand_fill': 'komihash_v5_rand_fill',
          'v5_write': '_R.*Kh5_.*complete_blocks.*'}
+# How many bytes a turn of a fill writes.
+TURN = {'x86-64': '8', 'x86-64-v3': '16'}
 # The registers of these loops, whatever the compiler chose: what is multiplied, a lane, the address
 # of the bytes that are read, and how many are left; in a fill the address, the index of the word,
 # and how many words there are. FRAME is how far above the stack pointer a body's last push lies.
-ROLES = {'FACTOR': r'mulq\t%(\w+)', 'LANE': r'addq\t%(\w+), %', 'BYTES': r'\t56\(%(\w+)\)',
+ROLES = {'FACTOR': r'mulx?q\t%(\w+)', 'LANE': r'addq\t%(\w+), %', 'BYTES': r'\t56\(%(\w+)\)',
          'LEFT': r'cmpq\t\$\d+, %(\w+)\n\tja', 'OUT': r'\(%(\w+),%\w+,8\)',
          'INDEX': r'\(%\w+,%(\w+),8\)', 'COUNT': r'cmpq\t%\w+, %(\w+)\n\tjne'}
 OUTPUTS += 'v5_start|start_of|address: inc rax' + ''.join(
     f'|at {k & -8}: not byte ptr [rdi + {k}]' for k in (*range(7, 136, 8), 136))
 # Assembly, marks after which bodies begin, the syntax of bodies and of the rest, macros and rows.
-KINDS = {'x86-64': ('x86_64', '\tendbr64\n', '.intel_syntax noprefix\n', '.att_syntax\n', X86),
+KINDS = {'x86-64': ('x86_64', '\tendbr64\n', '.intel_syntax noprefix\n', '.att_syntax\n', V2),
+         'x86-64-v3': ('x86_64_v3', '\tendbr64\n', '.intel_syntax noprefix\n', '.att_syntax\n', V3),
          'armv8-a': ('aarch64', '\thint\t#34\n', '', '', ARM)}
 
 
-def rows(level):
+def table(level):
     """The name, function, reason and body of each row."""
     return [*lines(KINDS[level][-1][1]),
             *([f'{one} of the caller', '', f'{one} of the caller is lost', body]
-              for one, body in SAVED[level]),
-            *([*of_arrays(), *of_outputs()] if level == 'x86-64' else ())]
+              for one, body in SAVED[level.removesuffix('-v3')]),
+            *([*of_arrays(level), *of_outputs()] if level in TURN else ())]
 
 
 def lines(table):
@@ -208,9 +245,9 @@ def of_outputs():
             yield f'{function}, {case}: {do}', function, f'{case}..{what}', f'after "{do}"'
 
 
-def of_arrays():
+def of_arrays(level):
     """For each array, the last byte, those that may not be reached or written, and jumps by it."""
-    for function, case, *arrays in lines(ARRAYS):
+    for function, case, *arrays in lines(ARRAYS.replace('TURN', TURN[level])):
         for words, _, body in (array.partition(': ') for array in arrays):
             kind, base, *sizes = words.split()
             ends, access = [f'{base} + {size}' for size in sizes], ACCESS[kind].format
@@ -251,21 +288,28 @@ def build(path, level, compiler, name, body):
                     '-x', 'assembler-with-cpp', '-'], input=code.encode(), check=True)
 
 
-def judge(level, compiler, row):
-    """The name of a row, its reason, and what is found."""
-    name, function, reason, body = row
-    function, (among, _, wanted) = function or NAME[len('komihash_'):], reason.rpartition('..')
-    with tempfile.TemporaryDirectory() as folder:
-        path = os.path.join(folder, LIBRARY)
-        build(path, level, compiler, function, body.removeprefix('red zone; '))
-        why = refusal(pathlib.Path(path).read_bytes(), level, f'komihash_{function}',
-                      body.startswith('red zone'), among)
-    return name, reason if wanted else 'None', why
+def found(path, level, compiler, function, among, body):
+    """Why the library with a body is refused, if it is. It is built once."""
+    red_zone = body.startswith('red zone')
+    if not path.exists():
+        path.parent.mkdir(parents=True, exist_ok=True)
+        new = f'{path}.{os.getpid()}'
+        build(new, level, compiler, function, body.removeprefix('red zone; '))
+        os.replace(new, path)
+    return refusal(path.read_bytes(), level, f'komihash_{function}', red_zone, among)
+
+
+def rows(level, compiler, folder):
+    for number, (name, function, reason, body) in enumerate(table(level)):
+        function, (among, _, wanted) = function or 'v5_rand_next', reason.rpartition('..')
+        path = pathlib.Path(folder, level, f'{number}', LIBRARY)
+        yield Row(name, reason if wanted else 'None', functools.partial(
+            found, path, level, compiler, function, among, body))
 
 
 def main(level, compiler):
-    jobs, do = len(os.sched_getaffinity(0)), functools.partial(judge, level, compiler)
-    return count(results(jobs, do, [row for row in rows(level) if is_wanted(row[0])]))
+    with tempfile.TemporaryDirectory() as folder:
+        return count(rows(level, compiler, folder))
 
 
 if __name__ == '__main__':

@@ -1,21 +1,23 @@
 """Leaves out calls of a right library, which must be missed, and changes the definition and what
 else a claim needs, after which nothing may be claimed: changes.py x86-64:LIBRARY."""
+import functools
 import sys
 from unittest import mock
-from attacks import cases, count, is_wanted, refusal
+from rows import Row, cases, count, refusal
 import any_length
 import report
 import streams
 import vectors
 import z3
-from calls import Call
+from calls import Call, named
 from definition import State
 from header import parameters
-from terms import Unknown, bv, join
+from terms import Unknown, bv, join, secret
 
 # By function, the calls that are left out.
 CALLS = {
-    '': 'bytes == 0; And(length == 9, bytes == 2**64 - 10); length == 127; length == 2**63 - 1',
+    '': 'bytes == 0; bytes == 1; And(length == 9, bytes == 2**64 - 10); length == 127; '
+        'length == 2**63 - 1',
     '_start': 'stream == 2**64 - 152', '_rand_next': 'rand == 2**64 - 24',
     '_finish': 'stream == 8; had_block == 0; top_bit == 1; pending == 63',
     '_save': 'out + 131 == stream',
@@ -24,7 +26,8 @@ CALLS = {
             'And(length == 9, room == 5, out + 16 == bytes)',
     '_unpad': 'And(length == 16, last > 0x200); length == 2**60 - 1; '
               'And(length == 2, room == 16, last == 0x100, out + 15 == words); '
-              'And(length == 2, room == 15, last == 0x100, out == words)'}
+              'And(length == 2, room == 15, last == 0x100, out == words); '
+              'And(length == 1, room == 8, last == 0, out == words)'}
 
 
 def with_products(suffix, formula):
@@ -63,8 +66,17 @@ def changes(path, content):
            judge(suffix, 'all calls')) for suffix in CALLS for one in CALLS[suffix].split('; ')),
         ('a case of no calls', 'contradict', without('_rand_next', 'True'),
          judge('_rand_next', 'rand_next()')),
-        ('a message of zeros', 'is not any', (Call, 'message', lambda call, n, zero=[bv(0, 8)]: (
-            call.array('bytes', n, zero * n), zero * n)), judge('', 'all calls')),
+        *((f'a message {name}', 'is not any', (Call, 'message', lambda call, n, do=do: (
+            call.array('bytes', n, do(n)), do(n))), judge('', 'all calls')) for name, do in (
+                ('of zeros', lambda n: [bv(0, 8)] * n),
+                ('with a zero', lambda n: [bv(0, 8), *named('bytes', range(1, n))][:n]),
+                ('of even bytes', lambda n: [one << 1 for one in named('bytes', range(n))]))),
+        ('words with a zero', 'is not any', (cases.fixed, 'padded_content',
+            lambda call, content, last, do=cases.fixed.padded_content: do(
+                call, [bv(0, 8), *content[1:]], last)), judge('_unpad', 'all calls')),
+        ('lanes that are alike', 'is not any', (cases.fixed, 'some_state', lambda version, n, block:
+            State([secret('lane s1')] * 8, named('pending', range(n)), block)),
+         judge('_finish', 'all calls')),
         ('products', 'the definition has', with_products('_start', '2'), judge('_start', '')),
         ('products of a long call', 'the definition has',
          with_products('_rand_fill', '(n+7)//8 + n//255'), judge('_rand_fill', 'Fill')),
@@ -72,10 +84,13 @@ def changes(path, content):
            judge('', 'Hash(0,)')) for name in ('block_round', 'hash_from_pair')),
         ('a wrong loop', '(0, 1)', (any_length.Pad, 'PRODUCTS', 1), lambda: report.verify('x86-64',
             path, mock.Mock(function=['komihash_v4_pad'], jobs=4, red_zone=0), cases.Ours)),
-        ('a witness of what is asked', 'is no symbol', (cases.header, 'witness', lambda found, term,
-            value: found.update({value: term})), judge('_rand_next', 'all calls')),
+        *((f'a witness {name}', 'is no symbol', (cases.header, 'witness', do),
+           judge('_rand_next', 'all calls')) for name, do in (
+               ('of what is asked', lambda found, term, value: found.update({value: term})),
+               ('of a sum', lambda found, term, value: found.update({term + 1: value})),
+               ('of a number', lambda found, term, value: found.update({bv(1): value})))),
         ('a name that is not ours', 'also exports', (report, 'NAMES', cases.NAMES[1:]),
-         lambda: report.names_there(cases.LIBRARY.image, cases.NAMES, False)),
+         lambda: report.names_there(cases.open_library(content, 'x86-64'), cases.NAMES, False)),
         ('another hash of streams', 'for 0 bytes',
          (streams, 'komi', lambda *given, do=streams.komi: do(*given) + 1), definition),
         ('the definition', 'None', (), definition),
@@ -86,19 +101,22 @@ def changes(path, content):
         ('an error of Z3', 'a process ended', (), lambda: [*cases.results(1, z3.BitVecSort, [0])])]
 
 
+def found(change, find):
+    """What is found when a name has another value."""
+    cases.terms.ANSWERS.clear()
+    with mock.patch.object(*change or (cases, 'SECONDS', cases.SECONDS)):
+        try:
+            return find()
+        except Unknown as unknown:
+            return unknown
+
+
 def rows(library):
     path = library.removeprefix('x86-64:')
     with open(path, 'rb') as file:
         content = file.read()
-    cases.open_library(content, 'x86-64')
-    for name, reason, change, find in changes(path, content):
-        if is_wanted(name):
-            with mock.patch.object(*change or (cases, 'SECONDS', cases.SECONDS)):
-                try:
-                    found = find()
-                except Unknown as unknown:
-                    found = unknown
-            yield name, reason, found
+    for name, reason, *change in changes(path, content):
+        yield Row(name, reason, functools.partial(found, *change))
 
 
 if __name__ == '__main__':

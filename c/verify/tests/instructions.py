@@ -1,23 +1,28 @@
-"""Compares single instructions with the processor: random encodings that opcodes.py allows are run
-in the model and really, and must leave the same registers, flags and memory, and go on at the same
-address. Each instruction that has a meaning must be compared, each conditional jump both ways. With
-ROW in the environment, only those of this name are: instructions.py LEVEL COMPILER [EMULATOR]."""
+"""Compares single instructions with the processor: random ones of each encoding in opcodes.py, and
+those of libraries. They are run in the model and really, and must leave the same registers, flags
+and memory, and go on at the same address. Each encoding must be compared, with each conditional
+jump both ways, and both values of each flag: instructions.py LEVEL[:LIBRARY].. COMPILER [EMULATOR].
+"""
 import collections
+import functools
 import os
+import pathlib
 import random
 import re
 import subprocess
 import sys
 import tempfile
 import types
-from attacks import is_wanted
+from unittest import mock
+from rows import Row, count
 import aarch64
 import machine
 import x86_64
 import z3
 from capstone import CS_OP_IMM, CS_OP_MEM, Cs
-from cases import PROCESSORS, Library, Ours
+from cases import PROCESSORS, Library, Ours, open_library
 from definition import Products
+from elf import EXECUTE
 from memory import MustSplit
 from opcodes import KNOWN_ARM64, KNOWN_X86, MAP_OF_VEX, PREFIX_OF_VEX, PREFIXES
 from terms import Refused, Unknown, bv, const, simple
@@ -26,6 +31,9 @@ from terms import Refused, Unknown, bv, const, simple
 # many are compared: FEW, or MANY if it jumps, since a jump of ARM64 may have the number of a bit.
 X86, ARM = PROCESSORS.values()
 TRIES, NEAR, FEW, MANY = 6000, 4, {X86: 16, ARM: 20}, {X86: 32, ARM: 384}
+# How often an instruction of a library is run, and flags that an instruction always sets so.
+TIMES, FIXED = 8, {'shr': {'s'}, **dict.fromkeys(
+    ('and', 'or', 'xor', 'test', 'andn', 'ands', 'tst'), {'c', 'v'})}
 OTHER_PREFIXES = *PREFIXES, 0x26, 0x36, 0x3e, 0x64, 0x65, 0xf0
 NEVER = {'bti', 'hint'}  # A version of capstone prints only one of these two.
 # The program reads and writes images, at BASE: memory that an instruction may access, from SAVED on
@@ -85,8 +93,6 @@ KNOWN = {X86: {name.replace('_', ' '): some for name, some in KNOWN_X86['x86-64-
 KNOWN[ARM].update((f'b.{name}', KNOWN[ARM]['b.']) for name in
                   'eq ne hs lo mi pl hi ls ge lt gt le'.split())
 MARCH = 'generic64+ibt', 'generic64+ibt+sse4.2', 'generic64+ibt+avx2+bmi+bmi2+lzcnt'
-# The code lies where its addresses say, so that all of them are numbers.
-machine.LOADED = x86_64.LOADED = aarch64.LOADED = bv(0)
 
 
 def x86_code(r, encoding, _, near):
@@ -112,7 +118,7 @@ def x86_code(r, encoding, _, near):
     operands = r.choice([*r.randbytes(2), 0xc4, 0xc2]) & 0xc7
     operands |= (int(reg) if reg else r.randrange(8)) << 3
     other = bytes([r.choice(OTHER_PREFIXES)] if near else [])
-    return other + code + opcode + bytes([operands, *r.randbytes(9)])
+    return other + code + opcode + bytes([operands, *r.choice([r.randbytes(9), bytes(9)])])
 
 
 def arm_code(r, encoding, number, near):
@@ -122,7 +128,8 @@ def arm_code(r, encoding, number, near):
     for bit in f'{number * 37 % 64:06b}':
         encoding = encoding.replace('.', bit, 1)
     operands, same = r.getrandbits(32), 33 * r.choice([31, number * 37 % 32])
-    operands = f'{r.choice([operands, operands & -1024 | same]):032b}'
+    whole = operands & ~(4095 << 10) | r.choice([31, 63]) << 10
+    operands = f'{r.choice([operands, operands & -1024 | same, whole]):032b}'
     bits = ''.join(bit if given == '.' else given for given, bit in zip(encoding, operands))
     return (int(bits, 2) ^ near * other).to_bytes(4, 'little')
 
@@ -131,7 +138,7 @@ def random_image(r, kind, i, flags, some):
     """An image before an instruction, in which an address of it is likely to lie. The bits of a
     number say which flags are set, and the rest of memory and of vectors is random bytes."""
     number = [*(op.imm for op in i.ops if op.type == CS_OP_IMM), 0][0]
-    likely = [0, 2**32, 2**63, 2**64 - 1, POINTER, number, *[1 << number % 64] * 2]
+    likely = [0, 2**32, 2**63, 2**64 - 1, POINTER, number, -number, *[1 << number % 64] * 2]
     values = {name: r.choice([*likely, ~likely[-1], r.getrandbits(6), *[r.getrandbits(64)] * 3])
               for name in WORDS[kind]}
     back = POINTER + 4 * r.randrange(-50, 50)
@@ -193,7 +200,8 @@ KINDS = {kind: type(kind.NAME, (OnNumbers, kind), {}) for kind in (X86, ARM)}
 
 def in_model(kind, i, image):
     """Runs an instruction in the model, in a function that was called. Returns whether a jump was
-    taken, and the numbers as of an image, or None for what is undefined."""
+    taken, the numbers as of an image, or None for what is undefined, and which flags are written,
+    with v for overflow."""
     library = Library(types.SimpleNamespace(instruction=lambda _: i), Ours, False)
     cpu, before = KINDS[kind](library, Products()), numbers(kind, image)
     cpu.sp, before['ssp'] = bv(POINTER + 2048), 2**64 - 8
@@ -213,84 +221,164 @@ def in_model(kind, i, image):
     for name, term in terms.items():
         changed = machine.number_of(term, 8) if name in cpu.flags else term
         after[name] = before[name] if term is given.get(name) else const(simple(changed))
-    return cpu.taken, after
+    flags = {name: after[name] for name, term in cpu.flags.items() if term is not given[name]}
+    if {'s', 'l'} <= flags.keys():
+        flags['v'] = flags['s'] ^ flags['l']
+    return cpu.taken, after, flags
 
 
-def chosen(r, kind, level, ways):
-    """Yields instructions, images before and numbers after them, and notes which ways they go."""
-    decoder, code = Cs(*kind.DECODER), x86_code if kind is X86 else arm_code
-    decoder.detail = True
-    for encoding in sorted({one for name in ways for one in KNOWN[kind][name]}):
-        count, some = collections.Counter(), r.randbytes(CODE)
+def is_simple(i):
+    """Whether an instruction has one operand in memory, by registers that it doesn't change."""
+    of_memory = [op.mem for op in i.ops if op.type == CS_OP_MEM]
+    return len(of_memory) == 1 and of_memory[0].base and of_memory[0].base != of_memory[0].index \
+        and 'ip' not in i.reg_name(of_memory[0].base) and \
+        i.mnemonic.split()[0] not in ('rep', 'push', 'pop', 'call')
+
+
+class Runs:
+    """Runs of instructions in the model, the ways that they must go and went, and for each text the
+    levels whose processors should have it."""
+
+    def __init__(self, kind, level, seed):
+        self.kind, self.level, self.r = kind, level, random.Random(seed)
+        self.decoder, self.some = Cs(*kind.DECODER), self.r.randbytes(CODE)
+        self.decoder.detail = True
+        self.list, self.ways, self.known = [], collections.defaultdict(set), {}
+
+    def decoded(self, code):
+        """An instruction, if it is allowed."""
+        i = next(self.decoder.disasm(code, START), None)
+        if i is None or not self.kind.is_known(i, self.level):
+            return None
+        i.ops, i.text = i.operands, i.op_str
+        self.known[f'{i.mnemonic} {i.text}'.replace('cs:', '')] = \
+            [level for level in self.kind.LEVELS if self.kind.is_known(i, level)]
+        return i
+
+    def add(self, i, number, ways):
+        """Runs an instruction on a random image. Returns whether it jumps, and None if it can't be
+        compared."""
+        image = random_image(self.r, self.kind, i, number, self.some)
+        try:
+            taken, after, flags = in_model(self.kind, i, image)
+        except (MustSplit, Refused, Unknown, z3.Z3Exception) as why:
+            # The image has the address where the operand says, so the model's must be there too.
+            if f'{why}'.endswith('another address') and is_simple(i):
+                self.ways[f'{told(i)}, which the model has at another address'] = set()
+            return None
+        ways[f'{i.mnemonic}, taken'].add(taken)
+        for flag in flags.keys() - FIXED.get(i.mnemonic, ()):
+            if flags[flag] is not None:
+                ways[f'{i.mnemonic}, flag {flag}'].add(bool(flags[flag]))
+        self.list.append((told(i), image, after))
+        return taken is not None or after['at'] != START + i.size
+
+    def of_encoding(self, names, encoding):
+        """Runs random instructions with an encoding, and some near it, until each way is met."""
+        count, code = 0, x86_code if self.kind is X86 else arm_code
         for number in range(TRIES * NEAR):
             near = number % NEAR > 0
-            i = next(decoder.disasm(code(r, encoding, number // NEAR, near), START), None)
-            if i is None or not kind.is_known(i, level) or i.mnemonic not in ways:
+            i = self.decoded(code(self.r, encoding, number // NEAR, near))
+            if i is None or i.mnemonic not in names:
                 continue
-            i.ops, i.text, name = i.operands, i.op_str, i.mnemonic
-            image = random_image(r, kind, i, count[name], some)
-            try:
-                taken, after = in_model(kind, i, image)
-            except (MustSplit, Refused, Unknown, z3.Z3Exception):
-                continue
-            ways[name].add(taken)
-            yield i, image, after
-            count[name] += not near
-            jumps = taken is not None or after['at'] != START + i.size
-            if not near and count.total() == (MANY if jumps else FEW)[kind]:
+            jumps = self.add(i, count, collections.defaultdict(set) if near else self.ways)
+            count += not near and jumps is not None
+            if not near and jumps is not None and count >= (MANY if jumps else FEW)[self.kind] and \
+                    not self.missing():
                 break
-        if not count.total() and 'ROW' not in os.environ:
-            ways[encoding] = set()
+        if not count:
+            self.ways[encoding] = set()
+
+    def of_codes(self, codes):
+        """Runs instructions as they stand."""
+        for code in codes:
+            i, begin = self.decoded(code), len(self.list)
+            for number in range(4 * TIMES if i else 0):
+                if len(self.list) < begin + TIMES:
+                    self.add(i, number, collections.defaultdict(set))
+            if i and begin == len(self.list) and is_simple(i):
+                self.ways[f'{told(i)}, which never runs'] = set()
+
+    def missing(self):
+        return [f'of {what}, only this is compared: {found}' for what, found in self.ways.items()
+                if found not in ({None}, {True, False})]
 
 
-def replies_of(kind, images, compiler, emulator):
-    """What the processor leaves of each image."""
+def told(i):
+    return f'{i.mnemonic} {i.text} ({i.bytes.hex()})'
+
+
+def differences(kind, level, command, run, *given):
+    """Runs instructions in the model and on the processor. Returns what differs, what was not
+    compared, and what should not be allowed; or None."""
+    with mock.patch.multiple(machine, LOADED=bv(0)), mock.patch.multiple(x86_64, LOADED=bv(0)), \
+            mock.patch.multiple(aarch64, LOADED=bv(0)):
+        runs = Runs(kind, level, f'{given[-1]}')
+        run(runs, *given)
+    replies = replies_of([image for _, image, _ in runs.list], command)
+    failed = [f'{text}: {what} is {after[what]:#x} in the model, and {real:#x} really'
+              for (text, _, after), image in zip(runs.list, replies)
+              for what, real in numbers(kind, image).items() if after[what] not in (None, real)]
+    failed += [f'the program ended at {text}' for text, *_ in runs.list[len(replies):][:1]]
+    return [*failed, *runs.missing(), *(lacking(runs.known) if kind is X86 else ())] or None
+
+
+def built(kind, compiler, path):
     values = dict(BASE=BASE, START=START, SAVED=SAVED, CODE=CODE, SIZE=SIZE, STOP=STOP[kind])
-    with tempfile.TemporaryDirectory() as folder:
-        program = f'{folder}/program'
-        subprocess.run([compiler, *(f'-D{name}={value}' for name, value in values.items()), '-xc',
-                        '-D_GNU_SOURCE', '-o', program, '-'], input=PROGRAM.encode(), check=True)
-        done = subprocess.run(['timeout', '600', *emulator, program], input=b''.join(images),
-                              stdout=subprocess.PIPE, check=False).stdout
+    subprocess.run([compiler, *(f'-D{name}={value}' for name, value in values.items()), '-xc',
+                    '-D_GNU_SOURCE', '-o', path, '-'], input=PROGRAM.encode(), check=True)
+    return path
+
+
+def replies_of(images, command):
+    """What the processor leaves of each image."""
+    done = subprocess.run(['timeout', '600', *command], input=b''.join(images),
+                          stdout=subprocess.PIPE, check=False).stdout
     # The first is what the program left before it ran an instruction.
     return [done[k:k + SIZE] for k in range(SIZE, len(done) - SIZE + 1, SIZE)]
 
 
-def lacking(kind, found):
-    """Which instructions are allowed for a level of x86-64 whose processors lack them."""
-    for level, march in zip(X86.LEVELS, MARCH) if kind is X86 else ():
-        texts = [f'{i.mnemonic} {i.text}\n'.replace('cs:', '') for i, *_ in found
-                 if kind.is_known(i, level)]
-        told = subprocess.run(
+def lacking(known):
+    """Which instructions are allowed for a level whose processors lack them."""
+    for level, march in zip(X86.LEVELS, MARCH):
+        texts = sorted(text for text, levels in known.items() if level in levels)
+        said = subprocess.run(
             ['as', '-msyntax=intel', '-mnaked-reg', f'-march={march}', '-o', os.devnull],
-            input=''.join(texts), text=True, stderr=subprocess.PIPE, check=False).stderr
-        yield from (f'{texts[int(line) - 1][:-1]}: for {level}, the assembler says {why}'
-                    for line, why in re.findall(r':(\d+): Error: (.*)', told))
+            input=''.join(f'{text}\n' for text in texts), text=True, stderr=subprocess.PIPE,
+            check=False).stderr
+        yield from (f'{texts[int(line) - 1]}: for {level}, the assembler says {why}'
+                    for line, why in re.findall(r':(\d+): Error: (.*)', said))
 
 
-def failures(kind, found, replies, ways):
-    """What differs, what was not compared, and what should not be allowed."""
-    texts = [f'{i.mnemonic} {i.text} ({i.bytes.hex()})' for i, *_ in found]
-    for text, (_, _, after), image in zip(texts, found, replies):
-        for what, real in numbers(kind, image).items():
-            if after[what] not in (None, real):
-                yield f'{text}: {what} is {after[what]:#x} in the model, and {real:#x} really'
-    yield from (f'the program ended at {text}' for text in texts[len(replies):][:1])
-    for name in sorted(ways.keys() - NEVER):
-        if ways[name] not in ({None}, {True, False}):
-            yield f'{name}: of whether a jump is taken, only this is compared: {ways[name]}'
-    yield from lacking(kind, found)
+def codes_of(path, level):
+    """The different instructions of a library."""
+    image = open_library(pathlib.Path(path).read_bytes(), level)
+    image.decoder.skipdata = True
+    return {bytes(i.bytes) for part in image.elf.parts if part.flags & EXECUTE
+            for i in image.decoder.disasm(part.data, part.start)}
 
 
-def main(level, compiler, *emulator):
+def rows(folder, libraries, compiler, *emulator):
+    """For each encoding, its random instructions, and those of libraries as they stand."""
+    level, *paths = libraries.split(':')
     kind = next(kind for kind in PROCESSORS.values() if level in kind.LEVELS)
-    ways = {name: set() for name in kind.TABLE if name in KNOWN[kind] and is_wanted(name)}
-    found = list(chosen(random.Random(1), kind, level, ways))
-    replies = replies_of(kind, [image for _, image, _ in found], compiler, emulator)
-    failed = list(failures(kind, found, replies, ways))
-    print(*(f'FAILED: {one}\n' for one in failed), f'{len(replies)} instructions of {len(ways)} '
-          f'names do in the model what they do really, but for {len(failed)}', sep='')
-    return bool(failed)
+    names = {name for name in kind.TABLE if name in KNOWN[kind]}
+    program = pathlib.Path(folder, f'{level}.program')
+    if not program.exists():
+        os.replace(built(kind, compiler, f'{program}.{os.getpid()}'), program)
+    command = [*emulator, program]
+    do = functools.partial(functools.partial, differences, kind, level, command)
+    for encoding in sorted({one for name in names for one in KNOWN[kind][name]} - NEVER):
+        yield Row(f'{level}, {encoding}', 'None', do(Runs.of_encoding, names, encoding))
+    codes = sorted(set().union(*(codes_of(path, level) for path in paths)))
+    for k in range(0, len(codes), 32):
+        yield Row(f'{level}, instructions from {k} on', 'None',
+                  do(Runs.of_codes, codes[k:k + 32]))
+
+
+def main(*args):
+    with tempfile.TemporaryDirectory() as folder:
+        return count(rows(folder, *args))
 
 
 if __name__ == '__main__':

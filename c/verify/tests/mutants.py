@@ -1,53 +1,236 @@
-"""Makes the unsound changes of mutants.tsv, each in a copy of the check, and runs the row of the
-tests that must notice it: mutants.py LEVEL:LIBRARY.., for x86-64 and armv8-a. A line has a file,
-what stands there once, what is put for it, and the script, the level and the row, or mnemonic."""
+"""Changes the check by rule, one place at a time. A row of the tests must notice each change, or a
+line of mutants.tsv except it: mutants.py LEVEL:LIBRARY.., for x86-64 and armv8-a. SAMPLE=200 SEED=7
+draws 200 of them, and FILE=elf.py takes those of a file."""
+import ast
+import collections
+import contextlib
 import functools
 import os
 import pathlib
+import random
 import re
+import resource
 import shutil
+import signal
 import subprocess
 import sys
 import tempfile
-from concurrent.futures import ThreadPoolExecutor
-from attacks import count
+from concurrent.futures import ThreadPoolExecutor, as_completed
+
 VERIFY = pathlib.Path(__file__).resolve().parent.parent
+# These need no trust, or call one function.
+LEFT_OUT = {'__main__.py', 'guesses.py', 'second.py', 'examples.py', 'progress.py'}
 ARM = 'aarch64-linux-gnu-gcc', 'qemu-aarch64', '-L', '/usr/aarch64-linux-gnu'
+# For each level, the compiler of bodies.
+COMPILERS = {'x86-64-v3': 'cc', 'x86-64': 'cc', 'armv8-a': ARM[0]}
+# What is put for an operator.
+COMPARED = {ast.Lt: ('<', '<='), ast.LtE: ('<=', '<'), ast.Gt: ('>', '>='), ast.GtE: ('>=', '>'),
+            ast.Eq: ('==', '!='), ast.NotEq: ('!=', '=='), ast.In: ('in', 'not in'),
+            ast.NotIn: ('not in', 'in'), ast.Is: ('is', 'is not'), ast.IsNot: ('is not', 'is')}
+COMPUTED = {ast.Add: ('+', '-'), ast.Sub: ('-', '+'), ast.Mult: ('*', '+'), ast.BitAnd: ('&', '|'),
+            ast.BitOr: ('|', '&'), ast.BitXor: ('^', '&'), ast.LShift: ('<<', '>>'),
+            ast.RShift: ('>>', '<<'), ast.FloorDiv: ('//', '*'), ast.Mod: ('%', '//')}
+# How many seconds of processor time a row may take.
+SECONDS = 60
+# A change: bytes of a file from a place on, and what is put for them.
+Change = collections.namedtuple('Change', 'file at old new')
 
 
-def told(c, libraries, script, level, row):
-    """What a row fails with. After an error of Python, it has shown nothing."""
-    args = [one for one in libraries if one.startswith(f'{level}:')]
-    if script in ('bodies', 'instructions'):
-        args = (level, *(ARM if level == 'armv8-a' else ['cc']))[:2 if script == 'bodies' else None]
-    done = subprocess.run([sys.executable, '-B', c / f'verify/tests/{script}.py', *args],
-                          check=False, text=True, env={**os.environ, 'ROW': row},
-                          stdout=subprocess.PIPE, stderr=subprocess.STDOUT)
-    found = re.search(f'^FAILED: {re.escape(row)}[: ].*', done.stdout, re.M)
-    fails = found and done.returncode == 1 and 'Error' not in done.stdout
-    return f'noticed by {found[0]}' if fails else done.stdout
+def of_node(node, text):
+    """The changes of a node of the syntax: what is changed, a node or the operator between two, and
+    what is put for it."""
+    if isinstance(node, (ast.If, ast.IfExp, ast.While)):
+        yield from ((node.test, one) for one in ('True', 'False'))
+    elif isinstance(node, ast.comprehension):
+        yield from ((one, 'True') for one in node.ifs)
+    elif isinstance(node, ast.Compare):
+        for left, operator, right in zip([node.left, *node.comparators], node.ops,
+                                         node.comparators):
+            yield (left, right), COMPARED[type(operator)]
+    elif isinstance(node, ast.BoolOp):
+        yield from ((one, f'{isinstance(node.op, ast.And)}') for one in node.values)
+    elif isinstance(node, ast.Constant) and type(node.value) is int:
+        yield node, f'{node.value + 1}'
+    elif isinstance(node, ast.Expr) and isinstance(node.value, ast.Call) or \
+            isinstance(node, (ast.AugAssign, ast.Raise)):
+        yield node, 'pass'
+    elif isinstance(node, ast.BinOp) and type(node.op) in COMPUTED:
+        yield (node.left, node.right), COMPUTED[type(node.op)]
+    elif isinstance(node, ast.UnaryOp) and isinstance(node.op, ast.Not):
+        yield node, text(node.operand)
 
 
-def judge(libraries, line):
-    """A line, that it must be noticed, and what is found."""
-    file, old, new, *row = line.split('\t')
-    with tempfile.TemporaryDirectory() as folder:
-        c = pathlib.Path(folder, 'c')
+@functools.cache
+def changes_of(file):
+    """All changes by rule of a file. What is printed is left out."""
+    return [*each_change(file)]
+
+
+def each_change(file):
+    whole = (VERIFY / file).read_bytes()
+    lines = [0, *(found.end() for found in re.finditer(b'\n', whole))]
+
+    def span(node):
+        return (lines[node.lineno - 1] + node.col_offset,
+                lines[node.end_lineno - 1] + node.end_col_offset)
+
+    def text(node):
+        return whole[slice(*span(node))].decode()
+    todo = [ast.parse(whole)]
+    while todo:
+        node = todo.pop()
+        todo += (one for one in ast.iter_child_nodes(node) if not isinstance(one, ast.JoinedStr))
+        for place, new in of_node(node, text):
+            if isinstance(place, tuple):
+                at, end = span(place[0])[1], span(place[1])[0]
+                new = whole[at:end].decode().replace(*new)
+            else:
+                at, end = span(place)
+            change = Change(file, at, whole[at:end].decode(), new)
+            with contextlib.suppress(SyntaxError):
+                compile(changed(whole, change), file, 'exec')
+                yield change
+
+
+def changed(whole, change):
+    return whole[:change.at] + change.new.encode() + whole[change.at + len(change.old.encode()):]
+
+
+def told(change):
+    """A change as it is printed: its line, in which it stands in braces."""
+    whole = (VERIFY / change.file).read_bytes()
+    end = change.at + len(change.old.encode())
+    begin, stop = whole.rfind(b'\n', 0, change.at) + 1, (whole + b'\n').find(b'\n', end)
+    line = f'{whole[begin:change.at].decode()}{{{change.old} -> {change.new}}}' \
+           f'{whole[end:stop].decode()}'
+    return f'{change.file}:{whole.count(bytes([10]), 0, change.at) + 1}: {" ".join(line.split())}'
+
+
+def excepted():
+    """Which changes are sound, by the lines of mutants.tsv: a file, a text that stands there, and
+    why. In it, « » hold what may be changed in any way, or `old⇒new` for one change."""
+    found = set()
+    for line in pathlib.Path(__file__).with_suffix('.tsv').read_text().splitlines():
+        file, text, _ = line.split('\t')
+        before, part, after = re.fullmatch('(.*)«(.*)»(.*)', text).groups()
+        old, _, new = part.partition('⇒')
+        whole = (VERIFY / file).read_bytes()
+        begin = whole.find((before + old + after).encode()) + len(before.encode())
+        some = {one for one in changes_of(file) if (one.old, one.new) == (old, new)
+                and one.at == begin or not new and one.at in range(begin, begin + len(old))
+                and one.at + len(one.old) <= begin + len(old)}
+        if whole.count((before + old + after).encode()) != 1 or not some:
+            raise SystemExit(f'FAILED: {file} has not once {text}')
+        found |= some
+    return found
+
+
+# The scripts whose rows run what a file has.
+SCRIPTS = {
+    'elf.py': 'attacks', 'image.py': 'attacks bodies', 'opcodes.py': 'instructions',
+    **dict.fromkeys(('x86_64.py', 'aarch64.py'), 'instructions bodies'),
+    **dict.fromkeys(('header.py', 'vectors.py', 'streams.py'), 'changes'),
+    **dict.fromkeys(('cases.py', 'report.py'), 'changes commands')}
+
+
+def rows(folder, libraries):
+    """The rows of each script, and some cases of libraries that are right."""
+    import attacks
+    import bodies
+    import changes
+    import instructions
+    from rows import Row, cases
+    edits = [*attacks.rows(*libraries)]
+
+    def failure(level, path, case):
+        cases.open_library(pathlib.Path(path).read_bytes(), level)
+        return cases.run_case(case).failure
+    # Of each way in which cases of a function are checked, one.
+    right = [Row(f'{level}: {case}', 'None', functools.partial(failure, level, path, case))
+             for level, path in (one.split(':', 1) for one in libraries) for name in cases.NAMES
+             for case in {one.check: one for one in cases.cases_of(name)[::-2]}.values()]
+    return {
+        'right': [row for row in right if not row.find.args[2].has_loop()],
+        'long': [row for row in right if row.find.args[2].has_loop() and '_v5' in row.name],
+        'bodies': [*{row.name: row for level, compiler in COMPILERS.items()
+                     for row in bodies.rows(level, compiler, folder)}.values()],
+        'changes': [*changes.rows(libraries[0])],
+        'attacks': [row for row in edits if 'by the command' not in row.name],
+        'commands': [row for row in edits if 'by the command' in row.name],
+        'instructions': [row for args in (('x86-64-v3', 'cc'), ('armv8-a', *ARM))
+                         for row in instructions.rows(folder, *args)]}
+
+
+def first_that_fails(file, seed, folder, *libraries):
+    """Prints the row that notices a change, in a copy of the check that has it. The rows of a
+    script come in another order for each change."""
+    def give_up(*_):
+        print('\nnoticed: a row takes too long', flush=True)
+        os._exit(0)
+    import rows as of_rows
+    found, r = rows(folder, libraries), random.Random(seed)
+    signal.signal(signal.SIGVTALRM, give_up)
+    for script in ('right', *SCRIPTS.get(file, 'bodies changes instructions').split(), 'long'):
+        for row in r.sample(found[script], len(found[script])):
+            signal.setitimer(signal.ITIMER_VIRTUAL, SECONDS)
+            fits, why = of_rows.judge(row)
+            if not fits:
+                return print('\nnoticed:', ' '.join(f'{row.name}: {why}'.split())[:200])
+    return print('\nnot noticed')
+
+
+def limit_memory():
+    resource.setrlimit(resource.RLIMIT_AS, (2**32, 2**32))
+
+
+def judge(folder, libraries, change):
+    """A change, and what notices it, if anything does: a row, an error, or that it takes long."""
+    with tempfile.TemporaryDirectory() as copy:
+        c = pathlib.Path(copy, 'c')
         shutil.copytree(VERIFY, c / 'verify')
         for path in {*VERIFY.parent.iterdir()} - {VERIFY}:
             (c / path.name).symlink_to(path)
-        pathlib.Path(folder, 'rust').symlink_to(VERIFY.parent.parent / 'rust')
-        text = (c / 'verify' / file).read_text()
-        (c / 'verify' / file).write_text(text.replace(old, new))
-        return line, 'noticed by', told(c, libraries, *row) if text.count(old) == 1 else \
-            f'it stands there {text.count(old)} times'
+        pathlib.Path(copy, 'rust').symlink_to(VERIFY.parent.parent / 'rust')
+        file = c / 'verify' / change.file
+        file.write_bytes(changed(file.read_bytes(), change))
+        process = subprocess.Popen(
+            [sys.executable, '-B', c / 'verify/tests/mutants.py', '--rows', change.file,
+             told(change), folder, *libraries], text=True, start_new_session=True,
+            preexec_fn=limit_memory, stdout=subprocess.PIPE, stderr=subprocess.STDOUT)
+        lines = process.communicate()[0].strip().splitlines()
+        return change, lines[-1] if lines else 'an error'
+
+
+def drawn():
+    """The changes that the settings choose."""
+    files = sorted({path.name for path in VERIFY.glob('*.py')} - LEFT_OUT)
+    some = [one for file in files for one in changes_of(file)
+            if os.environ.get('FILE', file) == file]
+    draw = random.Random(os.environ.get('SEED', '1'))
+    return draw.sample(some, int(os.environ.get('SAMPLE', len(some))))
 
 
 def main(*libraries):
-    lines = pathlib.Path(__file__).with_suffix('.tsv').read_text().splitlines()
-    with ThreadPoolExecutor(len(os.sched_getaffinity(0))) as pool:
-        return count(pool.map(functools.partial(judge, libraries), lines))
+    count, excused = collections.Counter(), excepted()
+    libraries = [re.sub(':(?!/)', f':{os.getcwd()}/', one) for one in libraries]
+    with tempfile.TemporaryDirectory() as folder, \
+            ThreadPoolExecutor(len(os.sched_getaffinity(0))) as pool:
+        some = drawn()
+        count.update((one.file, 'excepted') for one in some if one in excused)
+        todo = [pool.submit(judge, folder, libraries, one) for one in some if one not in excused]
+        for done in as_completed(todo):
+            change, found = done.result()
+            count[change.file, found if found == 'not noticed' else 'noticed'] += 1
+            print(f'{"FAILED: " * (found == "not noticed")}{told(change)}: {found}', flush=True)
+    for (file, what), number in sorted(count.items()):
+        print(f'{file}: {number} {what}')
+    failed = sum(number for (_, what), number in count.items() if what == 'not noticed')
+    print(f'{len(some) - failed} passed, {failed} failed')
+    return failed > 0
 
 
 if __name__ == '__main__':
-    sys.exit(main(*sys.argv[1:]))
+    if sys.argv[1] == '--rows':
+        first_that_fails(*sys.argv[2:])
+    else:
+        sys.exit(main(*sys.argv[1:]))
