@@ -49,10 +49,11 @@ pages = [(ROOT / page).read_text("utf-8") for page in ("README.md", "rust/README
 checks.append(("the block of README", CODE.search(pages[0])[1] in pages[1]))
 checks.append(("CALLING has links", LINK.search(calling)))
 claims = (ROOT / "docs/CLAIMS.md").read_text("utf-8")
-lemmas = [lemma for cell in re.findall(r"\|([^|\n]*)\|$", claims, re.MULTILINE)
-          for lemma in re.findall(r"`([A-Z]\w+)::([\w-]+)`", cell)]
+table = re.search(r"\| Lemma \|\n.*\n((?:\|.*\n)+)", claims)[1]
+lemmas = [lemma.split("::") for cell in re.findall(r"\|([^|\n]*)\|$", table, re.MULTILINE)
+          for lemma in re.findall("`(.*?)`", cell)]
 checks.append(("CLAIMS names lemmas", lemmas))
-checks += [(f"{file} has {name}", proved(file, name)) for file, name in lemmas]
+checks += [(f"the lemma {lemma}", len(lemma) == 2 and proved(*lemma)) for lemma in lemmas]
 names = [page.relative_to(ROOT) for page in ROOT.rglob("*.md")]
 for name in sorted(name for name in names if "out" not in name.parts):
     for link in LINK.findall((ROOT / name).read_text("utf-8")):
