@@ -44,7 +44,9 @@ def verify(level, path, args, layout):
           f'red zone of {image.processor.RED_ZONE * args.red_zone} bytes, '
           f'SHA-256 {hashlib.sha256(content).hexdigest()}')
     names = names_there(image, args.function, args.some)
-    cases = [case for name in names for case in (*cases_of(name), *cases_again(name))]
+    # Of a library with another layout, no calls are shown twice.
+    again = [case for name in names for case in cases_again(name) if layout is Ours]
+    cases = [*(case for name in names for case in cases_of(name)), *again]
     progress, left = Progress(cases, args.jobs), len(cases)
     # Those that take longest come first, so that no process is left with one at the end.
     cases.sort(key=lambda case: not case.has_loop())
