@@ -75,9 +75,7 @@ class Arm(Cpu):
 
     def put(self, i, k, value):
         value = self.products.symbol_of(value)
-        n, size = register(i.reg_name(i.ops[k].reg))
-        if value.size() != size:
-            raise unknown(i)
+        n, _ = register(i.reg_name(i.ops[k].reg))
         if n is not None:
             self.r[n] = resize(value, self.r[n].size())
 
@@ -128,6 +126,10 @@ TABLE.update({
     'csinc': lambda c, i: c.put(i, 0, choose(selector(c, i), c.get(i, 1), c.get(i, 2) + 1)),
     'cinc': lambda c, i: c.put(i, 0, choose(selector(c, i), c.get(i, 1) + 1, c.get(i, 1))),
     'cset': lambda c, i: c.put(i, 0, number_of(selector(c, i), c.width(i))),
+    'mul': lambda c, i: c.put(i, 0, c.multiply(*c.both(i), (0,))[0]),
+    'umulh': lambda c, i: c.put(i, 0, c.multiply(*c.both(i), (1,))[0]),
+    'zip1': lambda c, i: c.put(i, 0, join([part(c.get(i, k), 0, 64) for k in (1, 2)])),
+    'zip2': lambda c, i: c.put(i, 0, join([part(c.get(i, k), 64, 64) for k in (1, 2)])),
     'adrp': lambda c, i: c.put(i, 0, LOADED + i.ops[1].imm),
     'dup': lambda c, i: c.put(i, 0, join([c.get(i, 1)] * 2)),
     'ubfx': lambda c, i: c.put(i, 0, resize(bits(c, i), c.width(i))),
@@ -204,12 +206,6 @@ def insert_low(c, i):
     c.put(i, 0, join([bits(c, i), *above]))
 
 
-@means(TABLE, 'mul', 'umulh')
-def multiply(c, i):
-    a, b = c.both(i)
-    c.put(i, 0, c.multiply(a, b, (0 if i.mnemonic == 'mul' else 1,))[0])
-
-
 def access(c, i):
     """How many registers a load or store has, and the bytes of each."""
     number = 2 if i.mnemonic in ('ldp', 'stp') else 1
@@ -246,9 +242,3 @@ def branch_on_bits(c, i):
     a = c.get(i, 0)
     zero = a == 0 if i.mnemonic[0] == 'c' else part(a, i.ops[1].imm, 1) == 0
     return z3.Not(zero) if 'n' in i.mnemonic else zero, i.ops[-1].imm
-
-
-@means(TABLE, 'zip1', 'zip2')
-def zip_words(c, i):
-    low = 0 if i.mnemonic == 'zip1' else 64
-    c.put(i, 0, join([part(c.get(i, k), low, 64) for k in (1, 2)]))

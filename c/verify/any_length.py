@@ -5,7 +5,7 @@ import z3
 from calls import NO_MESSAGE, apart, generator, named, padded_content, some_lanes, some_state
 from checks import accepted, check, check_bytes, check_generator
 from definition import (TRUE, State, block_round, hash_from_pair, join_lanes, lanes, next_pair,
-                        padded_words, padding_byte, seed_pair, top_bit, words_of)
+                        padding_byte, seed_pair, top_bit, words_of)
 from induction import Induction
 from memory import Array
 from terms import bv, bytes_of, join, secret, simple, sym, symbols
@@ -14,6 +14,11 @@ from terms import bv, bytes_of, join, secret, simple, sym, symbols
 # A number of pending bytes for which writes are proved first: more than none, so that the call does
 # before its loop all that it can do there.
 SOME_PENDING = 13
+
+
+def last_words(version, last, rest):
+    """The padded words of so many of the last bytes of a message, which are all that is left."""
+    return words_of([*last[len(last) - rest:], padding_byte(version, last[-1])])
 
 
 class Blocks(Induction):
@@ -30,7 +35,7 @@ class Blocks(Induction):
             self.states.append([*s, words[7]])
 
     def steps(self, cpu):
-        blocks = max(len(cpu.halves) // 2 - self.before, 0) // 4
+        blocks = len(cpu.halves) // 8
         self.call.check_products(cpu, self.before + 4 * blocks)
         return blocks
 
@@ -39,6 +44,7 @@ class Hash(Blocks):
     """Messages of two blocks or more, since one may take no loop. A case fixes the low bits of the
     length, by which code may find the last word before the loop."""
     FIXED_BITS, FIRST, LEAST = 3, 1, 2
+    END = named('end', range(-Blocks.GRAIN, 0))
 
     def at_start(self, least, low, front=256):
         self.fixed = low
@@ -46,27 +52,24 @@ class Hash(Blocks):
         self.length = self.long_length(max(least, self.LEAST))
         content = named('front', range(front))
         self.base = call.base('bytes', self.length)
-        self.windows(self.base, content, named('end', range(-64, 0)))
+        self.windows(self.base, content, self.END)
         self.follow(lanes(seed_pair(call.products, seed)), content, self.FIRST)
         return self.base, self.length, seed
 
     def at_head(self):
         self.length, content = self.long_length(), named('turn', range(self.step))
         self.base = self.call.base('bytes', self.length)
-        self.windows(simple(self.base + self.units), content, named('end', range(-64, 0)))
+        self.windows(simple(self.base + self.units), content, self.END)
         self.follow(some_lanes(' at a cut'), content)
         return self.states[0]
 
     def at_exit(self, rest):
         self.base = self.call.base('bytes', self.length)
-        s, last = some_lanes(' at a cut'), named('end', range(-64, 0))
-        self.windows(self.base, [], last)
-        if rest:
-            words = padded_words(self.version, last[64 - rest:])
-        else:
-            words = words_of([padding_byte(self.version, last[-1])])
+        self.windows(self.base, [], self.END)
+        s, words = some_lanes(' at a cut'), last_words(self.version, self.END, rest)
         self.wanted = hash_from_pair(self.call.products, join_lanes(TRUE, s), words)
-        return [*s, *words_of([*named('earlier', range(8)), *last][64 - rest:72 - rest])]
+        # The last block began so many bytes before `END` as are left.
+        return [*s, words_of([*named('earlier', range(rest)), *self.END])[7]]
 
     def check_end(self, cpu):
         check(cpu, 'hash', cpu.result(), self.wanted)
@@ -77,6 +80,7 @@ class Write(Blocks):
     before the first turn, all of these are yet to take: the units begin below zero."""
     NAME = '_write'
     STABLE = frozenset({'stream', 'last'})
+    LAST = secret('last', 8)
 
     def guess(self):
         """What holds at the head for one number of pending bytes alone is dropped at once."""
@@ -89,7 +93,7 @@ class Write(Blocks):
         """The turns are those of any write, so q, the bytes and their length mean nothing there."""
         return super().stable() - symbols(self.q)
 
-    def rest(self, modulus=64):
+    def rest(self, modulus=None):
         return z3.ZeroExt(58, self.r)
 
     def at_start(self, least, count, front=256):
@@ -100,9 +104,9 @@ class Write(Blocks):
         self.base = call.base('bytes', self.length)
         call.memory.add(Array('front', self.base, 0, front, limit=self.length), content)
         after = simple(self.base + self.length - self.rest())
-        call.memory.add(Array('last', after, -1, 0), [secret('last', 8)], -1)
+        call.memory.add(Array('last', after, -1, 0), [self.LAST], -1)
         self.follow(state.lanes, state.pending + content)
-        self.units = bv(-count % 2**64)
+        self.units = bv(-count)
         return stream, self.base, self.length
 
     def open(self):
@@ -124,9 +128,8 @@ class Write(Blocks):
     def at_exit(self, rest):
         self.tail, address = named('rest', range(rest)), self.open()
         # At the exit, at least one byte was taken, since all whole blocks of one or more were.
-        last = secret('last', 8)
-        self.call.memory.add(Array('rest', address, -1, rest), [last, *self.tail], -1)
-        return [*some_lanes(' at a cut'), *words_of([*named('earlier', range(7)), last])]
+        self.call.memory.add(Array('rest', address, -1, rest), [self.LAST, *self.tail], -1)
+        return [*some_lanes(' at a cut'), *words_of([*named('earlier', range(7)), self.LAST])]
 
     def leave_early(self, cpu):
         """A write may return from the loop if it took all bytes."""
@@ -139,7 +142,7 @@ class Write(Blocks):
         self.check_stream(cpu, some_lanes(' at a cut'), self.tail)
 
     def check_stream(self, cpu, s, rest):
-        state = State(s, rest, TRUE, top_bit(self.version, secret('last', 8)))
+        state = State(s, rest, TRUE, top_bit(self.version, self.LAST))
         self.call.layout.check(cpu, state)
 
     def prove(self):
@@ -148,7 +151,7 @@ class Write(Blocks):
         doesn't hold, and proves the rest by itself."""
         shown = proved_write(type(self), self.library, self.version)
         self.head, self.exit, self.step = shown.head, shown.exit, shown.step
-        self.counted = shown.counted
+        self.counted, self.facts = shown.counted, shown.facts
         self.invariants = {pc: copy.copy(one) for pc, one in shown.invariants.items()}
         if not self.begin():
             self.settle()
@@ -203,8 +206,7 @@ class Fill(Induction):
         pair = secret('s1 at a cut'), secret('s2 at a cut')
         self.base = self.call.base('out', self.length)
         self.follow(pair, (size + 7) // 8)
-        address, limit = simple(self.base + 8 * self.units), simple(self.length - 8 * self.units)
-        self.call.memory.add(Array('out', address, 0, size, True, limit))
+        self.call.memory.add(Array('out', simple(self.base + 8 * self.units), 0, size, True))
         return pair
 
     def check_end(self, cpu):
@@ -239,14 +241,12 @@ class Copy(Induction):
     def at_head(self):
         self.length = self.long_length()
         self.open(named('turn', range(self.step)), self.pass_arrays(*self.case), self.step)
-        self.call.facts.add(self.accepted())
         return []
 
     def at_exit(self, rest):
         last = self.pass_arrays(*self.case)
         # After the rest, at most the last word is written, or what it has of the message.
         self.open([], last, rest + 8)
-        self.call.facts.add(self.accepted())
         self.tail = self.tail_of(last, rest)
         return []
 
@@ -287,9 +287,7 @@ class Pad(Copy):
         return z3.UGE(sym('room'), self.result)
 
     def tail_of(self, last, rest):
-        if rest:
-            return bytes_of(join(padded_words(self.version, last[len(last) - rest:])))
-        return [padding_byte(self.version, last[-1])] + [bv(0, 8)] * 7
+        return bytes_of(join(last_words(self.version, last, rest)))
 
 
 class Unpad(Copy):

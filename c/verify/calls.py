@@ -3,7 +3,8 @@ import collections
 import z3
 from definition import Products, State, padding_byte
 from memory import Array
-from terms import Unknown, address, bv, choose, secret, simple, sym
+from terms import (Unknown, address, are_any, bv, choose, const, is_public, secret, simple, sym,
+                   symbols)
 
 # What `unpad` returns instead of a length.
 NO_MESSAGE = bv(-1)
@@ -32,10 +33,9 @@ class Call:
         self.products, self.layout = Products(), library.layout(version)
         self.cpu = library.image.processor(library, self.products)
         self.facts, self.memory = self.cpu.facts, self.cpu.memory
-        # For header.py: how many facts don't come from the case, what it is passed, the state of
-        # its stream, and the last nine bytes of its words.
-        self.first_fact, self.args = len(self.facts.list), ()
-        self.state = self.last_bytes = None
+        # For header.py: what the case is passed, the state of its stream, and the last nine bytes
+        # of its words.
+        self.args, self.state, self.last_bytes = (), None, None
 
     def base(self, name, size):
         """Passes an array of `size` bytes, which is null only if it is empty, and after which
@@ -68,6 +68,17 @@ class Call:
             self.state = state
             self.layout.store(self, state)
         return self.aligned(base)
+
+    def has_any_contents(self):
+        """Whether each seed, lane and byte that is passed, but in the last word of `unpad`, is a
+        secret symbol of its own, as what the caller has in registers."""
+        parts = [*(self.state.lanes + self.state.pending if self.state else ()), *(
+            term for (name, _), (term, k) in self.memory.data.items()
+            if k == 0 and name not in ('stream', 'stack', 'shadow')), *(
+                term for term in self.cpu.before.values() if symbols(term) - {'sp', 'return'}), *(
+                    term for term in self.args if not is_public(term))]
+        free = [part for part in parts if const(part) is None]
+        return are_any(free) and len(free) >= len(parts) - (8 if self.last_bytes else 0)
 
     def begin(self, args):
         self.args = args

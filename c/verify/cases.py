@@ -60,12 +60,13 @@ FUNCTIONS = {
 }
 # Calls that the induction shows too, run one by one below LONGEST bytes, since it isn't believed
 # alone: those of one turn that takes 128 bytes, or two. Fills end in a whole word, or lack a byte of
-# it. Of writes, each length is met, and each number of pending bytes with one to four blocks.
+# it. Of writes that complete a block, each length is met, each sum of it and the pending bytes below
+# LONGEST, and each number of these with one to four blocks.
 LONGEST = 320
 AGAIN = {
     '': {fixed.hash_of: each(range(Hash.LEAST * Hash.GRAIN, LONGEST))},
     '_write': {fixed.write_of: [(p, n) for p in range(64) for n in range(64 - p, LONGEST)
-                                if (3 * p + n) % 61 == 0]},
+                                if p + n == 64 or (2 * p + n) % 63 == 0]},
     '_rand_fill': {fixed.rand_fill: each(n for n in range(Fill.GRAIN, LONGEST) if n % 8 in (0, 7))},
     '_pad': {fixed.pad: each(range(Pad.GRAIN, LONGEST))},
     '_unpad': {fixed.unpad: [(n, (n % 8, byte)) for n in range(Unpad.GRAIN // 8 + 1, LONGEST // 8)
@@ -95,8 +96,7 @@ class Case(collections.namedtuple('Case', 'name check args')):
                 self.check_products(count, n, 0)
         else:
             sizes = dict(zip(self.check.__code__.co_varnames[2:], self.args))
-            self.check_products(len(done.products.list), sizes.get('length') or 0,
-                                sizes.get('pending', 0))
+            self.check_products(len(done.products.list), sizes.get('length'), sizes.get('pending'))
         return done.seen
 
     def check_products(self, count, n, p):

@@ -19,7 +19,7 @@ WORD, NOTE = struct.Struct('<I'), struct.Struct('<III')
 SHARED, EXECUTE, WRITE, READ = 3, 1, 2, 4
 # By the numbers of processors, the largest pages that Linux has there. No library of this kind
 # needs more segments, memory (or bytes of a file), names, and bytes of a name.
-PAGES, SEGMENTS, MEMORY, MAX_NAMES, LENGTH = {62: 2**12, 183: 2**16}, 64, 2**26, 2**16, 2**10
+PAGES, SEGMENTS, MEMORY, LENGTH = {62: 2**12, 183: 2**16}, 64, 2**26, 2**10
 # Types of segments.
 LOAD, DYNAMIC, NOTES, TABLE = 1, 2, 4, 6
 FRAMES, STACK, RELRO, PROPERTY = 0x6474e550, 0x6474e551, 0x6474e552, 0x6474e553
@@ -175,7 +175,6 @@ class Elf:
         buckets, self.first, size, self.shift = self.words(at, 4)
         need(buckets and size and size & size - 1 == 0 and self.shift < 32,
              'loaders read DT_GNU_HASH in different ways')
-        need(max(buckets, size) <= MAX_NAMES, f'DT_GNU_HASH is larger than {MAX_NAMES} names need')
         words = self.words(at + 16, 2 * size + buckets)
         self.filter = [low | high << 32 for low, high in zip(words[:2 * size:2], words[1::2])]
         self.buckets, at = words[2 * size:], at + 16 + 8 * size + 4 * buckets
@@ -183,9 +182,8 @@ class Elf:
              'DT_GNU_HASH has a symbol before its first')
         # After the last symbol, whose hash is odd, no chain of a bucket goes on.
         end = max(self.first, *self.buckets)
-        while end < MAX_NAMES and not self.words(at + 4 * (end - self.first), 1)[0] & 1:
+        while not self.words(at + 4 * (end - self.first), 1)[0] & 1:
             end += 1
-        need(end < MAX_NAMES, f'there are more than {MAX_NAMES} names')
         self.chains = self.words(at, end + 1 - self.first)
         return end
 

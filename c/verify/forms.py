@@ -23,8 +23,6 @@ class World(collections.namedtuple('World', 'words units base length')):
 
     def value(self, form):
         """The term that a form is in this world."""
-        if symbols(form).isdisjoint(COUNTS):
-            return form
         return put_for(form, *zip(PLACES, [self.units, self.base, self.length, *self.words]))
 
 

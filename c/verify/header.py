@@ -8,7 +8,8 @@ import z3
 from calls import apart
 from definition import padding_byte
 from guesses import witness
-from terms import Facts, Refused, address, bv, const, join, simple, sym, symbols
+from machine import LOADED
+from terms import Facts, Refused, address, bv, join, simple, sym, symbols
 
 HEADER = os.path.join(os.path.dirname(os.path.abspath(__file__)), '..', 'komihash_rattle.h')
 PROTOTYPE = r'(\w+)\s+{}\((.*?)\);'
@@ -27,7 +28,7 @@ def parameters(name):
 
 # What matters of contents: the state of a stream, and the last nine bytes of some words.
 PENDING, HAD_BLOCK, TOP_BIT = sym('any pending'), sym('any had_block', 8), sym('any top_bit', 8)
-LAST_BYTES = sym('any last bytes', 72)
+LAST_BYTES, STACK, FILE = sym('any last bytes', 72), sym('any sp'), sym('any library')
 
 
 def size_written(call, length, room):
@@ -46,7 +47,9 @@ def size_written(call, length, room):
 def allowed(call):
     """The arguments of any call of a function that the header allows, and its conditions."""
     kinds, names = zip(*parameters(call.name))
-    args, sizes, conditions = [sym(f'any {one}') for one in names], [], []
+    args, sizes = [sym(f'any {one}') for one in names], []
+    # The stack is aligned as the calling convention says, and the file in whole pages.
+    conditions = [STACK & 15 == call.cpu.ABOVE, FILE & 4095 == 0]
     structs = {'stream': call.layout.SIZE, 'rand': 16}
     for kind, base, count in zip(kinds, args, [*args[1:], None]):
         element, star, _ = kind.replace('const ', '').partition(' *')
@@ -87,22 +90,11 @@ def beginning(library, case):
         return begun.args[0]
 
 
-def has_any_contents(call):
-    """Whether each lane and byte that a case passes is a symbol of its own, but in the last word
-    of `unpad`."""
-    parts = [*(call.state.lanes + call.state.pending if call.state else ()), *(
-        term for (name, _), (term, k) in call.memory.data.items()
-        if k == 0 and name not in ('stream', 'stack', 'shadow'))]
-    free = [part.get_id() for part in parts if z3.is_const(part) and const(part) is None]
-    fixed = 8 if call.last_bytes else 0
-    return len({*free}) == len(free) >= len(parts) - fixed
-
-
 def condition(call, wanted):
     """Which of the wanted calls a case has: those for which its symbols have these values."""
     # A struct that is returned has its address in a register of its own on ARM64.
     given = [address('stream'), *call.args][-len(wanted):]
-    pairs = list(zip(given, wanted, strict=True))
+    pairs = [*zip(given, wanted, strict=True), (call.cpu.sp, STACK), (LOADED, FILE)]
     if call.state:
         pairs += [(bv(len(call.state.pending)), PENDING), (call.state.had_block, HAD_BLOCK),
                   (call.state.top_bit, TOP_BIT)]
@@ -114,7 +106,7 @@ def condition(call, wanted):
         witness(found, simple(term), value)
     if any(one.children() or not symbols(one) or f'{one}'.startswith('any ') for one in found):
         raise Refused('a witness that is no symbol of the case')
-    holds = z3.And(*call.facts.list[call.first_fact:], *(term == value for term, value in pairs))
+    holds = z3.And(*call.facts.list, *(term == value for term, value in pairs))
     return simple(z3.substitute(holds, *found.items()))
 
 
@@ -122,7 +114,7 @@ def check_all(library, cases):
     """Whether the cases of a function are all calls that the header allows. Each number of pending
     bytes is asked by itself. Returns the processor before one of the calls."""
     calls, facts = [beginning(library, case) for case in cases], Facts()
-    if not all(map(has_any_contents, calls)):
+    if not all(call.has_any_contents() for call in calls):
         raise Refused('what a case passes is not any')
     wanted, conditions = allowed(calls[0])
     groups = {None: calls}

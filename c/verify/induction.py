@@ -26,7 +26,7 @@ from forms import Arrival, Invariant, World
 from guesses import cuts
 from machine import LOADED, Seen
 from memory import Array
-from terms import Refused, Unknown, bv, put_for, simple, sym, symbols
+from terms import Facts, Refused, are_any, bv, put_for, simple, sym, symbols
 
 # An invariant is guessed from calls with a huge q.
 LONG = 2**20
@@ -53,8 +53,9 @@ class Induction:
     def __init__(self, library, version, *case):
         self.library, self.version, self.case = library, version, case
         self.invariants, self.seen, self.head, self.exit = {}, Seen(), None, None
-        # How many products the definition has for some numbers of bytes, with none pending.
-        self.counted = []
+        # How many products the definition has for some numbers of bytes, with none pending; and the
+        # facts of a call at the head.
+        self.counted, self.facts = [], ()
         width = self.GRAIN.bit_length() - 1
         self.q, self.r = sym(f'q{width}', 64 - width), sym(f'r{width}', width - self.FIXED_BITS)
 
@@ -115,8 +116,6 @@ class Induction:
         one, _ = next(self.run(self.start(LONG, True)))
         other, _ = next(self.run(one.copy(), self.head))
         self.step = self.SIZE * (self.steps(other) - self.steps(one))
-        if self.step <= 0 or self.GRAIN % self.step and self.step % self.GRAIN:
-            raise Unknown(f'{self.call.name}: {self.head:#x}: a turn takes {self.step} bytes')
         self.invariants[self.head] = Invariant(
             self.stable(), self.arrival(one), self.arrival(other))
 
@@ -154,13 +153,24 @@ class Induction:
 
     def begin(self):
         """Runs calls from their first instruction. Returns whether the invariants hold then."""
-        return self.arrive_all(self.run(self.start()))
+        cpu = self.start()
+        self.check_facts(self.facts, cpu.facts.list)
+        return self.arrive_all(self.run(cpu))
 
     def turn(self):
         """Runs one turn from any state at the head. Returns whether the invariants hold then."""
         self.units, call = sym('units'), self.new_call()
-        self.assume(self.head, self.at_head())
+        words, self.facts = self.at_head(), [*call.facts.list]
+        self.assume(self.head, words)
         return self.arrive_all(self.run(call.cpu, self.head), turned=True)
+
+    def check_facts(self, facts, known, *more):
+        """Whether facts of a call at a cut follow from what is known of it before. A write has a
+        symbol for its length there."""
+        before = Facts()
+        before.add(*known, sym('length') == self.length, *more)
+        if not before.holds((), z3.And(*facts)):
+            raise Refused('at a cut, more is known of a call than before')
 
     def arrive_all(self, arrivals, turned=False):
         """Drops what doesn't hold at an arrival. Returns whether all did. Checks returns."""
@@ -183,10 +193,12 @@ class Induction:
         cpu.refuse('a return before the end')
 
     def assume(self, pc, words, change=lambda term: term):
-        """Puts the call into any state that has the invariant of this place."""
+        """Puts a call that is accepted into any state that has the invariant of this place."""
+        if not (are_any(words) and self.call.has_any_contents()):
+            raise Refused(f'{pc:#x}: what is at a cut is not any')
         world, invariant = World(words, self.units, self.base, self.length), self.invariants[pc]
         conditions = self.conditions(world)
-        self.call.facts.add(*(conditions[k] for k in invariant.holding))
+        self.call.facts.add(self.accepted(), *(conditions[k] for k in invariant.holding))
         invariant.assume(self.call.cpu, world, change)
         self.call.check_possible()
 
@@ -202,7 +214,7 @@ class Induction:
             raise Refused(f'{self.exit:#x}: after the last turn, more bytes or fewer are left than '
                           'the rest')
         for remainder in range(self.fixed, self.GRAIN, 2**self.FIXED_BITS):
-            self.end_with(remainder, remainder % known[0])
+            self.end_with(remainder, remainder & known[0] - 1)
 
     def end_with(self, remainder, rest):
         """From the exit to the return. What was taken follows from what is left. If the invariant
@@ -211,7 +223,9 @@ class Induction:
             return
         call, r = self.new_call(), bv(remainder >> self.FIXED_BITS, self.r.size())
         self.length, self.units = self.after_turns(remainder, rest)
-        self.assume(self.exit, self.at_exit(rest), lambda term: put_for(term, (self.r, r)))
+        words = self.at_exit(rest)
+        self.check_facts(call.facts.list, self.facts, self.r == r)
+        self.assume(self.exit, words, lambda term: put_for(term, (self.r, r)))
         for n in (remainder + self.GRAIN * q for q in (1, 2)):
             self.counted.append((n, self.FIRST + (n - rest) // self.SIZE * self.PRODUCTS +
                                  len(call.products.list)))

@@ -174,11 +174,10 @@ class Cpu:
     # Memory
 
     def load(self, address, length):
-        if 'library' in symbols(address):
-            number = const(simple(address - LOADED))
-            data = self.image.elf.at(number, length) if number is not None else None
-            if data:
-                return bv(int.from_bytes(data, 'little'), 8 * length)
+        number = const(simple(address - LOADED)) if 'library' in symbols(address) else None
+        data = self.image.elf.at(number, length) if number is not None else None
+        if data:
+            return bv(int.from_bytes(data, 'little'), 8 * length)
         return self.memory.load(self, address, length)
 
     def store(self, address, value):

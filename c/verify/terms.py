@@ -8,8 +8,7 @@ import z3
 # Z3 itself checks what it is passed. Its Python module need not do so first, nor ask for errors
 # after each call, since an error ends this process, and nothing is claimed then.
 z3.z3.Z3_DEBUG, z3.z3core.Elementaries.Check = False, lambda *_: None
-HANDLER = z3.Z3_set_error_handler(z3.main_ctx().ref(), lambda *_: (
-    os.write(2, b'verify: nothing is claimed: Z3 reports an error\n'), os._exit(2)))
+HANDLER = z3.Z3_set_error_handler(z3.main_ctx().ref(), lambda *_: os._exit(2))
 # Sums and xors of the same parts, in any order, become the same term.
 SIMPLIFY = z3.args2params([], {'bv_sort_ac': True})
 # The solvers that are asked one after the other, and how many steps each may make. The first is
@@ -77,6 +76,16 @@ def secret(name, width=64):
 
 def is_public(term):
     return not symbols(term) & SYMBOLS.secret
+
+
+def are_any(terms):
+    """Whether terms are secret symbols, or join such, and each stands there once."""
+    names, terms = [], [*terms]
+    for term in terms:
+        parts = term.children() if z3.is_app_of(term, z3.Z3_OP_CONCAT) else []
+        terms += parts
+        names += [] if parts else [term.decl().name()]
+    return len({*names}) == len(names) and SYMBOLS.secret.issuperset(names)
 
 
 def coerced(a, b, context=None):

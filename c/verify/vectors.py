@@ -1,4 +1,5 @@
 """The definition against values of the Rust crate and of the C original."""
+import itertools
 import os
 import z3
 from definition import Products, State, is_text, komi, next_pair, padded_words, start, words_of
@@ -15,7 +16,7 @@ class Numbers(Products):
 
     def new(self, x, y):
         product = const(simple(x)) * const(simple(y))
-        return bv(product & 2**64 - 1), bv(product >> 64)
+        return bv(product), bv(product >> 64)
 
     def symbol(self, term):
         return simple(term)
@@ -58,7 +59,7 @@ def resume(version, text):
 
 def fills(version, x, y, *lengths):
     pair, written = (number(x), number(y)), []
-    for end in (sum(map(int, lengths[:k + 1])) for k in range(len(lengths))):
+    for end in itertools.accumulate(map(int, lengths)):
         while len(written) < end:
             pair = next_pair(NUMBERS, version, *pair)
             written += bytes_of(pair[0])
@@ -69,7 +70,7 @@ def fills(version, x, y, *lengths):
 def unpad(version, *words):
     words = [number(word) for word in words]
     padded = [byte for word in words for byte in bytes_of(word)]
-    for length in range(max(len(padded) - 8, 0), len(padded)):
+    for length in range(len(padded)):
         if padded_words(version, padded[:length]) == words:
             return hexadecimal(padded[:length])
     return 'none'

@@ -82,13 +82,9 @@ class X86(Cpu):
     def put(self, i, k, value):
         op, value = i.ops[k], self.products.symbol_of(value)
         if op.type == X.X86_OP_MEM:
-            if value.size() != 8 * op.size:
-                raise unknown(i)
             return self.store(self.aligned_address(i, op), value)
         n, low, size = REGISTERS[i.reg_name(op.reg)]
         whole = self.r[n].size()
-        if value.size() != size:
-            raise unknown(i)
         # These clear what is above them in the register; others keep it.
         if size == 32 or size == 128 and i.mnemonic[0] == 'v':
             value = resize(value, whole)
@@ -106,9 +102,15 @@ TABLE.update({
     **dict.fromkeys(('nop', 'endbr64'), lambda c, i: None),
     **dict.fromkeys(('mov', 'movabs', 'movups', 'movdqu', 'movaps', 'movdqa', 'vmovups', 'vmovdqu'),
                     lambda c, i: c.put(i, 0, c.get(i, 1, 8 * i.ops[0].size))),
+    **dict.fromkeys(('movq', 'vmovq'), lambda c, i: c.put(
+        i, 0, resize(c.get(i, 1, 64), 8 * i.ops[0].size))),
     'movzx': lambda c, i: c.put(i, 0, resize(c.get(i, 1), 8 * i.ops[0].size)),
     'lea': lambda c, i: c.put(i, 0, part(c.address(i, i.ops[1]), 0, 8 * i.ops[0].size)),
     'not': lambda c, i: c.put(i, 0, ~c.get(i, 0)),
+    **dict.fromkeys(('shlx', 'shrx'), lambda c, i: c.put(
+        i, 0, SHIFTS[i.mnemonic[:3]](c.get(i, 1), count(c, i, 2, 8 * i.ops[0].size)))),
+    'vzeroupper': lambda c, i: c.r.update(
+        (f'ymm{n}', resize(part(c.r[f'ymm{n}'], 0, 128), 256)) for n in range(16)),
     'vbroadcastsd': lambda c, i: c.put(i, 0, join([c.get(i, 1, 64)] * 4)),
     'vbroadcastf128': lambda c, i: c.put(i, 0, join([c.get(i, 1, 128)] * 2)),
     **{f'set{code}': lambda c, i: c.put(i, 0, choose(
@@ -157,8 +159,7 @@ def step_by_one(c, i):
 
 def count(c, i, k, width):
     """The count of a shift, modulo the width, or modulo 32 if the word is narrower."""
-    n = c.get(i, k, 8) if len(i.ops) > k else bv(1, 8)
-    n = simple(resize(n, width) & (63 if width == 64 else 31))
+    n = simple(resize(c.get(i, k, 8), width) & (63 if width == 64 else 31))
     if const(n) is None and width < 32 or const(n) is not None and const(n) >= width:
         raise unknown(i)
     return n
@@ -175,12 +176,6 @@ def shift(c, i):
     elif const(n):
         last = a.size() - const(n) if i.mnemonic == 'shl' else const(n) - 1
         c.set_flags(result, c=part(a, last, 1) == 1)
-
-
-@means(TABLE, 'shlx', 'shrx')
-def shift_by_register(c, i):
-    a = c.get(i, 1)
-    c.put(i, 0, SHIFTS[i.mnemonic[:3]](a, count(c, i, 2, a.size())))
 
 
 @means(TABLE, 'shld')
@@ -252,55 +247,42 @@ def call(c, i):
     return i.ops[0].imm
 
 
-@means(TABLE, 'movq', 'vmovq')
-def move_quad(c, i):
-    value = c.get(i, 1, 64)
-    to_vector = i.ops[0].type == X.X86_OP_REG and i.ops[0].size == 16
-    c.put(i, 0, resize(value, 128) if to_vector else value)
-
-
 def vector(c, i):
     """A vector instruction, in its 128-bit halves or as a whole. Its sources are the last two
     operands before its number, if it has one."""
-    bits, span, do = VECTORS[i.mnemonic.removeprefix('v')]
-    has_number = i.ops[-1].type == X.X86_OP_IMM
-    last = len(i.ops) - 1 - has_number
+    name = i.mnemonic.removeprefix('v')
+    (bits, do), span = VECTORS[name], 256 if name in AVX else 128
+    last = len(i.ops) - 1 - (i.ops[-1].type == X.X86_OP_IMM)
     b = c.get(i, last)
     a = c.get(i, last - 1) if i.ops[last - 1].type == X.X86_OP_REG else b
     pieces = []
     for low in range(0, b.size(), span):
         halves = ([part(term, k, bits) for k in range(low, min(low + span, term.size()), bits)]
                   for term in (a, b))
-        pieces += map(c.products.symbol_of, do(*halves, i.ops[-1].imm if has_number else 0))
+        pieces += map(c.products.symbol_of, do(*halves, i.ops[-1].imm))
     c.put(i, 0, join(pieces))
 
 
-# For each, how many bits a piece and a half or the whole have, and how the pieces of its sources
-# and its number give those of its result.
+# For each, how many bits a piece has, and how the pieces of its sources and its number give those of
+# its result: of each half, but those of AVX of the whole.
 SSE = {
-    'paddq': (64, 128, lambda a, b, n: [x + y for x, y in zip(a, b)]),
-    'palignr': (8, 128, lambda a, b, n: (b + a)[n:n + 16]),
-    'shufps': (32, 128, lambda a, b, n: [(a, a, b, b)[k][n >> 2 * k & 3] for k in range(4)]),
-    **dict.fromkeys(('pxor', 'xorps'), (64, 128, lambda a, b, n: [x ^ y for x, y in zip(a, b)])),
-    **dict.fromkeys(('punpcklqdq', 'movlhps'), (64, 128, lambda a, b, n: [a[0], b[0]])),
-    **dict.fromkeys(('punpckhqdq', 'unpckhpd'), (64, 128, lambda a, b, n: [a[1], b[1]]))}
+    'paddq': (64, lambda a, b, n: [x + y for x, y in zip(a, b)]),
+    'palignr': (8, lambda a, b, n: (b + a + [bv(0, 8)] * n)[n:n + 16]),
+    'shufps': (32, lambda a, b, n: [(a, a, b, b)[k][n >> 2 * k & 3] for k in range(4)]),
+    **dict.fromkeys(('pxor', 'xorps'), (64, lambda a, b, n: [x ^ y for x, y in zip(a, b)])),
+    **dict.fromkeys(('punpcklqdq', 'movlhps'), (64, lambda a, b, n: [a[0], b[0]])),
+    **dict.fromkeys(('punpckhqdq', 'unpckhpd'), (64, lambda a, b, n: [a[1], b[1]]))}
 # The processor checks the addresses of these, if no v comes before.
 ALIGNED = {'movaps', 'movdqa', *SSE}
-UNALIGNED = {'pextrq': (64, 128, lambda a, b, n: [b[n & 1]])}
+UNALIGNED = {'pextrq': (64, lambda a, b, n: [b[n & 1]])}
 AVX = {
-    'extracti128': (128, 256, lambda a, b, n: [b[n & 1]]),
-    'inserti128': (128, 256, lambda a, b, n: [a[0], b[0]] if n & 1 else [b[0], a[1]]),
-    'blendps': (32, 256, lambda a, b, n: [(b if n >> k & 1 else a)[k] for k in range(len(a))]),
+    'extracti128': (128, lambda a, b, n: [b[n & 1]]),
+    'inserti128': (128, lambda a, b, n: [a[0], b[0]] if n & 1 else [b[0], a[1]]),
+    'blendps': (32, lambda a, b, n: [(b if n >> k & 1 else a)[k] for k in range(len(a))]),
     **dict.fromkeys(('permq', 'permpd'),
-                    (64, 256, lambda a, b, n: [b[n >> 2 * k & 3] for k in range(4)]))}
+                    (64, lambda a, b, n: [b[n >> 2 * k & 3] for k in range(4)]))}
 VECTORS = {**SSE, **UNALIGNED, **AVX}
 TABLE.update(dict.fromkeys((*SSE, *UNALIGNED, *(f'v{name}' for name in VECTORS)), vector))
-
-
-@means(TABLE, 'vzeroupper')
-def zero_upper(c, i):
-    for n in range(16):
-        c.r[f'ymm{n}'] = resize(part(c.r[f'ymm{n}'], 0, 128), 256)
 
 
 @means(TABLE, 'rep movsb', 'rep movsq')

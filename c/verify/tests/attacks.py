@@ -111,7 +111,7 @@ def of_header_and_marks(e):
         ('marks of an unknown kind', 'unknown: 0xc0', e.note, elf.PROPERTY, kind, [64]),
         *((f'a property {one:#x}', 'None', e.note, NOTES, one, [8])
           for one in (0xc0010001, 0xc0010002) if e.elf.machine == 62),
-        ('an unknown property', 'unknown: 0xc0008002', e.note, NOTES, 0xc0008002, [8]),
+        ('an unknown property', 'unknown: 0xc0008002', e.note, NOTES, 0xc0008002, [1]),
         ('a note of another kind', 'of GNU of type 1', e.bytes_at, of_notes + 8, b'\1'),
         ('a note without an end', 'note has no end', e.bytes_at, of_notes + 4, b'\0\1'),
         ('a property without an end', 'property has no end', e.bytes_at,
@@ -221,7 +221,7 @@ def of_names(e):
          e.elf.strings.index(b'komihash_v4_pad\0'), b's'),
         *((f'a filter without {bit:#x} of {name}', f'lacks..{name}', names + 16 + 8 * word,
            struct.pack('<Q', e.elf.filter[word] & ~bit)) for name, word, bit in filters),
-        ('many buckets', 'names need', names, struct.pack('<I', 2**17)),
+        ('many buckets', 'not in memory', names, struct.pack('<I', 2**17)),
         ('another last hash', 'lacks', chains + 4 * len(e.elf.chains) - 4,
          bytes([e.elf.chains[-1] & 255 ^ 2])),
         ('another hash', f'lacks..{NAME}', chains + 4 * at + 2, bytes([code >> 16 & 255 ^ 1])),
@@ -241,7 +241,9 @@ def of_names(e):
 
 
 TOLD = {**dict.fromkeys(('another function', 'a byte below the stack'), '4 passed, 1 failed\n1'),
-        'a jump of 16 bits': 'processes\n2', 'a name of no function': '58 val..is cut..also exp'}
+        'a jump of 16 bits': 'processes\n2', 'a file of 64 MiB': 'is cut\n2',
+        'a name of no function': '58 val..is cut..SHA-256..also exp',
+        'another hash': f'not checked: {NAME}\n..4 passed, 0 failed\n0'}
 
 
 def changes(e):
@@ -254,11 +256,10 @@ def changes(e):
              e.instruction, '', 10)]
 
 
-def told(edit, change, level, right):
+def told(make, level, right):
     """What the command prints of an edited file and the right one, and its status."""
-    change()
     with tempfile.NamedTemporaryFile(buffering=0) as file:
-        file.write(edit.content)
+        file.write(make())
         done = subprocess.run(
             [sys.executable, '-B', VERIFY, '--some', '--function', OTHER_NAME, NAME, '--',
              level + file.name, level + right], check=False, text=True, stdout=subprocess.PIPE,
@@ -266,11 +267,10 @@ def told(edit, change, level, right):
     return f'{done.stdout}{done.returncode}'
 
 
-def refused(edit, content, level, change, *args):
-    """Why an edited library is refused, if it is."""
+def edited(edit, content, change, *args):
     edit.content[:] = content
     change(*args)
-    return refusal(edit.content, level, NAME)
+    return edit.content
 
 
 def rows(*libraries):
@@ -278,12 +278,13 @@ def rows(*libraries):
         with open(path, 'rb') as file:
             content = file.read()
         edit = Edit(content, level)
+        yield Row('no level', 'has no level', functools.partial(refusal, content, 'none', NAME))
         for name, reason, *change in changes(edit):
-            find = functools.partial(refused, edit, content, level, *change)
-            yield Row(name, reason, find)
+            make = functools.partial(edited, edit, content, *change)
+            yield Row(name, reason, lambda make=make, level=level: refusal(make(), level, NAME))
             if name in TOLD:
                 yield Row(f'{name}, by the command', TOLD[name], functools.partial(
-                    told, edit, find, f'{level}:', path))
+                    told, make, f'{level}:', path))
 
 
 if __name__ == '__main__':

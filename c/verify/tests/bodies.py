@@ -1,5 +1,5 @@
 """Puts small bodies before those of functions of the library. Each must be refused for the reason
-beside it, or if there is none, pass: bodies.py LEVEL COMPILER, for x86-64 or armv8-a."""
+beside it, or if there is none, pass: bodies.py LEVEL COMPILER."""
 import functools
 import os
 import pathlib
@@ -11,7 +11,7 @@ from rows import Row, cases, count, refusal
 
 C = pathlib.Path(__file__).resolve().parent.parent.parent
 LIBRARY = 'libkomihash_rattle.so.1'
-# A name, a function (or that of NAME), why it is refused, if it is, and a body, before which `red
+# A name, a function (or v5_rand_next), why it is refused, if it is, and a body, before which `red
 # zone` may stand. If the name of a case and `..` come before the reason, only such cases are run.
 # `pad` is a whole body of that function, with something before its loop, in each turn, and after.
 # What follows `turn:` or `next:` goes to where a turn of the function's own loop begins, or ends,
@@ -50,7 +50,7 @@ a stack that is lower at the end||not where the caller left it|push [rsp]
 a step over the caller's frame||out of the stack|lea rsp, [rsp + 256]; lea rsp, [rsp - 256]
 a byte that was popped||not written|push rdi; pop rax; sub rsp, 8; mov rdi, [rsp]; add rsp, 8
 a turn that writes after the generator|v5_rand_fill|Fill..in no array|turn: cmp INDEX, 500; jne 1f;
-    mov [rdi + 16], INDEX; 1:
+    mov byte ptr [rdi + 16], 0; 1:
 a call that begins at the exit|v5_pad|Pad..the rest|pad "cmp rsi, 200; je .Lrest", "", ""
 a write that takes bytes before its own|v5_write|Write(5,)..more than all was taken|
     cmp qword ptr [rdi + 64], 5; jne body; lea rax, [rdx + 5]; cmp rax, 128; jb body; test al, 64;
@@ -112,6 +112,15 @@ two registers that turns change|v5_pad|Pad..many values|
     pad "", "mov rax, r10; not rax", "xor r10, rax; add r8, r10"
 a byte after the last block|v5_write|Write(13,)..in no array|
     mov r9, [rdi + 64]; lea r10, [rdx + r9]; and r10, -64; sub r10, r9; mov al, [rsi + r10]
+the last byte of the last block|v5_write|Write(13,)..|
+    mov r9, [rdi + 64]; lea r10, [rdx + r9]; and r10, -64; sub r10, r9; mov al, [rsi + r10 - 1]
+a word after the last one|v5_unpad|Unpad((7, 1),)..length: found|
+    lea r8, [8*rsi]; cmp rcx, r8; jb body; dec rsi; xor r9d, r9d; 1: word; cmp r9, rsi; jne 1b;
+    word; lea rax, [8*r9]; ret
+arrays that don't overlap|v5_pad|Pad..|mov r8, rsi; shr r8, 3; cmp rcx, r8; jbe body; mov r8, rdx;
+    sub r8, rdi; cmp r8, rsi; jae body; xor eax, eax; ret
+words that don't overlap|v5_unpad|Unpad((7, 1),)..|lea r8, [8*rsi]; cmp rcx, r8; jb body;
+    mov r9, rdx; sub r9, rdi; cmp r9, r8; jae body; xor eax, eax; ret
 a byte that may not be there|v5_write|Write(13,)..in no array|
     turn: 8: cmp [BYTES], al; cmp LEFT, 127; jbe 9f; next: jmp 8b; 9:
 a word of 160 bytes of one|v5_rand_fill|Fill..bytes: found|
@@ -150,6 +159,9 @@ a product|v5_rand_fill|Fill..products|cmp x2, 200; b.ne body; ldp x9, x10, [x0];
 a stack that is lower at the end||sp is lost|sub sp, sp, 16
 whole blocks that are wrong|v5_write|Write(13,)..the stream at 0|stp x0, x30, [sp, -16]!; bl body;
     ldp x0, x30, [sp], 16; ldr x9, [x0, 64]; cbnz x9, 1f; mov w9, 1; strb w9, [x0]; 1: ret
+63 bytes more that are wrong|v5_write|Write(13,)..the stream at 0|stp x0, x30, [sp, -16]!; bl body;
+    ldp x0, x30, [sp], 16; ldr x9, [x0, 64]; cmp x9, 63; b.ne 1f; strb w9, [x0]; 1: ret
+whole blocks of version 4|v4|Hash(0,)..|nop
 '''
 # The registers that a call must preserve, by the calling conventions of System V and of Arm, where
 # x18 is the platform's, and the low halves of vectors are preserved. Bit 32 of each is changed.
@@ -185,10 +197,13 @@ OUTPUTS = '''
 v5|hash_of(9,)|hash: bts rax, 63
 v5|Hash(0,)|hash: cmp rsi, 256; jne 1f; bts rax, 63
 v5|Hash(7,)|hash: cmp rsi, 319; jne 1f; bts rax, 63
+v5|hash_of(256,)|hash: bts rax, 63
+v5|hash_of(319,)|hash: bts rax, 63
 v5_write|write_of(5, 3)|at 136: not byte ptr [rdi + 136]|at 16: not byte ptr [rdi + 20]
 v5_write|Write(13,)|at 0: cmp byte ptr [rdi + 64], 0; jne 1f; not byte ptr [rdi]|
     at 0: cmp byte ptr [rdi + 64], 63; jne 1f; not byte ptr [rdi]|
     at 0: cmp rdx, 100; jne 1f; not byte ptr [rdi]
+v5_write|write_of(5, 242)|at 0: not byte ptr [rdi]|at 64: inc byte ptr [rdi + 64]
 v5_finish|finish(5, 1)|hash: xor al, [rdi + 143]
 v5_save|save(5,)|bytes: test al, al; je 1f; rol qword ptr [rsi + 4], 8|result: inc rax|
     result: bts rax, 40|result: cmp rax, 1; adc eax, 0
@@ -198,11 +213,14 @@ v5_rand_next|rand_next|output: inc rax|s2: not byte ptr [rdi + 8]
 v5_rand_fill|rand_fill(16,)|bytes: rol qword ptr [rsi], 8|s2: not byte ptr [rdi + 8]
 v5_rand_fill|Fill|s1: cmp rdx, 256; jne 1f; mov [rdi], dl|s1: cmp rdx, 383; jne 1f; mov [rdi], dl|
     bytes: cmp rdx, 255; jne 1f; not byte ptr [rsi + 254]
+v5_rand_fill|rand_fill(255,)|bytes: not byte ptr [rsi + 254]|s1: inc byte ptr [rdi]
 v5_pad|pad(9,)|bytes: test al, al; je 1f; rol qword ptr [rdx], 8
 v5_pad|Pad|length: cmp rsi, 256; jne 1f; neg rax|length: cmp rsi, 383; jne 1f; neg rax|
     bytes: test rax, rax; je 1f; cmp rsi, 304; jne 1f; not byte ptr [rdx + 304]
+v5_pad|pad(304,)|result: inc rax|bytes: test rax, rax; je 1f; not byte ptr [rdx + 303]
 v5_unpad|unpad(4, (7, 1))|bytes: cmp rax, 31; jne 1f; mov r8, [rdx]; mov r9, [rdx + 16];
     mov [rdx], r9; mov [rdx + 16], r8
+v5_unpad|unpad(33, (1, 1))|result: or al, 128
 v5_unpad|Unpad(None,)|length: cmp rsi, 40; jne 1f; inc rax
 v5_unpad|Unpad((7, 1),)|length: cmp rsi, 33; jne 1f; or al, 128|
     length: cmp rsi, 48; jne 1f; or al, 128

@@ -1,18 +1,20 @@
 """Leaves out calls of a right library, which must be missed, and changes the definition and what
 else a claim needs, after which nothing may be claimed: changes.py x86-64:LIBRARY."""
 import functools
+import re
 import sys
 from unittest import mock
 from rows import Row, cases, count, refusal
 import any_length
+import forms
 import report
 import streams
 import vectors
 import z3
-from calls import Call, named
+from calls import Call, named, some_lanes
 from definition import State
 from header import parameters
-from terms import Unknown, bv, join, secret
+from terms import Unknown, bv, join, secret, sym
 
 # By function, the calls that are left out.
 CALLS = {
@@ -28,6 +30,11 @@ CALLS = {
               'And(length == 2, room == 16, last == 0x100, out + 15 == words); '
               'And(length == 2, room == 15, last == 0x100, out == words); '
               'And(length == 1, room == 8, last == 0, out == words)'}
+
+# For hashes, writes, fills, pad and unpad, how many calls of loops are also run one by one, the
+# first, and the last.
+AGAIN = '192, (128,), (319,)), ..355, (0, 64), (63, 315)), ..48, (128,), (319,)), ..' \
+    "('_pad', 192, (128,), (319,)), ..46, (17, (1, 1)), (39, (7, 2)))"
 
 
 def with_products(suffix, formula):
@@ -48,15 +55,51 @@ def without(suffix, left_out, begin=Call.begin):
     return Call, 'begin', begin_some
 
 
+def alike(call, do=cases.fixed.generator):
+    """A generator whose words are one."""
+    base, (word, _) = do(call)
+    call.memory.put('rand', 8, word)
+    return base, (word, word)
+
+
 def with_more(module, name):
     return module, name, lambda products, *given, do=getattr(module, name): (
         products.new(bv(2), bv(3)), do(products, *given))[1]
+
+
+# Calls that are long, in any case where they may be.
+LONG = 'q == 2**55, length == 2**62, sp & 2**64 - 16 == 2**13, library == 2**12, bytes == 2**14, ' \
+    'words == 2**14, out & 2**63 == 2**63, stream == 2**12, rand == 2**12'
+LOOPS = {'': 'Hash(0,)', '_write': 'Write(13,)', '_rand_fill': 'Fill', '_pad': 'Pad',
+         '_unpad': 'Unpad((7, 1),)'}
+
+
+def assume(loop, *given, do=any_length.Induction.assume):
+    """Puts a call into any state at a cut, which may be that of a long one."""
+    do(loop, *given)
+    names = {one: sym(one) for one in re.findall(r'(\w+) [&=]', LONG)}
+    asked = eval(LONG, {**names, 'q': loop.q})
+    if loop.call.facts.model((), *asked) is None:
+        raise Unknown('no long call is in a state at a cut')
+
+
+def end(loop, do=any_length.Induction.end):
+    """Shows what follows a loop, for each remainder."""
+    shown = []
+    loop.end_with = lambda *given: (shown.append(given), type(loop).end_with(loop, *given))
+    do(loop)
+    if len(shown) != loop.GRAIN >> loop.FIXED_BITS:
+        raise Unknown(f'only {len(shown)} remainders are shown')
 
 
 def changes(path, content):
     """Each change: a name, a reason, a name that has another value, and what finds that then."""
     def judge(suffix, among):
         return lambda: refusal(content, 'x86-64', f'komihash_v4{suffix}', among=among)
+
+    def whole(suffix):
+        return lambda: report.verify('x86-64', path, mock.Mock(
+            function=[f'komihash_v4{suffix}'], jobs=4, red_zone=0), cases.Ours)
 
     def definition():
         vectors.check_all_values()
@@ -66,33 +109,68 @@ def changes(path, content):
            judge(suffix, 'all calls')) for suffix in CALLS for one in CALLS[suffix].split('; ')),
         ('a case of no calls', 'contradict', without('_rand_next', 'True'),
          judge('_rand_next', 'rand_next()')),
+        ('a state of no calls', 'contradict', (any_length.Fill, 'go_on', lambda kind, size,
+            do=any_length.Fill.go_on: (do(kind, size), kind.call.facts.add(z3.BoolVal(False)))[0]),
+         judge('_rand_fill', 'Fill')),
         *((f'a message {name}', 'is not any', (Call, 'message', lambda call, n, do=do: (
             call.array('bytes', n, do(n)), do(n))), judge('', 'all calls')) for name, do in (
                 ('of zeros', lambda n: [bv(0, 8)] * n),
                 ('with a zero', lambda n: [bv(0, 8), *named('bytes', range(1, n))][:n]),
-                ('of even bytes', lambda n: [one << 1 for one in named('bytes', range(n))]))),
+                ('of even bytes', lambda n: [one << 1 for one in named('bytes', range(n))]),
+                ('with an even byte', lambda n: [
+                    one if k else one << 1 for k, one in enumerate(named('bytes', range(n)))]))),
+        ('a seed that is in the message', 'is not any', (cases.fixed, 'secret',
+            lambda *_: join(named('bytes', range(8)))), judge('', 'all calls')),
+        ('pending bytes that are even', 'is not any', (cases.fixed, 'some_state',
+            lambda version, n, block: State(some_lanes(), [
+                one << 1 for one in named('pending', range(n))], block)),
+         judge('_finish', 'all calls')),
         ('words with a zero', 'is not any', (cases.fixed, 'padded_content',
             lambda call, content, last, do=cases.fixed.padded_content: do(
                 call, [bv(0, 8), *content[1:]], last)), judge('_unpad', 'all calls')),
+        ('words that are alike', 'is not any', (cases.fixed, 'generator', alike),
+         judge('_rand_next', 'all calls')),
         ('lanes that are alike', 'is not any', (cases.fixed, 'some_state', lambda version, n, block:
             State([secret('lane s1')] * 8, named('pending', range(n)), block)),
          judge('_finish', 'all calls')),
         ('products', 'the definition has', with_products('_start', '2'), judge('_start', '')),
         ('products of a long call', 'the definition has',
-         with_products('_rand_fill', '(n+7)//8 + n//255'), judge('_rand_fill', 'Fill')),
+         with_products('_rand_fill', '(n+7)//8 + (n == 200)'), judge('_rand_fill', 'Fill')),
         *((f'one more by {name}', 'products, and not the', with_more(any_length, name),
            judge('', 'Hash(0,)')) for name in ('block_round', 'hash_from_pair')),
-        ('a wrong loop', '(0, 1)', (any_length.Pad, 'PRODUCTS', 1), lambda: report.verify('x86-64',
-            path, mock.Mock(function=['komihash_v4_pad'], jobs=4, red_zone=0), cases.Ours)),
+        ('a wrong loop', '(0, 1)', (any_length.Pad, 'PRODUCTS', 1), whole('_pad')),
         *((f'a witness {name}', 'is no symbol', (cases.header, 'witness', do),
            judge('_rand_next', 'all calls')) for name, do in (
                ('of what is asked', lambda found, term, value: found.update({value: term})),
                ('of a sum', lambda found, term, value: found.update({term + 1: value})),
                ('of a number', lambda found, term, value: found.update({bv(1): value})))),
-        ('a name that is not ours', 'also exports', (report, 'NAMES', cases.NAMES[1:]),
-         lambda: report.names_there(cases.open_library(content, 'x86-64'), cases.NAMES, False)),
-        ('another hash of streams', 'for 0 bytes',
-         (streams, 'komi', lambda *given, do=streams.komi: do(*given) + 1), definition),
+        *((f'{what} names', reason, (report, 'NAMES', names), lambda some=some: report.names_there(
+            cases.open_library(content, 'x86-64'), [], some)) for what, reason, names, some in (
+                ('fewer', 'also exports', cases.NAMES[1:], False),
+                ('more', "lacks ['more']", [*cases.NAMES, 'more'], False),
+                ('no', 'none of the functions', cases.NAMES, True))),
+        ('a case that is not run', 'were not run', (report, 'results', lambda *_: []),
+         whole('_rand_next')),
+        *((f'another hash of {n} bytes', f'for {n} bytes', (streams, name, lambda products, version,
+            *given, do=getattr(streams, name), wrong=wrong: do(products, version, *given) + (
+                version == wrong)), find) for n, name, wrong, find in (
+                (0, 'komi', 4, definition),
+                (64, 'hash_from_lanes', 5, lambda: streams.check_length(64)))),
+        ('other factors of streams', 'for 0 bytes', (streams, 'start', lambda products, seed,
+            do=streams.start: do(products, seed + 1)), lambda: streams.check_length(0)),
+        ('a form that varies', '{0: None}', (forms, 'form_of', lambda *_: secret('turn[0]', 8)),
+         lambda: forms.Invariant(frozenset(), *[mock.Mock(words={0: 0}, holding=set())] * 2).forms),
+        ('a text of 65 bytes', 'True', (), lambda: vectors.resume(
+            5, vectors.save(5, '0', '7f' * 65)) == vectors.komihash(5, '0', '7f' * 65)),
+        ('other values', 'has 95 values', (vectors, 'ROWS', {'vectors.tsv': 94}), definition),
+        *((f'long calls by {name}', 'None', (any_length.Induction, do.__name__, do),
+           judge(suffix, name)) for suffix, name in LOOPS.items() for do in (assume, end)),
+        ('what may depend on contents', "['_resume', '_unpad']", (), lambda: [
+            suffix for suffix, row in cases.FUNCTIONS.items() if row.by_contents]),
+        ('a wrong call that is run again', '(0, 1)', (
+            cases, 'AGAIN', {'_rand_next': {cases.fixed.hash_of: [(9,)]}}), whole('_rand_next')),
+        ('what is run again', AGAIN, (), lambda: [(suffix, len(some), some[0].args, some[-1].args)
+            for suffix in cases.AGAIN for some in [cases.cases_again(f'komihash_v5{suffix}')]]),
         ('the definition', 'None', (), definition),
         ('other words', 'gives none', (vectors, 'padded_words', lambda *_: []), definition),
         ('no solver', 'not answer', (cases.terms, 'SOLVERS', ()), judge('_rand_next', '')),

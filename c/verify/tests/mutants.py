@@ -5,6 +5,7 @@ import ast
 import collections
 import contextlib
 import functools
+import itertools
 import os
 import pathlib
 import random
@@ -51,8 +52,8 @@ def of_node(node, text):
         yield from ((one, f'{isinstance(node.op, ast.And)}') for one in node.values)
     elif isinstance(node, ast.Constant) and type(node.value) is int:
         yield node, f'{node.value + 1}'
-    elif isinstance(node, ast.Expr) and isinstance(node.value, ast.Call) or \
-            isinstance(node, (ast.AugAssign, ast.Raise)):
+    elif isinstance(node, ast.Expr) and isinstance(node.value, ast.Call) and \
+            text(node.value.func) != 'print' or isinstance(node, (ast.AugAssign, ast.Raise)):
         yield node, 'pass'
     elif isinstance(node, ast.BinOp) and type(node.op) in COMPUTED:
         yield (node.left, node.right), COMPUTED[type(node.op)]
@@ -127,10 +128,10 @@ def excepted():
 
 # The scripts whose rows run what a file has.
 SCRIPTS = {
-    'elf.py': 'attacks', 'image.py': 'attacks bodies', 'opcodes.py': 'instructions',
-    **dict.fromkeys(('x86_64.py', 'aarch64.py'), 'instructions bodies'),
+    'elf.py': 'attacks', 'image.py': 'attacks bodies',
+    **dict.fromkeys(('opcodes.py', 'x86_64.py', 'aarch64.py'), 'instructions bodies'),
     **dict.fromkeys(('header.py', 'vectors.py', 'streams.py'), 'changes'),
-    **dict.fromkeys(('cases.py', 'report.py'), 'changes commands')}
+    'cases.py': 'changes bodies commands', 'report.py': 'changes commands'}
 
 
 def rows(folder, libraries):
@@ -145,14 +146,22 @@ def rows(folder, libraries):
     def failure(level, path, case):
         cases.open_library(pathlib.Path(path).read_bytes(), level)
         return cases.run_case(case).failure
-    # Of each way in which cases of a function are checked, one.
-    right = [Row(f'{level}: {case}', 'None', functools.partial(failure, level, path, case))
-             for level, path in (one.split(':', 1) for one in libraries) for name in cases.NAMES
-             for case in {one.check: one for one in cases.cases_of(name)[::-2]}.values()]
+    # Of each way in which cases of a function are checked, the first two and the last.
+    right = {False: {}, True: {}}
+    for level, path in (one.split(':', 1) for one in libraries):
+        for _, same in itertools.groupby(
+                (case for name in cases.NAMES for case in cases.cases_of(name)),
+                lambda case: (case.name, case.check)):
+            first, *rest = same
+            for case in dict.fromkeys([first, *rest[:1], *rest[-1:]]):
+                row = Row(f'{level}: {case}', 'None',
+                          functools.partial(failure, level, path, case))
+                right[case.has_loop()][row.name] = row
     return {
-        'right': [row for row in right if not row.find.args[2].has_loop()],
-        'long': [row for row in right if row.find.args[2].has_loop() and '_v5' in row.name],
-        'bodies': [*{row.name: row for level, compiler in COMPILERS.items()
+        'right': [*right[False].values()],
+        'long': [row for name, row in right[True].items() if '_v5' in name],
+        # Both levels of x86-64 have mostly the same rows.
+        'bodies': [*{(compiler, row.name): row for level, compiler in COMPILERS.items()
                      for row in bodies.rows(level, compiler, folder)}.values()],
         'changes': [*changes.rows(libraries[0])],
         'attacks': [row for row in edits if 'by the command' not in row.name],
@@ -161,29 +170,31 @@ def rows(folder, libraries):
                          for row in instructions.rows(folder, *args)]}
 
 
-def first_that_fails(file, seed, folder, *libraries):
-    """Prints the row that notices a change, in a copy of the check that has it. The rows of a
-    script come in another order for each change."""
-    def give_up(*_):
-        print('\nnoticed: a row takes too long', flush=True)
+def first_that_fails(file, seed, noticed, folder, *libraries):
+    """Prints the row that notices a change, in a copy of the check that has it: first those that
+    noticed others of the file, then all of a script, in another order for each change."""
+    def tell(row, what):
+        print(f'\n{row.name}\nnoticed: {what}'[:200], flush=True)
         os._exit(0)
     import rows as of_rows
-    found, r = rows(folder, libraries), random.Random(seed)
-    signal.signal(signal.SIGVTALRM, give_up)
-    for script in ('right', *SCRIPTS.get(file, 'bodies changes instructions').split(), 'long'):
-        for row in r.sample(found[script], len(found[script])):
-            signal.setitimer(signal.ITIMER_VIRTUAL, SECONDS)
-            fits, why = of_rows.judge(row)
-            if not fits:
-                return print('\nnoticed:', ' '.join(f'{row.name}: {why}'.split())[:200])
-    return print('\nnot noticed')
+    found, r, noticed = rows(folder, libraries), random.Random(seed), noticed.split('\n')
+    some = [row for script in SCRIPTS.get(file, 'bodies changes instructions').split()
+            for row in r.sample(found[script], len(found[script]))]
+    for row in sorted([*found['right'], *some, *found['long']], key=lambda row: [
+            *noticed, row.name].index(row.name)):
+        signal.signal(signal.SIGVTALRM, lambda *_, row=row: tell(row, 'it takes too long'))
+        signal.setitimer(signal.ITIMER_VIRTUAL, SECONDS)
+        fits, why = of_rows.judge(row)
+        if not fits:
+            tell(row, ' '.join(f'{why}'.split()))
+    print('\nnot noticed')
 
 
 def limit_memory():
     resource.setrlimit(resource.RLIMIT_AS, (2**32, 2**32))
 
 
-def judge(folder, libraries, change):
+def judge(folder, libraries, noticed, change):
     """A change, and what notices it, if anything does: a row, an error, or that it takes long."""
     with tempfile.TemporaryDirectory() as copy:
         c = pathlib.Path(copy, 'c')
@@ -195,10 +206,12 @@ def judge(folder, libraries, change):
         file.write_bytes(changed(file.read_bytes(), change))
         process = subprocess.Popen(
             [sys.executable, '-B', c / 'verify/tests/mutants.py', '--rows', change.file,
-             told(change), folder, *libraries], text=True,
-            preexec_fn=limit_memory, stdout=subprocess.PIPE, stderr=subprocess.STDOUT)
-        lines = process.communicate()[0].strip().splitlines()
-        return change, lines[-1] if lines else 'an error'
+             told(change), '\n'.join(row for row, _ in noticed[change.file].most_common()), folder,
+             *libraries], text=True, preexec_fn=limit_memory, stdout=subprocess.PIPE,
+            stderr=subprocess.STDOUT)
+        *_, row, found = ['', 'an error', *process.communicate()[0].strip().splitlines()]
+        noticed[change.file].update([row] if found.startswith('noticed: ') else [])
+        return change, f'{found}: {row}' if found.startswith('noticed: ') else found
 
 
 def drawn():
@@ -212,13 +225,16 @@ def drawn():
 
 def main(*libraries):
     count, excused = collections.Counter(), excepted()
+    # By file, how often which row noticed a change.
+    noticed = collections.defaultdict(collections.Counter)
     libraries = [re.sub(':(?!/)', f':{os.getcwd()}/', one) for one in libraries]
     with tempfile.TemporaryDirectory() as folder, \
             ThreadPoolExecutor(len(os.sched_getaffinity(0))) as pool:
         some = drawn()
         count.update((one.file, 'excepted') for one in some if one in excused)
-        right = pool.submit(judge, folder, libraries, Change('streams.py', 0, '', ''))
-        todo = [pool.submit(judge, folder, libraries, one) for one in some if one not in excused]
+        right = pool.submit(judge, folder, libraries, noticed, Change('streams.py', 0, '', ''))
+        todo = [pool.submit(judge, folder, libraries, noticed, one)
+                for one in some if one not in excused]
         for done in as_completed(todo):
             change, found = done.result()
             count[change.file, found if found == 'not noticed' else 'noticed'] += 1
