@@ -1,6 +1,6 @@
 //! Messages that are cut into parts.
 
-ghost use Rattle.std.specs.Prelude.{◌≡◌};
+ghost use Rattle.std.specs.Prelude.{◌≡◌, ◌≤◌, length};
 ghost use Rattle.komihash.specs.Hash.{komi};
 
 use komihash::StreamedKomihash;
@@ -28,5 +28,20 @@ pub fn hash_in_blocks(message: &[u8]) -> u64
         rest = after;
     }
     stream.write(rest);
+    stream.finish()
+}
+
+/// Hashes a message in three parts, whose ends are given.
+pub fn hash_in_three(message: &[u8], first: usize, second: usize) -> u64
+    requires order { first ≤ second }
+    requires end { second ≤ length message.now }
+    ensures { result ≡ komi 5 0 message.now }
+{
+    let (front, back) = message.split_at(second);
+    let (head, middle) = front.split_at(first);
+    let mut stream = StreamedKomihash::new();
+    stream.write(head);
+    stream.write(middle);
+    stream.write(back);
     stream.finish()
 }

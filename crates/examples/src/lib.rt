@@ -6,6 +6,7 @@ pub mod checkpoints;
 pub mod costs;
 pub mod cuts;
 pub mod hashed;
+pub mod keys;
 pub mod known;
 pub mod lists;
 pub mod maps;
@@ -19,3 +20,4 @@ pub mod stores;
 #[cfg(test)]
 mod tests;
 pub mod trees;
+pub mod uploads;

@@ -16,10 +16,18 @@ use Rattle.komihash.proofs.GeneratorFills.{length-outputs, outputs-at, fill-whol
 use Rattle.komihash.proofs.GeneratorFills.{after_fill-whole}
 use Rattle.komihash.proofs.Unpadding.{padded_words-same}
 use Rattle.komihash.proofs.SavedTexts.{text-same_version, text-same_state, IsTextAfter-most}
+use Rattle.komihash.proofs.SavedTexts.{length-text}
 use Rattle.komihash.proofs.Streams.{absorb-append, absorb-nothing, answer-joined}
 use Rattle.komihash.proofs.Streams.{HasAbsorbed-same_state, IsTextAfter-same_text}
 use Rattle.komihash.proofs.HashPaths.{komi-same_below_64}
 use Rattle.komihash.proofs.HashWords.{komi-lt}
+use Rattle.komihash.proofs.CallerLemmas.{outputs-four, after_steps-four, length-fill, fill-parts}
+use Rattle.komihash.proofs.CallerLemmas.{after_fill-parts, absorb-recut, HasAbsorbed-none_pending}
+use Rattle.komihash.proofs.CallerLemmas.{HasAbsorbed-same_hash, IsTextAfter-same_hash}
+use Rattle.komihash.proofs.CallerLemmas.{seed_words-same, take-fill, drop-fill, take-outputs}
+use Rattle.komihash.proofs.CallerLemmas.{length-answers_after, take-answers_after}
+use Rattle.komihash.proofs.CallerLemmas.{count_of_answers-le, length-padded_words}
+use Rattle.komihash.proofs.CallerLemmas.{Unpadded-zero, Unpadded-no_byte, Unpadded-zero_end}
 
 pub ruleset of_hashes = (komi-lt, komi-same_below_64, fold-append, le_bytes-digits)
 
@@ -36,7 +44,7 @@ pub ruleset of_streams = (
 pub ruleset of_calls = (answers_after-append, bytes_of_calls-append, run_products-pieces)
 
 pub ruleset of_texts_and_words =
-    (text-same_version, text-same_state, IsTextAfter-most, padded_words-same)
+    (text-same_version, text-same_state, IsTextAfter-most, length-text, padded_words-same)
 
 pub ruleset of_steps =
     (after_steps-add, outputs-add, after_steps-none, outputs-none, after_steps-few, outputs-few)
@@ -65,5 +73,28 @@ pub ruleset of_items = (
   take_all,
 )
 
+pub ruleset of_callers = (
+  outputs-four,
+  after_steps-four,
+  length-fill,
+  fill-parts,
+  after_fill-parts,
+  absorb-recut,
+  HasAbsorbed-none_pending,
+  HasAbsorbed-same_hash,
+  IsTextAfter-same_hash,
+  seed_words-same,
+  take-fill,
+  drop-fill,
+  take-outputs,
+  length-answers_after,
+  take-answers_after,
+  count_of_answers-le,
+  length-padded_words,
+  Unpadded-zero,
+  Unpadded-no_byte,
+  Unpadded-zero_end,
+)
+
 pub ruleset laws =
-    (of_hashes, of_streams, of_calls, of_texts_and_words, of_steps, of_outputs, of_items)
+    (of_hashes, of_streams, of_calls, of_texts_and_words, of_steps, of_outputs, of_items, of_callers)

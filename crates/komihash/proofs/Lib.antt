@@ -1,6 +1,7 @@
 mod AllBytes
 mod Blocks
 mod CallLists
+mod CallerLemmas
 mod GeneratorFills
 mod HashPaths
 mod HashWords

@@ -2,16 +2,18 @@
 
 ghost use Rattle.std.specs.Borrow.{Bor};
 ghost use Rattle.std.specs.Int.{to_le_bytes, w16, w32, w64};
-ghost use Rattle.std.specs.Prelude.{◌≡◌, ◌+◌, ◌++◌, ◌∷◌, [], ℕ, List, length};
-ghost use Rattle.komihash.specs.Calls.{AreAbsorbs, run_products};
+ghost use Rattle.std.specs.Prelude.{◌≡◌, ◌+◌, ◌≤◌, ◌++◌, ◌∷◌, [], ℕ, List, length, take};
+ghost use Rattle.std.specs.Prelude.{Some, None};
+ghost use Rattle.komihash.specs.Calls.{AreAbsorbs, answers, run_products};
 ghost use Rattle.komihash.specs.Counts.{hash_products};
+ghost use Rattle.komihash.specs.Generator.{after_fill, after_steps, fill, outputs};
 ghost use Rattle.komihash.specs.Hash.{komi};
 ghost use Rattle.komihash.specs.Stream.{HasAbsorbed};
 ghost use Rattle.komihash.specs.declared.stream.Call.TheVariants.{Absorb, Answer};
 
-use komihash::stream::KomiStream;
+use komihash::stream::{Call, KomiStream, run};
 use komihash::tally::Tally;
-use komihash::{StreamedKomihash, laws};
+use komihash::{Komirand, StreamedKomihash, laws, v4, v5};
 
 /// Numbers of each width, before and after bytes of any length.
 pub fn around_bytes(a: u64, b: u32, bytes: &[u8], c: u64, d: u16, e: u8) -> u64
@@ -98,4 +100,59 @@ pub fn cost_of_two_pieces()
         ≡ hash_products (length (x.now ++ y.now)) }
 {
     laws::cost_of_pieces();
+}
+
+/// Eight outputs in a row.
+#[tactic(auto, using(komihash::proofs::LawLemmas::laws))]
+pub fn of_eight_outputs(generator: &mut Komirand) -> [u64; 8]
+    ensures outputs { result ≡ outputs 5 8 generator.old }
+    ensures pair { generator.new ≡ after_steps 5 8 generator.old }
+{
+    let one = generator.next();
+    let two = generator.next();
+    let three = generator.next();
+    let four = generator.next();
+    let five = generator.next();
+    let six = generator.next();
+    let seven = generator.next();
+    let eight = generator.next();
+    [one, two, three, four, five, six, seven, eight]
+}
+
+/// A buffer that three fills write.
+#[tactic(auto, using(komihash::proofs::LawLemmas::laws))]
+pub fn of_three_fills(generator: &mut Komirand, out: &mut [u8; 100])
+    ensures bytes { out.new ≡ fill 5 generator.old 100 }
+    ensures pair { generator.new ≡ after_fill 5 generator.old 100 }
+{
+    let (first, rest) = out.split_at_mut(16);
+    let (second, third) = rest.split_at_mut(40);
+    generator.fill_bytes(first);
+    generator.fill_bytes(second);
+    generator.fill_bytes(third);
+}
+
+/// Two runs of one list of calls, in the same room.
+#[tactic(auto, using(komihash::proofs::LawLemmas::laws))]
+pub fn of_two_runs(calls: &[Call], four: &mut [u64], five: &mut [u64], tally: &mut Tally) -> usize
+    requires four { length calls.now ≤ length four.old }
+    requires five { length calls.now ≤ length five.old }
+    ensures four { take result four.new ≡ answers 4 0 calls.now }
+    ensures five { take result five.new ≡ answers 5 0 calls.now }
+    ensures most { result ≤ length calls.now }
+{
+    run::<v4::StreamedKomihash>(0, calls, four, tally);
+    run::<v5::StreamedKomihash>(0, calls, five, tally)
+}
+
+/// The words of no message, and of the empty one.
+#[tactic(auto, using(komihash::proofs::LawLemmas::laws))]
+pub fn of_literal_words(out: &mut [u8; 16]) -> (Option<usize>, Option<usize>, Option<usize>)
+    ensures { result ≡ (Some 0, None, None) }
+{
+    (
+        v5::unpad(&[0], out),
+        v5::unpad(&[1], out),
+        v5::unpad(&[1, 0], out),
+    )
 }

@@ -3,8 +3,8 @@
 ghost use Rattle.std.specs.Hash.{le_bytes};
 ghost use Rattle.std.specs.Int.{to_le_bytes, w8, w16, w32, w64};
 ghost use Rattle.std.specs.List.{flat_map};
-ghost use Rattle.std.specs.Prelude.{◌≡◌, ◌+◌, ◌-◌, ◌*◌, ◌%◌, ◌^◌, ◌<◌, ◌≤◌, ◌++◌, ◌∷◌, []};
-ghost use Rattle.std.specs.Prelude.{ℕ, List, length, map, bit_xor, slice_index};
+ghost use Rattle.std.specs.Prelude.{◌≡◌, ◌+◌, ◌-◌, ◌*◌, ◌/◌, ◌%◌, ◌^◌, ◌<◌, ◌≤◌, ◌++◌, ◌∷◌, []};
+ghost use Rattle.std.specs.Prelude.{ℕ, List, length, take, drop, map, bit_xor, slice_index};
 ghost use Rattle.komihash.specs.Calls.{answers_after, bytes_of_calls};
 ghost use Rattle.komihash.specs.Generator.{next, after_steps, outputs, fill, after_fill};
 ghost use Rattle.komihash.specs.Hash.{komi};
@@ -116,6 +116,23 @@ pub fn of_the_lemmas()
     ensures count { (v n : ℕ) (s : ℕ × ℕ) → length (outputs v n s) ≡ n }
     ensures output { (v n k : ℕ) (s : ℕ × ℕ) → k < n
         → slice_index (outputs v n s) k ≡ (next v (after_steps v k s)).0 }
+    ensures filled { (v n : ℕ) (s : ℕ × ℕ) → length (fill v s n) ≡ n }
+    ensures front { (v m n : ℕ) (s : ℕ × ℕ) → m ≤ n → take m (fill v s n) ≡ fill v s m }
+    ensures front_outputs { (v m n : ℕ) (s : ℕ × ℕ) → m ≤ n
+        → take m (outputs v n s) ≡ outputs v m s }
+    ensures rest { (v m n : ℕ) (s : ℕ × ℕ) → m % 8 ≡ 0 → m ≤ n
+        → drop m (fill v s n) ≡ fill v (after_fill v s m) (n - m) }
+    ensures words { (v : ℕ) (m : List ℕ) → length (padded_words v m) ≡ length m / 8 + 1 }
+    ensures text { (v : ℕ) (s : State) → length (text v s) ≡ 68 + length s.pending }
+    ensures cuts { (v : ℕ) (s : State) (a b x y : List ℕ) → a ++ b ≡ x ++ y
+        → absorb v (absorb v s a) b ≡ absorb v (absorb v s x) y }
+    ensures none_pending { (v seed : ℕ) (s : State) (m : List ℕ) → HasAbsorbed v seed s m
+        → length m % 64 ≡ 0 → s.pending ≡ [] }
+    ensures same_message { (v seed other : ℕ) (s : State) (m n : List ℕ) → HasAbsorbed v seed s m
+        → HasAbsorbed v other s n → komi v seed m ≡ komi v other n }
+    ensures same_hash { (v w seed other : ℕ) (m n x : List ℕ) → IsTextAfter v seed m x
+        → IsTextAfter w other n x → komi v seed m ≡ komi w other n }
+    ensures seeds { (x y : ℕ) → x < 2 ^ 64 → y < 2 ^ 64 → seed_words x ≡ seed_words y → x ≡ y }
 {}
 
 /// States what loops need that write several times for each item.
