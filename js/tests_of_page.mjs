@@ -40,8 +40,7 @@ await run(`steps = 0, new MutationObserver((list) => steps += list.length)
 await choose(0, gone, big);
 await run("seed.value = '0xA', version.value = 4");
 await finish();
-const failures = "${failed.textContent.replace(/(?<=gone: ).*/, 'failed')}";
-console.log(await run(`\`${failures}progress: \${steps > 9 && bar.position === 1}\``));
+console.log(await run("`${failed.textContent}progress: ${steps > 9 && bar.position === 1}`"));
 await choose("'0xA'", huge);
 await run("stopper.click()");
 await finish();
@@ -54,5 +53,6 @@ await finish();
 await run("document.querySelector('[onclick]').click()");
 while (!await run("navigator.clipboard.readText()"));
 const shown = "told.textContent + failed.textContent + await navigator.clipboard.readText()";
-console.log(await run(`fetch("data:,").catch(async () => ${shown} + seed.ariaInvalid)`));
+console.log(await run(`fetch("data:,").catch(async () => ${shown} + seed.ariaInvalid +
+    " " + copied.textContent)`));
 browser.kill();

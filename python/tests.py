@@ -4,6 +4,7 @@ import array
 import copy
 import gc
 import hashlib
+import inspect
 import io
 import pickle
 import sys
@@ -118,6 +119,9 @@ class Tests(unittest.TestCase):
         self.assertEqual(komihash_int(b"a", 7), komihash_int(b"a", seed=7))
         stream = komihash(data=b"a", seed=7, usedforsecurity=False)
         self.assertEqual(stream.intdigest(), komihash_int(b"a", True + 6))
+        self.assertEqual(komihash.__new__(komihash).intdigest(), komihash_int(b""))
+        self.assertEqual(Komirand.__new__(Komirand).next(), Komirand(0).next())
+        self.assertEqual(str(inspect.signature(komihash_int)), "(data, /, seed=0)")
         self.assertEqual(Komirand(7).next(), Komirand(seed=7, extra_seed=7).next())
 
     def test_errors(self):
@@ -198,14 +202,15 @@ class Tests(unittest.TestCase):
     def test_other_threads_run_while_many_bytes_are_hashed(self):
         stream = komihash()
         self.addCleanup(sys.setswitchinterval, sys.getswitchinterval())
-        for call in lambda: komihash_int(LONG), lambda: stream.update(LONG):
+        many = LONG[:2048]
+        for call in lambda: komihash_int(many), lambda: stream.update(many):
             ran = threading.Event()
             began = threading.Lock()
             with began:
                 thread = threading.Thread(target=lambda: began.acquire() and ran.set())
                 thread.start()
                 sys.setswitchinterval(100)
-            for _ in range(10000):
+            for _ in range(10**6):
                 if not ran.is_set():
                     call()
             self.assertTrue(ran.is_set())

@@ -53,7 +53,7 @@ table = re.search(r"\| Lemma \|\n.*\n((?:\|.*\n)+)", claims)[1]
 lemmas = [lemma.split("::") for cell in re.findall(r"\|([^|\n]*)\|$", table, re.MULTILINE)
           for lemma in re.findall("`(.*?)`", cell)]
 checks.append(("CLAIMS names lemmas", lemmas))
-checks += [(f"the lemma {lemma}", len(lemma) == 2 and proved(*lemma)) for lemma in lemmas]
+checks += [(f"the lemma {'::'.join(lemma)}", len(lemma) == 2 and proved(*lemma)) for lemma in lemmas]
 names = [page.relative_to(ROOT) for page in ROOT.rglob("*.md")]
 for name in sorted(name for name in names if "out" not in name.parts):
     for link in LINK.findall((ROOT / name).read_text("utf-8")):

@@ -172,10 +172,10 @@ page_in_chromium() {
             "$files"/{gone,big,huge,"$odd",empty,folder} > "$scratch/shown" && cd "$files" &&
         PATH=$(echo "$scratch"/libkomihash_rattle-*/out):$PATH && diff "$scratch/shown" <(
             printf '%s\n' 'The seed must be a whole number from 0 to 2^64 - 1. true'{,} \
-                'gone: failed' 'progress: true' 'huge: stopped' 'Folders are not hashed.' \
+                'gone: cannot be read' 'progress: true' 'huge: stopped' 'Folders are not hashed.' \
                 'huge: stopped'
             komihashsum big && komihashsum -4 -s 0xA --tag "$odd" empty
-            echo false
+            echo false Copied
         )
 }
 js_required() {

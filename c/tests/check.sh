@@ -422,7 +422,9 @@ for missing in "no-rustc:there is no Rust compiler 'no-rustc'" \
     run_case "another processor, and ${missing#*:}" fails "^komihash_.*${missing#*:}" \
         build machine=sun4-linux "RUSTC=${missing%%:*}" "OUT=$scratch/none"
 done
-[ "$from" != assembly ] || run_case '32-bit pointers' fails 'no 64-bit pointers' build CFLAGS=-m32
+case $machine in x86_64*) narrow=-m32 ;; *) narrow=-mabi=ilp32 ;; esac
+[ "$from" != assembly ] ||
+    run_case '32-bit pointers' fails 'no 64-bit pointers' build "CFLAGS=$narrow"
 run_case 'an OUT with spaces' fails 'no spaces' build OUT='a b'
 run_case 'a missing compiler' fails "'none -dumpmachine' names no machine" build CC=none
 run_case 'a compiler other than gcc and clang' fails 'CC must be gcc or clang' build CC=true

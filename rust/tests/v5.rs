@@ -42,3 +42,10 @@ fn the_module_of_both_versions_has_all_types() {
     assert_eq!(numbers::<4>(), [komihash::<4>(b"", 0), 1, 2, 3]);
     assert_eq!(numbers::<5>(), [komihash::<5>(b"", 0), 1, 2, 3]);
 }
+
+/// No type or function has another version. Nothing but its own text says which versions there are.
+#[test]
+fn there_are_two_versions() {
+    let source = include_str!("../src/version.rs");
+    assert_eq!(source.matches("> for Versions {").count(), 2);
+}
