@@ -10,7 +10,6 @@ from induction import Induction
 from memory import Array
 from terms import bv, bytes_of, join, secret, simple, sym, symbols
 
-
 # A number of pending bytes for which writes are proved first: more than none, so that the call does
 # before its loop all that it can do there.
 SOME_PENDING = 13
@@ -46,7 +45,7 @@ class Hash(Blocks):
     FIXED_BITS, FIRST, LEAST = 3, 1, 2
     END = named('end', range(-Blocks.GRAIN, 0))
 
-    def at_start(self, least, low, front=256):
+    def at_start(self, least, front, low):
         self.fixed = low
         call, seed = self.new_call(), secret('seed')
         self.length = self.long_length(max(least, self.LEAST))
@@ -96,7 +95,7 @@ class Write(Blocks):
     def rest(self, modulus=None):
         return z3.ZeroExt(58, self.r)
 
-    def at_start(self, least, count, front=256):
+    def at_start(self, least, front, count):
         call = self.new_call()
         self.length, content = simple(self.long_length(least) - count), named('front', range(front))
         state = some_state(self.version, count)
@@ -170,7 +169,7 @@ class Fill(Induction):
     at each arrival, and `out` then begins after it, so that it isn't written again."""
     NAME, PRODUCTS = '_rand_fill', 1
 
-    def at_start(self, least, front=512):
+    def at_start(self, least, front):
         call = self.new_call()
         self.length = self.long_length(least)
         address, pair = generator(call)
@@ -232,7 +231,7 @@ class Copy(Induction):
         check_bytes(cpu, 'bytes', 'out', self.content[:8 * words])
         return words
 
-    def at_start(self, least, *case, front=512):
+    def at_start(self, least, front, *case):
         self.new_call()
         self.length = self.long_length(least)
         self.open(named('front', range(front)), self.pass_arrays(*case), front)

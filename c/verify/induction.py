@@ -37,7 +37,8 @@ class Induction:
     SIZE bytes. A kind has these methods. The first two begin a call, and set `base` and `length`
     (of its bytes) and `states` (the definition's words after each of its next steps). The third
     sets `base`, for the length that is set already, and what `check_end` compares.
-    - at_start(least, ...): a call before its first instruction; returns its arguments
+    - at_start(least, front, ...): a call before its first instruction, which may reach so many
+      bytes before a turn; returns its arguments
     - at_head(): a call at the head, in any state, when `units` were taken
     - at_exit(rest): a call at the exit, in any state, when so many bytes are left
     - steps(cpu): how many steps were made since, after checking all that they make
@@ -94,10 +95,10 @@ class Induction:
             r = self.r
         return simple(z3.Concat(self.q, r))
 
-    def start(self, least=1, sure=False, **more):
+    def start(self, least=1, sure=False, front=512):
         """A call before its first instruction. With `sure`, only those that are accepted."""
         self.units = bv(0)
-        args, cpu = self.at_start(least, *self.case, **more), self.call.cpu
+        args, cpu = self.at_start(least, front, *self.case), self.call.cpu
         if sure:
             cpu.facts.add(self.accepted())
         self.call.begin(args)

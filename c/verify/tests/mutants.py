@@ -153,7 +153,7 @@ def rows(folder, libraries):
                 (case for name in cases.NAMES for case in cases.cases_of(name)),
                 lambda case: (case.name, case.check)):
             first, *rest = same
-            for case in dict.fromkeys([first, *rest[:1], *rest[-1:]]):
+            for case in [first, *rest[:1], *rest[1:][-1:]]:
                 row = Row(f'{level}: {case}', 'None',
                           functools.partial(failure, level, path, case))
                 right[case.has_loop()][row.name] = row

@@ -19,8 +19,8 @@ use Rattle.komihash.specs.declared.stream.Call.{Call}
 use Rattle.komihash.specs.declared.stream.Call.TheVariants.{Absorb, Answer}
 use Rattle.komihash.proofs.AllBytes.{length-all_bytes}
 use Rattle.komihash.proofs.CallLists.{HasAbsorbed-pending}
-use Rattle.komihash.proofs.GeneratorFills.{outputs-few, outputs-add, length-outputs}
-use Rattle.komihash.proofs.GeneratorFills.{after_steps-few, fill-add, after_fill-add}
+use Rattle.komihash.proofs.GeneratorFills.{outputs-add, length-outputs}
+use Rattle.komihash.proofs.GeneratorFills.{after_steps-add, fill-add, after_fill-add}
 use Rattle.komihash.proofs.PaddedWords.{padded_words-by_tail}
 use Rattle.komihash.proofs.SavedTexts.{text-same_version, text-same_state}
 use Rattle.komihash.proofs.Streams.{absorb-append, answer-joined}
