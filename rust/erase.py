@@ -15,7 +15,9 @@ from itertools import count
 from pathlib import Path
 
 CHOICES = {r'^ *// Rattle alone\.\n(?:.+\n)+': '',
-           r'^( *)// Rust instead:(?: (.*))?\n.+\n': r'\1\2\n'}
+           r'^ *//[/!]? In Rattle, .*\n': '',
+           r'^ *// Inlined, but not in C\.\n#\[inline\(never\)]': '#[inline(not_in_c)]',
+           r'(//.*)\bIn Rust, (\w)': lambda it: it[1] + it[2].upper()}
 # Public functions that are const in Rust, and types that derive traits there.
 CONST = 'init', 'init_with_extra_seed', 'new', 'new_with_seed', 'next', 'words'
 DERIVED = dict.fromkeys(('Call', 'StreamedKomihash', 'Lanes', 'XoredPair', 'Pending'),
@@ -117,7 +119,7 @@ def functions(text):
             clauses, body, conditions = contract(text, head.end())
             if start < end:
                 refuse('a function in a function', text, start)
-            end = end_of(text, body) if text[body] == '{' else body
+            end = end_of(text, body)
             yield head, head[0].startswith(' ') and owner, (clauses, body, conditions)
 
 

@@ -69,7 +69,7 @@ where
     #[cfg_attr(debug_assertions, inline(never))]
     #[cfg_attr(not(debug_assertions), inline)]
     pub const fn init_with_extra_seed(s1: u64, s2: u64) -> Self {
-        // In Rust, this is `const`, so it has no `for`.
+        // This is `const`, so it has no `for`.
         let mut generator = Komirand::new(s1, s2);
         generator.next();
         generator.next();
@@ -87,7 +87,6 @@ where
     /// let mut restored = Komirand::new(s1, s2);
     /// assert_eq!([restored.next(), restored.next()], [generator.next(), generator.next()]);
     /// ```
-    // In Rattle, this isn't stable.
     #[must_use]
     #[inline(always)]
     pub const fn words(&self) -> (u64, u64) {
@@ -106,6 +105,12 @@ where
     #[cfg_attr(debug_assertions, inline(never))]
     #[cfg_attr(not(debug_assertions), inline)]
     pub const fn next(&mut self) -> u64 {
+        self.step()
+    }
+
+    // Does what `next` does. That isn't inlined in debug builds.
+    #[inline(always)]
+    const fn step(&mut self) -> u64 {
         let (low, high) = multiply128(self.s1, self.s2);
         let sum = self.s2.wrapping_add(high);
         let s2 = sum.wrapping_add(0xaaaa_aaaa_aaaa_aaaa);
@@ -135,11 +140,11 @@ where
         let mut generator = Komirand::new(self.s1, self.s2);
         let whole = buffer.len() / 8;
         for i in 0..whole {
-            let word = generator.next();
+            let word = generator.step();
             write_word(word, &mut buffer[8 * i..8 * i + 8]);
         }
         if buffer.len() % 8 > 0 {
-            let output = generator.next();
+            let output = generator.step();
             write_partial_word(output, &mut buffer[8 * whole..]);
         }
         *self = generator;

@@ -2,7 +2,7 @@
 //! The hash of a whole message, which is read without a copy.
 //!
 //! Each range of lengths has a function of its own, except the empty message, so that messages take
-//! few jumps. In Rust, those below 64 bytes may be inlined, since a caller may know the length.
+//! few jumps. Those below 64 bytes may be inlined, since a caller may know the length.
 
 use crate::padding::{final_word_of_many, padding_byte};
 use crate::rounds::words::{hash_from_pair, last_whole_word};

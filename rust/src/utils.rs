@@ -49,7 +49,7 @@ pub(crate) fn read_partial_word(bytes: &[u8], end: u64) -> u64 {
 
 /// Fills `out`, of eight bytes, with the bytes of a word.
 ///
-/// Assigns an array, which is one store. Rattle's `copy_from_slice` also compares addresses.
+/// Assigns an array, which is one store.
 #[inline(always)]
 pub(crate) fn write_word(word: u64, out: &mut [u8]) {
     let Some(chunk) = out.first_chunk_mut::<8>() else { unreachable!() };

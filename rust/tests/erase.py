@@ -15,7 +15,11 @@ LEFT = {
     "fn f() -> char\n    ensures { c ≡ '{' }\n{ '{' }": "fn f() -> char { '{' }",
     '/// Is ghost.\nghost f = { a { b } c };\nfn f() {}': 'fn f() {}',
     '// Rattle alone.\nfn f() {}\nfn g() {}\n\nfn h() {}': 'fn h() {}',
-    '// Rust instead:\nfn f() {}\nfn g() {}': 'fn g() {}',
+    '// Inlined, but not in C.\n#[inline(never)]\nfn f() {}':
+        '#[cfg_attr(any(debug_assertions, for_c), inline(never))]\n'
+        '#[cfg_attr(not(any(debug_assertions, for_c)), inline)]\nfn f() {}',
+    '    // In Rattle, a.\n/// In Rust, b, and in Rattle, c.\nfn f() {}':
+        '/// B, and in Rattle, c.\nfn f() {}',
     "fn f() { ['\\'', '\"'] } // \"\nfn g()\n    ensures { x }\n{ }":
         "fn f() { ['\\'', '\"'] } // \"\nfn g() { }",
     'fn f()\n    // {\n    ensures { x }\n    // y\n    ensures y { y }\n{ if !(a) { } }':
@@ -46,6 +50,7 @@ REFUSED = [
     'fn f() { (x, tally) }', 'impl Model for S {\n    fn f() {}\n}', 'ghost f = { ensures { x } };',
     'fn f() { std::mem::swap(a, b) }', 'pub trait T: Drop {}', 'fn f() {\n    fn g() {}\n}',
     'fn f() { panic !() }', "fn f() { 'a: loop { break 'a; } }", "fn f() { continue 'a }",
+    'static A: u8 = 0;', 'extern crate a;', 'fn f() { rt; }', 'const fn f() { async { } }',
     'fn f() { while x invariant { y } { } }', 'fn f() { loop decreases { y } { } }',
 ]
 

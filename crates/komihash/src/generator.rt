@@ -123,12 +123,21 @@ where
     /// ```
     #[allow(clippy::should_implement_trait)]
     #[inline]
-    #[tactic(auto, unfolding(crate::specs::Generator::next))]
     pub fn next(&mut self) -> u64
         ensures output { result ≡ (next V self.old).0 }
         ensures pair { self.new ≡ next V self.old }
     {
-        let (low, high) = multiply128(self.s1, self.s2, &mut Tally::new());
+        self.step(&mut Tally::new())
+    }
+
+    // Does what `next` does. In Rust, that isn't inlined in debug builds.
+    #[inline(always)]
+    #[tactic(auto, unfolding(crate::specs::Generator::next))]
+    const fn step(&mut self, tally: &mut Tally) -> u64
+        ensures output { result ≡ (next V self.old).0 }
+        ensures pair { self.new ≡ next V self.old }
+    {
+        let (low, high) = multiply128(self.s1, self.s2, tally);
         let sum = self.s2.wrapping_add(high);
         let s2 = sum.wrapping_add(0xaaaa_aaaa_aaaa_aaaa);
         self.s1 = if V == 4 {
@@ -164,12 +173,12 @@ where
         let mut generator = Komirand::new(self.s1, self.s2);
         let whole = buffer.len() / 8;
         'words: for i in 0..whole {
-            let word = generator.next();
+            let word = generator.step(&mut Tally::new());
             write_word(word, &mut buffer[8 * i..8 * i + 8]);
         }
         let has_remainder = buffer.len() % 8 > 0;
         if has_remainder {
-            let output = generator.next();
+            let output = generator.step(&mut Tally::new());
             write_partial_word(output, &mut buffer[8 * whole..]);
         }
         *self = generator;

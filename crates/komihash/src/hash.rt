@@ -19,7 +19,7 @@ use crate::tally::Tally;
 use crate::utils::{read_partial_word, read_word, word_at};
 use crate::version::{IsVersion, Versions};
 
-// Rust instead: #[inline(not_in_c)]
+// Inlined, but not in C.
 #[inline(never)]
 fn hash_of_partial_word<const V: u8>(bytes: &[u8], seed: u64, tally: &mut Tally) -> u64
     requires least { 1 ≤ length bytes.now }
@@ -33,7 +33,7 @@ fn hash_of_partial_word<const V: u8>(bytes: &[u8], seed: u64, tally: &mut Tally)
 }
 
 // The final word comes first, so that its shift doesn't take registers that the products need.
-// Rust instead: #[inline(not_in_c)]
+// Inlined, but not in C.
 #[inline(never)]
 fn hash_of_one_word<const V: u8>(bytes: &[u8], seed: u64, tally: &mut Tally) -> u64
     requires least { 8 ≤ length bytes.now }
@@ -47,7 +47,7 @@ fn hash_of_one_word<const V: u8>(bytes: &[u8], seed: u64, tally: &mut Tally) -> 
 }
 
 // This function is apart from the next one, because keys often have 16 bytes.
-// Rust instead: #[inline(not_in_c)]
+// Inlined, but not in C.
 #[inline(never)]
 fn hash_of_16_bytes<const V: u8>(bytes: &[u8], seed: u64, tally: &mut Tally) -> u64
     requires { length bytes.now ≡ 16 }
@@ -59,7 +59,7 @@ fn hash_of_16_bytes<const V: u8>(bytes: &[u8], seed: u64, tally: &mut Tally) -> 
     close(pair, padding_byte::<V>(bytes), 0, tally)
 }
 
-// Rust instead: #[inline(not_in_c)]
+// Inlined, but not in C.
 #[inline(never)]
 fn hash_of_words<const V: u8>(bytes: &[u8], seed: u64, tally: &mut Tally) -> u64
     requires least { 16 < length bytes.now }

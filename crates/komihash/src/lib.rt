@@ -15,8 +15,9 @@
 // `rust/erase.py` makes the crate for Rust of the other files, but for `version`, which Rust has by
 // hand, and `laws`, `tally` and `tests`, which it lacks. In the others,
 // - `Rattle alone.` begins what Rust lacks, up to an empty line;
-// - `Rust instead:` says what Rust has in place of the next line, perhaps nothing; `not_in_c`
-//   there means inlined, but not in debug builds or the library for C, which has one copy;
+// - `Inlined, but not in C.` means in Rust, but for debug builds and the library for C, which has
+//   one copy;
+// - Rust lacks lines of comments that begin with `In Rattle,`, and those two words of `In Rust,`;
 // - in comments, for Rust alone are examples (CALLING has those for Rattle), `# Panics`, links in
 //   brackets, what is said of Rust, `version` and `Debug`, and "the type of both versions", which
 //   Rust's pages show beside the other name of a type;

@@ -24,10 +24,12 @@ pub(crate) mod streamed;
 /// In Rust, code that serves no other streams can take
 /// [`StreamedKomihash<V>`](crate::version::StreamedKomihash).
 ///
-/// In Rust, where nothing checks it, an implementation keeps three laws: `answer` is the hash of
-/// version `VERSION` with the seed, of the bytes so far, however cut; `restore` of what `store`
-/// wrote gives a stream with the same answers, also to later bytes; and `store` writes at most
-/// [`LONGEST_TEXT`] bytes, and changes no others. There, no call has a tally:
+/// In Rust, nothing checks that an implementation keeps three laws: `answer` is the hash of version
+/// `VERSION` with the seed, of the bytes so far, however cut; `restore` of what `store` wrote gives
+/// a stream with the same answers, also to later bytes; and `store` writes at most
+/// [`LONGEST_TEXT`] bytes, and changes no others.
+///
+/// In Rust, generic code looks like this:
 ///
 /// ```
 /// use komihash::stream::KomiStream;

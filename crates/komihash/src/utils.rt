@@ -79,7 +79,8 @@ pub(crate) fn read_partial_word(bytes: &[u8], end: u64) -> u64
 
 /// Fills `out`, of eight bytes, with the bytes of a word.
 ///
-/// Assigns an array, which is one store. Rattle's `copy_from_slice` also compares addresses.
+/// Assigns an array, which is one store.
+/// In Rattle, `copy_from_slice` also compares addresses.
 #[inline(always)]
 pub(crate) fn write_word(word: u64, out: &mut [u8])
     requires { length out.old ≡ 8 }

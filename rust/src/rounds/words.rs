@@ -21,7 +21,6 @@ pub(crate) trait WholeWords {
 }
 
 /// The whole words of a message's bytes.
-// The impl is for `&[u8]`, because no type parameter of Rattle stands for `[u8]`.
 impl WholeWords for &[u8] {
     #[inline(always)]
     fn count(&self) -> usize {

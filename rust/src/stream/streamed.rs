@@ -68,7 +68,7 @@ where
         StreamedKomihash::begin(seed)
     }
 
-    // In Rust, this is `const`, and `start`, a method of a trait, can't be.
+    // This is `const`, and `start`, a method of a trait, can't be.
     #[inline(always)]
     const fn begin(seed: u64) -> Self {
         StreamedKomihash {

@@ -39,7 +39,7 @@ pub(crate) trait WholeWords {
 }
 
 /// The whole words of a message's bytes.
-// The impl is for `&[u8]`, because no type parameter of Rattle stands for `[u8]`.
+// In Rattle, no type parameter stands for `[u8]`, so the impl is for `&[u8]`.
 impl WholeWords for &[u8] {
     ghost words = { λ bytes. whole_words bytes.now };
 

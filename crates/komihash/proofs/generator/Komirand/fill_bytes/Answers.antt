@@ -11,8 +11,8 @@ words-preserved g c =
     let steps = (length c.args.buffer.now + 7) / 8 in
     let (word, pair, size) =
     outputs-next g.row.V c.words.i steps c.args.self.now _ (omega arith) c.words.invariant.pair in
-    let bytes = rw (c.next-word.ensures.output, word) at c.write_word.ensures in
-    record { bytes = grind (arith, written, bytes); pair = c.next-word.ensures.pair ∙ pair }
+    let bytes = rw (c.step-word.ensures.output, word) at c.write_word.ensures in
+    record { bytes = grind (arith, written, bytes); pair = c.step-word.ensures.pair ∙ pair }
 
 pub returns : goal.returns
 returns g c =
@@ -22,7 +22,7 @@ returns g c =
           let (word, pair, size) =
           outputs-next g.row.V c.words.i steps c.args.self.now _ (omega arith)
           c.words.invariant.pair in
-          let bytes = rw (w.next-output.ensures.output, word) at w.write_partial_word.ensures in
+          let bytes = rw (w.step-output.ensures.output, word) at w.write_partial_word.ensures in
           record { bytes = grind (arith, written, take_all, bytes); pair = grind (arith, pair) }
       | else-has_remainder w ↦
           grind (arith, written, take_all)
