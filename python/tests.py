@@ -14,9 +14,11 @@ import unittest
 from concurrent.futures import ThreadPoolExecutor
 from pathlib import Path
 
+import komihash_rattle
 from komihash_rattle import Komirand, komihash, komihash_int, v4, v5
 
 LONG = bytes(range(256)) * 4096
+ONE_SHOTS = komihash_int, v5.komihash_digest, v5.komihash_hexdigest
 
 # The tables are beside this folder, but in a source distribution, in it.
 HERE = Path(__file__).resolve().parent
@@ -68,7 +70,8 @@ def hashed(version, seed, message):
     for it in (version.komihash.resume(stream.save()), stream.copy(), stream):
         it.update(tail)
         assert it.intdigest() == version.komihash_int(message, seed)
-        assert it.digest() == bytes.fromhex(it.hexdigest())
+        assert it.digest() == version.komihash_digest(message, seed)
+        assert it.hexdigest() == version.komihash_hexdigest(message, seed) == it.digest().hex()
     return stream.hexdigest()
 
 
@@ -116,28 +119,31 @@ class Tests(unittest.TestCase):
                 self.assertEqual(komihash(data).intdigest(), komihash_int(message))
 
     def test_arguments(self):
-        self.assertEqual(komihash_int(b"a", 7), komihash_int(b"a", seed=7))
         stream = komihash(data=b"a", seed=7, usedforsecurity=False)
         self.assertEqual(stream.intdigest(), komihash_int(b"a", True + 6))
         self.assertEqual(komihash.__new__(komihash).intdigest(), komihash_int(b""))
         self.assertEqual(Komirand.__new__(Komirand).next(), Komirand(0).next())
-        self.assertEqual(str(inspect.signature(komihash_int)), "(data, /, seed=0)")
+        for call in ONE_SHOTS:
+            self.assertEqual(str(inspect.signature(call)), "(data, /, seed=0)")
+            self.assertEqual(call(b"a", 7), call(b"a", seed=7))
         self.assertEqual(Komirand(7).next(), Komirand(seed=7, extra_seed=7).next())
 
     def test_errors(self):
         with self.assertRaisesRegex(TypeError, "must be encoded"):
             komihash("text")
-        for call in komihash, komihash_int, komihash().update, komihash.resume:
+        for call in komihash, *ONE_SHOTS, komihash().update, komihash.resume:
             self.assertRaises(TypeError, call, "text")
             self.assertRaises(TypeError, call, None)
             self.assertRaises(TypeError, call, b"", 0, 0)
             self.assertRaises(BufferError, call, memoryview(LONG)[::2])
-        for names in {"data": b""}, {"sead": 0}, {"seed": 0, "data": b""}:
-            self.assertRaises(TypeError, komihash_int, b"", **names)
+        for call in ONE_SHOTS:
+            for names in {"data": b""}, {"sead": 0}, {"seed": 0, "data": b""}:
+                self.assertRaises(TypeError, call, b"", **names)
         words = Komirand.from_words
         seeded = [("seed", lambda seed: komihash(seed=seed)), ("s1", lambda s1: words(s1, 0))]
         seeded += [("seed", lambda seed: komihash_int(b"", seed)), ("s2", lambda s2: words(0, s2))]
         seeded += [("seed", Komirand), ("extra_seed", lambda extra: Komirand(0, extra))]
+        seeded += [("seed", lambda seed: komihash.resume(komihash().save(), seed))]
         for name, call in seeded:
             call(2**64 - 1)
             self.assertRaises(TypeError, call, 0.5)
@@ -153,9 +159,28 @@ class Tests(unittest.TestCase):
         self.assertRaises(TypeError, stream.__init__, "b", 7)
         self.assertEqual(stream.intdigest(), komihash_int(b"a"))
 
+    def test_a_reset_stream_begins_with_its_seed(self):
+        begun, text = komihash(b"a", 7), komihash(b"a", 7).save()
+        self.assertRaises(OverflowError, begun.__init__, seed=-1)
+        with_seed, without = komihash.resume(text, seed=7), komihash.resume(text)
+        for stream in [*copies(begun), begun.copy(), with_seed, with_seed.copy()]:
+            self.assertEqual(stream.seed, 7)
+            stream.reset()
+            stream.update(b"b")
+            self.assertEqual(stream.intdigest(), komihash_int(b"b", 7))
+        for stream in [*copies(without), without.copy()]:
+            self.assertIsNone(stream.seed)
+            self.assertRaises(ValueError, stream.reset)
+            self.assertEqual(stream.intdigest(), komihash_int(b"a", 7))
+            stream.__init__(seed=8)
+            self.assertEqual(stream.seed, 8)
+        self.assertEqual(komihash.__new__(komihash).seed, 0)
+
     def test_version_5_is_the_default(self):
-        for it in komihash, Komirand, komihash_int:
-            self.assertIs(it, getattr(v5, it.__name__))
+        names = {name for name in komihash_rattle.__all__ if name not in ("v4", "v5")}
+        self.assertEqual(names, {name for name in dir(v5) if name[0] != "_"})
+        for name in names:
+            self.assertIs(getattr(komihash_rattle, name), getattr(v5, name))
 
     def test_what_hashlib_asks_for(self):
         for version in v4, v5:
@@ -242,10 +267,12 @@ class Tests(unittest.TestCase):
             stream = Named("a", seed)
             stream.update(bytearray(4096))
             stream.__init__("a", seed)
-            komihash_int(bytearray(8), seed)
+            for call in ONE_SHOTS:
+                call(bytearray(8), seed)
             for it in (komihash.resume(bytearray(stream.save())), stream.copy(), *copies(stream)):
                 it.digest()
                 it.hexdigest()
+                it.seed
             for it in (Komirand.from_words(seed, seed), *copies(Komirand(seed, seed))):
                 it.fill(it.next() % 8)
                 it.words()

@@ -1,6 +1,7 @@
 """The hash komihash in version 5. `komihash_rattle.v4` has the same names for version 4."""
 from . import v4, v5
-from .v5 import Komirand, komihash, komihash_int
+from .v5 import Komirand, komihash, komihash_digest, komihash_hexdigest, komihash_int
 
-__version__ = "1.1.1"
-__all__ = ["Komirand", "komihash", "komihash_int", "v4", "v5"]
+__version__ = "1.2.0"
+__all__ = ["Komirand", "komihash", "komihash_digest", "komihash_hexdigest", "komihash_int", "v4",
+           "v5"]

@@ -13,12 +13,19 @@
 /* From this many bytes on, other threads run while they are hashed. */
 enum { MANY = 2048 };
 
+/* A stream, and its seed if it is known, with which `reset` begins. */
+typedef struct {
+    KOMIHASH(_stream) stream;
+    uint64_t seed;
+    bool has_seed;
+} State;
+
 /* Other threads run during a long write. The first one makes a lock, which from then on everyone
  * takes who reads or changes the state. */
 typedef struct {
     PyObject_HEAD
     PyThread_type_lock lock;
-    KOMIHASH(_stream) state;
+    State state;
 } Stream;
 
 typedef struct {
@@ -43,13 +50,31 @@ static bool has_bytes(PyObject *data, Py_buffer *bytes) {
     return false;
 }
 
-static PyObject *hash(PyObject *module, PyObject *const *args, Py_ssize_t count, PyObject *names) {
+static PyObject *as_int(uint64_t hash) { return PyLong_FromUnsignedLongLong(hash); }
+
+static PyObject *as_bytes(uint64_t hash) {
+    char bytes[8];
+    for (int i = 0; i < 8; i++)
+        bytes[i] = (char)(hash >> (56 - 8 * i));
+    return PyBytes_FromStringAndSize(bytes, sizeof bytes);
+}
+
+static PyObject *as_digits(uint64_t hash) {
+    char digits[16];
+    for (int i = 0; i < 16; i++)
+        digits[i] = "0123456789abcdef"[hash >> (60 - 4 * i) & 15];
+    return PyUnicode_FromStringAndSize(digits, sizeof digits);
+}
+
+/* Returns the hash of a message as one of these. */
+static PyObject *hash(PyObject *as(uint64_t), PyObject *const *args, Py_ssize_t count,
+                      PyObject *names) {
     Py_ssize_t all = count + (names == NULL ? 0 : PyTuple_Size(names));
     Py_buffer bytes;
     uint64_t seed = 0, hash;
     if (count < 1 || all > 2 ||
         (all > count && PyUnicode_CompareWithASCIIString(PyTuple_GetItem(names, 0), "seed") != 0))
-        return PyErr_Format(PyExc_TypeError, "komihash_int takes the arguments (data, /, seed=0)");
+        return PyErr_Format(PyExc_TypeError, "the arguments must be (data, /, seed=0)");
     if ((all == 2 && !is_word(args[1], "seed", &seed)) || !has_bytes(args[0], &bytes))
         return NULL;
     PyThreadState *thread = bytes.len < MANY ? NULL : PyEval_SaveThread();
@@ -57,8 +82,17 @@ static PyObject *hash(PyObject *module, PyObject *const *args, Py_ssize_t count,
     if (thread != NULL)
         PyEval_RestoreThread(thread);
     PyBuffer_Release(&bytes);
-    return PyLong_FromUnsignedLongLong(hash);
+    return as(hash);
 }
+
+#define ONE_SHOT(as)                                                                             \
+    static PyObject *hash_##as(PyObject *module, PyObject *const *args, Py_ssize_t count,        \
+                               PyObject *names) {                                                \
+        return hash(as, args, count, names);                                                     \
+    }
+ONE_SHOT(as_int)
+ONE_SHOT(as_bytes)
+ONE_SHOT(as_digits)
 
 static Stream *locked(PyObject *self) {
     Stream *stream = (Stream *)self;
@@ -85,7 +119,7 @@ static bool absorb(PyObject *self, PyObject *data) {
     Stream *stream = locked(self);
     const bool shared = bytes.len >= MANY && stream->lock != NULL;
     PyThreadState *thread = shared ? PyEval_SaveThread() : NULL;
-    KOMIHASH(_write)(&stream->state, bytes.buf, (size_t)bytes.len);
+    KOMIHASH(_write)(&stream->state.stream, bytes.buf, (size_t)bytes.len);
     unlock(stream);
     if (shared)
         PyEval_RestoreThread(thread);
@@ -93,23 +127,25 @@ static bool absorb(PyObject *self, PyObject *data) {
     return true;
 }
 
-static KOMIHASH(_stream) state_of(PyObject *self) {
+static State state_of(PyObject *self) {
     Stream *stream = locked(self);
-    KOMIHASH(_stream) state = stream->state;
+    State state = stream->state;
     unlock(stream);
     return state;
 }
 
-static void set_state(PyObject *self, KOMIHASH(_stream) state) {
+static void set_state(PyObject *self, State state) {
     Stream *stream = locked(self);
     stream->state = state;
     unlock(stream);
 }
 
+static State started(uint64_t seed) { return (State){KOMIHASH(_start)(seed), seed, true}; }
+
 static PyObject *new_stream(PyTypeObject *type, PyObject *args, PyObject *names) {
     Stream *stream = (Stream *)PyType_GenericAlloc(type, 0);
     if (stream != NULL)
-        stream->state = KOMIHASH(_start)(0);
+        stream->state = started(0);
     return (PyObject *)stream;
 }
 
@@ -122,8 +158,8 @@ static int start_stream(PyObject *self, PyObject *args, PyObject *names) {
                                      &ignored) ||
         (number != NULL && !is_word(number, "seed", &seed)))
         return -1;
-    const KOMIHASH(_stream) before = state_of(self);
-    set_state(self, KOMIHASH(_start)(seed));
+    const State before = state_of(self);
+    set_state(self, started(seed));
     if (data == NULL || absorb(self, data))
         return 0;
     set_state(self, before);
@@ -142,41 +178,50 @@ static PyObject *update(PyObject *self, PyObject *data) {
     return absorb(self, data) ? Py_BuildValue("") : NULL;
 }
 
-static PyObject *intdigest(PyObject *self, PyObject *unused) {
-    KOMIHASH(_stream) state = state_of(self);
-    return PyLong_FromUnsignedLongLong(KOMIHASH(_finish)(&state));
+static PyObject *seed_of(PyObject *self, void *unused) {
+    State state = state_of(self);
+    return state.has_seed ? as_int(state.seed) : Py_BuildValue("");
 }
 
-static PyObject *digest(PyObject *self, PyObject *unused) {
-    KOMIHASH(_stream) state = state_of(self);
-    uint64_t hash = KOMIHASH(_finish)(&state);
-    char bytes[8];
-    for (int i = 0; i < 8; i++)
-        bytes[i] = (char)(hash >> (56 - 8 * i));
-    return PyBytes_FromStringAndSize(bytes, sizeof bytes);
+static PyObject *reset(PyObject *self, PyObject *unused) {
+    State state = state_of(self);
+    if (!state.has_seed)
+        return PyErr_Format(PyExc_ValueError, "the seed of this resumed stream is not known");
+    set_state(self, started(state.seed));
+    return Py_BuildValue("");
 }
 
-static PyObject *hexdigest(PyObject *self, PyObject *unused) {
-    PyObject *bytes = digest(self, NULL);
-    PyObject *digits = bytes == NULL ? NULL : PyObject_CallMethod(bytes, "hex", NULL);
-    Py_XDECREF(bytes);
-    return digits;
+static uint64_t finish(PyObject *self) {
+    State state = state_of(self);
+    return KOMIHASH(_finish)(&state.stream);
 }
+
+static PyObject *intdigest(PyObject *self, PyObject *unused) { return as_int(finish(self)); }
+static PyObject *digest(PyObject *self, PyObject *unused) { return as_bytes(finish(self)); }
+static PyObject *hexdigest(PyObject *self, PyObject *unused) { return as_digits(finish(self)); }
 
 static PyObject *save(PyObject *self, PyObject *unused) {
-    KOMIHASH(_stream) state = state_of(self);
+    State state = state_of(self);
     char text[KOMIHASH_LONGEST_TEXT];
-    size_t length = KOMIHASH(_save)(&state, text, sizeof text);
+    size_t length = KOMIHASH(_save)(&state.stream, text, sizeof text);
     return PyBytes_FromStringAndSize(text, (Py_ssize_t)length);
 }
 
-static PyObject *resume(PyObject *type, PyObject *text) {
+static PyObject *resume(PyObject *type, PyObject *args, PyObject *names) {
+    static char *known[] = {"", "seed", NULL};
+    PyObject *text, *number = Py_None;
+    State state = {.seed = 0};
     Py_buffer bytes;
-    if (PyObject_GetBuffer(text, &bytes, PyBUF_SIMPLE) != 0)
+    if (!PyArg_ParseTupleAndKeywords(args, names, "O|O:resume", known, &text, &number))
+        return NULL;
+    state.has_seed = number != Py_None;
+    if ((state.has_seed && !is_word(number, "seed", &state.seed)) ||
+        PyObject_GetBuffer(text, &bytes, PyBUF_SIMPLE) != 0)
         return NULL;
     PyObject *self = new_stream((PyTypeObject *)type, NULL, NULL);
-    if (self != NULL &&
-        !KOMIHASH(_resume)(&((Stream *)self)->state, bytes.buf, (size_t)bytes.len)) {
+    if (self != NULL && KOMIHASH(_resume)(&state.stream, bytes.buf, (size_t)bytes.len)) {
+        ((Stream *)self)->state = state;
+    } else if (self != NULL) {
         PyErr_SetString(PyExc_ValueError, "the bytes are not what save() of this version returns");
         Py_CLEAR(self);
     }
@@ -208,7 +253,8 @@ static PyObject *reduce_stream(PyObject *self, PyObject *unused) {
     PyObject *extra = extra_state(self);
     return extra == NULL
         ? NULL
-        : Py_BuildValue("N(N)N", class_method(self, "resume"), save(self, NULL), extra);
+        : Py_BuildValue("N(NN)N", class_method(self, "resume"), save(self, NULL),
+                        seed_of(self, NULL), extra);
 }
 
 static PyObject *copy(PyObject *self, PyObject *unused) {
@@ -293,12 +339,17 @@ static PyMethodDef stream_methods[] = {
     {"intdigest", intdigest, METH_NOARGS,
      DOC("intdigest($self)", "Return the hash of all bytes so far, as an int.")},
     {"copy", copy, METH_NOARGS, DOC("copy($self)", "Return a copy, which goes on by itself.")},
+    {"reset", reset, METH_NOARGS, DOC("reset($self)", "Begin anew with the seed.")},
     {"save", save, METH_NOARGS,
      DOC("save($self)", "Return the state as at most 131 bytes, which resume() takes.")},
-    {"resume", resume, METH_O | METH_CLASS,
-     DOC("resume($type, text, /)", "Return the stream whose save() returned these bytes.")},
+    {"resume", (PyCFunction)(void (*)(void))resume, METH_VARARGS | METH_KEYWORDS | METH_CLASS,
+     DOC("resume($type, text, /, seed=None)",
+         "Return the stream whose save() returned these bytes. Only reset() needs its seed.")},
     {"__reduce__", reduce_stream, METH_NOARGS, NULL},
     {NULL}};
+
+static PyGetSetDef stream_attributes[] = {
+    {"seed", seed_of, NULL, PyDoc_STR("The seed, or None for a resumed stream."), NULL}, {NULL}};
 
 static PyType_Slot stream_slots[] = {
     {Py_tp_doc, DOC("komihash(data=b'', seed=0, *, usedforsecurity=True)",
@@ -307,6 +358,7 @@ static PyType_Slot stream_slots[] = {
     {Py_tp_init, start_stream},
     {Py_tp_dealloc, drop_stream},
     {Py_tp_methods, stream_methods},
+    {Py_tp_getset, stream_attributes},
     {0}};
 
 static PyMethodDef generator_methods[] = {
@@ -351,9 +403,13 @@ static int fill_module(PyObject *module) {
     return -failed;
 }
 
+#define FUNCTION(name, as, text)                                                               \
+    {name, (PyCFunction)(void (*)(void))hash_##as, METH_FASTCALL | METH_KEYWORDS,               \
+     DOC(name "($module, data, /, seed=0)", "Return the hash of a message, as " text ".")}
 static PyMethodDef functions[] = {
-    {"komihash_int", (PyCFunction)(void (*)(void))hash, METH_FASTCALL | METH_KEYWORDS,
-     DOC("komihash_int($module, data, /, seed=0)", "Return the hash of a message, as an int.")},
+    FUNCTION("komihash_int", as_int, "an int"),
+    FUNCTION("komihash_digest", as_bytes, "bytes, the highest first"),
+    FUNCTION("komihash_hexdigest", as_digits, "16 digits"),
     {NULL}};
 
 static PyModuleDef_Slot slots[] = {{Py_mod_exec, fill_module}, {0}};
