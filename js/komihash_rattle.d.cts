@@ -1,13 +1,21 @@
 /** A message. A string stands for its bytes in UTF-8. */
 export type Message = string | ArrayBufferView | ArrayBufferLike;
 
-/** Returns the hash of a message. Hashes and seeds are at least 0n and below 2n ** 64n. */
-export function komihash(message: Message, seed?: bigint): bigint;
+/** A whole number at least 0 and below 2 ** 53, or a bigint below 2n ** 64n. */
+export type Seed = number | bigint;
 
-/** A stream, which takes a message in pieces. */
-export class Komihash {
+/** Returns the hash of a message, which is at least 0n and below 2n ** 64n. */
+export function komihash(message: Message, seed?: Seed): bigint;
+/** Returns the same as 16 digits. */
+export function komihashHex(message: Message, seed?: Seed): string;
+
+type Version = 4 | 5;
+declare class Stream<V extends Version> {
     #state;
-    constructor(seed?: bigint);
+    constructor(seed?: Seed);
+    readonly version: V;
+    /** Begins anew with the seed. Throws a TypeError if `resume` was not passed it. */
+    reset(): this;
     update(message: Message): this;
     /** Returns the hash of all bytes so far. The stream may take more. */
     digest(): bigint;
@@ -17,24 +25,24 @@ export class Komihash {
     save(): Uint8Array;
     /**
      * Returns the stream whose `save` returned these bytes. Throws a RangeError for others. The
-     * constructor of a subclass takes the further arguments.
+     * constructor takes the further arguments, such as the seed for `reset`.
      */
-    static resume<S extends Komihash, Given extends unknown[]>(
+    static resume<S extends Stream<Version>, Given extends unknown[]>(
         this: new (...given: Given) => S, saved: ArrayBufferView | ArrayBufferLike, ...given: Given
     ): S;
 }
 
-/** A pseudorandom generator, which is not for secrets. */
-export class Komirand {
+declare class Generator<V extends Version> {
     #state;
-    constructor(seed: bigint, extraSeed?: bigint);
+    constructor(seed: Seed, extraSeed?: Seed);
+    readonly version: V;
     /** Returns the generator that has two words as its state. Takes further arguments likewise. */
-    static fromWords<R extends Komirand, Given extends unknown[]>(
-        this: new (...given: Given) => R, s1: bigint, s2: bigint, ...given: Given
+    static fromWords<R extends Generator<Version>, Given extends unknown[]>(
+        this: new (...given: Given) => R, s1: Seed, s2: Seed, ...given: Given
     ): R;
     /** Without further arguments, the constructor takes the seed 0n. */
-    static fromWords<R extends Komirand>(
-        this: new (seed: bigint) => R, s1: bigint, s2: bigint
+    static fromWords<R extends Generator<Version>>(
+        this: new (seed: bigint) => R, s1: Seed, s2: Seed
     ): R;
     /** Returns the two words of the state, which `fromWords` takes. */
     words(): [s1: bigint, s2: bigint];
@@ -44,10 +52,17 @@ export class Komirand {
     fill<A extends ArrayBufferView | ArrayBufferLike>(data: A): A;
 }
 
-type Stream = Komihash;
-type Generator = Komirand;
-type Version = { komihash: typeof komihash; Komihash: typeof Komihash; Komirand: typeof Komirand };
+declare class Stream4 extends Stream<4> {}
+declare class Generator4 extends Generator<4> {}
+/** A stream, which takes a message in pieces. */
+export class Komihash extends Stream<5> {}
+/** A pseudorandom generator, which is not for secrets. */
+export class Komirand extends Generator<5> {}
+type Names<S, G> = {
+    komihash: typeof komihash; komihashHex: typeof komihashHex; Komihash: S; Komirand: G;
+};
 /** The names of each version. Those above are of version 5. */
-export const v4: Version, v5: Version;
-export namespace v4 { type Komihash = Stream; type Komirand = Generator; }
-export namespace v5 { type Komihash = Stream; type Komirand = Generator; }
+export const v4: Names<typeof Stream4, typeof Generator4>;
+export const v5: Names<typeof Komihash, typeof Komirand>;
+export namespace v4 { type Komihash = Stream4; type Komirand = Generator4; }
+export namespace v5 { type Komihash = Stream<5>; type Komirand = Generator<5>; }

@@ -1,7 +1,7 @@
 // Tests the package in Node and in browsers: tests.mjs [FILE..]. A file has rows as in rust/tests,
 // which are also read. Prints how many of their calls the package has, and then the rows and the
 // other tests that fail.
-import { Komihash, Komirand, komihash, v4, v5 } from "komihash_rattle";
+import { Komihash, Komirand, komihash, komihashHex, v4, v5 } from "komihash_rattle";
 
 const failed = [];
 const test = (name, holds) => holds || failed.push(name);
@@ -22,7 +22,7 @@ function hash(version, seed, message) {
     const stream = new version.Komihash(seed).update(head);
     const streams = [version.Komihash.resume(stream.save()), stream];
     const hashes = new Set(streams.map((it) => it.update(tail).hexdigest()));
-    return [...hashes.add(version.komihash(message, seed).toString(16).padStart(16, "0"))].join();
+    return [...hashes.add(version.komihashHex(message, seed))].join();
 }
 function value(call, it, [x, y, ...others]) {
     if (call === "save") return digits(new it.Komihash(number(x)).update(bytes(y)).save());
@@ -85,7 +85,10 @@ for (const call of [...seeded, ...drawn, ...ofWords]) {
     test("a wrong seed", [-1n, 2n ** 64n].every((it) => throws(RangeError, () => call(it))));
     test("the highest seed", call(2n ** 64n - 1n) !== undefined);
 }
-for (const [kind, seed] of Object.entries({ "a number": 7, "a string": "7", null: null }))
+test("numbers as seeds", [7, 2 ** 53 - 1].every(
+    (it) => new Komihash(it).digest() === komihash("", BigInt(it))));
+test("a number below 0", throws(RangeError, () => komihash("", -1)));
+for (const [kind, seed] of Object.entries({ "a number": 2 ** 53, "a string": "7", null: null }))
     // @ts-expect-error
     test("no bigint", throws(TypeError, () => komihash("", seed), ` and was ${kind}$`));
 const shrinking = Reflect.construct(ArrayBuffer, [16, { maxByteLength: 16 }]);
@@ -110,6 +113,16 @@ for (const [text, call] of Object.entries(refusing))
 test("a wrong text", throws(RangeError, () => Komihash.resume(long)));
 const saved = ["ä", "b"].map((it) => new Komihash().update(it).save());
 test("saved texts", Komihash.resume(saved[0]).digest() === v5.komihash("ä"));
+const begun = new Komihash(7).update("a"), known = Komihash.resume(begun.save(), 7n);
+for (const stream of [begun, known])
+    test("a reset stream", stream.reset().update("b").hexdigest() === komihashHex("b", 7));
+const unknown = Komihash.resume(saved[0]);
+test("a stream without a seed", throws(TypeError, () => unknown.reset(), "^the seed of a reset"));
+test("it is unchanged", unknown.digest() === komihash("ä"));
+test("versions", [v4, v5].map((it) => new it.Komihash().version + new it.Komirand(0).version) + ""
+    === "8,10");
+/** @type {v5.Komihash} */ // @ts-expect-error
+const other = new v4.Komihash();
 class Named extends Komihash {
     #count = 0;
     constructor({ name }) { super(7n); this.name = name; }
