@@ -1,9 +1,10 @@
 // Hashes files in komihash.html in Chromium, and prints what it shows: tests_of_page.mjs URL
-// PROFILE GONE BIG HUGE OTHER.. Chooses GONE and BIG, at first with wrong seeds. Then it chooses
-// HUGE twice, and stops it by the button, and by dropping the others, whose lines it copies.
+// PROFILE GONE BIG HUGE LIST OTHER.. Chooses GONE and BIG with wrong seeds, and mends the seed.
+// Then it chooses HUGE twice, and stops it by the button, and by dropping the others, whose lines
+// it copies. At last it checks GONE, BIG and the others by LIST, and spoils that.
 import { spawn } from "node:child_process";
 
-const [url, profile, gone, big, huge, ...others] = process.argv.slice(2);
+const [url, profile, gone, big, huge, list, ...others] = process.argv.slice(2);
 const browser = spawn("chromium", ["--headless", "--no-sandbox", "--remote-debugging-pipe",
     "--allow-file-access-from-files", `--user-data-dir=${profile}`],
     { stdio: ["ignore", "ignore", "ignore", "pipe", "pipe"] });
@@ -37,8 +38,7 @@ for (const wrong of ["'0b11'", "2n ** 64n"]) {
 }
 await run(`steps = 0, new MutationObserver((list) => steps += list.length)
     .observe(bar, { attributeFilter: ["value"] })`);
-await choose(0, gone, big);
-await run("seed.value = '0xA', version.value = 4");
+await run("seed.value = 0, seed.onchange(), seed.value = '0xA', version.value = 4");
 await finish();
 console.log(await run("`${failed.textContent}progress: ${steps > 9 && bar.position === 1}`"));
 await choose("'0xA'", huge);
@@ -46,13 +46,27 @@ await run("stopper.click()");
 await finish();
 console.log(await run("failed.textContent.trim()"));
 await choose("' 0xA '", huge);
-for (const type of ["dragEnter", "dragOver", "drop"])
-    await call("Input.dispatchDragEvent",
-        { type, x: 9, y: 9, data: { items: [], files: others, dragOperationsMask: 1 } });
+async function drop(place, ...files) {
+    const { x, y } = JSON.parse(await run(`JSON.stringify(${place}.getBoundingClientRect())`));
+    const data = { items: [], files, dragOperationsMask: 1 };
+    for (const type of ["dragEnter", "dragOver", "drop"])
+        await call("Input.dispatchDragEvent", { type, x: x + 9, y: y + 9, data });
+}
+await drop("document.body", ...others);
 await finish();
 await run("document.querySelector('[onclick]').click()");
 while (!await run("navigator.clipboard.readText()"));
 const shown = "told.textContent + failed.textContent + await navigator.clipboard.readText()";
 console.log(await run(`fetch("data:,").catch(async () => ${shown} + seed.ariaInvalid +
     " " + copied.textContent)`));
+await run("document.querySelectorAll('[onclick]')[1].click()");
+await drop("wanted", list);
+while (!await run("wanted.value"));
+await run("version.value = 5");
+await choose(0, gone, big, ...others.slice(0, -1));
+await finish();
+const texts = "told, lines, failed, copied".replace(/\w+/g, "$&.textContent");
+console.log(await run(`[${texts}].join("")`));
+await run("wanted.value += 0, wanted.onchange()");
+console.log(await run("`${told.textContent} ${wanted.ariaInvalid}`"));
 browser.kill();

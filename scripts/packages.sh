@@ -168,14 +168,20 @@ page_in_chromium() {
         grep 'needs a server' || return
     in_package out/komihashsum && mkdir -p "$files/folder" && : > "$files/empty" &&
         seq 99 > "$files/$odd" && seq 12500000 > "$files/big" && truncate -s 99G "$files/huge" &&
-        timeout 600 node js/tests_of_page.mjs "$page" "$profile" \
-            "$files"/{gone,big,huge,"$odd",empty,folder} > "$scratch/shown" && cd "$files" &&
-        PATH=$(echo "$scratch"/libkomihash_rattle-*/out):$PATH && diff "$scratch/shown" <(
+        PATH=$(echo "$scratch"/libkomihash_rattle-*/out):$PATH && (
+            cd "$files" && komihashsum big && komihashsum -4 -s 0xA --tag "$odd" empty |
+                sed '$s/.$/0/'
+        ) > "$scratch/list" && timeout 600 node js/tests_of_page.mjs "$page" "$profile" \
+            "$files"/{gone,big,huge} "$scratch/list" "$files"/{"$odd",empty,folder} \
+            > "$scratch/shown" && cd "$files" && diff "$scratch/shown" <(
             printf '%s\n' 'The seed must be a whole number from 0 to 2^64 - 1. true'{,} \
                 'gone: cannot be read' 'progress: true' 'huge: stopped' 'Folders are not hashed.' \
                 'huge: stopped'
             komihashsum big && komihashsum -4 -s 0xA --tag "$odd" empty
             echo false Copied
+            komihashsum --check "$scratch/list" 2> "$scratch/case"
+            printf '%s\n' 'gone: in no line' '' \
+                'A line is none that komihashsum prints, and no hash. true'
         )
 }
 js_required() {
