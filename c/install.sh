@@ -1,6 +1,7 @@
 #!/bin/sh
-# Installs the library, or removes what was installed: install.sh install|uninstall. `make` runs it,
-# with what it has built and the variables of its user in the environment.
+# Installs the library, compares with it what is installed, or removes that: install.sh
+# install|installcheck|uninstall. `make` runs it, with what it has built and the variables of its
+# user in the environment.
 set -eu
 umask 022
 prefix=${PREFIX-${prefix-/usr/local}}
@@ -35,7 +36,8 @@ each_file() {
     done
     for file in $libraries; do
         # An older build for AVX2 may not stay, because glibc prefers it.
-        rm -f "${DESTDIR-}$libdir/glibc-hwcaps/x86-64-v3/$file" "${DESTDIR-}$libdir/${file%.a}_v3.a"
+        [ "$1" = installcheck_file ] || rm -f "${DESTDIR-}$libdir/${file%.a}_v3.a" \
+            "${DESTDIR-}$libdir/glibc-hwcaps/x86-64-v3/$file"
         case $file in
         *.dll) "$1" 755 "$OUT/$file" "$bindir/$file" ;;
         *.a | *.def) "$1" 644 "$OUT/$file" "$libdir/$file" ;;
@@ -57,6 +59,12 @@ install_file() {
         cp "$2" "$target"
         chmod "$1" "$target"
     fi
+}
+installcheck_file() {
+    case $1 in
+    link) [ "$(readlink "${DESTDIR-}$3")" = "$2" ] ;;
+    *) cmp "$2" "${DESTDIR-}$3" ;;
+    esac
 }
 
 # Removes a file, and its folder if that is empty and has the name of this library.
@@ -86,3 +94,8 @@ for file in templates/*; do
 done
 
 each_file "$1_file"
+[ "$1" = install ] || exit 0
+for file in $shared; do
+    case " $libraries " in *" $file "*) continue ;; esac
+    [ ! -e "${DESTDIR-}$libdir/$file" ] || echo "$libdir/$file stays as it was installed before"
+done

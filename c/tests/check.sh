@@ -111,9 +111,17 @@ END
             "$scratch/msvc.obj" "$file" && $RUN "$program" || return
     done
 }
+# Builds the library in a copy of this folder, and seconds later in another, to the same bytes.
 same_elsewhere() {
-    build all "OUT=$scratch/here" && build all "OUT=$scratch/elsewhere" || return
-    for file in $shared; do cmp "$scratch/here/$file" "$scratch/elsewhere/$file" || return; done
+    for copy in here elsewhere; do
+        mkdir "$scratch/$copy" && cp -R Makefile *.[ch] *.sh *.rs assembly "$scratch/$copy" &&
+            build all -C "$scratch/$copy" OUT=made "CC=$compiler" "crate=$PWD/$crate" || return
+        sleep 2
+    done
+    for file in $libraries $programs; do
+        cmp "$scratch/here/made/$file" "$scratch/elsewhere/made/$file" || return
+    done
+    rm -r "$scratch/here" "$scratch/elsewhere"
 }
 
 # Compiles a program by $compiler, and runs it.
@@ -160,6 +168,17 @@ unwinds() { # LIBRARY NUMBER..
 refused_header() { # TARGET:REASON
     fails "${1#*:}" clang "--target=${1%:*}" -x c -ffreestanding -fsyntax-only komihash_rattle.h &&
         [ "$(grep -c 'error:' "$scratch/printed")" = 1 ]
+}
+
+# Whether C++ knows that no call throws.
+no_exceptions() {
+    cat > "$scratch/throws.cpp" << 'END'
+#include "komihash_rattle.h"
+template <class R, class... A> constexpr bool throws(R (*)(A...)) { return true; }
+template <class R, class... A> constexpr bool throws(R (*)(A...) noexcept) { return false; }
+END
+    sed 's/.*/static_assert(!throws(&));/' "$scratch/declared" >> "$scratch/throws.cpp" &&
+        $compiler -std=c++17 -I. -fsyntax-only "$scratch/throws.cpp"
 }
 
 # Compiles calls that ignore a result, and that pass no stream.
@@ -293,7 +312,8 @@ other_machine() {
 }
 older_build() {
     build install "PREFIX=$scratch/older" && build install "PREFIX=$scratch/older" v3= &&
-        ! find "$scratch/older" -type f | grep v3
+        ! find "$scratch/older" -type f | grep v3 &&
+        build install "PREFIX=$scratch/older" BUILD_SHARED=no | grep ' stays '
 }
 only_the_program() {
     build install "PREFIX=$scratch/only program" BUILD_SHARED=no BUILD_STATIC=no &&
@@ -316,7 +336,13 @@ staged() {
         test -z "$(find "$DESTDIR" ! -type l ! -perm 755 ! '(' -type f -perm 644 ')')" &&
         { ! command -v pkg-config ||
             runs_by_package komihash_rattle -std=c11 "$scratch/example.c"; } &&
-        build uninstall && gone "$DESTDIR"
+        build installcheck && echo >> "$DESTDIR/d/include/komihash_rattle.h" &&
+        fails 'EOF on komihash_rattle.h' build installcheck && build uninstall && gone "$DESTDIR"
+}
+with_shared() {
+    build all LINK_SHARED=yes "OUT=$scratch/linked" && printf a > "$scratch/a" &&
+        prints "$hash_of_a" $RUN "$scratch/linked/komihashsum$exe" < "$scratch/a" &&
+        "${CROSS}objdump" -p "$scratch/linked/komihashsum$exe" | grep -F "$soname"
 }
 uninstalled() { build uninstall "PREFIX=$prefix" BUILD_SHARED=no && gone "$prefix"; }
 
@@ -338,7 +364,6 @@ while read -r file; do
     case $file in *.a) continue ;; */x86-64-v3/*) grep -qw avx2 /proc/cpuinfo || continue ;; esac
     run_case "$name with a signal at each instruction" prints "$values" with_signals "$file"
 done < "$scratch/libraries"
-run_case 'shared libraries are the same in whichever folder they are built' same_elsewhere
 
 hash=a53b9c6b9eb8afe9 hash_of_a='5117f5064cfd0faa  -'
 if [ "$system" = Windows ]; then
@@ -351,6 +376,7 @@ for compiler in "$CC" ${clang:+"$clang"}; do
     tool=${compiler%% *} name=${compiler%% -Q*}
     command -v "$tool" > "$scratch/case" ||
         { skip 'calls.c and the example in C' "$tool"; continue; }
+    run_case "all files are the same in whichever folder they are built, by $name" same_elsewhere
     run_case "calls.c, by $name" prints "$values" calls "$archive"
     run_case "calls.c, by $name, shared library" prints "$values" calls "$linked"
     run_case "the names of the C original in C89, by $name" original -std=c89
@@ -367,6 +393,7 @@ if [ ! "$CROSS" ]; then
             runs examples/example.cpp -std=c++17 -I "$prefix/include" "$archive"
         needs "${compiler%% *}" "the names of the C original, by $compiler" \
             original -x c++ -std=c++11
+        needs "${compiler%% *}" "no call throws, by $compiler" no_exceptions
     done
     needs cmake 'the tests, by ctest' sh -c 'cmake -B "$0" . && cd "$0" &&
         CASE="an empty PREFIX" ctest --no-tests=error --output-on-failure' "$scratch/ctest"
@@ -409,8 +436,9 @@ needs cmake 'the shared libraries alone' \
 needs cmake 'the static libraries alone' \
     one_kind BUILD_SHARED=no BUILD_SHARED_LIBS=OFF "${linked##*/}"
 run_case 'komihashsum alone is installed' only_the_program
+run_case 'komihashsum with the shared library' with_shared
 run_case 'what was built for another machine' other_machine
-run_case 'an older build for AVX2 does not stay' older_build
+run_case 'an older build for AVX2 does not stay, and a shared library is named' older_build
 needs cmake 'another source than rust' other_source
 
 . ./tests/komihashsum.sh

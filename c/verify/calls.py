@@ -3,7 +3,7 @@ import collections
 import z3
 from definition import Products, State, padding_byte
 from memory import Array
-from terms import (Unknown, address, are_any, bv, choose, const, is_public, secret, simple, sym,
+from terms import (Unknown, address, are_any, bv, choose, is_public, secret, simple, sym,
                    symbols)
 
 # What `unpad` returns instead of a length.
@@ -35,7 +35,7 @@ class Call:
         self.facts, self.memory = self.cpu.facts, self.cpu.memory
         # For header.py: what the case is passed, the state of its stream, and the last nine bytes
         # of its words.
-        self.args, self.state, self.last_bytes = (), None, None
+        self.args, self.state, self.last_bytes = (), None, ()
 
     def base(self, name, size):
         """Passes an array of `size` bytes, which is null only if it is empty, and after which
@@ -70,15 +70,15 @@ class Call:
         return self.aligned(base)
 
     def has_any_contents(self):
-        """Whether each seed, lane and byte that is passed, but in the last word of `unpad`, is a
-        secret symbol of its own, as what the caller has in registers."""
+        """Whether each seed, lane and byte that is passed is a secret symbol of its own, as what the
+        caller has in registers. Of the last word of `unpad`, the header asks what it may be."""
         parts = [*(self.state.lanes + self.state.pending if self.state else ()), *(
             term for (name, _), (term, k) in self.memory.data.items()
             if k == 0 and name not in ('stream', 'stack', 'shadow')), *(
                 term for term in self.cpu.before.values() if symbols(term) - {'sp', 'return'}), *(
                     term for term in self.args if not is_public(term))]
-        free = [part for part in parts if const(part) is None]
-        return are_any(free) and len(free) >= len(parts) - (8 if self.last_bytes else 0)
+        last = {id(one) for one in self.last_bytes[1:]}
+        return are_any(part for part in parts if id(part) not in last)
 
     def begin(self, args):
         self.args = args

@@ -12,7 +12,7 @@ from machine import LOADED
 from terms import Facts, Refused, address, bv, join, simple, sym, symbols
 
 HEADER = os.path.join(os.path.dirname(os.path.abspath(__file__)), '..', 'komihash_rattle.h')
-PROTOTYPE = r'(\w+)\s+{}\((.*?)\);'
+PROTOTYPE = r'(\w+)\s+{}\((.*?)\)'
 # The bytes of an element of an array.
 ELEMENTS = {'void': 1, 'uint64_t': 8}
 
