@@ -34,7 +34,7 @@ static const char HELP[] =
     "  -c, --check           read lines from each FILE, and check the files that they\n"
     "                        name. Lines of --tag tell their version and seed; for\n"
     "                        others, give the -4 and --seed that they were made with\n"
-    "      --progress        show on a terminal how much of a file was read\n"
+    "      --progress        show on a terminal how much was read\n"
     "      --help            print this help and exit\n"
     "      --version         print the version of the library and exit\n\n"
     "The following options are only for --check:\n\n"
@@ -95,7 +95,8 @@ static char *quote(const char *name) {
         needs_single = (left = printing(at)) == 0 || needs_single;
     const bool is_plain = *name && !needs_single && !strpbrk(name, " ':") &&
         !strchr("#~", *name) && (name[1] || !strchr("{}", *name));
-    const bool has_double = !needs_single && strchr(name, '\'');
+    const bool has_double = !needs_single && strchr(name, '\'') && !strpbrk(name, "{}") &&
+        !strpbrk(name + 1, "#~");
     if (text && (is_plain || has_double))
         sprintf(text, is_plain ? "%s" : "\"%s\"", name);
     if (!text || is_plain || has_double)
@@ -147,9 +148,10 @@ static int flush(void) {
 /* Opens a file, and returns its number, which is 0 for standard input, or -1. */
 static int open_file(const char *name);
 
-/* Shows once a second, in one row in the place of the last, how much of a file was read. */
+/* Shows once a second, in one row in the place of the last, how much of a file was read, and of all
+ * files so far. */
 #define CLEAR "\r\033[K"
-static void show_progress(int file, const char *name, uint64_t length) {
+static void show_progress(int file, const char *name, uint64_t length, uint64_t all) {
     static time_t last;
     struct stat about;
     if (!progress || time(NULL) == last)
@@ -158,9 +160,10 @@ static void show_progress(int file, const char *name, uint64_t length) {
     fprintf(stderr, CLEAR "\033[?7l%" PRIu64, length >> 20);
     if (fstat(file, &about) == 0 && about.st_size)
         fprintf(stderr, " of %" PRIu64, (uint64_t)about.st_size >> 20);
+    fprintf(stderr, " MiB, %" PRIu64 " in all", all >> 20);
     while (strlen(name) > 50 || (*name & 0xC0) == 0x80) /* within a character of UTF-8 */
         name++;
-    show(" MiB  %s%s\033[?7h", name, "");
+    show("  %s%s\033[?7h", name, "");
 }
 
 /* Sets the hash to that of a file, and returns 0. If the file can't be read, returns why. */
@@ -168,6 +171,7 @@ static int hash_file(const char *name, struct kind *kind) {
     komihash_v4_stream stream_4 = komihash_v4_start(kind->seed);
     komihash_v5_stream stream_5 = komihash_v5_start(kind->seed);
     const int file = open_file(name);
+    static uint64_t all;
     uint64_t total = 0;
     int length = file;
     while (file >= 0 && (length = read(file, bytes, sizeof bytes)) > 0) {
@@ -175,7 +179,7 @@ static int hash_file(const char *name, struct kind *kind) {
             komihash_v4_write(&stream_4, bytes, length);
         else
             komihash_v5_write(&stream_5, bytes, length);
-        show_progress(file, name, total += length);
+        show_progress(file, name, total += length, all += length);
     }
     const int error = length < 0 ? errno : 0;
     if (progress)

@@ -85,12 +85,13 @@ compared() {
         cat $list - > $list.1; $sum -c $list.1; echo $?; $sum -cw - < $list.1'
     run_case 'komihashsum beside sha256sum, zero bytes after lines' beside '{ $sum -z -- *
         $sum --zero --tag -- *slash "$newline"; } 2> $list | tr "\0" "\n"; cat $list'
-    run_case 'komihashsum beside sha256sum, names in messages' beside "for name in '' \
-        'a b' a:b 'a\\b' \\# a# \\~ { a{ x? 'a=b' @x 'it'\\''s' 'a'\\''b\$' '\"' '\$(printf \
-        \"a\\tb'c\\n\\001\\002'd\\033\")' ü '\$(printf \"ü\\302\\233\\377'\")'; do
-        for locale in C C.UTF-8; do
-            eval \"LC_ALL=\$locale \\\$sum -- \\\"\$name\\\"\"
-        done; done"
+    # As printf reads them. What has a quote and ends with an escape, coreutils misquotes.
+    printf '%s\n' '' 'a b' a:b 'a\\b' '#' 'a#' '~' '{' 'a{' 'x?' 'a=b' @x "it's" "a'b$" '"' \
+        "a'1~" "}a'" "'#" "a\tb'c\n\0001\0002'd" "\0001'" 'ü\n' 'ü\0302\0233\0377' "ü\0377'" \
+        > "$scratch/names"
+    run_case 'komihashsum beside sha256sum, names in messages' beside 'while read -r name; do
+        name=$(printf "%b." "$name"); for locale in C C.UTF-8; do
+            LC_ALL=$locale $sum -- "${name%.}"; done; done < "$scratch/names"'
     draw 7 > "$scratch/drawn"
     run_case 'komihashsum beside sha256sum, random lists' beside 'k=0 edits=
         case $sum in sha*) name=SHA256 ;; *) name=KOMIHASH5 ;; esac
@@ -147,7 +148,7 @@ shows_progress() (
     end=$(printf %21s | sed 's/ /ü/g').large odd=$scratch/üüüü$end$(printf '\033')
     ln -s tree/large "$odd" && script -qec "$RUN '$built' --progress '$odd'" /dev/null \
         < /dev/null | tr '\r' '\n' > "$scratch/shown"
-    printf "\033[?7l0 of 0 MiB  '%s'\$'\\\\033'\033[?7h" "$end" > "$scratch/row"
+    printf "\033[?7l0 of 0 MiB, 0 in all  '%s'\$'\\\\033'\033[?7h" "$end" > "$scratch/row"
     grep -Fx "$clear$(cat "$scratch/row")" "$scratch/shown" &&
         grep -F "$clear$(komihashsum "$odd")" "$scratch/shown" &&
         ! komihashsum --progress "$odd" 2>&1 | grep -F "$clear"
