@@ -47,6 +47,11 @@ names_its_sources() {
 made_of_crate() {
     in_package assembly "ASSEMBLY=$scratch/assembly" && diff -r "$scratch/assembly" c/assembly
 }
+# Whether packages have the pages that say what the hash is, and what must be trusted.
+has_pages() {
+    (cd "$scratch" && ls -d {libkomihash_rattle-*,'s dist',js/node_modules/komihash_rattle}/docs/* |
+        grep -cE '/(CLAIMS|DEFINITIONS).md$' | grep -x 6)
+}
 made_of_web() {
     from_rust 'wasm32-unknown-unknown -C linker=wasm-ld' wasm "OUT=$scratch/web" &&
         sh js/build.sh "$scratch/web/komihash_rattle.wasm" | cmp - js/komihash_rattle.js
@@ -139,7 +144,7 @@ js_package() {
 # Whether a copy with other times makes packages of the same bytes, and nothing is left in it.
 made_again() {
     mkdir "$scratch/copy" &&
-        tar --create --exclude=out --exclude=target LICENSE c crates js python rust scripts |
+        tar --create --exclude=out --exclude=target LICENSE c crates docs js python rust scripts |
         tar --extract --touch --directory="$scratch/copy" &&
         (cd "$scratch/copy" && find . | sort > "$scratch/files" &&
             PYTHON=/usr/bin/python3 bash scripts/release.sh "$scratch/again" c js python &&
@@ -246,6 +251,7 @@ languages() {
     MYPY_CACHE_DIR=$scratch/mypy needs /usr/bin/mypy 'the types of the package for Python' \
         debian_python -m mypy.stubtest komihash_rattle
     always needs npm 'the package for JavaScript is packed and installed' js_package
+    needs npm 'packages have the definition, and what must be trusted' has_pages
     needs npm 'another copy makes the same packages' made_again
     needs node 'the package for JavaScript, in Node' js_in_node
     needs chromium 'the package for JavaScript, in Chromium' js_in_chromium

@@ -8,7 +8,7 @@ cd "$(dirname "$0")/.."
 scratch=$(mktemp -d)
 trap 'rm -r "$scratch"' EXIT
 tar --create --exclude=out --exclude=target --exclude='*.egg-info' --mode=a+rX,u+w,go-w \
-    c js python rust | tar --extract --directory="$scratch"
+    c docs/CLAIMS.md docs/DEFINITIONS.md js python rust | tar --extract --directory="$scratch"
 for name in "${@:2}"; do
     mkdir -p "$folder/$name"
     case $name in
@@ -27,6 +27,6 @@ for name in "${@:2}"; do
                 --numeric-owner -I 'gzip -9n' --file="$folder/python/$package.tar.gz" "$package"
         )
         ;;
-    js) (cd "$scratch/js" && npm pack --pack-destination "$folder/js") ;;
+    js) (cd "$scratch/js" && cp -R ../docs . && npm pack --pack-destination "$folder/js") ;;
     esac
 done
