@@ -127,7 +127,7 @@ def test_of(condition):
     """A test of the condition that a slice is long enough, which is the only one that is known."""
     known = CONDITION.fullmatch(condition) or refuse('an unknown condition', condition)
     least = re.sub(r'length (\w+)\.\w+', r'\1.len()', known[1])
-    return f'\nassert!({least} <= {known[2]}.len(), ‹m{known[2]}›);'
+    return f'\nassert!({least} <= {known[2]}.len(), ‹m{known[2]}›, {known[2]}.len(), {least});'
 
 
 def traits_in(text):
@@ -209,7 +209,7 @@ def erase(text, traits):
         refuse('a word that is no Rust', text, it.start())
     for place, addition in ADDED.items():
         text = re.sub(place, addition, text, flags=re.M)
-    text = re.sub(r'‹m(\w+)›', r'"`\1` is too short"', text)
+    text = re.sub(r'‹m(\w+)›', r'"the length of `\1` is {}, and must be at least {}"', text)
     # In examples, the crate has its name in Rust.
     hidden = [re.sub(r'\bkomihash::(?=[\w{])', 'komihash_rattle::', it) for it in hidden]
     return re.sub(r'‹.(\d+)›', lambda it: hidden[int(it[1])], text)

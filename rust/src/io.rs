@@ -4,8 +4,9 @@ extern crate std;
 use crate::version::{IsVersion, StreamedKomihash, Versions};
 use std::io::{Result, Write};
 
-/// Needs the feature `std`. As a stream has its own `write`, use `write_all` for a result. With
-/// `std::fmt::Write` in scope too, `write!` is ambiguous: call `io::Write::write_fmt`.
+/// Needs the feature `std`, which any crate of a program may turn on. As a stream has its own
+/// `write`, use `write_all` for a result. With `std::fmt::Write` in scope too, `write!` is
+/// ambiguous: call `io::Write::write_fmt`.
 ///
 /// ```
 /// use komihash_rattle::{StreamedKomihash, komihash};

@@ -65,7 +65,12 @@ pub fn pad<const V: u8>(bytes: &[u8], out: &mut [u64]) -> usize
 where
     Versions: IsVersion<V>,
 {
-    assert!(bytes.len() / 8 + 1 <= out.len(), "`out` is too short");
+    assert!(
+        bytes.len() / 8 + 1 <= out.len(),
+        "the length of `out` is {}, and must be at least {}",
+        out.len(),
+        bytes.len() / 8 + 1
+    );
     let whole = bytes.len() / 8;
     let final_word = if whole > 0 {
         final_word_of_many(bytes, padding_byte::<V>(bytes))
@@ -144,7 +149,12 @@ pub fn unpad<const V: u8>(words: &[u64], out: &mut [u8]) -> Option<usize>
 where
     Versions: IsVersion<V>,
 {
-    assert!(8 * words.len() <= out.len(), "`out` is too short");
+    assert!(
+        8 * words.len() <= out.len(),
+        "the length of `out` is {}, and must be at least {}",
+        out.len(),
+        8 * words.len()
+    );
     let count = message_length::<V>(words)?;
     write_first_bytes(words, count, out);
     Some(count)

@@ -140,7 +140,12 @@ pub enum Call<'a> {
 /// ```
 #[track_caller]
 pub fn run_on<S: KomiStream>(stream: &mut S, calls: &[Call<'_>], out: &mut [u64]) -> usize {
-    assert!(calls.len() <= out.len(), "`out` is too short");
+    assert!(
+        calls.len() <= out.len(),
+        "the length of `out` is {}, and must be at least {}",
+        out.len(),
+        calls.len()
+    );
     let mut count = 0;
     for call in calls {
         match *call {

@@ -48,7 +48,8 @@ where
     }
 }
 
-/// With `std::io::Write` in scope too, `write!` is ambiguous: call `fmt::Write::write_fmt`.
+/// With `std::io::Write` in scope too, `write!` is ambiguous if any crate of the program turns on the
+/// feature `std`: call `fmt::Write::write_fmt`.
 ///
 /// ```
 /// use komihash_rattle::{StreamedKomihash, komihash};

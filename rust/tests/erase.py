@@ -9,7 +9,8 @@ from erase import chosen, erase, traits_in  # noqa: E402
 
 DECLARED = 'fn f(out: &mut [u8])\n        requires { 8 ≤ length out.old }'
 TEST = ('#[track_caller]\nfn f(out: &mut [u8]) {\n'
-        'assert!(8 <= out.len(), "`out` is too short"); }')
+        'assert!(8 <= out.len(), "the length of `out` is {}, and must be at least {}", '
+        'out.len(), 8); }')
 # What is erased, and Rust that is left. The comparison with rust/src shows the rest.
 LEFT = {
     "fn f() -> char\n    ensures { c ≡ '{' }\n{ '{' }": "fn f() -> char { '{' }",

@@ -244,7 +244,12 @@ where
     #[cfg_attr(not(debug_assertions), inline)]
     #[track_caller]
     fn store(&self, out: &mut [u8]) -> usize {
-        assert!(LONGEST_TEXT <= out.len(), "`out` is too short");
+        assert!(
+            LONGEST_TEXT <= out.len(),
+            "the length of `out` is {}, and must be at least {}",
+            out.len(),
+            LONGEST_TEXT
+        );
         saved::write_head::<V>(self.had_block, self.top_bit, self.pending.len(), out);
         saved::write_lanes(&self.lanes, out);
         saved::write_pending(&self.pending, out)

@@ -133,8 +133,8 @@ impl KomiStream for Recorder {
         self.0.len() as u64
     }
 
-    fn store(&self, _: &mut [u8]) -> usize {
-        panic!("`out` is too short")
+    fn store(&self, out: &mut [u8]) -> usize {
+        panic!("the length of `out` is {}, and must be at least 9", out.len())
     }
 
     fn restore(_: &[u8]) -> Option<Self> {
@@ -330,22 +330,22 @@ fn readers_are_copied_into_streams() {
 #[test]
 fn too_little_room_is_reported_at_the_caller() {
     assert_eq!(LONGEST_TEXT, 131);
-    panics_here(line!(), || _ = StreamedKomihash::new().save(&mut [0; 130]));
-    panics_here(line!(), || _ = StreamedKomihash::new().store(&mut [0; 130]));
-    panics_here(line!(), || _ = Recorder(vec![]).store(&mut []));
-    panics_here(line!(), || _ = pad(b"12345678", &mut [0; 1]));
-    panics_here(line!(), || _ = pad(b"", &mut []));
-    panics_here(line!(), || _ = unpad(&[0], &mut [0; 7]));
-    panics_here(line!(), || _ = unpad(&[1], &mut [0; 7]));
-    panics_here(line!(), || _ = unpad(&[1, 1], &mut [0; 15]));
-    panics_here(line!(), || _ = run::<StreamedKomihash>(0, &[Call::Answer], &mut []));
+    panics_here(line!(), 130, 131, || _ = StreamedKomihash::new().save(&mut [0; 130]));
+    panics_here(line!(), 130, 131, || _ = StreamedKomihash::new().store(&mut [0; 130]));
+    panics_here(line!(), 0, 9, || _ = Recorder(vec![]).store(&mut []));
+    panics_here(line!(), 1, 2, || _ = pad(b"12345678", &mut [0; 1]));
+    panics_here(line!(), 0, 1, || _ = pad(b"", &mut []));
+    panics_here(line!(), 7, 8, || _ = unpad(&[0], &mut [0; 7]));
+    panics_here(line!(), 7, 8, || _ = unpad(&[1], &mut [0; 7]));
+    panics_here(line!(), 15, 16, || _ = unpad(&[1, 1], &mut [0; 15]));
+    panics_here(line!(), 0, 1, || _ = run::<StreamedKomihash>(0, &[Call::Answer], &mut []));
     // It has no answer to write, but each call needs room.
     const ABSORB: [Call<'_>; 2] = [Call::Absorb(b""); 2];
-    panics_here(line!(), || _ = run_on(&mut StreamedKomihash::new(), &ABSORB, &mut [0]));
+    panics_here(line!(), 1, 2, || _ = run_on(&mut StreamedKomihash::new(), &ABSORB, &mut [0]));
 }
 
-/// Whether a call panics, and reports this line of this file.
-fn panics_here(line: u32, call: fn()) {
+/// Whether a call panics, and reports this line of this file, and these lengths.
+fn panics_here(line: u32, is: usize, least: usize, call: fn()) {
     static HOOK: Mutex<()> = Mutex::new(());
     static REPORTED: Mutex<Option<String>> = Mutex::new(None);
     let _one_by_one = HOOK.lock().unwrap_or_else(PoisonError::into_inner);
@@ -355,12 +355,12 @@ fn panics_here(line: u32, call: fn()) {
             return eprintln!("{info}");
         }
         let place = info.location().unwrap();
-        let message = info.payload().downcast_ref::<&str>().unwrap();
+        let message = info.payload().downcast_ref::<String>().unwrap();
         *REPORTED.lock().unwrap() = Some(format!("{}:{}: {message}", place.file(), place.line()));
     }));
     let panicked = catch_unwind(call).is_err();
     set_hook(hook);
     assert!(panicked);
-    let wanted = format!("{}:{line}: `out` is too short", file!());
-    assert_eq!(REPORTED.lock().unwrap().take(), Some(wanted));
+    let lengths = format!("the length of `out` is {is}, and must be at least {least}");
+    assert_eq!(*REPORTED.lock().unwrap(), Some(format!("{}:{line}: {lengths}", file!())));
 }
