@@ -186,7 +186,7 @@ page_in_chromium() {
             echo false Copied
             komihashsum --check "$scratch/list" 2> "$scratch/case"
             printf '%s\n' 'gone: in no line' '' \
-                'A line is none that komihashsum prints, and no hash. true'
+                "A line is neither a hash nor one of komihashsum's lists. true"
         )
 }
 js_required() {

@@ -2,7 +2,7 @@
  * Copyright (c) 2026 the authors of komihash_rattle
  *
  * `make assembly` made this file from the crate for Rust. Do not edit it.
- * Made of: SHA-256 3b60f31db4738ebe140196f30209ea51e38b99a256d147a448627d6d09ed2012
+ * Made of: SHA-256 1738ff30d34756020991b6c202eca96597858388840a4dab0aee7e3ccbb63f7e
  * Options: those of from_rust.sh, and -C no-redzone=yes -Z branch-protection=bti
  * Compiler: rustc 1.96.0 (ac68faa20 2026-05-25) (built from a source tarball)
  */

@@ -8,7 +8,7 @@
 //! Both give a message of fewer than 64 bytes the same hash if it is empty or its last byte is below
 //! 128. So tell by longer messages which version made a hash.
 //!
-//! Examples of methods are those of version 5: write `v4` where they have `v5`.
+//! Examples of methods are those of version 5: write `v4` where they have `v5`; outputs differ.
 // Made of v5.rt by scripts/twins.py, except for the comment above.
 
 use crate::{generator, hash, hasher, padding, stream};

@@ -22,11 +22,14 @@ X86 = '''
 .macro word; mov r10, [rdi + 8*r9]; mov [rdx + 8*r9], r10; inc r9; .endm
 .macro pad before, in, after; mov r8, rsi; shr r8, 3; xor eax, eax; cmp rcx, r8; jbe .Lend
     \\before; xor r9d, r9d; .Lturn: cmp r9, r8; jae .Lrest; word; \\in
-    jmp .Lturn; .Lrest: \\after; xor r10d, r10d; cmp r10, rsi; adc r10d, 0; and esi, 7; je .Lstore
+    jmp .Lturn; tail "\\after"; .endm
+.macro tail after; .Lrest: \\after; xor r10d, r10d; cmp r10, rsi; adc r10d, 0; and esi, 7; je .Lstore
     .Lbyte: shl r10, 8; lea r11, [rdi + 8*r8]; movzx r11d, byte ptr [r11 + rsi - 1]; or r10, r11
     dec esi; jne .Lbyte; .Lstore: mov [rdx + 8*r8], r10; lea rax, [r8 + 1]; .Lend: ret; .endm
 ''', '''
 a changed return address||not the caller|call 1f; nop; jmp body; 1: inc qword ptr [rsp]; ret
+a return to the caller's caller||not the caller|call 1f; jmp body; 1: call 2f; ret; 2: pop rax; ret
+a call in a call|||call 1f; jmp body; 1: call 2f; ret; 2: ret
 a call of the next||no meaning|xor eax, eax; call 1f; 1: inc eax; cmp eax, 2; jae 1f; ret; 1:
 flags of a shift|v5_save|save(5,)..flag z is read|mov rcx, rdx; cmp rax, rax; shl r8, cl; jne 1f; 1:
 the red zone|||red zone; mov [rsp - 128], rdi; mov rdi, [rsp - 128]
@@ -55,8 +58,20 @@ a call that begins at the exit|v5_pad|Pad..the rest|pad "cmp rsi, 200; je .Lrest
 a write that takes bytes before its own|v5_write|Write(5,)..more than all was taken|
     cmp qword ptr [rdi + 64], 5; jne body; lea rax, [rdx + 5]; cmp rax, 128; jb body; test al, 64;
     jne body; mov rdx, rax; sub rsi, 5; xor eax, eax; mov [rdi], rax; mov [rdi + 64], rax; jmp body
-one by one of 32 values|v5_save|save(5,)..must be refused|mov r10, rdx; and r10d, 31;
-    cmp byte ptr [rdi + r10], 0; cmp r10, 31; jne body; mov eax, 1; ret
+one by one of 64 values|v5_save|save(5,)..must be refused|mov r10, rdx; and r10d, 63;
+    cmp byte ptr [rdi + r10], 0; cmp r10, 63; jne body; mov eax, 1; ret
+a number that splits at the end|v5_save|save(5,)..in no array|mov r10, rdx; and r10d, 31;
+    mov byte ptr [rdi + 8*r10 + 144], 0
+a loop that splits in each turn|v5_save|save(5,)..must be refused|xor r8d, r8d; 1: inc r8d;
+    bt edx, r8d; jnc 2f; cmp r8d, 2; jne 2f; mov eax, 1; ret; 2: cmp r8d, 2; jne 1b
+many jumps|v5_save|save(5,)..result: found 0x1|.irp k, 1,2,3,4,5,6,7,8,9,10; cmp rdx, 50 + \\k;
+    je 8f; 8: ; .endr; cmp rdx, 40; jne body; mov eax, 1; ret
+a long copy||in no array|push rdi; sub rsp, 320; lea rsi, [rip + __ehdr_start]; mov rdi, rsp;
+    mov ecx, 600; rep movsb; add rsp, 320; pop rdi
+a constant at an odd address|||mov eax, [rip + __ehdr_start + 1]; cmp eax, 0x02464c45; je body; ud2
+a factor in place of another||does not have|mov rax, [rdi]; mul rax; mov rcx, rdx; add rdx, [rdi + 8];
+    mov r8, -0x5555555555555556; add rdx, r8; mov [rdi + 8], rdx; xor rax, rcx; not r8;
+    add rax, r8; mov [rdi], rax; ret
 a write of 150 bytes|v5_write|Write(13,)..the stream at|
     push rdx; call body; pop rdx; ret; next: cmp qword ptr [rsp + FRAME], 150; jne 1f; not LANE; 1:
 a constant over the end||in no array|.hidden __etext; lea rax, [rip + __etext]; mov rax, [rax - 4];
@@ -75,6 +90,8 @@ an old lane|v5_write|Write(13,)..at 72|push rdi; push [rdi + 72]; call body; pop
     mov [rdi + 72], rax; ret
 a jump by a low half|v5|Hash(6,)..depends on low|next: test rax, rax; je 1f; 1:
 a jump by a lane|v5|Hash(6,)..depends on value|next: test LANE, LANE; je 1f; 1:
+a jump by a factor|v5_rand_fill|Fill..depends on s1|next: cmp INDEX, 300; jne 1f;
+    test FACTOR, FACTOR; je 1f; 1:
 a jump by what a loop lost|v5_pad|Pad..depends on undefined|
     pad "", "cmp rsi, 5000; jne .Lturn; test rax, rax; je 1f; 1: mov rax, r10", ""
 a write where there may be no room|v5_save|in no array|mov byte ptr [rsi], 0
@@ -101,6 +118,12 @@ one wrong by where the stack is||does not have|test spl, 16; je body; not byte p
 one made twice||has made already|mov rax, [rdi]; mul qword ptr [rdi + 8]
 a loop|v5_pad|Pad..|pad "", "", ""
 one wrong from byte 3,200 on|v5_pad|Pad..in no array|pad "", "cmp r9, 400; jne .Lturn; inc r9", ""
+one wrong from 16 TiB on|v5_pad|Pad..in no array|
+    pad "", "mov r10, 1 << 41; cmp r9, r10; jne .Lturn; inc r9", ""
+a word more for one length|v5_pad|Pad..the rest|mov r8, rsi; shr r8, 3; xor eax, eax; cmp rcx, r8;
+    jbe .Lend; mov r11, r8; and r11, -2; xor r9d, r9d; .Lturn: cmp rsi, 5000; je 4f;
+    5: cmp r9, r11; jae .Lodd; word; word; jmp .Lturn; 4: cmp r9, r11; jne 5b; word;
+    .Lodd: test r8b, 1; je .Lrest; word; tail
 one that leaves its loop there|v5_pad|Pad..the rest|pad "", "cmp r9, 400; je .Lrest", ""
 a loop begun late|v5_pad|Pad..in no array|pad "cmp rsi, 304; mov r9d, 1; je .Lturn", "", ""
 a loop that may run over the end|v5_pad|Pad..in no array|pad "cmp r8, 16; jb 1f; xor r9d, r9d;
@@ -157,6 +180,10 @@ a number that splits|v5_save|save(5,)..must be refused|and x10, x2, 8; add x9, x
 a jump by a register of the caller|v5_save|save(5,)..depends on x9|cbz x9, 1f; nop; 1:
 a product|v5_rand_fill|Fill..products|cmp x2, 200; b.ne body; ldp x9, x10, [x0]; mul x9, x9, x10
 a stack that is lower at the end||sp is lost|sub sp, sp, 16
+a changed return address||not the caller|eor x30, x30, 4
+a byte that was popped||not written|str x0, [sp, -16]!; add sp, sp, 16; sub sp, sp, 16;
+    ldr x0, [sp], 16
+a call|||stp x0, x30, [sp, -16]!; bl 1f; ldp x0, x30, [sp], 16; b body; 1: ret
 whole blocks that are wrong|v5_write|Write(13,)..the stream at 0|stp x0, x30, [sp, -16]!; bl body;
     ldp x0, x30, [sp], 16; ldr x9, [x0, 64]; cbnz x9, 1f; mov w9, 1; strb w9, [x0]; 1: ret
 63 bytes more that are wrong|v5_write|Write(13,)..the stream at 0|stp x0, x30, [sp, -16]!; bl body;
@@ -164,11 +191,13 @@ whole blocks that are wrong|v5_write|Write(13,)..the stream at 0|stp x0, x30, [s
 whole blocks of version 4|v4|Hash(0,)..|nop
 '''
 # The registers that a call must preserve, by the calling conventions of System V and of Arm, where
-# x18 is the platform's, and the low halves of vectors are preserved. Bit 32 of each is changed.
-SAVED = {'x86-64': [(one, f'bts {one}, 32') for one in 'rbx rbp r12 r13 r14 r15'.split()],
-         'armv8-a': [*((f'x{n}', f'eor x{n}, x{n}, 1 << 32') for n in range(18, 30)),
-                     *((f'd{n}', f'mov x9, 1 << 32; dup v0.2d, x9; eor v{n}.16b, v{n}.16b, v0.16b')
-                       for n in range(8, 16))]}
+# x18 is the platform's, and the low halves of vectors are preserved. A bit of each is changed.
+BITS = 63, 0, 32
+SAVED = {'x86-64': [(one, f'bts {one}, {BITS[k % 3]}')
+                    for k, one in enumerate('rbx rbp r12 r13 r14 r15'.split())],
+         'armv8-a': [*((f'x{n}', f'eor x{n}, x{n}, 1 << {BITS[n % 3]}') for n in range(18, 30)),
+                     *((f'd{n}', f'mov x9, 1 << {BITS[n % 3]}; dup v0.2d, x9; '
+                                 f'eor v{n}.16b, v{n}.16b, v0.16b') for n in range(8, 16))]}
 # Arrays on x86-64: a function, the name of a case, and for each array, what may be done with bytes
 # of it, the register of its address, how many there are, and instructions with `_` in its place.
 ACCESS = {'read': 'cmp {} ptr [{}], 0', 'write': 'mov {} ptr [{}], 0', 'both': 'or {} ptr [{}], 0'}
@@ -203,11 +232,14 @@ v5_write|write_of(5, 3)|at 136: not byte ptr [rdi + 136]|at 16: not byte ptr [rd
 v5_write|Write(13,)|at 0: cmp byte ptr [rdi + 64], 0; jne 1f; not byte ptr [rdi]|
     at 0: cmp byte ptr [rdi + 64], 63; jne 1f; not byte ptr [rdi]|
     at 0: cmp rdx, 100; jne 1f; not byte ptr [rdi]
+v5_write|Write(63,)|at 0: cmp rdx, 100; jne 1f; not byte ptr [rdi]
 v5_write|write_of(5, 242)|at 0: not byte ptr [rdi]|at 64: inc byte ptr [rdi + 64]
 v5_finish|finish(5, 1)|hash: xor al, [rdi + 143]
 v5_save|save(5,)|bytes: test al, al; je 1f; rol qword ptr [rsi + 4], 8|result: inc rax|
-    result: bts rax, 40|result: cmp rax, 1; adc eax, 0
-v5_resume|resume(68,)|at 137: test al, al; je 1f; or byte ptr [rdi + 137], 2
+    result: bts rax, 40|result: cmp rax, 1; adc eax, 0|
+    result: mov r8d, 7; cmp rdx, 5000; cmovl rax, r8|
+    result: mov r8d, 7; cmp rdx, 5000; cmovge rax, r8
+v5_resume|resume(68,)|at 137: test al, al; je 1f; or byte ptr [rdi + 137], 2|result: or eax, 2
 v5_rand_init_with_extra_seed|rand_init|s1: inc rax|s2: inc rdx
 v5_rand_next|rand_next|output: inc rax|s2: not byte ptr [rdi + 8]
 v5_rand_fill|rand_fill(16,)|bytes: rol qword ptr [rsi], 8|s2: not byte ptr [rdi + 8]
@@ -221,7 +253,7 @@ v5_pad|pad(304,)|result: inc rax|bytes: test rax, rax; je 1f; not byte ptr [rdx 
 v5_unpad|unpad(4, (7, 1))|bytes: cmp rax, 31; jne 1f; mov r8, [rdx]; mov r9, [rdx + 16];
     mov [rdx], r9; mov [rdx + 16], r8
 v5_unpad|unpad(33, (1, 1))|result: or al, 128
-v5_unpad|Unpad(None,)|length: cmp rsi, 40; jne 1f; inc rax
+v5_unpad|Unpad(None,)|length: cmp rsi, 40; jne 1f; inc rax|length: cmp rsi, 20; jne 1f; inc rax
 v5_unpad|Unpad((7, 1),)|length: cmp rsi, 33; jne 1f; or al, 128|
     length: cmp rsi, 48; jne 1f; or al, 128
 '''
