@@ -12,8 +12,8 @@
  *   stream may add up to more.
  * - A pointer may be null only if the length or room after it is 0. `stream` and `rand` are never
  *   null.
- * - A pointer to words, a stream or a generator is aligned to eight bytes, or on 32-bit x86 to
- *   four. One to bytes needs no alignment.
+ * - A pointer to words, a stream or a generator is aligned to eight bytes, or to four on 32-bit x86
+ *   but for Windows. One to bytes needs no alignment.
  * - The bytes that a call writes must not overlap anything else that it is passed. Room that it
  *   doesn't write may.
  * - If threads share a stream or a generator and one of them changes it, they need a lock. If a

@@ -4,7 +4,8 @@
  * The names of komihash.h, the C original, for sources that were written for it. The hashes are
  * meant to be those of version 5, and the outputs of `komirand` those since 5.34. What differs:
  * - Link with libkomihash_rattle: the calls are not inlined.
- * - A stream has other members. There is neither KOMIHASH_VER_STR nor KOMIHASH_BUFSIZE.
+ * - A stream has other members. There is neither KOMIHASH_VER_STR nor KOMIHASH_BUFSIZE, and in C,
+ *   <stdbool.h> is included.
  * komihash_rattle.h says what callers must see to. C89 has no `inline`, so this says `__inline`.
  */
 #ifndef KOMIHASH_INCLUDED

@@ -23,8 +23,8 @@ X86 = '''
 .macro pad before, in, after; mov r8, rsi; shr r8, 3; xor eax, eax; cmp rcx, r8; jbe .Lend
     \\before; xor r9d, r9d; .Lturn: cmp r9, r8; jae .Lrest; word; \\in
     jmp .Lturn; tail "\\after"; .endm
-.macro tail after; .Lrest: \\after; xor r10d, r10d; cmp r10, rsi; adc r10d, 0; and esi, 7; je .Lstore
-    .Lbyte: shl r10, 8; lea r11, [rdi + 8*r8]; movzx r11d, byte ptr [r11 + rsi - 1]; or r10, r11
+.macro tail after; .Lrest: \\after; xor r10d, r10d; cmp r10, rsi; adc r10d, 0; and esi, 7
+    je .Lstore; .Lbyte: shl r10, 8; lea r11, [rdi + 8*r8]; movzx r11d, byte ptr [r11 + rsi - 1]; or r10, r11
     dec esi; jne .Lbyte; .Lstore: mov [rdx + 8*r8], r10; lea rax, [r8 + 1]; .Lend: ret; .endm
 ''', '''
 a changed return address||not the caller|call 1f; nop; jmp body; 1: inc qword ptr [rsp]; ret
@@ -69,8 +69,8 @@ many jumps|v5_save|save(5,)..result: found 0x1|.irp k, 1,2,3,4,5,6,7,8,9,10; cmp
 a long copy||in no array|push rdi; sub rsp, 320; lea rsi, [rip + __ehdr_start]; mov rdi, rsp;
     mov ecx, 600; rep movsb; add rsp, 320; pop rdi
 a constant at an odd address|||mov eax, [rip + __ehdr_start + 1]; cmp eax, 0x02464c45; je body; ud2
-a factor in place of another||does not have|mov rax, [rdi]; mul rax; mov rcx, rdx; add rdx, [rdi + 8];
-    mov r8, -0x5555555555555556; add rdx, r8; mov [rdi + 8], rdx; xor rax, rcx; not r8;
+a factor in place of another||does not have|mov rax, [rdi]; mul rax; mov rcx, rdx;
+    add rdx, [rdi + 8]; mov r8, -0x5555555555555556; add rdx, r8; mov [rdi + 8], rdx; xor rax, rcx; not r8;
     add rax, r8; mov [rdi], rax; ret
 a write of 150 bytes|v5_write|Write(13,)..the stream at|
     push rdx; call body; pop rdx; ret; next: cmp qword ptr [rsp + FRAME], 150; jne 1f; not LANE; 1:
@@ -90,7 +90,7 @@ an old lane|v5_write|Write(13,)..at 72|push rdi; push [rdi + 72]; call body; pop
     mov [rdi + 72], rax; ret
 a jump by a low half|v5|Hash(6,)..depends on low|next: test rax, rax; je 1f; 1:
 a jump by a lane|v5|Hash(6,)..depends on value|next: test LANE, LANE; je 1f; 1:
-a jump by a factor|v5_rand_fill|Fill..depends on s1|next: cmp INDEX, 300; jne 1f;
+a jump by a factor|v5_rand_fill|Fill..depends on s1|turn: cmp INDEX, 300; jne 1f;
     test FACTOR, FACTOR; je 1f; 1:
 a jump by what a loop lost|v5_pad|Pad..depends on undefined|
     pad "", "cmp rsi, 5000; jne .Lturn; test rax, rax; je 1f; 1: mov rax, r10", ""

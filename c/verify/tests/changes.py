@@ -12,7 +12,7 @@ import streams
 import vectors
 import z3
 from calls import Call, named, some_lanes
-from definition import State
+from definition import Products, State
 from header import parameters
 from terms import Unknown, bv, join, secret, sym
 
@@ -20,11 +20,13 @@ from terms import Unknown, bv, join, secret, sym
 CALLS = {
     '': 'bytes == 0; bytes == 1; And(length == 9, bytes == 2**64 - 10); length == 127; '
         'length == 2**63 - 1',
-    '_start': 'stream == 2**64 - 152', '_rand_next': 'rand == 2**64 - 24',
+    '_start': 'stream == 2**64 - 152',
+    '_rand_next': 'rand == 2**64 - 24; sp & 16 == 0; sp & 16 == 16; library == 2**12',
     '_finish': 'stream == 8; had_block == 0; top_bit == 1; pending == 63',
     '_save': 'out + 131 == stream',
     '_pad': 'And(length == 0, room == 1, bytes == out); And(length == 9, room == 1, bytes == out); '
             'And(length == 9, room == 2, bytes + 9 == out); room == 2**60 - 1; '
+            'And(length == 9, room == 2, bytes == 2**64 - 16); '
             'And(length == 9, room == 5, out + 16 == bytes)',
     '_unpad': 'And(length == 16, last > 0x200); length == 2**60 - 1; '
               'And(length == 2, room == 16, last == 0x100, out + 15 == words); '
@@ -47,7 +49,8 @@ def without(suffix, left_out, begin=Call.begin):
     """What begins those calls of a function for which a condition doesn't hold."""
     def begin_some(call, args):
         names = [one for _, one in parameters(f'komihash_v4{suffix}')][-len(args):]
-        given = dict(zip(names, args), And=z3.And, last=join((call.last_bytes or [bv(0)])[-2:]),
+        given = dict(zip(names, args), And=z3.And, sp=sym('sp'), library=sym('library'),
+                      last=join((call.last_bytes or [bv(0)])[-2:]),
                      **vars(call.state or State(())))
         given['pending'] = bv(len(given['pending']))
         call.facts.add(z3.Not(eval(left_out, given)))
@@ -62,14 +65,22 @@ def alike(call, do=cases.fixed.generator):
     return base, (word, word)
 
 
+def sums():
+    """Whether each sum and each half of a product of a call has a symbol of its own."""
+    products = Products()
+    halves = [half for k in range(40) for half in products.new(secret('one') + k, secret('two'))]
+    symbols = halves + [products.symbol(a + b) for a, b in zip(halves, halves[1:])]
+    return len({f'{one}' for one in symbols}) == len(symbols)
+
+
 def with_more(module, name):
     return module, name, lambda products, *given, do=getattr(module, name): (
         products.new(bv(2), bv(3)), do(products, *given))[1]
 
 
 # Calls that are long, in any case where they may be.
-LONG = 'q == 2**55, length == 2**62, sp & 2**64 - 16 == 2**13, library == 2**12, bytes == 2**14, ' \
-    'words == 2**14, out & 2**63 == 2**63, stream == 2**12, rand == 2**12'
+LONG = 'q == 2**55, units == 2**50, length == 2**62, sp & 2**64 - 16 == 2**13, ' \
+    'library == 2**12, bytes == 2**14, words == 2**14, out & 2**63 == 2**63, stream == 2**12, rand == 2**12'
 LOOPS = {'': 'Hash(0,)', '_write': 'Write(13,)', '_rand_fill': 'Fill', '_pad': 'Pad',
          '_unpad': 'Unpad((7, 1),)'}
 
@@ -86,10 +97,11 @@ def assume(loop, *given, do=any_length.Induction.assume):
 def end(loop, do=any_length.Induction.end):
     """Shows what follows a loop, for each remainder."""
     shown = []
-    loop.end_with = lambda *given: (shown.append(given), type(loop).end_with(loop, *given))
+    loop.check_end = lambda cpu: (shown.append(loop.length), type(loop).check_end(loop, cpu))
     do(loop)
-    if len(shown) != loop.GRAIN >> loop.FIXED_BITS:
-        raise Unknown(f'only {len(shown)} remainders are shown')
+    ended = len({f'{length}' for length in shown})
+    if ended < (loop.GRAIN >> loop.FIXED_BITS) - 1:
+        raise Unknown(f'only {ended} remainders are shown')
 
 
 def changes(path, content):
@@ -118,7 +130,17 @@ def changes(path, content):
                 ('with a zero', lambda n: [bv(0, 8), *named('bytes', range(1, n))][:n]),
                 ('of even bytes', lambda n: [one << 1 for one in named('bytes', range(n))]),
                 ('with an even byte', lambda n: [
-                    one if k else one << 1 for k, one in enumerate(named('bytes', range(n)))]))),
+                    one if k else one << 1 for k, one in enumerate(named('bytes', range(n)))]),
+                ('of zeros, if it is long', lambda n: [bv(0, 8)] * n if n == 127 else named(
+                    'bytes', range(n))))),
+        ('a text with a zero', 'is not any', (cases.fixed, 'named', lambda name, of: [
+            bv(0, 8), *named(name, of)[1:]]), judge('_resume', 'all calls')),
+        ('registers that are alike', 'is not any', (cases.X86, 'registers', lambda cpu,
+            do=cases.X86.registers: {**do(cpu), 'rbx': do(cpu)['rbp']}),
+         judge('_rand_next', 'all calls')),
+        ('streams without a top bit', 'no case has the call', (cases.fixed, 'some_state',
+            lambda version, n, block: State(some_lanes(), named('pending', range(n)), block)),
+         judge('_finish', 'all calls')),
         ('a seed that is in the message', 'is not any', (cases.fixed, 'secret',
             lambda *_: join(named('bytes', range(8)))), judge('', 'all calls')),
         ('pending bytes that are even', 'is not any', (cases.fixed, 'some_state',
@@ -136,6 +158,8 @@ def changes(path, content):
         ('products', 'the definition has', with_products('_start', '2'), judge('_start', '')),
         ('products of a long call', 'the definition has',
          with_products('_rand_fill', '(n+7)//8 + (n == 200)'), judge('_rand_fill', 'Fill')),
+        ('products of a longer call', 'the definition has',
+         with_products('_rand_fill', '(n+7)//8 + (n >= 256)'), judge('_rand_fill', 'Fill')),
         *((f'one more by {name}', 'products, and not the', with_more(any_length, name),
            judge('', 'Hash(0,)')) for name in ('block_round', 'hash_from_pair')),
         ('a wrong loop', '(0, 1)', (any_length.Pad, 'PRODUCTS', 1), whole('_pad')),
@@ -156,6 +180,13 @@ def changes(path, content):
                 version == wrong)), find) for n, name, wrong, find in (
                 (0, 'komi', 4, definition),
                 (64, 'hash_from_lanes', 5, lambda: streams.check_length(64)))),
+        ('another hash of 127 bytes', 'for 127 bytes', (streams, 'padded_words', lambda version, it,
+            do=streams.padded_words: do(version, it[len(it) == 127:])),
+         lambda: streams.check_streams(1)),
+        ('bytes that are forgotten', 'for 20 bytes', (State, 'absorb', lambda state, *given,
+            do=State.absorb: do(State(state.lanes, [], state.had_block, state.top_bit), *given)),
+         lambda: streams.check_length(20)),
+        ('sums of a call are told apart', 'True', (), sums),
         ('other factors of streams', 'for 0 bytes', (streams, 'start', lambda products, seed,
             do=streams.start: do(products, seed + 1)), lambda: streams.check_length(0)),
         ('a form that varies', '{0: None}', (forms, 'form_of', lambda *_: secret('turn[0]', 8)),
@@ -163,6 +194,9 @@ def changes(path, content):
         ('a text of 65 bytes', 'True', (), lambda: vectors.resume(
             5, vectors.save(5, '0', '7f' * 65)) == vectors.komihash(5, '0', '7f' * 65)),
         ('other values', 'has 95 values', (vectors, 'ROWS', {'vectors.tsv': 94}), definition),
+        ('another first value', 'gives', (vectors, 'CALLS', {**vectors.CALLS, 'komihash':
+            lambda version, seed, *messages, do=vectors.komihash, seen=[]: (
+                seen.append(0), do(version, seed, *messages[len(seen) == 1:]))[1]}), definition),
         *((f'long calls by {name}', 'None', (any_length.Induction, do.__name__, do),
            judge(suffix, name)) for suffix, name in LOOPS.items() for do in (assume, end)),
         ('what may depend on contents', "['_resume', '_unpad']", (), lambda: [
