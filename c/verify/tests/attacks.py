@@ -92,6 +92,7 @@ def of_header_and_marks(e):
     return [
         *((f'another byte {k}', f'byte {k} is 0x3', e.put, (k, 1), 3) for k in range(16)),
         ('a program', 'no shared library', e.put, (16, 2), 2),
+        ('another version of the format', 'no shared library', e.put, (20, 4), 2),
         ('longer segments', 'no shared library', e.put, (54, 2), 112),
         *((f'only {size} bytes', 'too short', e.content.__delitem__, slice(size, None))
           for size in (63, 600)),
@@ -102,13 +103,14 @@ def of_header_and_marks(e):
         ('a function without a mark', 'has none', e.bytes_at, *nothing),
         *((f'marks {notes}, and a function without', 'has none',
            lambda notes=notes: (e.note(elf.PROPERTY, kind, *notes), e.bytes_at(*nothing)))
-          for notes in ([[1]], [[0, 1]], [[0], [1]])),
+          for notes in ([[1]], [[0, 1]], [[0], [1]], [[1, 0]], [[1], [0]])),
         ('marks after another note', 'has none', lambda: (e.bytes_at(*nothing), e.note(
             elf.PROPERTY, kind, [1], first=struct.pack('<III12s8x', 5, 1, 1, b'XXXX')))),
         ('marks after a longer property', 'has none', lambda: (
             e.bytes_at(*nothing), e.note(elf.PROPERTY, kind, first=struct.pack(
                 '<III4sIIQIIII', 4, 32, 5, b'GNU\0', kind, 8, 0, kind, 4, 1, 0)))),
-        ('marks of an unknown kind', 'unknown: 0xc0', e.note, elf.PROPERTY, kind, [64]),
+        *((f'marks of an unknown kind {bit:#x}', 'unknown: 0xc0', e.note, elf.PROPERTY, kind, [bit])
+          for bit in (64, 1 << 8, 1 << 31)),
         *((f'a property {one:#x}', 'None', e.note, NOTES, one, [8])
           for one in (0xc0010001, 0xc0010002) if e.elf.machine == 62),
         ('an unknown property', 'unknown: 0xc0008002', e.note, NOTES, 0xc0008002, [1]),
@@ -175,7 +177,8 @@ def of_segments(e):
 
 def of_dynamic_table(e):
     names, written = e.elf.table[elf.HASHES], e.parts[-1].start + e.parts[-1].size - 8
-    count, code = struct.pack('<II', 1, len(e.elf.symbols)), e.code.start
+    counts = [struct.pack('<II', 1, len(e.elf.symbols) + more) for more in (0, 99)]
+    code = e.code.start
     return [(name, reason, e.entry, *change) for name, reason, *change in (
         *((f'an entry {tag:#x}', 'do more', SONAME, tag, code) for tag in sorted(TAGS)),
         *((f'a flag {1 << bit:#x} of {tag:#x}', 'do more', 30, tag, 1 << bit)
@@ -190,10 +193,11 @@ def of_dynamic_table(e):
         ('strings without an end', 'have no end', elf.STRINGS_SIZE, elf.STRINGS_SIZE,
          e.elf.table[elf.STRINGS_SIZE] - 1),
         ('a count of other symbols', 'counts other', SONAME, elf.COUNTED, names))] + [
-            ('a count of its symbols', 'None',
-             lambda: (e.entry(SONAME, elf.COUNTED, e.place + 8), e.bytes_at(e.place + 8, count))),
+            *((f'a count of {name} symbols', reason, lambda count=count: (
+                e.entry(SONAME, elf.COUNTED, e.place + 8), e.bytes_at(e.place + 8, count)))
+              for name, reason, count in zip(('its', 'more'), ('None', 'counts other'), counts)),
             ('a table that can be written', 'only read',
-             lambda: (e.entry(SONAME, elf.COUNTED, written), e.bytes_at(written, count)))]
+             lambda: (e.entry(SONAME, elf.COUNTED, written), e.bytes_at(written, counts[0])))]
 
 
 def of_names(e):
@@ -215,6 +219,10 @@ def of_names(e):
         ('no buckets', 'in different ways', names, bytes(4)),
         ('a filter of no words', 'in different ways', names + 8, bytes(4)),
         ('a symbol before the first', 'before its first', names + 4, b'\0\0\1'),
+        ('one bucket before the first', 'before its first', names + 4,
+         struct.pack('<I', min(k for k in e.elf.buckets if k) + 1)),
+        ('another name of the first symbol', 'lacks..also exports', e.elf.table[elf.SYMBOLS] +
+         elf.SYMBOL.size * e.elf.first, struct.pack('<I', e.elf.strings.index(first.encode()) + 1)),
         ('a filter of three words', 'in different ways', names + 8, three),
         ('a shift of 32 bits', 'in different ways', names + 12, bytes([32, 0, 0, 0]) + every),
         ('a name of no function', 'lacks..also exports', e.elf.table[elf.STRINGS] +

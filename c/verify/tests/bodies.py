@@ -24,8 +24,8 @@ X86 = '''
     \\before; xor r9d, r9d; .Lturn: cmp r9, r8; jae .Lrest; word; \\in
     jmp .Lturn; tail "\\after"; .endm
 .macro tail after; .Lrest: \\after; xor r10d, r10d; cmp r10, rsi; adc r10d, 0; and esi, 7
-    je .Lstore; .Lbyte: shl r10, 8; lea r11, [rdi + 8*r8]; movzx r11d, byte ptr [r11 + rsi - 1]; or r10, r11
-    dec esi; jne .Lbyte; .Lstore: mov [rdx + 8*r8], r10; lea rax, [r8 + 1]; .Lend: ret; .endm
+    je .Lstore; .Lbyte: shl r10, 8; lea r11, [rdi + 8*r8]; movzx r11d, byte ptr [r11 + rsi - 1]
+    or r10, r11; dec esi; jne .Lbyte; .Lstore: mov [rdx + 8*r8], r10; lea rax, [r8 + 1]; .Lend: ret; .endm
 ''', '''
 a changed return address||not the caller|call 1f; nop; jmp body; 1: inc qword ptr [rsp]; ret
 a return to the caller's caller||not the caller|call 1f; jmp body; 1: call 2f; ret; 2: pop rax; ret
@@ -70,8 +70,8 @@ a long copy||in no array|push rdi; sub rsp, 320; lea rsi, [rip + __ehdr_start]; 
     mov ecx, 600; rep movsb; add rsp, 320; pop rdi
 a constant at an odd address|||mov eax, [rip + __ehdr_start + 1]; cmp eax, 0x02464c45; je body; ud2
 a factor in place of another||does not have|mov rax, [rdi]; mul rax; mov rcx, rdx;
-    add rdx, [rdi + 8]; mov r8, -0x5555555555555556; add rdx, r8; mov [rdi + 8], rdx; xor rax, rcx; not r8;
-    add rax, r8; mov [rdi], rax; ret
+    add rdx, [rdi + 8]; mov r8, -0x5555555555555556; add rdx, r8; mov [rdi + 8], rdx;
+    xor rax, rcx; not r8; add rax, r8; mov [rdi], rax; ret
 a write of 150 bytes|v5_write|Write(13,)..the stream at|
     push rdx; call body; pop rdx; ret; next: cmp qword ptr [rsp + FRAME], 150; jne 1f; not LANE; 1:
 a constant over the end||in no array|.hidden __etext; lea rax, [rip + __etext]; mov rax, [rax - 4];

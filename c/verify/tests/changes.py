@@ -80,7 +80,8 @@ def with_more(module, name):
 
 # Calls that are long, in any case where they may be.
 LONG = 'q == 2**55, units == 2**50, length == 2**62, sp & 2**64 - 16 == 2**13, ' \
-    'library == 2**12, bytes == 2**14, words == 2**14, out & 2**63 == 2**63, stream == 2**12, rand == 2**12'
+    'library == 2**12, bytes == 2**14, words == 2**14, out & 2**63 == 2**63, stream == 2**12, ' \
+    'rand == 2**12'
 LOOPS = {'': 'Hash(0,)', '_write': 'Write(13,)', '_rand_fill': 'Fill', '_pad': 'Pad',
          '_unpad': 'Unpad((7, 1),)'}
 
