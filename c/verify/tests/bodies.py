@@ -159,7 +159,7 @@ V2 = X86[0], X86[1] + '''
 an instruction of newer processors||not known for x86-64|palignr xmm0, xmm0, 1
 a jump by a high half|v5|Hash(0,)..depends on high|call body; test rdx, rdx; je 1f; 1: ret
 '''
-V3 = X86[0], X86[1] + '''
+V3 = X86[0], '''
 an instruction of newer processors||not known for x86-64-v3|vpternlogq ymm0, ymm0, ymm0, 1
 a vector over a generator||in no array|vmovups xmm0, [rdi]; vmovups [rdi], ymm0; vzeroupper
 a vector on the stack|||
@@ -215,7 +215,7 @@ v5_save|save(5,)|read rdi 144|write rsi 73: cmp rdx, 131; jb body; _
 v5_resume|resume(68,)|write rdi 144: after "test al, al; je 1f; _"|read rsi 68 rdx
 v5_rand_next|rand_next()|both rdi 16
 v5_rand_fill|rand_fill(5,)|both rdi 16|write rsi 5 rdx
-v5_rand_fill|Fill|both rdi 16|write OUT+8*INDEX TURN: turn: cmp INDEX, 500; jne 1f; _; 1:
+v5_rand_fill|Fill|both rdi 16|write OUT+8*INDEX 8: turn: cmp INDEX, 500; jne 1f; _; 1:
 v5_pad|pad(9,)|read rdi 9 rsi|write rdx 16: cmp rcx, 2; jb body; _
 v5_pad|Pad|read rdi+rsi-128 128
 v5_unpad|unpad(2, (0, 1))|read rdi 16 8*rsi|both rdx 8: after "cmp rax, -1; je 1f; _"
@@ -259,8 +259,6 @@ v5_unpad|Unpad((7, 1),)|length: cmp rsi, 33; jne 1f; or al, 128|
 '''
 LOOPS = {'v5': '_R.*hash_of_blocksKh5_.*', 'v5_rand_fill': 'komihash_v5_rand_fill',
          'v5_write': '_R.*Kh5_.*complete_blocks.*'}
-# How many bytes a turn of a fill writes.
-TURN = {'x86-64': '8', 'x86-64-v3': '16'}
 # The registers of these loops, whatever the compiler chose: what is multiplied, a lane, the address
 # of the bytes that are read, and how many are left; in a fill the address, the index of the word,
 # and how many words there are. FRAME is how far above the stack pointer a body's last push lies.
@@ -279,8 +277,8 @@ def table(level):
     """The name, function, reason and body of each row."""
     return [*lines(KINDS[level][-1][1]),
             *([f'{one} of the caller', '', f'{one} of the caller is lost', body]
-              for one, body in SAVED[level.removesuffix('-v3')]),
-            *([*of_arrays(level), *of_outputs()] if level in TURN else ())]
+              for one, body in SAVED.get(level, ())),
+            *([*of_arrays(), *of_outputs()] if level == 'x86-64' else ())]
 
 
 def lines(table):
@@ -295,9 +293,9 @@ def of_outputs():
             yield f'{function}, {case}: {do}', function, f'{case}..{what}', f'after "{do}"'
 
 
-def of_arrays(level):
+def of_arrays():
     """For each array, the last byte, those that may not be reached or written, and jumps by it."""
-    for function, case, *arrays in lines(ARRAYS.replace('TURN', TURN[level])):
+    for function, case, *arrays in lines(ARRAYS):
         for words, _, body in (array.partition(': ') for array in arrays):
             kind, base, *sizes = words.split()
             ends, access = [f'{base} + {size}' for size in sizes], ACCESS[kind].format

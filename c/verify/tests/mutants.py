@@ -160,9 +160,8 @@ def rows(folder, libraries):
     return {
         'right': [*right[False].values()],
         'long': [row for name, row in right[True].items() if '_v5' in name],
-        # Both levels of x86-64 have mostly the same rows.
-        'bodies': [*{(compiler, row.name): row for level, compiler in COMPILERS.items()
-                     for row in bodies.rows(level, compiler, folder)}.values()],
+        'bodies': [row for level, compiler in COMPILERS.items()
+                   for row in bodies.rows(level, compiler, folder)],
         'changes': [*changes.rows(libraries[0])],
         'attacks': [row for row in edits if 'by the command' not in row.name],
         'commands': [row for row in edits if 'by the command' in row.name],
