@@ -221,7 +221,7 @@ def of_names(e):
         ('a symbol before the first', 'before its first', names + 4, b'\0\0\1'),
         ('one bucket before the first', 'before its first', names + 4,
          struct.pack('<I', min(k for k in e.elf.buckets if k) + 1)),
-        ('another name of the first symbol', 'lacks..also exports', e.elf.table[elf.SYMBOLS] +
+        ('another name of the first symbol', "also exports ['omi", e.elf.table[elf.SYMBOLS] +
          elf.SYMBOL.size * e.elf.first, struct.pack('<I', e.elf.strings.index(first.encode()) + 1)),
         ('a filter of three words', 'in different ways', names + 8, three),
         ('a shift of 32 bits', 'in different ways', names + 12, bytes([32, 0, 0, 0]) + every),

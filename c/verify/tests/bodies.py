@@ -25,7 +25,8 @@ X86 = '''
     jmp .Lturn; tail "\\after"; .endm
 .macro tail after; .Lrest: \\after; xor r10d, r10d; cmp r10, rsi; adc r10d, 0; and esi, 7
     je .Lstore; .Lbyte: shl r10, 8; lea r11, [rdi + 8*r8]; movzx r11d, byte ptr [r11 + rsi - 1]
-    or r10, r11; dec esi; jne .Lbyte; .Lstore: mov [rdx + 8*r8], r10; lea rax, [r8 + 1]; .Lend: ret; .endm
+    or r10, r11; dec esi; jne .Lbyte; .Lstore: mov [rdx + 8*r8], r10; lea rax, [r8 + 1]
+    .Lend: ret; .endm
 ''', '''
 a changed return address||not the caller|call 1f; nop; jmp body; 1: inc qword ptr [rsp]; ret
 a return to the caller's caller||not the caller|call 1f; jmp body; 1: call 2f; ret; 2: pop rax; ret
@@ -110,6 +111,8 @@ one after a long write to five bytes|v5_write|Write(5,)..at 0|
     xor eax, eax; cmp rdx, 300; jne 2f; cmp byte ptr [rdi + 64], 5; sete al; 2: push rax; push rdi;
     call body; pop rdi; pop rax; test eax, eax; je 1f; not byte ptr [rdi]; 1: ret
 a hash that is not finished|v5|Hash(4,)..before the end|cmp rsi, 300; jne body; xor eax, eax; ret
+a write to 63 bytes that ends early|v5_write|Write(63,)..before the end|
+    cmp qword ptr [rdi + 64], 63; jne body; cmp rdx, 400; jne body; ret
 a write of nothing|v5_write|Write(13,)..before the end|cmp rdx, 60; jne body; xor eax, eax;
     mov [rdi], rax; mov [rdi + 8], rax; mov [rdi + 64], rax; mov byte ptr [rdi + 136], 1; ret
 a refusal|v5_pad|Pad..before the end|cmp rsi, 200; jne body; cmp rcx, 26; jb body; xor eax, eax; ret
@@ -232,7 +235,6 @@ v5_write|write_of(5, 3)|at 136: not byte ptr [rdi + 136]|at 16: not byte ptr [rd
 v5_write|Write(13,)|at 0: cmp byte ptr [rdi + 64], 0; jne 1f; not byte ptr [rdi]|
     at 0: cmp byte ptr [rdi + 64], 63; jne 1f; not byte ptr [rdi]|
     at 0: cmp rdx, 100; jne 1f; not byte ptr [rdi]
-v5_write|Write(63,)|at 0: cmp rdx, 100; jne 1f; not byte ptr [rdi]
 v5_write|write_of(5, 242)|at 0: not byte ptr [rdi]|at 64: inc byte ptr [rdi + 64]
 v5_finish|finish(5, 1)|hash: xor al, [rdi + 143]
 v5_save|save(5,)|bytes: test al, al; je 1f; rol qword ptr [rsi + 4], 8|result: inc rax|

@@ -195,9 +195,9 @@ def changes(path, content):
         ('a text of 65 bytes', 'True', (), lambda: vectors.resume(
             5, vectors.save(5, '0', '7f' * 65)) == vectors.komihash(5, '0', '7f' * 65)),
         ('other values', 'has 95 values', (vectors, 'ROWS', {'vectors.tsv': 94}), definition),
-        ('another first value', 'gives', (vectors, 'CALLS', {**vectors.CALLS, 'komihash':
-            lambda version, seed, *messages, do=vectors.komihash, seen=[]: (
-                seen.append(0), do(version, seed, *messages[len(seen) == 1:]))[1]}), definition),
+        ('another first value', 'gives 4 ', (vectors, 'CALLS', {**vectors.CALLS, 'komihash':
+            lambda *given, do=vectors.komihash: 4 if given == (4, '0', '') else do(*given)}),
+         definition),
         *((f'long calls by {name}', 'None', (any_length.Induction, do.__name__, do),
            judge(suffix, name)) for suffix, name in LOOPS.items() for do in (assume, end)),
         ('what may depend on contents', "['_resume', '_unpad']", (), lambda: [

@@ -123,9 +123,9 @@ def x86_code(r, encoding, _, near):
 
 
 def arm_code(r, encoding, number, near):
-    """Bytes for an encoding of ARM64, or near it, with another bit. The first bits of operands are the
-    least and the greatest number, with signs and without, and then have all values in turn. The
-    last registers are often sp, or those whose number is in them."""
+    """Bytes for an encoding of ARM64, or near it, with another bit. The first bits of operands are
+    the least and the greatest number, with signs and without, and then have all values in turn.
+    The last registers are often sp, or those whose number is in them."""
     other = 1 << 31 - r.choice([k for k, given in enumerate(encoding) if given != '.'])
     ends = '0000000', '1000000', '1111111', '0111111'
     for bit in ends[number] if number < 4 else f'{number * 37 % 64:06b}':
