@@ -7,7 +7,7 @@ import re
 import subprocess
 import sys
 import tempfile
-from rows import Row, cases, count, refusal
+from rows import Row, count, refusal
 
 C = pathlib.Path(__file__).resolve().parent.parent.parent
 LIBRARY = 'libkomihash_rattle.so.1'

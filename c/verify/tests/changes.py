@@ -50,7 +50,7 @@ def without(suffix, left_out, begin=Call.begin):
     def begin_some(call, args):
         names = [one for _, one in parameters(f'komihash_v4{suffix}')][-len(args):]
         given = dict(zip(names, args), And=z3.And, sp=sym('sp'), library=sym('library'),
-                      last=join((call.last_bytes or [bv(0)])[-2:]),
+                     last=join((call.last_bytes or [bv(0)])[-2:]),
                      **vars(call.state or State(())))
         given['pending'] = bv(len(given['pending']))
         call.facts.add(z3.Not(eval(left_out, given)))
@@ -97,12 +97,14 @@ def assume(loop, *given, do=any_length.Induction.assume):
 
 def end(loop, do=any_length.Induction.end):
     """Shows what follows a loop, for each remainder."""
-    shown = []
-    loop.check_end = lambda cpu: (shown.append(loop.length), type(loop).check_end(loop, cpu))
+    shown, ended = [], set()
+    loop.end_with = lambda *given: (shown.append(given), type(loop).end_with(loop, *given))
+    loop.check_end = lambda cpu: (ended.add(shown[-1]), type(loop).check_end(loop, cpu))
     do(loop)
-    ended = len({f'{length}' for length in shown})
-    if ended < (loop.GRAIN >> loop.FIXED_BITS) - 1:
-        raise Unknown(f'only {ended} remainders are shown')
+    # Where some bytes are left, none is not.
+    if len(shown) != loop.GRAIN >> loop.FIXED_BITS or any(
+            rest and (remainder, rest) not in ended for remainder, rest in shown):
+        raise Unknown(f'only {len(ended)} remainders are shown')
 
 
 def changes(path, content):
