@@ -101,10 +101,7 @@ function version(number) {
 
     class Komihash {
         #state; #seed;
-        constructor(seed = 0n) {
-            this.#seed = word(seed);
-            this.reset();
-        }
+        constructor(seed = 0n) { this.#state = made(144, start, this.#seed = word(seed)); }
         get version() { return number; }
         reset() {
             this.#state = made(144, start, word(this.#seed, "the seed of a reset stream"));
