@@ -114,9 +114,9 @@ END
 # Builds the library in a copy of this folder, and seconds later in another, to the same bytes.
 same_elsewhere() {
     for copy in here elsewhere; do
+        [ $copy = here ] || sleep 2
         mkdir "$scratch/$copy" && cp -R Makefile *.[ch] *.sh *.rs assembly "$scratch/$copy" &&
             build all -C "$scratch/$copy" OUT=made "CC=$compiler" "crate=$PWD/$crate" || return
-        sleep 2
     done
     for file in $libraries $programs; do
         cmp "$scratch/here/made/$file" "$scratch/elsewhere/made/$file" || return
@@ -340,8 +340,8 @@ staged() {
         fails 'EOF on komihash_rattle.h' build installcheck && build uninstall && gone "$DESTDIR"
 }
 with_shared() {
-    build all LINK_SHARED=yes "OUT=$scratch/linked" && printf a > "$scratch/a" &&
-        prints "$hash_of_a" $RUN "$scratch/linked/komihashsum$exe" < "$scratch/a" &&
+    build all LINK_SHARED=yes "OUT=$scratch/linked" &&
+        printf a | prints "$hash_of_a" $RUN "$scratch/linked/komihashsum$exe" &&
         "${CROSS}objdump" -p "$scratch/linked/komihashsum$exe" | grep -F "$soname"
 }
 uninstalled() { build uninstall "PREFIX=$prefix" BUILD_SHARED=no && gone "$prefix"; }
