@@ -18,8 +18,8 @@ HERE = Path(__file__).resolve().parent
 # What is used from above this folder is in it in a source distribution.
 ABOVE = HERE if (HERE / "c").is_dir() else HERE.parent
 USED = ("c/Makefile", "c/from_rust.sh", "c/exports.rs", "c/komihash_rattle.h", "c/assembly",
-        "rust/Cargo.toml", "rust/README.md", "rust/src", "rust/tests/values.tsv",
-        "rust/tests/vectors.tsv", "docs/CLAIMS.md", "docs/DEFINITIONS.md")
+        "c/assembly.sh", "c/sysroot.sh", "rust/Cargo.toml", "rust/README.md", "rust/src",
+        "rust/tests/values.tsv", "rust/tests/vectors.tsv", "docs/CLAIMS.md", "docs/DEFINITIONS.md")
 
 # From 3.11 on, CPython's stable interface can read bytes, so one build serves all later ones.
 STABLE = sys.version_info >= (3, 11) and not sysconfig.get_config_var("Py_GIL_DISABLED")

@@ -7,22 +7,11 @@ a file that is there, and to a heading of it."""
 import re
 from pathlib import Path
 
+from links import LINK, links
 from twins import twins
 
 ROOT = Path(__file__).resolve().parent.parent
 CODE = re.compile(r"^```(?:rust|antt)\n(.*?)^```", re.DOTALL | re.MULTILINE)
-FENCED = re.compile(r"^```.*?^```", re.DOTALL | re.MULTILINE)
-LINK = re.compile(r"\]\((?!https?:)([^)]*)\)")
-
-
-def leads_somewhere(page, link):
-    """Whether the file is there, and if a heading is named, has it, as GitHub names headings."""
-    file, _, anchor = link.partition("#")
-    target = page.parent / file if file else page
-    if not anchor or not target.exists():
-        return target.exists()
-    heads = re.findall("^#+ (.*)", FENCED.sub("", target.read_text("utf-8")), re.MULTILINE)
-    return anchor in [re.sub(r"[^\w -]", "", head.lower()).replace(" ", "-") for head in heads]
 
 
 def proved(file, name):
@@ -54,10 +43,7 @@ lemmas = [lemma.split("::") for cell in re.findall(r"\|([^|\n]*)\|$", table, re.
           for lemma in re.findall("`(.*?)`", cell)]
 checks.append(("CLAIMS names lemmas", lemmas))
 checks += [(f"the lemma {'::'.join(lemma)}", len(lemma) == 2 and proved(*lemma)) for lemma in lemmas]
-names = [page.relative_to(ROOT) for page in ROOT.rglob("*.md")]
-for name in sorted(name for name in names if "out" not in name.parts):
-    for link in LINK.findall((ROOT / name).read_text("utf-8")):
-        checks.append((f"{name} links to {link}", leads_somewhere(ROOT / name, link)))
+checks += links(ROOT)
 for name, holds in checks:
     print("ok:" if holds else "FAILED:", name)
 failed = sum(not holds for _, holds in checks)

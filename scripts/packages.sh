@@ -47,10 +47,13 @@ names_its_sources() {
 made_of_crate() {
     in_package assembly "ASSEMBLY=$scratch/assembly" && diff -r "$scratch/assembly" c/assembly
 }
-# Whether packages have the pages that say what the hash is, and what must be trusted.
+# Whether packages have the pages that say what the hash is, and what must be trusted, and each link
+# of a page leads to a file of its package.
 has_pages() {
-    (cd "$scratch" && ls -d {libkomihash_rattle-*,'s dist',js/node_modules/komihash_rattle}/docs/* |
-        grep -cE '/(CLAIMS|DEFINITIONS).md$' | grep -x 6)
+    local package
+    for package in "$scratch"/{libkomihash_rattle-*,rust,'s dist',js/node_modules/komihash_rattle}; do
+        ls "$package"/docs/{CLAIMS,DEFINITIONS}.md && python3 -B scripts/links.py "$package" || return
+    done
 }
 made_of_web() {
     from_rust 'wasm32-unknown-unknown -C linker=wasm-ld' wasm "OUT=$scratch/web" &&
@@ -147,8 +150,8 @@ made_again() {
         tar --create --exclude=out --exclude=target LICENSE c crates docs js python rust scripts |
         tar --extract --touch --directory="$scratch/copy" &&
         (cd "$scratch/copy" && find . | sort > "$scratch/files" &&
-            PYTHON=/usr/bin/python3 bash scripts/release.sh "$scratch/again" c js python &&
-            diff -r -x rust "$packed" "$scratch/again" && find . | sort | diff "$scratch/files" -)
+            PYTHON=/usr/bin/python3 bash scripts/release.sh "$scratch/again" c js python rust &&
+            diff -r "$packed" "$scratch/again" && find . | sort | diff "$scratch/files" -)
 }
 all_right() { diff <(echo "$(all_rows | grep -cvE '^(#|unpad)') rows, 0 failures") -; }
 as_on_page() { diff <(sed -n 's|.*; // ||p' "$scratch/js/page.mjs") -; }
@@ -169,8 +172,8 @@ page_in_chromium() {
     local files=$scratch/hashed odd=$'a\\b\nc' page profile=$scratch/chromium
     page=file://$(cd "$scratch/js" && node -p '["package.json", "komihash.html"].map(
         (it) => require.resolve(`komihash_rattle/${it}`))[1]')
-    chromium --headless --no-sandbox --user-data-dir="$profile" --dump-dom "$page" |
-        grep 'needs a server' || return
+    chromium --headless --no-sandbox --user-data-dir="$profile" --dump-dom \
+        "file://$PWD/js/komihash.html" | grep 'needs a server' || return
     in_package out/komihashsum && mkdir -p "$files/folder" && : > "$files/empty" &&
         seq 99 > "$files/$odd" && seq 12500000 > "$files/big" && truncate -s 99G "$files/huge" &&
         PATH=$(echo "$scratch"/libkomihash_rattle-*/out):$PATH && (
@@ -180,13 +183,21 @@ page_in_chromium() {
             "$files"/{gone,big,huge} "$scratch/list" "$files"/{"$odd",empty,folder} \
             > "$scratch/shown" && cd "$files" && diff "$scratch/shown" <(
             printf '%s\n' 'The seed must be a whole number from 0 to 2^64 - 1. true'{,} \
-                'gone: cannot be read' 'progress: true' 'huge: stopped' 'Folders are not hashed.' \
-                'huge: stopped'
+                'gone: cannot be read' 'progress: true' 'huge: stopped, and all after it' \
+                'Folders are not hashed.' 'huge: stopped, and all after it'
             komihashsum big && komihashsum -4 -s 0xA --tag "$odd" empty
             echo false Copied
             komihashsum --check "$scratch/list" 2> "$scratch/case"
-            printf '%s\n' 'gone: in no line' '' \
-                "A line is neither a hash nor one of komihashsum's lists. true"
+            echo "gone: in no line
+empty: FAILED, its hash is $(komihashsum -4 -s 0xA empty | cut -c-16)
+
+$odd: not chosen, nor files of 1 other lines"
+            komihashsum --check "$scratch/list" 2> "$scratch/case"
+            echo "big: OK
+$(komihashsum big)
+big: OK
+big: OK
+This is neither a line of komihashsum nor one hash: $(komihashsum big | cut -c-16) 0 true"
         )
 }
 js_required() {
@@ -251,7 +262,7 @@ languages() {
     MYPY_CACHE_DIR=$scratch/mypy needs /usr/bin/mypy 'the types of the package for Python' \
         debian_python -m mypy.stubtest komihash_rattle
     always needs npm 'the package for JavaScript is packed and installed' js_package
-    needs npm 'packages have the definition, and what must be trusted' has_pages
+    needs 'cargo npm /usr/bin/pip3' 'pages of packages have all that they link to' has_pages
     needs npm 'another copy makes the same packages' made_again
     needs node 'the package for JavaScript, in Node' js_in_node
     needs chromium 'the package for JavaScript, in Chromium' js_in_chromium

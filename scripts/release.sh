@@ -9,13 +9,23 @@ scratch=$(mktemp -d)
 trap 'rm -r "$scratch"' EXIT
 tar --create --exclude=out --exclude=target --exclude='*.egg-info' --mode=a+rX,u+w,go-w \
     c docs/CLAIMS.md docs/DEFINITIONS.md js python rust | tar --extract --directory="$scratch"
+links=$PWD/scripts/links.py
 for name in "${@:2}"; do
     mkdir -p "$folder/$name"
     case $name in
-    c) make -C c dist "OUT=$folder/c" ;;
+    c)
+        # The package makes itself again, with its links adapted.
+        make -C c dist "OUT=$scratch/packed"
+        mkdir "$scratch/unpacked"
+        tar -xzf "$scratch"/packed/*.tar.gz -C "$scratch/unpacked" --strip-components=1
+        python3 -B "$links" "$scratch/unpacked" c
+        make -C "$scratch/unpacked" dist "OUT=$folder/c"
+        ;;
     rust)
-        cargo package --manifest-path rust/Cargo.toml --target-dir "$scratch" --offline \
-            --allow-dirty
+        cp -R "$scratch/docs" "$scratch/rust"
+        python3 -B "$links" "$scratch/rust" rust
+        cargo package --manifest-path "$scratch/rust/Cargo.toml" --target-dir "$scratch" \
+            --offline --allow-dirty
         cp "$scratch"/package/*.crate "$folder/rust"
         ;;
     python)
@@ -23,10 +33,26 @@ for name in "${@:2}"; do
             cd "$scratch/python"
             "${PYTHON:-python3}" -B setup.py sdist --keep-temp
             package=$(echo komihash_rattle-*)
+            python3 -B "$links" "$package" python
             tar --create --sort=name --mtime='2020-02-02 UTC' --format=ustar --owner=0 --group=0 \
                 --numeric-owner -I 'gzip -9n' --file="$folder/python/$package.tar.gz" "$package"
         )
         ;;
-    js) (cd "$scratch/js" && cp -R ../docs . && npm pack --pack-destination "$folder/js") ;;
+    js)
+        cp -R "$scratch/docs" "$scratch/js"
+        python3 -B "$links" "$scratch/js" js
+        (
+            cd "$scratch/js"
+            # With the module in it, the page needs no server.
+            {
+                echo 'const { v4, v5 } = (() => {'
+                sed 's/^export //' komihash_rattle.js
+                echo 'return { v4, v5 }; })();'
+            } > module
+            sed -i -e "s/'self' //" -e '/^<p id="told"/s/ and its .*/./' -e '/^import /{' \
+                -e 'r module' -e 'd' -e '}' komihash.html
+            npm pack --pack-destination "$folder/js"
+        )
+        ;;
     esac
 done
