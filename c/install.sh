@@ -1,5 +1,5 @@
 #!/bin/sh
-# Installs the library, compares with it what is installed, or removes that: install.sh
+# Installs the library, tests what is installed, or removes that: install.sh
 # install|installcheck|uninstall. `make` runs it, with what it has built and the variables of its
 # user in the environment.
 set -eu
@@ -30,13 +30,13 @@ each_file() {
     [ "$(echo $libraries)" ] || return 0 # only the program was asked for
     "$1" 644 komihash_rattle.h "$includedir/komihash_rattle.h"
     "$1" 644 komihash_rattle/komihash.h "$includedir/komihash_rattle/komihash.h"
-    for file in "$filled"/*.pc; do "$1" 644 "$file" "$libdir/pkgconfig/${file##*/}"; done
-    for file in "$filled"/*.cmake; do
+    for file in "$made"/*.pc; do "$1" 644 "$file" "$libdir/pkgconfig/${file##*/}"; done
+    for file in "$made"/*.cmake; do
         "$1" 644 "$file" "$libdir/cmake/komihash_rattle/${file##*/}"
     done
     for file in $libraries; do
         # An older build for AVX2 may not stay, because glibc prefers it.
-        [ "$1" = installcheck_file ] || rm -f "${DESTDIR-}$libdir/${file%.a}_v3.a" \
+        rm -f "${DESTDIR-}$libdir/${file%.a}_v3.a" \
             "${DESTDIR-}$libdir/glibc-hwcaps/x86-64-v3/$file"
         case $file in
         *.dll) "$1" 755 "$OUT/$file" "$bindir/$file" ;;
@@ -60,13 +60,6 @@ install_file() {
         chmod "$1" "$target"
     fi
 }
-installcheck_file() {
-    case $1 in
-    link) [ "$(readlink "${DESTDIR-}$3")" = "$2" ] ;;
-    *) cmp "$2" "${DESTDIR-}$3" ;;
-    esac
-}
-
 # Removes a file, and its folder if that is empty and has the name of this library.
 uninstall_file() {
     target=${DESTDIR-}$3
@@ -74,10 +67,31 @@ uninstall_file() {
     case ${target%/*} in */komihash_rattle) rmdir "${target%/*}" 2> /dev/null || : ;; esac
 }
 
+# Runs the program, and the calls of the tests by the header and the library that are installed.
+check_installed() {
+    at=${DESTDIR-}$libdir
+    export LD_LIBRARY_PATH="$at${LD_LIBRARY_PATH:+:$LD_LIBRARY_PATH}" DYLD_LIBRARY_PATH="$at" \
+        WINEPATH="Z:${DESTDIR-}$bindir"
+    printf a | $RUN "${DESTDIR-}$bindir/$(echo $programs)" | grep '^5117f5064cfd0faa  -'
+    [ "$(echo $libraries)" ] || return 0 # only the program was asked for
+    for number in 4 5; do
+        grep -hE "^([a-z_]+$tab)?$number$tab" "$crate"/tests/*.tsv > "$made/rows"
+        $CC -D "VERSION=$number" -I "${DESTDIR-}$includedir" -o "$made/calls.exe" tests/calls.c \
+            -L "$at" -lkomihash_rattle
+        $RUN "$made/calls.exe" < "$made/rows" | tr -d '\r' | cmp - "$made/rows"
+    done
+    echo 'what is installed gives the right values'
+}
+tab=$(printf '\t')
+made=$(mktemp -d)
+trap 'rm -rf "$made"' EXIT
+if [ "$1" = installcheck ]; then
+    check_installed
+    exit
+fi
+
 # Writes the files for pkg-config and CMake into a folder of their own, with the paths in them. For
 # pkg-config, a backslash precedes some characters of the paths, which begin with its variable.
-filled=$(mktemp -d)
-trap 'rm -rf "$filled"' EXIT
 quoted() { printf '%s\n' "$1" | sed "s/$special/\\\\&/g; s/[\\\\&|]/\\\\&/g"; }
 below_prefix() {
     case $file:$1 in
@@ -90,7 +104,7 @@ for file in templates/*; do
     sed "s|@VERSION@|$version|; s|@CMAKE_SIZEOF_VOID_P@|${pointer_bytes-}|
         s|@PREFIX@|$(quoted "$prefix")|; s|@BINDIR@|$(quoted "$bindir")|
         s|@LIBDIR@|$(below_prefix "$libdir")|
-        s|@INCLUDEDIR@|$(below_prefix "$includedir")|" "$file" > "$filled/${file##*/}"
+        s|@INCLUDEDIR@|$(below_prefix "$includedir")|" "$file" > "$made/${file##*/}"
 done
 
 each_file "$1_file"

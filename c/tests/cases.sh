@@ -3,17 +3,17 @@
 # names have it in them, and those that others need. Above the last line stands how to run alone
 # what failed.
 export LC_ALL=C
-passed=0 failed=0 skipped=0 met= CASE=${CASE:-} alone="bash $0"
+passed=0 failed=0 skipped=0 met= needed= CASE=${CASE:-} alone="bash $0"
 scratch=$(mktemp -d) && scratch=$(realpath "$scratch") || exit
 trap 'rm -rf "$scratch"' EXIT
 : > "$scratch/to_run"
 
-wanted() { case $1 in *"$CASE"*) met=${CASE:-$met} ;; *) false ;; esac; }
+wanted() { case $1 in *"$CASE"*) met=${CASE:-$met} ;; *) test "$needed" ;; esac; }
 # Runs a case that others need: always COMMAND..
 always() {
-    only=$CASE CASE=
+    needed=yes
     "$@"
-    CASE=$only
+    needed=
 }
 
 # Runs a case, and prints what its command printed if that fails: run_case NAME COMMAND..

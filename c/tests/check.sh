@@ -27,7 +27,8 @@ loaded=${LD_LIBRARY_PATH:+:$LD_LIBRARY_PATH} # Tools such as fakeroot need it.
 loads_from() { export LD_LIBRARY_PATH="$1/lib$loaded" WINEPATH="Z:$1/bin"; }
 loads_from "$prefix"
 export PKG_CONFIG_PATH="$lib/pkgconfig" DYLD_LIBRARY_PATH="$lib"
-unset MAKEFLAGS PREFIX BINDIR LIBDIR INCLUDEDIR DOCDIR DESTDIR BUILD_SHARED BUILD_STATIC
+unset MAKEFLAGS BUILD_SHARED BUILD_STATIC DESTDIR PREFIX BINDIR LIBDIR INCLUDEDIR DOCDIR MANDIR \
+    bindir libdir includedir docdir mandir
 
 # Runs make with what this script was given, but not with the paths that its caller may have set.
 build() {
@@ -115,8 +116,12 @@ END
 same_elsewhere() {
     for copy in here elsewhere; do
         [ $copy = here ] || sleep 2
-        mkdir "$scratch/$copy" && cp -R Makefile *.[ch] *.sh *.rs assembly "$scratch/$copy" &&
-            build all -C "$scratch/$copy" OUT=made "CC=$compiler" "crate=$PWD/$crate" || return
+        options="${CFLAGS--O2} -g -ffile-prefix-map=$scratch/$copy=."
+        case $compiler in *clang*) options="$options -fdebug-compilation-dir=." ;; esac
+        rm -rf "$scratch/$copy" && mkdir "$scratch/$copy" &&
+            cp -R Makefile *.[ch] *.sh *.rs assembly "$scratch/$copy" &&
+            build all -C "$scratch/$copy" OUT=made "CC=$compiler" "crate=$PWD/$crate" \
+                "CFLAGS=$options" || return
     done
     for file in $libraries $programs; do
         cmp "$scratch/here/made/$file" "$scratch/elsewhere/made/$file" || return
@@ -299,6 +304,14 @@ END
         "$NM" "$by_cmake/bin/komihashsum$exe" | grep 'T komihash_v5$' &&
         cat "$by_cmake"/*/"$soname" > "$scratch/library" && $RUN "$by_cmake/bin/original$exe"
 }
+cmake_for_arm() {
+    cmake -B "$scratch/for arm" -D CMAKE_C_COMPILER=clang -D CMAKE_SYSTEM_NAME=Linux \
+        -D CMAKE_C_COMPILER_TARGET=aarch64-linux-gnu && cmake --build "$scratch/for arm"
+}
+in_place() {
+    mkdir "$scratch/place" && cp CMakeLists.txt komihash_rattle.h "$scratch/place" &&
+        fails 'in another folder' cmake -S "$scratch/place" -B "$scratch/place"
+}
 for_host() {
     printf '#!/bin/sh\necho sun4-linux\n' > "$scratch/cc" && chmod +x "$scratch/cc" &&
         PATH=$scratch:$PATH sh from_rust.sh "$crate" sun4-linux "$scratch/host.o"
@@ -336,11 +349,11 @@ staged() {
         test -z "$(find "$DESTDIR" ! -type l ! -perm 755 ! '(' -type f -perm 644 ')')" &&
         { ! command -v pkg-config ||
             runs_by_package komihash_rattle -std=c11 "$scratch/example.c"; } &&
-        build installcheck && echo >> "$DESTDIR/d/include/komihash_rattle.h" &&
-        fails 'EOF on komihash_rattle.h' build installcheck && build uninstall && gone "$DESTDIR"
+        build installcheck && echo '#error spoiled' >> "$DESTDIR/d/include/komihash_rattle.h" &&
+        fails spoiled build installcheck && build uninstall && gone "$DESTDIR"
 }
 with_shared() {
-    build all LINK_SHARED=yes "OUT=$scratch/linked" &&
+    build all "OUT=$scratch/linked" && build all LINK_SHARED=yes "OUT=$scratch/linked" &&
         printf a | prints "$hash_of_a" $RUN "$scratch/linked/komihashsum$exe" &&
         "${CROSS}objdump" -p "$scratch/linked/komihashsum$exe" | grep -F "$soname"
 }
@@ -395,8 +408,12 @@ if [ ! "$CROSS" ]; then
             original -x c++ -std=c++11
         needs "${compiler%% *}" "no call throws, by $compiler" no_exceptions
     done
-    needs cmake 'the tests, by ctest' sh -c 'cmake -B "$0" . && cd "$0" &&
-        CASE="an empty PREFIX" ctest --no-tests=error --output-on-failure' "$scratch/ctest"
+    needs cmake 'the tests, by ctest' sh -c 'cmake -B "$0" . && cd "$0" && MANDIR=$PWD/none \
+        libdir=$PWD/none CASE="is installed" ctest --no-tests=error --output-on-failure &&
+        ! ls none' "$scratch/ctest"
+    needs 'cmake clang aarch64-linux-gnu-gcc' 'a target of clang, by CMake' cmake_for_arm
+    needs 'clang aarch64-linux-gnu-gcc' 'a target of clang' build all "OUT=$scratch/arm" \
+        'CC=clang --target=aarch64-linux-gnu' CFLAGS=-Werror FROM=
     name='a machine that rustc calls otherwise'
     if rustc --version 2> "$scratch/case" |
         awk -F '[ .]' '{ new = $2 > 1 || $3 > 87 } END { exit !new }'; then
@@ -440,9 +457,11 @@ run_case 'komihashsum with the shared library' with_shared
 run_case 'what was built for another machine' other_machine
 run_case 'an older build for AVX2 does not stay, and a shared library is named' older_build
 needs cmake 'another source than rust' other_source
+needs cmake 'a build by CMake beside the Makefile' in_place
 
 . ./tests/komihashsum.sh
 run_case 'the paths of the environment' staged
+run_case 'make -n check' sh -c '! CASE=none "$0" -n check | grep passed' $MAKE
 run_case 'an empty PREFIX' fails "not ''" build install PREFIX=
 run_case 'a relative PREFIX' fails "not 'here'" build install PREFIX=here
 for missing in "no-rustc:there is no Rust compiler 'no-rustc'" \
