@@ -39,14 +39,15 @@ static const char HELP[] =
     "      --version         print the version of the library and exit\n\n"
     "The following options are only for --check:\n\n"
     "      --ignore-missing  skip missing files; fail if no file was verified\n"
-    "      --quiet           print FAILED, but not OK for files that have their hash\n"
-    "      --status          print no results: the exit status has them\n"
+    "      --quiet           don't print OK for files that have their hash\n"
+    "      --status          print no results; the exit status tells them\n"
     "      --strict          fail also if there are lines of another form\n"
-    "  -w, --warn            name each line of another form\n\n"
+    "  -w, --warn            print the number of each line of another form\n\n"
     "A line has 16 hexadecimal digits, two spaces and a name. With --tag, it is\n"
     "KOMIHASH5 (NAME) = DIGITS, or with KOMIHASH5-10 for --seed=16: the seed is then\n"
     "hexadecimal, without 0x. If a line begins with a backslash, the name has \\\\, \\n\n"
-    "and \\r for backslash, newline and carriage return.\n";
+    "and \\r for backslash, newline and carriage return. --check skips empty lines, and\n"
+    "those that begin with #.\n";
 
 /* What is told of a check: the last of these options counts. */
 enum { ALL, QUIET, STATUS, WARN };
@@ -391,8 +392,11 @@ static bool set_seed(const char *text) {
     char *end;
     errno = 0;
     given.seed = strtoull(text, &end, strncmp(text, "0x", 2) == 0 ? 16 : 10);
-    return (text[0] >= '0' && text[0] <= '9' && !*end && errno == 0) ||
-        fail(text, "the seed must be decimal digits, or hexadecimal ones after 0x, and below 2^64");
+    if (text[0] >= '0' && text[0] <= '9' && !*end && errno == 0)
+        return true;
+    show("komihashsum: --seed=%s must be decimal digits, or hexadecimal ones %s\n", text,
+        "after 0x, and below 2^64");
+    return false;
 }
 
 static int run(int count, char **arguments) {
@@ -422,8 +426,8 @@ static int run(int count, char **arguments) {
     for (; optind < count; optind++)
         holds = (check ? check_list : print_hash)(arguments[optind]) && holds;
     warn_of(untagged[MATCHES] ? 0 : untagged[DIFFERS], "line that failed has",
-        "lines that failed have", "no version: the list may need another -4 or --seed");
-    return !holds;
+        "lines that failed have", "no version: was the list made with the same -4 and --seed?");
+    return !holds || ferror(stderr);
 }
 
 #ifdef _WIN32 /* Names are UTF-8 in this program, and UTF-16 for the system. */
@@ -450,10 +454,13 @@ int main(void) {
     return names ? run(count, names) : 1;
 }
 #else
-static int open_file(const char *name) { return strcmp(name, "-") ? open(name, O_RDONLY) : 0; }
-int main(int count, char **arguments) {
-    if (fcntl(0, F_GETFD) < 0)
-        open("/dev/null", O_WRONLY); /* so that no file gets the number of standard input */
-    return run(count, arguments);
+static int open_file(const char *name) {
+    int file = strcmp(name, "-") ? open(name, O_RDONLY) : 0;
+    if (file == 0 && strcmp(name, "-")) { /* the number of standard input, which is closed */
+        file = dup(file);
+        close(0);
+    }
+    return file;
 }
+int main(int count, char **arguments) { return run(count, arguments); }
 #endif

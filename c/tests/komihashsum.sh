@@ -66,7 +66,8 @@ compared() {
         beside 'cat large | $sum; cat large | $sum - link; $sum < folder; $sum -c < folder'
     run_case 'komihashsum beside sha256sum, a closed standard input' \
         beside 'exec 2> /dev/null; $sum <&-; echo $?; $sum plain - link <&-; echo $?
-            $sum plain - < plain > $list; $sum -c $list <&-; echo $?; $sum -c - <&-'
+            $sum plain - < plain > $list; $sum -c $list <&-; echo $?; $sum -c - <&-
+            $sum /dev/stdin <&-; echo $?'
     run_case 'komihashsum beside sha256sum, more files than can be open' beside 'ulimit -n 16
         $sum plain plain plain plain plain plain plain plain plain plain plain plain plain plain'
     run_case 'komihashsum beside sha256sum, what fails' beside '$sum none plain; echo $?
@@ -117,7 +118,7 @@ compared() {
     run_case 'komihashsum beside sha256sum, a full output at the end of a buffer' \
         beside 'for length in 4 4077 4091 4094; do name=.$(printf %${length}s /large | tr " " /)
             $sum $name > $list; $sum -c $list > /dev/full; echo $?; $sum $name > /dev/full
-            echo $?; done'
+            echo $?; echo odd >> $list; $sum -c $list 2> /dev/full; echo $?; done'
 }
 
 # Whether the hash of the empty message is the one of these rows, by their versions and seeds.
@@ -136,7 +137,7 @@ ends() { # STATUS ARGUMENT..
 refuses() {
     for wrong; do ends 2 "$wrong" README.md || return; done
     komihashsum "--seed=$((1 << 31))" README.md && ends 2 --tag --text README.md &&
-        fails '^komihashsum: ff: the seed must be decimal digits, or' komihashsum -s ff || return
+        fails '^komihashsum: --seed=ff must be decimal digits, or' komihashsum -s ff || return
     for option in ignore-missing quiet status strict warn; do
         fails "^komihashsum: --$option: .* only for --check" komihashsum "--$option" || return
     done
