@@ -50,9 +50,9 @@ made_of_crate() {
 # Whether packages have the pages that say what the hash is, and what must be trusted, and each link
 # of a page leads to a file of its package.
 has_pages() {
-    local package
-    for package in "$scratch"/{libkomihash_rattle-*,rust,'s dist',js/node_modules/komihash_rattle}; do
-        ls "$package"/docs/{CLAIMS,DEFINITIONS}.md && python3 -B scripts/links.py "$package" || return
+    local folder
+    for folder in "$scratch"/{libkomihash_rattle-*,rust,'s dist',js/node_modules/komihash_rattle}; do
+        ls "$folder"/docs/{CLAIMS,DEFINITIONS}.md && python3 -B scripts/links.py "$folder" || return
     done
 }
 made_of_web() {
@@ -84,6 +84,13 @@ without_std() {
     sysroot wasm32-unknown-unknown && in_crate /usr/bin/rustc --target wasm32-unknown-unknown \
         --sysroot "$scratch/wasm32-unknown-unknown" --edition 2024 --crate-type lib \
         --out-dir "$scratch" src/lib.rs
+}
+# Whether a program that links the crate and calls nothing has none of its code, in a debug build.
+calls_nothing() {
+    echo 'use komihash_rattle as _; fn main() {}' > "$scratch/nothing.rs" && in_crate cargo rustc \
+        --offline --lib && rustc --edition 2024 -o "$scratch/nothing" "$scratch/nothing.rs" \
+        --extern "komihash_rattle=$CARGO_TARGET_DIR/debug/libkomihash_rattle.rlib" &&
+        nm -C "$scratch/nothing" > "$scratch/case" && ! grep komihash_rattle:: "$scratch/case"
 }
 pages() {
     RUSTDOCFLAGS='-D warnings' in_crate cargo doc --offline --no-deps --all-features &&
@@ -246,6 +253,7 @@ languages() {
         in_crate cargo clippy --offline --all-features --all-targets -- -D warnings \
         -D clippy::must_use_candidate
     needs rustfmt 'the crate for Rust, by rustfmt' in_crate cargo fmt --check
+    needs 'cargo nm' 'a program has nothing of the crate for Rust uncalled' calls_nothing
     needs "$debian" 'the crate for Rust needs core alone' without_std
     needs 'cargo python3' 'the pages of the crate for Rust' pages
     sources='/usr/bin/cargo /usr/lib/rustlib/src/rust/x.py'

@@ -16,7 +16,7 @@ use crate::{generator, hash, hasher, padding, stream};
 /// The stream of version 4, which hashes bytes that come in pieces.
 ///
 /// However the bytes are cut, the hash is that of [`komihash`]. Pieces of a multiple of 64 bytes
-/// are best, as the type of both versions explains.
+/// are best, as [the type of both versions](stream::streamed::StreamedKomihash) explains.
 ///
 /// ```
 /// use komihash_rattle::v4::{StreamedKomihash, komihash};
@@ -30,8 +30,8 @@ pub type StreamedKomihash = stream::streamed::StreamedKomihash<4>;
 /// The hasher of version 4, which chains the hashes of its writes.
 ///
 /// Its writes are not joined: each replaces its number by the hash of the bytes, with the number
-/// as the seed. Use it for maps alone, whose keys no attacker chooses, as the type of both
-/// versions explains.
+/// as the seed. Use it for maps alone, whose keys no attacker chooses, as
+/// [the type of both versions](hasher::KomiHasher) explains.
 ///
 /// ```
 /// use komihash_rattle::v4::{KomiHasher, komihash};
@@ -56,7 +56,7 @@ pub type KomiBuildHasher = hasher::KomiBuildHasher<4>;
 
 /// The pseudorandom generator of version 4, which is not cryptographic.
 ///
-/// The type of both versions has the rule of a step.
+/// [The type of both versions](generator::Komirand) has the rule of a step.
 ///
 /// ```
 /// use komihash_rattle::v4::Komirand;

@@ -57,14 +57,17 @@ impl IsVersion<4> for Versions {}
 
 impl IsVersion<5> for Versions {}
 
-// Functions that aren't inlined are shared by the crates that call them. So debug builds of callers
-// take those that are compiled for this, and are fast if cargo optimizes their dependencies.
+// Debug builds of callers take the functions that were compiled with this crate, which are fast if
+// cargo optimizes dependencies. With a public function that isn't generic, all that it calls is
+// compiled. Linkers leave out what a program doesn't call.
 #[cfg(debug_assertions)]
-#[used]
-static COMPILED: fn(&mut [u8], &mut [u64]) = |bytes, words| {
-    call_all::<4>(bytes, words);
-    call_all::<5>(bytes, words);
-};
+impl Versions {
+    #[doc(hidden)]
+    pub fn compiled(bytes: &mut [u8], words: &mut [u64]) {
+        call_all::<4>(bytes, words);
+        call_all::<5>(bytes, words);
+    }
+}
 
 #[cfg(debug_assertions)]
 fn call_all<const V: u8>(bytes: &mut [u8], words: &mut [u64])

@@ -21,7 +21,7 @@ use crate::{generator, hash, hasher, padding, stream};
 /// The stream of version 4, which hashes bytes that come in pieces.
 ///
 /// However the bytes are cut, the hash is that of [`komihash`]. Pieces of a multiple of 64 bytes
-/// are best, as the type of both versions explains.
+/// are best, as [the type of both versions](stream::streamed::StreamedKomihash) explains.
 ///
 /// ```
 /// use komihash::v4::{StreamedKomihash, komihash};
@@ -35,8 +35,8 @@ pub type StreamedKomihash = stream::streamed::StreamedKomihash<4>;
 /// The hasher of version 4, which chains the hashes of its writes.
 ///
 /// Its writes are not joined: each replaces its number by the hash of the bytes, with the number
-/// as the seed. In Rust, use it for maps alone, whose keys no attacker chooses, as the type of both
-/// versions explains.
+/// as the seed. In Rust, use it for maps alone, whose keys no attacker chooses, as
+/// [the type of both versions](hasher::KomiHasher) explains.
 ///
 /// ```
 /// use komihash::v4::{KomiHasher, komihash};
@@ -61,7 +61,7 @@ pub type KomiBuildHasher = hasher::KomiBuildHasher<4>;
 
 /// The pseudorandom generator of version 4, which is not cryptographic.
 ///
-/// The type of both versions has the rule of a step.
+/// [The type of both versions](generator::Komirand) has the rule of a step.
 ///
 /// ```
 /// use komihash::v4::Komirand;

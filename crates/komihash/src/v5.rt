@@ -11,7 +11,7 @@ use crate::{generator, hash, hasher, padding, stream};
 /// The stream of version 5, which hashes bytes that come in pieces.
 ///
 /// However the bytes are cut, the hash is that of [`komihash`]. Pieces of a multiple of 64 bytes
-/// are best, as the type of both versions explains.
+/// are best, as [the type of both versions](stream::streamed::StreamedKomihash) explains.
 ///
 /// ```
 /// use komihash::v5::{StreamedKomihash, komihash};
@@ -25,8 +25,8 @@ pub type StreamedKomihash = stream::streamed::StreamedKomihash<5>;
 /// The hasher of version 5, which chains the hashes of its writes.
 ///
 /// Its writes are not joined: each replaces its number by the hash of the bytes, with the number
-/// as the seed. In Rust, use it for maps alone, whose keys no attacker chooses, as the type of both
-/// versions explains.
+/// as the seed. In Rust, use it for maps alone, whose keys no attacker chooses, as
+/// [the type of both versions](hasher::KomiHasher) explains.
 ///
 /// ```
 /// use komihash::v5::{KomiHasher, komihash};
@@ -51,7 +51,7 @@ pub type KomiBuildHasher = hasher::KomiBuildHasher<5>;
 
 /// The pseudorandom generator of version 5, which is not cryptographic.
 ///
-/// The type of both versions has the rule of a step.
+/// [The type of both versions](generator::Komirand) has the rule of a step.
 ///
 /// ```
 /// use komihash::v5::Komirand;
