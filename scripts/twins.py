@@ -6,7 +6,7 @@ from pathlib import Path
 
 CRATES = Path(__file__).resolve().parent.parent / "crates"
 HEAD = re.compile("^//!.*\n", re.MULTILINE)
-NOTE = "// Made of v5.rt by scripts/twins.py, except for the comment above.\n"
+NOTE = "// In Rattle, this is made of v5.rt by scripts/twins.py, except for the comment above.\n"
 IMPLS = re.compile(r"^impl Promises for v4.*?^(?=(impl Promises for v5.*?^}\n))",
                    re.DOTALL | re.MULTILINE)
 VERSION = re.compile(r"((?<![a-zA-Z\d])v|\bversion |<|\b[A-Z]\w+ |\b(?:komi|next|fill|after_\w+) )5"

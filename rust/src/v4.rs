@@ -9,7 +9,6 @@
 //! 128. So tell by longer messages which version made a hash.
 //!
 //! Examples of methods are those of version 5: write `v4` where they have `v5`; outputs differ.
-// Made of v5.rt by scripts/twins.py, except for the comment above.
 
 use crate::{generator, hash, hasher, padding, stream};
 

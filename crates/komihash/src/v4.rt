@@ -8,7 +8,7 @@
 //! 128. So tell by longer messages which version made a hash.
 //!
 //! Examples of methods are those of version 5: write `v4` where they have `v5`; outputs differ.
-// Made of v5.rt by scripts/twins.py, except for the comment above.
+// In Rattle, this is made of v5.rt by scripts/twins.py, except for the comment above.
 
 ghost use Rattle.std.specs.Prelude.{◌≡◌, ◌+◌, ◌*◌, ◌/◌, ◌≤◌, length};
 ghost use Rattle.komihash.specs.Counts.{Costs, hash_products};
