@@ -4,8 +4,10 @@ import array
 import copy
 import gc
 import hashlib
+import importlib
 import inspect
 import io
+import os
 import pickle
 import sys
 import threading
@@ -15,7 +17,7 @@ from concurrent.futures import ThreadPoolExecutor
 from pathlib import Path
 
 import komihash_rattle
-from komihash_rattle import Komirand, komihash, komihash_int, v4, v5
+from komihash_rattle import Komirand, komihash, komihash_digest, komihash_int, v4, v5
 
 LONG = bytes(range(256)) * 4096
 ONE_SHOTS = komihash_int, v5.komihash_digest, v5.komihash_hexdigest
@@ -227,7 +229,7 @@ class Tests(unittest.TestCase):
     def test_other_threads_run_while_many_bytes_are_hashed(self):
         stream = komihash()
         self.addCleanup(sys.setswitchinterval, sys.getswitchinterval())
-        many = LONG[:2048]
+        many = LONG[:2**17]
         for call in lambda: komihash_int(many), lambda: stream.update(many):
             ran = threading.Event()
             began = threading.Lock()
@@ -261,11 +263,23 @@ class Tests(unittest.TestCase):
             parts = {komihash_int(part) for part in threads.map(shared.fill, lengths)}
         self.assertEqual(parts, {komihash_int(alone.fill(length)) for length in lengths})
 
+    @unittest.skipIf(sys.version_info < (3, 12), "older subinterpreters share one lock")
+    def test_isolated_subinterpreters(self):
+        known = "_xxsubinterpreters" if sys.version_info < (3, 13) else "_interpreters"
+        interpreters, (read, write) = importlib.import_module(known), os.pipe()
+        self.addCleanup(os.close, read)
+        interpreters.run_string(interpreters.create(), f"""import os, sys
+sys.path[:] = {sys.path}
+from komihash_rattle import komihash_digest
+os.write({write}, komihash_digest(b"port", 7))""")
+        os.close(write)
+        self.assertEqual(os.read(read, 9), komihash_digest(b"port", 7))
+
     def test_nothing_leaks(self):
         def use():
             seed = int("9" * 19)
             stream = Named("a", seed)
-            stream.update(bytearray(4096))
+            stream.update(bytearray(2**17))
             stream.__init__("a", seed)
             for call in ONE_SHOTS:
                 call(bytearray(8), seed)

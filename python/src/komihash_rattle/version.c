@@ -10,8 +10,9 @@
 #define NAME_OF(name) QUOTED(name)
 #define PACKAGE "komihash_rattle.v" NAME_OF(VERSION) "."
 
-/* From this many bytes on, other threads run while they are hashed. */
-enum { MANY = 2048 };
+/* From this many bytes on, other threads run while they are hashed. One that computes may then go on
+ * for five milliseconds, so fewer bytes take less time without it. */
+enum { MANY = 1 << 17 };
 
 /* A stream, and its seed if it is known, with which `reset` begins. */
 typedef struct {
@@ -231,6 +232,8 @@ static PyObject *resume(PyObject *type, PyObject *args, PyObject *names) {
 
 /* Returns the attributes, which objects of subclasses have, or None. */
 static PyObject *attributes(PyObject *self) {
+    if (!PyType_HasFeature(Py_TYPE(self), Py_TPFLAGS_HAVE_GC)) /* without which there are none */
+        return Py_BuildValue("");
     PyObject *dictionary = PyObject_GetAttrString(self, "__dict__");
     if (dictionary != NULL || !PyErr_ExceptionMatches(PyExc_AttributeError))
         return dictionary;
@@ -349,7 +352,7 @@ static PyMethodDef stream_methods[] = {
     {NULL}};
 
 static PyGetSetDef stream_attributes[] = {
-    {"seed", seed_of, NULL, PyDoc_STR("The seed, or None for a resumed stream."), NULL}, {NULL}};
+    {"seed", seed_of, NULL, PyDoc_STR("The seed, or None if it isn't known."), NULL}, {NULL}};
 
 static PyType_Slot stream_slots[] = {
     {Py_tp_doc, DOC("komihash(data=b'', seed=0, *, usedforsecurity=True)",
@@ -368,7 +371,8 @@ static PyMethodDef generator_methods[] = {
      DOC("words($self)", "Return the state as two ints, which from_words() takes.")},
     {"next", next, METH_NOARGS, DOC("next($self)", "Return the next output, an int below 2**64.")},
     {"fill", fill, METH_O,
-     DOC("fill($self, length, /)", "Return the bytes of the next outputs, the lowest first.")},
+     DOC("fill($self, length, /)",
+         "Return the bytes of the next outputs, the lowest first. What is left of one is dropped.")},
     {"__reduce__", reduce_generator, METH_NOARGS, NULL},
     {NULL}};
 
@@ -412,11 +416,18 @@ static PyMethodDef functions[] = {
     FUNCTION("komihash_hexdigest", as_digits, "16 digits"),
     {NULL}};
 
-static PyModuleDef_Slot slots[] = {{Py_mod_exec, fill_module}, {0}};
+static PyModuleDef_Slot slots[] = {{Py_mod_exec, fill_module}, {0}, {0}};
 static PyModuleDef definition = {PyModuleDef_HEAD_INIT, .m_name = "v" NAME_OF(VERSION),
                                  .m_doc = "Version " NAME_OF(VERSION) " of the hash komihash.",
                                  .m_methods = functions, .m_slots = slots};
 
 #define INIT_OF(version) PyInit_v##version
 #define INIT(version) INIT_OF(version)
-PyMODINIT_FUNC INIT(VERSION)(void) { return PyModuleDef_Init(&definition); }
+PyMODINIT_FUNC INIT(VERSION)(void) {
+#if PY_VERSION_HEX >= 0x030b0000
+    /* Since 3.12, subinterpreters may have a lock each (Py_mod_multiple_interpreters). */
+    if (Py_Version >= 0x030c0000)
+        slots[1] = (PyModuleDef_Slot){3, (void *)2};
+#endif
+    return PyModuleDef_Init(&definition);
+}
