@@ -1,8 +1,8 @@
 // Hashes files in komihash.html in Chromium, and prints what it shows: tests_of_page.mjs URL
 // PROFILE GONE BIG HUGE LIST OTHER.. Chooses GONE and BIG with wrong seeds, and mends the seed.
 // Then it chooses HUGE twice, and stops it by the button, and by dropping the others, whose lines
-// it copies. It checks GONE, BIG and the others by LIST, and BIG alone, also by one hash. At last it
-// drops BIG where lists go, and spoils the hash.
+// it copies. It checks GONE, BIG and the others by LIST, and BIG alone, also by one hash. At last
+// it drops BIG where lists go, spoils the hash, and clears.
 import { spawn } from "node:child_process";
 
 const [url, profile, gone, big, huge, list, ...others] = process.argv.slice(2);
@@ -67,16 +67,22 @@ await run("version.value = 5");
 await choose(0, gone, big, ...others.slice(0, -1));
 await finish();
 console.log(await run('[told, lines, failed, copied].map((it) => it.textContent).join("")'));
+await run("files.onclick()");
 await choose(0, big);
 await finish();
 console.log(await run("failed.textContent.trim()"));
-for (const one of ["", "`\\n ${lines.textContent.match(/[\\da-f]{16}/)} `"]) {
-    await run(`wanted.value = ${one || "''"}, wanted.onchange()`);
+for (const one of ["''", "`\\n ${lines.textContent.match(/[\\da-f]{16}/)} `"]) {
+    await run(`wanted.value = ${one}, wanted.oninput({ inputType: "insertFromPaste" })`);
     await finish();
+    console.log(await run("failed.textContent + lines.textContent.trim()"));
 }
 await drop("wanted", big);
 await finish();
 console.log(await run("failed.textContent + lines.textContent.trim()"));
 await run("wanted.value += 0, wanted.onchange()");
 console.log(await run("`${told.textContent} ${wanted.ariaInvalid}`"));
+await choose("wanted.value = ''", huge);
+await run("document.querySelectorAll('[onclick]')[1].click()");
+await finish();
+console.log(await run("hashing.hidden + failed.textContent + lines.textContent"));
 browser.kill();

@@ -50,9 +50,9 @@ made_of_crate() {
 # Whether packages have the pages that say what the hash is, and what must be trusted, and each link
 # of a page leads to a file of its package.
 has_pages() {
-    local folder
-    for folder in "$scratch"/{libkomihash_rattle-*,rust,'s dist',js/node_modules/komihash_rattle}; do
-        ls "$folder"/docs/{CLAIMS,DEFINITIONS}.md && python3 -B scripts/links.py "$folder" || return
+    local at
+    for at in "$scratch"/{libkomihash_rattle-*,rust,'s dist',js/node_modules/komihash_rattle}; do
+        ls "$at"/docs/{CLAIMS,DEFINITIONS}.md && python3 -B scripts/links.py "$at" || return
     done
 }
 made_of_web() {
@@ -191,20 +191,20 @@ page_in_chromium() {
             > "$scratch/shown" && cd "$files" && diff "$scratch/shown" <(
             printf '%s\n' 'The seed must be a whole number from 0 to 2^64 - 1. true'{,} \
                 'gone: cannot be read' 'progress: true' 'huge: stopped, and all after it' \
-                'Folders are not hashed.' 'huge: stopped, and all after it'
+                'Folders are not hashed.'
             komihashsum big && komihashsum -4 -s 0xA --tag "$odd" empty
             echo false Copied
             komihashsum --check "$scratch/list" 2> "$scratch/case"
-            echo "gone: in no line
+            echo "gone: not in the list
 empty: FAILED, its hash is $(komihashsum -4 -s 0xA empty | cut -c-16)
-
-$odd: not chosen, nor files of 1 other lines"
-            komihashsum --check "$scratch/list" 2> "$scratch/case"
-            echo "big: OK
+3 lines, 2 problems
+${odd//$'\n'/ }: not chosen, nor 1 more
+big: OK
 $(komihashsum big)
 big: OK
 big: OK
-This is neither a line of komihashsum nor one hash: $(komihashsum big | cut -c-16) 0 true"
+This is neither a line of komihashsum nor one hash: $(komihashsum big | cut -c-16) 0 true
+true"
         )
 }
 js_required() {

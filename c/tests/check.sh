@@ -349,8 +349,13 @@ staged() {
         test -z "$(find "$DESTDIR" ! -type l ! -perm 755 ! '(' -type f -perm 644 ')')" &&
         { ! command -v pkg-config ||
             runs_by_package komihash_rattle -std=c11 "$scratch/example.c"; } &&
-        build installcheck && echo '#error spoiled' >> "$DESTDIR/d/include/komihash_rattle.h" &&
-        fails spoiled build installcheck && build uninstall && gone "$DESTDIR"
+        build uninstall && gone "$DESTDIR"
+}
+# Tests what is installed, and that again with another header.
+checked() {
+    export DESTDIR="$scratch/checked" PREFIX=/usr
+    build install && build installcheck && echo '#error spoiled' >> \
+        "$DESTDIR/usr/include/komihash_rattle.h" && fails spoiled build installcheck
 }
 with_shared() {
     build all "OUT=$scratch/linked" && build all LINK_SHARED=yes "OUT=$scratch/linked" &&
@@ -461,6 +466,7 @@ needs cmake 'a build by CMake beside the Makefile' in_place
 
 . ./tests/komihashsum.sh
 run_case 'the paths of the environment' staged
+run_case 'what is installed is tested' checked
 run_case 'make -n check' sh -c '! CASE=none "$0" -n check | grep passed' $MAKE
 run_case 'an empty PREFIX' fails "not ''" build install PREFIX=
 run_case 'a relative PREFIX' fails "not 'here'" build install PREFIX=here
