@@ -56,7 +56,7 @@
 #define KOMIHASH_NONNULL
 #define KOMIHASH_CHECK_RESULT
 #endif
-#if defined(__cplusplus) && (__cplusplus >= 201103L || defined(_MSC_VER))
+#if defined(__cplusplus) && (__cplusplus >= 201103L || (defined(_MSC_VER) && !defined(__clang__)))
 #define KOMIHASH_NOEXCEPT noexcept
 #else
 #define KOMIHASH_NOEXCEPT

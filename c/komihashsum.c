@@ -124,6 +124,7 @@ static char *quote(const char *name) {
 static void show(const char *format, const char *name, const char *problem) {
     char *text = quote(name);
     fprintf(stderr, format, text ? text : "", problem);
+    fflush(stderr); /* which is buffered on Windows */
     free(text);
 }
 
@@ -136,6 +137,7 @@ static bool fail(const char *name, const char *problem) {
 /* Reports what the system refused, and ends the program. */
 static void stop(const char *what) {
     fprintf(stderr, "komihashsum: %s: %s\n", what, strerror(errno));
+    fflush(stderr);
     _exit(1);
 }
 
@@ -184,7 +186,7 @@ static int hash_file(const char *name, struct kind *kind) {
     }
     const int error = length < 0 ? errno : 0;
     if (progress)
-        fputs(CLEAR, stderr);
+        fputs(CLEAR, stderr), fflush(stderr);
     if (file > 0)
         close(file);
     kind->hash = kind->version == 4 ? komihash_v4_finish(&stream_4) : komihash_v5_finish(&stream_5);
@@ -360,6 +362,10 @@ static bool check_list(const char *name) {
     name = number ? name : "standard input";
     for (char *line; (line = read_line(list, &length)); lines++) {
         struct kind kind = given;
+#ifdef _WIN32 /* which marks UTF-8 */
+        if (lines == 0 && strncmp(line, "\xEF\xBB\xBF", 3) == 0)
+            line += 3, length -= 3;
+#endif
         const char *file = parse_line(line, line + length, &kind);
         if (file && (number || strcmp(file, "-")))
             counts[check_file(file, kind)]++;
@@ -435,22 +441,51 @@ static int run(int count, char **arguments) {
 int __wgetmainargs(int *, wchar_t ***, wchar_t ***, int, int *); /* which is documented alone */
 
 static int open_file(const char *name) {
-    static wchar_t wide[32768];
+    static wchar_t wide[32768], path[32768] = L"\\\\?\\";
     wide[MultiByteToWideChar(CP_UTF8, 0, name, -1, wide, 32767)] = 0;
-    return strcmp(name, "-") ? _wopen(wide, _O_RDONLY | _O_BINARY) : 0;
+    if (strcmp(name, "-") == 0)
+        return 0;
+    /* Only with this prefix, Windows opens a path of MAX_PATH characters or more. */
+    const DWORD length = GetFullPathNameW(wide, 32760, path + 4, NULL);
+    const bool is_long = length >= MAX_PATH && length < 32760 && path[4] != L'\\';
+    const wchar_t *const opened = is_long ? path : wide;
+    const int file = _wopen(opened, _O_RDONLY | _O_BINARY);
+    const DWORD about = GetFileAttributesW(opened);
+    if (file < 0 && errno == EINVAL)
+        errno = ENOENT; /* No file may have this name. */
+    if (file < 0 && about != INVALID_FILE_ATTRIBUTES && about & FILE_ATTRIBUTE_DIRECTORY)
+        errno = EISDIR;
+    return file;
+}
+
+static UINT page; /* of the console, and its mode, before this program */
+static DWORD mode;
+static void restore(void) {
+    if (page)
+        SetConsoleOutputCP(page);
+    if (mode)
+        SetConsoleMode(GetStdHandle(STD_ERROR_HANDLE), mode);
 }
 
 int main(void) {
-    int count, mode = 0;
+    int count, new_mode = 0;
     wchar_t **wide, **environment;
-    __wgetmainargs(&count, &wide, &environment, 1, &mode); /* 1 expands `*`, as no shell does. */
+    __wgetmainargs(&count, &wide, &environment, 1, &new_mode); /* 1 expands `*`. */
     char **names = calloc(count + 1, sizeof *names);
     for (int k = 0; names && k < count; k++)
         if ((names[k] = calloc(wcslen(wide[k]) + 1, 3)))
             WideCharToMultiByte(CP_UTF8, 0, wide[k], -1, names[k], 3 * wcslen(wide[k]) + 1, 0, 0);
-    _setmode(0, _O_BINARY);
-    _setmode(1, _O_BINARY);
-    SetConsoleMode(GetStdHandle(STD_ERROR_HANDLE), 7); /* 7 lets a console read CLEAR. */
+    for (int file = 0; file < 3; file++)
+        _setmode(file, _O_BINARY);
+    if (GetConsoleMode(GetStdHandle(STD_ERROR_HANDLE), &mode))
+        SetConsoleMode(GetStdHandle(STD_ERROR_HANDLE), mode | 7); /* 7 lets it read CLEAR. */
+    if ((page = GetConsoleOutputCP())) /* 0 without a console */
+        SetConsoleOutputCP(CP_UTF8);
+    atexit(restore);
+    static char out[8192], errors[8192]; /* so that a console gets whole characters */
+    setvbuf(stdout, out, _IOFBF, sizeof out);
+    setvbuf(stderr, errors, _IOFBF, sizeof errors);
+    __argv[0] = "komihashsum"; /* which getopt_long prints */
     return names ? run(count, names) : 1;
 }
 #else

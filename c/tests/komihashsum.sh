@@ -170,7 +170,13 @@ odd_on_windows() (
     export LC_ALL=C.UTF-8
     mkdir "$scratch/names" && cd "$scratch/names" && printf a > 'жå𝄞.txt' && printf a > b.txt &&
         komihashsum '*.txt' > list && printf '%s\n' "${hash_of_a%-}b.txt" "${hash_of_a%-}жå𝄞.txt" |
-        diff - list && sed 's/$/\r/' list > lines && komihashsum --quiet --check lines
+        diff - list && { printf '\357\273\277'; sed 's/$/\r/' list; } > lines &&
+        [ -z "$(komihashsum --quiet --check lines 2>&1)" ] &&
+        echo "${hash_of_a%-}a?b" | fails 'no file was verified' komihashsum -c --ignore-missing &&
+        mkdir folder && fails '^komihashsum: folder: Is a directory' komihashsum folder &&
+        fails '^komihashsum: unknown option' komihashsum --no &&
+        long=$(printf %140s | tr ' ' x) && mkdir "$long" && printf a > "$long/$long" &&
+        prints "${hash_of_a%-}$long/$long" komihashsum "$long/$long"
 )
 
 # A list in which each line tells its version and its seed.
