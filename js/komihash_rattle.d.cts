@@ -6,7 +6,7 @@ export type Seed = number | bigint;
 
 /** Returns the hash of a message, which is at least 0n and below 2n ** 64n. */
 export function komihash(message: Message, seed?: Seed): bigint;
-/** Returns the same as 16 digits. */
+/** Returns the same as 16 hexadecimal digits. */
 export function komihashHex(message: Message, seed?: Seed): string;
 
 type Version = 4 | 5;
@@ -19,7 +19,7 @@ declare class Stream<V extends Version> {
     update(message: Message): this;
     /** Returns the hash of all bytes so far. The stream may take more. */
     digest(): bigint;
-    /** Returns the same as 16 digits. */
+    /** Returns the same as 16 hexadecimal digits. */
     hexdigest(): string;
     /** Returns the state as at most 131 bytes. */
     save(): Uint8Array;
@@ -52,17 +52,15 @@ declare class Generator<V extends Version> {
     fill<A extends ArrayBufferView | ArrayBufferLike>(data: A): A;
 }
 
-declare class Stream4 extends Stream<4> {}
-declare class Generator4 extends Generator<4> {}
 /** A stream, which takes a message in pieces. */
 export class Komihash extends Stream<5> {}
 /** A pseudorandom generator, which is not for secrets. */
 export class Komirand extends Generator<5> {}
-type Names<S, G> = {
-    komihash: typeof komihash; komihashHex: typeof komihashHex; Komihash: S; Komirand: G;
-};
 /** The names of each version. Those above are of version 5. */
-export const v4: Names<typeof Stream4, typeof Generator4>;
-export const v5: Names<typeof Komihash, typeof Komirand>;
-export namespace v4 { type Komihash = Stream4; type Komirand = Generator4; }
-export namespace v5 { type Komihash = Stream<5>; type Komirand = Generator<5>; }
+export namespace v4 {
+    export { komihash, komihashHex };
+    export class Komihash extends Stream<4> {}
+    export class Komirand extends Generator<4> {}
+}
+export namespace v5 { export { komihash, komihashHex, Komihash, Komirand }; }
+export {}; // Without this, TypeScript exports the rest too.

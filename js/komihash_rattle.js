@@ -2,7 +2,8 @@
 // as WebAssembly. Streams and generators live in JavaScript, and the last that was called in the
 // library's memory, so nothing must be freed.
 
-const binary = Uint8Array.from(atob(webAssembly()), (it) => it.charCodeAt(0));
+const text = atob(webAssembly()), binary = new Uint8Array(text.length);
+for (let at = 0; at < text.length; at++) binary[at] = text.charCodeAt(at);
 const { memory, ...calls } = new WebAssembly.Instance(new WebAssembly.Module(binary)).exports;
 
 // Memory that the library doesn't use: a page for a stream or a generator, and room for a piece of
@@ -25,7 +26,8 @@ const [ofArray, ofDataView] = [arrays, DataView.prototype].map((of) => {
 
 /** Returns an error that says what was wanted, and what was given. */
 function wrong(wanted, given) {
-    const kind = given == null ? given : Object(given) !== given ? `a ${typeof given}` :
+    const kind = given == null || typeof given === "number" ? given :
+        Object(given) !== given ? `a ${typeof given}` :
         `an ${Object.prototype.toString.call(given).slice(1, -1)}`;
     return new TypeError(`${wanted}, and was ${kind}`);
 }
@@ -115,7 +117,7 @@ function version(number) {
             return this;
         }
         digest() { return BigInt.asUintN(64, within(this.#state, finish)); }
-        hexdigest() { return digits(this.digest()); }
+        hexdigest() { return digits(BigInt.asUintN(64, within(this.#state, finish))); }
         save() { return room.slice(0, within(this.#state, save, piece, ROOM)); }
         static resume(saved, ...given) {
             const stream = new this(...given);
