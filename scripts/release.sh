@@ -19,7 +19,8 @@ for name in "${@:2}"; do
         mkdir "$scratch/unpacked"
         tar -xzf "$scratch"/packed/*.tar.gz -C "$scratch/unpacked" --strip-components=1
         python3 -B "$links" "$scratch/unpacked" c
-        make -C "$scratch/unpacked" dist "OUT=$folder/c"
+        make -C "$scratch/unpacked" dist
+        cp "$scratch"/unpacked/out/*.tar.gz "$folder/c"
         ;;
     rust)
         cp -R "$scratch/docs" "$scratch/rust"

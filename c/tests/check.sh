@@ -54,7 +54,10 @@ fails() {
 complete() {
     case ${1##*/} in *.dll.a) kinds=T ;; *) kinds='[TU]' ;; esac
     case ${1##*/} in *.a) flag= ;; *) flag=-D ;; esac
-    case $from$machine in rust[!x]*) other='^(mem(cpy|set)|_GLOBAL_O)[^ ]* U' ;; *) other=^$ ;; esac
+    case $from$machine in
+    rust[!x]*) other='^(mem(cpy|set)|_GLOBAL_O|__aeabi_unwind|\.TOC)[^ ]* U' ;;
+    *) other=^$ ;;
+    esac
     "$NM" -P $flag "$1" | grep -vE "$other" |
         awk -v "kinds=$kinds" '$2 ~ kinds { print $1 }' | sort |
         diff "$scratch/declared" -
@@ -116,12 +119,14 @@ END
 same_elsewhere() {
     for copy in here elsewhere; do
         [ $copy = here ] || sleep 2
-        options="${CFLAGS--O2} -g -ffile-prefix-map=$scratch/$copy=."
+        options="-g -ffile-prefix-map=$scratch/$copy=." linking=
         case $compiler in *clang*) options="$options -fdebug-compilation-dir=." ;; esac
+        # Other compilers may not know what is meant for $CC.
+        [ "$compiler" != "$CC" ] || options="${CFLAGS--O2} $options" linking=${LDFLAGS-}
         rm -rf "$scratch/$copy" && mkdir "$scratch/$copy" &&
             cp -R Makefile *.[ch] *.sh *.rs assembly "$scratch/$copy" &&
             build all -C "$scratch/$copy" OUT=made "CC=$compiler" "crate=$PWD/$crate" \
-                "CFLAGS=$options" || return
+                "CFLAGS=$options" "LDFLAGS=$linking" || return
     done
     for file in $libraries $programs; do
         cmp "$scratch/here/made/$file" "$scratch/elsewhere/made/$file" || return
@@ -199,7 +204,7 @@ END
 by_cmake="$scratch/by 'CMake'"
 cmake_installs() {
     rm -rf "$scratch/c 'make'" "$by_cmake"
-    cmake -B "$scratch/c 'make'" -D "CMAKE_C_COMPILER=$CC" -D "KOMIHASH_RATTLE_FROM=$FROM" \
+    CC="$CC" cmake -B "$scratch/c 'make'" -D "KOMIHASH_RATTLE_FROM=$FROM" \
         ${CROSS:+${exe:+-D CMAKE_SYSTEM_NAME=Windows}} \
         -D "CMAKE_INSTALL_PREFIX=$by_cmake" -D CMAKE_INSTALL_LIBDIR=lib -S "$@" >&2 &&
         cmake --build "$scratch/c 'make'" >&2 && cmake --install "$scratch/c 'make'" >&2
@@ -362,11 +367,15 @@ with_shared() {
         printf a | prints "$hash_of_a" $RUN "$scratch/linked/komihashsum$exe" &&
         "${CROSS}objdump" -p "$scratch/linked/komihashsum$exe" | grep -F "$soname"
 }
+with_shared_by_cmake() {
+    CC="env $CC" by_cmake . -D KOMIHASH_RATTLE_LINK_SHARED=ON &&
+        "${CROSS}objdump" -p "$by_cmake/bin/komihashsum$exe" | grep -F "$soname"
+}
 uninstalled() { build uninstall "PREFIX=$prefix" BUILD_SHARED=no && gone "$prefix"; }
 
+always run_case 'the library is installed' build install "PREFIX=$prefix"
 run_case "programs for $machine run here, or in the emulator that RUN names" \
     $RUN "$OUT/komihashsum$exe" < /dev/null
-always run_case 'the library is installed' build install "PREFIX=$prefix"
 [ "$failed" = 0 ] || { counted; exit 1; }
 run_case 'the numbers in the header are those of its version' test "$version" = \
     "$(sed -n 's/.*_VERSION_[A-Z]* //p' komihash_rattle.h | paste -s -d .)"
@@ -459,6 +468,7 @@ needs cmake 'the static libraries alone' \
     one_kind BUILD_SHARED=no BUILD_SHARED_LIBS=OFF "${linked##*/}"
 run_case 'komihashsum alone is installed' only_the_program
 run_case 'komihashsum with the shared library' with_shared
+needs cmake 'komihashsum with the shared library, by CMake' with_shared_by_cmake
 run_case 'what was built for another machine' other_machine
 run_case 'an older build for AVX2 does not stay, and a shared library is named' older_build
 needs cmake 'another source than rust' other_source
