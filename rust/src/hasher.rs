@@ -39,8 +39,6 @@ where
     /// assert_eq!(hasher.finish(), komihash(b"rt", komihash(b"po", 7)));
     /// ```
     #[must_use]
-    #[cfg_attr(debug_assertions, inline(never))]
-    #[cfg_attr(not(debug_assertions), inline)]
     pub const fn new(seed: u64) -> Self {
         KomiHasher { number: seed }
     }
@@ -51,8 +49,6 @@ where
     Versions: IsVersion<V>,
 {
     /// Returns the hasher of the number 0.
-    #[cfg_attr(debug_assertions, inline(never))]
-    #[cfg_attr(not(debug_assertions), inline)]
     fn default() -> Self {
         KomiHasher::new(0)
     }
@@ -63,8 +59,6 @@ where
     Versions: IsVersion<V>,
 {
     /// Returns the number. The hasher is unchanged, and takes further writes.
-    #[cfg_attr(debug_assertions, inline(never))]
-    #[cfg_attr(not(debug_assertions), inline)]
     fn finish(&self) -> u64 {
         self.number
     }
@@ -105,8 +99,6 @@ where
     /// assert_eq!(ports["https"], 443);
     /// ```
     #[must_use]
-    #[cfg_attr(debug_assertions, inline(never))]
-    #[cfg_attr(not(debug_assertions), inline)]
     pub const fn new(seed: u64) -> Self {
         KomiBuildHasher { seed }
     }
@@ -117,8 +109,6 @@ where
     Versions: IsVersion<V>,
 {
     /// Returns the `BuildHasher` of seed 0.
-    #[cfg_attr(debug_assertions, inline(never))]
-    #[cfg_attr(not(debug_assertions), inline)]
     fn default() -> Self {
         KomiBuildHasher::new(0)
     }
@@ -131,8 +121,6 @@ where
     type Hasher = KomiHasher<V>;
 
     /// Returns the hasher of the seed.
-    #[cfg_attr(debug_assertions, inline(never))]
-    #[cfg_attr(not(debug_assertions), inline)]
     fn build_hasher(&self) -> KomiHasher<V> {
         KomiHasher::new(self.seed)
     }

@@ -51,7 +51,6 @@ where
     /// assert_eq!(START.clone().next(), 0x5555555555555555);
     /// ```
     #[must_use]
-    #[inline]
     pub fn new(s1: u64, s2: u64) -> Self
         ensures { result ≡ (s1, s2) }
     {
@@ -66,7 +65,6 @@ where
     /// assert_eq!(one.next(), other.next());
     /// ```
     #[must_use]
-    #[inline]
     pub fn init(seed: u64) -> Self
         ensures { result ≡ after_steps V 4 (seed, seed) }
     {
@@ -81,7 +79,6 @@ where
     /// assert_ne!(one.next(), other.next());
     /// ```
     #[must_use]
-    #[inline]
     #[tactic(auto, unfolding(crate::specs::Generator::after_steps))]
     pub fn init_with_extra_seed(s1: u64, s2: u64) -> Self
         ensures { result ≡ after_steps V 4 (s1, s2) }
@@ -122,7 +119,6 @@ where
     /// assert!((1..=6).contains(&throw));
     /// ```
     #[allow(clippy::should_implement_trait)]
-    #[inline]
     pub fn next(&mut self) -> u64
         ensures output { result ≡ (next V self.old).0 }
         ensures pair { self.new ≡ next V self.old }
@@ -163,7 +159,6 @@ where
     /// assert_eq!(bytes[..8], first.to_le_bytes());
     /// assert_eq!(bytes[8..], second.to_le_bytes()[..3]);
     /// ```
-    #[inline]
     #[tactic(auto, unfolding(crate::specs::Generator::after_steps))]
     pub fn fill_bytes(&mut self, buffer: &mut [u8])
         ensures bytes { buffer.new ≡ fill V self.old (length buffer.old) }

@@ -158,7 +158,6 @@ pub(crate) fn hash_message<const V: u8>(bytes: &[u8], seed: u64, tally: &mut Tal
 /// assert_ne!(komihash::<4>(&[0x80], 0), komihash::<5>(&[0x80], 0));
 /// ```
 #[must_use]
-#[inline]
 pub fn komihash<const V: u8>(bytes: &[u8], seed: u64) -> u64
 where
     Versions: IsVersion<V>,

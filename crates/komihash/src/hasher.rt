@@ -52,7 +52,6 @@ where
     /// assert_eq!(hasher.finish(), komihash(b"rt", komihash(b"po", 7)));
     /// ```
     #[must_use]
-    #[inline]
     pub fn new(seed: u64) -> Self
         ensures { result ≡ seed }
     {
@@ -67,7 +66,6 @@ where
     ghost is_default = { λ s. s ≡ 0 };
 
     /// Returns the hasher of the number 0.
-    #[inline]
     fn default() -> Self {
         KomiHasher::new(0)
     }
@@ -82,7 +80,6 @@ where
     ghost finish = { λ s. s };
 
     /// Returns the number. The hasher is unchanged, and takes further writes.
-    #[inline]
     fn finish(&self) -> u64 {
         self.number
     }
@@ -135,7 +132,6 @@ where
     /// assert_eq!(ports["https"], 443);
     /// ```
     #[must_use]
-    #[inline]
     pub fn new(seed: u64) -> Self
         ensures { result ≡ seed }
     {
@@ -150,7 +146,6 @@ where
     ghost is_default = { λ s. s ≡ 0 };
 
     /// Returns the `BuildHasher` of seed 0.
-    #[inline]
     fn default() -> Self {
         KomiBuildHasher::new(0)
     }
@@ -165,7 +160,6 @@ where
     ghost build_hasher = { λ seed. seed };
 
     /// Returns the hasher of the seed.
-    #[inline]
     fn build_hasher(&self) -> KomiHasher<V> {
         KomiHasher::new(self.seed)
     }

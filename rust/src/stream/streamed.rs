@@ -45,8 +45,6 @@ where
     /// LOG.lock().unwrap().write(b"port");
     /// ```
     #[must_use]
-    #[cfg_attr(debug_assertions, inline(never))]
-    #[cfg_attr(not(debug_assertions), inline)]
     pub const fn new() -> Self {
         StreamedKomihash::new_with_seed(0)
     }
@@ -62,8 +60,6 @@ where
     /// assert_eq!(stream.finish(), komihash(b"port", 7));
     /// ```
     #[must_use]
-    #[cfg_attr(debug_assertions, inline(never))]
-    #[cfg_attr(not(debug_assertions), inline)]
     pub const fn new_with_seed(seed: u64) -> Self {
         StreamedKomihash::begin(seed)
     }
@@ -119,8 +115,6 @@ where
     /// }
     /// let hash = stream.finish();
     /// ```
-    #[cfg_attr(debug_assertions, inline(never))]
-    #[cfg_attr(not(debug_assertions), inline)]
     pub fn write(&mut self, bytes: &[u8]) {
         self.absorb(bytes);
     }
@@ -135,8 +129,6 @@ where
     /// assert_eq!([stream.finish(), stream.finish()], [komihash(b"port", 0); 2]);
     /// ```
     #[must_use]
-    #[cfg_attr(debug_assertions, inline(never))]
-    #[cfg_attr(not(debug_assertions), inline)]
     pub fn finish(&self) -> u64 {
         self.answer()
     }
@@ -168,8 +160,6 @@ where
     /// assert_eq!(resumed.finish(), komihash(b"port", 0));
     /// ```
     #[must_use]
-    #[cfg_attr(debug_assertions, inline(never))]
-    #[cfg_attr(not(debug_assertions), inline)]
     #[track_caller]
     pub fn save(&self, out: &mut [u8]) -> usize {
         self.store(out)
@@ -184,8 +174,6 @@ where
     /// assert!(stream.is_none());
     /// ```
     #[must_use]
-    #[cfg_attr(debug_assertions, inline(never))]
-    #[cfg_attr(not(debug_assertions), inline)]
     pub fn resume(bytes: &[u8]) -> Option<Self> {
         StreamedKomihash::restore(bytes)
     }
@@ -196,8 +184,6 @@ where
     Versions: IsVersion<V>,
 {
     /// Returns the new stream of seed 0.
-    #[cfg_attr(debug_assertions, inline(never))]
-    #[cfg_attr(not(debug_assertions), inline)]
     fn default() -> Self {
         StreamedKomihash::new()
     }
@@ -209,8 +195,6 @@ where
 {
     const VERSION: u8 = V;
 
-    #[cfg_attr(debug_assertions, inline(never))]
-    #[cfg_attr(not(debug_assertions), inline)]
     fn start(seed: u64) -> Self {
         StreamedKomihash::begin(seed)
     }
@@ -240,8 +224,6 @@ where
         close(pair, first, second)
     }
 
-    #[cfg_attr(debug_assertions, inline(never))]
-    #[cfg_attr(not(debug_assertions), inline)]
     #[track_caller]
     fn store(&self, out: &mut [u8]) -> usize {
         assert!(
@@ -255,8 +237,6 @@ where
         saved::write_pending(&self.pending, out)
     }
 
-    #[cfg_attr(debug_assertions, inline(never))]
-    #[cfg_attr(not(debug_assertions), inline)]
     fn restore(bytes: &[u8]) -> Option<Self> {
         if !saved::is_text::<V>(bytes) {
             return None;

@@ -74,7 +74,6 @@ where
     /// LOG.lock().unwrap().write(b"port");
     /// ```
     #[must_use]
-    #[inline]
     pub fn new() -> Self
         ensures { Started V 0 result.state }
     {
@@ -92,7 +91,6 @@ where
     /// assert_eq!(stream.finish(), komihash(b"port", 7));
     /// ```
     #[must_use]
-    #[inline]
     pub fn new_with_seed(seed: u64) -> Self
         ensures { Started V seed result.state }
     {
@@ -162,7 +160,6 @@ where
     /// }
     /// let hash = stream.finish();
     /// ```
-    #[inline]
     pub fn write(&mut self, bytes: &[u8])
         ensures { Absorbed V (λ stream. stream.state) self bytes.now }
     {
@@ -179,7 +176,6 @@ where
     /// assert_eq!([stream.finish(), stream.finish()], [komihash(b"port", 0); 2]);
     /// ```
     #[must_use]
-    #[inline]
     pub fn finish(&self) -> u64
         ensures { Answered V self.now.state result }
     {
@@ -213,7 +209,6 @@ where
     /// assert_eq!(resumed.finish(), komihash(b"port", 0));
     /// ```
     #[must_use]
-    #[inline]
     #[track_caller]
     pub fn save(&self, out: &mut [u8]) -> usize
         requires { LONGEST_TEXT ≤ length out.old }
@@ -231,7 +226,6 @@ where
     /// assert!(stream.is_none());
     /// ```
     #[must_use]
-    #[inline]
     pub fn resume(bytes: &[u8]) -> Option<Self>
         ensures { Restored V (λ stream. stream.state) bytes.now result }
     {
@@ -246,7 +240,6 @@ where
     ghost is_default = { λ s. Started V 0 s.state };
 
     /// Returns the new stream of seed 0.
-    #[inline]
     fn default() -> Self {
         StreamedKomihash::new()
     }
@@ -262,7 +255,6 @@ where
 
     ghost state = { λ s. s.state };
 
-    #[inline]
     fn start(seed: u64, tally: &mut Tally) -> Self {
         StreamedKomihash::begin(seed, tally)
     }
@@ -301,7 +293,6 @@ where
         close(pair, first, second, tally)
     }
 
-    #[inline]
     #[tactic(auto, unfolding(crate::specs::Saved::text), using(crate::proofs::SavedTexts::store_laws))]
     fn store(&self, out: &mut [u8]) -> usize {
         saved::write_head::<V>(self.had_block, self.top_bit, self.pending.len(), out);
@@ -309,7 +300,6 @@ where
         saved::write_pending(&self.pending, out)
     }
 
-    #[inline]
     #[tactic(auto, unfolding(crate::specs::Saved::IsTextAfter))]
     fn restore(bytes: &[u8]) -> Option<Self> {
         if !saved::is_text::<V>(bytes) {
