@@ -120,9 +120,20 @@ static char *quote(const char *name) {
     return text;
 }
 
+#ifdef _WIN32
+#include <windows.h>
+static void use_console(int output);
+static void restore(void);
+#else
+#define STD_ERROR_HANDLE 2
+static void use_console(int output) { (void)output; }
+static void restore(void) {}
+#endif
+
 /* Prints a name and a problem to standard error. */
 static void show(const char *format, const char *name, const char *problem) {
     char *text = quote(name);
+    use_console(STD_ERROR_HANDLE);
     fprintf(stderr, format, text ? text : "", problem);
     fflush(stderr); /* which is buffered on Windows */
     free(text);
@@ -138,6 +149,7 @@ static bool fail(const char *name, const char *problem) {
 static void stop(const char *what) {
     fprintf(stderr, "komihashsum: %s: %s\n", what, strerror(errno));
     fflush(stderr);
+    restore();
     _exit(1);
 }
 
@@ -425,7 +437,8 @@ static int run(int count, char **arguments) {
     }
     if (option == '?' || !are_allowed())
         return fputs("Try 'komihashsum --help' for more information.\n", stderr), 2;
-    progress = progress && isatty(2);
+    if ((progress = progress && isatty(2)))
+        use_console(STD_ERROR_HANDLE);
     if (optind == count)
         arguments[--optind] = "-";
     bool holds = true;
@@ -441,14 +454,18 @@ static int run(int count, char **arguments) {
 int __wgetmainargs(int *, wchar_t ***, wchar_t ***, int, int *); /* which is documented alone */
 
 static int open_file(const char *name) {
-    static wchar_t wide[32768], path[32768] = L"\\\\?\\";
+    static wchar_t wide[32768], path[32768];
     wide[MultiByteToWideChar(CP_UTF8, 0, name, -1, wide, 32767)] = 0;
     if (strcmp(name, "-") == 0)
         return 0;
     /* Only with this prefix, Windows opens a path of MAX_PATH characters or more. */
-    const DWORD length = GetFullPathNameW(wide, 32760, path + 4, NULL);
-    const bool is_long = length >= MAX_PATH && length < 32760 && path[4] != L'\\';
-    const wchar_t *const opened = is_long ? path : wide;
+    const DWORD length = GetFullPathNameW(wide, 32750, path + 8, NULL);
+    const bool is_share = path[8] == L'\\';
+    const bool is_long = length >= MAX_PATH && length < 32750 &&
+        !(is_share && wcschr(L".?", path[10])); /* which begins a prefix */
+    wchar_t *const opened = !is_long ? wide : is_share ? path + 2 : path + 4;
+    if (is_long)
+        wmemcpy(opened, is_share ? L"\\\\?\\UNC" : L"\\\\?\\", is_share ? 7 : 4);
     const int file = _wopen(opened, _O_RDONLY | _O_BINARY);
     const DWORD about = GetFileAttributesW(opened);
     if (file < 0 && errno == EINVAL)
@@ -466,6 +483,21 @@ static void restore(void) {
     if (mode)
         SetConsoleMode(GetStdHandle(STD_ERROR_HANDLE), mode);
 }
+/* Other programs share the console, so it reads UTF-8 only if this one writes to it. */
+static void use_console(int output) {
+    DWORD old;
+    if (!GetConsoleMode(GetStdHandle(output), &old))
+        return;
+    if (!page && (page = GetConsoleOutputCP()))
+        SetConsoleOutputCP(CP_UTF8);
+    if (progress && !mode)
+        SetConsoleMode(GetStdHandle(output), (mode = old) | 7); /* 7 lets it read CLEAR. */
+}
+static BOOL WINAPI interrupted(DWORD event) {
+    (void)event;
+    restore();
+    return FALSE; /* The next handler ends the program. */
+}
 
 int main(void) {
     int count, new_mode = 0;
@@ -477,11 +509,9 @@ int main(void) {
             WideCharToMultiByte(CP_UTF8, 0, wide[k], -1, names[k], 3 * wcslen(wide[k]) + 1, 0, 0);
     for (int file = 0; file < 3; file++)
         _setmode(file, _O_BINARY);
-    if (GetConsoleMode(GetStdHandle(STD_ERROR_HANDLE), &mode))
-        SetConsoleMode(GetStdHandle(STD_ERROR_HANDLE), mode | 7); /* 7 lets it read CLEAR. */
-    if ((page = GetConsoleOutputCP())) /* 0 without a console */
-        SetConsoleOutputCP(CP_UTF8);
+    use_console(STD_OUTPUT_HANDLE);
     atexit(restore);
+    SetConsoleCtrlHandler(interrupted, TRUE);
     static char out[8192], errors[8192]; /* so that a console gets whole characters */
     setvbuf(stdout, out, _IOFBF, sizeof out);
     setvbuf(stderr, errors, _IOFBF, sizeof errors);

@@ -35,7 +35,7 @@ const { targetId } = await call("Target.createTarget", { url });
 while (await run("document.URL + document.readyState + told.textContent") !== `${url}complete`);
 for (const wrong of ["'0b11'", "2n ** 64n"]) {
     await choose(wrong, gone, big);
-    console.log(await run("`${told.textContent} ${seed.ariaInvalid}`"));
+    console.log(await run("`${told.textContent.trim()} ${seed.ariaInvalid}`"));
 }
 await run(`steps = 0, new MutationObserver((list) => steps += list.length)
     .observe(bar, { attributeFilter: ["value"] })`);

@@ -197,9 +197,8 @@ page_in_chromium() {
             komihashsum --check "$scratch/list" 2> "$scratch/case"
             echo "gone: not in the list
 empty: FAILED, its hash is $(komihashsum -4 -s 0xA empty | cut -c-16)
-3 lines, 2 problems
-${odd//$'\n'/ }: not chosen, nor 1 more
-big: OK
+Lines: 3, problems: 2
+${odd//$'\n'/ }: not chosen, and 1 more
 $(komihashsum big)
 big: OK
 big: OK

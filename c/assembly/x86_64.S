@@ -2,7 +2,7 @@
  * Copyright (c) 2026 the authors of komihash_rattle
  *
  * `make assembly` made this file from the crate for Rust. Do not edit it.
- * Made of: SHA-256 edc3cb179afca36b15843b95709126cab993dc1ea1ee87baf3f6665fe500c623
+ * Made of: SHA-256 528248b162ce65e3fe02f09369b31b27b7f4ee5a6a043f43c73f5549da31f121
  * Options: those of from_rust.sh, and -C no-redzone=yes -Z cf-protection=full -C llvm-args=-align-all-functions=6
  * Compiler: rustc 1.96.0 (ac68faa20 2026-05-25) (built from a source tarball)
  */

@@ -57,10 +57,10 @@ impl IsVersion<4> for Versions {}
 
 impl IsVersion<5> for Versions {}
 
-// Debug builds of callers take the functions that were compiled with this crate, which are fast if
-// cargo optimizes dependencies. With a public function that isn't generic, all that it calls is
-// compiled. Linkers leave out what a program doesn't call.
-#[cfg(debug_assertions)]
+// Callers share the functions that were compiled with this crate, unless they are inlined, and in
+// debug builds, these are fast if cargo optimizes dependencies. With a public function that isn't
+// generic, all that it calls is compiled. Linkers leave out what a program doesn't call.
+#[cfg(not(for_c))]
 impl Versions {
     #[doc(hidden)]
     pub fn compiled(bytes: &mut [u8], words: &mut [u64]) {
@@ -69,7 +69,7 @@ impl Versions {
     }
 }
 
-#[cfg(debug_assertions)]
+#[cfg(not(for_c))]
 fn call_all<const V: u8>(bytes: &mut [u8], words: &mut [u64])
 where
     Versions: IsVersion<V>,
