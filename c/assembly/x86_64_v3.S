@@ -2,7 +2,7 @@
  * Copyright (c) 2026 the authors of komihash_rattle
  *
  * `make assembly` made this file from the crate for Rust. Do not edit it.
- * Made of: SHA-256 528248b162ce65e3fe02f09369b31b27b7f4ee5a6a043f43c73f5549da31f121
+ * Made of: SHA-256 ea6d38773479b06ea1ab88a658148abc5095cfeb7498172967bf32d58e5c593b
  * Options: those of from_rust.sh, and -C no-redzone=yes -Z cf-protection=full -C target-cpu=x86-64-v3
  * Compiler: rustc 1.96.0 (ac68faa20 2026-05-25) (built from a source tarball)
  */

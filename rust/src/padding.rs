@@ -58,6 +58,8 @@ pub(crate) fn final_word_of_many(bytes: &[u8], end: u64) -> u64 {
 /// assert_eq!(pad::<5>(&[0x80], &mut words), 1);
 /// assert_eq!(words, [0x0180]);
 /// ```
+#[cfg_attr(debug_assertions, inline(never))]
+#[cfg_attr(not(debug_assertions), inline)]
 #[track_caller]
 pub fn pad<const V: u8>(bytes: &[u8], out: &mut [u64]) -> usize
 where
@@ -140,6 +142,8 @@ fn message_length<const V: u8>(words: &[u64]) -> Option<usize> {
 /// assert_eq!(unpad::<5>(&[0x0280], &mut message), None);
 /// ```
 #[must_use]
+#[cfg_attr(debug_assertions, inline(never))]
+#[cfg_attr(not(debug_assertions), inline)]
 #[track_caller]
 pub fn unpad<const V: u8>(words: &[u64], out: &mut [u8]) -> Option<usize>
 where

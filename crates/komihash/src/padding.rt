@@ -85,6 +85,7 @@ pub(crate) fn final_word_of_many(bytes: &[u8], end: u64) -> u64
 /// assert_eq!(words, [0x0180]);
 /// ```
 #[tactic(auto, using(crate::proofs::PaddedWords::pad_laws))]
+#[inline]
 pub fn pad<const V: u8>(bytes: &[u8], out: &mut [u64]) -> usize
 where
     Versions: IsVersion<V>,
@@ -195,6 +196,7 @@ fn message_length<const V: u8>(words: &[u64]) -> Option<usize>
 /// ```
 #[must_use]
 #[tactic(auto, using(crate::proofs::Unpadding::unpad_laws))]
+#[inline]
 pub fn unpad<const V: u8>(words: &[u64], out: &mut [u8]) -> Option<usize>
 where
     Versions: IsVersion<V>,

@@ -161,6 +161,8 @@ where
     /// ```
     #[must_use]
     #[track_caller]
+    #[cfg_attr(debug_assertions, inline(never))]
+    #[cfg_attr(not(debug_assertions), inline)]
     pub fn save(&self, out: &mut [u8]) -> usize {
         self.store(out)
     }
@@ -174,6 +176,8 @@ where
     /// assert!(stream.is_none());
     /// ```
     #[must_use]
+    #[cfg_attr(debug_assertions, inline(never))]
+    #[cfg_attr(not(debug_assertions), inline)]
     pub fn resume(bytes: &[u8]) -> Option<Self> {
         StreamedKomihash::restore(bytes)
     }
@@ -224,6 +228,8 @@ where
         close(pair, first, second)
     }
 
+    #[cfg_attr(debug_assertions, inline(never))]
+    #[cfg_attr(not(debug_assertions), inline)]
     #[track_caller]
     fn store(&self, out: &mut [u8]) -> usize {
         assert!(
@@ -237,6 +243,8 @@ where
         saved::write_pending(&self.pending, out)
     }
 
+    #[cfg_attr(debug_assertions, inline(never))]
+    #[cfg_attr(not(debug_assertions), inline)]
     fn restore(bytes: &[u8]) -> Option<Self> {
         if !saved::is_text::<V>(bytes) {
             return None;

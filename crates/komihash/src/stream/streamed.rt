@@ -210,6 +210,7 @@ where
     /// ```
     #[must_use]
     #[track_caller]
+    #[inline]
     pub fn save(&self, out: &mut [u8]) -> usize
         requires { LONGEST_TEXT ≤ length out.old }
         ensures { Stored V self.now.state out result }
@@ -226,6 +227,7 @@ where
     /// assert!(stream.is_none());
     /// ```
     #[must_use]
+    #[inline]
     pub fn resume(bytes: &[u8]) -> Option<Self>
         ensures { Restored V (λ stream. stream.state) bytes.now result }
     {
@@ -294,6 +296,7 @@ where
     }
 
     #[tactic(auto, unfolding(crate::specs::Saved::text), using(crate::proofs::SavedTexts::store_laws))]
+    #[inline]
     fn store(&self, out: &mut [u8]) -> usize {
         saved::write_head::<V>(self.had_block, self.top_bit, self.pending.len(), out);
         saved::write_lanes(&self.lanes, out);
@@ -301,6 +304,7 @@ where
     }
 
     #[tactic(auto, unfolding(crate::specs::Saved::IsTextAfter))]
+    #[inline]
     fn restore(bytes: &[u8]) -> Option<Self> {
         if !saved::is_text::<V>(bytes) {
             return None;
