@@ -25,7 +25,7 @@ async function run(expression) {
     return result.value ?? result.objectId;
 }
 const choose = async (seed, ...files) => call("DOM.setFileInputFiles",
-    { files, objectId: await run(`seed.value = ${seed}, files`) });
+    { files, objectId: await run(`seed.value = ${seed}, files.onclick(), files`) });
 const finish = async () => { while (await run("!hashing.hidden")); };
 
 await call("Browser.grantPermissions",
@@ -67,7 +67,6 @@ await run("version.value = 5");
 await choose(0, gone, big, ...others.slice(0, -1));
 await finish();
 console.log(await run('[told, lines, failed, copied].map((it) => it.textContent).join("")'));
-await run("files.onclick()");
 await choose(0, big);
 await finish();
 console.log(await run("failed.textContent.trim()"));
