@@ -125,6 +125,7 @@ same_elsewhere() {
         [ "$compiler" != "$CC" ] || options="${CFLAGS--O2} $options" linking=${LDFLAGS-}
         rm -rf "$scratch/$copy" && mkdir "$scratch/$copy" &&
             cp -R Makefile *.[ch] *.sh *.rs assembly "$scratch/$copy" &&
+            chmod -R u+w "$scratch/$copy" &&
             build all -C "$scratch/$copy" OUT=made "CC=$compiler" "crate=$PWD/$crate" \
                 "CFLAGS=$options" "LDFLAGS=$linking" || return
     done
@@ -310,8 +311,9 @@ END
         cat "$by_cmake"/*/"$soname" > "$scratch/library" && $RUN "$by_cmake/bin/original$exe"
 }
 cmake_for_arm() {
-    cmake -B "$scratch/for arm" -D CMAKE_C_COMPILER=clang -D CMAKE_SYSTEM_NAME=Linux \
-        -D CMAKE_C_COMPILER_TARGET=aarch64-linux-gnu && cmake --build "$scratch/for arm"
+    CFLAGS='' CPPFLAGS='' LDFLAGS='' cmake -B "$scratch/for arm" -D CMAKE_C_COMPILER=clang \
+        -D CMAKE_SYSTEM_NAME=Linux -D CMAKE_C_COMPILER_TARGET=aarch64-linux-gnu &&
+        cmake --build "$scratch/for arm"
 }
 in_place() {
     mkdir "$scratch/place" && cp CMakeLists.txt komihash_rattle.h "$scratch/place" &&
@@ -320,6 +322,10 @@ in_place() {
 for_host() {
     printf '#!/bin/sh\necho sun4-linux\n' > "$scratch/cc" && chmod +x "$scratch/cc" &&
         PATH=$scratch:$PATH sh from_rust.sh "$crate" sun4-linux "$scratch/host.o"
+}
+not_shared() {
+    fails 'needs the shared library' \
+        cmake_installs . -D KOMIHASH_RATTLE_LINK_SHARED=ON -D BUILD_SHARED_LIBS=OFF
 }
 other_source() { FROM=assembly fails 'may be rust' cmake_installs .; }
 other_machine() {
@@ -427,7 +433,7 @@ if [ ! "$CROSS" ]; then
         ! ls none' "$scratch/ctest"
     needs 'cmake clang aarch64-linux-gnu-gcc' 'a target of clang, by CMake' cmake_for_arm
     needs 'clang aarch64-linux-gnu-gcc' 'a target of clang' build all "OUT=$scratch/arm" \
-        'CC=clang --target=aarch64-linux-gnu' CFLAGS=-Werror FROM=
+        'CC=clang --target=aarch64-linux-gnu' CFLAGS=-Werror CPPFLAGS= LDFLAGS= FROM=
     name='a machine that rustc calls otherwise'
     if rustc --version 2> "$scratch/case" |
         awk -F '[ .]' '{ new = $2 > 1 || $3 > 87 } END { exit !new }'; then
@@ -472,6 +478,7 @@ needs cmake 'komihashsum with the shared library, by CMake' with_shared_by_cmake
 run_case 'what was built for another machine' other_machine
 run_case 'an older build for AVX2 does not stay, and a shared library is named' older_build
 needs cmake 'another source than rust' other_source
+needs cmake 'a program that needs a library which is left out' not_shared
 needs cmake 'a build by CMake beside the Makefile' in_place
 
 . ./tests/komihashsum.sh
