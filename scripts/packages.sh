@@ -191,18 +191,19 @@ page_in_chromium() {
             > "$scratch/shown" && cd "$files" && diff "$scratch/shown" <(
             printf '%s\n' 'The seed must be a whole number from 0 to 2^64 - 1. true'{,} \
                 'gone: cannot be read' 'progress: true' 'huge: stopped, and all after it' \
-                'Folders are not hashed.' 'huge: stopped'
+                'Folders are not hashed.' 'huge: stopped, and all after it'
             komihashsum big && komihashsum -4 -s 0xA --tag "$odd" empty
             echo false Copied
             komihashsum --check "$scratch/list" 2> "$scratch/case"
             echo "gone: not in the list
 empty: FAILED, its hash is $(komihashsum -4 -s 0xA empty | cut -c-16)
 Lines: 3, problems: 2
-${odd//$'\n'/ }: not checked, and 1 more
+${odd//$'\n'/ }: not checked
+empty: not checked
 $(komihashsum big)
 big: OK
 big: OK
-Lines of komihashsum, or a single hash, are needed, not: $(komihashsum big | cut -c-16) 0 true
+Needed: lines of komihashsum, or one hash alone, not: $(komihashsum big | cut -c-16) 0 true
 true"
         )
 }
