@@ -60,6 +60,7 @@ install_file() {
         chmod "$1" "$target"
     fi
 }
+
 # Removes a file, and its folder if that is empty and has the name of this library.
 uninstall_file() {
     target=${DESTDIR-}$3

@@ -120,7 +120,7 @@ static char *quote(const char *name) {
     return text;
 }
 
-#ifdef _WIN32
+#ifdef _WIN32 /* whose consoles are prepared to be written to, and restored */
 #include <windows.h>
 static void use_console(int output);
 static void restore(void);
@@ -412,8 +412,8 @@ static bool set_seed(const char *text) {
     given.seed = strtoull(text, &end, strncmp(text, "0x", 2) == 0 ? 16 : 10);
     if (text[0] >= '0' && text[0] <= '9' && !*end && errno == 0)
         return true;
-    show("komihashsum: --seed=%s must be decimal digits, or hexadecimal ones %s\n", text,
-        "after 0x, and below 2^64");
+    show("komihashsum: --seed=%s must be %s\n", text,
+        "decimal digits, or hexadecimal ones after 0x, and below 2^64");
     return false;
 }
 
@@ -450,7 +450,6 @@ static int run(int count, char **arguments) {
 }
 
 #ifdef _WIN32 /* Names are UTF-8 in this program, and UTF-16 for the system. */
-#include <windows.h>
 int __wgetmainargs(int *, wchar_t ***, wchar_t ***, int, int *); /* which is documented alone */
 
 static int open_file(const char *name) {
@@ -520,9 +519,11 @@ int main(void) {
 }
 #else
 static int open_file(const char *name) {
-    int file = strcmp(name, "-") ? open(name, O_RDONLY) : 0;
-    if (file == 0 && strcmp(name, "-")) { /* the number of standard input, which is closed */
-        file = dup(file);
+    if (strcmp(name, "-") == 0)
+        return 0;
+    int file = open(name, O_RDONLY);
+    if (file == 0) { /* the number of standard input, which is closed */
+        file = dup(0);
         close(0);
     }
     return file;

@@ -373,7 +373,7 @@ with_shared() {
         printf a | prints "$hash_of_a" $RUN "$scratch/linked/komihashsum$exe" &&
         "${CROSS}objdump" -p "$scratch/linked/komihashsum$exe" | grep -F "$soname"
 }
-with_shared_by_cmake() {
+with_shared_by_cmake() { # by a compiler with an argument, as `ccache gcc`
     CC="env $CC" by_cmake . -D KOMIHASH_RATTLE_LINK_SHARED=ON &&
         "${CROSS}objdump" -p "$by_cmake/bin/komihashsum$exe" | grep -F "$soname"
 }

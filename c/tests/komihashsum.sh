@@ -156,6 +156,10 @@ shows_progress() (
         grep -F "$clear$(komihashsum "$odd")" "$scratch/shown" &&
         ! komihashsum --progress "$odd" 2>&1 | grep -F "$clear"
 )
+sanitizes() {
+    echo 'int main(void) { return 0; }' | $CC -fsanitize=address,undefined -x c \
+        -o "$scratch/sanitized" - && "$scratch/sanitized"
+}
 # Whether lists whose lines fill the memory for them are read within it.
 within_memory() {
     $CC -g -fsanitize=address,undefined -I. -o "$scratch/sanitized" komihashsum.c "$archive" &&
@@ -249,10 +253,10 @@ else
     [ "$CROSS" ] || needs script 'komihashsum, progress on a terminal alone' shows_progress
 fi
 name='komihashsum, lines that fill the memory for them'
-if [ "$CROSS" ]; then :; elif echo 'int main(void) { return 0; }' |
-    $CC -fsanitize=address,undefined -x c -o "$scratch/sanitized" - 2> "$scratch/case" &&
-    "$scratch/sanitized" 2> "$scratch/case"; then run_case "$name" within_memory; else
-    skip "$name" 'libasan and libubsan'
+if [ ! "$CROSS" ]; then
+    if sanitizes 2> "$scratch/case"; then run_case "$name" within_memory; else
+        skip "$name" 'libasan and libubsan'
+    fi
 fi
 [ "$CROSS" ] || needs help2man 'the manual is made of what komihashsum prints' manual_is_made
 needs mandoc 'the manual has no warnings' mandoc -Tlint -W warning komihashsum.1
