@@ -2,7 +2,7 @@
  * Copyright (c) 2026 the authors of komihash_rattle
  *
  * `make assembly` made this file from the crate for Rust. Do not edit it.
- * Made of: SHA-256 ea6d38773479b06ea1ab88a658148abc5095cfeb7498172967bf32d58e5c593b
+ * Made of: SHA-256 ddfe124f43bbe66f08f171ac56cf354117e61c4ff0546d8e766e76239b33be76
  * Options: those of from_rust.sh, and -C no-redzone=yes -Z branch-protection=bti
  * Compiler: rustc 1.96.0 (ac68faa20 2026-05-25) (built from a source tarball)
  */
@@ -2485,7 +2485,7 @@ komihash_v4_pad:
 	ret
 .LBB17_18:
 	.cfi_restore_state
-	bl	_RNvNtCs2DxGA1hvVcO_4core9panicking5panic
+	bl	_RNvNtCs2DxGA1hvVcO_4core6option13unwrap_failed
 .LBB17_19:
 	mov	x0, x8
 	bl	_RNvNtCs2DxGA1hvVcO_4core9panicking18panic_bounds_check
@@ -3643,7 +3643,7 @@ komihash_v5_pad:
 	ret
 .LBB30_17:
 	.cfi_restore_state
-	bl	_RNvNtCs2DxGA1hvVcO_4core9panicking5panic
+	bl	_RNvNtCs2DxGA1hvVcO_4core6option13unwrap_failed
 .Lfunc_end30:
 	.size	komihash_v5_pad, .Lfunc_end30-komihash_v5_pad
 	.cfi_endproc
@@ -4446,15 +4446,31 @@ _RNvNtNtCs2DxGA1hvVcO_4core5slice5index16slice_index_fail:
 	.size	_RNvNtNtCs2DxGA1hvVcO_4core5slice5index16slice_index_fail, .Lfunc_end39-_RNvNtNtCs2DxGA1hvVcO_4core5slice5index16slice_index_fail
 	.cfi_endproc
 
+	.section	.text.unlikely._RNvNtCs2DxGA1hvVcO_4core6option13unwrap_failed,"ax",@progbits
+	.p2align	2
+	.type	_RNvNtCs2DxGA1hvVcO_4core6option13unwrap_failed,@function
+_RNvNtCs2DxGA1hvVcO_4core6option13unwrap_failed:
+	.cfi_startproc
+	stp	x29, x30, [sp, #-16]!
+	.cfi_def_cfa_offset 16
+	mov	x29, sp
+	.cfi_def_cfa w29, 16
+	.cfi_offset w30, -8
+	.cfi_offset w29, -16
+	bl	_RNvNtCs2DxGA1hvVcO_4core9panicking5panic
+.Lfunc_end40:
+	.size	_RNvNtCs2DxGA1hvVcO_4core6option13unwrap_failed, .Lfunc_end40-_RNvNtCs2DxGA1hvVcO_4core6option13unwrap_failed
+	.cfi_endproc
+
 	.section	.text.unlikely._RNvNtCs2DxGA1hvVcO_4core9panicking9panic_fmt,"ax",@progbits
 	.p2align	2
 	.type	_RNvNtCs2DxGA1hvVcO_4core9panicking9panic_fmt,@function
 _RNvNtCs2DxGA1hvVcO_4core9panicking9panic_fmt:
 	.cfi_startproc
-.LBB40_1:
-	b	.LBB40_1
-.Lfunc_end40:
-	.size	_RNvNtCs2DxGA1hvVcO_4core9panicking9panic_fmt, .Lfunc_end40-_RNvNtCs2DxGA1hvVcO_4core9panicking9panic_fmt
+.LBB41_1:
+	b	.LBB41_1
+.Lfunc_end41:
+	.size	_RNvNtCs2DxGA1hvVcO_4core9panicking9panic_fmt, .Lfunc_end41-_RNvNtCs2DxGA1hvVcO_4core9panicking9panic_fmt
 	.cfi_endproc
 
 	.section	.text.unlikely._RNvNtCs2DxGA1hvVcO_4core9panicking18panic_bounds_check,"ax",@progbits
@@ -4468,8 +4484,8 @@ _RNvNtCs2DxGA1hvVcO_4core9panicking18panic_bounds_check:
 	.cfi_offset w30, -8
 	.cfi_offset w29, -16
 	bl	_RNvNtCs2DxGA1hvVcO_4core9panicking9panic_fmt
-.Lfunc_end41:
-	.size	_RNvNtCs2DxGA1hvVcO_4core9panicking18panic_bounds_check, .Lfunc_end41-_RNvNtCs2DxGA1hvVcO_4core9panicking18panic_bounds_check
+.Lfunc_end42:
+	.size	_RNvNtCs2DxGA1hvVcO_4core9panicking18panic_bounds_check, .Lfunc_end42-_RNvNtCs2DxGA1hvVcO_4core9panicking18panic_bounds_check
 	.cfi_endproc
 
 	.section	.text.unlikely._RNvNtCs2DxGA1hvVcO_4core9panicking5panic,"ax",@progbits
@@ -4484,8 +4500,8 @@ _RNvNtCs2DxGA1hvVcO_4core9panicking5panic:
 	.cfi_offset w30, -8
 	.cfi_offset w29, -16
 	bl	_RNvNtCs2DxGA1hvVcO_4core9panicking9panic_fmt
-.Lfunc_end42:
-	.size	_RNvNtCs2DxGA1hvVcO_4core9panicking5panic, .Lfunc_end42-_RNvNtCs2DxGA1hvVcO_4core9panicking5panic
+.Lfunc_end43:
+	.size	_RNvNtCs2DxGA1hvVcO_4core9panicking5panic, .Lfunc_end43-_RNvNtCs2DxGA1hvVcO_4core9panicking5panic
 	.cfi_endproc
 
 	.globl	komihash_v5_init

@@ -2,7 +2,7 @@
  * Copyright (c) 2026 the authors of komihash_rattle
  *
  * `make assembly` made this file from the crate for Rust. Do not edit it.
- * Made of: SHA-256 ea6d38773479b06ea1ab88a658148abc5095cfeb7498172967bf32d58e5c593b
+ * Made of: SHA-256 ddfe124f43bbe66f08f171ac56cf354117e61c4ff0546d8e766e76239b33be76
  * Options: those of from_rust.sh, and -C no-redzone=yes -Z cf-protection=full -C target-cpu=x86-64-v3
  * Compiler: rustc 1.96.0 (ac68faa20 2026-05-25) (built from a source tarball)
  */
@@ -2346,7 +2346,7 @@ komihash_v4_pad:
 	retq
 .LBB17_25:
 	.cfi_def_cfa_offset 16
-	callq	_RNvNtCs2DxGA1hvVcO_4core9panicking5panic
+	callq	_RNvNtCs2DxGA1hvVcO_4core6option13unwrap_failed
 .LBB17_26:
 	movq	%rcx, %rdi
 	xorl	%esi, %esi
@@ -3478,7 +3478,7 @@ komihash_v5_pad:
 .LBB30_6:
 	pushq	%rax
 	.cfi_def_cfa_offset 16
-	callq	_RNvNtCs2DxGA1hvVcO_4core9panicking5panic
+	callq	_RNvNtCs2DxGA1hvVcO_4core6option13unwrap_failed
 .LBB30_12:
 	.cfi_def_cfa_offset 8
 	movq	(%rdi,%rcx,8), %r9
@@ -4315,6 +4315,18 @@ _RNvNtCs2DxGA1hvVcO_4core9panicking5panic:
 	callq	_RNvNtCs2DxGA1hvVcO_4core9panicking9panic_fmt
 .Lfunc_end42:
 	.size	_RNvNtCs2DxGA1hvVcO_4core9panicking5panic, .Lfunc_end42-_RNvNtCs2DxGA1hvVcO_4core9panicking5panic
+	.cfi_endproc
+
+	.section	.text.unlikely._RNvNtCs2DxGA1hvVcO_4core6option13unwrap_failed,"ax",@progbits
+	.p2align	4
+	.type	_RNvNtCs2DxGA1hvVcO_4core6option13unwrap_failed,@function
+_RNvNtCs2DxGA1hvVcO_4core6option13unwrap_failed:
+	.cfi_startproc
+	pushq	%rax
+	.cfi_def_cfa_offset 16
+	callq	_RNvNtCs2DxGA1hvVcO_4core9panicking5panic
+.Lfunc_end43:
+	.size	_RNvNtCs2DxGA1hvVcO_4core6option13unwrap_failed, .Lfunc_end43-_RNvNtCs2DxGA1hvVcO_4core6option13unwrap_failed
 	.cfi_endproc
 
 	.globl	komihash_v5_rand_init_words

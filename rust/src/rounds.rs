@@ -141,7 +141,7 @@ fn block_words(block: &[u8; 64]) -> [u64; 8] {
 /// lanes and the same remainder as absorbing all of `bytes` at once.
 #[inline(always)]
 pub(crate) fn absorb_first_block<'a, const V: u8>(lanes: &mut Lanes, bytes: &'a [u8]) -> &'a [u8] {
-    let Some((block, rest)) = bytes.split_first_chunk::<64>() else { unreachable!() };
+    let (block, rest) = bytes.split_first_chunk::<64>().unwrap();
     let words = block_words(block);
     block_round(lanes, &words, places::<V>());
     rest

@@ -3,8 +3,7 @@
 
 #[inline(always)]
 pub(crate) fn read_word(bytes: &[u8]) -> u64 {
-    let Some(word) = bytes.first_chunk::<8>() else { unreachable!() };
-    u64::from_le_bytes(*word)
+    u64::from_le_bytes(*bytes.first_chunk().unwrap())
 }
 
 #[inline(always)]
@@ -15,8 +14,7 @@ pub(crate) fn word_at(bytes: &[u8], at: usize) -> u64 {
 /// Returns the word of the last eight bytes.
 #[inline(always)]
 pub(crate) fn last_word(bytes: &[u8]) -> u64 {
-    let Some(word) = bytes.last_chunk::<8>() else { unreachable!() };
-    u64::from_le_bytes(*word)
+    u64::from_le_bytes(*bytes.last_chunk().unwrap())
 }
 
 #[inline(always)]
@@ -52,16 +50,13 @@ pub(crate) fn read_partial_word(bytes: &[u8], end: u64) -> u64 {
 /// Assigns an array, which is one store.
 #[inline(always)]
 pub(crate) fn write_word(word: u64, out: &mut [u8]) {
-    let Some(chunk) = out.first_chunk_mut::<8>() else { unreachable!() };
-    *chunk = word.to_le_bytes();
+    *out.first_chunk_mut().unwrap() = word.to_le_bytes();
 }
 
 // Fills `out` with bytes, N of both. Like `write_word`, it assigns an array.
 #[inline(always)]
 fn copy_array<const N: usize>(bytes: &[u8], out: &mut [u8]) {
-    let Some(array) = bytes.first_chunk::<N>() else { unreachable!() };
-    let Some(chunk) = out.first_chunk_mut::<N>() else { unreachable!() };
-    *chunk = *array;
+    *out.first_chunk_mut::<N>().unwrap() = *bytes.first_chunk().unwrap();
 }
 
 /// Fills `out`, of at most seven bytes, with the lowest bytes of a word.

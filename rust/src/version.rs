@@ -63,7 +63,7 @@ impl IsVersion<5> for Versions {}
 #[cfg(not(for_c))]
 impl Versions {
     #[doc(hidden)]
-    pub fn compiled(bytes: &mut [u8], words: &mut [u64]) {
+    pub fn __compiled(bytes: &mut [u8], words: &mut [u64]) {
         call_all::<4>(bytes, words);
         call_all::<5>(bytes, words);
     }

@@ -234,9 +234,7 @@ pub(crate) fn absorb_first_block<'a, const V: u8>(
         ≡ block_lanes V lanes.old (whole_words bytes.now) }
     ensures costs { Costs tally 4 0 }
 {
-    let Some((block, rest)) = bytes.split_first_chunk::<64>() else {
-        unreachable!()
-    };
+    let (block, rest) = bytes.split_first_chunk::<64>().unwrap();
     let words = block_words(block);
     block_round(lanes, &words, places::<V>(), tally);
     rest

@@ -15,10 +15,7 @@ pub(crate) fn read_word(bytes: &[u8]) -> u64
     requires { 8 ≤ length bytes.now }
     ensures { result ≡ word_of (take 8 bytes.now) }
 {
-    let Some(word) = bytes.first_chunk::<8>() else {
-        unreachable!()
-    };
-    u64::from_le_bytes(*word)
+    u64::from_le_bytes(*bytes.first_chunk().unwrap())
 }
 
 #[inline(always)]
@@ -35,10 +32,7 @@ pub(crate) fn last_word(bytes: &[u8]) -> u64
     requires { 8 ≤ length bytes.now }
     ensures { result ≡ word_of (take 8 (drop (length bytes.now - 8) bytes.now)) }
 {
-    let Some(word) = bytes.last_chunk::<8>() else {
-        unreachable!()
-    };
-    u64::from_le_bytes(*word)
+    u64::from_le_bytes(*bytes.last_chunk().unwrap())
 }
 
 #[inline(always)]
@@ -86,10 +80,7 @@ pub(crate) fn write_word(word: u64, out: &mut [u8])
     requires { length out.old ≡ 8 }
     ensures { out.new ≡ to_le_bytes w64 word }
 {
-    let Some(chunk) = out.first_chunk_mut::<8>() else {
-        unreachable!()
-    };
-    *chunk = word.to_le_bytes();
+    *out.first_chunk_mut().unwrap() = word.to_le_bytes();
 }
 
 // Fills `out` with bytes, N of both. Like `write_word`, it assigns an array.
@@ -99,13 +90,7 @@ fn copy_array<const N: usize>(bytes: &[u8], out: &mut [u8])
     requires out { length out.old ≡ N }
     ensures { out.new ≡ bytes.now }
 {
-    let Some(array) = bytes.first_chunk::<N>() else {
-        unreachable!()
-    };
-    let Some(chunk) = out.first_chunk_mut::<N>() else {
-        unreachable!()
-    };
-    *chunk = *array;
+    *out.first_chunk_mut::<N>().unwrap() = *bytes.first_chunk().unwrap();
 }
 
 /// Fills `out`, of at most seven bytes, with the lowest bytes of a word.

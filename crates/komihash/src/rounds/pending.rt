@@ -229,23 +229,15 @@ fn complete_block(words: &mut [u64; 8], len: usize, bytes: &[u8])
     let over_16 = bytes.len() > 16;
     if over_32 {
         let next = len / 8 % 4 + 1;
-        let Some(front) = bytes.first_chunk::<32>() else {
-            unreachable!()
-        };
-        let Some(back) = bytes.last_chunk::<32>() else {
-            unreachable!()
-        };
+        let front = bytes.first_chunk::<32>().unwrap();
+        let back = bytes.last_chunk::<32>().unwrap();
         store_two_words(words, next, front, next_at);
         words[next + 2] = word_at(front, next_at + 16);
         store_two_words(words, 4, back, 0);
         store_two_words(words, 6, back, 16);
     } else if over_16 {
-        let Some(front) = bytes.first_chunk::<16>() else {
-            unreachable!()
-        };
-        let Some(back) = bytes.last_chunk::<16>() else {
-            unreachable!()
-        };
+        let front = bytes.first_chunk::<16>().unwrap();
+        let back = bytes.last_chunk::<16>().unwrap();
         words[len / 8 % 2 + 5] = word_at(front, next_at);
         store_two_words(words, 6, back, 0);
     } else {

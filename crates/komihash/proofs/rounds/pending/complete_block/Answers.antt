@@ -31,17 +31,17 @@ put_word xs ys but m n i k is (le, within, place) =
     PacksBut-put but i (i + 1) _ (omega arith)
     (λ _. rw is (grind (arith, rest, cut, drop-drop {A = ℕ}, packed_word-after xs ys i (m + k))))
 
-pub returns-in-Some-last_chunk : goal.returns-in-Some-last_chunk
-returns-in-Some-last_chunk c =
+pub returns-then-over_32 : goal.returns-then-over_32
+returns-then-over_32 c =
     let xs = pending_bytes c.args.words.now c.args.len in
     let bytes = c.args.bytes.now in
     let m = length bytes - 32 in
     let from = 8 - c.args.len % 8 in
     let next = c.args.len / 8 % 4 + 1 in
     let partial = c.append_within_word.ensures 8 (omega arith) in
-    let front : c.in-Some.front.now ≡ take 32 bytes = search rules in
-    let last = take_all 32 (drop m bytes) (omega (arith, length-drop m bytes)) in
-    let back : c.in-Some-last_chunk.back.now ≡ take 32 (drop m bytes) = rw last (search rules) in
+    let front : c.unwrap-front.result.now ≡ take 32 bytes = search rules in
+    let back : c.unwrap-back.result.now ≡ take 32 (drop m bytes) =
+    rw (take_all 32 (drop m bytes) (omega (arith, length-drop m bytes))) (search rules) in
     let p0 = put_word xs bytes partial 0 32 next from front (omega arith) in
     let p1 = put_word xs bytes p0 0 32 (next + 1) (from + 8) front (omega arith) in
     let p2 = put_word xs bytes p1 0 32 (next + 2) (from + 16) front (omega arith) in
@@ -52,17 +52,17 @@ returns-in-Some-last_chunk c =
     rw (c.store_two_words-then-over_32-2.ensures, c.store_two_words-then-over_32.ensures)
     (rw (c.store_two_words.ensures, c.word_at.ensures) (PacksBut-all p6 (omega arith)))
 
-pub returns-in-Some-last_chunk-2 : goal.returns-in-Some-last_chunk-2
-returns-in-Some-last_chunk-2 c =
+pub returns-then-over_16 : goal.returns-then-over_16
+returns-then-over_16 c =
     let xs = pending_bytes c.args.words.now c.args.len in
     let bytes = c.args.bytes.now in
     let m = length bytes - 16 in
     let from = 8 - c.args.len % 8 in
     let next = c.args.len / 8 % 2 + 5 in
     let partial = c.append_within_word.ensures 8 (omega arith) in
-    let front : c.in-Some-first_chunk.front.now ≡ take 16 bytes = search rules in
-    let last = take_all 16 (drop m bytes) (omega (arith, length-drop m bytes)) in
-    let back : c.in-Some-last_chunk-2.back.now ≡ take 16 (drop m bytes) = rw last (search rules) in
+    let front : c.unwrap-front-then-over_16.result.now ≡ take 16 bytes = search rules in
+    let back : c.unwrap-back-then-over_16.result.now ≡ take 16 (drop m bytes) =
+    rw (take_all 16 (drop m bytes) (omega (arith, length-drop m bytes))) (search rules) in
     let p0 = put_word xs bytes partial 0 16 next from front (omega arith) in
     let p1 = put_word xs bytes p0 m 16 6 0 back (omega arith) in
     let p2 = put_word xs bytes p1 m 16 7 8 back (omega arith) in
