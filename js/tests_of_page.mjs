@@ -78,7 +78,7 @@ for (const one of ["''", "`\\n ${lines.textContent.match(/[\\da-f]{16}/)} `"]) {
 await drop("wanted", big);
 await finish();
 console.log(await run("failed.textContent + lines.textContent.trim()"));
-await run("wanted.value += 0, wanted.onchange()");
+await run("wanted.value += 0, wanted.onblur()");
 console.log(await run("`${told.textContent} ${wanted.ariaInvalid}`"));
 await choose("wanted.value = ''", huge);
 await run("document.querySelectorAll('[onclick]')[1].click()");
