@@ -299,7 +299,7 @@ verified() {
         part_with "$python" "$python" -B $tests/bodies.py $level "${CC:-cc}"
     done
     needs "$python" 'calls that are left out, and other definitions, are noticed' \
-        "$python" -B $tests/changes.py "${libraries[0]}"
+        "$python" -B $tests/changes.py "${libraries[0]}" "${libraries[@]:2}"
     part_with "$python $arm-gcc" "$python" -B $tests/bodies.py armv8-a $arm-gcc
     needs "$python" 'edits of files are refused' "$python" -B $tests/attacks.py "${libraries[@]}"
     if grep -qw avx2 /proc/cpuinfo; then

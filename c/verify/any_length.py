@@ -128,7 +128,7 @@ class Write(Blocks):
         self.tail, address = named('rest', range(rest)), self.open()
         # At the exit, at least one byte was taken, since all whole blocks of one or more were.
         self.call.memory.add(Array('rest', address, -1, rest), [self.LAST, *self.tail], -1)
-        return [*some_lanes(' at a cut'), *words_of([*named('earlier', range(7)), self.LAST])]
+        return [*some_lanes(' at a cut'), join([secret('earlier', 56), self.LAST])]
 
     def leave_early(self, cpu):
         """A write may return from the loop if it took all bytes."""

@@ -87,10 +87,11 @@ class Case(collections.namedtuple('Case', 'name check args')):
         return int(self.name[len('komihash_v')])
 
     def run(self, library):
-        """Checks the case, and returns what was seen. The parameters of a check are named `length`
-        and `pending` if they are these numbers."""
+        """Checks the case, and returns what was seen. What begins first is what header.py asks of.
+        The parameters of a check are named `length` and `pending` if they are these numbers."""
         done = self.check(library, self.version(), *self.args)
         if self.has_loop():
+            done.start()
             done.prove()
             for n, count in done.counted:
                 self.check_products(count, n, 0)
@@ -103,11 +104,6 @@ class Case(collections.namedtuple('Case', 'name check args')):
         """Whether the definition has so many products as its row says."""
         if count != eval(row_of(self.name).multiplications, {'n': n, 'p': p}):
             raise Refused(f'the definition has {count} products for {n} bytes and {p} pending')
-
-    def begin(self, library):
-        """Begins the call, or if there are calls of any length, one of these."""
-        begun = self.check(library, self.version(), *self.args)
-        return begun.start() if self.has_loop() else begun
 
 
 class AllCalls(Case):

@@ -5,7 +5,6 @@ first comment in formulas, and read its prototypes."""
 import os
 import re
 import z3
-from calls import apart
 from definition import padding_byte
 from guesses import witness
 from machine import LOADED
@@ -63,9 +62,11 @@ def allowed(call):
             conditions += [most, base & unit - 1 == 0,
                            z3.Or(size == 0, z3.And(base != 0, z3.ULT(size, -base)))]
             sizes.append(size)
-    # No case of other functions asks how their arrays lie.
+    # What is written ends before what is read, or begins after it. No case of others asks that.
     if call.name.endswith('pad'):
-        conditions.append(apart(args[2], size_written(call, args[1], args[3]), args[0], sizes[0]))
+        out, size = args[2], size_written(call, args[1], args[3])
+        conditions.append(z3.Or(size == 0, sizes[0] == 0, z3.ULE(out + size, args[0]),
+                                z3.ULE(args[0] + sizes[0], out)))
     return args, conditions
 
 
@@ -81,11 +82,11 @@ class Begun(Exception):
 
 
 def beginning(library, case):
-    """The call of a case, which doesn't run."""
+    """The call of a case, which is run up to there: for calls of any length, one of these."""
     def stop(call):
         raise Begun(call)
     try:
-        case.begin(library._replace(before=stop))
+        case.run(library._replace(before=stop))
     except Begun as begun:
         return begun.args[0]
 

@@ -6,6 +6,8 @@ import argparse
 import hashlib
 import os
 import sys
+import capstone
+import z3
 from cases import NAMES, cases_again, cases_of, open_library, results, run_case
 from elf import MEMORY
 from layout import Ours
@@ -39,7 +41,8 @@ def verify(level, path, args, layout):
     image = open_library(content, level, layout, args.red_zone)
     print(f'{path}: {image.processor.NAME}, for {level}, '
           f'red zone of {image.processor.RED_ZONE * args.red_zone} bytes, '
-          f'SHA-256 {hashlib.sha256(content).hexdigest()}')
+          f'SHA-256 {hashlib.sha256(content).hexdigest()}, '
+          f'checked with capstone {capstone.__version__} and Z3 {z3.get_version_string()}')
     names = names_there(image, args.function, args.some)
     # Of a library with another layout, no calls are shown twice.
     again = [case for name in names for case in cases_again(name) if layout is Ours]
@@ -51,7 +54,7 @@ def verify(level, path, args, layout):
         for done in results(args.jobs, run_case, cases):
             if isinstance(done.failure, Unknown):
                 raise Unknown(f'{done.case}: {done.failure}')
-            if done.failure:
+            if done.failure is not None:
                 failed.setdefault(done.case.name, f'{done.case}: {done.failure}')
             progress.add(done)
             left -= 1

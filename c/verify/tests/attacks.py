@@ -60,6 +60,16 @@ class Edit:
         self.put((32, 8), at)
         self.content[at:at + size] = self.content[start:start + size]
 
+    def fill_table(self, *last):
+        """Moves the table of segments after the file, with as many as there may be: after its own
+        come parts of one byte, and then the last."""
+        own, align = self.elf.segments, self.code.align
+        parts = [(LOAD, elf.READ, 0, 2**24 + k * align, 0, 1, 1, align)
+                 for k in range(elf.SEGMENTS - len(own) - 1)]
+        self.put((32, 8), len(self.content))
+        self.put((56, 2), elf.SEGMENTS)
+        self.content += b''.join(elf.SEGMENT.pack(*one) for one in (*own, *parts, last))
+
     def symbol(self, field, number):
         found = self.elf.table[elf.SYMBOLS] + elf.SYMBOL.size * self.elf.find(NAME.encode())
         self.put(field, number, self.elf.offset(found))
@@ -100,7 +110,8 @@ def of_header_and_marks(e):
         ('more segments', 'more than 64', e.put, (56, 2), 65),
         *((f'segments at {at:#x}', 'too short', e.put, (32, 8), at)
           for at in (2**40, len(e.content) - 100)),
-        ('a function without a mark', 'has none', e.bytes_at, *nothing),
+        *((f'{name} without a mark', 'has none', e.bytes_at, at, nothing[1])
+          for name, at in e.elf.functions(cases.NAMES)[0].items()),
         *((f'marks {notes}, and a function without', 'has none',
            lambda notes=notes: (e.note(elf.PROPERTY, kind, *notes), e.bytes_at(*nothing)))
           for notes in ([[1]], [[0, 1]], [[0], [1]], [[1, 0]], [[1], [0]])),
@@ -141,7 +152,8 @@ def of_segments(e):
         ('a dynamic table without an end', 'no end', DYNAMIC, 0, (FILLED, 32), (SIZE, 32)),
         ('an empty part', 'a part is empty', NOTES, 0, (KIND, LOAD), *nothing),
         ('smaller pages', 'not aligned', LOAD, 0, (ALIGN, small)),
-        ('notes elsewhere in the file', 'elsewhere in', NOTES, 0, (OFFSET, code.offset)),
+        *((f'notes {k} elsewhere in the file', 'elsewhere in', NOTES, k, (OFFSET, code.offset))
+          for k in range(len(e.elf.of_type(NOTES)))),
         ('a table over the end of a part', 'elsewhere in', LOAD, -1, (FILLED, last.filled - 8)),
         ('a part at another place of its pages', 'not aligned', LOAD, e.code_at,
          (OFFSET, code.offset + 16)),
@@ -165,6 +177,10 @@ def of_segments(e):
         ('a table of parts that can change', 'another one', LOAD, 0, (RIGHTS, 6)))] + [
             ('a table of parts over the end of one', 'another one', e.move_table,
              code.offset + code.filled - 100),
+            *((f'a last segment of type {kind:#x}', reason, e.fill_table,
+               kind, rights, 8, 8, 8, 1, 1, code.align) for kind, rights, reason in (
+                   (LOAD, elf.READ, 'mapped over'), (7, 0, 'unknown type'),
+                   (STACK, 7, 'be executed'), (DYNAMIC, 6, 'one dynamic table'))),
             *[('a part over a page of one byte', 'mapped over', lambda: (
                 e.segment(LOAD, e.code_at, (FILLED, to_page), (SIZE, to_page)),
                 e.segment(LOAD, e.code_at + 1, (
@@ -224,7 +240,8 @@ def of_names(e):
         ('another name of the first symbol', "also exports ['omi", e.elf.table[elf.SYMBOLS] +
          elf.SYMBOL.size * e.elf.first, struct.pack('<I', e.elf.strings.index(first.encode()) + 1)),
         ('a filter of three words', 'in different ways', names + 8, three),
-        ('a shift of 32 bits', 'in different ways', names + 12, bytes([32, 0, 0, 0]) + every),
+        *((f'a shift of {n} bits', 'in different ways', names + 12, struct.pack('<I', n) + every)
+          for n in (32, 33, 2**24, 2**31)),
         ('a name of no function', 'lacks..also exports', e.elf.table[elf.STRINGS] +
          e.elf.strings.index(b'komihash_v4_pad\0'), b's'),
         *((f'a filter without {bit:#x} of {name}', f'lacks..{name}', names + 16 + 8 * word,
@@ -250,7 +267,7 @@ def of_names(e):
 
 TOLD = {**dict.fromkeys(('another function', 'a byte below the stack'), '4 passed, 1 failed\n1'),
         'a jump of 16 bits': 'processes\n2', 'a file of 64 MiB': 'is cut\n2',
-        'a name of no function': '58 val..is cut..SHA-256..also exp',
+        'a name of no function': '58 val..is cut..SHA-256..capstone..also exp',
         'another hash': f'not checked: {NAME}\n..4 passed, 0 failed\n0'}
 
 

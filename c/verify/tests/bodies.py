@@ -192,6 +192,10 @@ whole blocks that are wrong|v5_write|Write(13,)..the stream at 0|stp x0, x30, [s
 63 bytes more that are wrong|v5_write|Write(13,)..the stream at 0|stp x0, x30, [sp, -16]!; bl body;
     ldp x0, x30, [sp], 16; ldr x9, [x0, 64]; cmp x9, 63; b.ne 1f; strb w9, [x0]; 1: ret
 whole blocks of version 4|v4|Hash(0,)..|nop
+5 bytes more that are wrong|v5_write|Write(13,)..the stream at 0|stp x0, x30, [sp, -16]!; bl body;
+    ldp x0, x30, [sp], 16; ldr x9, [x0, 64]; cmp x9, 5; b.ne 1f; strb w9, [x0]; 1: ret
+a hash of 5 bytes more that is wrong|v5|Hash(5,)..hash|stp x1, x30, [sp, -16]!; bl body;
+    ldp x1, x30, [sp], 16; cmp x1, 261; b.ne 1f; mvn x0, x0; 1: ret
 '''
 # The registers that a call must preserve, by the calling conventions of System V and of Arm, where
 # x18 is the platform's, and the low halves of vectors are preserved. A bit of each is changed.
@@ -259,6 +263,11 @@ v5_unpad|Unpad(None,)|length: cmp rsi, 40; jne 1f; inc rax|length: cmp rsi, 20; 
 v5_unpad|Unpad((7, 1),)|length: cmp rsi, 33; jne 1f; or al, 128|
     length: cmp rsi, 48; jne 1f; or al, 128
 '''
+# Instructions that change memory, which at `_` may only be read.
+WRITES = '''inc byte ptr _; dec byte ptr _; not byte ptr _; neg byte ptr _; add _, al; or _, al
+    adc _, al; and _, al; sub _, al; xor _, al; rol byte ptr _, 1; shl byte ptr _, 1
+    shr byte ptr _, 1; sar byte ptr _, 1; shld _, rax, 1; sete byte ptr _; mov _, al
+    movups _, xmm0; movdqu _, xmm0; movq _, xmm0'''
 LOOPS = {'v5': '_R.*hash_of_blocksKh5_.*', 'v5_rand_fill': 'komihash_v5_rand_fill',
          'v5_write': '_R.*Kh5_.*complete_blocks.*'}
 # The registers of these loops, whatever the compiler chose: what is multiplied, a lane, the address
@@ -280,13 +289,19 @@ def table(level):
     return [*lines(KINDS[level][-1][1]),
             *([f'{one} of the caller', '', f'{one} of the caller is lost', body]
               for one, body in SAVED.get(level, ())),
-            *([*of_arrays(), *of_outputs()] if level == 'x86-64' else ())]
+            *([*of_arrays(), *of_outputs(), *of_writes()] if level == 'x86-64' else ())]
 
 
 def lines(table):
     """The fields of each line of a table. Lines that begin with spaces continue the one before."""
     text = re.sub(r'(\|?)\n +', lambda found: found[1] or ' ', table)
     return [line.split('|') for line in text.split('\n') if line]
+
+
+def of_writes():
+    for do in re.split('[;\n] *', WRITES.replace('_', '[rdi + 64]')):
+        yield f'{do} where it may only read', 'v5_finish', 'finish(5, 1)..only read', \
+            f'cmp rdi, rdi; {do}'
 
 
 def of_outputs():

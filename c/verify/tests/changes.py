@@ -1,5 +1,7 @@
 """Leaves out calls of a right library, which must be missed, and changes the definition and what
-else a claim needs, after which nothing may be claimed: changes.py x86-64:LIBRARY."""
+else a claim needs, after which nothing may be claimed: changes.py x86-64:LIBRARY LEVEL:LIBRARY.. Of
+others than the first, only long calls are judged."""
+import contextlib
 import functools
 import re
 import sys
@@ -14,7 +16,7 @@ import z3
 from calls import Call, named, some_lanes
 from definition import Products, State
 from header import parameters
-from terms import Unknown, bv, join, secret, sym
+from terms import Unknown, bv, join, secret, sym, symbols
 
 # By function, the calls that are left out.
 CALLS = {
@@ -22,16 +24,20 @@ CALLS = {
         'length == 2**63 - 1',
     '_start': 'stream == 2**64 - 152',
     '_rand_next': 'rand == 2**64 - 24; sp & 16 == 0; sp & 16 == 16; library == 2**12',
-    '_finish': 'stream == 8; had_block == 0; top_bit == 1; pending == 63',
+    '_finish': 'stream == 8; had_block == 0; top_bit == 1; pending == 63; pending == 0',
     '_save': 'out + 131 == stream',
-    '_pad': 'And(length == 0, room == 1, bytes == out); And(length == 9, room == 1, bytes == out); '
+    '_pad': 'And(length == 0, room == 1, bytes == out + 1); '
+            'And(length == 9, room == 1, bytes + 1 == out); '
             'And(length == 9, room == 2, bytes + 9 == out); room == 2**60 - 1; '
             'And(length == 9, room == 2, bytes == 2**64 - 16); '
             'And(length == 9, room == 5, out + 16 == bytes)',
     '_unpad': 'And(length == 16, last > 0x200); length == 2**60 - 1; '
               'And(length == 2, room == 16, last == 0x100, out + 15 == words); '
-              'And(length == 2, room == 15, last == 0x100, out == words); '
-              'And(length == 1, room == 8, last == 0, out == words)'}
+              'And(length == 2, room == 15, last == 0x100, out == words + 1); '
+              'And(length == 1, room == 8, last == 0, out == words + 1)'}
+
+# How many cases there are of each function of a version.
+CASES = [329, 2, 2, 2500, 129, 65, 134, 2, 2, 2, 2, 178, 322, 473]
 
 # For hashes, writes, fills, pad and unpad, how many calls of loops are also run one by one, the
 # first, and the last.
@@ -82,17 +88,31 @@ def with_more(module, name):
 LONG = 'q == 2**55, units == 2**50, length == 2**62, sp & 2**64 - 16 == 2**13, ' \
     'library == 2**12, bytes == 2**14, words == 2**14, out & 2**63 == 2**63, stream == 2**12, ' \
     'rand == 2**12'
-LOOPS = {'': 'Hash(0,)', '_write': 'Write(13,)', '_rand_fill': 'Fill', '_pad': 'Pad',
-         '_unpad': 'Unpad((7, 1),)'}
+LOOPS = {**{f'Hash({k},)': '' for k in range(8)}, 'Write(13,)': '_write', 'Fill': '_rand_fill',
+         'Pad': '_pad', 'Unpad((7, 1),)': '_unpad'}
 
 
-def assume(loop, *given, do=any_length.Induction.assume):
-    """Puts a call into any state at a cut, which may be that of a long one."""
-    do(loop, *given)
+def assume(loop, pc, words, *change, do=any_length.Induction.assume):
+    """Puts a call into any state at a cut, which may be that of a long one. The words there have no
+    bytes that come after it."""
+    do(loop, pc, words, *change)
+    come = {f'{term}' for (name, _), (term, _) in loop.call.memory.data.items()
+            if name in ('front', 'rest')} - {'last'}
+    if come & frozenset().union(*map(symbols, words)):
+        raise Unknown('the words at a cut have bytes that come after it')
     names = {one: sym(one) for one in re.findall(r'(\w+) [&=]', LONG)}
     asked = eval(LONG, {**names, 'q': loop.q})
     if loop.call.facts.model((), *asked) is None:
         raise Unknown('no long call is in a state at a cut')
+
+
+def begin(loop, do=any_length.Induction.begin):
+    """Begins calls, of which no more may be known than of those that cases are asked of."""
+    fits, known = do(loop), loop.call.facts.list
+    loop.start()
+    if f'{known}' != f'{loop.call.facts.list}':
+        raise Unknown('other calls are shown than asked of')
+    return fits
 
 
 def end(loop, do=any_length.Induction.end):
@@ -107,14 +127,40 @@ def end(loop, do=any_length.Induction.end):
         raise Unknown(f'only {len(ended)} remainders are shown')
 
 
-def changes(path, content):
+def counted(run):
+    """How many cases of each function a run has."""
+    with mock.patch.object(report, 'results', return_value=()) as given, \
+            contextlib.suppress(Unknown):
+        run()
+    some = [case.name for case in given.call_args[0][2]]
+    return [some.count(name) for name in cases.NAMES]
+
+
+def lengths():
+    """The lengths for which streams are checked."""
+    with mock.patch.object(streams, 'results') as given:
+        streams.check_streams(1)
+    return [*given.call_args[0][2]]
+
+
+def long_calls(level, content):
+    """Rows like those of `changes`, for a library of any level: whether long calls are shown, and
+    all of them."""
+    shown = mock.patch.multiple(
+        any_length.Induction, assume=assume, begin=begin, end=end)(refusal)
+    for among, suffix in LOOPS.items():
+        yield f'long calls by {among}, {level}', 'None', (), functools.partial(
+            shown, content, level, f'komihash_v4{suffix}', among=among)
+
+
+def changes(level, path, content):
     """Each change: a name, a reason, a name that has another value, and what finds that then."""
     def judge(suffix, among):
-        return lambda: refusal(content, 'x86-64', f'komihash_v4{suffix}', among=among)
+        return lambda: refusal(content, level, f'komihash_v4{suffix}', among=among)
 
-    def whole(suffix):
-        return lambda: report.verify('x86-64', path, mock.Mock(
-            function=[f'komihash_v4{suffix}'], jobs=4, red_zone=0), cases.Ours)
+    def whole(*names):
+        return lambda: report.verify(
+            level, path, mock.Mock(function=names, jobs=4, red_zone=0), cases.Ours)
 
     def definition():
         vectors.check_all_values()
@@ -127,6 +173,10 @@ def changes(path, content):
         ('a state of no calls', 'contradict', (any_length.Fill, 'go_on', lambda kind, size,
             do=any_length.Fill.go_on: (do(kind, size), kind.call.facts.add(z3.BoolVal(False)))[0]),
          judge('_rand_fill', 'Fill')),
+        *((f'more facts, {name}', 'more is known', (any_length.Fill, name, lambda kind, *given,
+            do=getattr(any_length.Fill, name): (
+                do(kind, *given), kind.call.facts.add(kind.q & 1 == 0))[0]),
+           judge('_rand_fill', 'Fill')) for name in ('at_head', 'at_exit')),
         *((f'a message {name}', 'is not any', (Call, 'message', lambda call, n, do=do: (
             call.array('bytes', n, do(n)), do(n))), judge('', 'all calls')) for name, do in (
                 ('of zeros', lambda n: [bv(0, 8)] * n),
@@ -165,19 +215,22 @@ def changes(path, content):
          with_products('_rand_fill', '(n+7)//8 + (n >= 256)'), judge('_rand_fill', 'Fill')),
         *((f'one more by {name}', 'products, and not the', with_more(any_length, name),
            judge('', 'Hash(0,)')) for name in ('block_round', 'hash_from_pair')),
-        ('a wrong loop', '(0, 1)', (any_length.Pad, 'PRODUCTS', 1), whole('_pad')),
+        ('a wrong loop', '(0, 1)', (any_length.Pad, 'PRODUCTS', 1), whole('komihash_v4_pad')),
         *((f'a witness {name}', 'is no symbol', (cases.header, 'witness', do),
            judge('_rand_next', 'all calls')) for name, do in (
                ('of what is asked', lambda found, term, value: found.update({value: term})),
-               ('of a sum', lambda found, term, value: found.update({term + 1: value})),
+               *((f'of {name}', lambda found, term, value, name=name, do=cases.header.witness:
+                  found.update({term + 1: value}) if f'{value}' == name else do(
+                      found, term, value)) for name in ('any rand', 'any sp', 'any library')),
                ('of a number', lambda found, term, value: found.update({bv(1): value})))),
         *((f'{what} names', reason, (report, 'NAMES', names), lambda some=some: report.names_there(
-            cases.open_library(content, 'x86-64'), [], some)) for what, reason, names, some in (
+            cases.open_library(content, level), [], some)) for what, reason, names, some in (
                 ('fewer', 'also exports', cases.NAMES[1:], False),
                 ('more', "lacks ['more']", [*cases.NAMES, 'more'], False),
                 ('no', 'none of the functions', cases.NAMES, True))),
+        ('how many cases are run', f'{2 * CASES}', (), lambda: counted(whole(*cases.NAMES))),
         ('a case that is not run', 'were not run', (report, 'results', lambda *_: []),
-         whole('_rand_next')),
+         whole('komihash_v4_rand_next')),
         *((f'another hash of {n} bytes', f'for {n} bytes', (streams, name, lambda products, version,
             *given, do=getattr(streams, name), wrong=wrong: do(products, version, *given) + (
                 version == wrong)), find) for n, name, wrong, find in (
@@ -190,8 +243,11 @@ def changes(path, content):
             do=State.absorb: do(State(state.lanes, [], state.had_block, state.top_bit), *given)),
          lambda: streams.check_length(20)),
         ('sums of a call are told apart', 'True', (), sums),
-        ('other factors of streams', 'for 0 bytes', (streams, 'start', lambda products, seed,
-            do=streams.start: do(products, seed + 1)), lambda: streams.check_length(0)),
+        *((f'another factor {k} of streams', 'for 0 bytes', (streams, 'start',
+            lambda products, seed, k=k, do=streams.start: (do(products, seed), products.list.insert(
+                0, tuple(-one if at == k else one for at, one in enumerate(products.list.pop()))
+            ))[0]),
+           lambda: streams.check_length(0)) for k in (0, 1)),
         ('a form that varies', '{0: None}', (forms, 'form_of', lambda *_: secret('turn[0]', 8)),
          lambda: forms.Invariant(frozenset(), *[mock.Mock(words={0: 0}, holding=set())] * 2).forms),
         ('a text of 65 bytes', 'True', (), lambda: vectors.resume(
@@ -200,12 +256,14 @@ def changes(path, content):
         ('another first value', 'gives 4 ', (vectors, 'CALLS', {**vectors.CALLS, 'komihash':
             lambda *given, do=vectors.komihash: 4 if given == (4, '0', '') else do(*given)}),
          definition),
-        *((f'long calls by {name}', 'None', (any_length.Induction, do.__name__, do),
-           judge(suffix, name)) for suffix, name in LOOPS.items() for do in (assume, end)),
+        *((f'another value of {call}', f'gives 4 ..for {call} [', (vectors, 'CALLS', {
+            **vectors.CALLS, call: lambda *_: 4}), definition) for call in [*vectors.CALLS][1:]),
+        ('the lengths of streams', f'{[*range(128)]}', (), lengths),
         ('what may depend on contents', "['_resume', '_unpad']", (), lambda: [
             suffix for suffix, row in cases.FUNCTIONS.items() if row.by_contents]),
         ('a wrong call that is run again', '(0, 1)', (
-            cases, 'AGAIN', {'_rand_next': {cases.fixed.hash_of: [(9,)]}}), whole('_rand_next')),
+            cases, 'AGAIN', {'_rand_next': {cases.fixed.hash_of: [(9,)]}}),
+         whole('komihash_v4_rand_next')),
         ('what is run again', AGAIN, (), lambda: [(suffix, len(some), some[0].args, some[-1].args)
             for suffix in cases.AGAIN for some in [cases.cases_again(f'komihash_v5{suffix}')]]),
         ('the definition', 'None', (), definition),
@@ -226,12 +284,14 @@ def found(change, find):
             return unknown
 
 
-def rows(library):
-    path = library.removeprefix('x86-64:')
-    with open(path, 'rb') as file:
-        content = file.read()
-    for name, reason, *change in changes(path, content):
-        yield Row(name, reason, functools.partial(found, *change))
+def rows(*libraries):
+    for library in libraries:
+        level, path = library.split(':', 1)
+        with open(path, 'rb') as file:
+            content = file.read()
+        some = changes(level, path, content) if library == libraries[0] else ()
+        for name, reason, *change in (*some, *long_calls(level, content)):
+            yield Row(name, reason, functools.partial(found, *change))
 
 
 if __name__ == '__main__':

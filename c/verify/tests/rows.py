@@ -25,7 +25,8 @@ def refusal(content, level, name, red_zone=False, among=''):
             if among in f'{case}']
     assert some, f'no case has {among} in its name'
     found = map(cases.run_case, sorted(some, key=lambda case: not case.has_loop()))
-    return next((f'{done.case}: {done.failure}' for done in found if done.failure), None)
+    return next((f'{done.case}: {done.failure}' for done in found if done.failure is not None),
+                None)
 
 
 def judge(row):
