@@ -59,9 +59,8 @@ FUNCTIONS = {
         Unpad: each(fixed.LAST_BYTES)}),
 }
 # Calls that the induction shows too, run one by one below LONGEST bytes, since it isn't believed
-# alone: those of one turn that takes 128 bytes, or two. Fills end in a whole word, or lack a byte of
-# it. Of writes that complete a block, each length is met, each sum of it and the pending bytes below
-# LONGEST, and each number of these with one to four blocks.
+# alone. Of writes that complete a block, each length is met, each sum of it and the pending bytes
+# below LONGEST, and each number of these with one to four blocks.
 LONGEST = 320
 AGAIN = {
     '': {fixed.hash_of: each(range(Hash.LEAST * Hash.GRAIN, LONGEST))},
@@ -129,7 +128,7 @@ def row_of(name):
 
 def cases_of(name):
     cases = listed(name, row_of(name).cases)
-    return [AllCalls(name, None, cases), *cases]
+    return [AllCalls(name, None, tuple(cases)), *cases]
 
 
 def cases_again(name):

@@ -246,6 +246,8 @@ def of_names(e):
          e.elf.strings.index(b'komihash_v4_pad\0'), b's'),
         *((f'a filter without {bit:#x} of {name}', f'lacks..{name}', names + 16 + 8 * word,
            struct.pack('<Q', e.elf.filter[word] & ~bit)) for name, word, bit in filters),
+        *((f'bucket {k}, which begins at {at}', 'lacks', buckets + 4 * k, struct.pack('<I', at))
+          for k, one in enumerate(e.elf.buckets) if one for at in (0, one + 1)),
         ('many buckets', 'not in memory', names, struct.pack('<I', 2**17)),
         ('another last hash', 'lacks', chains + 4 * len(e.elf.chains) - 4,
          bytes([e.elf.chains[-1] & 255 ^ 2])),

@@ -229,8 +229,9 @@ def changes(level, path, content):
                 ('more', "lacks ['more']", [*cases.NAMES, 'more'], False),
                 ('no', 'none of the functions', cases.NAMES, True))),
         ('how many cases are run', f'{2 * CASES}', (), lambda: counted(whole(*cases.NAMES))),
-        ('a case that is not run', 'were not run', (report, 'results', lambda *_: []),
-         whole('komihash_v4_rand_next')),
+        *((f'{what} that is not run', 'were not run', (report, 'cases_of', lambda name, some=some:
+            cases.cases_of(name)[some]), whole('komihash_v4_rand_next')) for what, some in (
+                ('a question', slice(1, None)), ('a case', slice(-1)))),
         *((f'another hash of {n} bytes', f'for {n} bytes', (streams, name, lambda products, version,
             *given, do=getattr(streams, name), wrong=wrong: do(products, version, *given) + (
                 version == wrong)), find) for n, name, wrong, find in (

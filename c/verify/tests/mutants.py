@@ -209,7 +209,10 @@ def judge(folder, libraries, noticed, change):
              told(change), '\n'.join(row for row, _ in noticed[change.file].most_common()), folder,
              *libraries], text=True, preexec_fn=limit_memory, stdout=subprocess.PIPE,
             stderr=subprocess.STDOUT)
-        *_, row, found = ['', 'an error', *process.communicate()[0].strip().splitlines()]
+        lines = process.communicate()[0].strip().splitlines()
+        if process.returncode == -signal.SIGKILL:
+            raise MemoryError(f'{told(change)}: the process was killed')
+        *_, row, found = ['', f'status {process.returncode}', *lines]
         noticed[change.file].update([row] if found.startswith('noticed: ') else [])
         return change, f'{found}: {row}' if found.startswith('noticed: ') else found
 
