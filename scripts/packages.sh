@@ -299,7 +299,7 @@ verified() {
         part_with "$python" "$python" -B $tests/bodies.py $level "${CC:-cc}"
     done
     needs "$python" 'calls that are left out, and other definitions, are noticed' \
-        "$python" -B $tests/changes.py "${libraries[0]}" "${libraries[@]:2}"
+        "$python" -B $tests/changes.py "${libraries[@]}"
     part_with "$python $arm-gcc" "$python" -B $tests/bodies.py armv8-a $arm-gcc
     needs "$python" 'edits of files are refused' "$python" -B $tests/attacks.py "${libraries[@]}"
     if grep -qw avx2 /proc/cpuinfo; then
@@ -309,7 +309,7 @@ verified() {
         skip 'random instructions (optional)' 'a processor with AVX2'
     fi
     SAMPLE=16 needs "$python $arm-gcc qemu-aarch64" 'changes of the check are noticed' \
-        "$python" -B $tests/mutants.py "${libraries[0]}" "armv8-a:$out/$arm/$so"
+        "$python" -B $tests/mutants.py "${libraries[@]}"
     needs "$python $arm-gcc qemu-aarch64" \
         'random instructions of ARM64 do in the model what they do in an emulator' \
         "$python" -B $tests/instructions.py "armv8-a:$out/$arm/$so" $arm-gcc \

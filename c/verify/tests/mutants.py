@@ -1,6 +1,6 @@
 """Changes the check by rule, one place at a time. A row of the tests must notice each change, or a
-line of mutants.tsv except it: mutants.py LEVEL:LIBRARY.., for x86-64 and armv8-a. SAMPLE=200 SEED=7
-draws 200 of them, and FILE=elf.py takes those of a file."""
+line of mutants.tsv except it: mutants.py LEVEL:LIBRARY.., first for x86-64. SAMPLE=200 SEED=7 draws
+200 of them, and FILE=elf.py takes those of a file."""
 import ast
 import collections
 import contextlib
@@ -126,11 +126,16 @@ def excepted():
     return found
 
 
+# Without a change, only short calls are checked, since the gate runs all else so.
+UNCHANGED = Change('progress.py', 0, '', '')
 # The scripts whose rows run what a file has.
 SCRIPTS = {
+    UNCHANGED.file: '',
     'elf.py': 'attacks', 'image.py': 'attacks bodies',
     **dict.fromkeys(('opcodes.py', 'x86_64.py', 'aarch64.py'), 'instructions bodies'),
     **dict.fromkeys(('header.py', 'vectors.py', 'streams.py'), 'changes'),
+    **dict.fromkeys(('calls.py', 'fixed_lengths.py'), 'changes bodies'),
+    **dict.fromkeys(('induction.py', 'forms.py', 'any_length.py'), 'bodies changes'),
     'cases.py': 'changes bodies commands', 'report.py': 'changes commands'}
 
 
@@ -178,10 +183,10 @@ def first_that_fails(file, seed, noticed, folder, *libraries):
         os._exit(0)
     import rows as of_rows
     found, r, noticed = rows(folder, libraries), random.Random(seed), noticed.split('\n')
-    some = [row for script in SCRIPTS.get(file, 'bodies changes instructions').split()
-            for row in r.sample(found[script], len(found[script]))]
-    for row in sorted([*found['right'], *some, *found['long']], key=lambda row: [
-            *noticed, row.name].index(row.name)):
+    scripts = SCRIPTS.get(file, 'bodies changes instructions').split()
+    some = [row for script in scripts for row in r.sample(found[script], len(found[script]))]
+    for row in sorted([*found['right'], *some, *(found['long'] if scripts else ())],
+                      key=lambda row: [*noticed, row.name].index(row.name)):
         signal.signal(signal.SIGVTALRM, lambda *_, row=row: tell(row, 'it takes too long'))
         signal.setitimer(signal.ITIMER_VIRTUAL, SECONDS)
         fits, why = of_rows.judge(row)
@@ -235,7 +240,7 @@ def main(*libraries):
             ThreadPoolExecutor(len(os.sched_getaffinity(0))) as pool:
         some = drawn()
         count.update((one.file, 'excepted') for one in some if one in excused)
-        right = pool.submit(judge, folder, libraries, noticed, Change('streams.py', 0, '', ''))
+        right = pool.submit(judge, folder, libraries, noticed, UNCHANGED)
         todo = [pool.submit(judge, folder, libraries, noticed, one)
                 for one in some if one not in excused]
         for done in as_completed(todo):
