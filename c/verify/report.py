@@ -47,7 +47,7 @@ def verify(level, path, args, layout):
     # Of a library with another layout, no calls are shown twice.
     again = [case for name in names for case in cases_again(name) if layout is Ours]
     cases = [*(case for name in names for case in cases_of(name)), *again]
-    progress = Progress(cases, args.jobs)
+    progress = Progress([*cases], args.jobs)
     # Those that take longest come first, so that no process is left with one at the end.
     cases.sort(key=lambda case: not case.has_loop())
     try:
@@ -59,7 +59,7 @@ def verify(level, path, args, layout):
             progress.add(done)
             ran.add(done.case)
     finally:
-        progress.table(failed)
+        progress.table({**failed})
     asked = {one.name for one in ran if isinstance(one, AllCalls) and ran.issuperset(one.args)}
     if asked != {*names} or len(ran) != len(cases):
         raise Unknown(f'of {len(cases)} cases, some were not run')
