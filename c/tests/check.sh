@@ -336,7 +336,7 @@ other_machine() {
 }
 older_build() {
     build install "PREFIX=$scratch/older" && build install "PREFIX=$scratch/older" v3= &&
-        ! find "$scratch/older" -name '*v3*' | grep . &&
+        ! (cd "$scratch/older" && find . -type f | grep v3) &&
         build install "PREFIX=$scratch/older" BUILD_SHARED=no | grep ' stays '
 }
 only_the_program() {
