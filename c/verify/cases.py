@@ -58,18 +58,18 @@ FUNCTIONS = {
                                    for last in fixed.LAST_BYTES)],
         Unpad: each(fixed.LAST_BYTES)}),
 }
-# Calls that the induction shows too, run one by one below LONGEST bytes, since it isn't believed
-# alone. Of writes that complete a block, each length is met, each sum of it and the pending bytes
-# below LONGEST, and each number of these with one to four blocks.
-LONGEST = 320
+# Calls that the induction shows too, since it isn't believed alone: of writes each length, each sum
+# with the pending bytes below LONGEST, and each number of these with one to four blocks.
+LONGEST, MORE = 320, (1000, 4095)
 AGAIN = {
-    '': {fixed.hash_of: each(range(Hash.LEAST * Hash.GRAIN, LONGEST))},
-    '_write': {fixed.write_of: [(p, n) for p in range(64) for n in range(64 - p, LONGEST)
+    '': {fixed.hash_of: each((*range(Hash.LEAST * Hash.GRAIN, LONGEST), *MORE))},
+    '_write': {fixed.write_of: [(p, n) for p in range(64) for n in (*range(64 - p, LONGEST), *MORE)
                                 if p + n == 64 or (2 * p + n) % 63 == 0]},
-    '_rand_fill': {fixed.rand_fill: each(n for n in range(Fill.GRAIN, LONGEST) if n % 8 in (0, 7))},
-    '_pad': {fixed.pad: each(range(Pad.GRAIN, LONGEST))},
-    '_unpad': {fixed.unpad: [(n, (n % 8, byte)) for n in range(Unpad.GRAIN // 8 + 1, LONGEST // 8)
-                             for byte in (1, 2)]}}
+    '_rand_fill': {fixed.rand_fill: each(n for n in (*range(Fill.GRAIN, LONGEST), *MORE)
+                                         if n % 8 in (0, 7))},
+    '_pad': {fixed.pad: each((*range(Pad.GRAIN, LONGEST), *MORE))},
+    '_unpad': {fixed.unpad: [(n // 8, (n // 8 % 8, byte)) for n in (*range(
+        Unpad.GRAIN + 8, LONGEST, 8), *MORE) for byte in (1, 2)]}}
 NAMES = [f'komihash_v{version}{suffix}' for version in VERSIONS for suffix in FUNCTIONS]
 
 

@@ -1,11 +1,15 @@
 """Changes the file of a library or bytes of its code, one at a time. Each must be refused for the
 reason that stands beside it: attacks.py LEVEL:LIBRARY.."""
+import contextlib
 import functools
+import os
+import platform
+import random
 import struct
 import subprocess
 import sys
 import tempfile
-from rows import VERIFY, Row, cases, count, refusal
+from rows import VERIFY, Row, Unknown, cases, count, names_there, refusal
 import elf
 from elf import DYNAMIC, EXECUTE, FRAMES, LOAD, NOTES, RELRO, SONAME, STACK, TABLE
 
@@ -294,6 +298,35 @@ def told(make, level, right):
     return f'{done.stdout}{done.returncode}'
 
 
+# Prints where in the file glibc finds functions.
+LOADED = '''
+import ctypes, sys
+library = ctypes.CDLL(sys.argv[1])
+base = min(int(one.split('-')[0], 16) for one in open('/proc/self/maps') if sys.argv[1] in one)
+print([ctypes.cast(library[one], ctypes.c_void_p).value - base for one in sys.argv[2:]])
+'''
+
+
+def loaded(edit, content, level):
+    """Of edited files, and some with a random byte in what is no code, those that pass, but that
+    glibc reads in another way."""
+    r, places = random.Random(os.environ.get('SEED', '1')), [
+        k for part in edit.parts if not part.flags & EXECUTE
+        for k in range(part.offset, part.offset + part.filled)]
+    for name, _, *change in [*changes(edit), *(
+            (f'byte {at}', 0, edit.put, (at, 1), r.randrange(256)) for at in r.choices(places, k=400))]:
+        file = edited(edit, content, *change)
+        with contextlib.suppress(Unknown), tempfile.NamedTemporaryFile(buffering=0) as copy:
+            image = cases.open_library(bytes(file), level)
+            names_there(image, cases.NAMES, False)
+            copy.write(file)
+            done = subprocess.run([sys.executable, '-c', LOADED, copy.name, *cases.NAMES],
+                                  check=False, text=True, capture_output=True)
+            if done.stdout.strip() != f'{[image.functions[one] for one in cases.NAMES]}':
+                return f'{name}: {done}'
+    return None
+
+
 def edited(edit, content, change, *args):
     edit.content[:] = content
     change(*args)
@@ -306,6 +339,9 @@ def rows(*libraries):
             content = file.read()
         edit = Edit(content, level)
         yield Row('no level', 'has no level', functools.partial(refusal, content, 'none', NAME))
+        if level == 'x86-64' and platform.machine() == 'x86_64':
+            yield Row('what passes, as glibc reads it', 'None',
+                      functools.partial(loaded, edit, content, level))
         for name, reason, *change in changes(edit):
             make = functools.partial(edited, edit, content, *change)
             yield Row(name, reason, lambda make=make, level=level: refusal(make(), level, NAME))

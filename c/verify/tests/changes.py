@@ -3,6 +3,7 @@ else a claim needs, after which nothing may be claimed: changes.py x86-64:LIBRAR
 others than the first, only long calls are judged."""
 import contextlib
 import functools
+import hashlib
 import re
 import sys
 from unittest import mock
@@ -37,12 +38,17 @@ CALLS = {
               'And(length == 1, room == 8, last == 0, out == words + 1)'}
 
 # How many cases there are of each function of a version.
-CASES = [329, 2, 2, 2500, 129, 65, 134, 2, 2, 2, 2, 178, 322, 473]
+CASES = [331, 2, 2, 2503, 129, 65, 134, 2, 2, 2, 2, 180, 324, 477]
 
 # For hashes, writes, fills, pad and unpad, how many calls of loops are also run one by one, the
 # first, and the last.
-AGAIN = '192, (128,), (319,)), ..355, (0, 64), (63, 315)), ..48, (128,), (319,)), ..' \
-    "('_pad', 192, (128,), (319,)), ..46, (17, (1, 1)), (39, (7, 2)))"
+AGAIN = '194, (128,), (4095,)), ..358, (0, 64), (63, 4095)), ..50, (128,), (4095,)), ..' \
+    "('_pad', 194, (128,), (4095,)), ..50, (17, (1, 1)), (511, (7, 2)))"
+
+# What is stated by hand of the header: a sum of its first comment, from which header.py has formulas,
+# and for each function of a version, what it returns, from which checks have results.
+STATED = '1aed2afee316159f uint64_t komihash_v4_stream void void uint64_t size_t bool ' \
+    'komihash_v4_rand komihash_v4_rand komihash_v4_rand uint64_t void size_t size_t'
 
 
 def with_products(suffix, formula):
@@ -134,6 +140,15 @@ def counted(run):
         run()
     some = [case.name for case in given.call_args[0][2]]
     return [some.count(name) for name in cases.NAMES]
+
+
+def stated():
+    """What is stated by hand of the header."""
+    with open(cases.header.HEADER, 'rb') as file:
+        text = file.read()
+    return f"{hashlib.sha256(text[:text.find(b'*/')]).hexdigest()[:16]} " + ' '.join(
+        re.search(cases.header.PROTOTYPE.format(name), text.decode())[1]
+        for name in cases.NAMES[:len(CASES)])
 
 
 def lengths():
@@ -260,6 +275,7 @@ def changes(level, path, content):
         *((f'another value of {call}', f'gives 4 ..for {call} [', (vectors, 'CALLS', {
             **vectors.CALLS, call: lambda *_: 4}), definition) for call in [*vectors.CALLS][1:]),
         ('the lengths of streams', f'{[*range(128)]}', (), lengths),
+        ('what is stated of the header', STATED, (), stated),
         ('what may depend on contents', "['_resume', '_unpad']", (), lambda: [
             suffix for suffix, row in cases.FUNCTIONS.items() if row.by_contents]),
         ('a wrong call that is run again', '(0, 1)', (

@@ -319,7 +319,7 @@ def differences(kind, level, command, run, *given):
     compared, and what should not be allowed; or None."""
     with mock.patch.multiple(machine, LOADED=bv(0)), mock.patch.multiple(x86_64, LOADED=bv(0)), \
             mock.patch.multiple(aarch64, LOADED=bv(0)):
-        runs = Runs(kind, level, f'{given[-1]}')
+        runs = Runs(kind, level, f'{given[-1]}' + os.environ.get('SEED', ''))
         run(runs, *given)
     replies = replies_of([image for _, image, _ in runs.list], command)
     failed = [f'{text}: {what} is {after[what]:#x} in the model, and {real:#x} really'
