@@ -22,7 +22,7 @@ def example(end, found, wanted):
 
     def at_random(name):
         return bv(random.getrandbits(64), SYMBOLS.term[name].size())
-    for number_of in of_model, at_random, at_random:
+    for number_of in of_model, *[at_random] * 8:
         one, other, values = evaluated(end.products, number_of, found, wanted)
         if one != other:
             break

@@ -194,7 +194,7 @@ whole blocks that are wrong|v5_write|Write(13,)..the stream at 0|stp x0, x30, [s
 whole blocks of version 4|v4|Hash(0,)..|nop
 5 bytes more that are wrong|v5_write|Write(13,)..the stream at 0|stp x0, x30, [sp, -16]!; bl body;
     ldp x0, x30, [sp], 16; ldr x9, [x0, 64]; cmp x9, 5; b.ne 1f; strb w9, [x0]; 1: ret
-a hash of 5 bytes more that is wrong|v5|Hash(5,)..hash: found|stp x1, x30, [sp, -16]!; bl body;
+a hash of 5 bytes more that is wrong|v5|Hash(5,)..hash: found/hash: not shown|stp x1, x30, [sp, -16]!; bl body;
     ldp x1, x30, [sp], 16; cmp x1, 261; b.ne 1f; mvn x0, x0; 1: ret
 '''
 # The registers that a call must preserve, by the calling conventions of System V and of Arm, where
@@ -307,7 +307,7 @@ def of_writes():
 def of_outputs():
     for function, case, *wrong in lines(OUTPUTS):
         for what, do in (one.split(': ') for one in wrong):
-            yield f'{function}, {case}: {do}', function, f'{case}..{what}: found', f'after "{do}"'
+            yield f'{function}, {case}: {do}', function, f'{case}..{what}: found/{what}: not shown', f'after "{do}"'
 
 
 def of_arrays():
