@@ -179,8 +179,8 @@ def of_segments(e):
         ('a shorter table of parts', 'another one', NOTES, 0, (KIND, TABLE), *at_64),
         ('a dynamic table at address 0', 'at address 0', DYNAMIC, 0, (START, 0), (OFFSET, 0)),
         ('a table of parts that can change', 'another one', LOAD, 0, (RIGHTS, 6)))] + [
-            ('a table of parts over the end of one', 'another one', e.move_table,
-             code.offset + code.filled - 100),
+            *((f'a table of parts over the end of part {k}', 'another one', e.move_table,
+               part.offset + part.filled - 100) for k, part in enumerate(e.parts[:e.code_at + 1])),
             *((f'a last segment of type {kind:#x}', reason, e.fill_table,
                kind, rights, 8, 8, 8, 1, 1, code.align) for kind, rights, reason in (
                    (LOAD, elf.READ, 'mapped over'), (7, 0, 'unknown type'),

@@ -77,6 +77,11 @@ def alike(call, do=cases.fixed.generator):
     return base, (word, word)
 
 
+def with_zero(values, k):
+    """Bytes of which one is zero, by its number from the begin or, if negative, from the end."""
+    return [*values[:k], bv(0, 8), *values[k:][1:]] if values else []
+
+
 def sums():
     """Whether each sum and each half of a product of a call has a symbol of its own."""
     products = Products()
@@ -195,14 +200,27 @@ def changes(level, path, content):
         *((f'a message {name}', 'is not any', (Call, 'message', lambda call, n, do=do: (
             call.array('bytes', n, do(n)), do(n))), judge('', 'all calls')) for name, do in (
                 ('of zeros', lambda n: [bv(0, 8)] * n),
-                ('with a zero', lambda n: [bv(0, 8), *named('bytes', range(1, n))][:n]),
+                *((f'with a zero at {k}', lambda n, k=k: with_zero(named('bytes', range(n)), k))
+                  for k in (0, -1)),
                 ('of even bytes', lambda n: [one << 1 for one in named('bytes', range(n))]),
                 ('with an even byte', lambda n: [
                     one if k else one << 1 for k, one in enumerate(named('bytes', range(n)))]),
                 ('of zeros, if it is long', lambda n: [bv(0, 8)] * n if n == 127 else named(
                     'bytes', range(n))))),
-        ('a text with a zero', 'is not any', (cases.fixed, 'named', lambda name, of: [
-            bv(0, 8), *named(name, of)[1:]]), judge('_resume', 'all calls')),
+        *((f'{what} with a zero at {k}', 'is not any', (cases.fixed, name, do), judge(suffix, 'all'))
+          for what, suffix, name, numbers, doing in (
+              ('a text', '_resume', 'named', (0, -1), lambda k: lambda name, of: with_zero(
+                  named(name, of), k)),
+              # Of the last word, the cases together have all values.
+              ('words', '_unpad', 'padded_content', (0, -9), lambda k: lambda call, content, last,
+               do=cases.fixed.padded_content: do(call, with_zero(content, k), last)))
+          for k in numbers for do in [doing(k)]),
+        *((f'{what} at a cut, {among}', 'at a cut is not any', (any_length, name, do),
+           judge(suffix, among)) for suffix, among, what, name, do in (
+               ('', 'Hash(0,)', 'lanes that are alike', 'some_lanes', lambda *_: [secret('one')] * 8),
+               *((suffix, among, 'bytes with a zero', 'named', lambda name, of: with_zero(
+                   named(name, of), -1) if name == 'turn' else named(name, of))
+                 for suffix, among in (('', 'Hash(0,)'), ('_pad', 'Pad'))))),
         ('registers that are alike', 'is not any', (cases.X86, 'registers', lambda cpu,
             do=cases.X86.registers: {**do(cpu), 'rbx': do(cpu)['rbp']}),
          judge('_rand_next', 'all calls')),
@@ -215,9 +233,6 @@ def changes(level, path, content):
             lambda version, n, block: State(some_lanes(), [
                 one << 1 for one in named('pending', range(n))], block)),
          judge('_finish', 'all calls')),
-        ('words with a zero', 'is not any', (cases.fixed, 'padded_content',
-            lambda call, content, last, do=cases.fixed.padded_content: do(
-                call, [bv(0, 8), *content[1:]], last)), judge('_unpad', 'all calls')),
         ('words that are alike', 'is not any', (cases.fixed, 'generator', alike),
          judge('_rand_next', 'all calls')),
         ('lanes that are alike', 'is not any', (cases.fixed, 'some_state', lambda version, n, block:
