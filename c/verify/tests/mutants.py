@@ -128,15 +128,14 @@ def excepted():
 
 # Without a change, only short calls are checked, since the gate runs all else so.
 UNCHANGED = Change('progress.py', 0, '', '')
-# The scripts whose rows run what a file has.
+# The scripts whose rows run what a file has, and where among them long calls of right libraries.
 SCRIPTS = {
-    UNCHANGED.file: '',
-    'elf.py': 'attacks', 'image.py': 'attacks bodies',
-    **dict.fromkeys(('opcodes.py', 'x86_64.py', 'aarch64.py'), 'instructions bodies'),
-    **dict.fromkeys(('header.py', 'vectors.py', 'streams.py'), 'changes'),
-    **dict.fromkeys(('calls.py', 'fixed_lengths.py'), 'changes bodies'),
-    **dict.fromkeys(('induction.py', 'forms.py', 'any_length.py'), 'bodies changes'),
-    'cases.py': 'changes bodies commands', 'report.py': 'changes commands'}
+    UNCHANGED.file: '', 'elf.py': 'attacks long', 'image.py': 'attacks bodies long',
+    **dict.fromkeys(('opcodes.py', 'x86_64.py', 'aarch64.py'), 'instructions bodies long'),
+    **dict.fromkeys(('vectors.py', 'streams.py'), 'changes'), 'header.py': 'long changes',
+    **dict.fromkeys(('calls.py', 'fixed_lengths.py'), 'changes bodies long'),
+    **dict.fromkeys(('induction.py', 'forms.py', 'any_length.py'), 'bodies changes long'),
+    'cases.py': 'changes bodies commands long', 'report.py': 'changes commands'}
 
 
 def rows(folder, libraries):
@@ -183,10 +182,10 @@ def first_that_fails(file, seed, noticed, folder, *libraries):
         os._exit(0)
     import rows as of_rows
     found, r, noticed = rows(folder, libraries), random.Random(seed), noticed.split('\n')
-    scripts = SCRIPTS.get(file, 'bodies changes instructions').split()
-    some = [row for script in scripts for row in r.sample(found[script], len(found[script]))]
-    for row in sorted([*found['right'], *some, *(found['long'] if scripts else ())],
-                      key=lambda row: [*noticed, row.name].index(row.name)):
+    some = [row for script in SCRIPTS.get(file, 'bodies changes instructions long').split()
+            for row in r.sample(found[script], len(found[script]))]
+    for row in sorted([*found['right'], *some], key=lambda row: [
+            *noticed, row.name].index(row.name)):
         signal.signal(signal.SIGVTALRM, lambda *_, row=row: tell(row, 'it takes too long'))
         signal.setitimer(signal.ITIMER_VIRTUAL, SECONDS)
         fits, why = of_rows.judge(row)
