@@ -9,7 +9,7 @@ import struct
 import subprocess
 import sys
 import tempfile
-from rows import VERIFY, Row, Unknown, cases, count, names_there, refusal
+from rows import VERIFY, Row, Unknown, cases, count, opened, refusal
 import elf
 from elf import DYNAMIC, EXECUTE, FRAMES, LOAD, NOTES, RELRO, SONAME, STACK, TABLE
 
@@ -313,12 +313,12 @@ def loaded(edit, content, level):
     r, places = random.Random(os.environ.get('SEED', '1')), [
         k for part in edit.parts if not part.flags & EXECUTE
         for k in range(part.offset, part.offset + part.filled)]
-    for name, _, *change in [*changes(edit), *(
-            (f'byte {at}', 0, edit.put, (at, 1), r.randrange(256)) for at in r.choices(places, k=400))]:
+    some = ((f'byte {at}', '', edit.put, (at, 1), r.randrange(256))
+            for at in r.choices(places, k=400))
+    for name, _, *change in (*changes(edit), *some):
         file = edited(edit, content, *change)
         with contextlib.suppress(Unknown), tempfile.NamedTemporaryFile(buffering=0) as copy:
-            image = cases.open_library(bytes(file), level)
-            names_there(image, cases.NAMES, False)
+            image = opened(file, level)
             copy.write(file)
             done = subprocess.run([sys.executable, '-c', LOADED, copy.name, *cases.NAMES],
                                   check=False, text=True, capture_output=True)

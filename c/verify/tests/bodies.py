@@ -168,7 +168,10 @@ a vector over a generator||in no array|vmovups xmm0, [rdi]; vmovups [rdi], ymm0;
 a vector on the stack|||
     vmovups ymm0, [rip + __ehdr_start]; sub rsp, 40; vmovups [rsp], ymm0; add rsp, 40
 '''
-ARM = '', '''
+ARM = '''
+.macro after kept, code; stp \\kept, x30, [sp, -16]!; bl body; ldp \\kept, x30, [sp], 16; \\code
+    1: ret; .endm
+''', '''
 a frame not aligned||not aligned to 16|sub sp, sp, 8; str x0, [sp]; add sp, sp, 8
 a load from a frame not aligned||not aligned to 16|sub sp, sp, 24; mov x10, sp; str x9, [x10];
     ldr x9, [sp]; add sp, sp, 24
@@ -187,15 +190,15 @@ a changed return address||not the caller|eor x30, x30, 4
 a byte that was popped||not written|str x0, [sp, -16]!; add sp, sp, 16; sub sp, sp, 16;
     ldr x0, [sp], 16
 a call|||stp x0, x30, [sp, -16]!; bl 1f; ldp x0, x30, [sp], 16; b body; 1: ret
-whole blocks that are wrong|v5_write|Write(13,)..the stream at 0|stp x0, x30, [sp, -16]!; bl body;
-    ldp x0, x30, [sp], 16; ldr x9, [x0, 64]; cbnz x9, 1f; mov w9, 1; strb w9, [x0]; 1: ret
-63 bytes more that are wrong|v5_write|Write(13,)..the stream at 0|stp x0, x30, [sp, -16]!; bl body;
-    ldp x0, x30, [sp], 16; ldr x9, [x0, 64]; cmp x9, 63; b.ne 1f; strb w9, [x0]; 1: ret
+whole blocks that are wrong|v5_write|Write(13,)..the stream at 0|
+    after x0, "ldr x9, [x0, 64]; cbnz x9, 1f; mov w9, 1; strb w9, [x0]"
+63 bytes more that are wrong|v5_write|Write(13,)..the stream at 0|
+    after x0, "ldr x9, [x0, 64]; cmp x9, 63; b.ne 1f; strb w9, [x0]"
 whole blocks of version 4|v4|Hash(0,)..|nop
-5 bytes more that are wrong|v5_write|Write(13,)..the stream at 0|stp x0, x30, [sp, -16]!; bl body;
-    ldp x0, x30, [sp], 16; ldr x9, [x0, 64]; cmp x9, 5; b.ne 1f; strb w9, [x0]; 1: ret
-a hash of 5 bytes more that is wrong|v5|Hash(5,)..hash: found/hash: not shown|stp x1, x30, [sp, -16]!; bl body;
-    ldp x1, x30, [sp], 16; cmp x1, 261; b.ne 1f; mvn x0, x0; 1: ret
+5 bytes more that are wrong|v5_write|Write(13,)..the stream at 0|
+    after x0, "ldr x9, [x0, 64]; cmp x9, 5; b.ne 1f; strb w9, [x0]"
+a hash of 5 bytes more that is wrong|v5|Hash(5,)..hash: found/hash: not shown|
+    after x1, "cmp x1, 261; b.ne 1f; mvn x0, x0"
 '''
 # The registers that a call must preserve, by the calling conventions of System V and of Arm, where
 # x18 is the platform's, and the low halves of vectors are preserved. A bit of each is changed.
@@ -307,7 +310,8 @@ def of_writes():
 def of_outputs():
     for function, case, *wrong in lines(OUTPUTS):
         for what, do in (one.split(': ') for one in wrong):
-            yield f'{function}, {case}: {do}', function, f'{case}..{what}: found/{what}: not shown', f'after "{do}"'
+            yield f'{function}, {case}: {do}', function, \
+                f'{case}..{what}: found/{what}: not shown', f'after "{do}"'
 
 
 def of_arrays():

@@ -45,8 +45,8 @@ CASES = [331, 2, 2, 2503, 129, 65, 134, 2, 2, 2, 2, 180, 324, 477]
 AGAIN = '194, (128,), (4095,)), ..358, (0, 64), (63, 4095)), ..50, (128,), (4095,)), ..' \
     "('_pad', 194, (128,), (4095,)), ..50, (17, (1, 1)), (511, (7, 2)))"
 
-# What is stated by hand of the header: a sum of its first comment, from which header.py has formulas,
-# and for each function of a version, what it returns, from which checks have results.
+# What is stated by hand of the header: a sum of its first comment, which header.py has in formulas,
+# and for each function of a version, what it returns, which checks read.
 STATED = '1aed2afee316159f uint64_t komihash_v4_stream void void uint64_t size_t bool ' \
     'komihash_v4_rand komihash_v4_rand komihash_v4_rand uint64_t void size_t size_t'
 
@@ -78,7 +78,7 @@ def alike(call, do=cases.fixed.generator):
 
 
 def with_zero(values, k):
-    """Bytes of which one is zero, by its number from the begin or, if negative, from the end."""
+    """Bytes of which one is zero: the first, or with a negative number, one from the end."""
     return [*values[:k], bv(0, 8), *values[k:][1:]] if values else []
 
 
@@ -207,20 +207,19 @@ def changes(level, path, content):
                     one if k else one << 1 for k, one in enumerate(named('bytes', range(n)))]),
                 ('of zeros, if it is long', lambda n: [bv(0, 8)] * n if n == 127 else named(
                     'bytes', range(n))))),
-        *((f'{what} with a zero at {k}', 'is not any', (cases.fixed, name, do), judge(suffix, 'all'))
-          for what, suffix, name, numbers, doing in (
-              ('a text', '_resume', 'named', (0, -1), lambda k: lambda name, of: with_zero(
-                  named(name, of), k)),
-              # Of the last word, the cases together have all values.
-              ('words', '_unpad', 'padded_content', (0, -9), lambda k: lambda call, content, last,
-               do=cases.fixed.padded_content: do(call, with_zero(content, k), last)))
-          for k in numbers for do in [doing(k)]),
-        *((f'{what} at a cut, {among}', 'at a cut is not any', (any_length, name, do),
-           judge(suffix, among)) for suffix, among, what, name, do in (
-               ('', 'Hash(0,)', 'lanes that are alike', 'some_lanes', lambda *_: [secret('one')] * 8),
-               *((suffix, among, 'bytes with a zero', 'named', lambda name, of: with_zero(
-                   named(name, of), -1) if name == 'turn' else named(name, of))
-                 for suffix, among in (('', 'Hash(0,)'), ('_pad', 'Pad'))))),
+        *((f'a text with a zero at {k}', 'is not any', (cases.fixed, 'named', lambda name, of, k=k:
+            with_zero(named(name, of), k)), judge('_resume', 'all calls')) for k in (0, -1)),
+        # Of the last word, the cases together have all values.
+        *((f'words with a zero at {k}', 'is not any', (cases.fixed, 'padded_content',
+            lambda call, content, last, k=k, do=cases.fixed.padded_content: do(
+                call, with_zero(content, k), last)), judge('_unpad', 'all calls'))
+          for k in (0, -9)),
+        ('lanes that are alike at a cut', 'at a cut is not any', (
+            any_length, 'some_lanes', lambda *_: [secret('one')] * 8), judge('', 'Hash(0,)')),
+        *((f'bytes with a zero at a cut, {among}', 'at a cut is not any', (
+            any_length, 'named', lambda name, of: with_zero(named(name, of), -1)
+            if name == 'turn' else named(name, of)), judge(suffix, among))
+          for suffix, among in (('', 'Hash(0,)'), ('_pad', 'Pad'))),
         ('registers that are alike', 'is not any', (cases.X86, 'registers', lambda cpu,
             do=cases.X86.registers: {**do(cpu), 'rbx': do(cpu)['rbp']}),
          judge('_rand_next', 'all calls')),
@@ -262,6 +261,8 @@ def changes(level, path, content):
         *((f'{what} that is not run', 'were not run', (report, 'cases_of', lambda name, some=some:
             cases.cases_of(name)[some]), whole('komihash_v4_rand_next')) for what, some in (
                 ('a question', slice(1, None)), ('a case', slice(-1)))),
+        ('a case that is not run again', 'were not run', (report, 'results', lambda _, do, tasks: [
+            cases.Done(one, None, 0, 0, 0) for one in tasks[:-1]]), whole('komihash_v4_pad')),
         *((f'another hash of {n} bytes', f'for {n} bytes', (streams, name, lambda products, version,
             *given, do=getattr(streams, name), wrong=wrong: do(products, version, *given) + (
                 version == wrong)), find) for n, name, wrong, find in (

@@ -13,12 +13,18 @@ Row = collections.namedtuple('Row', 'name reason find')
 ROWS = []
 
 
+def opened(content, level, red_zone=False):
+    """A library of ours, of which no case was run yet."""
+    image = cases.open_library(bytes(content), level, red_zone=red_zone)
+    names_there(image, cases.NAMES, False)
+    return image
+
+
 def refusal(content, level, name, red_zone=False, among=''):
     """Why a library is refused, as far as those cases of a function show it that have `among` in
     their names; or None. Loops come first."""
     try:
-        image = cases.open_library(bytes(content), level, red_zone=red_zone)
-        names_there(image, cases.NAMES, False)
+        opened(content, level, red_zone)
     except Unknown as unknown:
         return f'{unknown}'
     some = [case for case in (*cases.cases_of(name), *cases.cases_again(name))
