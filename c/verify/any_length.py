@@ -200,7 +200,7 @@ class Fill(Induction):
         return self.go_on(rest)
 
     def go_on(self, size):
-        """Any pair, when so many bytes come. What memory holds of the first is not read again."""
+        """Any pair, when so many bytes come, and a generator in memory that may not hold it."""
         self.call.array('rand', 16, high=16, writable=True)
         pair = secret('s1 at a cut'), secret('s2 at a cut')
         self.base = self.call.base('out', self.length)

@@ -70,8 +70,8 @@ class Call:
         return self.aligned(base)
 
     def has_any_contents(self):
-        """Whether each seed, lane and byte that is passed is a secret symbol of its own, as what the
-        caller has in registers. Of the last word of `unpad`, the header asks what it may be."""
+        """Whether each seed, lane and byte that is passed is a secret symbol of its own, as is what
+        the caller has in registers. Of the last word of `unpad`, header.py asks what it may be."""
         parts = [*(self.state.lanes + self.state.pending if self.state else ()), *(
             term for (name, _), (term, k) in self.memory.data.items()
             if k == 0 and name not in ('stream', 'stack', 'shadow')), *(

@@ -1,10 +1,10 @@
 """The cases of each function, how one is checked, and the processes that work on them."""
 import collections
+import inspect
 import multiprocessing
 import signal
 import time
-from concurrent.futures import ProcessPoolExecutor, as_completed
-from concurrent.futures.process import BrokenProcessPool
+from concurrent.futures import BrokenExecutor, ProcessPoolExecutor, as_completed
 import fixed_lengths as fixed
 import header
 import terms
@@ -95,7 +95,7 @@ class Case(collections.namedtuple('Case', 'name check args')):
             for n, count in done.counted:
                 self.check_products(count, n, 0)
         else:
-            sizes = dict(zip(self.check.__code__.co_varnames[2:], self.args))
+            sizes = inspect.signature(self.check).bind(None, None, *self.args).arguments
             self.check_products(len(done.products.list), sizes.get('length'), sizes.get('pending'))
         return done.seen
 
@@ -178,7 +178,7 @@ def results(jobs, do, tasks):
                              (signal.SIGINT, signal.SIG_IGN)) as pool:
         try:
             yield from (one.result() for one in as_completed(pool.submit(do, t) for t in tasks))
-        except BrokenProcessPool:
+        except BrokenExecutor:
             raise Unknown('a process ended, perhaps because memory ran out') from None
         finally:
             for process in multiprocessing.active_children():

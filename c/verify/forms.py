@@ -36,13 +36,13 @@ class Arrival:
 
 
 def words_in(cpu):
-    """The words of registers, of both stacks and of a stream, and the flags of a stream."""
+    """The words of registers, both stacks, a generator and a stream, and a stream's flags."""
     found = {(n, low // 64): part(term, low, 64)
              for n, term in cpu.r.items() for low in range(0, width_of(term), 64)}
     known = cpu.memory.data
     for name, k in known:
         size = size_of(cpu, name, k)
-        if name in ('stack', 'shadow', 'stream') and k % size == 0:
+        if name in ('stack', 'shadow', 'stream', 'rand') and k % size == 0:
             if all((name, k + j) in known for j in range(size)):
                 found[name, k] = cpu.memory.content(name, k, size)
     return found

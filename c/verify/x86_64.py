@@ -263,7 +263,7 @@ def vector(c, i):
     c.put(i, 0, join(pieces))
 
 
-# For each, how many bits a piece has, and how the pieces of its sources and its number give those of
+# For each, how many bits a piece has, and how pieces of its sources and its number give those of
 # its result: of each half, but those of AVX of the whole.
 SSE = {
     'paddq': (64, lambda a, b, n: [x + y for x, y in zip(a, b)]),

@@ -23,6 +23,10 @@ X86 = '''
 .macro pad before, in, after; mov r8, rsi; shr r8, 3; xor eax, eax; cmp rcx, r8; jbe .Lend
     \\before; xor r9d, r9d; .Lturn: cmp r9, r8; jae .Lrest; word; \\in
     jmp .Lturn; tail "\\after"; .endm
+.macro fill in; mov r9, rdx; mov r8, 0x5555555555555555; 1: cmp r9, 8; jb 2f; mov rax, [rdi]
+    mul qword ptr [rdi + 8]; xor rax, rdx; add rax, r8; mov [rdi], rax; mov [rsi], rax; not r8
+    add rdx, r8; not r8; add [rdi + 8], rdx; \\in; add rsi, 8; sub r9, 8; jmp 1b
+    2: mov rdx, r9; .endm
 .macro tail after; .Lrest: \\after; xor r10d, r10d; cmp r10, rsi; adc r10d, 0; and esi, 7
     je .Lstore; .Lbyte: shl r10, 8; lea r11, [rdi + 8*r8]; movzx r11d, byte ptr [r11 + rsi - 1]
     or r10, r11; dec esi; jne .Lbyte; .Lstore: mov [rdx + 8*r8], r10; lea rax, [r8 + 1]
@@ -48,6 +52,11 @@ rbx after a turn|v5_pad|Pad..rbx of the caller|pad "", "cmp r9, 400; jne .Lturn;
 rbx if refused|v5_pad|Pad..rbx of the caller|test rcx, rcx; jne body; bts rbx, 63; xor eax, eax; ret
 an old generator|v5_rand_fill|Fill..does not have|push r15; mov r15, [rdi]; call body; pop r15; ret;
     turn: cmp INDEX, 500; jne 1f; mov FACTOR, r15; 1:
+a generator in memory|v5_rand_fill|Fill..|fill ""
+one that a turn changes|v5_rand_fill|Fill..does not have|
+    fill "cmp r9, 400; jne 3f; not byte ptr [rdi]; 3:"
+the words of a generator exchanged at the end|v5_rand_fill|Fill..s1|fill ""; cmp r9, 3; jne body;
+    mov r10, [rdi]; mov r11, [rdi + 8]; mov [rdi], r11; mov [rdi + 8], r10
 a word that a loop loses|v5_pad|Pad..not written|
     pad "sub rsp, 8; cmp rsi, 5000; jb 1f; mov [rsp], rsi; 1:", "", "mov r11, [rsp]; add rsp, 8"
 a stack that is lower at the end||not where the caller left it|push [rsp]

@@ -134,7 +134,7 @@ SCRIPTS = {
     **dict.fromkeys(('opcodes.py', 'x86_64.py', 'aarch64.py'), 'instructions bodies long'),
     **dict.fromkeys(('vectors.py', 'streams.py'), 'changes'), 'header.py': 'long changes',
     **dict.fromkeys(('calls.py', 'fixed_lengths.py'), 'changes bodies long'),
-    **dict.fromkeys(('induction.py', 'forms.py', 'any_length.py'), 'bodies changes long'),
+    **dict.fromkeys(('induction.py', 'forms.py', 'any_length.py'), 'changes bodies long'),
     'cases.py': 'changes bodies commands long', 'report.py': 'changes commands'}
 
 
