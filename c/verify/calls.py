@@ -70,15 +70,15 @@ class Call:
         return self.aligned(base)
 
     def has_any_contents(self):
-        """Whether each seed, lane and byte that is passed is a secret symbol of its own, as is what
-        the caller has in registers. Of the last word of `unpad`, header.py asks what it may be."""
+        """Whether each seed, lane and byte that is passed, and what the caller has in registers, is
+        a secret symbol of its own, and no flag is known. Of `unpad`'s last word, header.py asks."""
         parts = [*(self.state.lanes + self.state.pending if self.state else ()), *(
             term for (name, _), (term, k) in self.memory.data.items()
             if k == 0 and name not in ('stream', 'stack', 'shadow')), *(
                 term for term in self.cpu.before.values() if symbols(term) - {'sp', 'return'}), *(
                     term for term in self.args if not is_public(term))]
         last = {id(one) for one in self.last_bytes[1:]}
-        return are_any(part for part in parts if id(part) not in last)
+        return not self.cpu.flags and are_any(part for part in parts if id(part) not in last)
 
     def begin(self, args):
         self.args = args

@@ -11,7 +11,7 @@ import sys
 import tempfile
 from rows import VERIFY, Row, Unknown, cases, count, opened, refusal
 import elf
-from elf import DYNAMIC, EXECUTE, FRAMES, LOAD, NOTES, RELRO, SONAME, STACK, TABLE
+from elf import DYNAMIC, EXECUTE, FRAMES, LOAD, NOTES, RELRO, SONAME, STACK, TABLE, WRITE
 
 NAME, OTHER_NAME, LONG_NAME = 'komihash_v5_rand_next', 'komihash_v4_rand_next', 'komihash_v4'
 KIND, RIGHTS, OFFSET, START, FILLED, SIZE, ALIGN = \
@@ -298,12 +298,15 @@ def told(make, level, right):
     return f'{done.stdout}{done.returncode}'
 
 
-# Prints where in the file glibc finds functions.
+# Prints where in the file glibc finds functions, and rights and bytes of parts of memory.
 LOADED = '''
 import ctypes, sys
-library = ctypes.CDLL(sys.argv[1])
-base = min(int(one.split('-')[0], 16) for one in open('/proc/self/maps') if sys.argv[1] in one)
-print([ctypes.cast(library[one], ctypes.c_void_p).value - base for one in sys.argv[2:]])
+path, parts, *names = sys.argv[1:]
+library, maps = ctypes.CDLL(path), [one.split() for one in open('/proc/self/maps')]
+base = min(int(one[0].split('-')[0], 16) for one in maps if path in one)
+print([ctypes.cast(library[one], ctypes.c_void_p).value - base for one in names], [
+    (next(one[1] for one in maps if base + at < int(one[0].split('-')[1], 16)),
+     ctypes.string_at(base + at, size)) for at, size in eval(parts)])
 '''
 
 
@@ -320,10 +323,14 @@ def loaded(edit, content, level):
         with contextlib.suppress(Unknown), tempfile.NamedTemporaryFile(buffering=0) as copy:
             image = opened(file, level)
             copy.write(file)
-            done = subprocess.run([sys.executable, '-c', LOADED, copy.name, *cases.NAMES],
-                                  check=False, text=True, capture_output=True)
-            if done.stdout.strip() != f'{[image.functions[one] for one in cases.NAMES]}':
-                return f'{name}: {done}'
+            parts = [part for part in image.elf.parts if not part.flags & WRITE]
+            done = subprocess.run(
+                [sys.executable, '-c', LOADED, copy.name,
+                 f'{[(part.start, len(part.data)) for part in parts]}', *cases.NAMES],
+                check=False, text=True, capture_output=True)
+            wanted = [('r-xp' if part.flags & EXECUTE else 'r--p', part.data) for part in parts]
+            if done.stdout.strip() != f'{[*map(image.functions.get, cases.NAMES)]} {wanted}':
+                return f'{name}: {done.stderr or done.stdout}'[:400]
     return None
 
 

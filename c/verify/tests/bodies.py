@@ -217,6 +217,9 @@ SAVED = {'x86-64': [(one, f'bts {one}, {BITS[k % 3]}')
          'armv8-a': [*((f'x{n}', f'eor x{n}, x{n}, 1 << {BITS[n % 3]}') for n in range(18, 30)),
                      *((f'd{n}', f'mov x9, 1 << {BITS[n % 3]}; dup v0.2d, x9; '
                                  f'eor v{n}.16b, v{n}.16b, v0.16b') for n in range(8, 16))]}
+# Jumps by each flag.
+JUMPS = {'x86-64': {'z': 'jz', 's': 'js', 'c': 'jc', 'l': 'jl'},
+         'armv8-a': {'z': 'b.eq', 's': 'b.mi', 'c': 'b.cs', 'l': 'b.lt'}}
 # Arrays on x86-64: a function, the name of a case, and for each array, what may be done with bytes
 # of it, the register of its address, how many there are, and instructions with `_` in its place.
 ACCESS = {'read': 'cmp {} ptr [{}], 0', 'write': 'mov {} ptr [{}], 0', 'both': 'or {} ptr [{}], 0'}
@@ -301,6 +304,8 @@ def table(level):
     return [*lines(KINDS[level][-1][1]),
             *([f'{one} of the caller', '', f'{one} of the caller is lost', body]
               for one, body in SAVED.get(level, ())),
+            *([f'flag {one} of the caller', '', f'flag {one} is read', f'{jump} 1f; 1:']
+              for one, jump in JUMPS.get(level, {}).items()),
             *([*of_arrays(), *of_outputs(), *of_writes()] if level == 'x86-64' else ())]
 
 

@@ -41,9 +41,10 @@ CALLS = {
 CASES = [331, 2, 2, 2503, 129, 65, 134, 2, 2, 2, 2, 180, 324, 477]
 
 # For hashes, writes, fills, pad and unpad, how many calls of loops are also run one by one, the
-# first, and the last.
-AGAIN = '194, (128,), (4095,)), ..358, (0, 64), (63, 4095)), ..50, (128,), (4095,)), ..' \
-    "('_pad', 194, (128,), (4095,)), ..50, (17, (1, 1)), (511, (7, 2)))"
+# first, and the last two.
+AGAIN = '194, (128,), (1000,), (4095,)), ..358, (0, 64), (63, 315), (63, 4095)), ..' \
+    '50, (128,), (1000,), (4095,)), ..194, (128,), (1000,), (4095,)), ..' \
+    '50, (17, (1, 1)), (511, (7, 1)), (511, (7, 2)))'
 
 # What is stated by hand of the header: a sum of its first comment, which header.py has in formulas,
 # and for each function of a version, what it returns, which checks read.
@@ -223,6 +224,11 @@ def changes(level, path, content):
         ('registers that are alike', 'is not any', (cases.X86, 'registers', lambda cpu,
             do=cases.X86.registers: {**do(cpu), 'rbx': do(cpu)['rbp']}),
          judge('_rand_next', 'all calls')),
+        *((f'a flag that is known {when}', reason, (cases.X86, 'put_return', lambda cpu,
+            do=cases.X86.put_return: (do(cpu), cpu.flags.update(s=z3.BoolVal(False)))),
+           judge('', among)) for when, reason, among in (
+               ('of a call', 'passes is not any', 'all calls'),
+               ('at a cut', 'at a cut is not any', 'Hash(0,)'))),
         ('streams without a top bit', 'no case has the call', (cases.fixed, 'some_state',
             lambda version, n, block: State(some_lanes(), named('pending', range(n)), block)),
          judge('_finish', 'all calls')),
@@ -297,7 +303,8 @@ def changes(level, path, content):
         ('a wrong call that is run again', '(0, 1)', (
             cases, 'AGAIN', {'_rand_next': {cases.fixed.hash_of: [(9,)]}}),
          whole('komihash_v4_rand_next')),
-        ('what is run again', AGAIN, (), lambda: [(suffix, len(some), some[0].args, some[-1].args)
+        ('what is run again', AGAIN, (), lambda: [
+            (suffix, len(some), *(some[k].args for k in (0, -2, -1)))
             for suffix in cases.AGAIN for some in [cases.cases_again(f'komihash_v5{suffix}')]]),
         ('the definition', 'None', (), definition),
         ('other words', 'gives none', (vectors, 'padded_words', lambda *_: []), definition),

@@ -34,6 +34,8 @@ TRIES, NEAR, FEW, MANY = 6000, 4, {X86: 16, ARM: 20}, {X86: 32, ARM: 384}
 # How often an instruction of a library is run, and flags that an instruction always sets so.
 TIMES, FIXED = 8, {'shr': {'s'}, **dict.fromkeys(
     ('and', 'or', 'xor', 'test', 'andn', 'ands', 'tst'), {'c', 'v'})}
+# Flags that Intel's manual leaves undefined, and of which processors keep some.
+UNDEFINED = {'bt': 'sl', 'bts': 'sl', 'bsr': 'scl', 'lzcnt': 'sl', 'mul': 'zsl'}
 OTHER_PREFIXES = *PREFIXES, 0x26, 0x36, 0x3e, 0x64, 0x65, 0xf0
 # A version of capstone prints only one of the first two, or `orr` for the last.
 NEVER = {'bti', 'hint', 'mov .01100100.............11111.....'}
@@ -273,6 +275,9 @@ class Runs:
         for flag in flags.keys() - FIXED.get(i.mnemonic, ()):
             if flags[flag] is not None:
                 ways[f'{i.mnemonic}, flag {flag}'].add(bool(flags[flag]))
+        for flag in UNDEFINED.get(i.mnemonic, ''):
+            if after[flag] is not None:
+                self.ways[f'{told(i)}, whose flag {flag} is undefined'] = set()
         self.list.append((told(i), image, after))
         return taken is not None or after['at'] != START + i.size
 

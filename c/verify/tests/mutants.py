@@ -221,6 +221,14 @@ def judge(folder, libraries, noticed, change):
         return change, f'{found}: {row}' if found.startswith('noticed: ') else found
 
 
+def kind_of(found):
+    """What noticed a change, if anything did."""
+    return next((what for what, pattern in (
+        ('not noticed', 'not noticed'), ('noticed by the time', 'takes too long'),
+        ('noticed by an error', r'status|(Error|Exception)\b')) if re.search(pattern, found)),
+                'noticed by a row')
+
+
 def drawn():
     """The changes that the settings choose."""
     files = sorted({path.name for path in VERIFY.glob('*.py')} - LEFT_OUT)
@@ -244,7 +252,7 @@ def main(*libraries):
                 for one in some if one not in excused]
         for done in as_completed(todo):
             change, found = done.result()
-            count[change.file, found if found == 'not noticed' else 'noticed'] += 1
+            count[change.file, kind_of(found)] += 1
             print(f'{"FAILED: " * (found == "not noticed")}{told(change)}: {found}', flush=True)
     for (file, what), number in sorted(count.items()):
         print(f'{file}: {number} {what}')
