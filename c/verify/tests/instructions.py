@@ -35,7 +35,7 @@ TRIES, NEAR, FEW, MANY = 6000, 4, {X86: 16, ARM: 20}, {X86: 32, ARM: 384}
 TIMES, FIXED = 8, {'shr': {'s'}, **dict.fromkeys(
     ('and', 'or', 'xor', 'test', 'andn', 'ands', 'tst'), {'c', 'v'})}
 # Flags that Intel's manual leaves undefined, and of which processors keep some.
-UNDEFINED = {'bt': 'sl', 'bts': 'sl', 'bsr': 'scl', 'lzcnt': 'sl', 'mul': 'zsl'}
+UNDEFINED = {X86: {'bt': 'sl', 'bts': 'sl', 'bsr': 'scl', 'lzcnt': 'sl', 'mul': 'zsl'}, ARM: {}}
 OTHER_PREFIXES = *PREFIXES, 0x26, 0x36, 0x3e, 0x64, 0x65, 0xf0
 # A version of capstone prints only one of the first two, or `orr` for the last.
 NEVER = {'bti', 'hint', 'mov .01100100.............11111.....'}
@@ -275,7 +275,7 @@ class Runs:
         for flag in flags.keys() - FIXED.get(i.mnemonic, ()):
             if flags[flag] is not None:
                 ways[f'{i.mnemonic}, flag {flag}'].add(bool(flags[flag]))
-        for flag in UNDEFINED.get(i.mnemonic, ''):
+        for flag in UNDEFINED[self.kind].get(i.mnemonic, ''):
             if after[flag] is not None:
                 self.ways[f'{told(i)}, whose flag {flag} is undefined'] = set()
         self.list.append((told(i), image, after))
