@@ -371,7 +371,7 @@ def build(path, level, compiler, name, body):
                     '-x', 'assembler-with-cpp', '-'], input=code.encode(), check=True)
 
 
-def found(path, level, compiler, function, among, body):
+def found(path, level, compiler, function, body, among):
     """Why the library with a body is refused, if it is. It is built once."""
     red_zone = body.startswith('red zone')
     if not path.exists():
@@ -387,7 +387,7 @@ def rows(level, compiler, folder):
         function, (among, _, wanted) = function or 'v5_rand_next', reason.rpartition('..')
         path = pathlib.Path(folder, level, f'{number}', LIBRARY)
         yield Row(name, reason if wanted else 'None', functools.partial(
-            found, path, level, compiler, function, among, body))
+            found, path, level, compiler, function, body, among=among))
 
 
 def main(level, compiler):

@@ -128,13 +128,15 @@ def excepted():
 
 # Without a change, only short calls are checked, since the gate runs all else so.
 UNCHANGED = Change('progress.py', 0, '', '')
-# The scripts whose rows run what a file has, and where among them long calls of right libraries.
+# The scripts whose rows run what a file has, in the order in which they are run; `loops` are those
+# of `bodies` that judge long calls, `long` such calls of right libraries, and `questions` those of
+# them that ask whether cases are all calls.
 SCRIPTS = {
     UNCHANGED.file: '', 'elf.py': 'attacks long', 'image.py': 'attacks bodies long',
     **dict.fromkeys(('opcodes.py', 'x86_64.py', 'aarch64.py'), 'instructions bodies long'),
-    **dict.fromkeys(('vectors.py', 'streams.py'), 'changes'), 'header.py': 'long changes',
+    **dict.fromkeys(('vectors.py', 'streams.py'), 'changes'), 'header.py': 'questions changes',
     **dict.fromkeys(('calls.py', 'fixed_lengths.py'), 'changes bodies long'),
-    **dict.fromkeys(('induction.py', 'forms.py', 'any_length.py'), 'changes bodies long'),
+    **dict.fromkeys(('induction.py', 'forms.py', 'any_length.py'), 'changes loops long'),
     'cases.py': 'changes bodies commands long', 'report.py': 'changes commands'}
 
 
@@ -161,12 +163,15 @@ def rows(folder, libraries):
                 row = Row(f'{level}: {case}', 'None',
                           functools.partial(failure, level, path, case))
                 right[case.has_loop()][row.name] = row
+    long = [row for name, row in right[True].items()
+            if '_v5' in name or name.endswith('_v4_unpad, all calls')]
+    some = [row for level, compiler in COMPILERS.items()
+            for row in bodies.rows(level, compiler, folder)]
     return {
-        'right': [*right[False].values()],
-        'long': [row for name, row in right[True].items()
-                 if '_v5' in name or name.endswith('_v4_unpad, all calls')],
-        'bodies': [row for level, compiler in COMPILERS.items()
-                   for row in bodies.rows(level, compiler, folder)],
+        'right': [*right[False].values()], 'long': long, 'bodies': some,
+        'questions': [row for row in long if row.name.endswith('all calls')],
+        'loops': [row for row in some if re.match(
+            'Hash|Write|Fill|Pad|Unpad', row.find.keywords['among'])],
         'changes': [*changes.rows(*libraries)],
         'attacks': [row for row in edits if 'by the command' not in row.name],
         'commands': [row for row in edits if 'by the command' in row.name],
