@@ -3,7 +3,7 @@ reason that stands beside it: attacks.py LEVEL:LIBRARY.."""
 import contextlib
 import functools
 import os
-import platform
+import pathlib
 import random
 import struct
 import subprocess
@@ -298,39 +298,61 @@ def told(make, level, right):
     return f'{done.stdout}{done.returncode}'
 
 
-# Prints where in the file glibc finds functions, and rights and bytes of parts of memory.
-LOADED = '''
-import ctypes, sys
-path, parts, *names = sys.argv[1:]
-library, maps = ctypes.CDLL(path), [one.split() for one in open('/proc/self/maps')]
-base = min(int(one[0].split('-')[0], 16) for one in maps if path in one)
-print([ctypes.cast(library[one], ctypes.c_void_p).value - base for one in names], [
-    (next(one[1] for one in maps if base + at < int(one[0].split('-')[1], 16)),
-     ctypes.string_at(base + at, size)) for at, size in eval(parts)])
+# The compilers and emulators by whose loaders a library is loaded.
+LOADERS = {'x86-64': [['cc'], ['musl-gcc']],
+           'armv8-a': [['aarch64-linux-gnu-gcc', 'qemu-aarch64', '-L', '/usr/aarch64-linux-gnu']]}
+# Prints at which addresses of a library there are functions, and with `+`, the rights and the bytes
+# of a part of memory.
+LOADER = r'''
+#include <dlfcn.h>
+#include <stdio.h>
+#include <stdlib.h>
+static void part(const char *base, char *text) {
+    unsigned long end = 0, at = (unsigned long)base + strtoul(text, &text, 10);
+    char rights[5];
+    FILE *maps = fopen("/proc/self/maps", "r");
+    while (end <= at && fscanf(maps, "%*x-%lx %4s%*[^\n]", &end, rights) == 2) {}
+    fputs(rights, stdout), fwrite((void *)at, strtoul(text, NULL, 10), 1, stdout), fclose(maps);
+}
+int main(int count, char **args) {
+    void *library = dlopen(args[1], RTLD_NOW);
+    Dl_info found;
+    if (!library || !dladdr(dlsym(library, args[2]), &found)) return puts(dlerror()), 1;
+    const char *base = found.dli_fbase;
+    for (int k = 2; k < count; k++)
+        if (*args[k] == '+') part(base, args[k]);
+        else printf("%td ", (char *)dlsym(library, args[k]) - base);
+}
 '''
 
 
-def loaded(edit, content, level):
+def loaded(edit, content, level, compiler, *emulator):
     """Of edited files, and some with a random byte in what is no code, those that pass, but that
-    glibc reads in another way."""
+    a loader reads in another way."""
     r, places = random.Random(os.environ.get('SEED', '1')), [
         k for part in edit.parts if not part.flags & EXECUTE
         for k in range(part.offset, part.offset + part.filled)]
     some = ((f'byte {at}', '', edit.put, (at, 1), r.randrange(256))
             for at in r.choices(places, k=400))
-    for name, _, *change in (*changes(edit), *some):
-        file = edited(edit, content, *change)
-        with contextlib.suppress(Unknown), tempfile.NamedTemporaryFile(buffering=0) as copy:
-            image = opened(file, level)
-            copy.write(file)
-            parts = [part for part in image.elf.parts if not part.flags & WRITE]
-            done = subprocess.run(
-                [sys.executable, '-c', LOADED, copy.name,
-                 f'{[(part.start, len(part.data)) for part in parts]}', *cases.NAMES],
-                check=False, text=True, capture_output=True)
-            wanted = [('r-xp' if part.flags & EXECUTE else 'r--p', part.data) for part in parts]
-            if done.stdout.strip() != f'{[*map(image.functions.get, cases.NAMES)]} {wanted}':
-                return f'{name}: {done.stderr or done.stdout}'[:400]
+    with tempfile.TemporaryDirectory() as folder:
+        program, copy = pathlib.Path(folder, 'loader'), pathlib.Path(folder, 'copy')
+        subprocess.run([compiler, '-D_GNU_SOURCE', '-o', program, '-xc', '-', '-ldl'],
+                       input=LOADER.encode(), check=True)
+        for name, _, *change in (*changes(edit), *some):
+            file = edited(edit, content, *change)
+            with contextlib.suppress(Unknown):
+                image = opened(file, level)
+                copy.write_bytes(file)
+                parts = [part for part in image.elf.parts if not part.flags & WRITE]
+                done = subprocess.run(
+                    [*emulator, program, copy, *cases.NAMES,
+                     *(f'+{part.start} {len(part.data)}' for part in parts)],
+                    check=False, capture_output=True)
+                wanted = ''.join(f'{image.functions[one]} ' for one in cases.NAMES).encode()
+                if done.stdout != wanted + b''.join((
+                        b'r-xp' if part.flags & EXECUTE else b'r--p') + part.data
+                        for part in parts):
+                    return f'{name}: {done.stderr + done.stdout[:400]}'
     return None
 
 
@@ -346,9 +368,9 @@ def rows(*libraries):
             content = file.read()
         edit = Edit(content, level)
         yield Row('no level', 'has no level', functools.partial(refusal, content, 'none', NAME))
-        if level == 'x86-64' and platform.machine() == 'x86_64':
-            yield Row('what passes, as glibc reads it', 'None',
-                      functools.partial(loaded, edit, content, level))
+        for loader in LOADERS.get(level, ()):
+            yield Row(f'what passes, as the loader of {loader[0]} reads it', 'None',
+                      functools.partial(loaded, edit, content, level, *loader))
         for name, reason, *change in changes(edit):
             make = functools.partial(edited, edit, content, *change)
             yield Row(name, reason, lambda make=make, level=level: refusal(make(), level, NAME))
