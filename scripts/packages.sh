@@ -301,14 +301,15 @@ verified() {
     needs "$python" 'calls that are left out, and other definitions, are noticed' \
         "$python" -B $tests/changes.py "${libraries[@]}"
     part_with "$python $arm-gcc" "$python" -B $tests/bodies.py armv8-a $arm-gcc
-    needs "$python" 'edits of files are refused' "$python" -B $tests/attacks.py "${libraries[@]}"
+    needs "$python musl-gcc qemu-aarch64" 'edits of files are refused' \
+        "$python" -B $tests/attacks.py "${libraries[@]}"
     if grep -qw avx2 /proc/cpuinfo; then
         needs "$python" 'random instructions do in the model what they do on the processor' \
             "$python" -B $tests/instructions.py "x86-64-v3:$out/$so:${libraries[1]#*:}" "${CC:-cc}"
     else
         skip 'random instructions (optional)' 'a processor with AVX2'
     fi
-    SAMPLE=16 needs "$python $arm-gcc qemu-aarch64" 'changes of the check are noticed' \
+    SAMPLE=16 needs "$python $arm-gcc musl-gcc qemu-aarch64" 'changes of the check are noticed' \
         "$python" -B $tests/mutants.py "${libraries[@]}"
     needs "$python $arm-gcc qemu-aarch64" \
         'random instructions of ARM64 do in the model what they do in an emulator' \
