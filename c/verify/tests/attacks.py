@@ -299,7 +299,7 @@ def told(make, level, right):
 
 
 # The compilers and emulators by whose loaders a library is loaded.
-LOADERS = {'x86-64': [['cc'], ['musl-gcc']],
+LOADERS = {**dict.fromkeys(('x86-64', 'x86-64-v3'), [['cc'], ['musl-gcc']]),
            'armv8-a': [['aarch64-linux-gnu-gcc', 'qemu-aarch64', '-L', '/usr/aarch64-linux-gnu']]}
 # Prints at which addresses of a library there are functions, and with `+`, the rights and the bytes
 # of a part of memory.

@@ -118,7 +118,7 @@ def x86_code(r, encoding, _, near):
         code = bytes.fromhex(prefix) + rex
     opcode, plus = bytearray.fromhex(opcode.rstrip('+')), opcode.endswith('+')
     opcode[-1] |= r.randrange(8) if plus else 0
-    operands = r.choice([*r.randbytes(2), 0xc4, 0xc2]) & 0xc7
+    operands = r.choice([*r.randbytes(2), 0xc4, 0xc2, 0]) & 0xc7
     operands |= (int(reg) if reg else r.randrange(8)) << 3
     other = bytes([r.choice(OTHER_PREFIXES)] if near else [])
     return other + code + opcode + bytes([operands, *r.choice([r.randbytes(9), bytes(9)])])

@@ -217,7 +217,7 @@ def judge(folder, libraries, noticed, change):
             [sys.executable, '-B', c / 'verify/tests/mutants.py', '--rows', change.file,
              told(change), '\n'.join(row for row, _ in noticed[change.file].most_common()), folder,
              *libraries], text=True, preexec_fn=limit_memory, stdout=subprocess.PIPE,
-            stderr=subprocess.STDOUT)
+            stderr=subprocess.STDOUT, env={k: v for k, v in os.environ.items() if k != 'SEED'})
         lines = process.communicate()[0].strip().splitlines()
         if process.returncode == -signal.SIGKILL:
             raise MemoryError(f'{told(change)}: the process was killed')
@@ -240,7 +240,7 @@ def drawn():
     some = [one for file in files for one in changes_of(file)
             if os.environ.get('FILE', file) == file]
     draw = random.Random(os.environ.get('SEED', '1'))
-    return draw.sample(some, int(os.environ.get('SAMPLE', len(some))))
+    return draw.sample(some, min(len(some), int(os.environ.get('SAMPLE', len(some)))))
 
 
 def main(*libraries):
