@@ -1,9 +1,12 @@
 """Leaves out calls of a right library, which must be missed, and changes the definition and what
 else a claim needs, after which nothing may be claimed: changes.py x86-64:LIBRARY LEVEL:LIBRARY.. Of
 others than the first, only long calls are judged."""
+import collections
 import contextlib
 import functools
 import hashlib
+import io
+import operator
 import re
 import sys
 from unittest import mock
@@ -69,6 +72,14 @@ def without(suffix, left_out, begin=Call.begin):
         call.facts.add(z3.Not(eval(left_out, given)))
         begin(call, args)
     return Call, 'begin', begin_some
+
+
+def missed(left_out, found):
+    """What is found without some calls, if it names one of these."""
+    given = collections.defaultdict(int, And=lambda *some: all(some))
+    given.update((name, int(value)) for name, value in re.findall(r'any ([\w ]+?) = (\d+)', found))
+    given['last'] = given['last bytes'] >> 56
+    return found if eval(left_out, {}, given) else f'another call is missed: {[*given.items()]}'
 
 
 def alike(call, do=cases.fixed.generator):
@@ -164,6 +175,18 @@ def lengths():
     return [*given.call_args[0][2]]
 
 
+def printed(level, path, red_zone):
+    """What is printed of a library, and what must be."""
+    with contextlib.redirect_stdout(io.StringIO()) as told:
+        report.verify(level, path, mock.Mock(
+            function=['komihash_v4_rand_next'], jobs=1, red_zone=red_zone, some=False), cases.Ours)
+    with open(path, 'rb') as file:
+        of_file = hashlib.sha256(file.read()).hexdigest()
+    cpu, size = ('ARM64', 0) if level == 'armv8-a' else ('x86-64', 128 * red_zone)
+    return told.getvalue().partition(', checked with ')[0], \
+        f'{path}: {cpu}, for {level}, red zone of {size} bytes, SHA-256 {of_file}'
+
+
 def long_calls(level, content):
     """Rows like those of `changes`, for a library of any level: whether long calls are shown, and
     all of them."""
@@ -188,7 +211,8 @@ def changes(level, path, content):
         streams.check_streams(1)
     return [
         *((f'{suffix} without {one}', 'no case has the call with', without(suffix, one),
-           judge(suffix, 'all calls')) for suffix in CALLS for one in CALLS[suffix].split('; ')),
+           lambda suffix=suffix, one=one: missed(one, f'{judge(suffix, "all calls")()}'))
+          for suffix in CALLS for one in CALLS[suffix].split('; ')),
         ('a case of no calls', 'contradict', without('_rand_next', 'True'),
          judge('_rand_next', 'rand_next()')),
         ('a state of no calls', 'contradict', (any_length.Fill, 'go_on', lambda kind, size,
@@ -330,6 +354,9 @@ def rows(*libraries):
         with open(path, 'rb') as file:
             content = file.read()
         some = changes(level, path, content) if library == libraries[0] else ()
+        for red_zone in (False, True):
+            yield Row(f'what is printed, {level}, {red_zone}', 'True', functools.partial(
+                lambda *given: operator.eq(*printed(*given)), level, path, red_zone))
         for name, reason, *change in (*some, *long_calls(level, content)):
             yield Row(name, reason, functools.partial(found, *change))
 

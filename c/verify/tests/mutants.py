@@ -31,6 +31,8 @@ COMPARED = {ast.Lt: ('<', '<='), ast.LtE: ('<=', '<'), ast.Gt: ('>', '>='), ast.
 COMPUTED = {ast.Add: ('+', '-'), ast.Sub: ('-', '+'), ast.Mult: ('*', '+'), ast.BitAnd: ('&', '|'),
             ast.BitOr: ('|', '&'), ast.BitXor: ('^', '&'), ast.LShift: ('<<', '>>'),
             ast.RShift: ('>>', '<<'), ast.FloorDiv: ('//', '*'), ast.Mod: ('%', '//')}
+# What is called with words that say why something is refused.
+WORDING = {'need', 'refuse', 'check', 'Refused', 'Unknown'}
 # How many seconds of processor time a row may take.
 SECONDS = 200
 # A change: bytes of a file from a place on, and what is put for them.
@@ -63,7 +65,7 @@ def of_node(node, text):
 
 @functools.cache
 def changes_of(file):
-    """All changes by rule of a file. What is printed is left out."""
+    """All changes by rule of a file. What words a refusal is left out."""
     return [*each_change(file)]
 
 
@@ -80,7 +82,9 @@ def each_change(file):
     todo = [ast.parse(whole)]
     while todo:
         node = todo.pop()
-        todo += (one for one in ast.iter_child_nodes(node) if not isinstance(one, ast.JoinedStr))
+        todo += (one for one in ast.iter_child_nodes(node) if not (
+            isinstance(one, ast.JoinedStr) and isinstance(node, ast.Call) and
+            text(node.func).split('.')[-1] in WORDING))
         for place, new in of_node(node, text):
             if isinstance(place, tuple):
                 at, end = span(place[0])[1], span(place[1])[0]
@@ -164,7 +168,7 @@ def rows(folder, libraries):
                           functools.partial(failure, level, path, case))
                 right[case.has_loop()][row.name] = row
     long = [row for name, row in right[True].items()
-            if '_v5' in name or name.endswith('_v4_unpad, all calls')]
+            if '_v5' in name or name.endswith(', all calls')]
     some = [row for level, compiler in COMPILERS.items()
             for row in bodies.rows(level, compiler, folder)]
     return {
