@@ -162,6 +162,8 @@ a word of 160 bytes of one|v5_rand_fill|Fill..bytes: found|
     next: cmp COUNT, 20; jne 1f; not byte ptr [OUT + 8*INDEX - 8]; 1:
 a hash of 270 bytes|v5|Hash(6,)..does not have|push rsi; call body; pop rsi; ret;
     next: cmp qword ptr [rsp + FRAME], 270; jne 1f; not LANE; 1:
+a jump by a pending byte|v5_write|Write(5,)..depends on pending|cmp rdx, 300; jne body;
+    cmp qword ptr [rdi + 64], 5; jne body; cmp byte ptr [rdi], 1; je 1f; 1:
 a jump by the seed|v5|Hash(0,)..depends on seed|cmp rdx, 5; jb 1f; 1:
 a jump by the top bit|v4_save|save(5,)..depends on top bit|cmp byte ptr [rdi + 137], 1; jb 1f; 1:
 one of an address|v5_save|save(5,)..depends|mov al, [rdi + 72]; and eax, 1; mov al, [rdi + rax]

@@ -42,6 +42,8 @@ Change = collections.namedtuple('Change', 'file at old new')
 def of_node(node, text):
     """The changes of a node of the syntax: what is changed, a node or the operator between two, and
     what is put for it."""
+    if isinstance(node, ast.AugAssign):
+        yield (node.target, node.value), (f'{COMPUTED[type(node.op)][0]}=', '=')
     if isinstance(node, (ast.If, ast.IfExp, ast.While)):
         yield from ((node.test, one) for one in ('True', 'False'))
     elif isinstance(node, ast.comprehension):
