@@ -74,13 +74,13 @@ def by_vex(code):
 
 
 def encodings_of(code):
-    """The ways to write the encoding of an instruction of x86-64. Padding is skipped: 2e means
-    nothing, nor does 66 before an instruction that does nothing."""
-    code, prefixes, wide = bytes(code) + bytes(4), '', ''
+    """The ways to write the encoding of an instruction of x86-64. Padding is skipped: 2e in front
+    means nothing, nor does 66 before an instruction that does nothing."""
+    code, prefixes, wide = bytes(code).lstrip(b'\x2e') + bytes(4), '', ''
     if code.lstrip(b'\x2e\x66').startswith((b'\x90', b'\x0f\x1f')):
         code = code.lstrip(b'\x2e\x66')
     while code[0] in PREFIXES:
-        prefixes, code = prefixes + f'{code[0]:02x}'.replace('2e', ''), code[1:]
+        prefixes, code = prefixes + f'{code[0]:02x}', code[1:]
     if code[0] in (0xc4, 0xc5):
         return by_vex(code) if not prefixes else set()
     if code[0] >> 4 == 4:

@@ -194,8 +194,7 @@ def bit_test(c, i):
     n = simple(c.get(i, 1, a.size()) & (a.size() - 1))
     if i.mnemonic == 'bts':
         c.put(i, 0, a | (bv(1, a.size()) << n))
-    c.flags = {'c': z3.Extract(0, 0, z3.LShR(a, n)) == 1,
-               **{k: f for k, f in c.flags.items() if k == 'z'}}
+    c.flags = {'c': z3.Extract(0, 0, z3.LShR(a, n)) == 1}
 
 
 @means(TABLE, 'bsr')

@@ -11,7 +11,7 @@ import sys
 import tempfile
 from rows import VERIFY, Row, Unknown, cases, count, opened, refusal
 import elf
-from elf import DYNAMIC, EXECUTE, FRAMES, LOAD, NOTES, RELRO, SONAME, STACK, TABLE, WRITE
+from elf import DYNAMIC, EXECUTE, FRAMES, LOAD, NOTES, READ, RELRO, SONAME, STACK, TABLE, WRITE
 
 NAME, OTHER_NAME, LONG_NAME = 'komihash_v5_rand_next', 'komihash_v4_rand_next', 'komihash_v4'
 KIND, RIGHTS, OFFSET, START, FILLED, SIZE, ALIGN = \
@@ -128,7 +128,8 @@ def of_header_and_marks(e):
           for bit in (64, 1 << 8, 1 << 31)),
         *((f'a property {one:#x}', 'None', e.note, NOTES, one, [8])
           for one in (0xc0010001, 0xc0010002) if e.elf.machine == 62),
-        ('an unknown property', 'unknown: 0xc0008002', e.note, NOTES, 0xc0008002, [1]),
+        *((f'an unknown property {one:#x}', f'unknown: {one:#x}', e.note, NOTES, one, [1])
+          for one in (0xb0008000, 0xc0008002)),
         ('a note of another kind', 'of GNU of type 1', e.bytes_at, of_notes + 8, b'\1'),
         ('a note without an end', 'note has no end', e.bytes_at, of_notes + 4, b'\0\1'),
         ('a property without an end', 'property has no end', e.bytes_at,
@@ -177,8 +178,13 @@ def of_segments(e):
         ('no dynamic table in the file', 'elsewhere in', DYNAMIC, 0, (FILLED, 0)),
         ('another table of parts', 'another', NOTES, 0, (KIND, TABLE), (FILLED, 999), (SIZE, 999)),
         ('a shorter table of parts', 'another one', NOTES, 0, (KIND, TABLE), *at_64),
+        ('a table of parts before its place', 'another one', NOTES, 0, (KIND, TABLE), (OFFSET, 8),
+         (START, 8), (FILLED, size), (SIZE, size)),
         ('a dynamic table at address 0', 'at address 0', DYNAMIC, 0, (START, 0), (OFFSET, 0)),
         ('a table of parts that can change', 'another one', LOAD, 0, (RIGHTS, 6)))] + [
+            ('a dynamic table that can only be read', 'can not be written', lambda: (
+                e.segment(LOAD, -1, (RIGHTS, READ)),
+                e.segment(RELRO, 0, (KIND, FRAMES), (SIZE, relro.filled)))),
             *((f'a table of parts over the end of part {k}', 'another one', e.move_table,
                part.offset + part.filled - 100) for k, part in enumerate(e.parts[:e.code_at + 1])),
             *((f'a last segment of type {kind:#x}', reason, e.fill_table,

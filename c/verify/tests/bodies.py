@@ -124,6 +124,8 @@ a write to 63 bytes that ends early|v5_write|Write(63,)..before the end|
     cmp qword ptr [rdi + 64], 63; jne body; cmp rdx, 400; jne body; ret
 a write of nothing|v5_write|Write(13,)..before the end|cmp rdx, 60; jne body; xor eax, eax;
     mov [rdi], rax; mov [rdi + 8], rax; mov [rdi + 64], rax; mov byte ptr [rdi + 136], 1; ret
+a write that takes nothing of 1,000 blocks|v5_write|Write(0,)..before the end|
+    cmp rdx, 64000; jne body; cmp qword ptr [rdi + 64], 0; jne body; mov byte ptr [rdi + 136], 1; ret
 a refusal|v5_pad|Pad..before the end|cmp rsi, 200; jne body; cmp rcx, 26; jb body; xor eax, eax; ret
 one wrong in a high bit||does not have|mov rax, [rdi]; bts rax, 63; mov [rdi], rax
 one wrong by where the stack is||does not have|test spl, 16; je body; not byte ptr [rdi]

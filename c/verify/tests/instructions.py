@@ -34,8 +34,8 @@ TRIES, NEAR, FEW, MANY = 6000, 4, {X86: 16, ARM: 20}, {X86: 32, ARM: 384}
 # How often an instruction of a library is run, and flags that an instruction always sets so.
 TIMES, FIXED = 8, {'shr': {'s'}, **dict.fromkeys(
     ('and', 'or', 'xor', 'test', 'andn', 'ands', 'tst'), {'c', 'v'})}
-# Flags that Intel's manual leaves undefined, and of which processors keep some.
-UNDEFINED = {X86: {'bt': 'sl', 'bts': 'sl', 'bsr': 'scl', 'lzcnt': 'sl', 'mul': 'zsl'}, ARM: {}}
+# Flags that Intel's or AMD's manual leaves undefined, and of which processors keep some.
+UNDEFINED = {X86: {'bt': 'zsl', 'bts': 'zsl', 'bsr': 'scl', 'lzcnt': 'sl', 'mul': 'zsl'}, ARM: {}}
 OTHER_PREFIXES = *PREFIXES, 0x26, 0x36, 0x3e, 0x64, 0x65, 0xf0
 # A version of capstone prints only one of the first two, or `orr` for the last.
 NEVER = {'bti', 'hint', 'mov .01100100.............11111.....'}
@@ -103,25 +103,26 @@ def x86_code(r, encoding, _, near):
     head, _, opcode = encoding.rpartition(':')
     opcode, _, reg = opcode.partition('/')
     prefix, wide = re.sub('[vL.W]', '', head), 'W' in head
+    other = bytes([r.choice(OTHER_PREFIXES)] if near else [])
     if head.startswith('v'):
         table = next(k for k in (2, 3, 1) if opcode.startswith(MAP_OF_VEX[k]))
         third = 15 if '.' in head else r.randrange(16)
         last = wide << 7 | third << 3 | ('L' in head) << 2 | PREFIX_OF_VEX.index(prefix)
         bit = 1 << r.randrange(16) & 255 if near else 0
-        code, near = bytes([0xc4, r.randrange(8) << 5 | table, last ^ bit]), near and not bit
+        code = bytes([0xc4, r.randrange(8) << 5 | table, last ^ bit])
         if table == 1 and not wide and r.randrange(2):
             code = bytes([0xc5, r.randrange(2) << 7 | code[2] & 127])
+        code = code if bit else other + code
         opcode = opcode[len(MAP_OF_VEX[table]):]
     else:
         # Without a byte REX, some registers are the high bytes of others.
         rex = bytes([0x40 | wide << 3 | r.randrange(16)]) if wide or r.randrange(4) else b''
-        code = bytes.fromhex(prefix) + rex
+        code = b''.join(r.sample([other, bytes.fromhex(prefix)], 2)) + rex
     opcode, plus = bytearray.fromhex(opcode.rstrip('+')), opcode.endswith('+')
     opcode[-1] |= r.randrange(8) if plus else 0
     operands = r.choice([*r.randbytes(2), 0xc4, 0xc2, 0]) & 0xc7
     operands |= (int(reg) if reg else r.randrange(8)) << 3
-    other = bytes([r.choice(OTHER_PREFIXES)] if near else [])
-    return other + code + opcode + bytes([operands, *r.choice([r.randbytes(9), bytes(9)])])
+    return code + opcode + bytes([operands, *r.choice([r.randbytes(9), bytes(9)])])
 
 
 def arm_code(r, encoding, number, near):

@@ -225,7 +225,7 @@ def judge(folder, libraries, noticed, change):
              *libraries], text=True, preexec_fn=limit_memory, stdout=subprocess.PIPE,
             stderr=subprocess.STDOUT, env={k: v for k, v in os.environ.items() if k != 'SEED'})
         lines = process.communicate()[0].strip().splitlines()
-        if process.returncode == -signal.SIGKILL:
+        if process.returncode in (-signal.SIGKILL, -signal.SIGTERM):
             raise MemoryError(f'{told(change)}: the process was killed')
         *_, row, found = ['', f'status {process.returncode}', *lines]
         noticed[change.file].update([row] if found.startswith('noticed: ') else [])
