@@ -194,18 +194,14 @@ def long_calls(level, content):
             shown, content, level, f'komihash_v4{suffix}', among=among)
 
 
-def changes(level, path, content):
-    """Each change: a name, a reason, a name that has another value, and what finds that then."""
-    def judge(suffix, among):
-        return lambda: refusal(content, level, f'komihash_v4{suffix}', among=among)
+def definition():
+    """Checks the definition, as each run does."""
+    vectors.check_all_values()
+    streams.check_streams(1)
 
-    def whole(*names):
-        return lambda: report.verify(
-            level, path, mock.Mock(function=names, jobs=4, red_zone=0), cases.Ours)
 
-    def definition():
-        vectors.check_all_values()
-        streams.check_streams(1)
+def of_calls(judge):
+    """Calls that no case has, and facts that do not hold of all."""
     return [
         *((f'{suffix} without {one}', 'no case has the call with', without(suffix, one),
            lambda suffix=suffix, one=one: missed(one, f'{judge(suffix, "all calls")()}'))
@@ -224,6 +220,14 @@ def changes(level, path, content):
             do=any_length.Write.at_head: (
                 do(kind), kind.call.facts.add(z3.UGE(kind.length, 64 - 13)))[0]),
          judge('_write', 'Write(63,)')),
+        ('streams without a top bit', 'no case has the call', (cases.fixed, 'some_state',
+            lambda version, n, block: State(some_lanes(), named('pending', range(n)), block)),
+         judge('_finish', 'all calls'))]
+
+
+def of_contents(judge):
+    """What cases pass, where it is not any."""
+    return [
         *((f'a message {name}', 'is not any', (Call, 'message', lambda call, n, do=do: (
             call.array('bytes', n, do(n)), do(n))), judge('', 'all calls')) for name, do in (
                 ('of zeros', lambda n: [bv(0, 8)] * n),
@@ -241,24 +245,9 @@ def changes(level, path, content):
             lambda call, content, last, k=k, do=cases.fixed.padded_content: do(
                 call, with_zero(content, k), last)), judge('_unpad', 'all calls'))
           for k in (0, -9)),
-        ('lanes that are alike at a cut', 'at a cut is not any', (
-            any_length, 'some_lanes', lambda *_: [secret('one')] * 8), judge('', 'Hash(0,)')),
-        *((f'bytes with a zero at a cut, {among}, {which}', 'at a cut is not any', (
-            any_length, 'named', lambda name, of, which=which: with_zero(named(name, of), -1)
-            if name == which else named(name, of)), judge(suffix, among))
-          for suffix, among, which in (('', 'Hash(0,)', 'turn'), ('_pad', 'Pad', 'turn'),
-                                       ('_pad', 'Pad', 'end'), ('_write', 'Write(13,)', 'rest'))),
         ('registers that are alike', 'is not any', (cases.X86, 'registers', lambda cpu,
             do=cases.X86.registers: {**do(cpu), 'rbx': do(cpu)['rbp']}),
          judge('_rand_next', 'all calls')),
-        *((f'a flag that is known {when}', reason, (cases.X86, 'put_return', lambda cpu,
-            do=cases.X86.put_return: (do(cpu), cpu.flags.update(s=z3.BoolVal(False)))),
-           judge('', among)) for when, reason, among in (
-               ('of a call', 'passes is not any', 'all calls'),
-               ('at a cut', 'at a cut is not any', 'Hash(0,)'))),
-        ('streams without a top bit', 'no case has the call', (cases.fixed, 'some_state',
-            lambda version, n, block: State(some_lanes(), named('pending', range(n)), block)),
-         judge('_finish', 'all calls')),
         ('a seed that is in the message', 'is not any', (cases.fixed, 'secret',
             lambda *_: join(named('bytes', range(8)))), judge('', 'all calls')),
         ('pending bytes that are even', 'is not any', (cases.fixed, 'some_state',
@@ -269,7 +258,29 @@ def changes(level, path, content):
          judge('_rand_next', 'all calls')),
         ('lanes that are alike', 'is not any', (cases.fixed, 'some_state', lambda version, n, block:
             State([secret('lane s1')] * 8, named('pending', range(n)), block)),
-         judge('_finish', 'all calls')),
+         judge('_finish', 'all calls'))]
+
+
+def at_cuts(judge):
+    """What is at a cut, where it is not any, and flags that are known."""
+    return [
+        ('lanes that are alike at a cut', 'at a cut is not any', (
+            any_length, 'some_lanes', lambda *_: [secret('one')] * 8), judge('', 'Hash(0,)')),
+        *((f'bytes with a zero at a cut, {among}, {which}', 'at a cut is not any', (
+            any_length, 'named', lambda name, of, which=which: with_zero(named(name, of), -1)
+            if name == which else named(name, of)), judge(suffix, among))
+          for suffix, among, which in (('', 'Hash(0,)', 'turn'), ('_pad', 'Pad', 'turn'),
+                                       ('_pad', 'Pad', 'end'), ('_write', 'Write(13,)', 'rest'))),
+        *((f'a flag that is known {when}', reason, (cases.X86, 'put_return', lambda cpu,
+            do=cases.X86.put_return: (do(cpu), cpu.flags.update(s=z3.BoolVal(False)))),
+           judge('', among)) for when, reason, among in (
+               ('of a call', 'passes is not any', 'all calls'),
+               ('at a cut', 'at a cut is not any', 'Hash(0,)')))]
+
+
+def of_products(judge, whole):
+    """Other multiplications, and wrong witnesses."""
+    return [
         ('products', 'the definition has', with_products('_start', '2'), judge('_start', '')),
         ('products of a long call', 'the definition has',
          with_products('_rand_fill', '(n+7)//8 + (n == 200)'), judge('_rand_fill', 'Fill')),
@@ -284,7 +295,12 @@ def changes(level, path, content):
                *((f'of {name}', lambda found, term, value, name=name, do=cases.header.witness:
                   found.update({term + 1: value}) if f'{value}' == name else do(
                       found, term, value)) for name in ('any rand', 'any sp', 'any library')),
-               ('of a number', lambda found, term, value: found.update({bv(1): value})))),
+               ('of a number', lambda found, term, value: found.update({bv(1): value}))))]
+
+
+def of_cases(level, content, whole):
+    """Cases that are not run, names, and what tables say."""
+    return [
         *((f'{what} names', reason, (report, 'NAMES', names), lambda some=some: report.names_there(
             cases.open_library(content, level), [], some)) for what, reason, names, some in (
                 ('fewer', 'also exports', cases.NAMES[1:], False),
@@ -296,6 +312,20 @@ def changes(level, path, content):
                 ('a question', slice(1, None)), ('a case', slice(-1)))),
         ('a case that is not run again', 'were not run', (report, 'results', lambda _, do, tasks: [
             cases.Done(one, None, 0, 0, 0) for one in tasks[:-1]]), whole('komihash_v4_pad')),
+        ('what is stated of the header', STATED, (), stated),
+        ('what may depend on contents', "['_resume', '_unpad']", (), lambda: [
+            suffix for suffix, row in cases.FUNCTIONS.items() if row.by_contents]),
+        ('a wrong call that is run again', '(0, 1)', (
+            cases, 'AGAIN', {'_rand_next': {cases.fixed.hash_of: [(9,)]}}),
+         whole('komihash_v4_rand_next')),
+        ('what is run again', AGAIN, (), lambda: [
+            (suffix, len(some), *(some[k].args for k in (0, -2, -1)))
+            for suffix in cases.AGAIN for some in [cases.cases_again(f'komihash_v5{suffix}')]])]
+
+
+def of_definition():
+    """Another definition, and what it is compared with."""
+    return [
         *((f'another hash of {n} bytes', f'for {n} bytes', (streams, name, lambda products, version,
             *given, do=getattr(streams, name), wrong=wrong: do(products, version, *given) + (
                 version == wrong)), find) for n, name, wrong, find in (
@@ -324,21 +354,29 @@ def changes(level, path, content):
         *((f'another value of {call}', f'gives 4 ..for {call} [', (vectors, 'CALLS', {
             **vectors.CALLS, call: lambda *_: 4}), definition) for call in [*vectors.CALLS][1:]),
         ('the lengths of streams', f'{[*range(128)]}', (), lengths),
-        ('what is stated of the header', STATED, (), stated),
-        ('what may depend on contents', "['_resume', '_unpad']", (), lambda: [
-            suffix for suffix, row in cases.FUNCTIONS.items() if row.by_contents]),
-        ('a wrong call that is run again', '(0, 1)', (
-            cases, 'AGAIN', {'_rand_next': {cases.fixed.hash_of: [(9,)]}}),
-         whole('komihash_v4_rand_next')),
-        ('what is run again', AGAIN, (), lambda: [
-            (suffix, len(some), *(some[k].args for k in (0, -2, -1)))
-            for suffix in cases.AGAIN for some in [cases.cases_again(f'komihash_v5{suffix}')]]),
         ('the definition', 'None', (), definition),
-        ('other words', 'gives none', (vectors, 'padded_words', lambda *_: []), definition),
+        ('other words', 'gives none', (vectors, 'padded_words', lambda *_: []), definition)]
+
+
+def of_errors(judge):
+    """What ends all claims."""
+    return [
         ('no solver', 'not answer', (cases.terms, 'SOLVERS', ()), judge('_rand_next', '')),
         ('an error', 'Unknown(', (),
          lambda: repr(cases.run_case(cases.Case('komihash_v4', lambda *_: 1 // 0, ())).failure)),
         ('an error of Z3', 'a process ended', (), lambda: [*cases.results(1, z3.BitVecSort, [0])])]
+
+
+def changes(level, path, content):
+    """Each change: a name, a reason, a name that has another value, and what finds that then."""
+    def judge(suffix, among):
+        return lambda: refusal(content, level, f'komihash_v4{suffix}', among=among)
+
+    def whole(*names):
+        return lambda: report.verify(
+            level, path, mock.Mock(function=names, jobs=4, red_zone=0), cases.Ours)
+    return [*of_calls(judge), *of_contents(judge), *at_cuts(judge), *of_products(judge, whole),
+            *of_cases(level, content, whole), *of_definition(), *of_errors(judge)]
 
 
 def found(change, find):
