@@ -9,7 +9,7 @@ import struct
 import subprocess
 import sys
 import tempfile
-from rows import VERIFY, Row, Unknown, cases, count, opened, refusal
+from rows import ARM, VERIFY, Row, Unknown, cases, count, opened, refusal
 import elf
 from elf import DYNAMIC, EXECUTE, FRAMES, LOAD, NOTES, READ, RELRO, SONAME, STACK, TABLE, WRITE
 
@@ -306,7 +306,7 @@ def told(make, level, right):
 
 # The compilers and emulators by whose loaders a library is loaded.
 LOADERS = {**dict.fromkeys(('x86-64', 'x86-64-v3'), [['cc'], ['musl-gcc']]),
-           'armv8-a': [['aarch64-linux-gnu-gcc', 'qemu-aarch64', '-L', '/usr/aarch64-linux-gnu']]}
+           'armv8-a': [ARM]}
 # Prints at which addresses of a library there are functions, and with `+`, the rights and the bytes
 # of a part of memory.
 LOADER = r'''
@@ -332,6 +332,17 @@ int main(int count, char **args) {
 '''
 
 
+def read_otherwise(image, command):
+    """What a loader reads in another way than the check, if anything."""
+    parts = [part for part in image.elf.parts if not part.flags & WRITE]
+    done = subprocess.run([*command, *cases.NAMES,
+                           *(f'+{part.start} {len(part.data)}' for part in parts)],
+                          check=False, capture_output=True)
+    wanted = ''.join(f'{image.functions[one]} ' for one in cases.NAMES).encode() + b''.join(
+        (b'r-xp' if part.flags & EXECUTE else b'r--p') + part.data for part in parts)
+    return None if done.stdout == wanted else done.stderr + done.stdout[:400]
+
+
 def loaded(edit, content, level, compiler, *emulator):
     """Of edited files, and some with a random byte in what is no code, those that pass, but that
     a loader reads in another way."""
@@ -349,16 +360,9 @@ def loaded(edit, content, level, compiler, *emulator):
             with contextlib.suppress(Unknown):
                 image = opened(file, level)
                 copy.write_bytes(file)
-                parts = [part for part in image.elf.parts if not part.flags & WRITE]
-                done = subprocess.run(
-                    [*emulator, program, copy, *cases.NAMES,
-                     *(f'+{part.start} {len(part.data)}' for part in parts)],
-                    check=False, capture_output=True)
-                wanted = ''.join(f'{image.functions[one]} ' for one in cases.NAMES).encode()
-                if done.stdout != wanted + b''.join((
-                        b'r-xp' if part.flags & EXECUTE else b'r--p') + part.data
-                        for part in parts):
-                    return f'{name}: {done.stderr + done.stdout[:400]}'
+                other = read_otherwise(image, [*emulator, program, copy])
+                if other is not None:
+                    return f'{name}: {other}'
     return None
 
 

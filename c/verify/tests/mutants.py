@@ -21,9 +21,6 @@ from concurrent.futures import ThreadPoolExecutor, as_completed
 VERIFY = pathlib.Path(__file__).resolve().parent.parent
 # These need no trust, or call one function.
 LEFT_OUT = {'__main__.py', 'guesses.py', 'second.py', 'examples.py', 'progress.py'}
-ARM = 'aarch64-linux-gnu-gcc', 'qemu-aarch64', '-L', '/usr/aarch64-linux-gnu'
-# For each level, the compiler of bodies.
-COMPILERS = {'x86-64-v3': 'cc', 'x86-64': 'cc', 'armv8-a': ARM[0]}
 # What is put for an operator.
 COMPARED = {ast.Lt: ('<', '<='), ast.LtE: ('<=', '<'), ast.Gt: ('>', '>='), ast.GtE: ('>=', '>'),
             ast.Eq: ('==', '!='), ast.NotEq: ('!=', '=='), ast.In: ('in', 'not in'),
@@ -152,7 +149,7 @@ def rows(folder, libraries):
     import bodies
     import changes
     import instructions
-    from rows import Row, cases
+    from rows import ARM, Row, cases
     edits = [*attacks.rows(*libraries)]
 
     def failure(level, path, case):
@@ -171,8 +168,8 @@ def rows(folder, libraries):
                 right[case.has_loop()][row.name] = row
     long = [row for name, row in right[True].items()
             if '_v5' in name or name.endswith(', all calls')]
-    some = [row for level, compiler in COMPILERS.items()
-            for row in bodies.rows(level, compiler, folder)]
+    some = [row for level in bodies.KINDS
+            for row in bodies.rows(level, ARM[0] if level == 'armv8-a' else 'cc', folder)]
     return {
         'right': [*right[False].values()], 'long': long, 'bodies': some,
         'questions': [row for row in long if row.name.endswith('all calls')],
@@ -235,7 +232,7 @@ def judge(folder, libraries, noticed, change):
 def kind_of(found):
     """What noticed a change, if anything did."""
     return next((what for what, pattern in (
-        ('not noticed', 'not noticed'), ('noticed by the time', 'takes too long'),
+        ('not noticed', '^not noticed$'), ('noticed by the time', 'takes too long'),
         ('noticed by an error', r'status|(Error|Exception)\b')) if re.search(pattern, found)),
                 'noticed by a row')
 

@@ -9,6 +9,8 @@ import cases
 from report import names_there
 from terms import Unknown
 
+# The compiler for ARM64, and what runs what it makes.
+ARM = 'aarch64-linux-gnu-gcc', 'qemu-aarch64', '-L', '/usr/aarch64-linux-gnu'
 Row = collections.namedtuple('Row', 'name reason find')
 ROWS = []
 
