@@ -32,105 +32,124 @@ X86 = '''
     or r10, r11; dec esi; jne .Lbyte; .Lstore: mov [rdx + 8*r8], r10; lea rax, [r8 + 1]
     .Lend: ret; .endm
 ''', '''
+# Returns, calls, and ways through code.
 a changed return address||not the caller|call 1f; nop; jmp body; 1: inc qword ptr [rsp]; ret
 a return to the caller's caller||not the caller|call 1f; jmp body; 1: call 2f; ret; 2: pop rax; ret
 a call in a call|||call 1f; jmp body; 1: call 2f; ret; 2: ret
 a call of the next||no meaning|xor eax, eax; call 1f; 1: inc eax; cmp eax, 2; jae 1f; ret; 1:
-flags of a shift|v5_save|save(5,)..flag z is read|mov rcx, rdx; cmp rax, rax; shl r8, cl; jne 1f; 1:
-the red zone|||red zone; mov [rsp - 128], rdi; mov rdi, [rsp - 128]
-below the red zone||below the stack pointer|red zone; mov [rsp - 129], al
-a red zone that stays|||red zone; mov [rsp - 64], rdi; push rax; pop rax; mov rdi, [rsp - 64]
-all of the stack|||sub rsp, 4096; add rsp, 4096
-a vector of one byte further||not aligned to 16|sub rsp, 40; movaps [rsp + 1], xmm0; add rsp, 40
-a frame by the room|v5_save|save(5,)..|mov r10, rdx; and r10d, 8; sub rsp, r10; add rsp, r10
-a number by the room|v5_save|save(5,)..|cmp rdx, 5000; cmovb r10, rdx
-where in its page the library is|||lea rax, [rip + __ehdr_start]; test eax, 4095; je body; not rdi
-a red zone moved||not written|red zone; mov [rsp - 121], al; pop rax; push rax; mov al, [rsp - 121]
-more than the stack||out of the stack|sub rsp, 4097; add rsp, 4097
-a return address that a loop loses|v5_pad|Pad..not written|pad "add rsp, 8", "", "sub rsp, 8"
-rbx after a turn|v5_pad|Pad..rbx of the caller|pad "", "cmp r9, 400; jne .Lturn; bts rbx, 63", ""
-rbx if refused|v5_pad|Pad..rbx of the caller|test rcx, rcx; jne body; bts rbx, 63; xor eax, eax; ret
-an old generator|v5_rand_fill|Fill..does not have|push r15; mov r15, [rdi]; call body; pop r15; ret;
-    turn: cmp INDEX, 500; jne 1f; mov FACTOR, r15; 1:
-a generator in memory|v5_rand_fill|Fill..|fill ""
-one that a turn changes|v5_rand_fill|Fill..does not have|
-    fill "cmp r9, 400; jne 3f; not byte ptr [rdi]; 3:"
-the words of a generator exchanged at the end|v5_rand_fill|Fill..s1|fill ""; cmp r9, 3; jne body;
-    mov r10, [rdi]; mov r11, [rdi + 8]; mov [rdi], r11; mov [rdi + 8], r10
-a word that a loop loses|v5_pad|Pad..not written|
-    pad "sub rsp, 8; cmp rsi, 5000; jb 1f; mov [rsp], rsi; 1:", "", "mov r11, [rsp]; add rsp, 8"
-a stack that is lower at the end||not where the caller left it|push [rsp]
-a step over the caller's frame||out of the stack|lea rsp, [rsp + 256]; lea rsp, [rsp - 256]
-a byte that was popped||not written|push rdi; pop rax; sub rsp, 8; mov rdi, [rsp]; add rsp, 8
-a turn that writes after the generator|v5_rand_fill|Fill..in no array|turn: cmp INDEX, 500; jne 1f;
-    mov byte ptr [rdi + 16], 0; 1:
-a call that begins at the exit|v5_pad|Pad..the rest|pad "cmp rsi, 200; je .Lrest", "", ""
-a write that takes bytes before its own|v5_write|Write(5,)..more than all was taken|
-    cmp qword ptr [rdi + 64], 5; jne body; lea rax, [rdx + 5]; cmp rax, 128; jb body; test al, 64;
-    jne body; mov rdx, rax; sub rsi, 5; xor eax, eax; mov [rdi], rax; mov [rdi + 64], rax; jmp body
-one by one of 64 values|v5_save|save(5,)..must be refused|mov r10, rdx; and r10d, 63;
-    cmp byte ptr [rdi + r10], 0; cmp r10, 63; jne body; mov eax, 1; ret
-a number that splits at the end|v5_save|save(5,)..in no array|mov r10, rdx; and r10d, 31;
-    mov byte ptr [rdi + 8*r10 + 144], 0
+code where nothing can run||not known|jmp 1f; .pushsection .rodata; 1: jmp body; .popsection
+a loop without end||more than 20000|1: jmp 1b
 a loop that splits in each turn|v5_save|save(5,)..must be refused|xor r8d, r8d; 1: inc r8d;
     bt edx, r8d; jnc 2f; cmp r8d, 2; jne 2f; mov eax, 1; ret; 2: cmp r8d, 2; jne 1b
 many jumps|v5_save|save(5,)..result: found 0x1|.irp k, 1,2,3,4,5,6,7,8,9,10; cmp rdx, 50 + \\k;
     je 8f; 8: ; .endr; cmp rdx, 40; jne body; mov eax, 1; ret
-a long copy||in no array|push rdi; sub rsp, 320; lea rsi, [rip + __ehdr_start]; mov rdi, rsp;
-    mov ecx, 600; rep movsb; add rsp, 320; pop rdi
-a constant at an odd address|||mov eax, [rip + __ehdr_start + 1]; cmp eax, 0x02464c45; je body; ud2
-a factor in place of another||does not have|mov rax, [rdi]; mul rax; mov rcx, rdx;
-    add rdx, [rdi + 8]; mov r8, -0x5555555555555556; add rdx, r8; mov [rdi + 8], rdx;
-    xor rax, rcx; not r8; add rax, r8; mov [rdi], rax; ret
-a write of 150 bytes|v5_write|Write(13,)..the stream at|
-    push rdx; call body; pop rdx; ret; next: cmp qword ptr [rsp + FRAME], 150; jne 1f; not LANE; 1:
-a constant over the end||in no array|.hidden __etext; lea rax, [rip + __etext]; mov rax, [rax - 4];
-    shr rax, 32; je 1f; xor eax, eax; ret; 1:
-a loop without end||more than 20000|1: jmp 1b
-code where nothing can run||not known|jmp 1f; .pushsection .rodata; 1: jmp body; .popsection
-the highest bit of 0||2 ways|mov rcx, -1; xor eax, eax; bsr ecx, eax; shr rcx, 32; jne 1f; 1:
-a byte above the call||in no array|mov [rsp + 8], al
-what may be written||in no array|.pushsection .data; 2: .quad 0; .popsection; mov rax, [rip + 2b]
-an address of 32 bits||not known|.byte 0x67; lea rax, [-1]
+a number that splits at the end|v5_save|save(5,)..in no array|mov r10, rdx; and r10d, 31;
+    mov byte ptr [rdi + 8*r10 + 144], 0
+one by one of 64 values|v5_save|save(5,)..must be refused|mov r10, rdx; and r10d, 63;
+    cmp byte ptr [rdi + r10], 0; cmp r10, 63; jne body; mov eax, 1; ret
+a number by the room|v5_save|save(5,)..|cmp rdx, 5000; cmovb r10, rdx
+a frame by the room|v5_save|save(5,)..|mov r10, rdx; and r10d, 8; sub rsp, r10; add rsp, r10
+# The stack, the red zone and registers of the caller.
+the red zone|||red zone; mov [rsp - 128], rdi; mov rdi, [rsp - 128]
+below the red zone||below the stack pointer|red zone; mov [rsp - 129], al
+a red zone that stays|||red zone; mov [rsp - 64], rdi; push rax; pop rax; mov rdi, [rsp - 64]
+a red zone moved||not written|red zone; mov [rsp - 121], al; pop rax; push rax; mov al, [rsp - 121]
+all of the stack|||sub rsp, 4096; add rsp, 4096
+more than the stack||out of the stack|sub rsp, 4097; add rsp, 4097
+a step over the caller's frame||out of the stack|lea rsp, [rsp + 256]; lea rsp, [rsp - 256]
+a stack that is lower at the end||not where the caller left it|push [rsp]
 a word half below the stack||below the stack pointer|mov [rsp - 4], rdi
+a byte above the call||in no array|mov [rsp + 8], al
+a byte that was popped||not written|push rdi; pop rax; sub rsp, 8; mov rdi, [rsp]; add rsp, 8
 a byte far below||not written|
     sub rsp, 256; mov [rsp], al; add rsp, 256; sub rsp, 256; mov al, [rsp]; add rsp, 256
+a vector of one byte further||not aligned to 16|sub rsp, 40; movaps [rsp + 1], xmm0; add rsp, 40
+a return address that a loop loses|v5_pad|Pad..not written|pad "add rsp, 8", "", "sub rsp, 8"
+rbx after a turn|v5_pad|Pad..rbx of the caller|pad "", "cmp r9, 400; jne .Lturn; bts rbx, 63", ""
+rbx if refused|v5_pad|Pad..rbx of the caller|test rcx, rcx; jne body; bts rbx, 63; xor eax, eax; ret
+# Memory, of which ARRAYS has the arguments.
+what may be written||in no array|.pushsection .data; 2: .quad 0; .popsection; mov rax, [rip + 2b]
+a constant at an odd address|||mov eax, [rip + __ehdr_start + 1]; cmp eax, 0x02464c45; je body; ud2
+a constant over the end||in no array|.hidden __etext; lea rax, [rip + __etext]; mov rax, [rax - 4];
+    shr rax, 32; je 1f; xor eax, eax; ret; 1:
+a long copy||in no array|push rdi; sub rsp, 320; lea rsi, [rip + __ehdr_start]; mov rdi, rsp;
+    mov ecx, 600; rep movsb; add rsp, 320; pop rdi
+an address of 32 bits||not known|.byte 0x67; lea rax, [-1]
+a byte of an old stream|v5_init|not written|mov al, [rdi + 80]
+a byte that may not be there|v5_write|Write(13,)..in no array|
+    turn: 8: cmp [BYTES], al; cmp LEFT, 127; jbe 9f; next: jmp 8b; 9:
+a byte after the last block|v5_write|Write(13,)..in no array|
+    mov r9, [rdi + 64]; lea r10, [rdx + r9]; and r10, -64; sub r10, r9; mov al, [rsi + r10]
+the last byte of the last block|v5_write|Write(13,)..|
+    mov r9, [rdi + 64]; lea r10, [rdx + r9]; and r10, -64; sub r10, r9; mov al, [rsi + r10 - 1]
+a turn that writes after the generator|v5_rand_fill|Fill..in no array|turn: cmp INDEX, 500; jne 1f;
+    mov byte ptr [rdi + 16], 0; 1:
+a word that a loop loses|v5_pad|Pad..not written|
+    pad "sub rsp, 8; cmp rsi, 5000; jb 1f; mov [rsp], rsi; 1:", "", "mov r11, [rsp]; add rsp, 8"
+a write where there may be no room|v5_save|in no array|mov byte ptr [rsi], 0
+a refusal that writes|v5_save|of out were|lea rax, [rdx - 1]; cmp rax, 130; jae body; mov [rsi], al
+a refused text that is written|v5_resume|resume(0,)..of stream were written|mov byte ptr [rdi], 0
+a long one|v5_pad|Pad..refused: the bytes [0]|cmp rcx, 1; jne body; mov byte ptr [rdx], 0
+# What jumps and addresses depend on.
 a jump by a register of the caller|v5_save|save(5,)..depends on r10|test r10, r10; je 1f; 1:
-an old lane|v5_write|Write(13,)..at 72|push rdi; push [rdi + 72]; call body; pop rax; pop rdi;
-    mov [rdi + 72], rax; ret
+flags of a shift|v5_save|save(5,)..flag z is read|mov rcx, rdx; cmp rax, rax; shl r8, cl; jne 1f; 1:
+the highest bit of 0||2 ways|mov rcx, -1; xor eax, eax; bsr ecx, eax; shr rcx, 32; jne 1f; 1:
 a jump by a low half|v5|Hash(6,)..depends on low|next: test rax, rax; je 1f; 1:
 a jump by a lane|v5|Hash(6,)..depends on value|next: test LANE, LANE; je 1f; 1:
 a jump by a factor|v5_rand_fill|Fill..depends on s1|turn: cmp INDEX, 300; jne 1f;
     test FACTOR, FACTOR; je 1f; 1:
 a jump by what a loop lost|v5_pad|Pad..depends on undefined|
     pad "", "cmp rsi, 5000; jne .Lturn; test rax, rax; je 1f; 1: mov rax, r10", ""
-a write where there may be no room|v5_save|in no array|mov byte ptr [rsi], 0
-a refusal that writes|v5_save|of out were|lea rax, [rdx - 1]; cmp rax, 130; jae body; mov [rsi], al
-a long one|v5_pad|Pad..refused: the bytes [0]|cmp rcx, 1; jne body; mov byte ptr [rdx], 0
-another result of one|v5_pad|Pad..length: found 0x1|test rcx, rcx; jne body; mov eax, 1; ret
-a long one that is copied|v5_pad|Pad..a turn of a call that is refused|mov rcx, -1; pad "", "", ""
+a jump by a pending byte|v5_write|Write(5,)..depends on pending|cmp rdx, 300; jne body;
+    cmp qword ptr [rdi + 64], 5; jne body; cmp byte ptr [rdi], 1; je 1f; 1:
+a jump by the seed|v5|Hash(0,)..depends on seed|cmp rdx, 5; jb 1f; 1:
+a jump by the top bit|v4_save|save(5,)..depends on top bit|cmp byte ptr [rdi + 137], 1; jb 1f; 1:
+one of an address|v5_save|save(5,)..depends|mov al, [rdi + 72]; and eax, 1; mov al, [rdi + rax]
+where in its page the library is|||lea rax, [rip + __ehdr_start]; test eax, 4095; je body; not rdi
+a jump by where the library is||2 ways|lea rax, [rip + __ehdr_start]; test eax, 4096; jne 1f; 1:
+# What is returned and stored, of which OUTPUTS has more.
 one that needs less room|v5_save|save(0,)..must be refused|cmp rdx, 130; jb body; mov edx, 131
-a refused text that is written|v5_resume|resume(0,)..of stream were written|mov byte ptr [rdi], 0
+another result of one|v5_pad|Pad..length: found 0x1|test rcx, rcx; jne body; mov eax, 1; ret
+no text, and a bool of 2|v5_resume|resume(0,)..result: found 0x2|mov eax, 2; ret
 a word of 0|v5_unpad|unpad(1, None)..|nop
 a word of 0 after another|v5_unpad|unpad(2, None)..|nop
 a word of 1|v5_unpad|unpad(1, (0, 1))..|nop
-no text, and a bool of 2|v5_resume|resume(0,)..result: found 0x2|mov eax, 2; ret
-a byte of an old stream|v5_init|not written|mov al, [rdi + 80]
+one wrong in a high bit||does not have|mov rax, [rdi]; bts rax, 63; mov [rdi], rax
+one wrong by where the stack is||does not have|test spl, 16; je body; not byte ptr [rdi]
+an old lane|v5_write|Write(13,)..at 72|push rdi; push [rdi + 72]; call body; pop rax; pop rdi;
+    mov [rdi + 72], rax; ret
 one after a long write to five bytes|v5_write|Write(5,)..at 0|
     xor eax, eax; cmp rdx, 300; jne 2f; cmp byte ptr [rdi + 64], 5; sete al; 2: push rax; push rdi;
     call body; pop rdi; pop rax; test eax, eax; je 1f; not byte ptr [rdi]; 1: ret
-a hash that is not finished|v5|Hash(4,)..before the end|cmp rsi, 300; jne body; xor eax, eax; ret
-a write to 63 bytes that ends early|v5_write|Write(63,)..before the end|
-    cmp qword ptr [rdi + 64], 63; jne body; cmp rdx, 400; jne body; ret
-a write of nothing|v5_write|Write(13,)..before the end|cmp rdx, 60; jne body; xor eax, eax;
-    mov [rdi], rax; mov [rdi + 8], rax; mov [rdi + 64], rax; mov byte ptr [rdi + 136], 1; ret
-a write that takes nothing of 1,000 blocks|v5_write|Write(0,)..before the end|
-    cmp rdx, 64000; jne body; cmp qword ptr [rdi + 64], 0; jne body; mov byte ptr [rdi + 136], 1; ret
-a refusal|v5_pad|Pad..before the end|cmp rsi, 200; jne body; cmp rcx, 26; jb body; xor eax, eax; ret
-one wrong in a high bit||does not have|mov rax, [rdi]; bts rax, 63; mov [rdi], rax
-one wrong by where the stack is||does not have|test spl, 16; je body; not byte ptr [rdi]
+a write that takes bytes before its own|v5_write|Write(5,)..more than all was taken|
+    cmp qword ptr [rdi + 64], 5; jne body; lea rax, [rdx + 5]; cmp rax, 128; jb body; test al, 64;
+    jne body; mov rdx, rax; sub rsi, 5; xor eax, eax; mov [rdi], rax; mov [rdi + 64], rax; jmp body
+a word after the last one|v5_unpad|Unpad((7, 1),)..length: found|
+    lea r8, [8*rsi]; cmp rcx, r8; jb body; dec rsi; xor r9d, r9d; 1: word; cmp r9, rsi; jne 1b;
+    word; lea rax, [8*r9]; ret
+# Multiplications.
+a factor in place of another||does not have|mov rax, [rdi]; mul rax; mov rcx, rdx;
+    add rdx, [rdi + 8]; mov r8, -0x5555555555555556; add rdx, r8; mov [rdi + 8], rdx;
+    xor rax, rcx; not r8; add rax, r8; mov [rdi], rax; ret
+an old generator|v5_rand_fill|Fill..does not have|push r15; mov r15, [rdi]; call body; pop r15; ret;
+    turn: cmp INDEX, 500; jne 1f; mov FACTOR, r15; 1:
 one made twice||has made already|mov rax, [rdi]; mul qword ptr [rdi + 8]
+# Loops that are right.
 a loop|v5_pad|Pad..|pad "", "", ""
+a generator in memory|v5_rand_fill|Fill..|fill ""
+arrays that don't overlap|v5_pad|Pad..|mov r8, rsi; shr r8, 3; cmp rcx, r8; jbe body; mov r8, rdx;
+    sub r8, rdi; cmp r8, rsi; jae body; xor eax, eax; ret
+words that don't overlap|v5_unpad|Unpad((7, 1),)..|lea r8, [8*rsi]; cmp rcx, r8; jb body;
+    mov r9, rdx; sub r9, rdi; cmp r9, r8; jae body; xor eax, eax; ret
+# Loops that are wrong for one length, or from one on.
+a write of 150 bytes|v5_write|Write(13,)..the stream at|
+    push rdx; call body; pop rdx; ret; next: cmp qword ptr [rsp + FRAME], 150; jne 1f; not LANE; 1:
+a hash of 270 bytes|v5|Hash(6,)..does not have|push rsi; call body; pop rsi; ret;
+    next: cmp qword ptr [rsp + FRAME], 270; jne 1f; not LANE; 1:
+a word of 160 bytes of one|v5_rand_fill|Fill..bytes: found|
+    next: cmp COUNT, 20; jne 1f; not byte ptr [OUT + 8*INDEX - 8]; 1:
+a word of 200 bytes|v5_pad|Pad..bytes: found|
+    pad "", "cmp rsi, 200; jne .Lturn; rol qword ptr [rdx + 8*r9 - 8], 8", ""
 one wrong from byte 3,200 on|v5_pad|Pad..in no array|pad "", "cmp r9, 400; jne .Lturn; inc r9", ""
 one wrong from 16 TiB on|v5_pad|Pad..in no array|
     pad "", "mov r10, 1 << 41; cmp r9, r10; jne .Lturn; inc r9", ""
@@ -142,34 +161,24 @@ one that leaves its loop there|v5_pad|Pad..the rest|pad "", "cmp r9, 400; je .Lr
 a loop begun late|v5_pad|Pad..in no array|pad "cmp rsi, 304; mov r9d, 1; je .Lturn", "", ""
 a loop that may run over the end|v5_pad|Pad..in no array|pad "cmp r8, 16; jb 1f; xor r9d, r9d;
     word; 2: word; word; cmp r9, r8; jne 2b; jmp .Lrest; 1:", "", ""
-a word of 200 bytes|v5_pad|Pad..bytes: found|
-    pad "", "cmp rsi, 200; jne .Lturn; rol qword ptr [rdx + 8*r9 - 8], 8", ""
+a call that begins at the exit|v5_pad|Pad..the rest|pad "cmp rsi, 200; je .Lrest", "", ""
+a long one that is copied|v5_pad|Pad..a turn of a call that is refused|mov rcx, -1; pad "", "", ""
 a turn of nothing|v5_pad|Pad..takes nothing|pad "xor r9d, r9d; jmp 1f", "1: cmp r9, 400; je 1b", ""
 two registers that turns change|v5_pad|Pad..many values|
     pad "", "mov rax, r10; not rax", "xor r10, rax; add r8, r10"
-a byte after the last block|v5_write|Write(13,)..in no array|
-    mov r9, [rdi + 64]; lea r10, [rdx + r9]; and r10, -64; sub r10, r9; mov al, [rsi + r10]
-the last byte of the last block|v5_write|Write(13,)..|
-    mov r9, [rdi + 64]; lea r10, [rdx + r9]; and r10, -64; sub r10, r9; mov al, [rsi + r10 - 1]
-a word after the last one|v5_unpad|Unpad((7, 1),)..length: found|
-    lea r8, [8*rsi]; cmp rcx, r8; jb body; dec rsi; xor r9d, r9d; 1: word; cmp r9, rsi; jne 1b;
-    word; lea rax, [8*r9]; ret
-arrays that don't overlap|v5_pad|Pad..|mov r8, rsi; shr r8, 3; cmp rcx, r8; jbe body; mov r8, rdx;
-    sub r8, rdi; cmp r8, rsi; jae body; xor eax, eax; ret
-words that don't overlap|v5_unpad|Unpad((7, 1),)..|lea r8, [8*rsi]; cmp rcx, r8; jb body;
-    mov r9, rdx; sub r9, rdi; cmp r9, r8; jae body; xor eax, eax; ret
-a byte that may not be there|v5_write|Write(13,)..in no array|
-    turn: 8: cmp [BYTES], al; cmp LEFT, 127; jbe 9f; next: jmp 8b; 9:
-a word of 160 bytes of one|v5_rand_fill|Fill..bytes: found|
-    next: cmp COUNT, 20; jne 1f; not byte ptr [OUT + 8*INDEX - 8]; 1:
-a hash of 270 bytes|v5|Hash(6,)..does not have|push rsi; call body; pop rsi; ret;
-    next: cmp qword ptr [rsp + FRAME], 270; jne 1f; not LANE; 1:
-a jump by a pending byte|v5_write|Write(5,)..depends on pending|cmp rdx, 300; jne body;
-    cmp qword ptr [rdi + 64], 5; jne body; cmp byte ptr [rdi], 1; je 1f; 1:
-a jump by the seed|v5|Hash(0,)..depends on seed|cmp rdx, 5; jb 1f; 1:
-a jump by the top bit|v4_save|save(5,)..depends on top bit|cmp byte ptr [rdi + 137], 1; jb 1f; 1:
-one of an address|v5_save|save(5,)..depends|mov al, [rdi + 72]; and eax, 1; mov al, [rdi + rax]
-a jump by where the library is||2 ways|lea rax, [rip + __ehdr_start]; test eax, 4096; jne 1f; 1:
+one that a turn changes|v5_rand_fill|Fill..does not have|
+    fill "cmp r9, 400; jne 3f; not byte ptr [rdi]; 3:"
+the words of a generator exchanged at the end|v5_rand_fill|Fill..s1|fill ""; cmp r9, 3; jne body;
+    mov r10, [rdi]; mov r11, [rdi + 8]; mov [rdi], r11; mov [rdi + 8], r10
+# Calls that end before their loops, or in the wrong state.
+a hash that is not finished|v5|Hash(4,)..before the end|cmp rsi, 300; jne body; xor eax, eax; ret
+a write to 63 bytes that ends early|v5_write|Write(63,)..before the end|
+    cmp qword ptr [rdi + 64], 63; jne body; cmp rdx, 400; jne body; ret
+a write of nothing|v5_write|Write(13,)..before the end|cmp rdx, 60; jne body; xor eax, eax;
+    mov [rdi], rax; mov [rdi + 8], rax; mov [rdi + 64], rax; mov byte ptr [rdi + 136], 1; ret
+a write that takes nothing of 1,000 blocks|v5_write|Write(0,)..before the end|
+    cmp rdx, 64000; jne body; cmp qword ptr [rdi + 64], 0; jne body; mov byte ptr [rdi + 136], 1; ret
+a refusal|v5_pad|Pad..before the end|cmp rsi, 200; jne body; cmp rcx, 26; jb body; xor eax, eax; ret
 '''
 V2 = X86[0], X86[1] + '''
 an instruction of newer processors||not known for x86-64|palignr xmm0, xmm0, 1
@@ -316,7 +325,7 @@ def table(level):
 def lines(table):
     """The fields of each line of a table. Lines that begin with spaces continue the one before."""
     text = re.sub(r'(\|?)\n +', lambda found: found[1] or ' ', table)
-    return [line.split('|') for line in text.split('\n') if line]
+    return [line.split('|') for line in text.split('\n') if line and line[0] != '#']
 
 
 def of_writes():
