@@ -4,7 +4,7 @@ import functools
 import z3
 from calls import NO_MESSAGE, apart, generator, named, padded_content, some_lanes, some_state
 from checks import accepted, check, check_bytes, check_generator
-from definition import (TRUE, State, block_round, hash_from_pair, join_lanes, lanes, next_pair,
+from definition import (TRUE, State, block_round, filled, hash_from_pair, join_lanes, lanes,
                         padding_byte, seed_pair, top_bit, words_of)
 from induction import Induction
 from memory import Array
@@ -76,7 +76,9 @@ class Hash(Blocks):
 
 class Write(Blocks):
     """Writes that complete a block. Here, GRAIN * q + r counts the bytes that are pending too, and
-    before the first turn, all of these are yet to take: the units begin below zero."""
+    before the first turn, all of these are yet to take: the units begin below zero. In the end, r
+    bytes are left. `last` is the byte before these, which ends the last block, and from which
+    version 4 has its top bit; of the 7 before it, which `earlier` stands for, nothing is asked."""
     NAME = '_write'
     STABLE = frozenset({'stream', 'last'})
     LAST = secret('last', 8)
@@ -174,16 +176,9 @@ class Fill(Induction):
         self.length = self.long_length(least)
         address, pair = generator(call)
         self.base = call.base('out', self.length)
-        self.follow(pair, front // 8)
+        self.states, self.outputs = filled(call.products, self.version, pair, front)
         call.memory.add(Array('out', self.base, 0, front, True, self.length))
         return address, self.base, self.length
-
-    def follow(self, pair, steps):
-        """The pairs after each step, and the bytes of their outputs."""
-        self.states = [pair]
-        for _ in range(steps):
-            self.states.append(next_pair(self.call.products, self.version, *self.states[-1]))
-        self.outputs = [byte for x, _ in self.states[1:] for byte in bytes_of(x)]
 
     def steps(self, cpu):
         steps = len(cpu.halves) // 2
@@ -196,7 +191,6 @@ class Fill(Induction):
         return self.go_on(self.step)
 
     def at_exit(self, rest):
-        self.size = rest
         return self.go_on(rest)
 
     def go_on(self, size):
@@ -204,13 +198,13 @@ class Fill(Induction):
         self.call.array('rand', 16, high=16, writable=True)
         pair = secret('s1 at a cut'), secret('s2 at a cut')
         self.base = self.call.base('out', self.length)
-        self.follow(pair, (size + 7) // 8)
+        self.states, self.outputs = filled(self.call.products, self.version, pair, size)
         self.call.memory.add(Array('out', simple(self.base + 8 * self.units), 0, size, True))
         return pair
 
     def check_end(self, cpu):
         check_generator(cpu, self.states[-1])
-        check_bytes(cpu, 'bytes', 'out', self.outputs[:self.size])
+        check_bytes(cpu, 'bytes', 'out', self.outputs)
 
 
 class Copy(Induction):

@@ -1,7 +1,7 @@
 """A call of a function: its arrays and arguments."""
 import collections
 import z3
-from definition import Products, State, padding_byte
+from definition import Products, State, are_padded
 from memory import Array
 from terms import (Unknown, address, are_any, bv, choose, is_public, secret, simple, sym,
                    symbols)
@@ -150,13 +150,12 @@ def padded_content(call, content, last):
     for 3, at least 3. If `last` is None, the last word is 0. Returns the bytes, the length of their
     message, and whether they have one."""
     if last is None:
-        content, at, fits = [*content[:-8], *[bv(0, 8)] * 8], 0, z3.BoolVal(len(content) == 8)
+        content, at = [*content[:-8], *[bv(0, 8)] * 8], 0
     else:
         index, byte = last
         at = len(content) - 8 + index
         found = secret('padding byte', 8) if byte == 3 else bv(byte, 8)
         call.facts.add(z3.UGE(found, byte))
         content = content[:at] + [found] + [bv(0, 8)] * (7 - index)
-        fits = found == padding_byte(call.version, content[at - 1]) if at else z3.BoolVal(False)
     call.last_bytes = [secret('none', 8), *content][-9:]
-    return content, at, fits
+    return content, at, are_padded(call.version, content, at)

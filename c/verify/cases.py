@@ -45,10 +45,9 @@ FUNCTIONS = {
         fixed.finish: [(p, b) for p in range(64) for b in (0, 1)]}),
     '_save': Function('0', False, {fixed.save: PENDING}),
     '_resume': Function('0', True, {fixed.resume: each([None, *range(132)])}),
-    '_rand_init': Function('4', False, {fixed.rand_init: [('_rand_init', 1, 4)]}),
-    '_rand_init_with_extra_seed': Function('4', False, {
-        fixed.rand_init: [('_rand_init_with_extra_seed', 2, 4)]}),
-    '_rand_init_words': Function('0', False, {fixed.rand_init: [('_rand_init_words', 2, 0)]}),
+    **{name: Function(products, False, {fixed.rand_init: [(name, seeds)]})
+       for name, seeds, products in (('_rand_init', 1, '4'), ('_rand_init_words', 2, '0'),
+                                     ('_rand_init_with_extra_seed', 2, '4'))},
     '_rand_next': Function('1', False, {fixed.rand_next: [()]}),
     '_rand_fill': Function('(n+7)//8', False, {
         fixed.rand_fill: each(range(Fill.GRAIN)), Fill: [()]}),

@@ -10,13 +10,13 @@ def check(end, what, found, wanted):
         end.refuse(f'{what}: {examples.difference(end, found, wanted)}')
 
 
-def check_bytes(end, what, name, wanted, start=0):
-    """Whether just these bytes of an array were written."""
-    if end.memory.written(name) != list(range(start, start + len(wanted))):
+def check_bytes(end, what, name, wanted):
+    """Whether just these bytes of an array were written, from its first on."""
+    if end.memory.written(name) != list(range(len(wanted))):
         end.refuse(f'{what}: the bytes {end.memory.written(name)} of {name} were written, '
                    f'and not {len(wanted)}')
     if wanted:
-        check(end, what, end.memory.content(name, start, len(wanted)), join(wanted))
+        check(end, what, end.memory.content(name, 0, len(wanted)), join(wanted))
 
 
 def accepted(end, cond):

@@ -2,7 +2,7 @@
 of new symbols, low and high, with its factors noted, and code that multiplies must have these."""
 import functools
 import z3
-from terms import Refused, bv, choose, const, join, secret, simple
+from terms import Refused, bv, bytes_of, choose, const, join, secret, simple
 
 VERSIONS = (4, 5)
 PI = [0x243f6a8885a308d3, 0x13198a2e03707344, 0xa4093822299f31d0, 0x082efa98ec4e6c89,
@@ -97,6 +97,12 @@ def padded_words(version, message):
     return words_of([*message, padding_byte(version, message[-1])])
 
 
+def are_padded(version, content, length):
+    """Whether these bytes are the padded words of a message, which is the first of them."""
+    words, padded = words_of(content), padded_words(version, content[:length])
+    return simple(z3.And(len(words) == len(padded), *(a == b for a, b in zip(words, padded))))
+
+
 def hash_from_pair(products, pair, w):
     while len(w) >= 3:
         pair, w = mix(products, w[0] ^ pair[0], w[1] ^ pair[1], pair[1]), w[2:]
@@ -160,3 +166,16 @@ def next_pair(products, version, x, y):
     low, high = products.new(x, y)
     y = simple(y + high + ODD_BITS)
     return simple(low ^ y if version == 4 else (low ^ high) + EVEN_BITS), y
+
+
+def filled(products, version, pair, length):
+    """The pairs before and after each step of a fill, and the bytes that it writes."""
+    pairs = [pair]
+    for _ in range(0, length, 8):
+        pairs.append(next_pair(products, version, *pairs[-1]))
+    return pairs, [byte for x, _ in pairs[1:] for byte in bytes_of(x)][:length]
+
+
+def seeded(products, version, seed, extra_seed):
+    """The first pair of a generator: four steps from its seeds."""
+    return filled(products, version, (seed, extra_seed), 4 * 8)[0][-1]

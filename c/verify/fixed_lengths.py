@@ -4,7 +4,8 @@ the processor at the end."""
 import z3
 from calls import NO_MESSAGE, Call, apart, generator, named, padded_content, some_state
 from checks import accepted, check, check_bytes, check_generator
-from definition import State, is_text, komi, next_pair, padded_words, start, words_of
+from definition import (State, filled, is_text, komi, next_pair, padded_words, seeded, start,
+                        words_of)
 from terms import bv, bytes_of, join, part, secret, sym
 
 
@@ -93,12 +94,13 @@ def resume(library, version, length):
     return end
 
 
-def rand_init(library, version, name, seeds, steps):
+def rand_init(library, version, name, seeds):
+    """A generator from a seed, which is also the extra one, from two, or from its words."""
     call = Call(library, version, name)
     args = [secret('seed'), secret('extra seed')][:seeds]
     pair = args[0], args[-1]
-    for _ in range(steps):
-        pair = next_pair(call.products, version, *pair)
+    if name != '_rand_init_words':
+        pair = seeded(call.products, version, *pair)
     end = call.one(*args)
     for k in (0, 1):
         check(end, f's{k + 1}', end.result(k), pair[k])
@@ -118,13 +120,11 @@ def rand_next(library, version):
 def rand_fill(library, version, length):
     call = Call(library, version, '_rand_fill')
     address, pair = generator(call)
-    out, wanted = call.array('out', length, high=length, writable=True), []
-    for _ in range((length + 7) // 8):
-        pair = next_pair(call.products, version, *pair)
-        wanted += bytes_of(pair[0])
+    pairs, wanted = filled(call.products, version, pair, length)
+    out = call.array('out', length, high=length, writable=True)
     end = call.one(address, out, bv(length))
-    check_generator(end, pair)
-    check_bytes(end, 'bytes', 'out', wanted[:length])
+    check_generator(end, pairs[-1])
+    check_bytes(end, 'bytes', 'out', wanted)
     return end
 
 

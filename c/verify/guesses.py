@@ -45,12 +45,11 @@ def places(proof, q):
     is refused, which doesn't matter after the loop."""
     cpu = proof.start(1, True, front=proof.GRAIN * (q + 1))
     cpu.facts.add(proof.q == q, proof.r == REST >> proof.FIXED_BITS)
-    refusal = None
     try:
         list(proof.run(cpu))
     except Refused as refused:
-        refusal = refused
-    return list(proof.seen.order), refusal
+        return list(proof.seen.order), refused
+    return list(proof.seen.order), None
 
 
 def form_of(places, stable, first, second, word):
@@ -94,8 +93,6 @@ def witness(found, term, value):
         known = frozenset().union(*map(symbols, found))
         *others, last = sorted(term.children(), key=lambda part: len(symbols(part) - known))
         witness(found, last, value - z3.substitute(sum(others), *found.items()))
-    elif symbols(term) and not term.children():
-        found.setdefault(term, value)
     else:
         for one in (SYMBOLS.term[name] for name in symbols(term)):
             found.setdefault(one, z3.Extract(one.size() - 1, 0, value))

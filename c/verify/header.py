@@ -59,8 +59,7 @@ def allowed(call):
             else:
                 size, most = bv(structs[element.split('_')[-1]]), z3.BoolVal(True)
             # It is null only if it is empty, and after it there is an address.
-            conditions += [most, base & unit - 1 == 0,
-                           z3.Or(size == 0, z3.And(base != 0, z3.ULT(size, -base)))]
+            conditions += [most, base & unit - 1 == 0, z3.Or(size == 0, z3.ULT(size, -base))]
             sizes.append(size)
     # What is written ends before what is read, or begins after it. No case of others asks that.
     if call.name.endswith('pad'):

@@ -48,7 +48,8 @@ class Induction:
     NAME, UNIT, SIZE, GRAIN, PRODUCTS, FIRST, LEAST = '', 8, 8, 128, 0, 0, 1
     # How many low bits of the length a case fixes, and the number that they are.
     FIXED_BITS, fixed = 0, 0
-    # Which symbols mean the same at each arrival, beside those that each call has (`stable`).
+    # Which symbols mean the same at each arrival: the addresses and the room that a call passes,
+    # and the byte that ends the words of `unpad`.
     STABLE = frozenset({'bytes', 'words', 'out', 'rand', 'room', 'padding byte'})
 
     def __init__(self, library, version, *case):
@@ -79,6 +80,7 @@ class Induction:
         return self.call
 
     def stable(self):
+        """These, the length, where the library is, the last bytes, and what the caller had."""
         ends = named('end', range(-self.GRAIN - 8, 0))
         terms = self.q, self.r, LOADED, sym('return'), *ends, *self.call.cpu.before.values()
         return self.STABLE.union(*map(symbols, terms))
@@ -87,13 +89,9 @@ class Induction:
         """The term GRAIN * q + r, which is the bits of q and r side by side. Unless r is given, it
         is any number that has the low bits of this case."""
         self.call.facts.add(z3.UGE(self.q, least))
-        if r is not None:
-            r = bv(r, 64 - self.q.size())
-        elif self.FIXED_BITS:
-            r = z3.Concat(self.r, bv(self.fixed, self.FIXED_BITS))
-        else:
-            r = self.r
-        return simple(z3.Concat(self.q, r))
+        fixed = [bv(self.fixed, self.FIXED_BITS)] if self.FIXED_BITS else []
+        rest = [self.r, *fixed] if r is None else [bv(r, 64 - self.q.size())]
+        return simple(z3.Concat(self.q, *rest))
 
     def start(self, least=1, sure=False, front=512):
         """A call before its first instruction. With `sure`, only those that are accepted."""

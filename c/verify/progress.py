@@ -26,8 +26,8 @@ class Progress:
         return sum(getattr(done, field) for name in names or self.done for done in self.done[name])
 
     def table(self, failed):
-        row = '{:36} {:>6} {:>23} {:>9} {:>6} {:>8}'.format
-        print(row('function', 'cases', 'multiplications', 'jumps by', 'stack', 'seconds'))
+        row = '{:37} {:>5} {:>24} {:>17} {:>5} {:>7}'.format
+        print(row('function', 'cases', 'multiplications', 'jumps by contents', 'stack', 'seconds'))
         for name, count in sorted(self.all.items()):
             if name in failed:
                 print(f'FAILED: {failed[name]}')
@@ -35,8 +35,7 @@ class Progress:
                 print(f'{name:36} {len(self.done[name]):>6} of {count}, and no more')
             else:
                 said, depth = row_of(name), max(done.depth for done in self.done[name])
-                print(row(name, count, said.multiplications,
-                          'contents' if said.by_contents else 'lengths', depth,
-                          f'{self.total("seconds", name):.0f}'))
+                print(row(name, count, said.multiplications, 'yes' if said.by_contents else 'no',
+                          depth, f'{self.total("seconds", name):.0f}'))
         print(f'{self.total("asked")} questions to Z3{second.NAME and f" and {second.NAME}"}; '
               f'{time.time() - self.begin:.0f} seconds, {self.jobs} processes')

@@ -1,8 +1,8 @@
 """The definition against values of the Rust crate and of the C original."""
-import itertools
+import functools
 import os
 import z3
-from definition import Products, State, is_text, komi, next_pair, padded_words, start, words_of
+from definition import Products, State, are_padded, filled, is_text, komi, seeded, start, words_of
 from terms import Unknown, bv, bytes_of, const, simple
 
 # The files of values, which explain their rows, and how many they have.
@@ -57,31 +57,27 @@ def resume(version, text):
     return f'{const(state.answer(NUMBERS, version)):016x}'
 
 
-def fills(version, x, y, *lengths):
-    pair, written = (number(x), number(y)), []
-    for end in itertools.accumulate(map(int, lengths)):
-        while len(written) < end:
-            pair = next_pair(NUMBERS, version, *pair)
-            written += bytes_of(pair[0])
-        del written[end:]
+def fills(version, x, y, *lengths, first=lambda _, *pair: pair):
+    pairs, written = [first(version, number(x), number(y))], []
+    for length in map(int, lengths):
+        pairs, some = filled(NUMBERS, version, pairs[-1], length)
+        written += some
     return hexadecimal(written)
 
 
 def unpad(version, *words):
-    words = [number(word) for word in words]
-    padded = [byte for word in words for byte in bytes_of(word)]
-    for length in range(len(padded)):
-        if padded_words(version, padded[:length]) == words:
-            return hexadecimal(padded[:length])
+    content = [byte for word in words for byte in bytes_of(number(word))]
+    for length in range(len(content)):
+        if z3.is_true(are_padded(version, content, length)):
+            return hexadecimal(content[:length])
     return 'none'
 
 
+seeded_fills = functools.partial(fills, first=functools.partial(seeded, NUMBERS))
 CALLS = {
     'komihash': komihash, 'hasher': komihash, 'save': save, 'resume': resume, 'unpad': unpad,
-    # Four steps of a generator are 32 bytes.
-    'new': fills, 'init': lambda version, seed, *lengths: fills(
-        version, seed, seed, 32, *lengths)[64:],
-    'init_with_extra_seed': lambda version, *given: fills(version, *given[:2], 32, *given[2:])[64:]}
+    'new': fills, 'init_with_extra_seed': seeded_fills,
+    'init': lambda version, seed, *lengths: seeded_fills(version, seed, seed, *lengths)}
 
 
 def check_all_values():

@@ -116,6 +116,8 @@ def of_header_and_marks(e):
           for at in (2**40, len(e.content) - 100)),
         *((f'{name} without a mark', 'has none', e.bytes_at, at, nothing[1])
           for name, at in e.elf.functions(cases.NAMES)[0].items()),
+        ('a mark of another kind', 'has none', e.bytes_at, e.function,
+         bytes.fromhex({62: 'f30f1efb', 183: '9f2403d5'}[e.elf.machine])),
         *((f'marks {notes}, and a function without', 'has none',
            lambda notes=notes: (e.note(elf.PROPERTY, kind, *notes), e.bytes_at(*nothing)))
           for notes in ([[1]], [[0, 1]], [[0], [1]], [[1, 0]], [[1], [0]])),
@@ -125,12 +127,13 @@ def of_header_and_marks(e):
             e.bytes_at(*nothing), e.note(elf.PROPERTY, kind, first=struct.pack(
                 '<III4sIIQIIII', 4, 32, 5, b'GNU\0', kind, 8, 0, kind, 4, 1, 0)))),
         *((f'marks of an unknown kind {bit:#x}', 'unknown: 0xc0', e.note, elf.PROPERTY, kind, [bit])
-          for bit in (64, 1 << 8, 1 << 31)),
+          for bit in (1 << k for k in range(2, 32))),
         *((f'a property {one:#x}', 'None', e.note, NOTES, one, [8])
           for one in (0xc0010001, 0xc0010002) if e.elf.machine == 62),
         *((f'an unknown property {one:#x}', f'unknown: {one:#x}', e.note, NOTES, one, [1])
           for one in (0xb0008000, 0xc0008002)),
-        ('a note of another kind', 'of GNU of type 1', e.bytes_at, of_notes + 8, b'\1'),
+        *((f'notes {k} of another kind', 'of GNU of type 1', e.bytes_at, s.start + 8, b'\1')
+          for k, s in enumerate(e.elf.of_type(NOTES))),
         ('a note without an end', 'note has no end', e.bytes_at, of_notes + 4, b'\0\1'),
         ('a property without an end', 'property has no end', e.bytes_at,
          e.elf.of_type(elf.PROPERTY)[0].start + 20, b'\0\0\0\1')]
@@ -156,13 +159,14 @@ def of_segments(e):
          (SIZE, size)),
         ('a dynamic table without an end', 'no end', DYNAMIC, 0, (FILLED, 32), (SIZE, 32)),
         ('an empty part', 'a part is empty', NOTES, 0, (KIND, LOAD), *nothing),
-        ('smaller pages', 'not aligned', LOAD, 0, (ALIGN, small)),
         *((f'notes {k} elsewhere in the file', 'elsewhere in', NOTES, k, (OFFSET, code.offset))
           for k in range(len(e.elf.of_type(NOTES)))),
         ('a table over the end of a part', 'elsewhere in', LOAD, -1, (FILLED, last.filled - 8)),
-        ('a part at another place of its pages', 'not aligned', LOAD, e.code_at,
-         (OFFSET, code.offset + 16)),
-        ('pages of another size', 'not aligned', LOAD, 0, (ALIGN, code.align * 5 // 4)),
+        *((f'part {k} {name}', 'not aligned', LOAD, k, change)
+          for k, part in enumerate(e.parts) for name, change in (
+              ('with smaller pages', (ALIGN, small)),
+              ('with pages of another size', (ALIGN, code.align * 5 // 4)),
+              ('at another place of its pages', (OFFSET, part.offset + 16)))),
         ('memory without end', 'more than 67108864', LOAD, -1, (SIZE, 2**46)),
         ('tables that can not be read', 'can not be read', LOAD, 0, (RIGHTS, EXECUTE)),
         ('code that can be written', 'could be written', LOAD, e.code_at, (RIGHTS, 7)),
@@ -187,15 +191,19 @@ def of_segments(e):
                 e.segment(RELRO, 0, (KIND, FRAMES), (SIZE, relro.filled)))),
             *((f'a table of parts over the end of part {k}', 'another one', e.move_table,
                part.offset + part.filled - 100) for k, part in enumerate(e.parts[:e.code_at + 1])),
-            *((f'a last segment of type {kind:#x}', reason, e.fill_table,
+            *((f'a last segment of type {kind:#x} and rights {rights}', reason, e.fill_table,
                kind, rights, 8, 8, 8, 1, 1, code.align) for kind, rights, reason in (
-                   (LOAD, elf.READ, 'mapped over'), (7, 0, 'unknown type'),
-                   (STACK, 7, 'be executed'), (DYNAMIC, 6, 'one dynamic table'))),
+                   *((LOAD, rights, 'mapped over') for rights in (READ, READ | EXECUTE, 6)),
+                   (7, 0, 'unknown type'), (STACK, 7, 'be executed'),
+                   (DYNAMIC, 6, 'one dynamic table'))),
             *[('a part over a page of one byte', 'mapped over', lambda: (
                 e.segment(LOAD, e.code_at, (FILLED, to_page), (SIZE, to_page)),
                 e.segment(LOAD, e.code_at + 1, (
                     START, (code.start + to_page - 1) + after.offset % code.align))))][
                         e.elf.machine == 183:],
+            *((f'another table of parts beside its own, {own}', 'another one', lambda own=own: (
+                e.segment(NOTES, own, (KIND, TABLE), *at_64, (FILLED, size), (SIZE, size)),
+                e.segment(NOTES, 1 - own, (KIND, TABLE)))) for own in (0, 1)),
             ('another dynamic table in the file', 'elsewhere in', lambda: (
                 e.segment(DYNAMIC, 0, (OFFSET, len(e.content))),
                 e.content.extend(e.content[last.offset:last.offset + 256])))]
@@ -241,14 +249,16 @@ def of_names(e):
     early = next(k for k, one in enumerate(e.elf.chains) if not one & 1)
     return [(name, reason, e.bytes_at, *change) for name, reason, *change in (
         ('the name of another library', 'would take it for', soname, b'libc.so.6\0'),
-        *((f'{one} in its name', 'would take it for', soname + 11, one.encode()) for one in '/$'),
+        *((f'{one} in its name at {at}', 'would take it for', soname + at, one.encode())
+          for one in '/$' for at in (11, 12)),
         ('no buckets', 'in different ways', names, bytes(4)),
         ('a filter of no words', 'in different ways', names + 8, bytes(4)),
         ('a symbol before the first', 'before its first', names + 4, b'\0\0\1'),
         ('one bucket before the first', 'before its first', names + 4,
          struct.pack('<I', min(k for k in e.elf.buckets if k) + 1)),
-        ('another name of the first symbol', "also exports ['omi", e.elf.table[elf.SYMBOLS] +
-         elf.SYMBOL.size * e.elf.first, struct.pack('<I', e.elf.strings.index(first.encode()) + 1)),
+        *((f'another name of symbol {k}', "also exports ['omi", e.elf.table[elf.SYMBOLS] +
+           elf.SYMBOL.size * k, struct.pack('<I', e.elf.strings.index(e.elf.symbols[k][0]) + 1))
+          for k in (e.elf.first, len(e.elf.symbols) - 1)),
         ('a filter of three words', 'in different ways', names + 8, three),
         *((f'a shift of {n} bits', 'in different ways', names + 12, struct.pack('<I', n) + every)
           for n in (32, 33, 2**24, 2**31)),
@@ -285,8 +295,10 @@ TOLD = {**dict.fromkeys(('another function', 'a byte below the stack'), '4 passe
 
 def changes(e):
     return [*of_header_and_marks(e), *of_segments(e), *of_dynamic_table(e), *of_names(e),
-            *((f'a {what} of 16 bits', ' known ', e.instruction, code) for what, code in (
-                ('jump', '66 e9'), ('return', '66 c3')) if e.elf.machine == 62),
+            *((f'a {what} of 16 bits', 'not known..(66', e.instruction, code) for what, code in (
+                ('jump', '66 e9 0000'), ('short jump', '66 eb 00'), ('call', '66 e8 0000'),
+                ('jump by a flag', '66 0f84 0000'), ('short jump by a flag', '66 74 00'),
+                ('return', '66 c3')) if e.elf.machine == 62),
             ('a byte below the stack', 'below the stack pointer', e.instruction,
              {62: '884424ff', 183: 'e0c31fb8'}[e.elf.machine]),
             ('code that is not aligned', 'None' if e.elf.machine == 62 else 'that is not aligned',

@@ -23,10 +23,10 @@ X86 = '''
 .macro pad before, in, after; mov r8, rsi; shr r8, 3; xor eax, eax; cmp rcx, r8; jbe .Lend
     \\before; xor r9d, r9d; .Lturn: cmp r9, r8; jae .Lrest; word; \\in
     jmp .Lturn; tail "\\after"; .endm
-.macro fill in; mov r9, rdx; mov r8, 0x5555555555555555; 1: cmp r9, 8; jb 2f; mov rax, [rdi]
-    mul qword ptr [rdi + 8]; xor rax, rdx; add rax, r8; mov [rdi], rax; mov [rsi], rax; not r8
-    add rdx, r8; not r8; add [rdi + 8], rdx; \\in; add rsi, 8; sub r9, 8; jmp 1b
-    2: mov rdx, r9; .endm
+.macro step at; mov rax, [rdi]; mul qword ptr [rdi + 8]; xor rax, rdx; add rax, r8; mov [rdi], rax
+    mov [\\at], rax; not r8; add rdx, r8; not r8; add [rdi + 8], rdx; .endm
+.macro fill in, before; mov r9, rdx; mov r8, 0x5555555555555555; \\before
+    1: cmp r9, 8; jb 2f; step rsi; \\in; add rsi, 8; sub r9, 8; jmp 1b; 2: mov rdx, r9; .endm
 .macro tail after; .Lrest: \\after; xor r10d, r10d; cmp r10, rsi; adc r10d, 0; and esi, 7
     je .Lstore; .Lbyte: shl r10, 8; lea r11, [rdi + 8*r8]; movzx r11d, byte ptr [r11 + rsi - 1]
     or r10, r11; dec esi; jne .Lbyte; .Lstore: mov [rdx + 8*r8], r10; lea rax, [r8 + 1]
@@ -47,8 +47,11 @@ a number that splits at the end|v5_save|save(5,)..in no array|mov r10, rdx; and 
     mov byte ptr [rdi + 8*r10 + 144], 0
 one by one of 64 values|v5_save|save(5,)..must be refused|mov r10, rdx; and r10d, 63;
     cmp byte ptr [rdi + r10], 0; cmp r10, 63; jne body; mov eax, 1; ret
+a number of four values||4 ways through|mov r10, rdi; and r10d, 24; sub rsp, r10; add rsp, r10
 a number by the room|v5_save|save(5,)..|cmp rdx, 5000; cmovb r10, rdx
 a frame by the room|v5_save|save(5,)..|mov r10, rdx; and r10d, 8; sub rsp, r10; add rsp, r10
+a frame by the room and a carry|v5_save|save(5,)..|sub rsp, 64; mov r10, rdx; and r10d, 8;
+    lea r11, [r10 - 1]; cmp r10d, 9; adc rsp, r11; sub rsp, r10; add rsp, 64
 # The stack, the red zone and registers of the caller.
 the red zone|||red zone; mov [rsp - 128], rdi; mov rdi, [rsp - 128]
 below the red zone||below the stack pointer|red zone; mov [rsp - 129], al
@@ -56,17 +59,22 @@ a red zone that stays|||red zone; mov [rsp - 64], rdi; push rax; pop rax; mov rd
 a red zone moved||not written|red zone; mov [rsp - 121], al; pop rax; push rax; mov al, [rsp - 121]
 all of the stack|||sub rsp, 4096; add rsp, 4096
 more than the stack||out of the stack|sub rsp, 4097; add rsp, 4097
+below all of the stack||in no array|red zone; sub rsp, 4096; mov [rsp - 1], al; add rsp, 4096
 a step over the caller's frame||out of the stack|lea rsp, [rsp + 256]; lea rsp, [rsp - 256]
+a small step above the call||out of the stack|lea rsp, [rsp + 9]; lea rsp, [rsp - 9]
 a stack that is lower at the end||not where the caller left it|push [rsp]
 a word half below the stack||below the stack pointer|mov [rsp - 4], rdi
 a byte above the call||in no array|mov [rsp + 8], al
 a byte that was popped||not written|push rdi; pop rax; sub rsp, 8; mov rdi, [rsp]; add rsp, 8
+a last byte that was popped||not written|
+    push rdi; pop rax; sub rsp, 8; cmp byte ptr [rsp + 7], al; add rsp, 8
 a byte far below||not written|
     sub rsp, 256; mov [rsp], al; add rsp, 256; sub rsp, 256; mov al, [rsp]; add rsp, 256
 a vector of one byte further||not aligned to 16|sub rsp, 40; movaps [rsp + 1], xmm0; add rsp, 40
 a return address that a loop loses|v5_pad|Pad..not written|pad "add rsp, 8", "", "sub rsp, 8"
 rbx after a turn|v5_pad|Pad..rbx of the caller|pad "", "cmp r9, 400; jne .Lturn; bts rbx, 63", ""
 rbx if refused|v5_pad|Pad..rbx of the caller|test rcx, rcx; jne body; bts rbx, 63; xor eax, eax; ret
+rbx by the room|v5_save|save(5,)..rbx of the caller|cmp rdx, 5000; jne body; bts rbx, 63
 # Memory, of which ARRAYS has the arguments.
 what may be written||in no array|.pushsection .data; 2: .quad 0; .popsection; mov rax, [rip + 2b]
 a constant at an odd address|||mov eax, [rip + __ehdr_start + 1]; cmp eax, 0x02464c45; je body; ud2
@@ -76,6 +84,8 @@ a long copy||in no array|push rdi; sub rsp, 320; lea rsi, [rip + __ehdr_start]; 
     mov ecx, 600; rep movsb; add rsp, 320; pop rdi
 an address of 32 bits||not known|.byte 0x67; lea rax, [-1]
 a byte of an old stream|v5_init|not written|mov al, [rdi + 80]
+a byte of a stream that is returned|v5_start|not written|mov al, [rdi + 80]
+a vector over the end|v5|Hash(0,)..in no array|movups xmm0, [rdi + 113]
 a byte that may not be there|v5_write|Write(13,)..in no array|
     turn: 8: cmp [BYTES], al; cmp LEFT, 127; jbe 9f; next: jmp 8b; 9:
 a byte after the last block|v5_write|Write(13,)..in no array|
@@ -89,11 +99,15 @@ a word that a loop loses|v5_pad|Pad..not written|
 a write where there may be no room|v5_save|in no array|mov byte ptr [rsi], 0
 a refusal that writes|v5_save|of out were|lea rax, [rdx - 1]; cmp rax, 130; jae body; mov [rsi], al
 a refused text that is written|v5_resume|resume(0,)..of stream were written|mov byte ptr [rdi], 0
+a long text that is written|v5_resume|resume(None,)..of stream were written|
+    cmp rsi, 5000; jne body; mov byte ptr [rdi], 0
 a long one|v5_pad|Pad..refused: the bytes [0]|cmp rcx, 1; jne body; mov byte ptr [rdx], 0
 # What jumps and addresses depend on.
 a jump by a register of the caller|v5_save|save(5,)..depends on r10|test r10, r10; je 1f; 1:
 flags of a shift|v5_save|save(5,)..flag z is read|mov rcx, rdx; cmp rax, rax; shl r8, cl; jne 1f; 1:
 the highest bit of 0||2 ways|mov rcx, -1; xor eax, eax; bsr ecx, eax; shr rcx, 32; jne 1f; 1:
+a highest bit of 64 of 0|v5_save|save(5,)..depends on undefined|
+    mov rcx, -1; xor eax, eax; bsr rcx, rax; inc rcx; jne 1f; 1:
 a jump by a low half|v5|Hash(6,)..depends on low|next: test rax, rax; je 1f; 1:
 a jump by a lane|v5|Hash(6,)..depends on value|next: test LANE, LANE; je 1f; 1:
 a jump by a factor|v5_rand_fill|Fill..depends on s1|turn: cmp INDEX, 300; jne 1f;
@@ -106,9 +120,12 @@ a jump by the seed|v5|Hash(0,)..depends on seed|cmp rdx, 5; jb 1f; 1:
 a jump by the top bit|v4_save|save(5,)..depends on top bit|cmp byte ptr [rdi + 137], 1; jb 1f; 1:
 one of an address|v5_save|save(5,)..depends|mov al, [rdi + 72]; and eax, 1; mov al, [rdi + rax]
 where in its page the library is|||lea rax, [rip + __ehdr_start]; test eax, 4095; je body; not rdi
+jumps by where the stack is||3 ways|test spl, 16; je 1f; test spl, 32; je 1f; 1:
 a jump by where the library is||2 ways|lea rax, [rip + __ehdr_start]; test eax, 4096; jne 1f; 1:
 # What is returned and stored, of which OUTPUTS has more.
 one that needs less room|v5_save|save(0,)..must be refused|cmp rdx, 130; jb body; mov edx, 131
+one that needs more room|v5_pad|Pad..must be refused|mov r8, rsi; shr r8, 3; inc r8; cmp rcx, r8;
+    ja body; xor eax, eax; ret
 another result of one|v5_pad|Pad..length: found 0x1|test rcx, rcx; jne body; mov eax, 1; ret
 no text, and a bool of 2|v5_resume|resume(0,)..result: found 0x2|mov eax, 2; ret
 a word of 0|v5_unpad|unpad(1, None)..|nop
@@ -137,6 +154,8 @@ one made twice||has made already|mov rax, [rdi]; mul qword ptr [rdi + 8]
 # Loops that are right.
 a loop|v5_pad|Pad..|pad "", "", ""
 a generator in memory|v5_rand_fill|Fill..|fill ""
+half a vector that stays|v5_pad|Pad..|
+    pad "movq xmm1, rdi; punpcklqdq xmm1, xmm1", "", "punpckhqdq xmm1, xmm1; movq rdi, xmm1"
 arrays that don't overlap|v5_pad|Pad..|mov r8, rsi; shr r8, 3; cmp rcx, r8; jbe body; mov r8, rdx;
     sub r8, rdi; cmp r8, rsi; jae body; xor eax, eax; ret
 words that don't overlap|v5_unpad|Unpad((7, 1),)..|lea r8, [8*rsi]; cmp rcx, r8; jb body;
@@ -161,6 +180,19 @@ one that leaves its loop there|v5_pad|Pad..the rest|pad "", "cmp r9, 400; je .Lr
 a loop begun late|v5_pad|Pad..in no array|pad "cmp rsi, 304; mov r9d, 1; je .Lturn", "", ""
 a loop that may run over the end|v5_pad|Pad..in no array|pad "cmp r8, 16; jb 1f; xor r9d, r9d;
     word; 2: word; word; cmp r9, r8; jne 2b; jmp .Lrest; 1:", "", ""
+two words in each turn after the first|v5_rand_fill|Fill..more than all was taken|
+    mov r10, rdx; mov r11, rdx; shr r11, 3; mov r8, 0x5555555555555555; step rsi; mov r9d, 1;
+    1: cmp r9, r11; je 2f; step rsi+8*r9; step rsi+8*r9+8; add r9, 2; jmp 1b;
+    2: lea rsi, [rsi + 8*r9]; and r10d, 7; mov rdx, r10
+turns of 32 words, after which up to 15 are copied|v5_pad|Pad..in no array|
+    mov r8, rsi; shr r8, 3; xor eax, eax; cmp rcx, r8; jbe .Lend; mov r11, r8; and r11, -32;
+    xor r9d, r9d; .Lturn: cmp r9, r11; jae 2f; .rept 32; word; .endr; jmp .Lturn;
+    2: mov r10, r8; sub r10, r9; test r10b, 15; je .Lrest; word; jmp 2b; tail
+one that compares 32 bits|v5_pad|Pad..the rest|pad "", "cmp r9d, r8d; je .Lrest", ""
+a wrong word before a loop|v5_pad|Pad..bytes: found|
+    pad "xor r9d, r9d; word; not byte ptr [rdx]; jmp .Lturn", "", ""
+a wrong word before the loop of a generator|v5_rand_fill|Fill..bytes: found|
+    fill "", "step rsi; not byte ptr [rsi]; add rsi, 8; sub r9, 8"
 a call that begins at the exit|v5_pad|Pad..the rest|pad "cmp rsi, 200; je .Lrest", "", ""
 a long one that is copied|v5_pad|Pad..a turn of a call that is refused|mov rcx, -1; pad "", "", ""
 a turn of nothing|v5_pad|Pad..takes nothing|pad "xor r9d, r9d; jmp 1f", "1: cmp r9, 400; je 1b", ""
@@ -168,6 +200,11 @@ two registers that turns change|v5_pad|Pad..many values|
     pad "", "mov rax, r10; not rax", "xor r10, rax; add r8, r10"
 one that a turn changes|v5_rand_fill|Fill..does not have|
     fill "cmp r9, 400; jne 3f; not byte ptr [rdi]; 3:"
+half a vector that a turn changes|v5_pad|Pad..in no array|
+    pad "movq xmm1, rdi; punpcklqdq xmm1, xmm1; movq xmm2, rsi", "cmp r9, 400; jne .Lturn;
+    punpcklqdq xmm1, xmm2", "punpckhqdq xmm1, xmm1; movq rdi, xmm1"
+the word before the last one|v5_rand_fill|Fill..s1|
+    after "test dl, 7; jne 1f; movq [rdi], xmm7"; turn: movq xmm7, FACTOR
 the words of a generator exchanged at the end|v5_rand_fill|Fill..s1|fill ""; cmp r9, 3; jne body;
     mov r10, [rdi]; mov r11, [rdi + 8]; mov [rdi], r11; mov [rdi + 8], r10
 # Calls that end before their loops, or in the wrong state.
@@ -177,7 +214,8 @@ a write to 63 bytes that ends early|v5_write|Write(63,)..before the end|
 a write of nothing|v5_write|Write(13,)..before the end|cmp rdx, 60; jne body; xor eax, eax;
     mov [rdi], rax; mov [rdi + 8], rax; mov [rdi + 64], rax; mov byte ptr [rdi + 136], 1; ret
 a write that takes nothing of 1,000 blocks|v5_write|Write(0,)..before the end|
-    cmp rdx, 64000; jne body; cmp qword ptr [rdi + 64], 0; jne body; mov byte ptr [rdi + 136], 1; ret
+    cmp rdx, 64000; jne body; cmp qword ptr [rdi + 64], 0; jne body; mov byte ptr [rdi + 136], 1;
+    ret
 a refusal|v5_pad|Pad..before the end|cmp rsi, 200; jne body; cmp rcx, 26; jb body; xor eax, eax; ret
 '''
 V2 = X86[0], X86[1] + '''
@@ -193,27 +231,47 @@ a vector on the stack|||
 ARM = '''
 .macro after kept, code; stp \\kept, x30, [sp, -16]!; bl body; ldp \\kept, x30, [sp], 16; \\code
     1: ret; .endm
+.macro whole length, code; mov x9, x2; stp x0, x9, [sp, -16]!; stp x29, x30, [sp, -16]!; bl body
+    ldp x29, x30, [sp], 16; ldp x0, x9, [sp], 16; ldr x10, [x0, 64]; cbnz x10, 1f
+    cmp x9, \\length; b.ne 1f; \\code; 1: ret; .endm
 ''', '''
 a frame not aligned||not aligned to 16|sub sp, sp, 8; str x0, [sp]; add sp, sp, 8
 a load from a frame not aligned||not aligned to 16|sub sp, sp, 24; mov x10, sp; str x9, [x10];
     ldr x9, [sp]; add sp, sp, 24
 a store of the register that it moves||no meaning|mov x9, sp; .inst 0xf8008529
+a store of the register that it moves first||no meaning|mov x9, sp; .inst 0xf8008d29
 a hint that changes x30||not known|hint 25
 another one||not known|hint 7
 a word below the stack||below the stack pointer|red zone; stur w0, [sp, -4]
-a small step above the call||out of the stack|add sp, sp, 16; sub sp, sp, 16
+a small step above the call||out of the stack|add sp, sp, 1; sub sp, sp, 1
 a byte above the call||in no array|strb w0, [sp]
 a number that splits|v5_save|save(5,)..must be refused|and x10, x2, 8; add x9, x0, x10; ldr x11,
     [x9], 8; sub x9, x9, x10; sub x9, x9, x0; cmp x9, 16; b.eq body; mov x0, 77; ret
 a jump by a register of the caller|v5_save|save(5,)..depends on x9|cbz x9, 1f; nop; 1:
+a low half made twice||has made already|ldp x9, x10, [x0]; mul x11, x9, x10; mul x11, x9, x10
+a high half made twice||has made already|
+    ldp x9, x10, [x0]; umulh x11, x9, x10; umulh x11, x9, x10
 a product|v5_rand_fill|Fill..products|cmp x2, 200; b.ne body; ldp x9, x10, [x0]; mul x9, x9, x10
 a stack that is lower at the end||sp is lost|sub sp, sp, 16
 a changed return address||not the caller|eor x30, x30, 4
+a return to the next instruction but one||not the caller|stp x0, x30, [sp, -16]!; bl 1f; nop;
+    ldp x0, x30, [sp], 16; b body; 1: add x30, x30, 4; ret
+more than the stack||out of the stack|sub sp, sp, 4096; sub sp, sp, 16; add sp, sp, 4096;
+    add sp, sp, 16
 a byte that was popped||not written|str x0, [sp, -16]!; add sp, sp, 16; sub sp, sp, 16;
     ldr x0, [sp], 16
 a call|||stp x0, x30, [sp, -16]!; bl 1f; ldp x0, x30, [sp], 16; b body; 1: ret
 whole blocks that are wrong|v5_write|Write(13,)..the stream at 0|
     after x0, "ldr x9, [x0, 64]; cbnz x9, 1f; mov w9, 1; strb w9, [x0]"
+one block that is wrong|v5_write|Write(13,)..the stream at 0|whole 51, "strb w0, [x0]"
+three blocks that are wrong|v5_write|Write(13,)..the stream at 0|whole 179, "strb w0, [x0]"
+x19 after three blocks|v5_write|Write(13,)..x19 of the caller|whole 179, "eor x19, x19, 1"
+a loop that ends early|v5_write|Write(13,)..before the end|
+    turn: cmp LEFT, 4096; b.ne 1f; mov LEFT, 128; 1:
+a flag that a turn changes|v5_write|Write(13,)..at 136|
+    turn: cmp LEFT, 4096; b.ne 1f; strb wzr, [x0, 136]; 1:
+a pending byte that a turn writes|v5_write|Write(13,)..at 0|
+    turn: cmp LEFT, 4096; b.ne 1f; strb w0, [x0]; 1:
 63 bytes more that are wrong|v5_write|Write(13,)..the stream at 0|
     after x0, "ldr x9, [x0, 64]; cmp x9, 63; b.ne 1f; strb w9, [x0]"
 whole blocks of version 4|v4|Hash(0,)..|nop
@@ -263,6 +321,8 @@ v5|Hash(0,)|hash: cmp rsi, 256; jne 1f; bts rax, 63
 v5|Hash(7,)|hash: cmp rsi, 319; jne 1f; bts rax, 63
 v5|hash_of(256,)|hash: bts rax, 63
 v5|hash_of(319,)|hash: bts rax, 63
+v5_init|start_of|at 0: not byte ptr [rdi]
+v5_write|write_of(5, 0)|at 64: inc byte ptr [rdi + 64]
 v5_write|write_of(5, 3)|at 136: not byte ptr [rdi + 136]|at 16: not byte ptr [rdi + 20]
 v5_write|Write(13,)|at 0: cmp byte ptr [rdi + 64], 0; jne 1f; not byte ptr [rdi]|
     at 0: cmp byte ptr [rdi + 64], 63; jne 1f; not byte ptr [rdi]|
@@ -273,9 +333,13 @@ v5_save|save(5,)|bytes: test al, al; je 1f; rol qword ptr [rsi + 4], 8|result: i
     result: bts rax, 40|result: cmp rax, 1; adc eax, 0|
     result: mov r8d, 7; cmp rdx, 5000; cmovl rax, r8|
     result: mov r8d, 7; cmp rdx, 5000; cmovge rax, r8
-v5_resume|resume(68,)|at 137: test al, al; je 1f; or byte ptr [rdi + 137], 2|result: or eax, 2
+v5_resume|resume(68,)|at 137: test al, al; je 1f; or byte ptr [rdi + 137], 2|result: or eax, 2|
+    result: or al, 128|result: test al, al; jne 1f; inc eax
+v5_rand_init|rand_init|s2: inc rdx
 v5_rand_init_with_extra_seed|rand_init|s1: inc rax|s2: inc rdx
+v5_rand_init_words|rand_init|s1: inc rax
 v5_rand_next|rand_next|output: inc rax|s2: not byte ptr [rdi + 8]
+v5_rand_fill|rand_fill(0,)|s1: inc byte ptr [rdi]
 v5_rand_fill|rand_fill(16,)|bytes: rol qword ptr [rsi], 8|s2: not byte ptr [rdi + 8]
 v5_rand_fill|Fill|s1: cmp rdx, 256; jne 1f; mov [rdi], dl|s1: cmp rdx, 383; jne 1f; mov [rdi], dl|
     bytes: cmp rdx, 255; jne 1f; not byte ptr [rsi + 254]
@@ -291,19 +355,33 @@ v5_unpad|Unpad(None,)|length: cmp rsi, 40; jne 1f; inc rax|length: cmp rsi, 20; 
 v5_unpad|Unpad((7, 1),)|length: cmp rsi, 33; jne 1f; or al, 128|
     length: cmp rsi, 48; jne 1f; or al, 128
 '''
-# Instructions that change memory, which at `_` may only be read.
-WRITES = '''inc byte ptr _; dec byte ptr _; not byte ptr _; neg byte ptr _; add _, al; or _, al
-    adc _, al; and _, al; sub _, al; xor _, al; rol byte ptr _, 1; shl byte ptr _, 1
-    shr byte ptr _, 1; sar byte ptr _, 1; shld _, rax, 1; sete byte ptr _; mov _, al
-    movups _, xmm0; movdqu _, xmm0; movq _, xmm0'''
+# Of instructions that are alike, the function, the reason, what comes before each in its body, what
+# stands for `_`, and these: they change memory, load 16 bytes, also if they need fewer, or access
+# memory by the stack pointer.
+ALIKE = {
+    'x86-64': ('v5_finish', 'finish(5, 1)..only read', 'cmp rdi, rdi; ', '[rdi + 64]', '''
+        inc byte ptr _; dec byte ptr _; not byte ptr _; neg byte ptr _; add _, al; or _, al
+        adc _, al; and _, al; sub _, al; xor _, al; rol byte ptr _, 1; shl byte ptr _, 1
+        shr byte ptr _, 1; sar byte ptr _, 1; shld _, rax, 1; sete byte ptr _; mov _, al
+        movups _, xmm0; movdqu _, xmm0; movq _, xmm0'''),
+    'x86-64-v3': ('', 'in no array', '', '[rdi + 1]', '''
+        vpxor xmm0, xmm0, _; vxorps xmm0, xmm0, _; vpaddq xmm0, xmm0, _; vmovdqu xmm0, _
+        vpunpcklqdq xmm0, xmm0, _; vpunpckhqdq xmm0, xmm0, _; vunpckhpd xmm0, xmm0, _
+        vbroadcastf128 ymm0, _; vinserti128 ymm0, ymm0, _, 1; vblendps xmm0, xmm0, _, 0'''),
+    'armv8-a': ('', 'not aligned to 16', 'sub sp, sp, 8; ', 'sp', '''
+        ldr x9, [_, x10]; ldr x9, [_], 16; ldr q0, [_]; ldrb w9, [_]; ldrh w9, [_]
+        ldur x9, [_, 1]; ldurb w9, [_, -1]; ldp x9, x10, [_]; ldp x9, x10, [_], 16
+        str x9, [_, x10]; str x9, [_, -16]!; str q0, [_]; strb w9, [_]; strh w9, [_]
+        stur x9, [_, 1]; stp x9, x10, [_]; stp x9, x10, [_, -16]!''')}
 LOOPS = {'v5': '_R.*hash_of_blocksKh5_.*', 'v5_rand_fill': 'komihash_v5_rand_fill',
          'v5_write': '_R.*Kh5_.*complete_blocks.*'}
 # The registers of these loops, whatever the compiler chose: what is multiplied, a lane, the address
 # of the bytes that are read, and how many are left; in a fill the address, the index of the word,
 # and how many words there are. FRAME is how far above the stack pointer a body's last push lies.
 ROLES = {'FACTOR': r'mulx?q\t%(\w+)', 'LANE': r'addq\t%(\w+), %', 'BYTES': r'\t56\(%(\w+)\)',
-         'LEFT': r'cmpq\t\$\d+, %(\w+)\n\tja', 'OUT': r'\(%(\w+),%\w+,8\)',
-         'INDEX': r'\(%\w+,%(\w+),8\)', 'COUNT': r'cmpq\t%\w+, %(\w+)\n\tjne'}
+         'LEFT': r'(?:cmpq\t\$\d+, %|sub\t\w+, )(\w+)(?:\n\tja|, #128)',
+         'OUT': r'\(%(\w+),%\w+,8\)', 'INDEX': r'\(%\w+,%(\w+),8\)',
+         'COUNT': r'cmpq\t%\w+, %(\w+)\n\tjne'}
 OUTPUTS += 'v5_start|start_of|address of the struct: inc rax' + ''.join(
     f'|at {k & -8}: not byte ptr [rdi + {k}]' for k in (*range(7, 136, 8), 136))
 # Assembly, marks after which bodies begin, the syntax of bodies and of the rest, macros and rows.
@@ -319,7 +397,8 @@ def table(level):
               for one, body in SAVED.get(level, ())),
             *([f'flag {one} of the caller', '', f'flag {one} is read', f'{jump} 1f; 1:']
               for one, jump in JUMPS.get(level, {}).items()),
-            *([*of_arrays(), *of_outputs(), *of_writes()] if level == 'x86-64' else ())]
+            *of_instructions(*ALIKE[level]),
+            *([*of_arrays(), *of_outputs()] if level == 'x86-64' else ())]
 
 
 def lines(table):
@@ -328,10 +407,9 @@ def lines(table):
     return [line.split('|') for line in text.split('\n') if line and line[0] != '#']
 
 
-def of_writes():
-    for do in re.split('[;\n] *', WRITES.replace('_', '[rdi + 64]')):
-        yield f'{do} where it may only read', 'v5_finish', 'finish(5, 1)..only read', \
-            f'cmp rdi, rdi; {do}'
+def of_instructions(function, reason, before, place, listed):
+    for do in re.split('[;\n] *', listed.strip().replace('_', place)):
+        yield f'{do} where it may not', function, reason, before + do
 
 
 def of_outputs():
@@ -371,7 +449,7 @@ def build(path, level, compiler, name, body):
     body, *parts = re.split('(?:^|; )(turn|next): ', body)
     for part, code in zip(parts[::2], parts[1::2]):
         loop = r'(?P<at>\.L\w+):\n(?P<turn>)(?P<loop>(?:.*\n)*?' \
-            r'(?P<next>).*\n\tj(?!mp)\w+\t(?P=at)\n)'
+            r'(?P<next>).*\n\t(?:j(?!mp)\w+|b\.hi)\t(?P=at)\n)'
         found = re.search(f'\n{LOOPS[name]}:\n(?P<before>(?:.*\n)*?){loop}', whole)
         at, pushes = found.start(part), found['before'].count('\tpushq\t')
         frame = sum(map(int, re.findall(r'subq\t\$(\d+), %rsp', found['before'])), 8 * pushes + 8)

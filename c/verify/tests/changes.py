@@ -19,25 +19,29 @@ import z3
 from calls import Call, named, some_lanes
 from definition import Products, State
 from header import parameters
-from terms import Unknown, bv, join, secret, sym, symbols
+from terms import Unknown, bv, is_public, join, secret, sym, symbols
 
-# By function, the calls that are left out.
+# By function, the calls that are left out, one after the other.
 CALLS = {
-    '': 'bytes == 0; bytes == 1; And(length == 9, bytes == 2**64 - 10); length == 127; '
-        'length == 2**63 - 1',
-    '_start': 'stream == 2**64 - 152',
-    '_rand_next': 'rand == 2**64 - 24; sp & 16 == 0; sp & 16 == 16; library == 2**12',
-    '_finish': 'stream == 8; had_block == 0; top_bit == 1; pending == 63; pending == 0',
-    '_save': 'out + 131 == stream',
-    '_pad': 'And(length == 0, room == 1, bytes == out + 1); '
-            'And(length == 9, room == 1, bytes + 1 == out); '
-            'And(length == 9, room == 2, bytes + 9 == out); room == 2**60 - 1; '
-            'And(length == 9, room == 2, bytes == 2**64 - 16); '
-            'And(length == 9, room == 5, out + 16 == bytes)',
-    '_unpad': 'And(length == 16, last > 0x200); length == 2**60 - 1; '
-              'And(length == 2, room == 16, last == 0x100, out + 15 == words); '
-              'And(length == 2, room == 15, last == 0x100, out == words + 1); '
-              'And(length == 1, room == 8, last == 0, out == words + 1)'}
+    'v4': 'bytes == 0; bytes == 1; And(length == 9, bytes == 2**64 - 10); length == 127; '
+          'length == 2**63 - 1',
+    'v4_start': 'stream == 2**64 - 152',
+    'v4_rand_next': 'rand == 2**64 - 24; sp & 16 == 0; sp & 16 == 16; sp == 2**63 + 8; '
+                    'library == 2**12; library == 2**63',
+    'v4_finish': 'stream == 8; had_block == 0; top_bit == 1; pending == 63; pending == 0',
+    'v5_finish': 'had_block == 1',
+    'v4_save': 'out + 131 == stream',
+    'v4_pad': 'And(length == 0, room == 1, bytes == out + 1); '
+              'And(length == 9, room == 1, bytes + 1 == out); '
+              'And(length == 9, room == 2, bytes + 9 == out); room == 2**60 - 1; '
+              'And(length == 9, room == 2, bytes == 2**64 - 16); '
+              'And(length == 9, room == 5, out + 16 == bytes)',
+    'v4_unpad': 'And(length == 16, last > 0x20000); length == 2**60 - 1; '
+                'And(length == 2, room == 16, last == 0x10000, out + 15 == words); '
+                'And(length == 2, room == 16, last == 0x100, out + 14 == words); '
+                'And(length == 2, room == 15, last == 0x10000, out == words + 1); '
+                'And(length == 1, room == 8, last == 0, out == words + 1); '
+                'And(length == 2, room == 16, last == 0x30000, out == words + 1)'}
 
 # How many cases there are of each function of a version.
 CASES = [331, 2, 2, 2503, 129, 65, 134, 2, 2, 2, 2, 180, 324, 477]
@@ -47,6 +51,13 @@ CASES = [331, 2, 2, 2503, 129, 65, 134, 2, 2, 2, 2, 180, 324, 477]
 AGAIN = '194, (128,), (1000,), (4095,)), ..358, (0, 64), (63, 315), (63, 4095)), ..' \
     '50, (128,), (1000,), (4095,)), ..194, (128,), (1000,), (4095,)), ..' \
     '50, (17, (1, 1)), (511, (7, 1)), (511, (7, 2)))'
+
+# The arguments on which jumps may depend.
+PUBLIC = ['bytes', 'length', 'out', 'rand', 'room', 'stream', 'text', 'words']
+
+# The first value and the last of one table, and the last of the other.
+FIRST_AND_LAST = ('komihash', 4, '0', ''), ('komihash', 5, '0', '37206368617273'), \
+    ('unpad', 5, '17f', '0')
 
 # A sum of the header without its version: header.py has its first comment in formulas, cases.py its
 # functions, and checks have what these return, macros, and how large structs are.
@@ -59,12 +70,12 @@ def with_products(suffix, formula):
     return cases, 'FUNCTIONS', {**cases.FUNCTIONS, suffix: other}
 
 
-def without(suffix, left_out, begin=Call.begin):
+def without(name, left_out, begin=Call.begin):
     """What begins those calls of a function for which a condition doesn't hold."""
     def begin_some(call, args):
-        names = [one for _, one in parameters(f'komihash_v4{suffix}')][-len(args):]
+        names = [one for _, one in parameters(f'komihash_{name}')][-len(args):]
         given = dict(zip(names, args), And=z3.And, sp=sym('sp'), library=sym('library'),
-                     last=join((call.last_bytes or [bv(0)])[-2:]),
+                     last=join((call.last_bytes or [bv(0)])[-3:]),
                      **vars(call.state or State(())))
         given['pending'] = bv(len(given['pending']))
         call.facts.add(z3.Not(eval(left_out, given)))
@@ -76,7 +87,7 @@ def missed(left_out, found):
     """What is found without some calls, if it names one of these."""
     given = collections.defaultdict(int, And=lambda *some: all(some))
     given.update((name, int(value)) for name, value in re.findall(r'any ([\w ]+?) = (\d+)', found))
-    given['last'] = given['last bytes'] >> 56
+    given['last'] = given['last bytes'] >> 48
     return found if eval(left_out, {}, given) else f'another call is missed: {[*given.items()]}'
 
 
@@ -85,6 +96,16 @@ def alike(call, do=cases.fixed.generator):
     base, (word, _) = do(call)
     call.memory.put('rand', 8, word)
     return base, (word, word)
+
+
+def public(library):
+    """The arguments on which jumps may depend, of a short call of each function."""
+    found = set()
+    for name in cases.NAMES:
+        cases.terms.SYMBOLS.secret.clear()
+        call = cases.header.beginning(library, cases.cases_of(name)[1])
+        found |= {f'{one}' for one in call.args if symbols(one) and is_public(one)}
+    return sorted(found)
 
 
 def with_zero(values, k):
@@ -98,6 +119,11 @@ def sums():
     halves = [half for k in range(40) for half in products.new(secret('one') + k, secret('two'))]
     symbols = halves + [products.symbol(a + b) for a, b in zip(halves, halves[1:])]
     return len({f'{one}' for one in symbols}) == len(symbols)
+
+
+def other_factor(products, k):
+    """Changes a factor of the last product."""
+    products.append(tuple(-one if at == k else one for at, one in enumerate(products.pop())))
 
 
 def with_more(module, name):
@@ -203,33 +229,37 @@ def definition():
 def of_calls(judge):
     """Calls that no case has, and facts that do not hold of all."""
     return [
-        *((f'{suffix} without {one}', 'no case has the call with', without(suffix, one),
-           lambda suffix=suffix, one=one: missed(one, f'{judge(suffix, "all calls")()}'))
-          for suffix in CALLS for one in CALLS[suffix].split('; ')),
-        ('a case of no calls', 'contradict', without('_rand_next', 'True'),
-         judge('_rand_next', 'rand_next()')),
+        *((f'{name} without {one}', 'no case has the call with', without(name, one),
+           lambda name=name, one=one: missed(one, f'{judge(name, "all calls")()}'))
+          for name in CALLS for one in CALLS[name].split('; ')),
+        ('a stack that is known before all else', 'no case has the call with', (cases.X86,
+            'registers', lambda cpu, do=cases.X86.registers: (
+                cpu.facts.add(sym('sp') & 16 == 0), do(cpu))[1]),
+         judge('v4_rand_next', 'all calls')),
+        ('a case of no calls', 'contradict', without('v4_rand_next', 'True'),
+         judge('v4_rand_next', 'rand_next()')),
         ('a state of no calls', 'contradict', (any_length.Fill, 'go_on', lambda kind, size,
             do=any_length.Fill.go_on: (do(kind, size), kind.call.facts.add(z3.BoolVal(False)))[0]),
-         judge('_rand_fill', 'Fill')),
+         judge('v4_rand_fill', 'Fill')),
         *((f'more facts, {name}', 'more is known', (any_length.Fill, name, lambda kind, *given,
             do=getattr(any_length.Fill, name): (
                 do(kind, *given), kind.call.facts.add(kind.q & 1 == 0))[0]),
-           judge('_rand_fill', 'Fill')) for name in ('at_head', 'at_exit')),
+           judge('v4_rand_fill', 'Fill')) for name in ('at_head', 'at_exit')),
         # So many bytes are the least that complete a block with 13, but not with 63.
         ('more facts of other writes', 'more is known', (any_length.Write, 'at_head', lambda kind,
             do=any_length.Write.at_head: (
                 do(kind), kind.call.facts.add(z3.UGE(kind.length, 64 - 13)))[0]),
-         judge('_write', 'Write(63,)')),
+         judge('v4_write', 'Write(63,)')),
         ('streams without a top bit', 'no case has the call', (cases.fixed, 'some_state',
             lambda version, n, block: State(some_lanes(), named('pending', range(n)), block)),
-         judge('_finish', 'all calls'))]
+         judge('v4_finish', 'all calls'))]
 
 
 def of_contents(judge):
     """What cases pass, where it is not any."""
     return [
         *((f'a message {name}', 'is not any', (Call, 'message', lambda call, n, do=do: (
-            call.array('bytes', n, do(n)), do(n))), judge('', 'all calls')) for name, do in (
+            call.array('bytes', n, do(n)), do(n))), judge('v4', 'all calls')) for name, do in (
                 ('of zeros', lambda n: [bv(0, 8)] * n),
                 *((f'with a zero at {k}', lambda n, k=k: with_zero(named('bytes', range(n)), k))
                   for k in (0, -1)),
@@ -239,41 +269,46 @@ def of_contents(judge):
                 ('of zeros, if it is long', lambda n: [bv(0, 8)] * n if n == 127 else named(
                     'bytes', range(n))))),
         *((f'a text with a zero at {k}', 'is not any', (cases.fixed, 'named', lambda name, of, k=k:
-            with_zero(named(name, of), k)), judge('_resume', 'all calls')) for k in (0, -1)),
+            with_zero(named(name, of), k)), judge('v4_resume', 'all calls')) for k in (0, -1)),
         # Of the last word, the cases together have all values.
         *((f'words with a zero at {k}', 'is not any', (cases.fixed, 'padded_content',
             lambda call, content, last, k=k, do=cases.fixed.padded_content: do(
-                call, with_zero(content, k), last)), judge('_unpad', 'all calls'))
+                call, with_zero(content, k), last)), judge('v4_unpad', 'all calls'))
           for k in (0, -9)),
-        ('registers that are alike', 'is not any', (cases.X86, 'registers', lambda cpu,
-            do=cases.X86.registers: {**do(cpu), 'rbx': do(cpu)['rbp']}),
-         judge('_rand_next', 'all calls')),
+        *((f'{one} that is {other}', 'is not any', (cases.X86, 'registers', lambda cpu, one=one,
+            other=other, do=cases.X86.registers: {**do(cpu), one: do(cpu)[other]}),
+           judge('v4_rand_next', 'all calls'))
+          for one, other in (('rbx', 'rbp'), ('ymm9', 'ymm1'))),
         ('a seed that is in the message', 'is not any', (cases.fixed, 'secret',
-            lambda *_: join(named('bytes', range(8)))), judge('', 'all calls')),
+            lambda *_: join(named('bytes', range(8)))), judge('v4', 'all calls')),
         ('pending bytes that are even', 'is not any', (cases.fixed, 'some_state',
             lambda version, n, block: State(some_lanes(), [
                 one << 1 for one in named('pending', range(n))], block)),
-         judge('_finish', 'all calls')),
+         judge('v4_finish', 'all calls')),
         ('words that are alike', 'is not any', (cases.fixed, 'generator', alike),
-         judge('_rand_next', 'all calls')),
+         judge('v4_rand_next', 'all calls')),
         ('lanes that are alike', 'is not any', (cases.fixed, 'some_state', lambda version, n, block:
             State([secret('lane s1')] * 8, named('pending', range(n)), block)),
-         judge('_finish', 'all calls'))]
+         judge('v4_finish', 'all calls'))]
 
 
 def at_cuts(judge):
     """What is at a cut, where it is not any, and flags that are known."""
     return [
         ('lanes that are alike at a cut', 'at a cut is not any', (
-            any_length, 'some_lanes', lambda *_: [secret('one')] * 8), judge('', 'Hash(0,)')),
+            any_length, 'some_lanes', lambda *_: [secret('one')] * 8), judge('v4', 'Hash(0,)')),
+        ('a last word that is known at a cut', 'at a cut is not any', (any_length.Blocks, 'follow',
+            lambda kind, s, content, before=0, do=any_length.Blocks.follow: do(
+                kind, s, content, before, bv(0))), judge('v4', 'Hash(0,)')),
         *((f'bytes with a zero at a cut, {among}, {which}', 'at a cut is not any', (
             any_length, 'named', lambda name, of, which=which: with_zero(named(name, of), -1)
-            if name == which else named(name, of)), judge(suffix, among))
-          for suffix, among, which in (('', 'Hash(0,)', 'turn'), ('_pad', 'Pad', 'turn'),
-                                       ('_pad', 'Pad', 'end'), ('_write', 'Write(13,)', 'rest'))),
+            if name == which else named(name, of)), judge(function, among))
+          for function, among, which in (
+              ('v4', 'Hash(0,)', 'turn'), ('v4_pad', 'Pad', 'turn'), ('v4_pad', 'Pad', 'end'),
+              ('v4_write', 'Write(13,)', 'rest'))),
         *((f'a flag that is known {when}', reason, (cases.X86, 'put_return', lambda cpu,
             do=cases.X86.put_return: (do(cpu), cpu.flags.update(s=z3.BoolVal(False)))),
-           judge('', among)) for when, reason, among in (
+           judge('v4', among)) for when, reason, among in (
                ('of a call', 'passes is not any', 'all calls'),
                ('at a cut', 'at a cut is not any', 'Hash(0,)')))]
 
@@ -281,16 +316,17 @@ def at_cuts(judge):
 def of_products(judge, whole):
     """Other multiplications, and wrong witnesses."""
     return [
-        ('products', 'the definition has', with_products('_start', '2'), judge('_start', '')),
+        *((f'{n} products', 'the definition has 1', with_products('_start', n),
+           judge('v4_start', '')) for n in '02'),
         ('products of a long call', 'the definition has',
-         with_products('_rand_fill', '(n+7)//8 + (n == 200)'), judge('_rand_fill', 'Fill')),
+         with_products('_rand_fill', '(n+7)//8 + (n == 200)'), judge('v4_rand_fill', 'Fill')),
         ('products of a longer call', 'the definition has',
-         with_products('_rand_fill', '(n+7)//8 + (n >= 256)'), judge('_rand_fill', 'Fill')),
+         with_products('_rand_fill', '(n+7)//8 + (n >= 256)'), judge('v4_rand_fill', 'Fill')),
         *((f'one more by {name}', 'products, and not the', with_more(any_length, name),
-           judge('', 'Hash(0,)')) for name in ('block_round', 'hash_from_pair')),
+           judge('v4', 'Hash(0,)')) for name in ('block_round', 'hash_from_pair')),
         ('a wrong loop', '(0, 1)', (any_length.Pad, 'PRODUCTS', 1), whole('komihash_v4_pad')),
         *((f'a witness {name}', 'is no symbol', (cases.header, 'witness', do),
-           judge('_rand_next', 'all calls')) for name, do in (
+           judge('v4_rand_next', 'all calls')) for name, do in (
                ('of what is asked', lambda found, term, value: found.update({value: term})),
                *((f'of {name}', lambda found, term, value, name=name, do=cases.header.witness:
                   found.update({term + 1: value}) if f'{value}' == name else do(
@@ -306,13 +342,21 @@ def of_cases(level, content, whole):
                 ('fewer', 'also exports', cases.NAMES[1:], False),
                 ('more', "lacks ['more']", [*cases.NAMES, 'more'], False),
                 ('no', 'none of the functions', cases.NAMES, True))),
+        ('fewer names than a library has', 'also exports', (report, 'NAMES', cases.NAMES[1:]),
+         whole('komihash_v4_rand_next')),
+        ('what is checked without options', f'{cases.NAMES}..some=False..red_zone=False',
+         (sys, 'argv', ['verify', 'x86-64:library']), lambda: report.arguments('')),
         ('how many cases are run', f'{2 * CASES}', (), lambda: counted(whole(*cases.NAMES))),
-        *((f'{what} that is not run', 'were not run', (report, 'cases_of', lambda name, some=some:
-            cases.cases_of(name)[some]), whole('komihash_v4_rand_next')) for what, some in (
-                ('a question', slice(1, None)), ('a case', slice(-1)))),
+        *((f'{what} that is not run', 'were not run', (report, 'cases_of', lambda name, k=k: [
+            one for at, one in enumerate(cases.cases_of(name)) if at != k]),
+           whole(f'komihash_v4_{name}')) for what, k, name in (
+               ('a question', 0, 'rand_next'), ('a case', 1, 'rand_next'),
+               ('one of some cases', 1, 'save'), ('the last of some cases', 64, 'save'))),
         ('a case that is not run again', 'were not run', (report, 'results', lambda _, do, tasks: [
             cases.Done(one, None, 0, 0, 0) for one in tasks[:-1]]), whole('komihash_v4_pad')),
         ('what is stated of the header', STATED, (), stated),
+        ('arguments that are public', f'{PUBLIC}', (cases.terms.SYMBOLS, 'secret', set()), lambda: (
+            cases.open_library(content, level), public(cases.LIBRARY))[1]),
         ('what may depend on contents', "['_resume', '_unpad']", (), lambda: [
             suffix for suffix, row in cases.FUNCTIONS.items() if row.by_contents]),
         ('a wrong call that is run again', '(0, 1)', (
@@ -338,30 +382,32 @@ def of_definition():
             do=State.absorb: do(State(state.lanes, [], state.had_block, state.top_bit), *given)),
          lambda: streams.check_length(20)),
         ('sums of a call are told apart', 'True', (), sums),
-        *((f'another factor {k} of streams', 'for 0 bytes', (streams, 'start',
-            lambda products, seed, k=k, do=streams.start: (do(products, seed), products.list.insert(
-                0, tuple(-one if at == k else one for at, one in enumerate(products.list.pop()))
-            ))[0]),
-           lambda: streams.check_length(0)) for k in (0, 1)),
+        *((f'another factor {k} of streams by {name}', 'for 0 bytes', (module, name,
+            lambda *given, k=k, do=getattr(module, name): (do(*given), other_factor(
+                next(one for one in given if isinstance(one, Products)).list, k))[0]),
+           lambda: streams.check_length(0)) for k in (0, 1)
+          for module, name in ((streams, 'start'), (State, 'answer'))),
         ('a form that varies', '{0: None}', (forms, 'form_of', lambda *_: secret('turn[0]', 8)),
          lambda: forms.Invariant(frozenset(), *[mock.Mock(words={0: 0}, holding=set())] * 2).forms),
         ('a text of 65 bytes', 'True', (), lambda: vectors.resume(
             5, vectors.save(5, '0', '7f' * 65)) == vectors.komihash(5, '0', '7f' * 65)),
-        ('other values', 'has 95 values', (vectors, 'ROWS', {'vectors.tsv': 94}), definition),
-        ('another first value', 'gives 4 ', (vectors, 'CALLS', {**vectors.CALLS, 'komihash':
-            lambda *given, do=vectors.komihash: 4 if given == (4, '0', '') else do(*given)}),
-         definition),
+        *((f'other values than {n}', 'has 95 values', (vectors, 'ROWS', {'vectors.tsv': n}),
+           definition) for n in (94, 96)),
+        *((f'another value of {call}{row}', 'gives 4 ', (vectors, 'CALLS', {**vectors.CALLS, call:
+            lambda *given, row=row, do=vectors.CALLS[call]: 4 if given == row else do(*given)}),
+           definition) for call, *row in FIRST_AND_LAST for row in [tuple(row)]),
         *((f'another value of {call}', f'gives 4 ..for {call} [', (vectors, 'CALLS', {
             **vectors.CALLS, call: lambda *_: 4}), definition) for call in [*vectors.CALLS][1:]),
         ('the lengths of streams', f'{[*range(128)]}', (), lengths),
         ('the definition', 'None', (), definition),
-        ('other words', 'gives none', (vectors, 'padded_words', lambda *_: []), definition)]
+        ('other words', 'gives none', (vectors, 'are_padded',
+            lambda *_: z3.BoolVal(False)), definition)]
 
 
 def of_errors(judge):
     """What ends all claims."""
     return [
-        ('no solver', 'not answer', (cases.terms, 'SOLVERS', ()), judge('_rand_next', '')),
+        ('no solver', 'not answer', (cases.terms, 'SOLVERS', ()), judge('v4_rand_next', '')),
         ('an error', 'Unknown(', (),
          lambda: repr(cases.run_case(cases.Case('komihash_v4', lambda *_: 1 // 0, ())).failure)),
         ('an error of Z3', 'a process ended', (), lambda: [*cases.results(1, z3.BitVecSort, [0])])]
@@ -369,12 +415,12 @@ def of_errors(judge):
 
 def changes(level, path, content):
     """Each change: a name, a reason, a name that has another value, and what finds that then."""
-    def judge(suffix, among):
-        return lambda: refusal(content, level, f'komihash_v4{suffix}', among=among)
+    def judge(name, among):
+        return lambda: refusal(content, level, f'komihash_{name}', among=among)
 
     def whole(*names):
         return lambda: report.verify(
-            level, path, mock.Mock(function=names, jobs=4, red_zone=0), cases.Ours)
+            level, path, mock.Mock(function=names, jobs=4, red_zone=0, some=False), cases.Ours)
     return [*of_calls(judge), *of_contents(judge), *at_cuts(judge), *of_products(judge, whole),
             *of_cases(level, content, whole), *of_definition(), *of_errors(judge)]
 

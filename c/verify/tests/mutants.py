@@ -136,7 +136,8 @@ UNCHANGED = Change('progress.py', 0, '', '')
 # them that ask whether cases are all calls.
 SCRIPTS = {
     UNCHANGED.file: '', 'elf.py': 'attacks long', 'image.py': 'attacks bodies long',
-    **dict.fromkeys(('opcodes.py', 'x86_64.py', 'aarch64.py'), 'instructions bodies long'),
+    **dict.fromkeys(('opcodes.py', 'x86_64.py', 'aarch64.py'),
+                    'attacks instructions bodies long'),
     **dict.fromkeys(('vectors.py', 'streams.py'), 'changes'), 'header.py': 'questions changes',
     **dict.fromkeys(('calls.py', 'fixed_lengths.py'), 'changes bodies long'),
     **dict.fromkeys(('induction.py', 'forms.py', 'any_length.py'), 'changes loops long'),
