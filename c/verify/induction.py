@@ -59,7 +59,8 @@ class Induction:
         # facts of a call at the head.
         self.counted, self.facts = [], ()
         width = self.GRAIN.bit_length() - 1
-        self.q, self.r = sym(f'q{width}', 64 - width), sym(f'r{width}', width - self.FIXED_BITS)
+        self.q, self.r = (sym(f'{name} of {bits} bits', bits) for name, bits in (
+            ('q', 64 - width), ('r', width - self.FIXED_BITS)))
 
     def prove(self):
         self.head, self.exit = cuts(self)
