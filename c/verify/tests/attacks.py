@@ -118,8 +118,9 @@ def of_header_and_marks(e):
           for name, at in e.elf.functions(cases.NAMES)[0].items()),
         ('a mark of another kind', 'has none', e.bytes_at, e.function,
          bytes.fromhex({62: 'f30f1efb', 183: '9f2403d5'}[e.elf.machine])),
-        *((f'marks {notes}, and a function without', 'has none',
-           lambda notes=notes: (e.note(elf.PROPERTY, kind, *notes), e.bytes_at(*nothing)))
+        *((f'marks {notes} in {into:#x}, and a function without', 'has none',
+           lambda into=into, notes=notes: (e.note(into, kind, *notes), e.bytes_at(*nothing)))
+          for into in (elf.PROPERTY, NOTES)
           for notes in ([[1]], [[0, 1]], [[0], [1]], [[1, 0]], [[1], [0]])),
         ('marks after another note', 'has none', lambda: (e.bytes_at(*nothing), e.note(
             elf.PROPERTY, kind, [1], first=struct.pack('<III12s8x', 5, 1, 1, b'XXXX')))),
@@ -181,6 +182,8 @@ def of_segments(e):
         ('the end of memory, and more', 'can not be written', RELRO, 0, (SIZE, beyond)),
         ('no dynamic table in the file', 'elsewhere in', DYNAMIC, 0, (FILLED, 0)),
         ('another table of parts', 'another', NOTES, 0, (KIND, TABLE), (FILLED, 999), (SIZE, 999)),
+        ('the table of parts at another address', 'elsewhere in', NOTES, 0, (KIND, TABLE),
+         (OFFSET, 64), (FILLED, size), (SIZE, size)),
         ('a shorter table of parts', 'another one', NOTES, 0, (KIND, TABLE), *at_64),
         ('a table of parts before its place', 'another one', NOTES, 0, (KIND, TABLE), (OFFSET, 8),
          (START, 8), (FILLED, size), (SIZE, size)),
@@ -256,14 +259,19 @@ def of_names(e):
         ('a symbol before the first', 'before its first', names + 4, b'\0\0\1'),
         ('one bucket before the first', 'before its first', names + 4,
          struct.pack('<I', min(k for k in e.elf.buckets if k) + 1)),
-        *((f'another name of symbol {k}', "also exports ['omi", e.elf.table[elf.SYMBOLS] +
-           elf.SYMBOL.size * k, struct.pack('<I', e.elf.strings.index(e.elf.symbols[k][0]) + 1))
-          for k in (e.elf.first, len(e.elf.symbols) - 1)),
+        *((f'another name of symbol {k}, of type {kind}', "also exports ['omi",
+           e.elf.table[elf.SYMBOLS] + elf.SYMBOL.size * k, struct.pack(
+               '<IB', e.elf.strings.index(e.elf.symbols[k][0]) + 1, 16 + kind))
+          for k in (e.elf.first, len(e.elf.symbols) - 1) for kind in (0, 1, 2, 10)),
         ('a filter of three words', 'in different ways', names + 8, three),
         *((f'a shift of {n} bits', 'in different ways', names + 12, struct.pack('<I', n) + every)
           for n in (32, 33, 2**24, 2**31)),
         ('a name of no function', 'lacks..also exports', e.elf.table[elf.STRINGS] +
          e.elf.strings.index(b'komihash_v4_pad\0'), b's'),
+        ('a longer name', "lacks ['komihash_v4_pad']", e.elf.table[elf.STRINGS] +
+         e.elf.strings.index(b'komihash_v4_pad\0') + 15, b's'),
+        *((f'another hash by bit {bit}', f'lacks..{NAME}', chains + 4 * at,
+           struct.pack('<I', code ^ 1 << bit)) for bit in range(1, 32)),
         *((f'a filter without {bit:#x} of {name}', f'lacks..{name}', names + 16 + 8 * word,
            struct.pack('<Q', e.elf.filter[word] & ~bit)) for name, word, bit in filters),
         *((f'bucket {k}, which begins at {at}', 'lacks', buckets + 4 * k, struct.pack('<I', at))

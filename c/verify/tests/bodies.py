@@ -71,10 +71,15 @@ a last byte that was popped||not written|
 a byte far below||not written|
     sub rsp, 256; mov [rsp], al; add rsp, 256; sub rsp, 256; mov al, [rsp]; add rsp, 256
 a vector of one byte further||not aligned to 16|sub rsp, 40; movaps [rsp + 1], xmm0; add rsp, 40
+a vector where an array begins||not aligned to 16|movaps xmm0, [rdi]
+half a vector that was not written||not written|
+    sub rsp, 24; movq [rsp], xmm0; punpcklqdq xmm0, [rsp]; add rsp, 24
 a return address that a loop loses|v5_pad|Pad..not written|pad "add rsp, 8", "", "sub rsp, 8"
 rbx after a turn|v5_pad|Pad..rbx of the caller|pad "", "cmp r9, 400; jne .Lturn; bts rbx, 63", ""
 rbx if refused|v5_pad|Pad..rbx of the caller|test rcx, rcx; jne body; bts rbx, 63; xor eax, eax; ret
 rbx by the room|v5_save|save(5,)..rbx of the caller|cmp rdx, 5000; jne body; bts rbx, 63
+rbx by one room|v5_save|save(5,)..rbx of the caller|cmp rdx, 5000; je 1f; jmp body;
+    1: bts rbx, 63
 # Memory, of which ARRAYS has the arguments.
 what may be written||in no array|.pushsection .data; 2: .quad 0; .popsection; mov rax, [rip + 2b]
 a constant at an odd address|||mov eax, [rip + __ehdr_start + 1]; cmp eax, 0x02464c45; je body; ud2
@@ -82,6 +87,7 @@ a constant over the end||in no array|.hidden __etext; lea rax, [rip + __etext]; 
     shr rax, 32; je 1f; xor eax, eax; ret; 1:
 a long copy||in no array|push rdi; sub rsp, 320; lea rsi, [rip + __ehdr_start]; mov rdi, rsp;
     mov ecx, 600; rep movsb; add rsp, 320; pop rdi
+a copy by the room|v5_save|save(5,)..not written|mov ecx, edx; and ecx, 1; rep movsb
 an address of 32 bits||not known|.byte 0x67; lea rax, [-1]
 a byte of an old stream|v5_init|not written|mov al, [rdi + 80]
 a byte of a stream that is returned|v5_start|not written|mov al, [rdi + 80]
@@ -99,12 +105,20 @@ a word that a loop loses|v5_pad|Pad..not written|
 a write where there may be no room|v5_save|in no array|mov byte ptr [rsi], 0
 a refusal that writes|v5_save|of out were|lea rax, [rdx - 1]; cmp rax, 130; jae body; mov [rsi], al
 a refused text that is written|v5_resume|resume(0,)..of stream were written|mov byte ptr [rdi], 0
+a text of another version that is written|v5_resume|resume(68,)..of stream were written|
+    cmp byte ptr [rsi], 4; jne body; mov byte ptr [rdi], 0; xor eax, eax; ret
 a long text that is written|v5_resume|resume(None,)..of stream were written|
     cmp rsi, 5000; jne body; mov byte ptr [rdi], 0
 a long one|v5_pad|Pad..refused: the bytes [0]|cmp rcx, 1; jne body; mov byte ptr [rdx], 0
+a byte after the words|v5_pad|Pad..bytes: the bytes|
+    after "test rax, rax; je 1f; cmp rsi, 305; jne 1f; mov byte ptr [rdx + 8*rax], 0"
+a byte after the message|v5_unpad|Unpad((7, 1),)..bytes: the bytes|
+    after "cmp rax, -1; je 1f; cmp rsi, 33; jne 1f; mov byte ptr [rdx + rax], 0"
 # What jumps and addresses depend on.
 a jump by a register of the caller|v5_save|save(5,)..depends on r10|test r10, r10; je 1f; 1:
 flags of a shift|v5_save|save(5,)..flag z is read|mov rcx, rdx; cmp rax, rax; shl r8, cl; jne 1f; 1:
+a flag that bt leaves undefined||flag z is read|bt edi, 0; ja 1f; 1:
+a carry of the caller||flag c is read|adc r8d, 0
 the highest bit of 0||2 ways|mov rcx, -1; xor eax, eax; bsr ecx, eax; shr rcx, 32; jne 1f; 1:
 a highest bit of 64 of 0|v5_save|save(5,)..depends on undefined|
     mov rcx, -1; xor eax, eax; bsr rcx, rax; inc rcx; jne 1f; 1:
@@ -116,6 +130,7 @@ a jump by what a loop lost|v5_pad|Pad..depends on undefined|
     pad "", "cmp rsi, 5000; jne .Lturn; test rax, rax; je 1f; 1: mov rax, r10", ""
 a jump by a pending byte|v5_write|Write(5,)..depends on pending|cmp rdx, 300; jne body;
     cmp qword ptr [rdi + 64], 5; jne body; cmp byte ptr [rdi], 1; je 1f; 1:
+a jump by four pending bytes|v5_save|save(5,)..depends on pending|cmp dword ptr [rdi], 0; je 1f; 1:
 a jump by the seed|v5|Hash(0,)..depends on seed|cmp rdx, 5; jb 1f; 1:
 a jump by the top bit|v4_save|save(5,)..depends on top bit|cmp byte ptr [rdi + 137], 1; jb 1f; 1:
 one of an address|v5_save|save(5,)..depends|mov al, [rdi + 72]; and eax, 1; mov al, [rdi + rax]
@@ -240,6 +255,7 @@ a load from a frame not aligned||not aligned to 16|sub sp, sp, 24; mov x10, sp; 
     ldr x9, [sp]; add sp, sp, 24
 a store of the register that it moves||no meaning|mov x9, sp; .inst 0xf8008529
 a store of the register that it moves first||no meaning|mov x9, sp; .inst 0xf8008d29
+a store of half the register that it moves||no meaning|mov x9, sp; .inst 0xb8004529
 a hint that changes x30||not known|hint 25
 another one||not known|hint 7
 a word below the stack||below the stack pointer|red zone; stur w0, [sp, -4]
@@ -263,6 +279,8 @@ a byte that was popped||not written|str x0, [sp, -16]!; add sp, sp, 16; sub sp, 
 a call|||stp x0, x30, [sp, -16]!; bl 1f; ldp x0, x30, [sp], 16; b body; 1: ret
 whole blocks that are wrong|v5_write|Write(13,)..the stream at 0|
     after x0, "ldr x9, [x0, 64]; cbnz x9, 1f; mov w9, 1; strb w9, [x0]"
+a write of 64 bytes that takes 51|v5_write|Write(13,)..before the end|
+    cmp x2, 64; b.ne body; ldr x9, [x0, 64]; cmp x9, 13; b.ne body; mov x2, 51
 one block that is wrong|v5_write|Write(13,)..the stream at 0|whole 51, "strb w0, [x0]"
 three blocks that are wrong|v5_write|Write(13,)..the stream at 0|whole 179, "strb w0, [x0]"
 x19 after three blocks|v5_write|Write(13,)..x19 of the caller|whole 179, "eor x19, x19, 1"
@@ -288,9 +306,12 @@ SAVED = {'x86-64': [(one, f'bts {one}, {BITS[k % 3]}')
          'armv8-a': [*((f'x{n}', f'eor x{n}, x{n}, 1 << {BITS[n % 3]}') for n in range(18, 30)),
                      *((f'd{n}', f'mov x9, 1 << {BITS[n % 3]}; dup v0.2d, x9; '
                                  f'eor v{n}.16b, v{n}.16b, v0.16b') for n in range(8, 16))]}
-# Jumps by each flag.
-JUMPS = {'x86-64': {'z': 'jz', 's': 'js', 'c': 'jc', 'l': 'jl'},
-         'armv8-a': {'z': 'b.eq', 's': 'b.mi', 'c': 'b.cs', 'l': 'b.lt'}}
+# Conditions by each flag, and what reads them.
+FLAGS = {'x86-64': ('z z, s s, c c, l l', 'j_ 1f; 1:|set_ r8b|cmov_ r8, r9'),
+         'armv8-a': ('z eq, s mi, c cs, l lt',
+                     'b._ 1f; 1:|cset x9, _|csel x9, x9, x10, _|ccmp x9, x10, 0, _')}
+# What leaves no flag defined if it is by a number that may be 0.
+SHIFTS = 'shl r8, cl', 'shr r8, cl', 'sar r8, cl', 'rol r8, cl', 'shld r8, r9, cl'
 # Arrays on x86-64: a function, the name of a case, and for each array, what may be done with bytes
 # of it, the register of its address, how many there are, and instructions with `_` in its place.
 ACCESS = {'read': 'cmp {} ptr [{}], 0', 'write': 'mov {} ptr [{}], 0', 'both': 'or {} ptr [{}], 0'}
@@ -317,7 +338,7 @@ v5_unpad|Unpad((0, 1),)|read rdi 136 8*rsi
 # Wrong outputs on x86-64: a function, a case, and what is found wrong after which instructions.
 OUTPUTS = '''
 v5|hash_of(9,)|hash: bts rax, 63
-v5|Hash(0,)|hash: cmp rsi, 256; jne 1f; bts rax, 63
+v5|Hash(0,)|hash: cmp rsi, 256; jne 1f; bts rax, 63|hash: cmp rsi, 256; je 2f; ret; 2:not rax
 v5|Hash(7,)|hash: cmp rsi, 319; jne 1f; bts rax, 63
 v5|hash_of(256,)|hash: bts rax, 63
 v5|hash_of(319,)|hash: bts rax, 63
@@ -329,15 +350,18 @@ v5_write|Write(13,)|at 0: cmp byte ptr [rdi + 64], 0; jne 1f; not byte ptr [rdi]
     at 0: cmp rdx, 100; jne 1f; not byte ptr [rdi]
 v5_write|write_of(5, 242)|at 0: not byte ptr [rdi]|at 64: inc byte ptr [rdi + 64]
 v5_finish|finish(5, 1)|hash: xor al, [rdi + 143]
+v5_finish|finish(5, 0)|hash: not rax
+v5_finish|finish(0, 1)|hash: not rax
 v5_save|save(5,)|bytes: test al, al; je 1f; rol qword ptr [rsi + 4], 8|result: inc rax|
     result: bts rax, 40|result: cmp rax, 1; adc eax, 0|
     result: mov r8d, 7; cmp rdx, 5000; cmovl rax, r8|
     result: mov r8d, 7; cmp rdx, 5000; cmovge rax, r8
 v5_resume|resume(68,)|at 137: test al, al; je 1f; or byte ptr [rdi + 137], 2|result: or eax, 2|
     result: or al, 128|result: test al, al; jne 1f; inc eax
+v5_resume|resume(131,)|at 56: test al, al; je 1f; not byte ptr [rdi + 62]
 v5_rand_init|rand_init|s2: inc rdx
 v5_rand_init_with_extra_seed|rand_init|s1: inc rax|s2: inc rdx
-v5_rand_init_words|rand_init|s1: inc rax
+v5_rand_init_words|rand_init|s1: inc rax|s2: inc rdx
 v5_rand_next|rand_next|output: inc rax|s2: not byte ptr [rdi + 8]
 v5_rand_fill|rand_fill(0,)|s1: inc byte ptr [rdi]
 v5_rand_fill|rand_fill(16,)|bytes: rol qword ptr [rsi], 8|s2: not byte ptr [rdi + 8]
@@ -395,9 +419,11 @@ def table(level):
     return [*lines(KINDS[level][-1][1]),
             *([f'{one} of the caller', '', f'{one} of the caller is lost', body]
               for one, body in SAVED.get(level, ())),
-            *([f'flag {one} of the caller', '', f'flag {one} is read', f'{jump} 1f; 1:']
-              for one, jump in JUMPS.get(level, {}).items()),
+            *of_flags(*FLAGS.get(level, ('', ''))),
             *of_instructions(*ALIKE[level]),
+            *([f'flags of {do}', 'v5_save', 'save(5,)..flag c is read',
+               f'mov rcx, rdx; cmp rax, rax; {do}; jc 1f; 1:']
+              for do in SHIFTS if level == 'x86-64'),
             *([*of_arrays(), *of_outputs()] if level == 'x86-64' else ())]
 
 
@@ -405,6 +431,12 @@ def lines(table):
     """The fields of each line of a table. Lines that begin with spaces continue the one before."""
     text = re.sub(r'(\|?)\n +', lambda found: found[1] or ' ', table)
     return [line.split('|') for line in text.split('\n') if line and line[0] != '#']
+
+
+def of_flags(conditions, read):
+    for flag, code in map(str.split, filter(None, conditions.split(', '))):
+        for do in read.replace('_', code).split('|'):
+            yield f'flag {flag} of the caller: {do}', '', f'flag {flag} is read', do
 
 
 def of_instructions(function, reason, before, place, listed):

@@ -108,6 +108,38 @@ def public(library):
     return sorted(found)
 
 
+def unstable(content, level):
+    """What counts as the same at each arrival, and is not."""
+    cases.open_library(content, level)
+    found = set()
+    for kind, *case in ((any_length.Hash, 0), (any_length.Write, 13), (any_length.Fill,),
+                        (any_length.Pad,), (any_length.Unpad, (7, 1))):
+        proof = kind(cases.LIBRARY, 5, *case)
+        proof.start()
+        found |= {name for name in proof.stable() if not re.fullmatch(STABLE, name)}
+    return sorted(found)
+
+
+def not_allowed(content, level):
+    """For each array of each function, whether it may not be null, have no more than the alignment
+    that it must have, or have the most bytes, and whether the stack and the library may not be
+    anywhere: those of these calls that no case is asked of."""
+    cases.open_library(content, level)
+    found = []
+    for name in cases.NAMES:
+        given = parameters(name)
+        call = cases.header.beginning(cases.LIBRARY, cases.cases_of(name)[1])
+        args, conditions = cases.header.allowed(call)
+        some = [cases.header.STACK & 31 == call.cpu.ABOVE + k for k in (0, 16)]
+        some += [cases.header.FILE == at for at in (2**12, 2**63)]
+        for (kind, _), base, count in zip(given, args, args[1:]):
+            unit = {'void ': 1, 'uint64_t ': 8}.get(kind.removeprefix('const ').rstrip('*'))
+            some += [base == 0, base == unit, count == (2**63 - 1) // unit] if unit else []
+        found += [f'{name}: {one}' for one in some
+                  if cases.terms.Facts().model(conditions, one) is None]
+    return found
+
+
 def with_zero(values, k):
     """Bytes of which one is zero: the first, or with a negative number, one from the end."""
     return [*values[:k], bv(0, 8), *values[k:][1:]] if values else []
@@ -135,6 +167,9 @@ def with_more(module, name):
 LONG = 'q == 2**55, units == 2**50, length == 2**62, sp & 2**64 - 16 == 2**13, ' \
     'library == 2**12, bytes == 2**14, words == 2**14, out & 2**63 == 2**63, stream == 2**12, ' \
     'rand == 2**12'
+# What means the same at each arrival of a call.
+STABLE = r'[qr] of \d+ bits|library|return|sp|end\[-\d+\]|\w+ of the caller|bytes|words|out|room|' \
+    'rand|stream|last|padding byte'
 LOOPS = {**{f'Hash({k},)': '' for k in range(8)}, 'Write(13,)': '_write', 'Fill': '_rand_fill',
          'Pad': '_pad', 'Unpad((7, 1),)': '_unpad'}
 
@@ -318,6 +353,8 @@ def of_products(judge, whole):
     return [
         *((f'{n} products', 'the definition has 1', with_products('_start', n),
            judge('v4_start', '')) for n in '02'),
+        ('products of a short call', 'the definition has',
+         with_products('_rand_fill', '(n+7)//8 + (n == 5)'), judge('v4_rand_fill', 'fill(5,)')),
         ('products of a long call', 'the definition has',
          with_products('_rand_fill', '(n+7)//8 + (n == 200)'), judge('v4_rand_fill', 'Fill')),
         ('products of a longer call', 'the definition has',
@@ -348,8 +385,8 @@ def of_cases(level, content, whole):
          (sys, 'argv', ['verify', 'x86-64:library']), lambda: report.arguments('')),
         ('how many cases are run', f'{2 * CASES}', (), lambda: counted(whole(*cases.NAMES))),
         *((f'{what} that is not run', 'were not run', (report, 'cases_of', lambda name, k=k: [
-            one for at, one in enumerate(cases.cases_of(name)) if at != k]),
-           whole(f'komihash_v4_{name}')) for what, k, name in (
+            one for at, one in enumerate(cases.cases_of(name)) if at != k or '_v4' in name]),
+           whole('komihash_v4_start', f'komihash_v5_{name}')) for what, k, name in (
                ('a question', 0, 'rand_next'), ('a case', 1, 'rand_next'),
                ('one of some cases', 1, 'save'), ('the last of some cases', 64, 'save'))),
         ('a case that is not run again', 'were not run', (report, 'results', lambda _, do, tasks: [
@@ -387,8 +424,12 @@ def of_definition():
                 next(one for one in given if isinstance(one, Products)).list, k))[0]),
            lambda: streams.check_length(0)) for k in (0, 1)
           for module, name in ((streams, 'start'), (State, 'answer'))),
-        ('a form that varies', '{0: None}', (forms, 'form_of', lambda *_: secret('turn[0]', 8)),
-         lambda: forms.Invariant(frozenset(), *[mock.Mock(words={0: 0}, holding=set())] * 2).forms),
+        *((f'a form that varies as {name}', '{0: None}', (
+            forms, 'form_of', lambda *_, name=name, width=width: sym(name, width)),
+           lambda: forms.Invariant(
+               frozenset(), *[mock.Mock(words={0: 0}, holding=set())] * 2).forms)
+          for name, width in (('turn[0]', 8), ('units', 64), ('length', 64),
+                              ('low half of product 0', 64), ('undefined 1 of 64', 64))),
         ('a text of 65 bytes', 'True', (), lambda: vectors.resume(
             5, vectors.save(5, '0', '7f' * 65)) == vectors.komihash(5, '0', '7f' * 65)),
         *((f'other values than {n}', 'has 95 values', (vectors, 'ROWS', {'vectors.tsv': n}),
@@ -444,6 +485,9 @@ def rows(*libraries):
         for red_zone in (False, True):
             yield Row(f'what is printed, {level}, {red_zone}', 'None',
                       functools.partial(printed, level, path, red_zone))
+        for name, find in (('calls that are not allowed', not_allowed),
+                           ('what is not the same at each arrival', unstable)):
+            yield Row(f'{name}, {level}', '[]', functools.partial(find, content, level))
         for name, reason, *change in (*some, *long_calls(level, content)):
             yield Row(name, reason, functools.partial(found, *change))
 

@@ -222,12 +222,13 @@ def judge(folder, libraries, noticed, change):
              told(change), '\n'.join(row for row, _ in noticed[change.file].most_common()), folder,
              *libraries], text=True, preexec_fn=limit_memory, stdout=subprocess.PIPE,
             stderr=subprocess.STDOUT, env={k: v for k, v in os.environ.items() if k != 'SEED'})
-        lines = process.communicate()[0].strip().splitlines()
+        # Processes of a row may print more after it.
+        found = re.search('^(.*)\n(noticed: .*|not noticed)$', process.communicate()[0], re.M)
         if process.returncode in (-signal.SIGKILL, -signal.SIGTERM):
             raise MemoryError(f'{told(change)}: the process was killed')
-        *_, row, found = ['', f'status {process.returncode}', *lines]
-        noticed[change.file].update([row] if found.startswith('noticed: ') else [])
-        return change, f'{found}: {row}' if found.startswith('noticed: ') else found
+        row, what = found.groups() if found else ('', f'status {process.returncode}')
+        noticed[change.file].update([row] if row else [])
+        return change, f'{what}: {row}' if row else what
 
 
 def kind_of(found):
