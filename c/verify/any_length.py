@@ -190,9 +190,6 @@ class Fill(Induction):
         self.length = self.long_length()
         return self.go_on(self.step)
 
-    def at_exit(self, rest):
-        return self.go_on(rest)
-
     def go_on(self, size):
         """Any pair, when so many bytes come, and a generator in memory that may not hold it."""
         self.call.array('rand', 16, high=16, writable=True)
@@ -201,6 +198,8 @@ class Fill(Induction):
         self.states, self.outputs = filled(self.call.products, self.version, pair, size)
         self.call.memory.add(Array('out', simple(self.base + 8 * self.units), 0, size, True))
         return pair
+
+    at_exit = go_on
 
     def check_end(self, cpu):
         check_generator(cpu, self.states[-1])

@@ -3,7 +3,7 @@ import collections
 import z3
 from definition import Products, State, are_padded
 from memory import Array
-from terms import (Unknown, address, are_any, bv, choose, is_public, secret, simple, sym,
+from terms import (Unknown, address, are_any, bv, choose, const, is_public, secret, simple, sym,
                    symbols)
 
 # What `unpad` returns instead of a length.
@@ -71,14 +71,18 @@ class Call:
 
     def has_any_contents(self):
         """Whether each seed, lane and byte that is passed, and what the caller has in registers, is
-        a secret symbol of its own, and no flag is known. Of `unpad`'s last word, header.py asks."""
+        a secret symbol of its own, but for numbers in `unpad`'s last word, of which header.py asks;
+        and no flag and no path is known."""
         parts = [*(self.state.lanes + self.state.pending if self.state else ()), *(
             term for (name, _), (term, k) in self.memory.data.items()
             if k == 0 and name not in ('stream', 'stack', 'shadow')), *(
-                term for term in self.cpu.before.values() if symbols(term) - {'sp', 'return'}), *(
+                term for name, term in self.cpu.before.items()
+                if name not in (self.cpu.SP, 'ssp', 'x30')), *(
                     term for term in self.args if not is_public(term))]
-        last = {id(one) for one in self.last_bytes[1:]}
-        return not self.cpu.flags and are_any(part for part in parts if id(part) not in last)
+        numbers, known = ([const(one) for one in some if not symbols(one)]
+                          for some in (parts, self.last_bytes[1:]))
+        return not self.cpu.flags and not self.cpu.path and numbers == known and \
+            are_any(filter(symbols, parts))
 
     def begin(self, args):
         self.args = args

@@ -54,9 +54,7 @@ class Elf:
                                                     f'{MEMORY} bytes')
         ident, kind, self.machine, version, _, start, _, _, _, size, count, *_ = \
             HEADER.unpack_from(content)
-        for k, byte in enumerate(ident):
-            need(byte == IDENT[k], 'this is no ELF file of 64 bits, little-endian, for any system: '
-                                   f'byte {k} is {byte:#x}')
+        need(ident == IDENT, 'this is no ELF file of 64 bits, little-endian, for any system')
         need((kind, version, size) == (SHARED, 1, SEGMENT.size), 'this is no shared library')
         need(self.machine in PAGES, 'this is no library for x86-64 or ARM64')
         need(count <= SEGMENTS, f'there are more than {SEGMENTS} segments')

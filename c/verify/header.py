@@ -101,10 +101,10 @@ def condition(call, wanted):
     pairs += call.layout.more
     if call.last_bytes:
         pairs.append((join(call.last_bytes), LAST_BYTES))
-    found = {}
+    found, names = {}, frozenset().union(*(symbols(term) for term, _ in pairs))
     for term, value in pairs:
         witness(found, simple(term), value)
-    if any(one.children() or not symbols(one) or f'{one}'.startswith('any ') for one in found):
+    if any(one.children() or f'{one}' not in names for one in found):
         raise Refused('a witness that is no symbol of the case')
     holds = z3.And(*call.facts.list, *(term == value for term, value in pairs))
     return simple(z3.substitute(holds, *found.items()))

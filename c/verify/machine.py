@@ -71,8 +71,7 @@ class Cpu:
         # Conditions that hold on this path, and which halves of products were made on it.
         self.path, self.halves = [], frozenset()
         self.memory, self.r, self.flags = Memory(), self.registers(), {}
-        # The last instruction, the one at which the path last forked, and how many values are
-        # undefined.
+        # The last instruction, where the path last forked, and how many values are undefined.
         self.pc, self.parted, self.undefined = None, None, 0
         self.sp = sym('sp')
         self.memory.add(Array('stack', self.sp, -STACK_BYTES, self.ABOVE, True))

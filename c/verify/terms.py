@@ -176,17 +176,17 @@ class Facts:
     def model(self, path, *terms):
         """A model in which the terms hold on this path, or None. What can't be without some facts
         can't be with them, so it is asked first without those about other symbols. Answers are
-        remembered, and a model that was found for other terms may be one for these."""
+        remembered (`symbols` keeps the terms), and a model of other terms may be one of these."""
         wanted, names = [*self.list, *path, *terms], frozenset().union(*map(symbols, terms))
         for some in [term for term in wanted if symbols(term) <= names], wanted:
             key = frozenset(term.get_id() for term in some)
             if key not in ANSWERS:
                 both = z3.And(*some)
                 known = (m for m in MODELS if z3.is_true(m.eval(both, model_completion=True)))
-                ANSWERS[key] = next(known, None) or self.ask(some), some
-            if ANSWERS[key][0] is None:
+                ANSWERS[key] = next(known, None) or self.ask(some)
+            if ANSWERS[key] is None:
                 return None
-        return ANSWERS[key][0]
+        return ANSWERS[key]
 
     def ask(self, terms):
         ASKED[0] += 1

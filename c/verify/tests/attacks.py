@@ -104,7 +104,7 @@ def of_header_and_marks(e):
     kind, nothing = {62: (0xc0000002, '0f1f4000'), 183: (0xc0000000, '1f2003d5')}[e.elf.machine]
     nothing, of_notes = (e.function, bytes.fromhex(nothing)), e.elf.of_type(NOTES)[0].start
     return [
-        *((f'another byte {k}', f'byte {k} is 0x3', e.put, (k, 1), 3) for k in range(16)),
+        *((f'another byte {k}', 'no ELF file', e.put, (k, 1), 3) for k in range(16)),
         ('a program', 'no shared library', e.put, (16, 2), 2),
         ('another version of the format', 'no shared library', e.put, (20, 4), 2),
         ('longer segments', 'no shared library', e.put, (54, 2), 112),

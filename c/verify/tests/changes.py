@@ -15,6 +15,7 @@ import forms
 import report
 import streams
 import vectors
+import x86_64
 import z3
 from calls import Call, named, some_lanes
 from definition import Products, State
@@ -61,7 +62,7 @@ FIRST_AND_LAST = ('komihash', 4, '0', ''), ('komihash', 5, '0', '37206368617273'
 
 # A sum of the header without its version: header.py has its first comment in formulas, cases.py its
 # functions, and checks have what these return, macros, and how large structs are.
-STATED = '062cb1eceb02be69'
+STATED = '4068dc33c33305e3'
 
 
 def with_products(suffix, formula):
@@ -221,7 +222,7 @@ def counted(run):
 def stated():
     """A sum of the header without its version."""
     with open(cases.header.HEADER, encoding='utf-8') as file:
-        text = re.sub('VERSION "[^"]*"', '', file.read())
+        text = re.sub(r'(VERSION\w*) ("[^"]*"|\d+)', r'\1', file.read())
     return hashlib.sha256(text.encode()).hexdigest()
 
 
@@ -310,10 +311,16 @@ def of_contents(judge):
             lambda call, content, last, k=k, do=cases.fixed.padded_content: do(
                 call, with_zero(content, k), last)), judge('v4_unpad', 'all calls'))
           for k in (0, -9)),
-        *((f'{one} that is {other}', 'is not any', (cases.X86, 'registers', lambda cpu, one=one,
-            other=other, do=cases.X86.registers: {**do(cpu), one: do(cpu)[other]}),
-           judge('v4_rand_next', 'all calls'))
-          for one, other in (('rbx', 'rbp'), ('ymm9', 'ymm1'))),
+        ('words with a byte of the last', 'is not any', (cases.fixed, 'padded_content',
+            lambda call, content, last, do=cases.fixed.padded_content: do(
+                call, [*content[-2:-1], *content[1:]] if len(content) > 8 else content, last)),
+         judge('v4_unpad', 'all calls')),
+        *((f'{one} that is {what}', 'is not any', (cases.X86, 'registers', lambda cpu, one=one,
+            what=what, do=cases.X86.registers: {**do(cpu), one: {
+                **do(cpu), 'sp': sym('sp'), '0': bv(0, do(cpu)[one].size())}[what]}),
+           judge('v4_rand_next', 'all calls')) for one, what in (
+               ('rbx', 'rbp'), ('ymm9', 'ymm1'), ('rbp', 'sp'), *((one, '0') for one in sorted({
+                   one for one, _, _ in x86_64.REGISTERS.values()} - {'rsp'})))),
         ('a seed that is in the message', 'is not any', (cases.fixed, 'secret',
             lambda *_: join(named('bytes', range(8)))), judge('v4', 'all calls')),
         ('pending bytes that are even', 'is not any', (cases.fixed, 'some_state',
@@ -341,11 +348,13 @@ def at_cuts(judge):
           for function, among, which in (
               ('v4', 'Hash(0,)', 'turn'), ('v4_pad', 'Pad', 'turn'), ('v4_pad', 'Pad', 'end'),
               ('v4_write', 'Write(13,)', 'rest'))),
-        *((f'a flag that is known {when}', reason, (cases.X86, 'put_return', lambda cpu,
-            do=cases.X86.put_return: (do(cpu), cpu.flags.update(s=z3.BoolVal(False)))),
-           judge('v4', among)) for when, reason, among in (
-               ('of a call', 'passes is not any', 'all calls'),
-               ('at a cut', 'at a cut is not any', 'Hash(0,)')))]
+        *((f'{what} that is known {when}', reason, (cases.X86, 'put_return', lambda cpu, know=know,
+            do=cases.X86.put_return: (do(cpu), know(cpu))), judge('v4', among))
+          for what, know in (
+              ('a flag', lambda cpu: cpu.flags.update(s=z3.BoolVal(False))),
+              ('a path', lambda cpu: cpu.path.append(sym('sp') & 4096 == 0)))
+          for when, reason, among in (('of a call', 'passes is not any', 'all calls'),
+                                      ('at a cut', 'at a cut is not any', 'Hash(0,)')))]
 
 
 def of_products(judge, whole):
@@ -365,6 +374,7 @@ def of_products(judge, whole):
         *((f'a witness {name}', 'is no symbol', (cases.header, 'witness', do),
            judge('v4_rand_next', 'all calls')) for name, do in (
                ('of what is asked', lambda found, term, value: found.update({value: term})),
+               ('of contents', lambda found, term, value: found.update({secret('s1'): bv(0)})),
                *((f'of {name}', lambda found, term, value, name=name, do=cases.header.witness:
                   found.update({term + 1: value}) if f'{value}' == name else do(
                       found, term, value)) for name in ('any rand', 'any sp', 'any library')),

@@ -93,8 +93,8 @@ WORDS = {X86: 'r8 r9 r10 r11 r12 r13 r14 r15 rdi rsi rbp rbx rdx rax rcx rsp at 
 # The encodings that are allowed, by mnemonic.
 KNOWN = {X86: {name.replace('_', ' '): some for name, some in KNOWN_X86['x86-64-v3'].items()},
          ARM: {name: some.pattern.split('|') for name, some in KNOWN_ARM64.items()}}
-KNOWN[ARM].update((f'b.{name}', KNOWN[ARM]['b.']) for name in
-                  'eq ne hs lo mi pl hi ls ge lt gt le'.split())
+KNOWN[ARM].update(dict.fromkeys(
+    (f'b.{name}' for name in 'eq ne hs lo mi pl hi ls ge lt gt le'.split()), KNOWN[ARM].pop('b.')))
 MARCH = 'generic64+ibt', 'generic64+ibt+sse4.2', 'generic64+ibt+avx2+bmi+bmi2+lzcnt'
 
 
@@ -380,6 +380,8 @@ def rows(folder, libraries, compiler, *emulator):
         os.replace(built(kind, compiler, f'{program}.{os.getpid()}'), program)
     command = [*emulator, program]
     do = functools.partial(functools.partial, differences, kind, level, command)
+    yield Row(f'{level}, what is allowed and has no meaning', '[]',
+              lambda: sorted(KNOWN[kind].keys() - kind.TABLE.keys()))
     for encoding in sorted({one for name in names for one in KNOWN[kind][name]}):
         yield Row(f'{level}, {encoding}', 'None', do(Runs.of_encoding, names, encoding))
     codes = sorted(set().union(*(codes_of(path, level) for path in paths)))
