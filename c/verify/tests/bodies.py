@@ -251,6 +251,7 @@ ARM = '''
     cmp x9, \\length; b.ne 1f; \\code; 1: ret; .endm
 ''', '''
 a frame not aligned||not aligned to 16|sub sp, sp, 8; str x0, [sp]; add sp, sp, 8
+a frame of 15 bytes||not aligned to 16|sub sp, sp, 15; strb w0, [sp]; add sp, sp, 15
 a load from a frame not aligned||not aligned to 16|sub sp, sp, 24; mov x10, sp; str x9, [x10];
     ldr x9, [sp]; add sp, sp, 24
 a store of the register that it moves||no meaning|mov x9, sp; .inst 0xf8008529

@@ -13,6 +13,7 @@ from rows import Row, cases, count, refusal
 import any_length
 import forms
 import report
+import second
 import streams
 import vectors
 import x86_64
@@ -459,6 +460,11 @@ def of_errors(judge):
     """What ends all claims."""
     return [
         ('no solver', 'not answer', (cases.terms, 'SOLVERS', ()), judge('v4_rand_next', '')),
+        *((f'a second solver that says "{said}"', reason, (second, 'subprocess', mock.Mock(
+            run=lambda *_, said=said, **__: mock.Mock(stdout=said))),
+           mock.patch.object(second, 'NAME', 'another')(judge('v4_save', 'save(5,)')))
+          for said, reason in (('sat', 'Z3 answers unsat'), ('unsat', 'Z3 answers sat'),
+                               ('unknown', 'does not answer'))),
         ('an error', 'Unknown(', (),
          lambda: repr(cases.run_case(cases.Case('komihash_v4', lambda *_: 1 // 0, ())).failure)),
         ('an error of Z3', 'a process ended', (), lambda: [*cases.results(1, z3.BitVecSort, [0])])]
@@ -479,6 +485,7 @@ def changes(level, path, content):
 def found(change, find):
     """What is found when a name has another value."""
     cases.terms.ANSWERS.clear()
+    cases.terms.MODELS.clear()
     with mock.patch.object(*change or (cases, 'SECONDS', cases.SECONDS)):
         try:
             return find()

@@ -4,7 +4,7 @@ import collections
 import os
 import sys
 VERIFY = os.path.dirname(os.path.dirname(os.path.abspath(__file__)))
-sys.path.append(VERIFY)
+sys.path.insert(1, VERIFY)
 import cases
 from report import names_there
 from terms import Unknown
