@@ -343,6 +343,8 @@ def at_cuts(judge):
         ('a last word that is known at a cut', 'at a cut is not any', (any_length.Blocks, 'follow',
             lambda kind, s, content, before=0, do=any_length.Blocks.follow: do(
                 kind, s, content, before, bv(0))), judge('v4', 'Hash(0,)')),
+        ('a last byte that is known', 'passes is not any', (any_length.Write, 'LAST', bv(0, 8)),
+         judge('v5_write', 'all calls')),
         *((f'bytes with a zero at a cut, {among}, {which}', 'at a cut is not any', (
             any_length, 'named', lambda name, of, which=which: with_zero(named(name, of), -1)
             if name == which else named(name, of)), judge(function, among))

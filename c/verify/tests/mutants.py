@@ -186,20 +186,23 @@ def rows(folder, libraries):
 def first_that_fails(file, seed, noticed, folder, *libraries):
     """Prints the row that notices a change, in a copy of the check that has it: first those that
     noticed others of the file, then all of a script, in another order for each change."""
-    def tell(row, what):
-        print(f'\n{row.name}\nnoticed: {what}'[:200], flush=True)
+    def tell(name, what):
+        print(f'\n{name}\nnoticed: {what}'[:200], flush=True)
         os._exit(0)
+    def limit(name):
+        signal.signal(signal.SIGVTALRM, lambda *_: tell(name, 'it takes too long'))
+        signal.setitimer(signal.ITIMER_VIRTUAL, SECONDS)
     import rows as of_rows
+    limit('before the first row')
     found, r, noticed = rows(folder, libraries), random.Random(seed), noticed.split('\n')
     some = [row for script in SCRIPTS.get(file, 'bodies changes instructions long').split()
             for row in r.sample(found[script], len(found[script]))]
     for row in sorted([*found['right'], *some], key=lambda row: [
             *noticed, row.name].index(row.name)):
-        signal.signal(signal.SIGVTALRM, lambda *_, row=row: tell(row, 'it takes too long'))
-        signal.setitimer(signal.ITIMER_VIRTUAL, SECONDS)
+        limit(row.name)
         fits, why = of_rows.judge(row)
         if not fits:
-            tell(row, ' '.join(f'{why}'.split()))
+            tell(row.name, ' '.join(f'{why}'.split()))
     print('\nnot noticed')
 
 
