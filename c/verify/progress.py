@@ -32,7 +32,7 @@ class Progress:
             if name in failed:
                 print(f'FAILED: {failed[name]}')
             elif len(self.done[name]) < count:
-                print(f'{name:36} {len(self.done[name]):>6} of {count}, and no more')
+                print(f'{name:37} {len(self.done[name]):>5} of {count}, and no more')
             else:
                 said, depth = row_of(name), max(done.depth for done in self.done[name])
                 print(row(name, count, said.multiplications, 'yes' if said.by_contents else 'no',

@@ -100,13 +100,19 @@ def alike(call, do=cases.fixed.generator):
     return base, (word, word)
 
 
-def public(library):
+def short_calls(content, level):
+    """A short call of each function, before its first instruction."""
+    cases.open_library(content, level)
+    for name in cases.NAMES:
+        yield cases.header.beginning(cases.LIBRARY, cases.cases_of(name)[1])
+
+
+def public(content, level):
     """The arguments on which jumps may depend, of a short call of each function."""
     found = set()
-    for name in cases.NAMES:
-        cases.terms.SYMBOLS.secret.clear()
-        call = cases.header.beginning(library, cases.cases_of(name)[1])
+    for call in short_calls(content, level):
         found |= {f'{one}' for one in call.args if symbols(one) and is_public(one)}
+        cases.terms.SYMBOLS.secret.clear()
     return sorted(found)
 
 
@@ -126,18 +132,15 @@ def not_allowed(content, level):
     """For each array of each function, whether it may not be null, have no more than the alignment
     that it must have, or have the most bytes, and whether the stack and the library may not be
     anywhere: those of these calls that no case is asked of."""
-    cases.open_library(content, level)
     found = []
-    for name in cases.NAMES:
-        given = parameters(name)
-        call = cases.header.beginning(cases.LIBRARY, cases.cases_of(name)[1])
+    for call in short_calls(content, level):
         args, conditions = cases.header.allowed(call)
         some = [cases.header.STACK & 31 == call.cpu.ABOVE + k for k in (0, 16)]
         some += [cases.header.FILE == at for at in (2**12, 2**63)]
-        for (kind, _), base, count in zip(given, args, args[1:]):
+        for (kind, _), base, number in zip(parameters(call.name), args, args[1:]):
             unit = {'void ': 1, 'uint64_t ': 8}.get(kind.removeprefix('const ').rstrip('*'))
-            some += [base == 0, base == unit, count == (2**63 - 1) // unit] if unit else []
-        found += [f'{name}: {one}' for one in some
+            some += [base == 0, base == unit, number == (2**63 - 1) // unit] if unit else []
+        found += [f'{call.name}: {one}' for one in some
                   if cases.terms.Facts().model(conditions, one) is None]
     return found
 
@@ -405,8 +408,8 @@ def of_cases(level, content, whole):
         ('a case that is not run again', 'were not run', (report, 'results', lambda _, do, tasks: [
             cases.Done(one, None, 0, 0, 0) for one in tasks[:-1]]), whole('komihash_v4_pad')),
         ('what is stated of the header', STATED, (), stated),
-        ('arguments that are public', f'{PUBLIC}', (cases.terms.SYMBOLS, 'secret', set()), lambda: (
-            cases.open_library(content, level), public(cases.LIBRARY))[1]),
+        ('arguments that are public', f'{PUBLIC}', (cases.terms.SYMBOLS, 'secret', set()),
+         lambda: public(content, level)),
         ('what may depend on contents', "['_resume', '_unpad']", (), lambda: [
             suffix for suffix, row in cases.FUNCTIONS.items() if row.by_contents]),
         ('a wrong call that is run again', '(0, 1)', (

@@ -189,6 +189,7 @@ def first_that_fails(file, seed, noticed, folder, *libraries):
     def tell(name, what):
         print(f'\n{name}\nnoticed: {what}'[:200], flush=True)
         os._exit(0)
+
     def limit(name):
         signal.signal(signal.SIGVTALRM, lambda *_: tell(name, 'it takes too long'))
         signal.setitimer(signal.ITIMER_VIRTUAL, SECONDS)
