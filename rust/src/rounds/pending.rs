@@ -161,6 +161,19 @@ fn complete_block(words: &mut [u64; 8], len: usize, bytes: &[u8]) {
     }
 }
 
+// Puts bytes after the pending ones, as no other function does. NONE says that none is pending,
+// FULL that the bytes complete the block.
+#[inline(always)]
+fn put<const NONE: bool, const FULL: bool>(words: &mut [u64; 8], len: usize, bytes: &[u8]) {
+    if FULL {
+        complete_block(words, len, bytes);
+    } else if NONE {
+        store_bytes(words, bytes);
+    } else {
+        append_to_block(words, len, bytes);
+    }
+}
+
 impl Pending {
     #[inline(always)]
     pub(crate) const fn new() -> Self {
@@ -177,7 +190,7 @@ impl Pending {
     pub(crate) fn append(&mut self, bytes: &[u8]) {
         let len = self.len;
         self.len = len + bytes.len();
-        append_to_block(&mut self.words, len, bytes);
+        put::<false, false>(&mut self.words, len, bytes);
     }
 
     /// Appends bytes where none is pending. Does what `append` does, but the compiler knows that
@@ -187,7 +200,7 @@ impl Pending {
         // The remainder tells the compiler that the words have room. Often there are no bytes.
         let bytes = &bytes[..bytes.len() % 64];
         if !bytes.is_empty() {
-            store_bytes(&mut self.words, bytes);
+            put::<true, false>(&mut self.words, 0, bytes);
             self.len = bytes.len();
         }
     }
@@ -195,7 +208,7 @@ impl Pending {
     /// Returns the words of the block that the bytes complete, and leaves no byte pending.
     #[inline(always)]
     pub(crate) fn complete(&mut self, bytes: &[u8]) -> [u64; 8] {
-        complete_block(&mut self.words, self.len, bytes);
+        put::<false, true>(&mut self.words, self.len, bytes);
         let block = self.words;
         self.words = [0; 8];
         self.len = 0;

@@ -4,6 +4,7 @@
 
 ghost use Rattle.std.specs.Prelude.{◌≡◌, ℕ, ◌+◌, ◌-◌, ◌*◌, ◌/◌, ◌%◌, ◌<◌, ◌≤◌};
 ghost use Rattle.std.specs.Prelude.{List, [], ◌++◌, length, take, drop, set, slice_index};
+ghost use Rattle.std.specs.Prelude.{true, false};
 ghost use Rattle.komihash.specs.Counts.{Costs};
 ghost use Rattle.komihash.specs.Padding.{padding_byte};
 ghost use Rattle.komihash.specs.Internals.{pending_bytes, ArePending, PacksBut};
@@ -245,6 +246,32 @@ fn complete_block(words: &mut [u64; 8], len: usize, bytes: &[u8])
     }
 }
 
+// Puts bytes after the pending ones, as no other function does. NONE says that none is pending,
+// FULL that the bytes complete the block.
+#[inline(always)]
+fn put<const NONE: bool, const FULL: bool>(
+    words: &mut [u64; 8],
+    len: usize,
+    bytes: &[u8],
+    tally: &mut Tally,
+)
+    requires pending { ArePending words.old len }
+    requires none { NONE ≡ true → len ≡ 0 }
+    requires full { FULL ≡ true → len + length bytes.now ≡ 64 }
+    requires room { FULL ≡ false → len + length bytes.now < 64 }
+    ensures words { words.new ≡ packed_words 8 (pending_bytes words.old len ++ bytes.now) }
+    ensures costs { Costs tally 0 (length bytes.now) }
+{
+    tally.raise(0, bytes.len());
+    if FULL {
+        complete_block(words, len, bytes);
+    } else if NONE {
+        store_bytes(words, bytes);
+    } else {
+        append_to_block(words, len, bytes);
+    }
+}
+
 impl Pending {
     #[inline(always)]
     pub(crate) const fn new() -> Self
@@ -273,8 +300,7 @@ impl Pending {
     {
         let len = self.len;
         self.len = len + bytes.len();
-        tally.raise(0, bytes.len());
-        append_to_block(&mut self.words, len, bytes);
+        put::<false, false>(&mut self.words, len, bytes, tally);
     }
 
     /// Appends bytes where none is pending. Does what `append` does, but the compiler knows that
@@ -289,8 +315,7 @@ impl Pending {
         // The remainder tells the compiler that the words have room. Often there are no bytes.
         let bytes = &bytes[..bytes.len() % 64];
         if !bytes.is_empty() {
-            tally.raise(0, bytes.len());
-            store_bytes(&mut self.words, bytes);
+            put::<true, false>(&mut self.words, 0, bytes, tally);
             self.len = bytes.len();
         }
     }
@@ -303,8 +328,7 @@ impl Pending {
         ensures none { self.new ≡ [] }
         ensures costs { Costs tally 0 (length bytes.now) }
     {
-        tally.raise(0, bytes.len());
-        complete_block(&mut self.words, self.len, bytes);
+        put::<false, true>(&mut self.words, self.len, bytes, tally);
         let block = self.words;
         self.words = [0; 8];
         self.len = 0;

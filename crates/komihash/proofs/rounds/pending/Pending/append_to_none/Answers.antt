@@ -5,8 +5,8 @@ use Rattle.komihash.proofs.rounds.pending.Pending.append_to_none.Goals as goal
 
 pub invariant_of-self : goal.invariant_of-self
 invariant_of-self c =
-    grind (arith, take_all, ArePending-put ArePending-none c.store_bytes.new.words)
+    grind (arith, take_all, ArePending-put ArePending-none c.put.new.words)
 
 pub returns-then-not-is_empty-clause-bytes : goal.returns-then-not-is_empty-clause-bytes
 returns-then-not-is_empty-clause-bytes c =
-    grind (arith, take_all, pending_bytes-put ArePending-none c.store_bytes.new.words)
+    grind (arith, take_all, pending_bytes-put ArePending-none c.put.new.words)
