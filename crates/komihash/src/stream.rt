@@ -1,14 +1,17 @@
 //! The trait of streams, and runs of calls on one.
 
 ghost use Rattle.std.specs.Prelude.{◌≡◌, ◌<◌, ◌≤◌, ◌⊎◌, ℕ, List, ◌++◌, length, drop};
+ghost use Rattle.std.specs.Prelude.{[], ◌∷◌, ◌+◌, ◌*◌, ◌/◌, ◌%◌};
 ghost use Rattle.komihash.specs.Calls.{answers_after, answers, onward, bytes_of_calls};
 ghost use Rattle.komihash.specs.Calls.{onward_products, onward_kept_bytes};
-ghost use Rattle.komihash.specs.Calls.{run_products, run_kept_bytes};
+ghost use Rattle.komihash.specs.Calls.{run_products, run_kept_bytes, AreAbsorbs};
 ghost use Rattle.komihash.specs.Counts.{Costs, absorb_products, answer_products, absorb_kept_bytes};
 ghost use Rattle.komihash.specs.Hash.{komi};
 ghost use Rattle.komihash.specs.Saved.{Stored, Restored};
 ghost use Rattle.komihash.specs.Stream.{State, IsState, HasAbsorbed};
 ghost use Rattle.komihash.specs.Stream.{Started, Absorbed, Answered};
+ghost use Rattle.komihash.specs.declared.stream.Call.{Call};
+ghost use Rattle.komihash.specs.declared.stream.Call.TheVariants.{Answer};
 
 use crate::tally::Tally;
 pub use saved::LONGEST_TEXT;
@@ -219,6 +222,7 @@ pub fn run_on<S: KomiStream>(
 /// assert_eq!(answers[..2], [komihash(b"po", 7), komihash(b"port", 7)]);
 /// ```
 #[track_caller]
+#[tactic(auto, using(crate::proofs::LawLemmas::of_calls))]
 pub fn run<S: KomiStream>(
     seed: u64,
     calls: &[Call<'_>],
@@ -229,6 +233,11 @@ pub fn run<S: KomiStream>(
     ensures answers { out.new ≡ answers S.VERSION seed calls.now ++ drop result out.old }
     ensures count { result ≡ length (answers S.VERSION seed calls.now) }
     ensures costs { Costs tally (run_products calls.now) (run_kept_bytes calls.now) }
+    // With one answer at the end, the products don't depend on the cuts.
+    ensures digest { (pieces : List Call) → AreAbsorbs pieces → calls.now ≡ pieces ++ Answer ∷ []
+        → tally.new.products ≡ tally.old.products
+        + (3 + 4 * (length (bytes_of_calls pieces) / 64)
+        + length (bytes_of_calls pieces) % 64 / 16) }
 {
     let mut stream = S::start(seed, tally);
     run_on(&mut stream, calls, out, tally)
