@@ -17,10 +17,7 @@ use core::hash::{BuildHasher, Hasher};
 /// is stored, sent or sharded. A tuple costs a hash for each field, and a text two, so hashers that
 /// are made for maps are faster. `Debug` shows the number.
 #[derive(Clone, Copy, Debug, PartialEq, Eq, Hash)]
-pub struct KomiHasher<const V: u8>
-where
-    Versions: IsVersion<V>,
-{
+pub struct KomiHasher<const V: u8> {
     number: u64,
 }
 
@@ -54,10 +51,7 @@ where
     }
 }
 
-impl<const V: u8> Hasher for KomiHasher<V>
-where
-    Versions: IsVersion<V>,
-{
+impl<const V: u8> Hasher for KomiHasher<V> {
     /// Returns the number. The hasher is unchanged, and takes further writes.
     fn finish(&self) -> u64 {
         self.number

@@ -21,17 +21,11 @@ use std::marker::Model;
 /// is stored, sent or sharded. A tuple costs a hash for each field, and a text two, so hashers that
 /// are made for maps are faster. `Debug` shows the number.
 #[derive(Drop)]
-pub struct KomiHasher<const V: u8>
-where
-    Versions: IsVersion<V>,
-{
+pub struct KomiHasher<const V: u8> {
     number: u64,
 }
 
-impl<const V: u8> Model for KomiHasher<V>
-where
-    Versions: IsVersion<V>,
-{
+impl<const V: u8> Model for KomiHasher<V> {
     ghost Value = { ℕ };
 
     ghost view = { λ h. h.number };
@@ -71,10 +65,7 @@ where
     }
 }
 
-impl<const V: u8> Hasher for KomiHasher<V>
-where
-    Versions: IsVersion<V>,
-{
+impl<const V: u8> Hasher for KomiHasher<V> {
     ghost write = { komi V };
 
     ghost finish = { λ s. s };
