@@ -2,11 +2,11 @@
 use Rattle.std.proofs.Common.{◌≡◌, ℕ, ◌+◌, ◌-◌, ◌/◌, ◌%◌, ◌<◌, ◌≤◌, ◌^◌, List, [], ◌∷◌, ◌++◌}
 use Rattle.std.proofs.Common.{length, length-append, take, drop, get_or, Fits, w64, suc, arith}
 use Rattle.std.proofs.Common.{◌∙◌, sym, ap, refl}
-use Rattle.std.proofs.Math.Seq.{take-append_seam, drop-append_seam}
+use Rattle.std.proofs.Math.Seq.{take-add, take-append_seam, drop-append_seam}
 use Rattle.std.proofs.lemmas.Grind.{elements}
 use Rattle.std.proofs.lemmas.List.{nil_from_length}
 use Rattle.std.proofs.lemmas.List.Concat.{flat_map-append}
-use Rattle.std.specs.Prelude.{bit_xor, Option, Some, None}
+use Rattle.std.specs.Prelude.{bit_xor, slice_range, Option, Some, None}
 use Rattle.komihash.specs.Borrows.{Mut}
 use Rattle.komihash.specs.Calls.{answers_after}
 use Rattle.komihash.specs.Generator.{next, after_steps, outputs, fill_steps, fill, after_fill}
@@ -56,6 +56,25 @@ fill-parts v x y z s whole is = fill-add v x y s whole ∙ ap (fill v s) is
 pub after_fill-parts : (v x y z : ℕ) (s : ℕ × ℕ) → x % 8 ≡ 0 → x + y ≡ z
     → after_fill v (after_fill v s x) y ≡ after_fill v s z
 after_fill-parts v x y z s whole is = sym (after_fill-add v x y s whole) ∙ ap (after_fill v s) is
+
+-- equal messages have one hash, such as a buffer that was filled and the bytes that filled it
+pub komi-same : (v seed : ℕ) (m n : List ℕ) → m ≡ n → komi v seed m ≡ komi v seed n
+komi-same v seed m n same = ap (komi v seed) same
+
+-- outputs in parts, of which a number that is written out may be the sum
+pub outputs-parts : (v x y z : ℕ) (s : ℕ × ℕ) → x + y ≡ z
+    → outputs v x s ++ outputs v y (after_steps v x s) ≡ outputs v z s
+outputs-parts v x y z s is = sym (outputs-add v x y s) ∙ ap (λ k. outputs v k s) is
+
+pub after_steps-parts : (v x y z : ℕ) (s : ℕ × ℕ) → x + y ≡ z
+    → after_steps v y (after_steps v x s) ≡ after_steps v z s
+after_steps-parts v x y z s is = sym (after_steps-add v x y s) ∙ ap (λ k. after_steps v k s) is
+
+-- ranges that are joined
+pub range-front : (m : List ℕ) (a b : ℕ) → a ≤ b → take a m ++ slice_range m a b ≡ take b m
+range-front m a b order =
+    let is : a + (b - a) ≡ b = omega (arith, order) in
+    sym (take-add a (b - a) m) ∙ ap (λ k. take k m) is
 
 -- two cuts of one message lead to one state
 pub absorb-recut : (v : ℕ) (s : State) (a b x y : List ℕ) → a ++ b ≡ x ++ y

@@ -25,6 +25,7 @@ use Rattle.komihash.proofs.CallerLemmas.{outputs-four, after_steps-four, length-
 use Rattle.komihash.proofs.CallerLemmas.{after_fill-parts, absorb-recut, HasAbsorbed-none_pending}
 use Rattle.komihash.proofs.CallerLemmas.{HasAbsorbed-same_hash, IsTextAfter-same_hash}
 use Rattle.komihash.proofs.CallerLemmas.{seed_words-same, take-fill, drop-fill, take-outputs}
+use Rattle.komihash.proofs.CallerLemmas.{komi-same, outputs-parts, after_steps-parts, range-front}
 use Rattle.komihash.proofs.CallerLemmas.{length-answers_after, take-answers_after}
 use Rattle.komihash.proofs.CallerLemmas.{count_of_answers-le, length-padded_words}
 use Rattle.komihash.proofs.CallerLemmas.{Unpadded-zero, Unpadded-no_byte, Unpadded-zero_end}
@@ -79,6 +80,10 @@ pub ruleset of_callers = (
   length-fill,
   fill-parts,
   after_fill-parts,
+  komi-same,
+  outputs-parts,
+  after_steps-parts,
+  range-front,
   absorb-recut,
   HasAbsorbed-none_pending,
   HasAbsorbed-same_hash,
