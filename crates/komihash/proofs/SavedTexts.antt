@@ -8,7 +8,8 @@ use borrow.Rule.Slice.PartMut.{put_mid}
 use Rattle.std.proofs.lemmas.Grind.{elements}
 use Rattle.komihash.specs.Rounds.{Lanes, in_order}
 use Rattle.komihash.specs.Saved.{lanes_at, pending_at, longest_text, text, IsText, IsTextAfter}
-use Rattle.komihash.specs.Saved.{Restored}
+use Rattle.komihash.specs.Borrows.{Mut}
+use Rattle.komihash.specs.Saved.{Restored, Stored}
 use Rattle.komihash.specs.Stream.{State, IsState, HasAbsorbed}
 use Rattle.komihash.specs.Internals.{IsHead, whole_words, xor_again}
 use Rattle.komihash.specs.Words.{AreBytes, AreWords}
@@ -140,6 +141,13 @@ pub text-after : (v seed : ℕ) (s : State) (m bytes : List ℕ) → IsState v s
     → text v s ≡ bytes → IsTextAfter v seed m bytes
 unfolding IsTextAfter
 text-after v seed s m bytes is after same = search arith
+
+-- what a call says that writes the text of a state to the front of `out`
+pub stored : (v : ℕ) (now : State) (out : Mut (List ℕ)) (result : ℕ) → IsState v now
+    → result ≡ length (text v now) → take result out.exit.now ≡ text v now
+    → drop result out.exit.now ≡ drop result out.entry.now → Stored v now out result
+stored v now out result is size same rest =
+    grind (arith, length-text, text-after, text-same_version, text-same_state)
 
 -- what the proof of `store` needs
 pub ruleset store_laws = (length-text, text-after, text-same_version, text-same_state)

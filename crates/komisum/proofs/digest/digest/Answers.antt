@@ -1,6 +1,6 @@
 -- What the reader gave grows by what a read gives.
 use Rattle.std.proofs.Common.{◌≡◌, ℕ, ◌+◌, ◌≤◌, List, ◌++◌, length, take}
-use Rattle.std.proofs.Common.{arith, rules, length-append, length-take-le}
+use Rattle.std.proofs.Common.{arith, length-append, length-take-le}
 use Rattle.std.specs.declared.option.Option.{Option}
 use Rattle.std.specs.Io.KnownBytes.{Consumes}
 use Rattle.std.proofs.KnownBytes.{Consumes-trans}
@@ -21,11 +21,11 @@ returns-then-is_too_long g c =
     let before = c.loop-stream.invariant.1 in
     let here = c.in-Ok.ensures in
     let all = given _ _ _ _ _ _ _ before.consumed here.bytes.0 here.bound.0 before.count in
-    search (rules, all)
+    grind (arith, all)
 
 pub loop-stream-preserved : goal.loop-stream-preserved
 loop-stream-preserved g c =
     let before = c.loop-stream.invariant.1 in
     let here = c.in-Ok.ensures in
     let all = given _ _ _ _ _ _ _ before.consumed here.bytes.0 here.bound.0 before.count in
-    search (rules, all)
+    grind (arith, all)
