@@ -20,11 +20,16 @@ CHOICES = {r'^ *// Rattle alone\.\n(?:.+\n)+': '',
            r'(//.*)\bIn Rust, (\w)': lambda it: it[1] + it[2].upper()}
 # Public functions that are const in Rust, and types that derive traits there.
 CONST = 'init', 'init_with_extra_seed', 'new', 'new_with_seed', 'next', 'words'
+# Public functions of which debug builds have those that were compiled with this crate, as of all
+# that ask to be inlined. Cargo may optimize this crate alone.
+SHARED = 'fill_bytes', 'finish', 'init', 'init_with_extra_seed', 'new_with_seed', 'next', 'write'
 DERIVED = dict.fromkeys(('Call', 'StreamedKomihash', 'Lanes', 'XoredPair', 'Pending'),
                         'PartialEq, Eq') | {
     'KomiHasher': 'Copy, Debug, PartialEq, Eq, Hash',
     **dict.fromkeys(('KomiBuildHasher', 'Komirand'), 'Debug, PartialEq, Eq')}
 ADDED = {rf'^( *pub )(?=fn {name}\b)': r'\1const ' for name in CONST} | {
+    rf'^( *)(?=pub (?:const )?fn {name}\b)': r'\1#[cfg_attr(debug_assertions, inline(never))]\n\1'
+    for name in SHARED} | {
     rf'^(?=pub(?:\(crate\))? (?:enum|struct) {name}\b)': f'#[derive({traits})]\n'
     for name, traits in DERIVED.items()} | {
     # src/version.rs has these compiled with this crate in debug builds. The library for C, which

@@ -92,6 +92,20 @@ calls_nothing() {
         --extern "komihash_rattle=$CARGO_TARGET_DIR/debug/libkomihash_rattle.rlib" &&
         nm -C "$scratch/nothing" > "$scratch/case" && ! grep komihash_rattle:: "$scratch/case"
 }
+# Whether a debug program compiles no call itself, but takes those that were compiled with the crate,
+# which cargo may optimize alone.
+calls_shared() {
+    echo 'use komihash_rattle::*; fn main() { let mut stream = StreamedKomihash::new_with_seed(1);
+        let (mut generator, mut bytes) = (Komirand::init(2), [0; 131]); stream.write(&bytes);
+        generator.fill_bytes(&mut bytes); let _ = (komihash(&bytes, 3), generator.next(),
+        stream.save(&mut bytes), StreamedKomihash::resume(&bytes), stream.finish()); }' \
+        > "$scratch/shared.rs" && in_crate rustc --edition 2024 --crate-type lib -C opt-level=3 \
+        -C debug-assertions --crate-name komihash_rattle --out-dir "$scratch" src/lib.rs &&
+        rustc --edition 2024 --emit obj -o "$scratch/shared.o" "$scratch/shared.rs" \
+            --extern "komihash_rattle=$scratch/libkomihash_rattle.rlib" &&
+        nm -C "$scratch/shared.o" > "$scratch/case" &&
+        ! grep -iE ' [tw] komihash_rattle::' "$scratch/case"
+}
 pages() {
     RUSTDOCFLAGS='-D warnings' in_crate cargo doc --offline --no-deps --all-features &&
         python3 -B rust/tests/pages.py rust/src "$CARGO_TARGET_DIR/doc"
@@ -254,6 +268,7 @@ languages() {
         -D clippy::must_use_candidate
     needs rustfmt 'the crate for Rust, by rustfmt' in_crate cargo fmt --check
     needs 'cargo nm' 'a program has nothing of the crate for Rust uncalled' calls_nothing
+    needs 'cargo nm' 'a debug program compiles no call of the crate for Rust' calls_shared
     needs "$debian" 'the crate for Rust needs core alone' without_std
     needs 'cargo python3' 'the pages of the crate for Rust' pages
     sources='/usr/bin/cargo /usr/lib/rustlib/src/rust/x.py'

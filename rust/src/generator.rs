@@ -50,6 +50,7 @@ where
     /// assert_eq!(one.next(), other.next());
     /// ```
     #[must_use]
+    #[cfg_attr(debug_assertions, inline(never))]
     pub const fn init(seed: u64) -> Self {
         Komirand::init_with_extra_seed(seed, seed)
     }
@@ -62,6 +63,7 @@ where
     /// assert_ne!(one.next(), other.next());
     /// ```
     #[must_use]
+    #[cfg_attr(debug_assertions, inline(never))]
     pub const fn init_with_extra_seed(s1: u64, s2: u64) -> Self {
         // This is `const`, so it has no `for`.
         let mut generator = Komirand::new(s1, s2);
@@ -96,6 +98,7 @@ where
     /// assert!((1..=6).contains(&throw));
     /// ```
     #[allow(clippy::should_implement_trait)]
+    #[cfg_attr(debug_assertions, inline(never))]
     pub const fn next(&mut self) -> u64 {
         self.step()
     }
@@ -125,6 +128,7 @@ where
     /// assert_eq!(bytes[..8], first.to_le_bytes());
     /// assert_eq!(bytes[8..], second.to_le_bytes()[..3]);
     /// ```
+    #[cfg_attr(debug_assertions, inline(never))]
     pub fn fill_bytes(&mut self, buffer: &mut [u8]) {
         // A copy stays in registers, also from the last whole word to the remainder.
         let mut generator = Komirand::new(self.s1, self.s2);

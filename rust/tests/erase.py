@@ -32,7 +32,8 @@ LEFT = {
         f'{TEST.replace("fn f", "pub fn f")}',
     'pub struct Komirand;\nimpl Komirand {\n    pub fn next() {}\n    fn new() {}\n}':
         '#[derive(Debug, PartialEq, Eq)]\npub struct Komirand;\n'
-        'impl Komirand {\n pub const fn next() {}\n fn new() {}\n}',
+        'impl Komirand {\n#[cfg_attr(debug_assertions, inline(never))]\n'
+        'pub const fn next() {}\n fn new() {}\n}',
     # A condition of a public trait is tested in each impl.
     f'pub trait T {{\n    {DECLARED};\n}}\n'
     'impl<const V: u8> T\nfor S {\n    fn f(out: &mut [u8]) { }\n}':

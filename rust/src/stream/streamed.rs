@@ -60,6 +60,7 @@ where
     /// assert_eq!(stream.finish(), komihash(b"port", 7));
     /// ```
     #[must_use]
+    #[cfg_attr(debug_assertions, inline(never))]
     pub const fn new_with_seed(seed: u64) -> Self {
         StreamedKomihash::begin(seed)
     }
@@ -115,6 +116,7 @@ where
     /// }
     /// let hash = stream.finish();
     /// ```
+    #[cfg_attr(debug_assertions, inline(never))]
     pub fn write(&mut self, bytes: &[u8]) {
         self.absorb(bytes);
     }
@@ -129,6 +131,7 @@ where
     /// assert_eq!([stream.finish(), stream.finish()], [komihash(b"port", 0); 2]);
     /// ```
     #[must_use]
+    #[cfg_attr(debug_assertions, inline(never))]
     pub fn finish(&self) -> u64 {
         self.answer()
     }
