@@ -46,7 +46,7 @@ pub record Padded (v : ℕ) (bytes : List ℕ) (out : Mut (List ℕ)) (result : 
   pub count : result ≡ length bytes / 8 + 1
   pub padded : take result out.exit.now ≡ padded_words v bytes
   pub rest : drop result out.exit.now ≡ drop result out.entry.now
-  -- what follows, for the search, because no two messages have the same padded words
+  -- derived, for the search, because no two messages have the same padded words
   pub only : (m : List ℕ) → AreBytes m → padded_words v m ≡ padded_words v bytes → m ≡ bytes
 
 -- a call writes the message with these padded words to the front of `out`, leaves the rest, and
@@ -56,7 +56,7 @@ pub record Unpadded (v : ℕ) (words : List ℕ) (out : Mut (List ℕ)) (result 
   pub some : IsSome result ↔ ArePadded v words
   pub rest : IfSome result (λ n. drop n out.exit.now ≡ drop n out.entry.now)
   pub unchanged : IfNone result (out.exit.now ≡ out.entry.now)
-  -- what follows, for the search; `same`, because no two messages have the same padded words
+  -- derived, for the search; `same`, because no two messages have the same padded words
   pub same : (m : List ℕ) → AreBytes m → padded_words v m ≡ words
       → IsSomeAnd result (λ n. take n out.exit.now ≡ m)
   pub length : IfSome result (λ n. n / 8 + 1 ≡ length words)

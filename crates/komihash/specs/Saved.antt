@@ -42,27 +42,28 @@ IsTextAfter v seed m bytes = (s : State) × IsState v s × HasAbsorbed v seed s 
 -- a call writes the text of a stream to the front of `out`, leaves the rest, and returns the length
 -- of the text
 pub record Stored (v : ℕ) (now : State) (out : Mut (List ℕ)) (result : ℕ) : Type 0 where
-  -- what follows, for the search, because `now` is a state, and no two states share a text
-  pub most : result ≤ longest_text
-  pub message : (seed : ℕ) (m : List ℕ) → HasAbsorbed v seed now m
-      → IsTextAfter v seed m (take result out.exit.now)
-  pub version : (w : ℕ) (s : State) → IsState w s → text w s ≡ text v now → w ≡ v
-  pub only : (w : ℕ) (s : State) → IsState w s → text w s ≡ text v now → s ≡ now
-  -- what the call does, last because a field hides the function of its name in later fields
   pub length : result ≡ length (text v now)
   pub text : take result out.exit.now ≡ text v now
   pub rest : drop result out.exit.now ≡ drop result out.entry.now
+  -- derived, for the search, because `now` is a state, and no two states share a text; the field
+  -- `text` hides the function
+  pub most : result ≤ longest_text
+  pub message : (seed : ℕ) (m : List ℕ) → HasAbsorbed v seed now m
+      → IsTextAfter v seed m (take result out.exit.now)
+  pub version : (w : ℕ) (s : State) → IsState w s
+      → Rattle.komihash.specs.Saved.text w s ≡ Rattle.komihash.specs.Saved.text v now → w ≡ v
+  pub only : (w : ℕ) (s : State) → IsState w s
+      → Rattle.komihash.specs.Saved.text w s ≡ Rattle.komihash.specs.Saved.text v now → s ≡ now
 
 -- a call returns the stream whose text the bytes are, where `view` gives its state, or None if
 -- they are the text of no state
 pub record Restored {A : Type 0} (v : ℕ) (view : A → State) (bytes : List ℕ) (result : Option A)
     : Type 0 where
-  -- what follows from the last two, for the search, because no two states share a text
-  pub same : (s : State) → IsState v s → text v s ≡ bytes
+  pub text : IfSome result (λ stream. text v (view stream) ≡ bytes)
+  pub none : IsNone result ↔ ¬ IsText v bytes
+  -- derived, for the search, because no two states share a text
+  pub same : (s : State) → IsState v s → Rattle.komihash.specs.Saved.text v s ≡ bytes
       → IsSomeAnd result (λ stream. view stream ≡ s)
   pub message : (seed : ℕ) (m : List ℕ) → IsTextAfter v seed m bytes
       → IsSomeAnd result (λ stream. HasAbsorbed v seed (view stream) m)
   pub most : IfSome result (λ _. length bytes ≤ longest_text)
-  -- what the call does; `text` stands last for the same reason
-  pub none : IsNone result ↔ ¬ IsText v bytes
-  pub text : IfSome result (λ stream. text v (view stream) ≡ bytes)

@@ -80,14 +80,14 @@ pub record StateOf (v : ℕ) : Type 0 where
 -- a new stream is in the first state of its seed, and has absorbed nothing
 pub record Started (v seed : ℕ) (new : State) : Type 0 where
   pub state : new ≡ start seed
-  -- what follows from it, for the search
+  -- derived, for the search
   pub message : HasAbsorbed v seed new []
 
 -- a stream, whose state `view` gives, absorbs bytes
 pub record Absorbed {A : Type 0} (v : ℕ) (view : A → State) (stream : Mut A) (bytes : List ℕ)
     : Type 0 where
   pub state : view stream.exit.now ≡ absorb v (view stream.entry.now) bytes
-  -- what follows from it, for the search: the message is then longer by these bytes
+  -- derived, for the search: the message is then longer by these bytes
   pub message : (seed : ℕ) (m : List ℕ) → HasAbsorbed v seed (view stream.entry.now) m
       → HasAbsorbed v seed (view stream.exit.now) (m ++ bytes)
   -- the same in three more forms, by which the search finds proofs for callers that write numbers
@@ -102,5 +102,5 @@ pub record Absorbed {A : Type 0} (v : ℕ) (view : A → State) (stream : Mut A)
 -- a stream answers: with the hash of the message that it has absorbed, if there is one
 pub record Answered (v : ℕ) (now : State) (result : ℕ) : Type 0 where
   pub answer : result ≡ answer v now
-  -- what follows from it, for the search
+  -- derived, for the search
   pub hash : (seed : ℕ) (m : List ℕ) → HasAbsorbed v seed now m → result ≡ komi v seed m
