@@ -13,7 +13,8 @@ ghost use Rattle.komihash.specs.declared.stream.Call.TheVariants.{Absorb, Answer
 
 use komihash::stream::{Call, KomiStream, run};
 use komihash::tally::Tally;
-use komihash::{Komirand, StreamedKomihash, laws, v4, v5};
+use komihash::{KomiHasher, Komirand, StreamedKomihash, laws, v4, v5};
+use std::hash::Hasher;
 
 /// Numbers of each width, before and after bytes of any length.
 pub fn around_bytes(a: u64, b: u32, bytes: &[u8], c: u64, d: u16, e: u8) -> u64
@@ -155,4 +156,27 @@ pub fn of_literal_words(out: &mut [u8; 16]) -> (Option<usize>, Option<usize>, Op
         v5::unpad(&[1], out),
         v5::unpad(&[1, 0], out),
     )
+}
+
+/// A helper that any hasher may be passed to.
+pub fn number_after_write(hasher: &mut dyn Hasher, bytes: &[u8]) -> u64
+    ensures { result ≡ finish (hasher.old.0, write hasher.old bytes.now) }
+{
+    hasher.write(bytes);
+    hasher.finish()
+}
+
+/// A helper that reads any hasher.
+pub fn number_of(hasher: &dyn Hasher) -> u64
+    ensures { result ≡ finish hasher.now }
+{
+    hasher.finish()
+}
+
+/// Hashers of both versions that the helpers take. No fact follows, because the prover forgets what
+/// it knows of a value once it is behind a reference to a trait of the standard library.
+pub fn of_any_hashers(bytes: &[u8]) -> (u64, u64) {
+    let four = v4::KomiHasher::new(7);
+    let mut five = KomiHasher::default();
+    (number_of(&four), number_after_write(&mut five, bytes))
 }
