@@ -232,12 +232,12 @@ pub fn run<S: KomiStream>(
     requires { length calls.now ≤ length out.old }
     ensures answers { out.new ≡ answers S.VERSION seed calls.now ++ drop result out.old }
     ensures count { result ≡ length (answers S.VERSION seed calls.now) }
-    ensures costs { Costs tally (run_products calls.now) (run_kept_bytes calls.now) }
     // With one answer at the end, the products don't depend on the cuts.
     ensures digest { (pieces : List Call) → AreAbsorbs pieces → calls.now ≡ pieces ++ Answer ∷ []
         → tally.new.products ≡ tally.old.products
         + (3 + 4 * (length (bytes_of_calls pieces) / 64)
         + length (bytes_of_calls pieces) % 64 / 16) }
+    ensures costs { Costs tally (run_products calls.now) (run_kept_bytes calls.now) }
 {
     let mut stream = S::start(seed, tally);
     run_on(&mut stream, calls, out, tally)
