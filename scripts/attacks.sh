@@ -1,42 +1,65 @@
 #!/usr/bin/env bash
-# Checks that each product and each kept byte is counted in the tally that a call is passed, and that
-# no other crate can raise a tally, write a stream that promises less, or hash in a version 3. Each
-# attack in attacks.txt is a module of a crate above `komihash`, or a file of that crate's proofs.
-# `tally_raised_by_hand` has the handwritten proof of `Tally::raise`, but where this uses the key of
-# tallies, it says that nothing changes. `stream_of_version_three` is an example that says so,
-# `stream_not_counted` one whose answer isn't counted, and `stream_with_weaker_contract` has a
-# contract that doesn't ask for that.
+# Checks that each product and each kept byte is counted in the tally that a call is passed, and
+# that no other crate can raise a tally, write a stream that promises less, or hash in a version 3.
+# Each attack in attacks.txt is a module of a crate above `komihash`, or a file of that crate's
+# proofs. `tally_raised_by_hand` has the handwritten proof of `Tally::raise`, but where this uses
+# the key of tallies, it says that nothing changes. `stream_of_version_three` is an example that
+# says so, `stream_not_counted` one whose answer isn't counted, and `stream_with_weaker_contract`
+# has a contract that doesn't ask for that.
 set -u
 cd "$(dirname "$0")" || exit 1
 . ../c/tests/cases.sh
 
-# Prints each line of code that multiplies by more than a literal, raises a tally or makes one, after
-# the name of its function. No contract sees these, but in the tally that a call is passed.
+# Prints each line of code that multiplies by more than a literal, raises a tally, makes one, calls
+# what makes one, or stores the bytes of writes, after the name of its function. No contract sees
+# these, but in the tally that a call is passed.
 uses_of_tallies() {
-    find ../crates/komihash/src -name '*.rt' ! -path '*/tests*' ! -name tally.rt | sort | xargs awk '
-        /^ *(\/\/|ghost|requires|ensures)/ { next }
+    find ../crates/komihash/src -name '*.rt' ! -path '*/src/tests/*' | sort | xargs awk '
+        /^ *(\/\/|(ghost|requires|ensures) )|^(pub )?struct |^impl / { next }
         match($0, /fn [a-z_0-9]+/) { name = substr($0, RSTART + 3, RLENGTH - 3) }
         {
             code = $0
-            gsub(/[^a-z_0-9][0-9]+ \* | \* [0-9]+/, "", code)
-            gsub(/tally: &mut Tally|^use crate::tally::Tally;/, "", code)
+            gsub(/([^a-z_0-9.]|\.\.)[0-9]+ \* | \* [0-9]+([^a-z_0-9.]|$)/, " ", code)
+            gsub(/tally: &mut Tally|^use crate::tally::Tally;|fn [a-z_0-9]+/, "", code)
         }
-        code ~ / \* |\*=|mul[a-z_]*\(|pow\(|product\(|raise|Tally/ { print name ":" $0 }' | tr -s ' '
+        code ~ / \* |\*=|mul([^t]|$)|pow|product[:(]|macro_rules|raise|Tally/ ||
+        code ~ /(komihash(::<.>)?|finish|write|with_seed|next|fill_bytes|read_pending)\(/ ||
+        code ~ /(Streamed[^ ]*|Self)::(new|default)\(|init[a-z_]*\(|re(store|sume)\(/ ||
+        code ~ /(complete_block|append_to_block|store_bytes)\(/ {
+            print name ":" $0
+        }' | tr -s ' '
 }
 known_uses() {
     diff <(uses_of_tallies) - << 'END'
+init: Komirand::init_with_extra_seed(seed, seed)
+init_with_extra_seed: generator.next();
+init_with_extra_seed: generator.next();
+init_with_extra_seed: generator.next();
+init_with_extra_seed: generator.next();
 next: self.step(&mut Tally::new())
 fill_bytes: let word = generator.step(&mut Tally::new());
 fill_bytes: let output = generator.step(&mut Tally::new());
 komihash: hash_message::<V>(bytes, seed, &mut Tally::new())
 write: self.number = hash_message::<V>(bytes, self.number, &mut Tally::new());
 put: tally.raise(0, bytes.len());
+put: complete_block(words, len, bytes);
+put: store_bytes(words, bytes);
+put: append_to_block(words, len, bytes);
 read_pending: pending.append(&bytes[PENDING_AT..], &mut Tally::new());
+new: StreamedKomihash::new_with_seed(0)
 new_with_seed: StreamedKomihash::begin(seed, &mut Tally::new())
 write: self.absorb(bytes, &mut Tally::new());
 finish: self.answer(&mut Tally::new())
+resume: StreamedKomihash::restore(bytes)
+default: StreamedKomihash::new()
+restore: pending: saved::read_pending(bytes),
+new: pub fn new() -> Tally
+new: Tally {
+raise:const _: () = prove!(size_of::<Tally>() == 0);
 multiply128: tally.raise(1, 0);
 multiply128: let product = x as u128 * y as u128;
+komihash: hash::komihash::<4>(bytes, seed)
+komihash: hash::komihash::<5>(bytes, seed)
 END
 }
 run_case 'each product and kept byte is counted in the tally that a call is passed' known_uses

@@ -17,7 +17,7 @@ ghost use Rattle.komihash.specs.declared.stream.Call.TheVariants.{Answer};
 
 use komihash::stream::{Call, KomiStream, LONGEST_TEXT, run, run_on};
 use komihash::tally::Tally;
-use komihash::{laws, v4, v5};
+use komihash::{v4, v5};
 use std::hash::{BuildHasher, Hasher};
 
 const _: () = prove!(LONGEST_TEXT == 131);
@@ -293,7 +293,6 @@ pub fn run_of_calls<S: KomiStream>(
         + (3 + 4 * (length (bytes_of_calls pieces) / 64)
         + length (bytes_of_calls pieces) % 64 / 16) }
 {
-    laws::cost_of_pieces();
     run::<S>(seed, calls, out, tally)
 }
 

@@ -5,7 +5,9 @@ ghost use Rattle.std.specs.Int.{to_le_bytes, w8, w16, w32, w64};
 ghost use Rattle.std.specs.List.{flat_map};
 ghost use Rattle.std.specs.Prelude.{◌≡◌, ◌+◌, ◌-◌, ◌*◌, ◌/◌, ◌%◌, ◌^◌, ◌<◌, ◌≤◌, ◌++◌, ◌∷◌, []};
 ghost use Rattle.std.specs.Prelude.{ℕ, List, length, take, drop, map, bit_xor, slice_index};
-ghost use Rattle.komihash.specs.Calls.{answers_after, bytes_of_calls};
+ghost use Rattle.std.specs.Prelude.{Contains};
+ghost use Rattle.komihash.specs.Calls.{answers_after, bytes_of_calls, run_products};
+ghost use Rattle.komihash.specs.Counts.{hash_products};
 ghost use Rattle.komihash.specs.Generator.{next, after_steps, outputs, fill, after_fill};
 ghost use Rattle.komihash.specs.Hash.{komi};
 ghost use Rattle.komihash.specs.Hasher.{number_after};
@@ -15,6 +17,7 @@ ghost use Rattle.komihash.specs.Saved.{text, IsTextAfter};
 ghost use Rattle.komihash.specs.Stream.{State, IsState, HasAbsorbed, start, absorb, answer};
 ghost use Rattle.komihash.specs.Words.{AreBytes};
 ghost use Rattle.komihash.specs.declared.stream.Call.{Call};
+ghost use Rattle.komihash.specs.declared.stream.Call.TheVariants.{Answer};
 
 use komihash::laws;
 
@@ -59,15 +62,18 @@ pub fn of_integers()
     laws::bytes_of_integers();
 }
 
-/// States the law of lists of calls that are joined. `calls::run_of_calls` states the one of their
-/// cost.
+/// States the laws of lists of calls: of joined ones, and of the cost of writes with one answer.
+#[tactic(auto, using(crate::proofs::WithoutAnswer::without_answer))]
 pub fn of_calls()
     ensures answers { (f : List ℕ → ℕ) (m : List ℕ) (x y : List Call) → answers_after f m (x ++ y)
         ≡ answers_after f m x ++ answers_after f (m ++ bytes_of_calls x) y }
     ensures bytes { (x y : List Call)
         → bytes_of_calls (x ++ y) ≡ bytes_of_calls x ++ bytes_of_calls y }
+    ensures cost { (pieces : List Call) → ¬ Contains pieces Answer
+        → run_products (pieces ++ Answer ∷ []) ≡ hash_products (length (bytes_of_calls pieces)) }
 {
     laws::calls_cut();
+    laws::cost_of_pieces();
 }
 
 /// States the laws of generators.
