@@ -106,6 +106,26 @@ calls_shared() {
         nm -C "$scratch/shared.o" > "$scratch/case" &&
         ! grep -iE ' [tw] komihash_rattle::' "$scratch/case"
 }
+# Whether a program gets this crate for `komihash`, also in a dependency, as the page says.
+for_dependencies() {
+    local at=$scratch/patched
+    mkdir -p "$at"/{komihash,dependency,program}/src && cd "$at" &&
+        for package in *; do
+            printf '[package]\nname = "%s"\nversion = "0.5.0"\nedition = "2024"\n[dependencies]\n' \
+                $package > $package/Cargo.toml
+        done &&
+        sed -n 's|.*`src/lib.rs` is `\(#.*;\)`, and.*|\1|p' "$scratch/rust/README.md" \
+            > komihash/src/lib.rs &&
+        echo "komihash_rattle.path = '$scratch/rust'" >> komihash/Cargo.toml &&
+        echo "komihash = '0.5'" | tee -a dependency/Cargo.toml >> program/Cargo.toml &&
+        echo 'pub fn new() -> komihash::Komirand { komihash::Komirand::new(1, 2) }' \
+            > dependency/src/lib.rs &&
+        echo 'fn main() { let rand: komihash::Komirand = dependency::new();
+            print!("{:?}", rand.words()) }' > program/src/main.rs &&
+        printf "%s.path = '../%s'\n" dependency{,} '[patch.crates-io]
+komihash' komihash >> program/Cargo.toml &&
+        diff <(cargo run --offline --quiet --manifest-path program/Cargo.toml) <(printf '(1, 2)')
+}
 pages() {
     RUSTDOCFLAGS='-D warnings' in_crate cargo doc --offline --no-deps --all-features &&
         python3 -B rust/tests/pages.py rust/src "$CARGO_TARGET_DIR/doc"
@@ -250,6 +270,14 @@ library() {
         check CROSS=s390x-linux-gnu- RUN=qemu-s390x
     part_with "i686-linux-gnu-gcc $debian" from_rust i686-unknown-linux-gnu \
         check CROSS=i686-linux-gnu-
+    # This takes the core library that was made above.
+    counts='calls of the crate for Rust take the instructions and bytes of compare/counts.md'
+    if grep -qw avx2 /proc/cpuinfo; then
+        by_its_compiler compare/counts.md "python3 ld.lld i686-linux-gnu-gcc $debian" "$counts" \
+            python3 -B compare/counts.py "$scratch"
+    else
+        skip "$counts (optional)" 'a processor with AVX2'
+    fi
     needs "clang lld $debian" 'the library for C links for macOS, with the names of the header' \
         names_for_macos
 }
@@ -269,6 +297,7 @@ languages() {
     needs rustfmt 'the crate for Rust, by rustfmt' in_crate cargo fmt --check
     needs 'cargo nm' 'a program has nothing of the crate for Rust uncalled' calls_nothing
     needs 'cargo nm' 'a debug program compiles no call of the crate for Rust' calls_shared
+    needs cargo 'dependencies get the crate for Rust in place of the other one' for_dependencies
     needs "$debian" 'the crate for Rust needs core alone' without_std
     needs 'cargo python3' 'the pages of the crate for Rust' pages
     sources='/usr/bin/cargo /usr/lib/rustlib/src/rust/x.py'
