@@ -127,8 +127,7 @@ komihash' komihash >> program/Cargo.toml &&
         diff <(cargo run --offline --quiet --manifest-path program/Cargo.toml) <(printf '(1, 2)')
 }
 pages() {
-    RUSTDOCFLAGS='-D warnings' in_crate cargo doc --offline --no-deps --all-features &&
-        python3 -B rust/tests/pages.py rust/src "$CARGO_TARGET_DIR/doc"
+    RUSTDOCFLAGS='-D warnings' in_crate cargo doc --offline --no-deps --all-features
 }
 # Runs the crate's tests for a target, with a standard library that is built from Debian's sources:
 # tests_for TARGET LINKER [RUNNER..]
@@ -299,7 +298,7 @@ languages() {
     needs 'cargo nm' 'a debug program compiles no call of the crate for Rust' calls_shared
     needs cargo 'dependencies get the crate for Rust in place of the other one' for_dependencies
     needs "$debian" 'the crate for Rust needs core alone' without_std
-    needs 'cargo python3' 'the pages of the crate for Rust' pages
+    needs cargo 'the pages of the crate for Rust' pages
     sources='/usr/bin/cargo /usr/lib/rustlib/src/rust/x.py'
     for machine in s390x aarch64 i686; do
         [ $machine = i686 ] && runner=env || runner="qemu-$machine -L /usr/$machine-linux-gnu"
@@ -353,8 +352,6 @@ verified() {
     else
         skip 'random instructions (optional)' 'a processor with AVX2'
     fi
-    SAMPLE=16 needs "$python $arm-gcc musl-gcc qemu-aarch64" 'changes of the check are noticed' \
-        "$python" -B $tests/mutants.py "${libraries[@]}"
     needs "$python $arm-gcc qemu-aarch64" \
         'random instructions of ARM64 do in the model what they do in an emulator' \
         "$python" -B $tests/instructions.py "armv8-a:$out/$arm/$so" $arm-gcc \
