@@ -1,13 +1,15 @@
 #!/usr/bin/env bash
 # Compiles a crate for Rust to the assembly of the library for C, in a folder, by Debian's packages
 # rustc-web and rust-web-src: assembly.sh CRATE FOLDER. Without FOLDER, prints the SHA-256 of the
-# Rust, of exports.rs and of these scripts, which the head of each file has too.
+# Rust, of exports.rs and of these scripts, but for lines of comments, which the head of each file
+# has too.
 set -euo pipefail
 crate=$(realpath "$1") folder=$(realpath -m "${2:-.}")
 cd "$(dirname "${BASH_SOURCE[0]}")"
 made_of=$({ grep ^edition "$crate/Cargo.toml"
-    (cd "$crate/src" && find . -name '*.rs' | LC_ALL=C sort | xargs sha256sum)
-    sha256sum exports.rs {from_rust,assembly,sysroot}.sh; } | sha256sum | cut -d ' ' -f 1)
+    code=(grep -Hv '^ *\(//\|# \)')
+    (cd "$crate/src" && find . -name '*.rs' | LC_ALL=C sort | xargs "${code[@]}")
+    "${code[@]}" exports.rs {from_rust,assembly,sysroot}.sh; } | sha256sum | cut -d ' ' -f 1)
 [ $# = 2 ] || { echo "$made_of"; exit; }
 scratch=$(mktemp -d)
 trap 'rm -rf "$scratch"' EXIT

@@ -2,7 +2,7 @@
  * Copyright (c) 2026 the authors of komihash_rattle
  *
  * `make assembly` made this file from the crate for Rust. Do not edit it.
- * Made of: SHA-256 ddfe124f43bbe66f08f171ac56cf354117e61c4ff0546d8e766e76239b33be76
+ * Made of: SHA-256 7ea1ad980d0573901952a5d2a1a06aa0f1e08f16753d041bc8f3c2f38508f0e0
  * Options: those of from_rust.sh, and -C no-redzone=yes -Z branch-protection=bti
  * Compiler: rustc 1.96.0 (ac68faa20 2026-05-25) (built from a source tarball)
  */
