@@ -37,11 +37,9 @@ pub fn hash_in_three(message: &[u8], first: usize, second: usize) -> u64
     requires end { second ≤ length message.now }
     ensures { result ≡ komi 5 0 message.now }
 {
-    let (front, back) = message.split_at(second);
-    let (head, middle) = front.split_at(first);
     let mut stream = StreamedKomihash::new();
-    stream.write(head);
-    stream.write(middle);
-    stream.write(back);
+    stream.write(&message[..first]);
+    stream.write(&message[first..second]);
+    stream.write(&message[second..]);
     stream.finish()
 }
