@@ -1,1 +1,2 @@
+mod Permutations
 mod Prefixes

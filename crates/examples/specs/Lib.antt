@@ -1,2 +1,3 @@
 pub mod Profiles
+pub mod Shuffles
 pub mod Trees

@@ -16,6 +16,7 @@ pub mod random;
 pub mod readers;
 pub mod samples;
 pub mod shards;
+pub mod shuffles;
 pub mod stores;
 #[cfg(test)]
 mod tests;

@@ -1,10 +1,12 @@
 //! What the contracts of callers leave open: that a reader in memory, a list and a map give no
-//! error, and what the toolchain's `Hash` writes. The hash is that of the Rust crate `komihash`
-//! 0.5.0.
+//! error, what the toolchain's `Hash` writes, and whether this crate's definitions are those that
+//! are meant. The hash is that of the Rust crate `komihash` 0.5.0.
 
 use crate::hashed::{Point, hash_of, put_and_get};
 use crate::readers::digest_of_reader;
+use crate::shuffles::shuffle;
 use crate::stores::Journal;
+use komihash::Komirand;
 use std::alloc::{AllocError, AllocFailed};
 use std::io;
 
@@ -46,4 +48,12 @@ fn a_map_takes_a_point(rt: HostRuntime) -> Result<(), AllocFailed<(Point, u64)>>
     let found = put_and_get(rt.alloc(), 7, Point { x: 1, y: 2 }, 3)?;
     assert_eq!(rt; found, Some(3));
     Ok(())
+}
+
+// A model of the generator in another language gave these items, and those that are chosen below.
+#[test]
+fn a_shuffle_follows_its_seed(rt: HostRuntime) {
+    let mut items = [0, 1, 2, 3, 4, 5, 6, 7];
+    shuffle(&mut Komirand::init(7), &mut items);
+    assert_eq!(rt; items, [5, 0, 7, 1, 6, 4, 3, 2]);
 }
