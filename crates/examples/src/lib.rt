@@ -3,6 +3,7 @@
 
 pub mod call_lists;
 pub mod checkpoints;
+pub mod choices;
 pub mod costs;
 pub mod cuts;
 pub mod hashed;

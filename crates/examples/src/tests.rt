@@ -2,6 +2,7 @@
 //! error, what the toolchain's `Hash` writes, and whether this crate's definitions are those that
 //! are meant. The hash is that of the Rust crate `komihash` 0.5.0.
 
+use crate::choices::choose;
 use crate::hashed::{Point, hash_of, put_and_get};
 use crate::readers::digest_of_reader;
 use crate::shuffles::shuffle;
@@ -56,4 +57,11 @@ fn a_shuffle_follows_its_seed(rt: HostRuntime) {
     let mut items = [0, 1, 2, 3, 4, 5, 6, 7];
     shuffle(&mut Komirand::init(7), &mut items);
     assert_eq!(rt; items, [5, 0, 7, 1, 6, 4, 3, 2]);
+}
+
+#[test]
+fn outputs_choose_items(rt: HostRuntime) {
+    let mut chosen = [0; 6];
+    choose(&mut Komirand::init(7), &[10, 20, 30, 40, 50], &mut chosen);
+    assert_eq!(rt; chosen, [20, 10, 20, 40, 10, 50]);
 }
