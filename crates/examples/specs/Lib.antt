@@ -1,3 +1,4 @@
+pub mod Filters
 pub mod Profiles
 pub mod Shuffles
 pub mod Trees

@@ -6,6 +6,7 @@ pub mod checkpoints;
 pub mod choices;
 pub mod costs;
 pub mod cuts;
+pub mod filters;
 pub mod hashed;
 pub mod keys;
 pub mod known;

@@ -3,6 +3,7 @@
 //! are meant. The hash is that of the Rust crate `komihash` 0.5.0.
 
 use crate::choices::choose;
+use crate::filters::{contains, insert};
 use crate::hashed::{Point, hash_of, put_and_get};
 use crate::readers::digest_of_reader;
 use crate::shuffles::shuffle;
@@ -64,4 +65,14 @@ fn outputs_choose_items(rt: HostRuntime) {
     let mut chosen = [0; 6];
     choose(&mut Komirand::init(7), &[10, 20, 30, 40, 50], &mut chosen);
     assert_eq!(rt; chosen, [20, 10, 20, 40, 10, 50]);
+}
+
+#[test]
+fn a_filter_finds_what_was_inserted(rt: HostRuntime) {
+    let mut table = [false; 64];
+    assert!(rt; !contains(&table, &MESSAGE), "found in an empty table");
+    insert(&mut table, &MESSAGE[1..]);
+    insert(&mut table, &MESSAGE);
+    insert(&mut table, &[]);
+    assert!(rt; contains(&table, &MESSAGE), "not found");
 }
