@@ -16,6 +16,7 @@ pub mod numbers;
 pub mod own_streams;
 pub mod random;
 pub mod readers;
+pub mod rings;
 pub mod samples;
 pub mod shards;
 pub mod shuffles;

@@ -6,6 +6,7 @@ use crate::choices::choose;
 use crate::filters::{contains, insert};
 use crate::hashed::{Point, hash_of, put_and_get};
 use crate::readers::digest_of_reader;
+use crate::rings::server_of;
 use crate::shuffles::shuffle;
 use crate::stores::Journal;
 use komihash::Komirand;
@@ -75,4 +76,10 @@ fn a_filter_finds_what_was_inserted(rt: HostRuntime) {
     insert(&mut table, &MESSAGE);
     insert(&mut table, &[]);
     assert!(rt; contains(&table, &MESSAGE), "not found");
+}
+
+#[test]
+fn a_key_belongs_to_the_next_server(rt: HostRuntime) {
+    assert_eq!(rt; server_of(&[HASH - 1, HASH, HASH + 1], &MESSAGE), 1);
+    assert_eq!(rt; server_of(&[1, HASH - 1], &MESSAGE), 0);
 }
