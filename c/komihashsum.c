@@ -30,7 +30,8 @@ static const char HELP[] =
     "                        isn't 0, so that --check needs neither option\n"
     "  -b, --binary          print an asterisk in place of the second space\n"
     "  -t, --text            print two spaces, as without these options\n"
-    "  -z, --zero            end lines with a zero byte, and escape no name\n"
+    "  -z, --zero            end lines with a zero byte, and escape no name; --check\n"
+    "                        doesn't read such lines\n"
     "  -c, --check           read lines from each FILE, and check the files that they\n"
     "                        name. Lines of --tag tell their version and seed; for\n"
     "                        others, give the -4 and --seed that they were made with\n"
@@ -52,8 +53,11 @@ static const char HELP[] =
 /* What is told of a check: the last of these options counts. */
 enum { ALL, QUIET, STATUS, WARN };
 static int check, ignore_missing, progress, strict, tag, told;
-static struct kind { int version; uint64_t seed, hash; bool is_tagged; } given = {.version = 5};
-static unsigned long untagged[2]; /* lines without a version that match, and that don't */
+static struct kind { int version; uint64_t seed, hash, size; bool is_tagged; } given = {
+    .version = 5};
+/* Lines without a version that match, and that don't. Files of fewer than 64 bytes that match don't
+ * count, because many of them have the same hash in both versions. */
+static unsigned long untagged[2];
 static char mark, line_end = '\n'; /* what stands before a name, if asked for, and after a line */
 static unsigned char bytes[131072];
 static const struct option OPTIONS[] = {
@@ -197,6 +201,7 @@ static int hash_file(const char *name, struct kind *kind) {
         show_progress(file, name, total += length, all += length);
     }
     const int error = length < 0 ? errno : 0;
+    kind->size = total;
     if (progress)
         fputs(CLEAR, stderr), fflush(stderr);
     if (file > 0)
@@ -224,8 +229,6 @@ static bool print(bool is_escaped, const char *before, const char *name, const c
 /* Puts the special characters back in a name, and returns whether it was well formed. */
 static bool unescape(char *name, const char *last) {
     char *end = name;
-    if (memchr(name, 0, last - name))
-        return false;
     for (; name < last; name++) {
         const char *found = *name != '\\' ? name : *++name ? strchr(LETTERS, *name) : NULL;
         if (!found)
@@ -320,7 +323,7 @@ static char *parse_line(char *line, char *last, struct kind *kind) {
 }
 
 /* What may come of a line of a list, and what is printed then. */
-enum { MATCHES, DIFFERS, UNREADABLE, MISSING, MALFORMED, RESULTS };
+enum { MATCHES, DIFFERS, UNREADABLE, MISSING, MALFORMED, WIDE, ZERO, RESULTS };
 static const char *const TEXTS[] = {": OK", ": FAILED", ": FAILED open or read"};
 
 /* Checks a file, and returns and prints the result. */
@@ -332,7 +335,7 @@ static int check_file(const char *name, struct kind kind) {
     if (error)
         fail(name, strerror(error));
     const int result = error ? UNREADABLE : kind.hash == wanted ? MATCHES : DIFFERS;
-    if (result <= DIFFERS && !kind.is_tagged)
+    if (!kind.is_tagged && (result == DIFFERS || (result == MATCHES && kind.size > 63)))
         untagged[result]++;
     if (told != STATUS && !(told == QUIET && result == MATCHES))
         print(strchr(name, '\n'), "", name, TEXTS[result]);
@@ -352,6 +355,9 @@ static void warn_of(unsigned long count, const char *one, const char *more, cons
 
 /* Reports the results of a list, and returns whether there is nothing wrong with it. */
 static bool report(const char *name, const unsigned long *counts) {
+    if (counts[WIDE] || counts[ZERO])
+        return fail(name, counts[WIDE] ? "this list is in UTF-16: save it as UTF-8" :
+            "this list has a zero byte, as --zero writes: make it without --zero");
     if (!counts[MATCHES] && !counts[DIFFERS] && !counts[UNREADABLE] && !counts[MISSING])
         return fail(name, "no properly formatted checksum lines found");
     warn_of(counts[MALFORMED], "line is", "lines are", "improperly formatted");
@@ -378,7 +384,10 @@ static bool check_list(const char *name) {
         if (lines == 0 && strncmp(line, "\xEF\xBB\xBF", 3) == 0)
             line += 3, length -= 3;
 #endif
-        const char *file = parse_line(line, line + length, &kind);
+        const char *zero = memchr(line, 0, length);
+        if (zero) /* UTF-16 has one in each character of a list, and --zero after a hash. */
+            counts[lines == 0 && zero < line + 4 ? WIDE : ZERO]++;
+        const char *file = zero ? NULL : parse_line(line, line + length, &kind);
         if (file && (number || strcmp(file, "-")))
             counts[check_file(file, kind)]++;
         else if (length && *line != '#') {
@@ -444,7 +453,7 @@ static int run(int count, char **arguments) {
     bool holds = true;
     for (; optind < count; optind++)
         holds = (check ? check_list : print_hash)(arguments[optind]) && holds;
-    warn_of(untagged[MATCHES] ? 0 : untagged[DIFFERS], "line that failed has",
+    warn_of(untagged[DIFFERS] > untagged[MATCHES] ? untagged[DIFFERS] : 0, "line that failed has",
         "lines that failed have", "no version: was the list made with the same -4 and --seed?");
     return !holds || ferror(stderr);
 }

@@ -74,10 +74,6 @@ compared() {
         $sum /proc/self/mem; echo $?; $sum plain > /dev/full; echo $?; $sum plain >&-'
     run_case 'komihashsum beside sha256sum, a list of odd names' \
         beside '$sum -- * > $list 2>&1; $sum --check $list; $sum -c - < $list'
-    run_case 'komihashsum beside sha256sum, zero bytes in a list' beside '$sum -b plain > $list
-        printf "\0\0  x\n" >> $list; $sum plain | tr p "\0" >> $list
-        $sum -- *slash | tr -d "\n" >> $list
-        printf "\0evil\n" >> $list; $sum --strict -c $list'
     run_case 'komihashsum beside sha256sum, lines with asterisks' \
         beside 'for marks in -b --binary -t --text -bt -tb "-t --tag" "--text --tag -b"; do
             $sum $marks plain - < large; done'
@@ -193,8 +189,27 @@ tagged() (
         head -n 4 tags | komihashsum -4s9 -cw --status &&
         fails '1 line that failed has no version' komihashsum -cs9 tags &&
         [ -z "$(komihashsum -cs9 --status tags 2>&1)" ] &&
-        ! { sed 's/= ..../= 0000/' tags; echo '0000000000000000  a'; } |
-            komihashsum -c 2>&1 | grep 'no version'
+        ! sed 's/= ..../= 0000/' tags | komihashsum -c 2>&1 | grep 'no version'
+)
+
+# Whether lists with zero bytes, of which sha256sum checks some lines, fail with their own message.
+zero_bytes() (
+    cd "$scratch" && printf a > a && komihashsum -z a a > z && komihashsum a > comment &&
+        printf '# \0\n' >> comment || return
+    for list in z comment; do
+        fails "^komihashsum: $list: this list has a zero byte" komihashsum --check $list || return
+    done
+    for mark in '\377\376' ''; do
+        printf "${mark}K\0O\0\r\0\n\0" > wide
+        fails '^komihashsum: wide: this list is in UTF-16' komihashsum -c --status wide || return
+    done
+)
+# Whether a list by the other version is told if files below 64 bytes, which may have the same hash
+# in both, match. A list in which one of two longer files fails has no such note.
+by_other_version() (
+    cd "$scratch" && printf a > a && seq 30 > b && seq 40 > c && komihashsum -4 a a b > list &&
+        fails '1 line that failed has no version' komihashsum -c list && komihashsum b c > list &&
+        echo >> b && ! komihashsum -c list 2>&1 | grep 'no version'
 )
 
 # Whether files about as long as a read, and a far longer one, have the hashes that the Rust crate
@@ -231,6 +246,8 @@ END
 run_case 'komihashsum, versions and seeds' seeded
 run_case 'komihashsum, long files, by name and through pipes' hashes_long_files
 run_case 'komihashsum, lines that tell version and seed' tagged
+run_case 'komihashsum, lists with zero bytes' zero_bytes
+run_case 'komihashsum, a list by another version' by_other_version
 run_case 'komihashsum, a decimal seed' prints '615eba9060114e6f  -' \
     komihashsum -s 09223372036854775808 < /dev/null
 run_case 'komihashsum, arguments that are wrong' refuses -x --check=1 --seed= --seed=-1 --seed=7x \
