@@ -1,10 +1,10 @@
 #!/bin/sh
-# Prints komihash_rattle.js with other WebAssembly in its last line, and with the version of the
-# compiler that made it, and the SHA-256 of what ../c/assembly.sh reads: build.sh FILE.
+# Prints komihash_rattle.js with other WebAssembly in its last line, and with the version of
+# Debian's compiler, and the SHA-256 of what ../c/assembly.sh reads: build.sh FILE.
 set -eu
 here=$(dirname "$0")
-compiler=$(grep -aoE '[0-9.]+ \([0-9a-f]+ [0-9-]+\)' "$1")
+compiler=$(/usr/bin/rustc --version | cut -d ' ' -f -4)
 made_of=$(bash "$here/../c/assembly.sh" "$here/../rust")
 sed '$d' "$here/komihash_rattle.js"
 echo "function webAssembly() { return '$(base64 < "$1" | tr -d '\n')'; }" \
-    "// rustc $compiler, SHA-256 $made_of"
+    "// $compiler, SHA-256 $made_of"

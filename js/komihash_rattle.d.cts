@@ -17,6 +17,8 @@ declare class Stream<V extends Version> {
     /** Begins anew with the seed. Throws a TypeError if `resume` was not passed it. */
     reset(): this;
     update(message: Message): this;
+    /** Returns another stream with all bytes so far, for whose constructor the arguments are. */
+    copy(...given: unknown[]): this;
     /** Returns the hash of all bytes so far. The stream may take more. */
     digest(): bigint;
     /** Returns the same as 16 hexadecimal digits. */

@@ -58,7 +58,7 @@ for (const more of [-1, 0, 1])
     test("a message near a piece", !hash(v5, 7n, long.slice(0, 2 ** 18 + more)).includes(","));
 const Shared = globalThis.SharedArrayBuffer ?? ArrayBuffer; // which pages may lack
 test("shared memory", komihash(new Shared(9)) === komihash(new Uint8Array(9)));
-for (const text of ["", "aß€😀", "€".repeat(1e5), "€".repeat(2e5)])
+for (const text of ["", "aß€😀", "€".repeat(1e5), "€".repeat(2e5), `a${"😀".repeat(2e5)}\ud83d`])
     test("a string", komihash(text, 7n) === komihash(new TextEncoder().encode(text), 7n));
 class Odd extends Uint8Array {
     byteLength = 3; length = 3; subarray = () => this; keys = () => { throw 0; };
@@ -125,6 +125,14 @@ test("saved texts", Komihash.resume(saved[0]).digest() === v5.komihash("ä"));
 const begun = new Komihash(7).update("a"), known = Komihash.resume(begun.save(), 7n);
 for (const stream of [begun, known])
     test("a reset stream", stream.reset().update("b").hexdigest() === komihashHex("b", 7));
+const copied = known.copy();
+known.update("c");
+test("a copy", copied.update("d").digest() === komihash("bd", 7));
+test("the seed of a copy", copied.copy().reset().digest() === komihash("", 7));
+// @ts-expect-error
+test("a form of a digest", throws(TypeError, () => known.digest("hex"), "hexdigest"));
+const many = Array.from({ length: 200 }, (_, at) => new Komihash(at).update("a"));
+test("many streams", many.every((it, at) => it.update("b").digest() === komihash("ab", at)));
 const unknown = Komihash.resume(saved[0]);
 test("a stream without a seed", throws(TypeError, () => unknown.reset(), "^the seed of a reset"));
 test("it is unchanged", unknown.digest() === komihash("ä"));
@@ -140,6 +148,7 @@ class Named extends Komihash {
 }
 const named = Named.resume(saved[0], { name: "a" }).update("b");
 test("a subclass", named.count() === 1 && named.name === "a");
+test("its copy", named.copy({ name: "b" }).name === "b" && throws(TypeError, () => named.copy()));
 const texts = ["ab", "x".repeat(100)], streams = texts.map((it) => new Komihash(7n).update(it));
 test("streams in turn", streams.every((it, k) => it.digest() === komihash(texts[k], 7n)));
 test("the stream of a subclass", named.digest() === komihash("äb"));

@@ -56,7 +56,7 @@ has_pages() {
     done
 }
 made_of_web() {
-    from_rust 'wasm32-unknown-unknown -C linker=wasm-ld' wasm "OUT=$scratch/web" &&
+    from_rust 'wasm32-unknown-unknown -C linker=wasm-ld -C strip=symbols' wasm "OUT=$scratch/web" &&
         sh js/build.sh "$scratch/web/komihash_rattle.wasm" | cmp - js/komihash_rattle.js
 }
 names_for_macos() {
