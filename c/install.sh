@@ -29,6 +29,7 @@ each_file() {
     for file in $programs; do "$1" 755 "$OUT/$file" "$bindir/$file"; done
     [ "$(echo $libraries)" ] || return 0 # only the program was asked for
     "$1" 644 komihash_rattle.h "$includedir/komihash_rattle.h"
+    "$1" 644 komihash_rattle_inline.h "$includedir/komihash_rattle_inline.h"
     "$1" 644 komihash_rattle/komihash.h "$includedir/komihash_rattle/komihash.h"
     for file in "$made"/*.pc; do "$1" 644 "$file" "$libdir/pkgconfig/${file##*/}"; done
     for file in "$made"/*.cmake; do

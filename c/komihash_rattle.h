@@ -67,9 +67,9 @@ extern "C" {
 #endif
 
 /* The version of this library, whose first number is that of the soname. */
-#define KOMIHASH_RATTLE_VERSION "1.5.0"
+#define KOMIHASH_RATTLE_VERSION "1.6.0"
 #define KOMIHASH_RATTLE_VERSION_MAJOR 1
-#define KOMIHASH_RATTLE_VERSION_MINOR 5
+#define KOMIHASH_RATTLE_VERSION_MINOR 6
 #define KOMIHASH_RATTLE_VERSION_PATCH 0
 
 /* What `unpad` returns instead of a length. */

@@ -251,12 +251,18 @@ export WINEDLLOVERRIDES='mscoree,mshtml=' CARGO_TARGET_DIR=$scratch/crate
 python=$(make -s -C c python) || python=python3-with-z3-and-capstone
 
 always run_case 'the package of the library for C is made again from itself' unpack
+inline_made_of_crate() {
+    cd "$scratch"/libkomihash_rattle-*/ && python3 -B inline.py rust |
+        cmp - komihash_rattle_inline.h
+}
 arm=aarch64-linux-gnu
 library() {
     local windows=x86_64-w64-mingw32
     run_case 'the assembly and the WebAssembly name their sources' names_its_sources
     by_its_compiler c/assembly/x86_64.S "$debian" 'the assembly is made of the crate for Rust' \
         made_of_crate
+    needs python3 'the header alone is made of the crate for Rust' inline_made_of_crate
+    part_with python3 python3 -B c/tests/inline.py rust
     part in_package check
     # Debian ends the server of wine with each program, and then one program in some 500 finds none.
     mkdir "$WINEPREFIX" && wineserver -p3600 < /dev/null > "$scratch/case" 2>&1

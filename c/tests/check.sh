@@ -399,10 +399,13 @@ while read -r file; do
 done < "$scratch/libraries"
 
 hash=a53b9c6b9eb8afe9 hash_of_a='5117f5064cfd0faa  -'
+. ./tests/inline.sh
 if [ "$system" = Windows ]; then
     run_case "$dll needs no other library" without_libraries
     run_case "$dll, by LoadLibrary" prints $hash opened_on_windows
     needs 'clang lld-link' 'calls for the ABI of MSVC, by clang' for_msvc
+    needs 'clang lld-link' 'the header alone for the ABI of MSVC, by clang' made_for_msvc
+    needs 'clang lld-link' 'the header alone for the ABI of MSVC, by clang' made_for_msvc
 fi
 sed -n '/^```c$/,/^```$/{/^```/!p;}' README.md > "$scratch/example.c"
 for compiler in "$CC" ${clang:+"$clang"}; do
@@ -419,6 +422,7 @@ for compiler in "$CC" ${clang:+"$clang"}; do
         -std=c11 -I "$prefix/include" "$archive"
     needs pkg-config "the example in C, by $name and pkg-config" \
         prints $hash runs_by_package komihash_rattle -std=c11 "$scratch/example.c"
+    inlined_cases "$name"
 done
 if [ ! "$CROSS" ]; then
     for compiler in "$CXX" clang++; do
@@ -427,6 +431,8 @@ if [ ! "$CROSS" ]; then
         needs "${compiler%% *}" "the names of the C original, by $compiler" \
             original -x c++ -std=c++11
         needs "${compiler%% *}" "no call throws, by $compiler" no_exceptions
+        needs "${compiler%% *}" "the example in C++ with the header alone, by $compiler" \
+            prints $hash inlined_in_cpp
     done
     needs cmake 'the tests, by ctest' sh -c 'cmake -B "$0" . && cd "$0" && MANDIR=$PWD/none \
         libdir=$PWD/none CASE="is installed" ctest --no-tests=error --output-on-failure &&

@@ -1,0 +1,70 @@
+# Tests the header that is all of the library, by the programs that test the library. check.sh
+# sources this.
+mkdir "$scratch/inline" && cat > "$scratch/inline/komihash_rattle.h" << 'END'
+#include "komihash_rattle_inline.h"
+END
+cat > "$scratch/inline/library.c" << 'END'
+#define KOMIHASH_RATTLE_IMPLEMENTATION
+#include "komihash_rattle_inline.h"
+END
+inline="-I $scratch/inline -I ."
+
+# Compiles calls.c with the header in place of the library, and these options: inlined OPTION..
+inlined() {
+    for number in 4 5; do
+        rows $number | runs -std=c99 -D "VERSION=$number" $inline "$@" tests/calls.c || return
+    done
+}
+# Makes an object of the header by $compiler, with these options, and without a warning.
+made() {
+    $compiler $inline -O2 -c -o "$scratch/made.o" -Wall -Wextra -Wpedantic -Wconversion -Wshadow \
+        -Werror "$@" "$scratch/inline/library.c"
+}
+defined() { "$NM" -P "$scratch/made.o" | awk '$2 == "T" { print $1 }' | sort; }
+# Whether that has the functions of the header and needs nothing, and calls.c runs with it.
+made_library() {
+    made -std=c99 -ffreestanding &&
+        ! "$NM" -P "$scratch/made.o" | grep -vx '_GLOBAL_OFFSET_TABLE_ U.*' | grep -E '^[^ ]* U' &&
+        defined | diff "$scratch/declared" - && calls "$scratch/made.o"
+}
+# Whether all its names begin with a prefix, and a shared library of it exports none; calls.c runs
+# with it by the same definitions.
+prefixed_and_hidden() {
+    options='-D KOMIHASH_RATTLE_PREFIX=mine_ -D KOMIHASH_RATTLE_HIDDEN'
+    made -std=c99 -fPIC $options && defined | sed 's/^mine_//' | diff "$scratch/declared" - &&
+        $compiler -shared -o "$scratch/made.so" "$scratch/made.o" &&
+        ! "$NM" -D "$scratch/made.so" | grep komi &&
+        inlined $options -D KOMIHASH_RATTLE_EXTERN "$scratch/made.o"
+}
+inlined_in_cpp() {
+    made -x c++ -std=c++11 && defined | diff "$scratch/declared" - &&
+        runs $inline -std=c++17 examples/example.cpp
+}
+# Compiles the header as MSVC reads it, and links it alone.
+made_for_msvc() {
+    mkdir "$scratch/msvc" && echo 'void *memcpy(void *, const void *, size_t);' \
+        > "$scratch/msvc/string.h" && cat > "$scratch/msvc/intrin.h" << 'END' || return
+static __inline uint64_t _umul128(uint64_t x, uint64_t y, uint64_t *high) {
+    const unsigned __int128 product = (unsigned __int128)x * y;
+    *high = (uint64_t)(product >> 64);
+    return (uint64_t)product;
+}
+END
+    clang --target=x86_64-pc-windows-msvc -U__clang__ -U__SIZEOF_INT128__ -isystem "$scratch/msvc" \
+        -std=c99 -Wall -Wextra -Werror $inline -O2 -c -o "$scratch/msvc.obj" "$scratch/msvc.c" &&
+        lld-link -entry:start -subsystem:console -nodefaultlib "-out:$program" \
+            "$scratch/msvc.obj" && $RUN "$program"
+}
+inlined_cases() { # NAME
+    run_case "calls.c with the header alone, by $1" prints "$values" inlined -O2
+    run_case "calls.c with the header alone and without 128-bit products, not optimized, by $1" \
+        prints "$values" inlined -O0 -U__SIZEOF_INT128__
+    run_case "calls.c with a library that the header makes, by $1" prints "$values" made_library
+    run_case "the example in C with the header alone, by $1" \
+        prints $hash runs $inline "$scratch/example.c"
+    [ ! "$CROSS" ] || return 0
+    run_case "calls.c with a hidden library of the header and other names, by $1" \
+        prints "$values" prefixed_and_hidden
+    run_case "calls.c with the header alone and sanitizers, by $1" prints "$values" inlined -O1 -g \
+        -fsanitize=address,undefined -fno-sanitize-recover=all
+}
