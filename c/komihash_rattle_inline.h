@@ -69,27 +69,24 @@
 #define KOMI_API
 #endif
 #ifdef KOMI_GNU
+#define KOMI_COPY(to, from, length) __builtin_memcpy(to, from, length) /* also if freestanding */
 #define KOMI_INLINE __attribute__((always_inline)) static inline
 #define KOMI_APART __attribute__((noinline, unused)) static
-#elif defined(_MSC_VER)
+#else
+#define KOMI_COPY(to, from, length) memcpy(to, from, length)
+#ifdef _MSC_VER
 #define KOMI_INLINE static __forceinline
 #define KOMI_APART static __declspec(noinline)
 #else
 #define KOMI_INLINE static inline
 #define KOMI_APART static
 #endif
+#endif
 /* Hashes of short messages, which the compiler may inline where a caller knows the length. */
 #ifdef KOMIHASH_RATTLE_IMPLEMENTATION
 #define KOMI_SHORT KOMI_APART
 #else
 #define KOMI_SHORT static inline
-#endif
-
-/* gcc and clang make no call of this, also in freestanding code. */
-#ifdef KOMI_GNU
-#define KOMI_COPY(to, from, length) __builtin_memcpy(to, from, length)
-#else
-#define KOMI_COPY(to, from, length) memcpy(to, from, length)
 #endif
 
 #ifdef KOMIHASH_RATTLE_PREFIX
@@ -310,8 +307,10 @@ KOMI_API komihash_v5_rand komihash_v5_rand_init_words(uint64_t s1, uint64_t s2) 
 KOMI_API komihash_v4_rand komihash_v4_rand_init_words(uint64_t s1, uint64_t s2) KOMIHASH_NOEXCEPT;
 
 /* Returns the next output. */
-KOMIHASH_NONNULL KOMI_API uint64_t komihash_v5_rand_next(komihash_v5_rand *rand) KOMIHASH_NOEXCEPT;
-KOMIHASH_NONNULL KOMI_API uint64_t komihash_v4_rand_next(komihash_v4_rand *rand) KOMIHASH_NOEXCEPT;
+KOMIHASH_NONNULL
+KOMI_API uint64_t komihash_v5_rand_next(komihash_v5_rand *rand) KOMIHASH_NOEXCEPT;
+KOMIHASH_NONNULL
+KOMI_API uint64_t komihash_v4_rand_next(komihash_v4_rand *rand) KOMIHASH_NOEXCEPT;
 
 /* Fills `out` with the bytes of the next outputs, the lowest byte of each first. Takes an output
  * for each eight bytes, and one more for a remainder, which gets its lowest bytes; its other bytes
@@ -395,20 +394,13 @@ KOMI_INLINE uint32_t komi_load_u32(const uint8_t *at) {
 }
 
 KOMI_INLINE uint64_t komi_load_u64(const uint8_t *at) {
-    return at[0] | (uint64_t)at[1] << 8 | (uint64_t)at[2] << 16 | (uint64_t)at[3] << 24 |
-        (uint64_t)at[4] << 32 | (uint64_t)at[5] << 40 | (uint64_t)at[6] << 48 |
-        (uint64_t)at[7] << 56;
+    return komi_load_u32(at) | (uint64_t)komi_load_u32(at + 4) << 32;
 }
 
 KOMI_INLINE void komi_store_u64(uint8_t *at, uint64_t word) {
-    at[0] = (uint8_t)word;
-    at[1] = (uint8_t)(word >> 8);
-    at[2] = (uint8_t)(word >> 16);
-    at[3] = (uint8_t)(word >> 24);
-    at[4] = (uint8_t)(word >> 32);
-    at[5] = (uint8_t)(word >> 40);
-    at[6] = (uint8_t)(word >> 48);
-    at[7] = (uint8_t)(word >> 56);
+    for (int i = 0; i < 8; i++) {
+        at[i] = (uint8_t)(word >> (8 * i));
+    }
 }
 #endif
 

@@ -6,7 +6,7 @@ from pathlib import Path
 
 sys.dont_write_bytecode = True
 sys.path.insert(0, str(Path(__file__).resolve().parent.parent))
-from inline import by_hand, header, sources_of  # noqa: E402
+from inline import header, sources_of  # noqa: E402
 
 EDITS = [
     # What C computes as an int, or in another order, or negates otherwise.
@@ -45,7 +45,7 @@ def main():
     for module, old, new in EDITS:
         path = f"{sys.argv[1]}/src/{module}.rs"
         try:
-            header(sources | {path: sources[path].replace(old, new)}, *by_hand())
+            header(sources | {path: sources[path].replace(old, new)})
             told = "not refused" if old in sources[path] else "not found"
         except SystemExit as refusal:
             told = str(refusal)
