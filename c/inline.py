@@ -404,8 +404,9 @@ class Function:
         return value
 
     def chosen(self, condition, yes, no):
-        if yes.parts:
-            return tuple_of([self.chosen(condition, *both) for both in zip(yes.parts, no.parts)])
+        if yes.parts:  # two words at once, without a jump
+            return tuple_of([Value(f"komi_either({condition.text}, {one.text}, {other.text})", "u64")
+                             for one, other in zip(yes.parts, no.parts)])
         return Value(f"{condition.within('||')} ? {yes.within('||')} : {no.within('?')}",
                      no.type if yes.type in ("int", "None") else yes.type, "?")
 

@@ -63,7 +63,7 @@
 /* Functions of the library, those that are always inlined, and those that never are. */
 #if !defined(KOMIHASH_RATTLE_IMPLEMENTATION) && !defined(KOMIHASH_RATTLE_EXTERN)
 #define KOMI_API static inline
-#elif defined(KOMIHASH_RATTLE_HIDDEN) && defined(KOMI_GNU)
+#elif defined(KOMIHASH_RATTLE_HIDDEN) && defined(KOMI_GNU) && !defined(_WIN32)
 #define KOMI_API __attribute__((visibility("hidden")))
 #else
 #define KOMI_API
@@ -127,7 +127,7 @@
 #define komihash_v5_rand KOMI_NAME(komihash_v5_rand)
 #endif
 
-/* Arrays by value. */
+/* Arrays by value */
 typedef struct { uint64_t at[8]; } komi_block;
 typedef struct { size_t at[8]; } komi_indices;
 
@@ -371,8 +371,7 @@ KOMI_INLINE komi_words komi_words_of(const uint64_t *at, size_t length) {
 }
 
 /* Words in memory have the lowest byte first. Compilers know the sums of shifted bytes. */
-#if defined(_MSC_VER) || \
-    (defined(__BYTE_ORDER__) && __BYTE_ORDER__ == __ORDER_LITTLE_ENDIAN__)
+#if defined(_MSC_VER) || (defined(__BYTE_ORDER__) && __BYTE_ORDER__ == __ORDER_LITTLE_ENDIAN__)
 KOMI_INLINE uint32_t komi_load_u32(const uint8_t *at) {
     uint32_t word;
     KOMI_COPY(&word, at, 4);
@@ -404,12 +403,21 @@ KOMI_INLINE void komi_store_u64(uint8_t *at, uint64_t word) {
 }
 #endif
 
+/* Returns one of two words, by a mask where gcc would jump, which a processor has to guess. */
+KOMI_INLINE uint64_t komi_either(bool condition, uint64_t yes, uint64_t no) {
+#if defined(__GNUC__) && !defined(__clang__)
+    return no ^ ((yes ^ no) & -(uint64_t)condition);
+#else
+    return condition ? yes : no;
+#endif
+}
+
 KOMI_INLINE size_t komi_min(size_t x, size_t y) {
     return x < y ? x : y;
 }
 
 KOMI_INLINE uint64_t komi_rotate_left(uint64_t x, uint32_t bits) {
-    return x << bits | x >> (-bits & 63);
+    return x << bits | x >> ((64 - bits) & 63);
 }
 
 /* Returns the index of the highest bit that is set. One is. */
@@ -757,8 +765,8 @@ KOMI_INLINE uint64_t komi_hash_from_pair(komi_pair pair, komi_bytes left, uint64
     uint64_t final_word) {
     pair = komi_round_each_bytes(pair, left);
     /* The closing of one word is that of two, the second of which is 0. So it needs no jump. */
-    uint64_t first = left.length / 8 % 2 == 1 ? last_whole_word : final_word;
-    uint64_t second = left.length / 8 % 2 == 1 ? final_word : 0;
+    uint64_t first = komi_either(left.length / 8 % 2 == 1, last_whole_word, final_word);
+    uint64_t second = komi_either(left.length / 8 % 2 == 1, final_word, 0);
     return komi_close(pair, first, second);
 }
 
@@ -1504,10 +1512,8 @@ KOMI_API uint64_t komihash_v5_finish(const komihash_v5_stream *stream) KOMIHASH_
 
 KOMI_API size_t komihash_v5_save(const komihash_v5_stream *stream, void *out, size_t room)
     KOMIHASH_NOEXCEPT {
-    if (room < KOMIHASH_LONGEST_TEXT) {
-        return 0;
-    }
-    return komi_stream_store(5, &stream->internal, (uint8_t *)out);
+    return room < KOMIHASH_LONGEST_TEXT ? 0 :
+        komi_stream_store(5, &stream->internal, (uint8_t *)out);
 }
 
 KOMI_API bool komihash_v5_resume(komihash_v5_stream *stream, const void *text, size_t length)
@@ -1550,10 +1556,8 @@ KOMI_API size_t komihash_v5_pad(const void *bytes, size_t length, uint64_t *out,
 
 KOMI_API size_t komihash_v5_unpad(const uint64_t *words, size_t length, void *out, size_t room)
     KOMIHASH_NOEXCEPT {
-    if (length > room / 8) {
-        return KOMIHASH_NONE;
-    }
-    return komi_unpad(5, komi_words_of(words, length), (uint8_t *)out);
+    return length > room / 8 ? KOMIHASH_NONE :
+        komi_unpad(5, komi_words_of(words, length), (uint8_t *)out);
 }
 
 
@@ -1582,10 +1586,8 @@ KOMI_API uint64_t komihash_v4_finish(const komihash_v4_stream *stream) KOMIHASH_
 
 KOMI_API size_t komihash_v4_save(const komihash_v4_stream *stream, void *out, size_t room)
     KOMIHASH_NOEXCEPT {
-    if (room < KOMIHASH_LONGEST_TEXT) {
-        return 0;
-    }
-    return komi_stream_store(4, &stream->internal, (uint8_t *)out);
+    return room < KOMIHASH_LONGEST_TEXT ? 0 :
+        komi_stream_store(4, &stream->internal, (uint8_t *)out);
 }
 
 KOMI_API bool komihash_v4_resume(komihash_v4_stream *stream, const void *text, size_t length)
@@ -1628,10 +1630,8 @@ KOMI_API size_t komihash_v4_pad(const void *bytes, size_t length, uint64_t *out,
 
 KOMI_API size_t komihash_v4_unpad(const uint64_t *words, size_t length, void *out, size_t room)
     KOMIHASH_NOEXCEPT {
-    if (length > room / 8) {
-        return KOMIHASH_NONE;
-    }
-    return komi_unpad(4, komi_words_of(words, length), (uint8_t *)out);
+    return length > room / 8 ? KOMIHASH_NONE :
+        komi_unpad(4, komi_words_of(words, length), (uint8_t *)out);
 }
 
 #endif
