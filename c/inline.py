@@ -48,6 +48,8 @@ BY_POINTERS = {"Option<StreamedKomihash>": ["komi_stream *resumed"],
                "(u64,u64)": ["uint64_t *first", "uint64_t *second"],
                "(bool,bool)": ["bool *first", "bool *second"]}
 SCALE = {"[u8;8]": 8, "[u64;2]": 2}  # elements of slices that C counts by several of theirs
+SCALARS = {**dict.fromkeys(("wrapping_add", "to_le_bytes", "ilog2", "rotate_left"), "u64"),
+           "min": "usize"}  # methods of numbers, and their types
 NAMELESS = {"XoredPair": ["low", "e"]}  # what C calls fields without a name
 MARKS = {"inline(always)": "KOMI_INLINE", "inline(never)": "KOMI_APART",
          "cfg_attr(any(debug_assertions,for_c),inline(never))": "KOMI_SHORT"}
@@ -292,13 +294,11 @@ class Function:
             known(not types and (
                 level < 3 or type in ("u64", "usize") or level != 6 and type == "int" or
                 op in "&|/%" and type in NUMBERS))
-            known((level < 2) == (type == "bool") or level == 2 and type in {"int", *NUMBERS})
             left = left.joined(op, right)
             left.type = "bool" if level < 3 else type
         return left
 
     def converted(self, value, type):
-        known(type in NUMBERS and value.type in {"bool", *NUMBERS})
         return Value(f"({NUMBERS[type]}){value.within('unary')}", type, "unary")
 
     def unary(self):
@@ -368,8 +368,7 @@ class Function:
         if name == "Some":
             type = f"Option<{value.type.replace('int', 'usize')}>"
             return Value(value.text, type, value.op, value.parts)
-        known(len(values) == len(NAMELESS[name]))
-        return braces(name, values)
+        return braces(name, values if name in NAMELESS else known(False))
 
     def arguments(self):
         self.take("(")
@@ -415,7 +414,6 @@ class Function:
         bound = re.sub("^&(?=[A-Z])", "", values[1].type) if "W:" in (it["of"] or "") else ""
         done, own = self.crate.printed(key, bound), list(numbers_in(it["of"]))
         self.stand()
-        known(len(values) == len(done.parameters) and len(numbers) == len(own))
         given = dict(zip(own, numbers))
         texts = [given.get(name) or self.names[name].text for name in done.numbers]
         texts += [self.passed(value, type, name in done.pointers)
@@ -431,14 +429,9 @@ class Function:
 
     def passed(self, value, wanted, is_pointer):
         """Returns the text of a value where a type is wanted."""
-        array, to = element(value.type), element(wanted)
         known(not value.changes and not value.parts)
-        if not to or wanted[0] != "&":
-            known(wanted in (value.type, value.type.replace("mut", "")) or
-                  value.type == "int" and wanted in ("u64", "usize"))
+        if not element(wanted) or wanted[0] != "&":
             return value.text
-        known(value.type[0] == "&" and to[1] == array[1] and to[2] in (None, array[2]) and
-              ("mut" in array[0] or "mut" not in to[0]))
         if is_pointer or value.type == wanted:
             return value.start().text if is_pointer else value.text
         return f"{TYPES[wanted]}_of({value.start().text}, {value.count().text})"
@@ -479,14 +472,12 @@ class Function:
         if name == "unwrap":  # of a chunk, which is there
             known(re.match(r"\(?&(mut)?\[u8;", value.type))
             return value
+        known(value.type == SCALARS.get(name, value.type))
         if name == "wrapping_add":
-            known(value.type == given[0].type == "u64" or given[0].type == "int")
             return value.joined("+", given[0])
         if name == "to_le_bytes":
-            known(value.type == "u64")
             return Value(value.text, "bytes of u64", value.op)
-        if name in ("ilog2", "rotate_left", "min"):
-            known(value.type == ("usize" if name == "min" else "u64"))
+        if name in SCALARS:
             return Value(f"komi_{name}({', '.join(part.within('?') for part in [value] + given)})",
                          "u32" if name == "ilog2" else value.type)
         return self.of_slice(value, name, [*numbers, *given], element(value.type), value.count())
@@ -515,7 +506,6 @@ class Function:
 
     # Statements.
     def emit(self, *texts):
-        known("@" not in "".join(texts))
         self.lines += [(self.depth, text) for text in texts]
 
     def block(self, target):
@@ -570,17 +560,14 @@ class Function:
 
     def assign(self, to, op, value):
         if value.type == "bytes of u64":
-            known(to.type in ("[u8;8]", "[u8;_]"))
             return self.emit(f"komi_store_u64({to.start().text}, {value.text});")
         if to.type.startswith("[u8;"):
-            known(value.type.startswith("[u8;"))
             return self.emit(f"KOMI_COPY({to.start().text}, {value.start().text}, "
                              f"{element(to.type)[2]});")
         if to.type == "later":
             to.type = value.type
             later = self.lines.index((self.depth - 1, "later " + to.text))
             self.lines[later] = self.depth - 1, declared(value.type, to.text) + ";"
-        known(value.type in (to.type, "int"))
         return self.emit(f"{to.text} {op} {self.unbraced(value, 'zeros')};")
 
     def unbraced(self, value, name):
@@ -604,7 +591,6 @@ class Function:
             self.emit(*[f"*{name} = {part.text};"
                         for name, part in zip(("first", "second"), value.parts)])
         elif target == "return":
-            known(value.type in (self.result, "int", "None"))
             value.type = self.result
             self.emit(f"return {self.unbraced(value, 'result')}".rstrip() + ";")
         elif not target and value.op == "?":
@@ -668,7 +654,6 @@ class Function:
         if isinstance(pattern, str):
             return [[(pattern, value)]] if pattern != "_" else []
         if value.parts:
-            known(len(pattern) == len(value.parts))
             return [group for both in zip(pattern, value.parts) for group in self.groups(*both)]
         array = element(value.type)
         if value.type.startswith("("):  # The call returns it by pointers.

@@ -1,6 +1,8 @@
 #!/usr/bin/env python3
 """Tests that inline.py refuses code that it doesn't know, with file and line: inline.py CRATE. Each
-edit of the crate is one that C would take in another way, or not at all."""
+edit of the crate is one that C would take in another way, or not at all. Also tests that no comment
+of the header speaks of Rust."""
+import re
 import sys
 from pathlib import Path
 
@@ -9,23 +11,33 @@ sys.path.insert(0, str(Path(__file__).resolve().parent.parent))
 from inline import header, sources_of  # noqa: E402
 
 EDITS = [
-    # What C computes as an int, or in another order, or negates otherwise.
+    # C computes what is narrower than an int as an int, negates otherwise, and chooses an order.
     ("padding", "byte >= 128", "byte + 1 >= 128"), ("utils", "end << 32", "1 << 32"),
-    ("padding", "byte >= 128", "byte >> 1 >= 64"), ("utils", "end << 32", "end << n as i32"),
-    ("generator", "low ^ s2 }", "low ^ self.step() }"), ("padding", "(63 - shift)", "(!shift)"),
-    ("rounds", "mix(a, e, e)", "mix(a, e, -1)"),
-    # What C would not refuse, but do otherwise.
-    ("rounds", "[0, 4, 1, 5, 2, 6, 3, 7]", "[0, 4, 1, 5]"), ("rounds/pending", "[0; 8]", "[1; 8]"),
-    ("utils", "u64::from_le_bytes", "u64::from_be_bytes"), ("hash", "seed_pair(seed);", "seed;"),
-    ("utils", "u32::from_le_bytes", "u64::from_le_bytes"),
+    ("padding", "byte >= 128", "byte >> 1 >= 64"), ("padding", "(63 - shift)", "(!shift)"),
+    ("padding", "byte >= 128", "byte.wrapping_add(1) >= 128"),
+    ("generator", "let word = generator.step()", "let word = generator.step() ^ generator.step()"),
+    ("generator", "new(self.s1, self.s2)", "new(self.step(), self.step())"),
+    ("generator", "low ^ s2 }", "low ^ self.step() }"),
+    # Names that hide others would be assigned, and others' fields would have another order.
+    ("generator", "let output = generator.step();\n            write_partial_word(output",
+     "let whole = generator.step();\n            write_partial_word(whole"),
+    ("rounds", "    e ^ low\n}", "    let XoredPair(low, e) = pair;\n    e ^ low\n}"),
     ("hash", "let rest = if", "let bytes = if"),
-    ("padding", "(words)?;", "(words).unwrap();"), ("utils", "let last =", "let middle ="),
     ("rounds", "fourth: XoredPair((", "third: XoredPair(("),
+    ("rounds/pending", "WholeWords for Pending {", "WholeWords for Pending {\n    fn len() {\n    }"),
+    # Other values of what it knows.
+    ("rounds/pending", "[0; 8]", "[1; 8]"), ("rounds/pending", "chunks::<2>", "chunks::<4>"),
+    ("utils", "u64::from_le_bytes", "u64::from_be_bytes"), ("utils", "as u128", "as i128"),
+    ("utils", "u32::from_le_bytes", "u64::from_le_bytes"),
+    ("padding", "(words)?;", "(words).unwrap();"),
+    ("padding", "= words[count - 1];", "= words.first_chunk::<1>().unwrap()[0];"),
+    ("padding", "message[message.len() - 1]", "*message.last().unwrap()"),
     ("generator", "wrapping_add(high)", "saturating_add(high)"),
-    # Statements and expressions that it doesn't know.
-    ("generator", "in 0..whole", "in (0..whole).rev()"), ("utils", "as u128", "as i128"),
+    # Statements and expressions.
+    ("rounds", "(C1 ^ (seed & 0x5555", "return (C1 ^ (seed & 0x5555"),
     ("utils", "let n = bytes.len();", "let n = match 1 { _ => 2 };"),
-    ("rounds", "rest.len() >= 128", "let x"),
+    ("utils", "n >= 4", "n as i32 >= 4"), ("rounds", "mix(a, e, e)", "mix(a, e, -1)"),
+    ("generator", "in 0..whole", "in (0..whole).rev()"), ("generator", "0..whole", "0..=whole"),
     ("rounds", "while rest.len() >= 128", "loop"), ("utils", "end << 32", "unsafe { end }"),
     ("hash", "let pair = seed_pair(seed);", "let pair = || seed_pair(seed);"),
     ("hash", "let pair = seed_pair(seed);", "debug_assert!(seed > 0);"),
@@ -41,7 +53,11 @@ EDITS = [
 
 
 def main():
-    sources, failed = sources_of(sys.argv[1]), 0
+    sources = sources_of(sys.argv[1])
+    found = re.findall(r"\b(?:Rust|LLVM|crate|trait|None|Debug|usize|V)\b", header(sources))
+    failed = len(found)
+    for word in found:
+        print(f"FAILED: the header has the word {word}")
     for module, old, new in EDITS:
         path = f"{sys.argv[1]}/src/{module}.rs"
         try:
@@ -52,7 +68,7 @@ def main():
         if not told.startswith(f"{path}:"):
             failed += 1
             print(f"FAILED: {module}: {new}: {told}")
-    print(f"{len(EDITS) - failed} passed, {failed} failed")
+    print(f"{len(EDITS) + 1 - failed} passed, {failed} failed")
     sys.exit(failed > 0)
 
 

@@ -60,8 +60,10 @@ inlined_cases() { # NAME
     run_case "calls.c with the header alone and without 128-bit products, not optimized, by $1" \
         prints "$values" inlined -O0 -U__SIZEOF_INT128__
     run_case "calls.c with a library that the header makes, by $1" prints "$values" made_library
+    sed 's|<komihash_rattle.h>|"komihash_rattle_inline.h"|' "$scratch/example.c" \
+        > "$scratch/inline/example.c"
     run_case "the example in C with the header alone, by $1" \
-        prints $hash runs $inline "$scratch/example.c"
+        prints $hash runs -I . "$scratch/inline/example.c"
     [ ! "$CROSS" ] || return 0
     run_case "calls.c with a hidden library of the header and other names, by $1" \
         prints "$values" prefixed_and_hidden
