@@ -121,6 +121,7 @@ def declared(type, name, pointer=False):
 
 
 def braces(type, parts):
+    known(not any(part.changes for part in parts))  # C chooses the order
     return Value("{%s}" % ", ".join(part.text for part in parts), type, parts=parts)
 
 
@@ -403,7 +404,8 @@ class Function:
         return value
 
     def chosen(self, condition, yes, no):
-        if yes.parts:  # two words at once, without a jump
+        if yes.parts:  # words without a jump, of which C computes both
+            known(all(re.fullmatch(r"\w+", part.text) for part in [*yes.parts, *no.parts]))
             return tuple_of([Value(f"komi_either({condition.text}, {one.text}, {other.text})", "u64")
                              for one, other in zip(yes.parts, no.parts)])
         return Value(f"{condition.within('||')} ? {yes.within('||')} : {no.within('?')}",
@@ -460,7 +462,7 @@ class Function:
             return value.part(start, end and end.joined("-", start))
         _, of, _ = element(value.type)
         return Value("@", of, at=value.part(start).at) if of in SCALE else \
-            Value(f"{value.start().within('atom')}[{start.text}]", of)
+            Value(f"{value.start().within('atom')}[{start.within('?')}]", of)
 
     def method(self, value, name):
         key = (re.sub("^&(mut)?(?=[A-Z])", "", value.type), name)

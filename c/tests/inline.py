@@ -18,6 +18,9 @@ EDITS = [
     ("generator", "let word = generator.step()", "let word = generator.step() ^ generator.step()"),
     ("generator", "new(self.s1, self.s2)", "new(self.step(), self.step())"),
     ("generator", "low ^ s2 }", "low ^ self.step() }"),
+    ("generator", "    Komirand { s1, s2 }",
+     "    let mut g = Komirand { s1, s2 };\n        Komirand { s1: g.step(), s2: g.step() }"),
+    ("rounds/words", "(last_whole_word, final_word)", "(left[0] as u64, final_word)"),
     # Names that hide others would be assigned, and others' fields would have another order.
     ("generator", "let output = generator.step();\n            write_partial_word(output",
      "let whole = generator.step();\n            write_partial_word(whole"),
