@@ -1,11 +1,12 @@
 // Hashes files in komihash.html in Chromium, and prints what it shows: tests_of_page.mjs URL
-// PROFILE GONE BIG HUGE LIST OTHER.. Chooses GONE and BIG with wrong seeds, and mends the seed.
-// Then it chooses HUGE twice, and stops it by the button, and by dropping the others, whose lines
-// it copies. It checks GONE, BIG and the others by LIST, and BIG alone, also by one hash. At last
-// it drops BIG where lists go, spoils the hash, and clears.
+// PROFILE GONE BIG HUGE LIST WIDE ODD EMPTY FOLDER. Chooses GONE and BIG with wrong seeds, and
+// mends the seed. Then it chooses HUGE twice, and stops it by the button, and by dropping the last three,
+// whose lines it copies. It checks files by LIST, BIG by WIDE, and BIG by one hash. At last it
+// changes EMPTY after choosing it, drops BIG where lists go, spoils the list, and clears.
 import { spawn } from "node:child_process";
+import { writeFileSync } from "node:fs";
 
-const [url, profile, gone, big, huge, list, ...others] = process.argv.slice(2);
+const [url, profile, gone, big, huge, list, wide, ...others] = process.argv.slice(2);
 const browser = spawn("chromium", ["--headless", "--no-sandbox", "--remote-debugging-pipe",
     `--user-data-dir=${profile}`],
     { stdio: ["ignore", "ignore", "ignore", "pipe", "pipe"] });
@@ -25,8 +26,10 @@ async function run(expression) {
     return result.value ?? result.objectId;
 }
 const choose = async (seed, ...files) => call("DOM.setFileInputFiles",
-    { files, objectId: await run(`seed.value = ${seed}, files.onclick(), files`) });
+    { files, objectId: await run(`seed.value = ${seed}, files.value = "", files`) });
 const finish = async () => { while (await run("!hashing.hidden")); };
+const tell = async (...ids) =>
+    console.log(await run(`[${ids}].map((it) => it.textContent.trim()).join("\\n")`));
 
 await call("Browser.grantPermissions",
     { permissions: ["clipboardReadWrite", "clipboardSanitizedWrite"] });
@@ -45,7 +48,7 @@ console.log(await run("`${failed.textContent}progress: ${steps > 9 && bar.positi
 await choose("'0xA'", huge);
 await run("stopper.click()");
 await finish();
-console.log(await run("failed.textContent.trim()"));
+await tell("verdict", "failed");
 await choose("' 0xA '", huge);
 async function drop(place, ...files) {
     const { x, y } = JSON.parse(await run(`JSON.stringify(${place}.getBoundingClientRect())`));
@@ -54,34 +57,44 @@ async function drop(place, ...files) {
         await call("Input.dispatchDragEvent", { type, x: x + 9, y: y + 9, data });
 }
 await drop("document.body", ...others);
+while (!await run("/folder/.test(lines.textContent)"));
 await finish();
-await run("document.querySelector('[onclick]').click()");
+await run("copier.click()");
 while (!await run("navigator.clipboard.readText()"));
 const shown = "told.textContent + failed.textContent + await navigator.clipboard.readText()";
 console.log(await run(`fetch("data:,").catch(async () => ${shown} + seed.ariaInvalid +
     " " + copied.textContent)`));
-await run("document.querySelectorAll('[onclick]')[1].click()");
+await run("clearer.click()");
 await drop("wanted", list);
 while (!await run("wanted.value"));
 await run("version.value = 5");
 await choose(0, gone, big, ...others.slice(0, -1));
 await finish();
-console.log(await run('[told, lines, failed, copied].map((it) => it.textContent).join("")'));
+await tell("verdict", "lines", "failed");
+await run("wanted.value = ''");
+await drop("wanted", wide);
+while (!await run("wanted.value"));
 await choose(0, big);
 await finish();
-console.log(await run("failed.textContent.trim()"));
-for (const one of ["''", "`\\n ${lines.textContent.match(/[\\da-f]{16}/)} `"]) {
-    await run(`wanted.value = ${one}, wanted.oninput({ inputType: "insertFromPaste" })`);
-    await finish();
-    console.log(await run("failed.textContent + lines.textContent.trim()"));
-}
+await tell("verdict", "failed");
+await run("wanted.value = `\\n ${wanted.value.match(/[\\da-f]{16}/)} `");
+await run('wanted.oninput({ inputType: "insertFromPaste" })');
+await finish();
+await tell("verdict", "lines");
+await choose("(wanted.value = '', 0)", others[1]);
+await finish();
+writeFileSync(others[1], "more");
+await run("version.onchange()");
+await finish();
+writeFileSync(others[1], "");
+await tell("verdict", "failed");
 await drop("wanted", big);
 await finish();
-console.log(await run("failed.textContent + lines.textContent.trim()"));
+await tell("lines");
 await run("wanted.value += 0, wanted.onblur()");
 console.log(await run("`${told.textContent} ${wanted.ariaInvalid}`"));
-await choose("wanted.value = ''", huge);
-await run("document.querySelectorAll('[onclick]')[1].click()");
+await choose("(wanted.value = '', 0)", huge);
+await run("clearer.click()");
 await finish();
 console.log(await run("hashing.hidden + failed.textContent + lines.textContent"));
 browser.kill();

@@ -207,36 +207,40 @@ js_in_chromium() {
         --allow-file-access-from-files "file://$scratch/js/rows.html" |
         sed -nE 's|.*<body hidden="">(.*)</body>.*|\1|p' | all_right
 }
+page_is_made() { sh js/page.sh | cmp - js/komihash.html; }
 # Compares what the page shows with what komihashsum prints for the same files.
 page_in_chromium() {
     local files=$scratch/hashed odd=$'a\\b\nc' page profile=$scratch/chromium
     page=file://$(cd "$scratch/js" && node -p '["package.json", "komihash.html"].map(
         (it) => require.resolve(`komihash_rattle/${it}`))[1]')
-    chromium --headless --no-sandbox --user-data-dir="$profile" --dump-dom \
-        "file://$PWD/js/komihash.html" | grep 'needs a server' || return
-    in_package out/komihashsum && mkdir -p "$files/folder" && : > "$files/empty" &&
-        seq 99 > "$files/$odd" && seq 12500000 > "$files/big" && truncate -s 99G "$files/huge" &&
+    in_package out/komihashsum && mkdir -p "$files/folder/in" && : > "$files/empty" &&
+        seq 5 > "$files/folder/in/x" && seq 99 > "$files/$odd" &&
+        seq 12500000 > "$files/big" && truncate -s 99G "$files/huge" &&
         PATH=$(echo "$scratch"/libkomihash_rattle-*/out):$PATH && (
             cd "$files" && komihashsum big && komihashsum -4 -s 0xA --tag "$odd" empty |
                 sed '$s/.$/0/'
-        ) > "$scratch/list" && timeout 600 node js/tests_of_page.mjs "$page" "$profile" \
-            "$files"/{gone,big,huge} "$scratch/list" "$files"/{"$odd",empty,folder} \
-            > "$scratch/shown" && cd "$files" && diff "$scratch/shown" <(
+        ) > "$scratch/list" &&
+        (cd "$files" && komihashsum big | sed 's/ //' | iconv -t UTF-16) > "$scratch/wide" &&
+        timeout 600 node js/tests_of_page.mjs "$page" "$profile" "$files"/{gone,big,huge} \
+            "$scratch"/{list,wide} "$files"/{"$odd",empty,folder} > "$scratch/shown" &&
+        cd "$files" && diff "$scratch/shown" <(
             printf '%s\n' 'The seed must be a whole number from 0 to 2^64 - 1. true'{,} \
-                'gone: cannot be read' 'progress: true' 'huge: stopped, and all after it' \
-                'Folders are not hashed.' 'huge: stopped, and all after it'
-            komihashsum big && komihashsum -4 -s 0xA --tag "$odd" empty
+                'gone: is not there any more' 'progress: true' \
+                '1 file hashed, 1 not' 'huge: stopped, and all after it'
+            komihashsum big && komihashsum -4 -s 0xA --tag "$odd" empty folder/in/x
             echo false Copied
+            echo '2 of 4 files are right'
             komihashsum --check "$scratch/list" 2> "$scratch/case"
             echo "gone: not in the list
 empty: FAILED, its hash is $(komihashsum -4 -s 0xA empty | cut -c-16)
-Lines: 3, problems: 2
-${odd//$'\n'/ }: not checked
-empty: not checked
-$(komihashsum big)
+The file is right
+
+The file is right
 big: OK
-big: OK
-Needed: lines of komihashsum, or one hash alone, not: $(komihashsum big | cut -c-16) 0 true
+1 file hashed, 1 not
+empty: has changed since it was chosen, or cannot be read
+$(komihashsum empty big)
+Needed: lines of komihashsum, or one hash alone, not: 0 true
 true"
         )
 }
@@ -323,6 +327,7 @@ languages() {
     needs npm 'another copy makes the same packages' made_again
     needs node 'the package for JavaScript, in Node' js_in_node
     needs chromium 'the package for JavaScript, in Chromium' js_in_chromium
+    run_case 'the page has the module in it' page_is_made
     needs 'chromium cc' 'the page of the package for JavaScript, in Chromium' page_in_chromium
     needs tsc 'the types of the package for JavaScript' tsc --noEmit --allowJs --checkJs \
         --target es2022 --module es2022 --moduleResolution node16 "$scratch/js/tests.mjs"

@@ -42,18 +42,7 @@ for name in "${@:2}"; do
     js)
         cp -R "$scratch/docs" "$scratch/js"
         python3 -B "$links" "$scratch/js" js
-        (
-            cd "$scratch/js"
-            # With the module in it, the page needs no server.
-            {
-                echo 'const { v4, v5 } = (() => {'
-                sed 's/^export //' komihash_rattle.js
-                echo 'return { v4, v5 }; })();'
-            } > module
-            sed -i -e "s/'self' //" -e '/^<p id="told"/s/ and its .*/./' -e '/^import /{' \
-                -e 'r module' -e 'd' -e '}' komihash.html
-            npm pack --pack-destination "$folder/js"
-        )
+        (cd "$scratch/js" && npm pack --pack-destination "$folder/js")
         ;;
     esac
 done
