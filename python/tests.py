@@ -140,7 +140,7 @@ class Tests(unittest.TestCase):
             self.assertRaises(BufferError, call, memoryview(LONG)[::2])
         for call in ONE_SHOTS:
             for names in {"data": b""}, {"sead": 0}, {"seed": 0, "data": b""}:
-                self.assertRaises(TypeError, call, b"", **names)
+                self.assertRaisesRegex(TypeError, call.__name__, call, b"", **names)
         words = Komirand.from_words
         seeded = [("seed", lambda seed: komihash(seed=seed)), ("s1", lambda s1: words(s1, 0))]
         seeded += [("seed", lambda seed: komihash_int(b"", seed)), ("s2", lambda s2: words(0, s2))]

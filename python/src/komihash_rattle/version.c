@@ -67,15 +67,15 @@ static PyObject *as_digits(uint64_t hash) {
     return PyUnicode_FromStringAndSize(digits, sizeof digits);
 }
 
-/* Returns the hash of a message as one of these. */
-static PyObject *hash(PyObject *as(uint64_t), PyObject *const *args, Py_ssize_t count,
-                      PyObject *names) {
+/* Returns the hash of a message as one of these, for the function of this name. */
+static PyObject *hash(PyObject *as(uint64_t), const char *name, PyObject *const *args,
+                      Py_ssize_t count, PyObject *names) {
     Py_ssize_t all = count + (names == NULL ? 0 : PyTuple_Size(names));
     Py_buffer bytes;
     uint64_t seed = 0, hash;
     if (count < 1 || all > 2 ||
         (all > count && PyUnicode_CompareWithASCIIString(PyTuple_GetItem(names, 0), "seed") != 0))
-        return PyErr_Format(PyExc_TypeError, "the arguments must be (data, /, seed=0)");
+        return PyErr_Format(PyExc_TypeError, "%s() takes (data, /, seed=0)", name);
     if ((all == 2 && !is_word(args[1], "seed", &seed)) || !has_bytes(args[0], &bytes))
         return NULL;
     PyThreadState *thread = bytes.len < MANY ? NULL : PyEval_SaveThread();
@@ -86,14 +86,14 @@ static PyObject *hash(PyObject *as(uint64_t), PyObject *const *args, Py_ssize_t 
     return as(hash);
 }
 
-#define ONE_SHOT(as)                                                                             \
+#define ONE_SHOT(name, as)                                                                       \
     static PyObject *hash_##as(PyObject *module, PyObject *const *args, Py_ssize_t count,        \
                                PyObject *names) {                                                \
-        return hash(as, args, count, names);                                                     \
+        return hash(as, name, args, count, names);                                               \
     }
-ONE_SHOT(as_int)
-ONE_SHOT(as_bytes)
-ONE_SHOT(as_digits)
+ONE_SHOT("komihash_int", as_int)
+ONE_SHOT("komihash_digest", as_bytes)
+ONE_SHOT("komihash_hexdigest", as_digits)
 
 static Stream *locked(PyObject *self) {
     Stream *stream = (Stream *)self;
