@@ -1,48 +1,60 @@
 #!/usr/bin/env bash
-# Compiles a crate for Rust to the assembly of the library for C, in a folder, by Debian's packages
-# rustc-web and rust-web-src: assembly.sh CRATE FOLDER. Without FOLDER, prints the SHA-256 of the
-# Rust, of exports.rs and of these scripts, but for lines of comments, which the head of each file
-# has too.
+# Compiles komihash_rattle.c to the assembly of the library for C, by Debian's package clang-19:
+# assembly.sh FOLDER. Or to WebAssembly that exports some functions: assembly.sh FILE.wasm NAME..
+# Without arguments, prints the SHA-256 of the header that is all of the library, without its
+# comments, and of this script, which the head of each file has too.
 set -euo pipefail
-crate=$(realpath "$1") folder=$(realpath -m "${2:-.}")
+made=$(realpath -m "${1:-.}") names=("${@:2}")
 cd "$(dirname "${BASH_SOURCE[0]}")"
-made_of=$({ grep ^edition "$crate/Cargo.toml"
-    code=(grep -Hv '^ *\(//\|# \)')
-    (cd "$crate/src" && find . -name '*.rs' | LC_ALL=C sort | xargs "${code[@]}")
-    "${code[@]}" exports.rs {from_rust,assembly,sysroot}.sh; } | sha256sum | cut -d ' ' -f 1)
-[ $# = 2 ] || { echo "$made_of"; exit; }
+made_of=$(sed -e '/^ *\/\*.*\*\/$/d' -e '/^ *\/\*/,/\*\/$/d' komihash_rattle_inline.h |
+    cat - assembly.sh | sha256sum | cut -d ' ' -f 1)
+[ $# != 0 ] || { echo "$made_of"; exit; }
 scratch=$(mktemp -d)
 trap 'rm -rf "$scratch"' EXIT
 
-# assembly_for FILE PROCESSOR OPTION.. compiles the crate, and by the same options Rust's core, so
-# that LLVM can merge them and leave out what only the texts of panics need. What LLVM writes stays
-# as it is, but for attributes of builds, which older assemblers don't know.
-# - no-redzone keeps values out of the memory below the stack pointer, so that verify can refuse
+# No vectors, because few calls of the loops have many turns, and no calls of memcpy.
+common=(-O2 -fno-vectorize -fno-slp-vectorize -mllvm -disable-loop-idiom-memcpy)
+
+if [[ $made = *.wasm ]]; then
+    clang-19 --target=wasm32-unknown-unknown "${common[@]}" -ffreestanding -mbulk-memory \
+        -c -o "$scratch/module.o" komihash_rattle.c
+    wasm-ld --no-entry --strip-all "${names[@]/#/--export=}" -o "$made" "$scratch/module.o"
+    exit
+fi
+
+# assembly_for FILE PROCESSOR OPTION.. compiles twice: what the first time gives is compiled again.
+# The first time, LLVM replaces comparisons of lengths before it inlines functions, and then sees no
+# more that both sides of a test do the same. The second time, it sees that.
+# - ext-tsp-block-placement and list-hybrid order blocks and instructions. Without the first, hashes
+#   of 8 bytes take 7% longer for plain x86-64, and without the second, the loop over blocks for
+#   x86-64-v3 takes 9% more instructions.
+# - no-red-zone keeps values out of the memory below the stack pointer, so that verify can refuse
 #   each access there.
 # - cf-protection and branch-protection ask for what IBT, SHSTK and BTI demand: a note, and at the
-#   start of each exported function an instruction. They are unstable, hence RUSTC_BOOTSTRAP.
-# - align-all-functions lets functions begin where 64 bytes do. At other addresses, hashes of 8
-#   bytes for plain x86-64 may take 10% longer.
+#   start of each exported function an instruction.
+# - align-functions lets functions begin where 64 bytes do. At other addresses, hashes of 8 bytes
+#   for plain x86-64 may take 10% longer.
+# - fixed-x18 leaves alone a register in which platforms may keep something.
 assembly_for() {
-    local target=$2-unknown-linux-gnu options=(-C no-redzone=yes "${@:3}")
-    export RUSTC_BOOTSTRAP=1
-    bash sysroot.sh "$target" "$scratch/$1" "${options[@]}"
-    RUSTC="/usr/bin/rustc --sysroot $scratch/$1" RUST_TARGET=$target \
-        sh from_rust.sh "$crate" "$2-linux-gnu" "$scratch/$1.s" "${options[@]}"
+    local options=("${common[@]}" -mllvm -enable-ext-tsp-block-placement -fPIC -ffunction-sections
+        -falign-functions=64 -fno-addrsig -fno-ident -fno-verbose-asm "${@:3}")
+    local compiler=(clang-19 "--target=$2-linux-gnu" "${options[@]}")
+    "${compiler[@]}" -emit-llvm -c -o "$scratch/$1.bc" komihash_rattle.c
     cat > "$scratch/$1.S" << END
 /* SPDX-License-Identifier: MIT
  * Copyright (c) 2026 the authors of komihash_rattle
  *
- * \`make assembly\` made this file from the crate for Rust. Do not edit it.
+ * \`make assembly\` made this file from komihash_rattle_inline.h. Do not edit it.
  * Made of: SHA-256 $made_of
- * Options: those of from_rust.sh, and ${options[*]}
- * Compiler: $(/usr/bin/rustc --version)
+ * Options: ${options[*]}
+ * Compiler: $(clang-19 --version | head -n 1)
  */
 END
-    sed '/^\t\.aeabi_/d' "$scratch/$1.s" >> "$scratch/$1.S"
+    "${compiler[@]}" -S -o - "$scratch/$1.bc" >> "$scratch/$1.S"
 }
-assembly_for x86_64 x86_64 -Z cf-protection=full -C llvm-args=-align-all-functions=6
-assembly_for x86_64_v3 x86_64 -Z cf-protection=full -C target-cpu=x86-64-v3
-assembly_for aarch64 aarch64 -Z branch-protection=bti
-mkdir -p "$folder"
-cp "$scratch"/*.S "$folder/"
+assembly_for x86_64 x86_64 -mno-red-zone -fcf-protection=full
+assembly_for x86_64_v3 x86_64 -mno-red-zone -fcf-protection=full -march=x86-64-v3 \
+    -mllvm -pre-RA-sched=list-hybrid
+assembly_for aarch64 aarch64 -mbranch-protection=bti -ffixed-x18
+mkdir -p "$made"
+cp "$scratch"/*.S "$made/"

@@ -432,9 +432,10 @@ KOMI_INLINE uint32_t komi_ilog2(uint64_t x) {
 #endif
 }
 
-/* Gives the low and the high half of the product of two words. */
+/* Gives the low and the high half of the product of two words. WebAssembly has no product of 128
+ * bits: compilers would call a function. */
 KOMI_INLINE void komi_multiply128(uint64_t x, uint64_t y, uint64_t *low, uint64_t *high) {
-#if defined(__SIZEOF_INT128__)
+#if defined(__SIZEOF_INT128__) && !defined(__wasm__)
     __extension__ typedef unsigned __int128 komi_u128;
     const komi_u128 product = (komi_u128)x * y;
     *low = (uint64_t)product;

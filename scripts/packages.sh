@@ -26,12 +26,12 @@ from_rust() {
     sysroot "$target" &&
         in_package "RUSTC=/usr/bin/rustc --sysroot $scratch/$target${1#"$target"}" "${@:2}"
 }
-# Runs a case if the compiler that a file names is here, and other tools are:
+# Runs a case if the clang that a file names is here, and other tools are:
 # by_its_compiler FILE 'TOOL..' NAME COMMAND..
 by_its_compiler() {
     local compiler
-    compiler=$(grep -aoE 'rustc [0-9.]+ \([0-9a-f]+ [0-9-]+\)' "$1" | tail -n 1)
-    if [[ $(/usr/bin/rustc --version) = "$compiler"* ]]; then
+    compiler=$(grep -aoE 'Debian clang version [0-9.]+ \([^)]*\)' "$1")
+    if [ "$(clang-19 --version 2> "$scratch/case" | head -n 1)" = "$compiler" ]; then
         needs "${@:2}"
     else
         skip "$3 (optional)" "$compiler"
@@ -40,11 +40,11 @@ by_its_compiler() {
 # Also whether no directive lets another build get other code.
 names_its_sources() {
     local made_of
-    made_of=$(bash c/assembly.sh rust) &&
+    made_of=$(bash c/assembly.sh) &&
         [ "$(grep -l "SHA-256 $made_of$" c/assembly/*.S js/komihash_rattle.js | wc -l)" = 4 ] &&
         ! grep -nE '(^|:)\s*(#|\.(if|else|macro|inc|rept|irp|set|equ|org))|;|__' c/assembly/*.S
 }
-made_of_crate() {
+made_of_header() {
     in_package assembly "ASSEMBLY=$scratch/assembly" && diff -r "$scratch/assembly" c/assembly
 }
 # Whether packages have the pages that say what the hash is, and what must be trusted, and each link
@@ -55,10 +55,7 @@ has_pages() {
         ls "$at"/docs/{CLAIMS,DEFINITIONS}.md && python3 -B scripts/links.py "$at" || return
     done
 }
-made_of_web() {
-    from_rust 'wasm32-unknown-unknown -C linker=wasm-ld -C strip=symbols' wasm "OUT=$scratch/web" &&
-        sh js/build.sh "$scratch/web/komihash_rattle.wasm" | cmp - js/komihash_rattle.js
-}
+made_of_web() { sh js/build.sh | cmp - js/komihash_rattle.js; }
 names_for_macos() {
     local library=$scratch/macos/libkomihash_rattle.1.dylib
     from_rust aarch64-apple-darwin "$library" "OUT=${library%/*}" LDFLAGS=-nostdlib \
@@ -263,8 +260,8 @@ arm=aarch64-linux-gnu
 library() {
     local windows=x86_64-w64-mingw32
     run_case 'the assembly and the WebAssembly name their sources' names_its_sources
-    by_its_compiler c/assembly/x86_64.S "$debian" 'the assembly is made of the crate for Rust' \
-        made_of_crate
+    by_its_compiler c/assembly/x86_64.S clang-19 'the assembly is made of the header alone' \
+        made_of_header
     needs python3 'the header alone is made of the crate for Rust' inline_made_of_crate
     part_with python3 python3 -B c/tests/inline.py rust
     part in_package check
@@ -332,8 +329,8 @@ languages() {
     needs tsc 'the types of the package for JavaScript' tsc --noEmit --allowJs --checkJs \
         --target es2022 --module es2022 --moduleResolution node16 "$scratch/js/tests.mjs"
     needs 'node tsc' 'the types of the package for JavaScript, by require' js_required
-    by_its_compiler js/komihash_rattle.js "wasm-ld $debian" \
-        'the WebAssembly in it is made of the crate for Rust' made_of_web
+    by_its_compiler js/komihash_rattle.js wasm-ld \
+        'the WebAssembly in it is made of the header alone' made_of_web
 }
 verified() {
     # These are all builds of the assembly, some functions by a second solver too, and one from the

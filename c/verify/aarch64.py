@@ -126,6 +126,8 @@ TABLE.update({
     'csinc': lambda c, i: c.put(i, 0, choose(selector(c, i), c.get(i, 1), c.get(i, 2) + 1)),
     'cinc': lambda c, i: c.put(i, 0, choose(selector(c, i), c.get(i, 1) + 1, c.get(i, 1))),
     'cset': lambda c, i: c.put(i, 0, number_of(selector(c, i), c.width(i))),
+    'csetm': lambda c, i: c.put(i, 0, -number_of(selector(c, i), c.width(i))),
+    'sxtb': lambda c, i: c.put(i, 0, z3.SignExt(c.width(i) - 8, part(c.get(i, 1), 0, 8))),
     'mul': lambda c, i: c.put(i, 0, c.multiply(*c.both(i), (0,))[0]),
     'umulh': lambda c, i: c.put(i, 0, c.multiply(*c.both(i), (1,))[0]),
     'zip1': lambda c, i: c.put(i, 0, join([part(c.get(i, k), 0, 64) for k in (1, 2)])),
@@ -146,11 +148,12 @@ def compute(c, i):
                  'bic': a & ~b}[i.mnemonic])
 
 
-@means(TABLE, 'adds')
+@means(TABLE, 'adds', 'cmn')
 def add(c, i):
-    a, b = c.both(i)
+    a, b = c.both(i, 0 if i.mnemonic == 'cmn' else 1)
     result = simple(a + b)
-    c.put(i, 0, result)
+    if i.mnemonic == 'adds':
+        c.put(i, 0, result)
     c.set_flags(result, c=z3.UGE(result, a))
 
 
@@ -212,12 +215,14 @@ def access(c, i):
     return number, {'b': 1, 'h': 2}.get(i.mnemonic[-1], c.width(i) // 8)
 
 
-@means(TABLE, 'ldr', 'ldur', 'ldrb', 'ldurb', 'ldrh', 'ldp')
+@means(TABLE, 'ldr', 'ldur', 'ldrb', 'ldurb', 'ldursb', 'ldrh', 'ldp')
 def load(c, i):
     number, size = access(c, i)
     c.check_differ(i, range(number))
     address = c.address(i, number)
     values = [c.load(simple(address + size * k), size) for k in range(number)]
+    if i.mnemonic == 'ldursb':
+        values = [z3.SignExt(c.width(i) - 8, value) for value in values]
     for k, value in enumerate(values):
         c.put(i, k, resize(value, c.width(i)))
 

@@ -1,0 +1,3 @@
+// All functions of the library for C, for every compiler.
+#define KOMIHASH_RATTLE_IMPLEMENTATION
+#include "komihash_rattle_inline.h"
