@@ -266,10 +266,10 @@ KOMIHASH_NONNULL
 KOMI_API uint64_t komihash_v4_finish(const komihash_v4_stream *stream) KOMIHASH_NOEXCEPT;
 
 /* Writes the saved text of the stream to the front of `out`, and returns its length, 68 to 131
- * bytes. This text is binary, and can be stored and sent. It has up to 63 bytes of the message as
- * they are. Keep it as secret as the seed, which can be calculated from it until 64 bytes were
- * absorbed, and until 128 by whoever knows the first 64. Returns 0, and writes nothing, if `room`
- * is less than KOMIHASH_LONGEST_TEXT. */
+ * bytes. This text is binary, and can be stored and sent. It doesn't hold the number of bytes that
+ * were absorbed. It has up to 63 bytes of the message as they are. Keep it as secret as the seed,
+ * which can be calculated from it until 64 bytes were absorbed, and until 128 by whoever knows the
+ * first 64. Returns 0, and writes nothing, if `room` is less than KOMIHASH_LONGEST_TEXT. */
 KOMIHASH_NONNULL KOMIHASH_CHECK_RESULT
 KOMI_API size_t komihash_v5_save(const komihash_v5_stream *stream, void *out, size_t room)
     KOMIHASH_NOEXCEPT;
