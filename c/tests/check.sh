@@ -422,7 +422,7 @@ for compiler in "$CC" ${clang:+"$clang"}; do
         -std=c11 -I "$prefix/include" "$archive"
     needs pkg-config "the example in C, by $name and pkg-config" \
         prints $hash runs_by_package komihash_rattle -std=c11 "$scratch/example.c"
-    inlined_cases "$name"
+    [ "$FROM" ] || inlined_cases "$name" # which need no library
 done
 if [ ! "$CROSS" ]; then
     for compiler in "$CXX" clang++; do
@@ -431,8 +431,8 @@ if [ ! "$CROSS" ]; then
         needs "${compiler%% *}" "the names of the C original, by $compiler" \
             original -x c++ -std=c++11
         needs "${compiler%% *}" "no call throws, by $compiler" no_exceptions
-        needs "${compiler%% *}" "the example in C++ with the header alone, by $compiler" \
-            prints $hash inlined_in_cpp
+        [ "$FROM" ] || needs "${compiler%% *}" \
+            "the example in C++ with the header alone, by $compiler" prints $hash inlined_in_cpp
     done
     needs cmake 'the tests, by ctest' sh -c 'cmake -B "$0" . && cd "$0" && MANDIR=$PWD/none \
         libdir=$PWD/none CASE="is installed" ctest --no-tests=error --output-on-failure &&

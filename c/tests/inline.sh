@@ -57,16 +57,18 @@ END
 }
 inlined_cases() { # NAME
     run_case "calls.c with the header alone, by $1" prints "$values" inlined -O2
-    run_case "calls.c with the header alone and without 128-bit products, not optimized, by $1" \
-        prints "$values" inlined -O0 -U__SIZEOF_INT128__
     run_case "calls.c with a library that the header makes, by $1" prints "$values" made_library
+    [ ! "$CROSS" ] || return 0
+    run_case "calls.c with a hidden library of the header and other names, by $1" \
+        prints "$values" prefixed_and_hidden
     sed 's|<komihash_rattle.h>|"komihash_rattle_inline.h"|' "$scratch/example.c" \
         > "$scratch/inline/example.c"
     run_case "the example in C with the header alone, by $1" \
         prints $hash runs -I . "$scratch/inline/example.c"
-    [ ! "$CROSS" ] || return 0
-    run_case "calls.c with a hidden library of the header and other names, by $1" \
-        prints "$values" prefixed_and_hidden
-    run_case "calls.c with the header alone and sanitizers, by $1" prints "$values" inlined -O1 -g \
-        -fsanitize=address,undefined -fno-sanitize-recover=all
+    sanitizers= how='not optimized'
+    case $1 in
+    clang*) sanitizers='-fsanitize=address,undefined -fno-sanitize-recover=all' how=sanitized ;;
+    esac
+    run_case "calls.c with the header alone, $how, without 128-bit products, by $1" \
+        prints "$values" inlined -O0 -U__SIZEOF_INT128__ $sanitizers
 }
