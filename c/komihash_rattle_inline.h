@@ -440,9 +440,9 @@ KOMI_INLINE void komi_multiply128(uint64_t x, uint64_t y, uint64_t *low, uint64_
     const komi_u128 product = (komi_u128)x * y;
     *low = (uint64_t)product;
     *high = (uint64_t)(product >> 64);
-#elif defined(_M_X64)
+#elif defined(_MSC_VER) && defined(_M_X64)
     *low = _umul128(x, y, high);
-#elif defined(_M_ARM64)
+#elif defined(_MSC_VER) && defined(_M_ARM64)
     *low = x * y;
     *high = __umulh(x, y);
 #else

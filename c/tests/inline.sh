@@ -42,16 +42,17 @@ inlined_in_cpp() {
 }
 # Compiles the header as MSVC reads it, and links it alone.
 made_for_msvc() {
-    mkdir "$scratch/msvc" && echo 'void *memcpy(void *, const void *, size_t);' \
-        > "$scratch/msvc/string.h" && cat > "$scratch/msvc/intrin.h" << 'END' || return
+    own=$scratch/inline/msvc
+    mkdir "$own" && echo 'void *memcpy(void *, const void *, size_t);' > "$own/string.h" &&
+        cat > "$own/intrin.h" << 'END' || return
 static __inline uint64_t _umul128(uint64_t x, uint64_t y, uint64_t *high) {
     const unsigned __int128 product = (unsigned __int128)x * y;
     *high = (uint64_t)(product >> 64);
     return (uint64_t)product;
 }
 END
-    clang --target=x86_64-pc-windows-msvc -U__clang__ -U__SIZEOF_INT128__ -isystem "$scratch/msvc" \
-        -std=c99 -Wall -Wextra -Werror $inline -O2 -c -o "$scratch/msvc.obj" "$scratch/msvc.c" &&
+    clang --target=x86_64-pc-windows-msvc -U__clang__ -U__SIZEOF_INT128__ -isystem "$own" -O2 \
+        -std=c99 -Wall -Wextra -Werror $inline -c -o "$scratch/msvc.obj" "$scratch/msvc.c" &&
         lld-link -entry:start -subsystem:console -nodefaultlib "-out:$program" \
             "$scratch/msvc.obj" && $RUN "$program"
 }
