@@ -1,6 +1,6 @@
 // The hash komihash, versions 4 and 5. The last line, which build.sh writes, is the library for C
-// as WebAssembly. Streams and generators live in JavaScript, and the last that was called in the
-// library's memory, so nothing must be freed.
+// as WebAssembly. The newest streams and generators, and of older ones the last that was called,
+// are in the library's memory, and the others in JavaScript, so nothing must be freed.
 
 const text = atob(webAssembly()), binary = new Uint8Array(text.length);
 for (let at = 0; at < text.length; at++) binary[at] = text.charCodeAt(at);
@@ -74,7 +74,7 @@ function word(number, name = "a seed") {
 }
 
 const [ofStream, ofRand] = [144, 16].map((length) => bytes.subarray(object, object + length));
-/** The newest states are a block in the library's memory, which JavaScript keeps once it is full. */
+/** The newest states are a block in the library's memory, which is kept once it is full. */
 let block = { kept: null }, taken = 0;
 /** The older state that is in `object`, and the bytes there, which may be newer than those kept. */
 let inside = { kept: new Uint8Array(0) }, there = inside.kept;

@@ -183,12 +183,13 @@ js_package() {
 }
 # Whether a copy with other times makes packages of the same bytes, and nothing is left in it.
 made_again() {
-    mkdir "$scratch/copy" &&
+    release page && mkdir "$scratch/copy" &&
         tar --create --exclude=out --exclude=target LICENSE c crates docs js python rust scripts |
         tar --extract --touch --directory="$scratch/copy" &&
         (cd "$scratch/copy" && find . | sort > "$scratch/files" &&
-            PYTHON=/usr/bin/python3 bash scripts/release.sh "$scratch/again" c js python rust &&
-            diff -r "$packed" "$scratch/again" && find . | sort | diff "$scratch/files" -)
+            PYTHON=/usr/bin/python3 bash scripts/release.sh "$scratch/again" c js page python rust &&
+            (cd "$packed" && sha256sum --strict --quiet --check SHA256SUMS) &&
+            [ "$(wc -l < "$packed/SHA256SUMS")" = 5 ] && diff -r "$packed" "$scratch/again" && find . | sort | diff "$scratch/files" -)
 }
 all_right() { diff <(echo "$(all_rows | grep -cvE '^(#|unpad)') rows, 0 failures") -; }
 as_on_page() { diff <(sed -n 's|.*; // ||p' "$scratch/js/page.mjs") -; }

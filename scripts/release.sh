@@ -1,6 +1,7 @@
 #!/usr/bin/env bash
-# Makes packages, each in a folder of its name: release.sh FOLDER NAME.., where a name is c, rust,
-# python or js. PYTHON is a Python with setuptools. The same files give the same bytes.
+# Makes packages, each in a folder of its name, and SHA256SUMS of all files in FOLDER: release.sh
+# FOLDER NAME.., where a name is c, rust, python, js or page. PYTHON is a Python with setuptools. The
+# same files give the same bytes.
 set -euo pipefail
 umask 022
 folder=$(realpath -m "$1")
@@ -44,5 +45,8 @@ for name in "${@:2}"; do
         python3 -B "$links" "$scratch/js" js
         (cd "$scratch/js" && npm pack --pack-destination "$folder/js")
         ;;
+    page) cp js/komihash.html "$folder/page" ;;
     esac
 done
+cd "$folder"
+find -type f ! -name SHA256SUMS -printf '%P\n' | LC_ALL=C sort | xargs sha256sum > SHA256SUMS
