@@ -17,9 +17,9 @@ if int(__version__.split(".")[0]) < 61:
 HERE = Path(__file__).resolve().parent
 # What is used from above this folder is in it in a source distribution.
 ABOVE = HERE if (HERE / "c").is_dir() else HERE.parent
-USED = ("c/Makefile", "c/from_rust.sh", "c/exports.rs", "c/komihash_rattle.h", "c/assembly",
-        "c/assembly.sh", "c/sysroot.sh", "rust/Cargo.toml", "rust/README.md", "rust/src",
-        "rust/tests/values.tsv", "rust/tests/vectors.tsv", "docs/CLAIMS.md", "docs/DEFINITIONS.md")
+USED = ("c/Makefile", "c/assembly", "c/assembly.sh", "c/komihash_rattle.c", "c/komihash_rattle.h",
+        "c/komihash_rattle_inline.h", "rust/README.md", "rust/tests/values.tsv",
+        "rust/tests/vectors.tsv", "docs/CLAIMS.md", "docs/DEFINITIONS.md")
 
 # From 3.11 on, CPython's stable interface can read bytes, so one build serves all later ones.
 STABLE = sys.version_info >= (3, 11) and not sysconfig.get_config_var("Py_GIL_DISABLED")
@@ -39,7 +39,7 @@ SETTINGS = (f"FROM={os.environ.get('KOMIHASH_RATTLE_FROM', '')}", "BUILD_STATIC=
 
 
 class Build(build_ext):
-    """Makes the library first, of its assembly, or where there is none, of the crate for Rust."""
+    """Makes the library first, of its assembly, or where there is none, of one header in C."""
 
     def build_extensions(self):
         if SYSTEM:

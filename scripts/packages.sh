@@ -17,24 +17,15 @@ unpack() {
 }
 in_package() { make -C "$scratch"/libkomihash_rattle-*/ --no-print-directory "$@"; }
 
-# Makes something from Rust for another processor: by Debian's compiler, with a core library that is
-# made here: from_rust 'TARGET [OPTION..]' ARGUMENT..
-debian='/usr/bin/rustc /usr/lib/rustlib/src/rust/x.py'
-sysroot() { [ -d "$scratch/$1" ] || bash c/sysroot.sh "$1" "$scratch/$1" >&2; }
-from_rust() {
-    local target=${1%% *}
-    sysroot "$target" &&
-        in_package "RUSTC=/usr/bin/rustc --sysroot $scratch/$target${1#"$target"}" "${@:2}"
-}
-# Runs a case if the clang that a file names is here, and other tools are:
-# by_its_compiler FILE 'TOOL..' NAME COMMAND..
+# Runs a case if the compiler that a file names is here, and other tools are:
+# by_its_compiler COMPILER FILE 'TOOL..' NAME COMMAND..
 by_its_compiler() {
-    local compiler
-    compiler=$(grep -aoE 'Debian clang version [0-9.]+ \([^)]*\)' "$1")
-    if [ "$(clang-19 --version 2> "$scratch/case" | head -n 1)" = "$compiler" ]; then
-        needs "${@:2}"
+    local version
+    version=$("$1" --version 2> "$scratch/case" | head -n 1)
+    if [ "$version" ] && grep -aqF "${version% (built*}" "$2"; then
+        needs "${@:3}"
     else
-        skip "$3 (optional)" "$compiler"
+        skip "$4 (optional)" "the compiler that $2 names"
     fi
 }
 # Also whether no directive lets another build get other code.
@@ -58,7 +49,7 @@ has_pages() {
 made_of_web() { sh js/build.sh | cmp - js/komihash_rattle.js; }
 names_for_macos() {
     local library=$scratch/macos/libkomihash_rattle.1.dylib
-    from_rust aarch64-apple-darwin "$library" "OUT=${library%/*}" LDFLAGS=-nostdlib \
+    in_package "$library" "OUT=${library%/*}" CPPFLAGS=-ffreestanding LDFLAGS=-nostdlib \
         'CC=clang --target=arm64-apple-darwin23 -mmacosx-version-min=11 -fuse-ld=lld' &&
         diff <(grep -oE 'komihash_v\w+\(' c/komihash_rattle.h | tr -d '(' | sort) \
             <(grep -aoE '\b_komihash_v\w+' "$library" | cut -c2- | sort -u)
@@ -78,9 +69,9 @@ unpack_crate() {
 }
 in_crate() { (cd "$scratch/rust" && "$@"); }
 without_std() {
-    sysroot wasm32-unknown-unknown && in_crate /usr/bin/rustc --target wasm32-unknown-unknown \
-        --sysroot "$scratch/wasm32-unknown-unknown" --edition 2024 --crate-type lib \
-        --out-dir "$scratch" src/lib.rs
+    local target=wasm32-unknown-unknown
+    bash c/sysroot.sh $target "$scratch/sysroot" && in_crate /usr/bin/rustc --target $target \
+        --sysroot "$scratch/sysroot" --edition 2024 --crate-type lib --out-dir "$scratch" src/lib.rs
 }
 # Whether a program that links the crate and calls nothing has none of its code, in a debug build.
 calls_nothing() {
@@ -155,7 +146,9 @@ install_python() {
 python_package() {
     release python && mkdir "$scratch/s dist" &&
         tar -xzf "$packed"/python/*.tar.gz -C "$scratch/s dist" --strip-components=1 &&
-        ! KOMIHASH_RATTLE_FROM=rust RUSTC=none install_python &&
+        ! KOMIHASH_RATTLE_FROM=rust install_python &&
+        KOMIHASH_RATTLE_FROM=c installed=$scratch/from_c install_python &&
+        installed=$scratch/from_c debian_python "$scratch/s dist/tests.py" "$scratch/rows.tsv" &&
         KOMIHASH_RATTLE_SYSTEM=0 FROM=alpine BUILD_SHARED=ON CROSS=none- install_python &&
         debian_python -W error "$scratch/s dist/tests.py" "$scratch/rows.tsv" &&
         debian_python -W error python/tests.py &&
@@ -261,31 +254,29 @@ arm=aarch64-linux-gnu
 library() {
     local windows=x86_64-w64-mingw32
     run_case 'the assembly and the WebAssembly name their sources' names_its_sources
-    by_its_compiler c/assembly/x86_64.S clang-19 'the assembly is made of the header alone' \
+    by_its_compiler clang-19 c/assembly/x86_64.S bash 'the assembly is made of the header alone' \
         made_of_header
     needs python3 'the header alone is made of the crate for Rust' inline_made_of_crate
     part_with python3 python3 -B c/tests/inline.py rust
     part in_package check
     # Debian ends the server of wine with each program, and then one program in some 500 finds none.
     mkdir "$WINEPREFIX" && wineserver -p3600 < /dev/null > "$scratch/case" 2>&1
-    part_with "$windows-gcc wine64 lld-link $debian" from_rust x86_64-pc-windows-gnu \
-        check CROSS=$windows- RUN=wine64
+    part_with "$windows-gcc wine64 lld-link" in_package check "CROSS=$windows-" RUN=wine64
     wineserver -k > "$scratch/case" 2>&1
     part_with "$arm-gcc qemu-aarch64" in_package check "CROSS=$arm-" RUN=qemu-aarch64
-    part_with rustc in_package check FROM=rust
-    part_with "s390x-linux-gnu-gcc qemu-s390x $debian" from_rust s390x-unknown-linux-gnu \
-        check CROSS=s390x-linux-gnu- RUN=qemu-s390x
-    part_with "i686-linux-gnu-gcc $debian" from_rust i686-unknown-linux-gnu \
-        check CROSS=i686-linux-gnu-
-    # This takes the core library that was made above.
+    part in_package check FROM=c
+    part_with 's390x-linux-gnu-gcc qemu-s390x' in_package check CROSS=s390x-linux-gnu- \
+        RUN=qemu-s390x
+    part_with i686-linux-gnu-gcc in_package check CROSS=i686-linux-gnu-
     counts='calls of the crate for Rust take the instructions and bytes of compare/counts.md'
     if grep -qw avx2 /proc/cpuinfo; then
-        by_its_compiler compare/counts.md "python3 ld.lld i686-linux-gnu-gcc $debian" "$counts" \
+        by_its_compiler /usr/bin/rustc compare/counts.md \
+            'python3 ld.lld i686-linux-gnu-gcc /usr/lib/rustlib/src/rust/x.py' "$counts" \
             python3 -B compare/counts.py "$scratch"
     else
         skip "$counts (optional)" 'a processor with AVX2'
     fi
-    needs "clang lld $debian" 'the library for C links for macOS, with the names of the header' \
+    needs 'clang lld' 'the library for C links for macOS, with the names of the header' \
         names_for_macos
 }
 languages() {
@@ -305,7 +296,8 @@ languages() {
     needs 'cargo nm' 'a program has nothing of the crate for Rust uncalled' calls_nothing
     needs 'cargo nm' 'a debug program compiles no call of the crate for Rust' calls_shared
     needs cargo 'dependencies get the crate for Rust in place of the other one' for_dependencies
-    needs "$debian" 'the crate for Rust needs core alone' without_std
+    needs '/usr/bin/rustc /usr/lib/rustlib/src/rust/x.py' 'the crate for Rust needs core alone' \
+        without_std
     needs cargo 'the pages of the crate for Rust' pages
     sources='/usr/bin/cargo /usr/lib/rustlib/src/rust/x.py'
     for machine in s390x aarch64 i686; do
@@ -330,17 +322,19 @@ languages() {
     needs tsc 'the types of the package for JavaScript' tsc --noEmit --allowJs --checkJs \
         --target es2022 --module es2022 --moduleResolution node16 "$scratch/js/tests.mjs"
     needs 'node tsc' 'the types of the package for JavaScript, by require' js_required
-    by_its_compiler js/komihash_rattle.js wasm-ld \
+    by_its_compiler clang-19 js/komihash_rattle.js wasm-ld \
         'the WebAssembly in it is made of the header alone' made_of_web
 }
 verified() {
-    # These are all builds of the assembly, some functions by a second solver too, and one from the
-    # crate for Rust.
+    # These are all builds of the assembly, some functions by a second solver too, one from the crate
+    # for Rust, and one from the header.
     part_with "$python" in_package verify
     part_with "$arm-gcc $python" in_package verify "CROSS=$arm-"
     part_with "cvc5 $python" in_package verify LEVEL=x86-64 SECOND=cvc5 \
         'FUNCTION=komihash_v5 komihash_v5_finish komihash_v5_save'
     part_with "rustc $python" in_package verify FROM=rust
+    part_with "clang $python" in_package verify FROM=c OUT=out/clang CC=clang \
+        CFLAGS='-O2 -fno-vectorize -fno-slp-vectorize'
 
     tests=c/verify/tests out=$(echo "$scratch"/libkomihash_rattle-*/out) so=libkomihash_rattle.so.1
     libraries=("x86-64:$out/$so" "x86-64-v3:$out/glibc-hwcaps/x86-64-v3/$so")

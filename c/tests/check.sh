@@ -50,12 +50,12 @@ fails() {
 }
 
 # Whether a library has just the functions of the header, and needs nothing else. For some
-# processors, rustc makes calls of libc, or uses a table that the linker makes.
+# processors, compilers use a table that the linker makes, and functions of their own that read it.
 complete() {
     case ${1##*/} in *.dll.a) kinds=T ;; *) kinds='[TU]' ;; esac
     case ${1##*/} in *.a) flag= ;; *) flag=-D ;; esac
-    case $from$machine in
-    rust[!x]*) other='^(mem(cpy|set)|_GLOBAL_O|__aeabi_unwind|\.TOC)[^ ]* U' ;;
+    case $from in
+    c) other='^(_GLOBAL_OFFSET_TABLE_ U|\.TOC\. U|__x86\.get_pc_thunk)' ;;
     *) other=^$ ;;
     esac
     "$NM" -P $flag "$1" | grep -vE "$other" |
@@ -124,10 +124,10 @@ same_elsewhere() {
         # Other compilers may not know what is meant for $CC.
         [ "$compiler" != "$CC" ] || options="${CFLAGS--O2} $options" linking=${LDFLAGS-}
         rm -rf "$scratch/$copy" && mkdir "$scratch/$copy" &&
-            cp -R Makefile *.[ch] *.sh *.rs assembly "$scratch/$copy" &&
+            cp -R Makefile *.[ch] assembly "$scratch/$copy" &&
             chmod -R u+w "$scratch/$copy" &&
-            build all -C "$scratch/$copy" OUT=made "CC=$compiler" "crate=$PWD/$crate" \
-                "CFLAGS=$options" "LDFLAGS=$linking" || return
+            build all -C "$scratch/$copy" OUT=made "CC=$compiler" "CFLAGS=$options" \
+                "LDFLAGS=$linking" || return
     done
     for file in $libraries $programs; do
         cmp "$scratch/here/made/$file" "$scratch/elsewhere/made/$file" || return
@@ -234,7 +234,7 @@ installed_by_cmake() {
     cmake_installs . -D "CMAKE_INSTALL_LIBDIR=$scratch/apart" -D CMAKE_C_FLAGS=-g &&
         original_by_package "$scratch/apart" &&
         files_of "$scratch/apart" | diff "$scratch/files" - || return
-    [ "$from" = rust ] || "${CROSS}objdump" -h "$scratch/apart/$soname" | grep debug_line || return
+    "${CROSS}objdump" -h "$scratch/apart/libkomihash_rattle.a" | grep debug_line || return
     cmake_installs . && rm -r "$by_cmake" &&
         DESTDIR="$scratch/cmake" cmake --install "$scratch/c 'make'" --prefix /usr &&
         grep -x prefix=/usr "$scratch/cmake/usr/lib/pkgconfig/komihash_rattle.pc" &&
@@ -319,19 +319,18 @@ in_place() {
     mkdir "$scratch/place" && cp CMakeLists.txt komihash_rattle.h "$scratch/place" &&
         fails 'in another folder' cmake -S "$scratch/place" -B "$scratch/place"
 }
-for_host() {
-    printf '#!/bin/sh\necho sun4-linux\n' > "$scratch/cc" && chmod +x "$scratch/cc" &&
-        PATH=$scratch:$PATH sh from_rust.sh "$crate" sun4-linux "$scratch/host.o"
-}
 not_shared() {
     fails 'needs the shared library' \
         cmake_installs . -D KOMIHASH_RATTLE_LINK_SHARED=ON -D BUILD_SHARED_LIBS=OFF
 }
-other_source() { FROM=assembly fails 'may be rust' cmake_installs .; }
+other_source() {
+    fails "FROM may be c, .* and is 'rust'" build all FROM=rust && FROM=rust fails 'FROM may be c' \
+        cmake_installs .
+}
 other_machine() {
     OUT=$scratch/other && build all && echo sun4-linux > "$OUT/machine" &&
         fails 'was built for sun4-linux' build install "PREFIX=$OUT" &&
-        build all > "$scratch/made" && grep -E -- '-o [^ ]+\.o |from_rust' "$scratch/made" &&
+        build all > "$scratch/made" && grep -E -- '-o [^ ]+\.o ' "$scratch/made" &&
         echo "$machine" | sed 's/-/-vendor-/' > "$OUT/machine" && build install "PREFIX=$OUT/as"
 }
 older_build() {
@@ -405,7 +404,6 @@ if [ "$system" = Windows ]; then
     run_case "$dll, by LoadLibrary" prints $hash opened_on_windows
     needs 'clang lld-link' 'calls for the ABI of MSVC, by clang' for_msvc
     needs 'clang lld-link' 'the header alone for the ABI of MSVC, by clang' made_for_msvc
-    needs 'clang lld-link' 'the header alone for the ABI of MSVC, by clang' made_for_msvc
 fi
 sed -n '/^```c$/,/^```$/{/^```/!p;}' README.md > "$scratch/example.c"
 for compiler in "$CC" ${clang:+"$clang"}; do
@@ -440,13 +438,6 @@ if [ ! "$CROSS" ]; then
     needs 'cmake clang aarch64-linux-gnu-gcc' 'a target of clang, by CMake' cmake_for_arm
     needs 'clang aarch64-linux-gnu-gcc' 'a target of clang' build all "OUT=$scratch/arm" \
         'CC=clang --target=aarch64-linux-gnu' CFLAGS=-Werror CPPFLAGS= LDFLAGS= FROM=
-    name='a machine that rustc calls otherwise'
-    if rustc --version 2> "$scratch/case" |
-        awk -F '[ .]' '{ new = $2 > 1 || $3 > 87 } END { exit !new }'; then
-        run_case "$name" for_host
-    else
-        skip "$name" 'rustc 1.88'
-    fi
     compiler='musl-gcc -static'
     needs musl-gcc 'calls.c with musl' prints "$values" calls "$archive"
     needs gdb 'gdb finds main from each instruction of the library' unwinds "$archive" 4 5
@@ -483,7 +474,7 @@ run_case 'komihashsum with the shared library' with_shared
 needs cmake 'komihashsum with the shared library, by CMake' with_shared_by_cmake
 run_case 'what was built for another machine' other_machine
 run_case 'an older build for AVX2 does not stay, and a shared library is named' older_build
-needs cmake 'another source than rust' other_source
+needs cmake 'another source than C' other_source
 needs cmake 'a program that needs a library which is left out' not_shared
 needs cmake 'a build by CMake beside the Makefile' in_place
 
@@ -493,11 +484,8 @@ run_case 'what is installed is tested' checked
 run_case 'make -n check' sh -c '! CASE=none "$0" -n check | grep passed' $MAKE
 run_case 'an empty PREFIX' fails "not ''" build install PREFIX=
 run_case 'a relative PREFIX' fails "not 'here'" build install PREFIX=here
-for missing in "no-rustc:there is no Rust compiler 'no-rustc'" \
-    "true:'true' has no core library for .*: try 'rustup target add sun4-unknown-linux-gnu'"; do
-    run_case "another processor, and ${missing#*:}" fails "^komihash_.*${missing#*:}" \
-        build machine=sun4-linux "RUSTC=${missing%%:*}" "OUT=$scratch/none"
-done
+[ "$from" != assembly ] || run_case 'verify without a compiler of Rust' \
+    fails "no Rust compiler 'none'" build verify FROM=rust RUSTC=none "OUT=$scratch/none"
 case $machine in x86_64*) narrow=-m32 ;; *) narrow=-mabi=ilp32 ;; esac
 [ "$from" != assembly ] ||
     run_case '32-bit pointers' fails 'no 64-bit pointers' build "CFLAGS=$narrow"

@@ -3,10 +3,6 @@
 mkdir "$scratch/inline" && cat > "$scratch/inline/komihash_rattle.h" << 'END'
 #include "komihash_rattle_inline.h"
 END
-cat > "$scratch/inline/library.c" << 'END'
-#define KOMIHASH_RATTLE_IMPLEMENTATION
-#include "komihash_rattle_inline.h"
-END
 inline="-I $scratch/inline -I ."
 
 # Compiles calls.c with the header in place of the library, and these options: inlined OPTION..
@@ -18,9 +14,9 @@ inlined() {
 # Makes an object of the header by $compiler, with these options, and without a warning.
 made() {
     $compiler $inline -O2 -c -o "$scratch/made.o" -Wall -Wextra -Wpedantic -Wconversion -Wshadow \
-        -Werror "$@" "$scratch/inline/library.c"
+        -Werror "$@" komihash_rattle.c
 }
-defined() { "$NM" -P "$scratch/made.o" | awk '$2 == "T" { print $1 }' | sort; }
+defined() { "$NM" -P "$scratch/made.o" | awk '$2 == "T" && !/get_pc_thunk/ { print $1 }' | sort; }
 # Whether that has the functions of the header and needs nothing, and calls.c runs with it.
 made_library() {
     made -std=c99 -ffreestanding &&

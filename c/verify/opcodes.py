@@ -31,7 +31,7 @@ X86 = {
         vpermq vL.66W:0f3a00; vpermpd vL.66W:0f3a01; vbroadcastsd vL.66:0f3819
         vbroadcastf128 vL.66:0f381a
         vblendps v66:0f3a0c vL66:0f3a0c'''}
-ARITHMETIC = {0: 'add', 1: 'or', 2: 'adc', 4: 'and', 5: 'sub', 6: 'xor', 7: 'cmp'}
+ARITHMETIC = {0: 'add', 1: 'or', 2: 'adc', 3: 'sbb', 4: 'and', 5: 'sub', 6: 'xor', 7: 'cmp'}
 SHIFTS = {0: 'rol', 4: 'shl', 5: 'shr', 7: 'sar'}
 CONDITIONS = {2: 'b', 3: 'ae', 4: 'e', 5: 'ne', 6: 'be', 7: 'a', 8: 's', 9: 'ns', 12: 'l',
               13: 'ge', 14: 'le', 15: 'g'}

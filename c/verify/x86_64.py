@@ -150,6 +150,14 @@ def subtract(c, i):
     c.flags = compared(a, b)
 
 
+@means(TABLE, 'sbb')
+def subtract_with_borrow(c, i):
+    (a, b), borrow = c.both(i), c.flag('c')
+    result = simple(a - b - number_of(borrow, a.size()))
+    c.put(i, 0, result)
+    c.set_flags(result, c=z3.If(borrow, z3.ULE(a, b), z3.ULT(a, b)))
+
+
 @means(TABLE, 'inc', 'dec')
 def step_by_one(c, i):
     result = simple(c.get(i, 0) + (1 if i.mnemonic == 'inc' else -1))
