@@ -835,7 +835,8 @@ def header(sources):
     parts["names"] = "\n".join(f"#define {name} KOMI_NAME({name})" for name in names)
     template = re.sub(r"@each\n(.*?)@end\n", lambda found: "\n".join(
         found[1].replace("@", number) for number in "54"), template, flags=re.S)
-    return re.sub(r"^@(\w+)$", lambda found: parts[found[1]], template, flags=re.M)
+    text = re.sub(r"^@(\w+)$", lambda found: parts[found[1]], template, flags=re.M)
+    return text.replace("π", "pi")  # Not every compiler reads UTF-8.
 
 
 def sources_of(crate):

@@ -550,7 +550,7 @@ KOMI_INLINE void komi_write_first_bytes(const uint64_t *words, size_t count, uin
  *
  * Only `places` depends on the version. */
 
-/* The hash's eight constants: the first 512 bits of the fractional part of π. */
+/* The hash's eight constants: the first 512 bits of the fractional part of pi. */
 #define KOMI_C1 UINT64_C(0x243f6a8885a308d3)
 #define KOMI_C2 UINT64_C(0x13198a2e03707344)
 #define KOMI_C3 UINT64_C(0xa4093822299f31d0)

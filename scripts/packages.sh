@@ -80,8 +80,8 @@ calls_nothing() {
         --extern "komihash_rattle=$CARGO_TARGET_DIR/debug/libkomihash_rattle.rlib" &&
         nm -C "$scratch/nothing" > "$scratch/case" && ! grep komihash_rattle:: "$scratch/case"
 }
-# Whether a debug program compiles no call itself, but takes those that were compiled with the crate,
-# which cargo may optimize alone.
+# Whether a debug program compiles no call itself, but takes those that were compiled with the
+# crate, which cargo may optimize alone.
 calls_shared() {
     echo 'use komihash_rattle::*; fn main() { let mut stream = StreamedKomihash::new_with_seed(1);
         let (mut generator, mut bytes) = (Komirand::init(2), [0; 131]); stream.write(&bytes);
@@ -182,7 +182,8 @@ made_again() {
         (cd "$scratch/copy" && find . | sort > "$scratch/files" &&
             PYTHON=/usr/bin/python3 bash scripts/release.sh "$scratch/again" c js page python rust &&
             (cd "$packed" && sha256sum --strict --quiet --check SHA256SUMS) &&
-            [ "$(wc -l < "$packed/SHA256SUMS")" = 5 ] && diff -r "$packed" "$scratch/again" && find . | sort | diff "$scratch/files" -)
+            [ "$(wc -l < "$packed/SHA256SUMS")" = 5 ] && diff -r "$packed" "$scratch/again" &&
+            find . | sort | diff "$scratch/files" -)
 }
 all_right() { diff <(echo "$(all_rows | grep -cvE '^(#|unpad)') rows, 0 failures") -; }
 as_on_page() { diff <(sed -n 's|.*; // ||p' "$scratch/js/page.mjs") -; }
@@ -326,8 +327,8 @@ languages() {
         'the WebAssembly in it is made of the header alone' made_of_web
 }
 verified() {
-    # These are all builds of the assembly, some functions by a second solver too, one from the crate
-    # for Rust, and one from the header.
+    # These are all builds of the assembly, some functions by a second solver too, one from the
+    # crate for Rust, and one from the header.
     part_with "$python" in_package verify
     part_with "$arm-gcc $python" in_package verify "CROSS=$arm-"
     part_with "cvc5 $python" in_package verify LEVEL=x86-64 SECOND=cvc5 \
