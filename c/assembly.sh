@@ -2,11 +2,12 @@
 # Compiles komihash_rattle.c to the assembly of the library for C, by Debian's package clang-19:
 # assembly.sh FOLDER. Or to WebAssembly that exports some functions: assembly.sh FILE.wasm NAME..
 # Without arguments, prints the SHA-256 of the header that is all of the library, without its
-# comments, and of this script, which the head of each file has too.
+# comments and the library's version, and of this script, which the head of each file has too.
 set -euo pipefail
 made=$(realpath -m "${1:-.}") names=("${@:2}")
 cd "$(dirname "${BASH_SOURCE[0]}")"
-made_of=$(sed -e '/^ *\/\*.*\*\/$/d' -e '/^ *\/\*/,/\*\/$/d' komihash_rattle_inline.h |
+made_of=$(sed -e '/^ *\/\*.*\*\/$/d' -e '/^ *\/\*/,/\*\/$/d' -e /_RATTLE_VERSION/d \
+    komihash_rattle_inline.h |
     cat - assembly.sh | sha256sum | cut -d ' ' -f 1)
 [ $# != 0 ] || { echo "$made_of"; exit; }
 scratch=$(mktemp -d)

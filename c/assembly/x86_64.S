@@ -2,7 +2,7 @@
  * Copyright (c) 2026 the authors of komihash_rattle
  *
  * `make assembly` made this file from komihash_rattle_inline.h. Do not edit it.
- * Made of: SHA-256 c50f6e4ed6d477033c1e2a862b470f3f0c53be8fa498391b4cce2923e610a4d0
+ * Made of: SHA-256 2c467205dd9be308a58eb1c2b7da8d3b83e8800e09f0695951fb5c65f9fa3b16
  * Options: -O2 -fno-vectorize -fno-slp-vectorize -mllvm -disable-loop-idiom-memcpy -mllvm -enable-ext-tsp-block-placement -fPIC -ffunction-sections -falign-functions=64 -fno-addrsig -fno-ident -fno-verbose-asm -mno-red-zone -fcf-protection=full
  * Compiler: Debian clang version 19.1.7 (3~deb12u1)
  */
