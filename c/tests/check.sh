@@ -49,13 +49,13 @@ fails() {
     ! "$@" > "$scratch/printed" 2>&1 && grep "$text" "$scratch/printed"
 }
 
-# Whether a library has just the functions of the header, and needs nothing else. For some
-# processors, compilers use a table that the linker makes, and functions of their own that read it.
+# Whether a library has just the functions of the header, and needs nothing else, but what compilers
+# use for some processors, to read a table that the linker makes, and for stack protectors.
 complete() {
     case ${1##*/} in *.dll.a) kinds=T ;; *) kinds='[TU]' ;; esac
     case ${1##*/} in *.a) flag= ;; *) flag=-D ;; esac
     case $from in
-    c) other='^(_GLOBAL_OFFSET_TABLE_ U|\.TOC\. U|__x86\.get_pc_thunk)' ;;
+    c) other='^(_GLOBAL_OFFSET_TABLE_ U|\.TOC\. U|__x86\.get_pc_thunk|__stack_chk_)' ;;
     *) other=^$ ;;
     esac
     "$NM" -P $flag "$1" | grep -vE "$other" |
