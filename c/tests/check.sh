@@ -68,14 +68,12 @@ calls_each() {
             "$NM" -P "$scratch/calls.o" | grep -oE '^_?komihash_v[^ ]* U' || return
     done | sed 's/^_//; s/ U$//' | sort | diff "$scratch/declared" -
 }
-# Whether a library is marked for IBT and SHSTK, or for BTI: by a note, and in each function that it
-# exports, some by two names.
+# Whether a library is marked for IBT and SHSTK, or for BTI: by a note, and at the start of each
+# function of the header.
 marked() {
-    case ${1##*/} in *.a) flag=-t ;; *) flag=-T ;; esac
     "${CROSS}readelf" -n "$1" | grep -E 'feature: (IBT, SHSTK|BTI)$' &&
-        "${CROSS}objdump" -d "$1" | grep -oE 'endbr64|bti.c' > "$scratch/marks" &&
-        test "$(wc -l < "$scratch/marks")" = "$("${CROSS}objdump" $flag "$1" |
-            awk '$2 == "g" && $3 ~ /F/ { print $1, $4 }' | sort -u | wc -l)"
+        test "$("${CROSS}objdump" -d "$1" | grep -A 1 '<komihash_v.*>:$' |
+            grep -cE 'endbr64|bti.c')" = "$(wc -l < "$scratch/declared")"
 }
 without_libraries() { ! "${CROSS}objdump" -p "$OUT/$dll" | grep 'DLL Name'; }
 # Opens the DLL, as other languages do, and looks for a function, and for an unwind table.

@@ -280,12 +280,12 @@ a byte that was popped||not written|str x0, [sp, -16]!; add sp, sp, 16; sub sp, 
 a call|||stp x0, x30, [sp, -16]!; bl 1f; ldp x0, x30, [sp], 16; b body; 1: ret
 whole blocks that are wrong|v5_write|Write(13,)..the stream at 0|
     after x0, "ldr x9, [x0, 64]; cbnz x9, 1f; mov w9, 1; strb w9, [x0]"
-a write of 64 bytes that takes 51|v5_write|Write(13,)..before the end|
+a write of 64 bytes that takes 51|v5_write|Write(13,)..in no array|
     cmp x2, 64; b.ne body; ldr x9, [x0, 64]; cmp x9, 13; b.ne body; mov x2, 51
 one block that is wrong|v5_write|Write(13,)..the stream at 0|whole 51, "strb w0, [x0]"
 three blocks that are wrong|v5_write|Write(13,)..the stream at 0|whole 179, "strb w0, [x0]"
 x19 after three blocks|v5_write|Write(13,)..x19 of the caller|whole 179, "eor x19, x19, 1"
-a loop that ends early|v5_write|Write(13,)..before the end|
+a loop that ends early|v5_write|Write(13,)..more bytes or fewer|
     turn: cmp LEFT, 4096; b.ne 1f; mov LEFT, 128; 1:
 a flag that a turn changes|v5_write|Write(13,)..at 136|
     turn: cmp LEFT, 4096; b.ne 1f; strb wzr, [x0, 136]; 1:
@@ -398,8 +398,8 @@ ALIKE = {
         ldur x9, [_, 1]; ldurb w9, [_, -1]; ldp x9, x10, [_]; ldp x9, x10, [_], 16
         str x9, [_, x10]; str x9, [_, -16]!; str q0, [_]; strb w9, [_]; strh w9, [_]
         stur x9, [_, 1]; stp x9, x10, [_]; stp x9, x10, [_, -16]!''')}
-LOOPS = {'v5': '_R.*hash_of_blocksKh5_.*', 'v5_rand_fill': 'komihash_v5_rand_fill',
-         'v5_write': '_R.*Kh5_.*complete_blocks.*'}
+LOOPS = {'v5': 'komi_hash_of_blocks_v5', 'v5_rand_fill': 'komihash_v5_rand_fill',
+         'v5_write': 'komi_stream_complete_blocks_v5'}
 # The registers of these loops, whatever the compiler chose: what is multiplied, a lane, the address
 # of the bytes that are read, and how many are left; in a fill the address, the index of the word,
 # and how many words there are. FRAME is how far above the stack pointer a body's last push lies.
