@@ -10,29 +10,28 @@ Rust that the crate uses, and ends at anything else, with file and line:
 - `const V: u8` is a first parameter, which inlining makes a constant. A function that isn't inlined
   has a copy for each version, and one that is generic over a trait a copy for each type.
 - A tuple is returned by pointers, `None` as KOMIHASH_NONE, and an optional stream as a bool.
-- A later `let` of the same name and type is an assignment.
+- A later `let` of the same name and type is an assignment. A `let` with a type has its value later.
 """
 import re
 import sys
 import textwrap
-from itertools import takewhile
 from pathlib import Path
 
 HERE = Path(__file__).resolve().parent
-MODULES = ("utils", "rounds", "rounds/words", "padding", "hash", "rounds/pending", "stream/saved",
+MODULES = ("utils", "rounds", "whole_words", "padding", "hash", "pending", "stream/saved",
            "stream/streamed", "generator")
 ITEM = re.compile(r"""\n+|//\ Made.*\n|use\ [^;]*;\n|(?:pub(?:\(crate\))?\ )?mod\ \w+;\n
     |(?P<closing>\}\n)|(?P<title>(?://!.*\n)+)|(?P<note>(?:\ *//.*\n)*)(?P<marks>(?:\ *\#\[.*\]\n)*)
     (?P<indent>\ *)(?:pub(?:\(crate\))?\ )?(?:trait\ (?:.*\n)+?\}\n
     |(?:const\ )?fn\ (?P<fn>\w+)(?:<(?P<of>[^>]*)>)?(?P<begin>\()(?:.*\n)+?(?P=indent)\}\n
-    |struct\ (?P<struct>\w+)(?:\((?P<nameless>.*)\);\n|(?:[^{]*)\{\n(?P<fields>(?:.*\n)+?)\}\n)
+    |struct\ (?P<struct>\w+)[^{]*\{\n(?P<fields>(?:.*\n)+?)\}\n
     |const\ (?P<constant>\w+):\ (?P<type>\w+)\ =\ (?P<value>.*);\n
     |impl(?:<(?P<numbers>[^>]*)>)?\ (?:\w+\ for\ )?(?P<owner>[&\w\[\]]+)[^{]*\{\n)""", re.X)
-TOKEN = re.compile(r"""\s*(?://[^\n]*|(?P<lifetime>'[a-z]+\b(?!'))|"[^"\\]*"|0x[0-9a-f_]+\b
-    |\d[\d_]*\b|[A-Za-z_]\w*|::|->|\.\.|&&|\|\||[=!<>]=|<<|>>|\|=|$
+TOKEN = re.compile(r"""\s*(?://[^\n]*(?:\s*//[^\n]*)*|(?P<lifetime>'[a-z]+\b(?!'))|"[^"\\]*"
+    |0x[0-9a-f_]+\b|\d[\d_]*\b|[A-Za-z_]\w*|::|->|\.\.|&&|\|\||[=!<>]=|<<|>>|\|=|$
     |[-+*/%^&|!<>=.,;:(){}\[\]#?])""", re.X)
-LEVELS = ["||"], ["&&"], ["==", "!=", "<", ">", "<=", ">="], ["|"], ["^"], ["&"], ["<<", ">>"], \
-    ["+", "-"], ["*", "/", "%"]  # of Rust, the loosest first
+# The operators of Rust, the loosest first.
+LEVELS = [ops.split(",") for ops in "|| && ==,!=,<,>,<=,>= | ^ & <<,>> +,- *,/,%".split()]
 # How tightly C binds, and what compilers want in parentheses though C doesn't.
 BINDS = {op: level for level, ops in enumerate(
     "? || && | ^ & ==,!= <,>,<=,>= <<,>> +,- *,/,% unary atom".split()) for op in ops.split(",")}
@@ -42,15 +41,12 @@ TYPES = {**NUMBERS, "bool": "bool", "": "void", "&[u8]": "komi_bytes", "&mut[u8]
          "&[u64]": "komi_words", "&[[u8;8]]": "komi_bytes", "[u64;8]": "komi_block",
          "[usize;8]": "komi_indices", "XoredPair": "komi_pair", "Lanes": "komi_lanes",
          "Pending": "komi_pending", "StreamedKomihash": "komi_stream", "Komirand": "komi_rand",
-         "Option<usize>": "size_t", "Option<StreamedKomihash>": "bool", "(u64,u64)": "void",
-         "(bool,bool)": "void"}
+         "Option<usize>": "size_t", "Option<StreamedKomihash>": "bool", "(u64,u64)": "void"}
 BY_POINTERS = {"Option<StreamedKomihash>": ["komi_stream *resumed"],
-               "(u64,u64)": ["uint64_t *first", "uint64_t *second"],
-               "(bool,bool)": ["bool *first", "bool *second"]}
-SCALE = {"[u8;8]": 8, "[u64;2]": 2}  # elements of slices that C counts by several of theirs
+               "(u64,u64)": ["uint64_t *first", "uint64_t *second"]}
+SCALE = {"[u8;8]": 8, "[u64;2]": 2}  # chunks, which C counts by their elements
 SCALARS = {**dict.fromkeys(("wrapping_add", "to_le_bytes", "ilog2", "rotate_left"), "u64"),
            "min": "usize"}  # methods of numbers, and their types
-NAMELESS = {"XoredPair": ["low", "e"]}  # what C calls fields without a name
 MARKS = {"inline(always)": "KOMI_INLINE", "inline(never)": "KOMI_APART",
          "cfg_attr(any(debug_assertions,for_c),inline(never))": "KOMI_SHORT"}
 IGNORED = re.compile(r"(allow|derive|repr)\([\w,:]*\)|must_use|track_caller|"
@@ -80,24 +76,23 @@ class Value:
 
     def start(self):
         """Returns the pointer to the first element of a slice or array."""
-        return self.at or Value(self.text if self.type == "[u8;8]" else self.text + ".at")
+        return self.at or Value(self.text + ".at")
 
-    def count(self):
-        _, of, size = element(self.type)
-        length = Value(size) if size else self.length or Value(f"{self.text}.length")
-        return length.joined("/", Value(str(SCALE[of]))) if of in SCALE else length
+    def size(self):
+        """Returns the length of a slice or array. Of chunks, it counts the bytes."""
+        size = element(self.type)[2]
+        return Value(size) if size else self.length or Value(f"{self.text}.length")
+
+    def times(self, number):
+        return self if number == 1 else Value(str(number * int(self.text))) \
+            if self.text.isdigit() else Value(str(number)).joined("*", self)
 
     def part(self, begin, length=None):
         """Returns the slice of `length` elements from `begin` on, or of all from there."""
         reference, of, _ = element(self.type)
-        type, scale = f"{reference if 'mut' in reference else '&'}[{of}]", SCALE.get(of, 1)
-        length = length or self.count().joined("-", begin)
-        if scale > 1:
-            begin = Value(str(scale * int(begin.text))) if begin.text.isdigit() else \
-                Value(str(scale)).joined("*", begin)
-        at = self.start().joined("+", begin)
-        whole = f"{TYPES[type]}_of({at.text}, {length.text})" if type in TYPES else "@"
-        return Value(whole if scale == 1 else "@", type, at=at, length=length)
+        begin, scale = begin.times(SCALE.get(of, 1)), SCALE.get(of, 1)
+        length = length.times(scale) if length else self.size().joined("-", begin)
+        return slice_of(f"{reference or '&'}[{of}]", self.start().joined("+", begin), length)
 
 
 def known(holds):
@@ -112,6 +107,11 @@ def element(type):
     return found and found.groups()
 
 
+def is_array(type):
+    """Whether this refers to an array, or to a slice for which C has no struct."""
+    return type[:1] == "&" and "[" in type and (element(type)[2] or type not in TYPES)
+
+
 def declared(type, name, pointer=False):
     """Returns the declaration of a name, or of a pointer to the elements of a slice."""
     if type in TYPES and not pointer:
@@ -120,13 +120,14 @@ def declared(type, name, pointer=False):
     return f"{'' if 'mut' in reference else 'const '}{TYPES[of]} *{name}"
 
 
+def slice_of(type, at, length):
+    text = f"{TYPES[type]}_of({at.text}, {length.text})" if type in TYPES else "@"
+    return Value(text, type, at=at, length=length)
+
+
 def braces(type, parts):
     known(not any(part.changes for part in parts))  # C chooses the order
     return Value("{%s}" % ", ".join(part.text for part in parts), type, parts=parts)
-
-
-def tuple_of(parts):
-    return braces(f"({','.join(part.type for part in parts)})", parts)
 
 
 def number_of(text):
@@ -157,20 +158,18 @@ class Function:
     """Reads a function by its tokens, and prints it after those that it calls."""
     def __init__(self, crate, item, bound):
         self.path, it, self.owner, numbers, self.mark = item
-        self.crate, self.text, crate.path, crate.text = crate, it.string, self.path, it.string
-        self.tokens, self.places, self.i, place = [], [], 0, it.start("begin")
+        self.crate, self.tokens, self.places, self.i, place = crate, [], [], 0, it.start("begin")
         while place < it.end():
-            crate.place = place
+            crate.place = self.path, it.string, place
             found = TOKEN.match(it.string, place) or known(False)
             place = found.end()
             if not found["lifetime"]:
                 self.tokens.append(found[0].strip())
-                self.places.append(found.start())
-        self.bound, self.lines, self.depth = bound, [], 1
+                self.places.append(crate.place)
+        self.bound, self.lines, self.depth, self.kept = bound, [], 1, set()
         self.names = {name: Value({"V": "version"}.get(name, name.lower()), type)
                       for name, type in numbers.items()}
-        self.take("(")
-        self.parameters = dict(self.listed(")", self.parameter))
+        self.parameters = dict(self.listed("()", self.parameter))
         self.result = self.type("where", "{") if self.has("->") else ""
         self.skip("{")
         self.block("return" if self.result else None)
@@ -184,13 +183,8 @@ class Function:
     def peek(self, ahead=0):
         return self.tokens[self.i + ahead]
 
-    def stand(self):
-        """Notes the place, in case that what stands here isn't known."""
-        self.crate.path, self.crate.text = self.path, self.text
-        self.crate.place = self.places[self.i]
-
     def take(self, *wanted):
-        self.stand()
+        self.crate.place = self.places[self.i]
         known(not wanted or self.peek() in wanted)
         self.i += 1
         return self.tokens[self.i - 1]
@@ -201,21 +195,19 @@ class Function:
         return found
 
     def skip(self, *ends):
-        """Skips up to one of the tokens, or what is in the brackets that begin here."""
+        """Skips up to one of these tokens that no brackets surround."""
         depth, begin = 0, self.i
         while depth or self.peek() not in ends:
             depth += (self.peek() in ("(", "[", "{")) - (self.peek() in (")", "]", "}"))
             self.take()
-            if not depth and not ends:
-                break
         return "".join(self.tokens[begin:self.i])
 
-    def listed(self, end, one):
-        """Returns what `one` returns of each item, up to the token `end`."""
-        items = []
-        while not self.has(end):
+    def listed(self, brackets, one):
+        """Returns what `one` returns of each item in brackets."""
+        items = self.take(brackets[0]) and []
+        while not self.has(brackets[1]):
             items.append(one())
-            known(self.peek() == end or self.take(","))
+            known(self.peek() == brackets[1] or self.take(","))
         return items
 
     def type(self, *ends):
@@ -232,52 +224,45 @@ class Function:
         return name, type
 
     def print(self, name, note):
-        head = [declared(type, name, name in self.pointers)
-                for name, type in self.parameters.items()]
-        head += BY_POINTERS.get(self.result, [])
+        own = [declared(type, name, name in self.pointers)
+               for name, type in self.parameters.items()] + BY_POINTERS.get(self.result, [])
         numbers = [declared(self.names[number].type, self.names[number].text)
                    for number in self.numbers]
         self.is_copied = self.mark != "KOMI_INLINE" and "V" in self.numbers
-        heads = {"": numbers + head, **({"_v4": head, "_v5": head} if self.is_copied else {})}
-        given = ", ".join(re.findall(r"\w+(?=,|$)", ",".join(head)))
+        given = ", ".join(re.findall(r"\w+(?=,|$)", ",".join(own)))
         lines = wrapped("/* " + note, 0) if note else []
-        for end, head in heads.items():
+        for end in ("", "_v4", "_v5") if self.is_copied else ("",):
             mark = "KOMI_INLINE" if self.is_copied and not end else self.mark
-            head = declared(self.result, f"{name}{end}({', '.join(head) or 'void'})")
+            head = ", ".join(own if end else numbers + own) or "void"
+            lines += wrapped(f"{mark} {declared(self.result, f'{name}{end}({head})')} {{", 0)
             call = f"    {'return ' if self.result else ''}{name}({end[2:]}, {given});"
-            lines += wrapped(f"{mark} {head} {{", 0)
             lines += [call] if end else [
                 line for depth, text in self.lines for line in wrapped(text, depth)]
             lines += ["}", ""]
         self.crate.output.append("\n".join(lines[:-1]))
 
     def settle(self):
-        """Makes pointers of slices whose length nothing asks for."""
-        def others(name, lines, end=r"(?!\.at)"):
-            """Whether a line has a name otherwise than as a pointer."""
-            return any(re.search(rf"(?<![.>\w]){name}\b{end}", text) and text[:2] != "/*"
-                       for _, text in lines)
-
-        def named(old, new, lines):
-            return [(depth, text if text[:2] == "/*" else
-                     re.sub(rf"(?<![.>\w]){old}\.at\b", new, text)) for depth, text in lines]
-
-        lines, self.lines = self.lines, []
-        for k, (depth, text) in reversed(list(enumerate(lines))):
-            if isinstance(text, tuple):
-                (name, value), at = text, text[1].start().text
-                text = f"{TYPES.get(value.type)} {name} = {value.text};"
-                if not others(name, takewhile(lambda line: line[0] >= depth, self.lines)):
-                    simple = re.fullmatch(r"(\w+)(\.at)?", at)
-                    simple = simple and not others(simple[1], self.lines, r" \|?= ")
-                    self.lines = named(name, at if simple else name, self.lines)
-                    text = "" if simple else f"{declared(value.type, name, True)} = {at};"
-            self.lines = [(depth, text)] * (text != "") + self.lines
-        self.pointers = [name for name, type in self.parameters.items()
-                         if type[0] == "&" and element(type) and not others(name, self.lines)]
-        for name in self.pointers:
-            self.lines = named(name, name, self.lines)
+        """Makes pointers of slices whose length nothing asks for, the last first."""
+        for k, (depth, text) in reversed(list(enumerate(self.lines))):
+            it = re.fullmatch(r"(komi_\w+) (\w+) = \1_of\(([^,]*), .*\);", text)
+            end = next((i for i in range(k, len(self.lines)) if self.lines[i][0] < depth), None)
+            if it and self.is_pointer(it[2], k + 1, end):
+                type = next(type for type in TYPES if TYPES[type] == it[1])
+                self.lines[k] = depth, f"{declared(type, it[2], True)} = {it[3]};"
+        self.pointers = [name for name, type in self.parameters.items() if is_array(type) or
+                         type[:1] == "&" and element(type) and self.is_pointer(name)]
         known(not any("@" in text for _, text in self.lines))
+
+    def is_pointer(self, name, begin=0, end=None):
+        """Whether lines ask of a slice only where it begins. Its name becomes that in them."""
+        asked = re.compile(rf"(?<![.>\w]){name}\b(\.at\b)?")
+        lines = self.lines[begin:end]
+        if any(it[1] is None for _, text in lines for it in asked.finditer(text)
+               if text[:2] != "/*"):
+            return False
+        self.lines[begin:end] = [(depth, text if text[:2] == "/*" else asked.sub(name, text))
+                                 for depth, text in lines]
+        return True
 
     # Expressions.
     def expression(self, level=0):
@@ -318,33 +303,32 @@ class Function:
         type = re.sub("^&(mut)?", "", value.type) if op == "*" else op + value.type
         if not element(value.type):
             return Value(op[0] + value.within("unary"), type, "unary")
-        return Value("@", type, at=(self.named(value) if "(" in value.text else value).start())
+        known("(" not in value.text)
+        return Value("@", type, at=value.start())
 
     def primary(self):
-        if self.has("("):
-            parts = self.listed(")", self.expression)
-            return tuple_of(parts) if len(parts) > 1 else \
+        if self.peek() == "(":
+            parts = self.listed("()", self.expression)
+            return braces("tuple", parts) if len(parts) > 1 else \
                 Value(f"({parts[0].within('?')})", parts[0].type)
         if self.peek() in ("[", "if"):
-            return self.array() if self.has("[") else self.choice()
+            return self.array() if self.peek() == "[" else self.choice()
         path = [self.take()]
         while self.peek() == "::" and self.peek(1) != "<":
             path.append(self.take() and self.take())
         name, owner = path[-1], "".join(path[-2:-1]).replace("Self", self.owner)
         if name[0].isdigit():
             return Value(number_of(name), "int")
-        if name in ("true", "false"):
-            return Value(name, "bool")
-        if name == "None":
-            return Value("KOMIHASH_NONE", name)
+        if name in ("true", "false", "None"):
+            return Value("KOMIHASH_NONE", name) if name == "None" else Value(name, "bool")
         numbers = self.turbofish()
         if self.peek() == "(":
             for key in (owner, name), ("", name):
                 if key in self.crate.functions:
                     return self.call(key, numbers)
             return self.made(owner, name)
-        if name in self.crate.structs and self.has("{"):
-            value = braces(name, self.listed("}", self.field))
+        if name in self.crate.structs and self.peek() == "{":
+            value = braces(name, self.listed("{}", self.field))
             known([part.field for part in value.parts] == list(self.crate.structs[name]))
             return value
         self.crate.used.add(name)
@@ -352,12 +336,12 @@ class Function:
             if name in self.crate.constants else self.names[name]
 
     def turbofish(self):
-        numbers = self.listed(">", self.take) if self.has("::", "<") else []
+        numbers = self.listed("<>", self.take) if self.has("::") else []
         return [self.names[text].text if text in self.names else text for text in numbers]
 
     def made(self, owner, name):
-        """Returns the value of a call of what is Rust's own, or of a struct without names."""
-        values = self.arguments()
+        """Returns the value of a call of what is Rust's own."""
+        values = self.listed("()", self.expression)
         value = values[0]
         if name == "from":
             return self.converted(value, owner)
@@ -366,26 +350,18 @@ class Function:
             return Value(f"komi_load_{owner}({value.start().text})", owner)
         if name == "multiply128":
             return Value(f"komi_{name}({value.text}, {values[1].text}, @)", "(u64,u64)")
-        if name == "Some":
-            type = f"Option<{value.type.replace('int', 'usize')}>"
-            return Value(value.text, type, value.op, value.parts)
-        return braces(name, values if name in NAMELESS else known(False))
-
-    def arguments(self):
-        self.take("(")
-        return self.listed(")", self.expression)
+        known(name == "Some")
+        return value
 
     def array(self):
-        parts = [self.expression()]
-        if self.has(";"):
-            known(parts[0].text == "0" and self.take("8") and self.take("]"))
-            return Value("{{0}}", "[u64;8]", parts=parts)
-        parts += self.listed("]", self.expression) if self.has(",") else []
+        if self.has("[", "0", ";", "8", "]"):
+            return Value("{{0}}", "[u64;8]", parts=[Value("0")])
+        parts = self.listed("[]", self.expression)
         start = parts[0].text[:-3]
         if all(part.text == f"{start}[{k}]" for k, part in enumerate(parts)):
             return Value("@", f"[u8;{len(parts)}]", at=Value(start))
         type = f"[{parts[0].type.replace('int', 'usize')};{len(parts)}]"
-        return Value(f"{{{braces('', parts).text}}}", type, parts=parts)
+        return Value(f"{{{braces(type, parts).text}}}", type, parts=parts)
 
     def field(self):
         name = self.take()
@@ -394,28 +370,26 @@ class Function:
         return value
 
     def choice(self):
-        condition, yes = self.take("if") and self.expression(), self.braced()
-        return self.chosen(condition, yes, self.take("else") and (
-            self.choice() if self.peek() == "if" else self.braced()))
-
-    def braced(self):
-        value = self.take("{") and self.expression()
-        self.take("}")
-        return value
+        condition = self.take("if") and self.expression()
+        [yes] = self.listed("{}", self.expression)
+        [no] = self.take("else") and (
+            [self.choice()] if self.peek() == "if" else self.listed("{}", self.expression))
+        return self.chosen(condition, yes, no)
 
     def chosen(self, condition, yes, no):
-        if yes.parts:  # words without a jump, of which C computes both
-            known(all(re.fullmatch(r"\w+", part.text) for part in [*yes.parts, *no.parts]))
-            return tuple_of([Value(f"komi_either({condition.text}, {one.text}, {other.text})", "u64")
-                             for one, other in zip(yes.parts, no.parts)])
-        return Value(f"{condition.within('||')} ? {yes.within('||')} : {no.within('?')}",
-                     no.type if yes.type in ("int", "None") else yes.type, "?")
+        if yes.parts:
+            parts = [self.chosen(condition, *both) for both in zip(yes.parts, no.parts)]
+            known(all(part.op == "atom" for part in parts))
+            return braces("tuple", parts)
+        type = no.type if yes.type in ("int", "None") else yes.type
+        if type == "u64" and re.fullmatch(r"\w+ \w+", f"{yes.text} {no.text}"):
+            return Value(f"komi_either({condition.text}, {yes.text}, {no.text})", type)
+        return Value(f"{condition.within('||')} ? {yes.within('||')} : {no.within('?')}", type, "?")
 
     def call(self, key, numbers, of=()):
-        it, values = self.crate.functions[key][1], [*of, *self.arguments()]
+        it, values = self.crate.functions[key][1], [*of, *self.listed("()", self.expression)]
         bound = re.sub("^&(?=[A-Z])", "", values[1].type) if "W:" in (it["of"] or "") else ""
         done, own = self.crate.printed(key, bound), list(numbers_in(it["of"]))
-        self.stand()
         given = dict(zip(own, numbers))
         texts = [given.get(name) or self.names[name].text for name in done.numbers]
         texts += [self.passed(value, type, name in done.pointers)
@@ -432,16 +406,17 @@ class Function:
     def passed(self, value, wanted, is_pointer):
         """Returns the text of a value where a type is wanted."""
         known(not value.changes and not value.parts)
-        if not element(wanted) or wanted[0] != "&":
-            return value.text
-        if is_pointer or value.type == wanted:
-            return value.start().text if is_pointer else value.text
-        return f"{TYPES[wanted]}_of({value.start().text}, {value.count().text})"
+        if is_pointer:
+            return value.start().text
+        return value.text if wanted[:1] != "&" or not element(wanted) or value.type == wanted \
+            else slice_of(wanted, value.start(), value.size()).text
 
     def postfix(self, value):
         while self.peek() in ("[", "."):
             if self.take() == "[":
                 value = self.indexed(value)
+            elif self.peek().isdigit():
+                value = value.parts[int(self.take())]
             elif self.peek(1) in ("(", "::"):
                 value = self.method(value, self.take())
             else:
@@ -460,7 +435,7 @@ class Function:
                          "u8", "unary")
         if is_range:
             return value.part(start, end and end.joined("-", start))
-        _, of, _ = element(value.type)
+        of = element(value.type)[1]
         return Value("@", of, at=value.part(start).at) if of in SCALE else \
             Value(f"{value.start().within('atom')}[{start.within('?')}]", of)
 
@@ -470,9 +445,9 @@ class Function:
         if key in self.crate.functions:
             return self.call(key, numbers, [value if value.type[0] == "&" else Value(
                 "&" + value.within("unary"), "&mut" + value.type, "unary")])
-        given = self.arguments()
+        given = self.listed("()", self.expression)
         if name == "unwrap":  # of a chunk, which is there
-            known(re.match(r"\(?&(mut)?\[u8;", value.type))
+            known(value.parts or re.match(r"&(mut)?\[u8;", value.type))
             return value
         known(value.type == SCALARS.get(name, value.type))
         if name == "wrapping_add":
@@ -482,21 +457,21 @@ class Function:
         if name in SCALARS:
             return Value(f"komi_{name}({', '.join(part.within('?') for part in [value] + given)})",
                          "u32" if name == "ilog2" else value.type)
-        return self.of_slice(value, name, [*numbers, *given], element(value.type), value.count())
+        return self.of_slice(value, name, [*numbers, *given], element(value.type))
 
-    def of_slice(self, value, name, given, array, length):
+    def of_slice(self, value, name, given, array):
         """Returns the value of a method of slices and arrays, with a length in <..> or (..)."""
+        scale, length = SCALE.get(array[1], 1), value.size()
         if name == "len":
-            return length
+            return length.joined("/", Value(str(scale))) if scale > 1 else length
         if name == "is_empty":
             return Value(f"{length.text} == 0", "bool", "==")
         if name == "as_chunks":
-            type = f"[{array[1]};{given[0]}]"
-            known(type in SCALE)
-            return tuple_of([Value(value.text, f"&[{type}]", at=value.start(), length=length),
-                               Value("", "")])
+            type = f"&[[{array[1]};{given[0]}]]"
+            known(element(type)[1] in SCALE)
+            return braces("tuple", [Value(value.text, type, at=value.start(), length=length)])
         if name == "split_at":
-            return tuple_of([value.part(Value("0"), given[0]), value.part(given[0])])
+            return braces("tuple", [value.part(Value("0"), given[0]), value.part(given[0])])
         known(array[1] == "u8" and len(given) < 2)
         size = Value(given[0] if given else "8" if name == "last_chunk" else "_", "usize")
         at = value.start()
@@ -504,7 +479,7 @@ class Function:
             at = at.joined("+", length).joined("-", size)
         chunk = Value("@", f"{array[0] or '&'}[u8;{size.text}]", at=at)
         known(name in ("first_chunk", "first_chunk_mut", "last_chunk", "split_first_chunk"))
-        return tuple_of([chunk, value.part(size)]) if name[0] == "s" else chunk
+        return braces("tuple", [chunk, value.part(size)]) if name[0] == "s" else chunk
 
     # Statements.
     def emit(self, *texts):
@@ -522,13 +497,11 @@ class Function:
         self.depth += 1
         self.block(target)
         self.depth -= 1
+        self.emit(*["}"] if self.peek() != "else" else [])
 
     def statement(self, target):
-        if self.peek().startswith("//"):
-            lines = []
-            while self.peek().startswith("//"):
-                lines.append(self.take())
-            text = self.crate.comment("\n".join(lines), self.names)
+        if self.peek()[:2] == "//":
+            text = self.crate.comment(self.take(), self.names)
             self.emit(*["/* " + text] if text else [])
         elif self.has("let"):
             self.let()
@@ -536,14 +509,12 @@ class Function:
             self.conditional(target)
         elif self.has("while"):
             self.inner(f"while ({self.expression().text}) {{")
-            self.emit("}")
         elif self.has("for"):
             name = self.take()
             start = self.take("in") and self.expression().text
             end = self.take("..") and self.expression().within("<")
             self.know(name, "usize")
             self.inner(f"for (size_t {name} = {start}; {name} < {end}; {name}++) {{")
-            self.emit("}")
         elif self.has("assert", "!"):
             known(self.skip(";") and self.take())
         else:
@@ -561,16 +532,14 @@ class Function:
         known(self.peek() == "}" or self.take(";"))
 
     def assign(self, to, op, value):
+        known(to.text not in self.kept)
         if value.type == "bytes of u64":
-            return self.emit(f"komi_store_u64({to.start().text}, {value.text});")
-        if to.type.startswith("[u8;"):
-            return self.emit(f"KOMI_COPY({to.start().text}, {value.start().text}, "
-                             f"{element(to.type)[2]});")
-        if to.type == "later":
-            to.type = value.type
-            later = self.lines.index((self.depth - 1, "later " + to.text))
-            self.lines[later] = self.depth - 1, declared(value.type, to.text) + ";"
-        return self.emit(f"{to.text} {op} {self.unbraced(value, 'zeros')};")
+            self.emit(f"komi_store_u64({to.start().text}, {value.text});")
+        elif to.type.startswith("[u8;"):
+            size = element(to.type)[2]
+            self.emit(f"KOMI_COPY({to.start().text}, {value.start().text}, {size});")
+        else:
+            self.emit(f"{to.text} {op} {self.unbraced(value, 'zeros')};")
 
     def unbraced(self, value, name):
         """Returns the text of a value. One in braces becomes a constant of this name."""
@@ -590,8 +559,8 @@ class Function:
             self.emit(*[f"resumed->{part.field} = {part.text};" for part in value.parts],
                       f"return {'true' if value.parts else 'false'};")
         elif target == "return" and self.result.startswith("("):
-            self.emit(*[f"*{name} = {part.text};"
-                        for name, part in zip(("first", "second"), value.parts)])
+            first, second = value.parts
+            self.emit(f"*first = {first.text};", f"*second = {second.text};")
         elif target == "return":
             value.type = self.result
             self.emit(f"return {self.unbraced(value, 'result')}".rstrip() + ";")
@@ -599,119 +568,68 @@ class Function:
             condition, yes, no = re.fullmatch(r"(.*?) \? (.*) : (.*)", value.text).groups()
             self.emit(f"if ({condition}) {{", f"    {yes};", "} else {", f"    {no};", "}")
         else:
-            self.given = value.type
             self.emit(f"{target} = {value.text};" if target else value.text + ";")
 
     def conditional(self, target, begin="if"):
         condition = self.take("if") and self.expression().text
         if self.has("{", "unreachable", "!", "(", ")", "}"):
-            # The prover has shown that the condition never holds, so C needs no test.
-            return
+            return  # The prover has shown that the condition never holds.
         self.inner(f"{begin} ({condition}) {{", target)
         if self.has("else"):
             if self.peek() == "if":
                 return self.conditional(target, "} else if")
             self.inner("} else {", target)
-        self.emit("}")
-
-    def pattern(self):
-        self.has("mut")
-        name = "" if self.peek() in ("(", "[") else self.take()
-        return self.listed({"(": ")", "[": "]"}[self.take()], self.pattern) \
-            if self.peek() in ("(", "[") else name
 
     def let(self):
-        pattern = self.pattern()
-        if self.has(";"):
-            self.know(pattern, "later")
-            return self.lines.append((self.depth, "later " + pattern))
-        begin = self.take("=") and self.i
-        self.skip("{", ";")
-        block = self.skip(*[] if self.peek() == "{" else ";") + self.peek() + self.peek(1)
-        self.i = begin
-        if self.peek() == "if" and (";" in block[:-1] or block.endswith("elseif")):
-            lines = len(self.lines)
-            self.conditional(pattern)
-            self.lines.insert(lines, (self.depth, declared(self.given, pattern) + ";"))
-            self.know(pattern, self.given)
+        names = self.listed("()", self.take) if self.peek() == "(" else []
+        is_kept, name = not self.has("mut"), names or self.take()
+        if self.has(":"):  # A value with statements, or a later one, has its type.
+            known(name not in self.names)
+            self.know(name, self.type("=", ";"))
+            self.emit(declared(self.names[name].type, name) + ";")
+            if self.has("="):
+                self.conditional(name)
+            return self.take(";")
+        value = self.take("=") and self.expression()
+        if self.has("?"):
+            self.bind(name, Value(value.text, re.fullmatch("Option<(.*)>", value.type)[1]))
+            self.emit(f"if ({name} == KOMIHASH_NONE) {{", "    return KOMIHASH_NONE;", "}")
+        elif names and not value.parts:
+            self.bind_by_pointers(names, value)
         else:
-            value = self.expression()
-            asks = self.has("?")
-            value.type = value.type[7:-1] if asks else value.type
-            for group in self.groups(pattern, value):
-                self.bind(group)
-            if asks:
-                self.emit(f"if ({pattern} == KOMIHASH_NONE) {{", "    return KOMIHASH_NONE;", "}")
+            for name, part in zip(names, value.parts) if names else [(name, value)]:
+                self.bind(name, part, is_kept)
         return self.take(";")
 
     def know(self, name, type):
         """Notes a name, which may be there only in this block and with this type."""
-        known(name not in self.names or
-              (type, self.depth) == (self.names[name].type, self.names[name].depth))
-        self.names[name] = Value(name, type)
+        known(name not in self.kept and (name not in self.names or (
+            type, self.depth) == (self.names[name].type, self.names[name].depth)))
+        self.names[name] = Value(name, type, at=Value(name) if is_array(type) else None)
         self.names[name].depth = self.depth
 
-    def groups(self, pattern, value):
-        """Returns the names in a pattern, each with its value: those of a struct together."""
-        if isinstance(pattern, str):
-            return [[(pattern, value)]] if pattern != "_" else []
-        if value.parts:
-            return [group for both in zip(pattern, value.parts) for group in self.groups(*both)]
-        array = element(value.type)
-        if value.type.startswith("("):  # The call returns it by pointers.
-            of = re.match(r"\w+", value.type[1:])[0]
-            self.emit(f"{TYPES[of]} {', '.join(pattern)};")
-            for name in pattern:
-                self.know(name, of)
-            text = ", ".join("&" + name for name in pattern)
-            return self.emit(value.text.replace("@", text) + ";") or []
-        if not array and not re.fullmatch(r"[\w.>-]+", value.text):
-            value = self.named(value)
-        values = [Value(f"{value.start().text}[{k}]", array[1]) for k in range(len(pattern))] \
-            if array else [Value(f"{value.text}.{field}", "u64") for field in NAMELESS[value.type]]
-        return [[pair for both in zip(pattern, values) for pair in self.groups(*both)[0]]]
+    def bind(self, name, value, is_kept=True):
+        """Prints the declaration of a name, unless it is one for a slice that begins at another."""
+        is_new = name not in self.names
+        if is_new and is_kept and value.at and re.fullmatch(r"[\w.>-]+", value.at.text):
+            self.names[name] = value
+            self.kept.add(re.match(r"\w+", value.at.text)[0])
+        elif value.type == "bytes of u64":
+            self.know(name, "&mut[u8;8]")
+            self.emit(f"uint8_t {name}[8];", f"komi_store_u64({name}, {value.text});")
+        else:
+            self.know(name, value.type)
+            is_pointer = is_array(value.type)
+            text = declared(value.type, name, is_pointer) if is_new else name
+            self.emit(f"{text} = {(value.at if is_pointer else value).text};")
 
-    def named(self, value):
-        """Gives a value the name of its type, if that has none or isn't needed any more."""
-        name = TYPES[value.type][5:]
-        known(not re.search(rf"\b{name}\b", self.rest()))
-        text = name if name in self.names else declared(value.type, name)
-        self.know(name, value.type)
-        self.emit(f"{text} = {value.text};")
-        return self.names[name]
-
-    def bind(self, group):
-        """Prints the declarations of names."""
-        line = ""
-        for name, value in group:
-            is_new, type, array = name not in self.names, value.type, element(value.type)
-            self.know(name, "[u8;8]" if type == "bytes of u64" else type)
-            if type == "bytes of u64":
-                self.emit(f"uint8_t {name}[8];", f"komi_store_u64({name}, {value.text});")
-            elif array and array[1] in SCALE and not array[2] and \
-                    re.fullmatch(r"[\w.>-]+", value.text):
-                self.names[name] = value
-            elif array and array[0] and is_new and not value.changes and (
-                    value.at or re.fullmatch(r"\w+", value.text)) and \
-                    not re.search(rf"(let |[;{{}}] ){name} =", self.rest()):
-                self.lines.append((self.depth, (name, value)))
-            elif is_new:
-                line += f", {name} = {value.text}" if line else \
-                    declared(type, f"{name} = {value.text}")
-            else:
-                self.emit(f"{name} = {value.text};")
-        if line:
-            self.emit(line + ";")
-
-    def rest(self):
-        """Returns the rest of the block."""
-        depth, end = 0, self.i
-        while depth >= 0:
-            depth += (self.tokens[end] == "{") - (self.tokens[end] == "}")
-            end += 1
-        return " ".join(self.tokens[self.i:end])
-
-
+    def bind_by_pointers(self, names, value):
+        """Prints the call of a function that returns several values."""
+        type = re.match(r"\((\w+)", value.type)[1]
+        for name in names:
+            self.know(name, type)
+        self.emit(f"{TYPES[type]} {', '.join(names)};",
+                  value.text.replace("@", ", ".join("&" + name for name in names)) + ";")
 
 
 class Crate:
@@ -719,12 +637,13 @@ class Crate:
     def __init__(self, sources, reworded):
         self.structs, self.constants, self.functions, self.types = {}, {}, {}, []
         self.items, self.used, self.done, self.output, self.reworded = [], set(), {}, [], reworded
-        for self.path, self.text in sources.items():
-            self.place, owner, numbers = 0, "", {}
-            while self.place < len(self.text):
-                it = ITEM.match(self.text, self.place) or known(False)
+        for path, text in sources.items():
+            place, owner, numbers = 0, "", {}
+            while place < len(text):
+                self.place = path, text, place
+                it = ITEM.match(text, place) or known(False)
                 self.item(it, owner, numbers)
-                self.place = it.end()
+                place = it.end()
                 if it["owner"] or it["closing"]:
                     owner, numbers = it["owner"] or "", numbers_in(it["numbers"])
 
@@ -734,7 +653,7 @@ class Crate:
         note = self.comment(it["title"] or it["note"] or "", None)
         lines = wrapped("/* " + note, 0) if note else []
         if it["title"]:
-            self.items.append((self.path, "\n".join(lines)))
+            self.items.append((self.place[0], "\n".join([f"/* {'-' * 93} */", *lines])))
         elif name == "multiply128":
             known(PRODUCT in it[0])
         elif it["fn"]:
@@ -743,7 +662,7 @@ class Crate:
             known((owner, name) not in self.functions)
             numbers = {**numbers, **numbers_in(it["of"])}
             mark = MARKS[(marks + ["inline(always)"])[0]]
-            self.functions[owner, name] = self.path, it, owner, numbers, mark
+            self.functions[owner, name] = self.place[0], it, owner, numbers, mark
             self.items.append(((owner, name, ""), ""))
         elif it["constant"]:
             self.constants[name] = it["type"]
@@ -753,14 +672,13 @@ class Crate:
             self.struct(it, name, [*lines, "typedef struct {"])
 
     def struct(self, it, name, lines):
-        fields = [("", *field) for field in zip(NAMELESS[name], it["nameless"].split(", "))] \
-            if it["nameless"] else re.findall(r"((?: *//.*\n)*)    (\w+): (.*),\n", it["fields"])
+        fields = re.findall(r"((?: *//.*\n)*)    (\w+): (.*),\n", it["fields"])
         for note, field, type in fields:
             note = self.comment(note, None)
             lines += wrapped("/* " + note, 1) if note else []
             lines.append(f"    {declared(type.replace(' ', ''), field)};")
         self.structs[name] = {field: type.replace(" ", "") for _, field, type in fields}
-        self.types.append("\n".join([*lines, f"}} {TYPES[name]};"]))
+        self.types.append("\n".join([*lines, f"}} KOMI_ALIAS {TYPES[name]};"]))
 
     def comment(self, text, names):
         """Returns a comment as it is in C, without examples and what concerns Rust. If names of
@@ -780,8 +698,9 @@ class Crate:
         """Prints a function once, and returns it."""
         at = *key, bound
         if at not in self.done:
-            self.done[at] = None  # as that of one stays which calls itself
+            self.done[at], place = None, self.place  # as that of one stays which calls itself
             self.done[at] = Function(self, self.functions[key], bound)
+            self.place = place
         return self.done[at]
 
     def code(self, calls):
@@ -809,14 +728,12 @@ def c_name(owner, name):
 def calls_of(header):
     """Returns the part of komihash_rattle.h that declares its functions, for the inline header."""
     text = re.search(r"(/\* Sources for versions before.*\n#endif\n)\n#endif\n", header, re.S)[1]
-    text = re.sub(r"typedef struct \{ (.*?) \} komihash_v(\d)_(\w+);",
-                  r"typedef union { \1 komi_\3 internal; } komihash_v\2_\3;", text)
     text = re.sub(r"^(KOMIHASH_\w+) (?!KOMI)", r"\1\n", text, flags=re.M)
     return re.sub(r"^\w+ \*?komihash_v\d\w*\([^;]*;", lambda it: "\n".join(
         wrapped("KOMI_API " + " ".join(it[0].split()), 0)), text, flags=re.M)
 
 
-def header(sources):
+def header(sources, licence=""):
     """Returns the text of the header."""
     calls = (HERE / "komihash_rattle.h").read_text()
     template, reworded = (HERE / "inline.h.in").read_text().split("@comments\n")
@@ -825,11 +742,14 @@ def header(sources):
         crate.__init__(sources, re.findall(r"^(.*) -> ?(.*)\n", reworded, re.M))
         parts = {"functions": crate.code(set(re.findall(r"\bkomi_\w+(?=\()", template))),
                  "types": "\n\n".join(crate.types), "calls": calls_of(calls),
-                 "rules": re.search(r" \* What a caller.*?(?=\s*\*/)", calls, re.S)[0]}
+                 "rules": re.search(r" \* What a caller.*?(?=\s*\*/)", calls, re.S)[0],
+                 "licence": re.sub("^", " * ", licence.strip(), flags=re.M).replace("* \n", "*\n")}
     except (AttributeError, LookupError, TypeError, ValueError):
-        rest = crate.text[crate.place:].lstrip()
-        line = crate.text.count("\n", 0, len(crate.text) - len(rest)) + 1
-        raise SystemExit(f"{crate.path}:{line}: unknown: {rest[:60]!r}") from None
+        path, text, place = crate.place
+        rest = text[place:].lstrip()
+        line = text.count("\n", 0, len(text) - len(rest)) + 1
+        raise SystemExit(f"{path}:{line}: unknown: {rest[:60]!r}") from None
+    parts["version"] = " * komihash_rattle " + re.search(r'VERSION "(.*)"', calls)[1]
     names = sorted(set(re.findall(r"\b(komihash_v\d\w*)\(", parts["calls"])))
     names += re.findall(r"} (komihash_v\d_\w+);", parts["calls"])
     parts["names"] = "\n".join(f"#define {name} KOMI_NAME({name})" for name in names)
@@ -845,4 +765,5 @@ def sources_of(crate):
 
 
 if __name__ == "__main__":
-    print(header(sources_of(sys.argv[1])), end="")
+    licence = Path(sys.argv[1], "LICENSE").read_text()
+    print(header(sources_of(sys.argv[1]), licence), end="")

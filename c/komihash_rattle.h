@@ -37,10 +37,10 @@
 /* The assembly for these processors is for one order of bytes and one width of pointers. */
 #if defined(__x86_64__) || defined(__aarch64__)
 #if defined(__BYTE_ORDER__) && __BYTE_ORDER__ != __ORDER_LITTLE_ENDIAN__
-#error "komihash_rattle has no big-endian build for ARM64: use komihash.h, the C original, there"
+#error "komihash_rattle has no big-endian build for ARM64: use komihash_rattle_inline.h there"
 #endif
 #if UINTPTR_MAX != UINT64_MAX
-#error "komihash_rattle needs 64-bit pointers: use -m64 on x86-64, and -mabi=lp64 on ARM64"
+#error "komihash_rattle needs 64-bit pointers here: without them, use komihash_rattle_inline.h"
 #endif
 #endif
 

@@ -1,7 +1,9 @@
 /* SPDX-License-Identifier: MIT
- * Copyright (c) 2026 the authors of komihash_rattle
+ * Copyright (c) 2026 the authors of komihash_rattle. The licence is at the end.
  *
- * The script inline.py made this file. Do not edit it.
+ * komihash_rattle 1.6.0
+ * The script c/inline.py made this file of a proved source. Do not edit it. In crates/komihash/src,
+ * functions have their contracts, and names without komi_, a type after that, and _v4 or _v5.
  *
  * Komihash, versions 4 and 5, a fast hash of 64 bits that is not cryptographic: all of the library
  * in one header, for C99 and C++11. Copy this file into your project and include it:
@@ -12,13 +14,17 @@
  * All functions are `static inline` then, and nothing is to be linked. Use version 5 for new data;
  * version 4 is for hashes that exist already. Use neither where an attacker may choose the
  * messages: it is easy to find many that have one hash, and a secret seed gives no security.
+ * Compilers other than gcc, clang and MSVC need their switch like -fno-strict-aliasing.
  *
- * Definitions that go before the #include:
+ * Definitions that go before the first #include, also before headers that include this one:
  * - KOMIHASH_RATTLE_IMPLEMENTATION in one source file makes a library of it there, of external
  *   functions. Other files define KOMIHASH_RATTLE_EXTERN, and get the declarations alone.
- * - KOMIHASH_RATTLE_PREFIX is what the names of functions and types begin with, in each file alike.
- *   The code says komihash_v5 all the same.
+ * - KOMIHASH_RATTLE_PREFIX, as in -DKOMIHASH_RATTLE_PREFIX=my_, makes the symbol my_komihash_v5 of
+ *   komihash_v5, which your code still calls. All files that share one library have the same one.
  * - KOMIHASH_RATTLE_HIDDEN in each file keeps the functions out of what a shared library exports.
+ *   On Windows, link with -Wl,--exclude-all-symbols, or mark what your library exports.
+ * - KOMIHASH_RATTLE_SMALL lets the compiler choose what it inlines, as with -Os, for smaller and
+ *   slower code.
  *
  * What a caller must see to, because no call checks it:
  * - `length` and `room` are the number of bytes at the pointer that precedes them in the arguments,
@@ -59,8 +65,16 @@
 #include <intrin.h>
 #endif
 #endif
+#ifdef KOMI_GNU
+#define KOMI_COPY(to, from, length) __builtin_memcpy(to, from, length) /* also if freestanding */
+#define KOMI_ALIAS __attribute__((may_alias))
+#else
+#define KOMI_COPY(to, from, length) memcpy(to, from, length)
+#define KOMI_ALIAS
+#endif
 
-/* Functions of the library, those that are always inlined, and those that never are. */
+/* Functions of the library, those that are always inlined, and those that never are, which have a
+ * copy for each version, where it is a constant. Not optimized, inlining would take much stack. */
 #if !defined(KOMIHASH_RATTLE_IMPLEMENTATION) && !defined(KOMIHASH_RATTLE_EXTERN)
 #define KOMI_API static inline
 #elif defined(KOMIHASH_RATTLE_HIDDEN) && defined(KOMI_GNU) && !defined(_WIN32)
@@ -68,22 +82,22 @@
 #else
 #define KOMI_API
 #endif
-#ifdef KOMI_GNU
-#define KOMI_COPY(to, from, length) __builtin_memcpy(to, from, length) /* also if freestanding */
+#if defined(__OPTIMIZE_SIZE__) && !defined(KOMIHASH_RATTLE_SMALL)
+#define KOMIHASH_RATTLE_SMALL
+#endif
+#if defined(KOMI_GNU) && defined(__OPTIMIZE__) && !defined(KOMIHASH_RATTLE_SMALL)
 #define KOMI_INLINE __attribute__((always_inline)) static inline
 #define KOMI_APART __attribute__((noinline, unused)) static
-#else
-#define KOMI_COPY(to, from, length) memcpy(to, from, length)
-#ifdef _MSC_VER
+#elif defined(_MSC_VER) && !defined(KOMIHASH_RATTLE_SMALL)
 #define KOMI_INLINE static __forceinline
 #define KOMI_APART static __declspec(noinline)
 #else
 #define KOMI_INLINE static inline
-#define KOMI_APART static
-#endif
+#define KOMI_APART static inline
 #endif
 /* Hashes of short messages, which the compiler may inline where a caller knows the length. */
 #ifdef KOMIHASH_RATTLE_IMPLEMENTATION
+#define KOMI_IMPLEMENTED
 #define KOMI_SHORT KOMI_APART
 #else
 #define KOMI_SHORT static inline
@@ -127,19 +141,19 @@
 #define komihash_v5_rand KOMI_NAME(komihash_v5_rand)
 #endif
 
-/* Arrays by value */
-typedef struct { uint64_t at[8]; } komi_block;
+/* Arrays by value. Streams and generators are declared as words, and used as structs below. */
+typedef struct { uint64_t at[8]; } KOMI_ALIAS komi_block;
 typedef struct { size_t at[8]; } komi_indices;
 
 /* The pair (a, e), stored as `low`, which is a ^ e, and `e`.
  *
  * After a product, `low` is its low half, and `e` the word to which its high half was added. The
  * word a is computed only for a factor and as the hash, so the way from one product to the next is
- * one xor shorter. In komi_lanes are pairs of other words. */
+ * one xor shorter. The eight lanes are pairs of other words. */
 typedef struct {
     uint64_t low;
     uint64_t e;
-} komi_pair;
+} KOMI_ALIAS komi_pair;
 
 /* The eight lanes as the code stores them: four pairs in a ring, one for each product of a block.
  *
@@ -150,13 +164,13 @@ typedef struct {
     komi_pair first;
     komi_pair second;
     komi_pair third;
-} komi_lanes;
+} KOMI_ALIAS komi_lanes;
 
 /* Fewer than 64 bytes, stored in eight words, with zeros after the last byte. */
 typedef struct {
     komi_block words;
     size_t len;
-} komi_pending;
+} KOMI_ALIAS komi_pending;
 
 /* A stream: it takes a message in pieces, and returns the hash of all bytes so far at any time.
  *
@@ -174,7 +188,7 @@ typedef struct {
     bool had_block;
     /* In version 4, whether the last byte of the last block is at least 128. */
     bool top_bit;
-} komi_stream;
+} KOMI_ALIAS komi_stream;
 
 /* A pseudorandom generator, which is not cryptographic.
  *
@@ -188,7 +202,7 @@ typedef struct {
 typedef struct {
     uint64_t s1;
     uint64_t s2;
-} komi_rand;
+} KOMI_ALIAS komi_rand;
 
 /* Sources for versions before 1.3 had this in types of pointers to functions. */
 #define KOMIHASH_CALL
@@ -228,12 +242,12 @@ extern "C" {
  * copied by assignment, and each copy then goes on by itself. Only the calls below change a stream:
  * after any other change, they may return wrong hashes, access memory outside of it, or never
  * return. So store or send its saved text and not the stream itself: `resume` checks the text. */
-typedef union { uint64_t state[18]; komi_stream internal; } komihash_v4_stream;
-typedef union { uint64_t state[18]; komi_stream internal; } komihash_v5_stream;
+typedef struct { uint64_t state[18]; } komihash_v4_stream;
+typedef struct { uint64_t state[18]; } komihash_v5_stream;
 
 /* A generator of each version, which a `rand_init` returns. It may be copied by assignment too. */
-typedef union { uint64_t state[2]; komi_rand internal; } komihash_v4_rand;
-typedef union { uint64_t state[2]; komi_rand internal; } komihash_v5_rand;
+typedef struct { uint64_t state[2]; } komihash_v4_rand;
+typedef struct { uint64_t state[2]; } komihash_v5_rand;
 
 /* Returns the hash of a message. Any seed will do: use 0 unless you need several hashes of one
  * message. */
@@ -348,6 +362,9 @@ KOMI_API size_t komihash_v4_unpad(const uint64_t *words, size_t length, void *ou
 #endif
 
 
+typedef char komi_stream_fits[sizeof(komi_stream) <= sizeof(komihash_v5_stream) ? 1 : -1];
+typedef char komi_rand_fits[sizeof(komi_rand) <= sizeof(komihash_v5_rand) ? 1 : -1];
+
 #if !defined(KOMIHASH_RATTLE_EXTERN) || defined(KOMIHASH_RATTLE_IMPLEMENTATION)
 
 /* Slices: `length` elements from `at` on. */
@@ -370,7 +387,7 @@ KOMI_INLINE komi_words komi_words_of(const uint64_t *at, size_t length) {
     return words;
 }
 
-/* Words in memory have the lowest byte first. Compilers know the sums of shifted bytes. */
+/* Words in memory have the lowest byte first. Compilers recognize the sums of shifted bytes. */
 #if defined(_MSC_VER) || (defined(__BYTE_ORDER__) && __BYTE_ORDER__ == __ORDER_LITTLE_ENDIAN__)
 KOMI_INLINE uint32_t komi_load_u32(const uint8_t *at) {
     uint32_t word;
@@ -403,7 +420,7 @@ KOMI_INLINE void komi_store_u64(uint8_t *at, uint64_t word) {
 }
 #endif
 
-/* Returns one of two words, by a mask where gcc would jump, which a processor has to guess. */
+/* Returns one of two words, by a mask for gcc, which would make a jump that is hard to predict. */
 KOMI_INLINE uint64_t komi_either(bool condition, uint64_t yes, uint64_t no) {
 #if defined(__GNUC__) && !defined(__clang__)
     return no ^ ((yes ^ no) & -(uint64_t)condition);
@@ -420,14 +437,15 @@ KOMI_INLINE uint64_t komi_rotate_left(uint64_t x, uint32_t bits) {
     return x << bits | x >> ((64 - bits) & 63);
 }
 
-/* Returns the index of the highest bit that is set. One is. */
+/* Returns the index of the highest bit of x, which isn't 0. riscv64 may need libgcc for it. */
 KOMI_INLINE uint32_t komi_ilog2(uint64_t x) {
-#ifdef KOMI_GNU
+#if defined(KOMI_GNU) && !defined(__riscv)
     return 63 - (uint32_t)__builtin_clzll(x);
 #else
     uint32_t index = 0;
-    while (x >>= 1)
+    while (x >>= 1) {
         index++;
+    }
     return index;
 #endif
 }
@@ -454,6 +472,7 @@ KOMI_INLINE void komi_multiply128(uint64_t x, uint64_t y, uint64_t *low, uint64_
 #endif
 }
 
+/* --------------------------------------------------------------------------------------------- */
 /* Words of eight bytes, the lowest byte first: read from bytes, written to bytes, multiplied. */
 
 KOMI_INLINE uint64_t komi_read_word(const uint8_t *bytes) {
@@ -489,8 +508,8 @@ KOMI_INLINE uint64_t komi_read_partial_word(komi_bytes bytes, uint64_t end) {
         uint64_t last = (uint64_t)bytes.at[n - 1] << 16;
         bool has_second = n > 1;
         bool has_third = n > 2;
-        uint64_t second = has_second ? middle : 0;
-        uint64_t third = has_third ? last : 0;
+        uint64_t second = komi_either(has_second, middle, 0);
+        uint64_t third = komi_either(has_third, last, 0);
         return ((uint64_t)bytes.at[0] + second + third) | end << (8 * n);
     } else {
         return end;
@@ -546,9 +565,10 @@ KOMI_INLINE void komi_write_first_bytes(const uint64_t *words, size_t count, uin
     }
 }
 
+/* --------------------------------------------------------------------------------------------- */
 /* The steps of the hash: seeding, lanes, block rounds, joining, pair rounds, closing.
  *
- * Only `places` depends on the version. */
+ * Only which words are multiplied with each other depends on the version. */
 
 /* The hash's eight constants: the first 512 bits of the fractional part of pi. */
 #define KOMI_C1 UINT64_C(0x243f6a8885a308d3)
@@ -581,31 +601,42 @@ KOMI_INLINE komi_pair komi_seed_pair(uint64_t seed) {
 }
 
 KOMI_INLINE komi_lanes komi_lanes_of(komi_pair pair) {
-    uint64_t low = pair.low, e = pair.e;
     const komi_lanes result = {
-        {(KOMI_C4 ^ KOMI_C7) ^ low, KOMI_C8 ^ e},
-        {KOMI_C8 ^ low, e},
-        {KOMI_C2 ^ low, KOMI_C6 ^ e},
-        {(KOMI_C3 ^ KOMI_C6) ^ low, KOMI_C7 ^ e},
+        {(KOMI_C4 ^ KOMI_C7) ^ pair.low, KOMI_C8 ^ pair.e},
+        {KOMI_C8 ^ pair.low, pair.e},
+        {KOMI_C2 ^ pair.low, KOMI_C6 ^ pair.e},
+        {(KOMI_C3 ^ KOMI_C6) ^ pair.low, KOMI_C7 ^ pair.e},
     };
     return result;
 }
 
 /* Returns the lanes in their order, s1 first. */
 KOMI_INLINE komi_block komi_in_order(const komi_lanes *lanes) {
-    uint64_t low4 = lanes->fourth.low, e4 = lanes->fourth.e;
-    uint64_t low1 = lanes->first.low, e1 = lanes->first.e;
-    uint64_t low2 = lanes->second.low, e2 = lanes->second.e;
-    uint64_t low3 = lanes->third.low, e3 = lanes->third.e;
-    const komi_block result = {{e4 ^ low1, e1 ^ low2, e2 ^ low3, e3 ^ low4, e1, e2, e3, e4}};
+    komi_pair fourth = lanes->fourth;
+    komi_pair first = lanes->first;
+    komi_pair second = lanes->second;
+    komi_pair third = lanes->third;
+    const komi_block result = {{
+        fourth.e ^ first.low,
+        first.e ^ second.low,
+        second.e ^ third.low,
+        third.e ^ fourth.low,
+        first.e,
+        second.e,
+        third.e,
+        fourth.e,
+    }};
     return result;
 }
 
 /* Returns the lanes from their words in that order. */
 KOMI_INLINE komi_lanes komi_from_order(const uint64_t *lanes) {
-    uint64_t s1 = lanes[0], s2 = lanes[1], s3 = lanes[2], s4 = lanes[3], s5 = lanes[4],
-        s6 = lanes[5], s7 = lanes[6], s8 = lanes[7];
-    const komi_lanes result = {{s7 ^ s4, s8}, {s8 ^ s1, s5}, {s5 ^ s2, s6}, {s6 ^ s3, s7}};
+    const komi_lanes result = {
+        {lanes[6] ^ lanes[3], lanes[7]},
+        {lanes[7] ^ lanes[0], lanes[4]},
+        {lanes[4] ^ lanes[1], lanes[5]},
+        {lanes[5] ^ lanes[2], lanes[6]},
+    };
     return result;
 }
 
@@ -620,26 +651,23 @@ KOMI_INLINE komi_indices komi_places(uint8_t version) {
     }
 }
 
-/* Absorbs a block of eight words, multiplied as the table `places` says, so that one proof is for
- * both versions. */
+/* Absorbs a block of eight words, multiplied as the table `places` says. */
 KOMI_INLINE void komi_block_round(komi_lanes *lanes, const uint64_t *words, komi_indices places) {
-    uint64_t low4 = lanes->fourth.low, e4 = lanes->fourth.e;
-    uint64_t low1 = lanes->first.low, e1 = lanes->first.e;
-    uint64_t low2 = lanes->second.low, e2 = lanes->second.e;
-    uint64_t low3 = lanes->third.low, e3 = lanes->third.e;
-    size_t p0 = places.at[0], p1 = places.at[1], p2 = places.at[2], p3 = places.at[3],
-        p4 = places.at[4], p5 = places.at[5], p6 = places.at[6], p7 = places.at[7];
+    komi_pair fourth = lanes->fourth;
+    komi_pair first = lanes->first;
+    komi_pair second = lanes->second;
+    komi_pair third = lanes->third;
     /* These factors are made before the first product, so that each sum may overwrite its word e.
      * Each takes the low half of a product first, which is ready before the sum that follows. In
      * this order of products a block takes the fewest instructions. */
-    uint64_t x2 = (words[p2] ^ low2) ^ e1;
-    uint64_t x3 = (words[p4] ^ low3) ^ e2;
-    uint64_t x1 = (words[p0] ^ low1) ^ e4;
-    uint64_t x4 = (words[p6] ^ low4) ^ e3;
-    lanes->second = komi_mix(words[p3] ^ e2, x2, e2);
-    lanes->first = komi_mix(words[p1] ^ e1, x1, e1);
-    lanes->third = komi_mix(words[p5] ^ e3, x3, e3);
-    lanes->fourth = komi_mix(words[p7] ^ e4, x4, e4);
+    uint64_t x2 = (words[places.at[2]] ^ second.low) ^ first.e;
+    uint64_t x3 = (words[places.at[4]] ^ third.low) ^ second.e;
+    uint64_t x1 = (words[places.at[0]] ^ first.low) ^ fourth.e;
+    uint64_t x4 = (words[places.at[6]] ^ fourth.low) ^ third.e;
+    lanes->second = komi_mix(words[places.at[3]] ^ second.e, x2, second.e);
+    lanes->first = komi_mix(words[places.at[1]] ^ first.e, x1, first.e);
+    lanes->third = komi_mix(words[places.at[5]] ^ third.e, x3, third.e);
+    lanes->fourth = komi_mix(words[places.at[7]] ^ fourth.e, x4, fourth.e);
 }
 
 KOMI_INLINE komi_block komi_block_words(const uint8_t *block) {
@@ -689,31 +717,30 @@ KOMI_INLINE komi_bytes komi_absorb_blocks(uint8_t version, komi_lanes *lanes, ko
 /* Returns the pair of the lanes: s1 to s4 xored and s5 to s8 xored if a block was absorbed,
  * otherwise s1 and s5. */
 KOMI_INLINE komi_pair komi_join(const komi_lanes *lanes, bool had_block) {
-    uint64_t low4 = lanes->fourth.low, e4 = lanes->fourth.e;
-    uint64_t low1 = lanes->first.low, e1 = lanes->first.e;
-    uint64_t low2 = lanes->second.low, e2 = lanes->second.e;
-    uint64_t low3 = lanes->third.low, e3 = lanes->third.e;
+    komi_pair fourth = lanes->fourth;
+    komi_pair first = lanes->first;
+    komi_pair second = lanes->second;
+    komi_pair third = lanes->third;
     if (had_block) {
-        const komi_pair result = {low1 ^ low2 ^ low3 ^ low4, e1 ^ e2 ^ e3 ^ e4};
+        const komi_pair result = {
+            first.low ^ second.low ^ third.low ^ fourth.low,
+            first.e ^ second.e ^ third.e ^ fourth.e,
+        };
         return result;
     } else {
-        const komi_pair result = {e4 ^ low1 ^ e1, e1};
+        const komi_pair result = {fourth.e ^ first.low ^ first.e, first.e};
         return result;
     }
 }
 
 KOMI_INLINE komi_pair komi_pair_round(komi_pair pair, uint64_t w0, uint64_t w1) {
-    uint64_t low = pair.low, e = pair.e;
-    return komi_mix((w0 ^ low) ^ e, w1 ^ e, e);
+    return komi_mix((w0 ^ pair.low) ^ pair.e, w1 ^ pair.e, pair.e);
 }
 
 /* Returns the hash from the pair of the closing's first mix. */
 KOMI_INLINE uint64_t komi_mix_again(komi_pair pair) {
-    uint64_t low = pair.low, e = pair.e;
-    pair = komi_mix(e ^ low, e, e);
-    low = pair.low;
-    e = pair.e;
-    return e ^ low;
+    komi_pair last = komi_mix(pair.e ^ pair.low, pair.e, pair.e);
+    return last.e ^ last.low;
 }
 
 /* Returns the hash from a pair and the two words that are left, or the one that is left and 0. */
@@ -721,6 +748,7 @@ KOMI_INLINE uint64_t komi_close(komi_pair pair, uint64_t first, uint64_t second)
     return komi_mix_again(komi_pair_round(pair, first, second));
 }
 
+/* --------------------------------------------------------------------------------------------- */
 /* The whole words of a message or a stream, the pair rounds on them, and for messages the closing,
  * which takes the word that may be left and the final word. */
 
@@ -737,8 +765,7 @@ KOMI_INLINE uint64_t komi_bytes_word(const uint8_t *self, size_t at) {
     return komi_load_u64(self + 8 * at);
 }
 
-/* Returns the pair after a round on the two words from index `at`. From it, the words after these
- * give the hash that all from `at` on give from the pair before. */
+/* Returns the pair after a round on the two words from index `at`. */
 KOMI_INLINE komi_pair komi_round_at_bytes(komi_pair pair, const uint8_t *left, size_t at) {
     return komi_pair_round(pair, komi_bytes_word(left, at), komi_bytes_word(left, at + 1));
 }
@@ -771,6 +798,7 @@ KOMI_INLINE uint64_t komi_hash_from_pair(komi_pair pair, komi_bytes left, uint64
     return komi_close(pair, first, second);
 }
 
+/* --------------------------------------------------------------------------------------------- */
 /* The padding of a message: its padding byte, its final word, its padded words, and the message
  * whose padded words are given. */
 
@@ -881,6 +909,7 @@ KOMI_INLINE size_t komi_unpad(uint8_t version, komi_words words, uint8_t *out) {
     return count;
 }
 
+/* --------------------------------------------------------------------------------------------- */
 /* The hash of a whole message, which is read without a copy.
  *
  * Each range of lengths has a function of its own, except the empty message, so that messages take
@@ -1025,10 +1054,10 @@ KOMI_INLINE uint64_t komi_hash_message(uint8_t version, komi_bytes bytes, uint64
     }
 }
 
+/* --------------------------------------------------------------------------------------------- */
 /* The pending bytes of a stream: those after its last whole block. */
 
-/* Returns the index of the word that has the byte after the first `len`. The remainder tells the
- * compiler that there is such a word. */
+/* Returns the index of the word that has the byte after the first `len`. */
 KOMI_INLINE size_t komi_word_index(size_t len) {
     return len / 8 % 8;
 }
@@ -1083,8 +1112,7 @@ KOMI_INLINE void komi_append_whole_words(uint64_t *words, size_t len, komi_bytes
         komi_store_chunks(words + next, chunks);
     } else {
         /* If the next word isn't whole, `komi_append_eight_or_more` overwrites what this stores. A
-         * test whether it is would cost a jump. The remainder tells the compiler that `next` is in
-         * range. */
+         * test whether it is would cost a jump. */
         words[next % 8] = komi_word_at(bytes.at, komi_min(next_at, bytes.length - 8));
     }
 }
@@ -1137,7 +1165,7 @@ KOMI_INLINE void komi_store_two_words(uint64_t *words, size_t at, const uint8_t 
 }
 
 /* Stores the bytes that complete the block, some words twice, first from the front and then from
- * the back. Each remainder of an index tells the compiler what is in range. */
+ * the back. */
 KOMI_INLINE void komi_complete_block(uint64_t *words, size_t len, komi_bytes bytes) {
     if (bytes.length < 8) {
         words[7] |= komi_read_partial_word(bytes, 0) << (8 * (len % 8));
@@ -1163,8 +1191,8 @@ KOMI_INLINE void komi_complete_block(uint64_t *words, size_t len, komi_bytes byt
     }
 }
 
-/* Puts bytes after the pending ones, as no other function does. `none` says that none is pending,
- * `full` that the bytes complete the block. */
+/* Puts bytes after the pending ones. `none` says that none is pending, `full` that the bytes
+ * complete the block. */
 KOMI_INLINE void komi_put(bool none, bool full, uint64_t *words, size_t len, komi_bytes bytes) {
     if (full) {
         komi_complete_block(words, len, bytes);
@@ -1194,7 +1222,7 @@ KOMI_INLINE void komi_pending_append(komi_pending *self, komi_bytes bytes) {
 /* Appends bytes where none is pending. Does what `komi_pending_append` does, but the compiler knows
  * that the length was 0. */
 KOMI_INLINE void komi_pending_append_to_none(komi_pending *self, komi_bytes bytes) {
-    /* The remainder tells the compiler that the words have room. Often there are no bytes. */
+    /* Often there are no bytes. */
     bytes = komi_bytes_of(bytes.at, bytes.length % 64);
     if (bytes.length != 0) {
         komi_put(true, false, self->words.at, 0, bytes);
@@ -1227,7 +1255,7 @@ KOMI_INLINE uint64_t komi_pending_padding_byte(uint8_t version, const komi_pendi
 KOMI_INLINE void komi_pending_last_two(uint8_t version, const komi_pending *self, uint64_t *first,
     uint64_t *second) {
     uint64_t padding = komi_pending_padding_byte(version, self) << (8 * (self->len % 8));
-    uint64_t in_first = self->len / 8 % 2 == 1 ? 0 : padding;
+    uint64_t in_first = komi_either(self->len / 8 % 2 == 1, 0, padding);
     /* In this way clang reads the words at an index that one instruction makes of the length. */
     const uint64_t *two = self->words.at + 2 * (self->len / 16 % 4);
     *first = two[0] | in_first;
@@ -1247,6 +1275,7 @@ KOMI_INLINE uint64_t komi_pending_word(const komi_pending *self, size_t at) {
     return self->words.at[at];
 }
 
+/* --------------------------------------------------------------------------------------------- */
 /* The saved text of a stream, part by part: four bytes that describe it, the eight lanes in their
  * order, and the pending bytes. */
 
@@ -1264,8 +1293,8 @@ KOMI_INLINE void komi_write_head(uint8_t version, bool had_block, bool top_bit, 
 
 /* Writes the lanes after the first four bytes. */
 KOMI_INLINE void komi_write_lanes(const komi_lanes *lanes, uint8_t *out) {
-    komi_block block = komi_in_order(lanes);
-    komi_write_words(komi_words_of(block.at, 8), out + KOMI_LANES_AT);
+    komi_block words = komi_in_order(lanes);
+    komi_write_words(komi_words_of(words.at, 8), out + KOMI_LANES_AT);
 }
 
 /* Writes the pending bytes after the lanes, and returns where they end. */
@@ -1287,12 +1316,6 @@ KOMI_INLINE bool komi_is_text(uint8_t version, komi_bytes bytes) {
         bytes.length == KOMI_PENDING_AT + (size_t)bytes.at[3];
 }
 
-/* Returns the two flags of a text: whether a block was absorbed, and the top bit. */
-KOMI_INLINE void komi_read_flags(const uint8_t *bytes, bool *first, bool *second) {
-    *first = bytes[1] == 1;
-    *second = bytes[2] == 1;
-}
-
 KOMI_INLINE komi_lanes komi_read_lanes(const uint8_t *bytes) {
     komi_block lanes = {{0}};
     komi_read_whole_words(komi_bytes_of(bytes + KOMI_LANES_AT, KOMI_PENDING_AT - KOMI_LANES_AT),
@@ -1308,6 +1331,7 @@ KOMI_INLINE komi_pending komi_read_pending(komi_bytes bytes) {
     return pending;
 }
 
+/* --------------------------------------------------------------------------------------------- */
 /* The stream of both versions. */
 
 /* Returns the new stream of a seed. */
@@ -1334,11 +1358,11 @@ KOMI_INLINE void komi_stream_complete_blocks(uint8_t version, komi_stream *self,
     if (pending_len == 0) {
         lanes = self->lanes;
     } else {
-        komi_bytes front = komi_bytes_of(bytes.at, 64 - pending_len);
         komi_bytes after = komi_bytes_of(bytes.at + (64 - pending_len),
             bytes.length - (64 - pending_len));
         rest = after;
-        komi_block block = komi_pending_complete(&self->pending, front);
+        komi_block block = komi_pending_complete(&self->pending,
+            komi_bytes_of(bytes.at, 64 - pending_len));
         /* The lanes are read after `komi_pending_complete`, which needs the registers itself. */
         lanes = self->lanes;
         komi_block_round(&lanes, block.at, komi_places(version));
@@ -1368,8 +1392,7 @@ KOMI_INLINE void komi_stream_absorb(uint8_t version, komi_stream *self, komi_byt
     }
 }
 
-/* Returns the pair after a round on the two words from index `at`. From it, the words after these
- * give the hash that all from `at` on give from the pair before. */
+/* Returns the pair after a round on the two words from index `at`. */
 KOMI_INLINE komi_pair komi_round_at_pending(komi_pair pair, const komi_pending *left, size_t at) {
     return komi_pair_round(pair, komi_pending_word(left, at), komi_pending_word(left, at + 1));
 }
@@ -1415,8 +1438,8 @@ KOMI_INLINE bool komi_stream_restore(uint8_t version, komi_bytes bytes, komi_str
     if (!komi_is_text(version, bytes)) {
         return false;
     }
-    bool had_block, top_bit;
-    komi_read_flags(bytes.at, &had_block, &top_bit);
+    bool had_block = bytes.at[1] == 1;
+    bool top_bit = bytes.at[2] == 1;
     resumed->pending = komi_read_pending(bytes);
     resumed->lanes = komi_read_lanes(bytes.at);
     resumed->had_block = had_block;
@@ -1424,6 +1447,7 @@ KOMI_INLINE bool komi_stream_restore(uint8_t version, komi_bytes bytes, komi_str
     return true;
 }
 
+/* --------------------------------------------------------------------------------------------- */
 /* The pseudorandom generator of both versions. */
 
 /* Returns the generator of a pair of words, without a step.
@@ -1435,7 +1459,7 @@ KOMI_INLINE komi_rand komi_rand_new(uint64_t s1, uint64_t s2) {
     return result;
 }
 
-/* Does what `komi_rand_next` does. */
+/* Takes one step, and returns its output. */
 KOMI_INLINE uint64_t komi_rand_step(uint8_t version, komi_rand *self) {
     uint64_t low, high;
     komi_multiply128(self->s1, self->s2, &low, &high);
@@ -1486,6 +1510,7 @@ KOMI_INLINE void komi_rand_fill_bytes(uint8_t version, komi_rand *self, komi_buf
     *self = generator;
 }
 
+/* --------------------------------------------------------------------------------------------- */
 /* The calls of each version. */
 
 KOMI_API uint64_t komihash_v5(const void *bytes, size_t length, uint64_t seed) KOMIHASH_NOEXCEPT {
@@ -1494,60 +1519,60 @@ KOMI_API uint64_t komihash_v5(const void *bytes, size_t length, uint64_t seed) K
 
 KOMI_API komihash_v5_stream komihash_v5_start(uint64_t seed) KOMIHASH_NOEXCEPT {
     komihash_v5_stream stream;
-    stream.internal = komi_stream_begin(seed);
+    *(komi_stream *)&stream = komi_stream_begin(seed);
     return stream;
 }
 
 KOMI_API void komihash_v5_init(komihash_v5_stream *stream, uint64_t seed) KOMIHASH_NOEXCEPT {
-    stream->internal = komi_stream_begin(seed);
+    *(komi_stream *)stream = komi_stream_begin(seed);
 }
 
 KOMI_API void komihash_v5_write(komihash_v5_stream *stream, const void *bytes, size_t length)
     KOMIHASH_NOEXCEPT {
-    komi_stream_absorb(5, &stream->internal, komi_bytes_of(bytes, length));
+    komi_stream_absorb(5, (komi_stream *)stream, komi_bytes_of(bytes, length));
 }
 
 KOMI_API uint64_t komihash_v5_finish(const komihash_v5_stream *stream) KOMIHASH_NOEXCEPT {
-    return komi_stream_answer(5, &stream->internal);
+    return komi_stream_answer(5, (const komi_stream *)stream);
 }
 
 KOMI_API size_t komihash_v5_save(const komihash_v5_stream *stream, void *out, size_t room)
     KOMIHASH_NOEXCEPT {
     return room < KOMIHASH_LONGEST_TEXT ? 0 :
-        komi_stream_store(5, &stream->internal, (uint8_t *)out);
+        komi_stream_store(5, (const komi_stream *)stream, (uint8_t *)out);
 }
 
 KOMI_API bool komihash_v5_resume(komihash_v5_stream *stream, const void *text, size_t length)
     KOMIHASH_NOEXCEPT {
-    return komi_stream_restore(5, komi_bytes_of(text, length), &stream->internal);
+    return komi_stream_restore(5, komi_bytes_of(text, length), (komi_stream *)stream);
 }
 
 KOMI_API komihash_v5_rand komihash_v5_rand_init(uint64_t seed) KOMIHASH_NOEXCEPT {
     komihash_v5_rand rand;
-    rand.internal = komi_rand_init(5, seed);
+    *(komi_rand *)&rand = komi_rand_init(5, seed);
     return rand;
 }
 
 KOMI_API komihash_v5_rand komihash_v5_rand_init_with_extra_seed(uint64_t seed, uint64_t extra_seed)
     KOMIHASH_NOEXCEPT {
     komihash_v5_rand rand;
-    rand.internal = komi_rand_init_with_extra_seed(5, seed, extra_seed);
+    *(komi_rand *)&rand = komi_rand_init_with_extra_seed(5, seed, extra_seed);
     return rand;
 }
 
 KOMI_API komihash_v5_rand komihash_v5_rand_init_words(uint64_t s1, uint64_t s2) KOMIHASH_NOEXCEPT {
     komihash_v5_rand rand;
-    rand.internal = komi_rand_new(s1, s2);
+    *(komi_rand *)&rand = komi_rand_new(s1, s2);
     return rand;
 }
 
 KOMI_API uint64_t komihash_v5_rand_next(komihash_v5_rand *rand) KOMIHASH_NOEXCEPT {
-    return komi_rand_next(5, &rand->internal);
+    return komi_rand_next(5, (komi_rand *)rand);
 }
 
 KOMI_API void komihash_v5_rand_fill(komihash_v5_rand *rand, void *out, size_t length)
     KOMIHASH_NOEXCEPT {
-    komi_rand_fill_bytes(5, &rand->internal, komi_buffer_of(out, length));
+    komi_rand_fill_bytes(5, (komi_rand *)rand, komi_buffer_of(out, length));
 }
 
 KOMI_API size_t komihash_v5_pad(const void *bytes, size_t length, uint64_t *out, size_t room)
@@ -1561,67 +1586,66 @@ KOMI_API size_t komihash_v5_unpad(const uint64_t *words, size_t length, void *ou
         komi_unpad(5, komi_words_of(words, length), (uint8_t *)out);
 }
 
-
 KOMI_API uint64_t komihash_v4(const void *bytes, size_t length, uint64_t seed) KOMIHASH_NOEXCEPT {
     return komi_hash_message(4, komi_bytes_of(bytes, length), seed);
 }
 
 KOMI_API komihash_v4_stream komihash_v4_start(uint64_t seed) KOMIHASH_NOEXCEPT {
     komihash_v4_stream stream;
-    stream.internal = komi_stream_begin(seed);
+    *(komi_stream *)&stream = komi_stream_begin(seed);
     return stream;
 }
 
 KOMI_API void komihash_v4_init(komihash_v4_stream *stream, uint64_t seed) KOMIHASH_NOEXCEPT {
-    stream->internal = komi_stream_begin(seed);
+    *(komi_stream *)stream = komi_stream_begin(seed);
 }
 
 KOMI_API void komihash_v4_write(komihash_v4_stream *stream, const void *bytes, size_t length)
     KOMIHASH_NOEXCEPT {
-    komi_stream_absorb(4, &stream->internal, komi_bytes_of(bytes, length));
+    komi_stream_absorb(4, (komi_stream *)stream, komi_bytes_of(bytes, length));
 }
 
 KOMI_API uint64_t komihash_v4_finish(const komihash_v4_stream *stream) KOMIHASH_NOEXCEPT {
-    return komi_stream_answer(4, &stream->internal);
+    return komi_stream_answer(4, (const komi_stream *)stream);
 }
 
 KOMI_API size_t komihash_v4_save(const komihash_v4_stream *stream, void *out, size_t room)
     KOMIHASH_NOEXCEPT {
     return room < KOMIHASH_LONGEST_TEXT ? 0 :
-        komi_stream_store(4, &stream->internal, (uint8_t *)out);
+        komi_stream_store(4, (const komi_stream *)stream, (uint8_t *)out);
 }
 
 KOMI_API bool komihash_v4_resume(komihash_v4_stream *stream, const void *text, size_t length)
     KOMIHASH_NOEXCEPT {
-    return komi_stream_restore(4, komi_bytes_of(text, length), &stream->internal);
+    return komi_stream_restore(4, komi_bytes_of(text, length), (komi_stream *)stream);
 }
 
 KOMI_API komihash_v4_rand komihash_v4_rand_init(uint64_t seed) KOMIHASH_NOEXCEPT {
     komihash_v4_rand rand;
-    rand.internal = komi_rand_init(4, seed);
+    *(komi_rand *)&rand = komi_rand_init(4, seed);
     return rand;
 }
 
 KOMI_API komihash_v4_rand komihash_v4_rand_init_with_extra_seed(uint64_t seed, uint64_t extra_seed)
     KOMIHASH_NOEXCEPT {
     komihash_v4_rand rand;
-    rand.internal = komi_rand_init_with_extra_seed(4, seed, extra_seed);
+    *(komi_rand *)&rand = komi_rand_init_with_extra_seed(4, seed, extra_seed);
     return rand;
 }
 
 KOMI_API komihash_v4_rand komihash_v4_rand_init_words(uint64_t s1, uint64_t s2) KOMIHASH_NOEXCEPT {
     komihash_v4_rand rand;
-    rand.internal = komi_rand_new(s1, s2);
+    *(komi_rand *)&rand = komi_rand_new(s1, s2);
     return rand;
 }
 
 KOMI_API uint64_t komihash_v4_rand_next(komihash_v4_rand *rand) KOMIHASH_NOEXCEPT {
-    return komi_rand_next(4, &rand->internal);
+    return komi_rand_next(4, (komi_rand *)rand);
 }
 
 KOMI_API void komihash_v4_rand_fill(komihash_v4_rand *rand, void *out, size_t length)
     KOMIHASH_NOEXCEPT {
-    komi_rand_fill_bytes(4, &rand->internal, komi_buffer_of(out, length));
+    komi_rand_fill_bytes(4, (komi_rand *)rand, komi_buffer_of(out, length));
 }
 
 KOMI_API size_t komihash_v4_pad(const void *bytes, size_t length, uint64_t *out, size_t room)
@@ -1635,6 +1659,32 @@ KOMI_API size_t komihash_v4_unpad(const uint64_t *words, size_t length, void *ou
         komi_unpad(4, komi_words_of(words, length), (uint8_t *)out);
 }
 
-#endif
+#endif /* the definitions */
 
-#endif
+#elif defined(KOMIHASH_RATTLE_IMPLEMENTATION) && !defined(KOMI_IMPLEMENTED)
+#error "define KOMIHASH_RATTLE_IMPLEMENTATION before the first #include of this header"
+#endif /* KOMIHASH_RATTLE_INLINE_H */
+
+/*
+ * MIT License
+ *
+ * Copyright (c) 2026 the authors of komihash_rattle
+ *
+ * Permission is hereby granted, free of charge, to any person obtaining a copy
+ * of this software and associated documentation files (the "Software"), to deal
+ * in the Software without restriction, including without limitation the rights
+ * to use, copy, modify, merge, publish, distribute, sublicense, and/or sell
+ * copies of the Software, and to permit persons to whom the Software is
+ * furnished to do so, subject to the following conditions:
+ *
+ * The above copyright notice and this permission notice shall be included in all
+ * copies or substantial portions of the Software.
+ *
+ * THE SOFTWARE IS PROVIDED "AS IS", WITHOUT WARRANTY OF ANY KIND, EXPRESS OR
+ * IMPLIED, INCLUDING BUT NOT LIMITED TO THE WARRANTIES OF MERCHANTABILITY,
+ * FITNESS FOR A PARTICULAR PURPOSE AND NONINFRINGEMENT. IN NO EVENT SHALL THE
+ * AUTHORS OR COPYRIGHT HOLDERS BE LIABLE FOR ANY CLAIM, DAMAGES OR OTHER
+ * LIABILITY, WHETHER IN AN ACTION OF CONTRACT, TORT OR OTHERWISE, ARISING FROM,
+ * OUT OF OR IN CONNECTION WITH THE SOFTWARE OR THE USE OR OTHER DEALINGS IN THE
+ * SOFTWARE.
+ */

@@ -90,40 +90,6 @@ static size_t printing(const char *name) {
 #endif
 }
 
-/* Returns a name, quoted as coreutils does where a shell would need it, in new memory if there is
- * some. */
-static char *quote(const char *name) {
-    char *const text = malloc(10 * strlen(name) + 3), *end = text;
-    bool needs_single = strpbrk(name, "!\"$&()*;<=>?[\\^`|"), is_open = false;
-    size_t left = 0; /* of a character that prints */
-    for (const char *at = name; *at; at += left ? left : 1)
-        needs_single = (left = printing(at)) == 0 || needs_single;
-    const bool is_plain = *name && !needs_single && !strpbrk(name, " ':") &&
-        !strchr("#~", *name) && (name[1] || !strchr("{}", *name));
-    const bool has_double = !needs_single && strchr(name, '\'') && !strpbrk(name, "{}") &&
-        !strpbrk(name + 1, "#~");
-    if (text && (is_plain || has_double))
-        sprintf(text, is_plain ? "%s" : "\"%s\"", name);
-    if (!text || is_plain || has_double)
-        return text;
-    for (*end++ = '\'', left = 0; *name; left -= left > 0, name++) {
-        left = left ? left : printing(name);
-        if (*name == '\'')
-            end += sprintf(end, "'\\'");
-        else if (is_open != (left == 0))
-            end += sprintf(end, is_open ? "''" : "'$'");
-        is_open = left == 0;
-        if (left)
-            *end++ = *name;
-        else if (*name >= '\a' && *name <= '\r')
-            end += sprintf(end, "\\%c", "abtnvfr"[*name - '\a']);
-        else
-            end += sprintf(end, "\\%03o", (unsigned char)*name);
-    }
-    strcpy(end, "'");
-    return text;
-}
-
 #ifdef _WIN32 /* whose consoles are prepared to be written to, and restored */
 #include <windows.h>
 static void use_console(int output);
@@ -134,18 +100,23 @@ static void use_console(int output) { (void)output; }
 static void restore(void) {}
 #endif
 
-/* Prints a name and a problem to standard error. */
-static void show(const char *format, const char *name, const char *problem) {
-    char *text = quote(name);
+/* Prints a name and a problem to standard error. Where the name has what doesn't print, which might
+ * command a terminal, it has question marks. */
+static void show(const char *before, const char *name, const char *after, const char *problem) {
     use_console(STD_ERROR_HANDLE);
-    fprintf(stderr, format, text ? text : "", problem);
+    fputs(before, stderr);
+    while (*name) {
+        const size_t length = printing(name);
+        fprintf(stderr, "%.*s", length ? (int)length : 1, length ? name : "?");
+        name += length ? length : 1;
+    }
+    fprintf(stderr, after, problem);
     fflush(stderr); /* which is buffered on Windows */
-    free(text);
 }
 
 /* Reports a problem with a file, and returns false. */
 static bool fail(const char *name, const char *problem) {
-    show("komihashsum: %s: %s\n", name, problem);
+    show("komihashsum: ", name, ": %s\n", problem);
     return false;
 }
 
@@ -182,7 +153,7 @@ static void show_progress(int file, const char *name, uint64_t length, uint64_t 
     fprintf(stderr, " MiB, %" PRIu64 " in all", all >> 20);
     while (strlen(name) > 50 || (*name & 0xC0) == 0x80) /* within a character of UTF-8 */
         name++;
-    show("  %s%s\033[?7h", name, "");
+    show("  ", name, "%s", "\033[?7h");
 }
 
 /* Sets the hash to that of a file, and returns 0. If the file can't be read, returns why. */
@@ -421,7 +392,7 @@ static bool set_seed(const char *text) {
     given.seed = strtoull(text, &end, strncmp(text, "0x", 2) == 0 ? 16 : 10);
     if (text[0] >= '0' && text[0] <= '9' && !*end && errno == 0)
         return true;
-    show("komihashsum: --seed=%s must be %s\n", text,
+    show("komihashsum: --seed=", text, " must be %s\n",
         "decimal digits, or hexadecimal ones after 0x, and below 2^64");
     return false;
 }

@@ -9,9 +9,10 @@
 #                               KOMIHASH_CRATE, computes what the definition says: rust_crate.sh
 #
 # REPEATS is 151 if not given. LAYOUTS says in how many layouts of the machine code `bench` runs, 8
-# if unset, and BUILDS names some of the builds plain, fat, x86-64 and x86-64-v3. KOMIHASH_CRATE is
-# a folder with the Rust crate, where cargo has no registry, and RATTLE_CRATE one with another copy
-# of ../rust. CC compiles C, and RUSTFLAGS are for all Rust.
+# if unset, and BUILDS names some of the builds plain, fat, gcc, gcc-v3, clang-19 and clang-19-v3:
+# the others have the times of the runs before. KOMIHASH_CRATE is a folder with the Rust crate,
+# where cargo has no registry, and RATTLE_CRATE one with another copy of ../rust. CC links, and
+# RUSTFLAGS are for all Rust.
 set -euo pipefail
 cc=${CC:-cc} layouts=${LAYOUTS:-8}
 
@@ -41,30 +42,39 @@ case "$*" in
             "${@:2}" > ../out/rows
         ../run.sh values < ../out/rows | diff ../out/rows -
         exec echo 'There is no difference.' ;;
-    *) sed -n '4,15s/^# \?//p' ../run.sh >&2 && exit 2 ;;
+    *) sed -n '4,16s/^# \?//p' ../run.sh >&2 && exit 2 ;;
 esac
 
 # Builds a program of that name in all layouts.
 build() {
-    local bin=speed v3=${1#x86-64} flags=(-Clinker="$here/run.sh")
-    [ "$1" != fat ] || export CARGO_PROFILE_RELEASE_LTO=fat
-    if [ "$v3" != "$1" ]; then
-        bin=hashes
-        make --silent -C ../../c >&2
-        "$cc" -O3 "-march=$1" -ffunction-sections -I../../c -c -o "../out/$1.o" hashes.c
-        flags+=(-Clink-arg={"$here/out/$1.o","$here/../c/out/libkomihash_rattle${v3/-/_}.a"})
-    fi
+    local bin=speed compiler=${1%-v3} flags=(-Clinker="$here/run.sh")
+    local v3=${1#"$compiler"} library
+    case $1 in
+        plain) ;;
+        fat) export CARGO_PROFILE_RELEASE_LTO=fat ;;
+        *)
+            bin=hashes
+            make --silent -C ../../c >&2
+            make --silent -C ../../c FROM=c "CC=$compiler" "OUT=$here/out/$1" \
+                CPPFLAGS=-DKOMIHASH_RATTLE_PREFIX=library_ \
+                "CFLAGS=-O2 -march=x86-64$v3 -ffunction-sections" "$here/out/$1/c.o" >&2
+            "$compiler" -O2 "-march=x86-64$v3" -ffunction-sections -I../../c -c \
+                -o "../out/$1/hashes.o" hashes.c
+            library=$here/../c/out/libkomihash_rattle${v3/-/_}.a
+            flags+=(-Clink-arg={"$here/out/$1/"{c,hashes}.o,"$library"}) ;;
+    esac
     touch "src/bin/$bin.rs"
     LINK_TO=$here/out/$1 cargo rustc "${options[@]}" --bin "$bin" -- "${flags[@]}"
 }
 
-repeats=${2:-151} files=()
-for build in ${BUILDS:-plain fat x86-64 x86-64-v3}; do
+repeats=${2:-151} times=../out/times${3:+-of-some-rows}
+[ -z "${3:-}" ] && [ "${BUILDS:-}" ] || rm -rf "$times"
+for build in ${BUILDS:-plain fat gcc clang-19 gcc-v3 clang-19-v3}; do
+    rm -rf "${times:?}/$build" && mkdir -p "$times/$build"
     (build "$build")
     for ((layout = 1; layout <= layouts; layout++)); do
         echo "$build, layout $layout" >&2
-        "../out/$build-$layout" "$repeats" "${3:-}" > "../out/$build-$layout.txt"
-        files+=("../out/$build-$layout.txt")
+        "../out/$build-$layout" "$repeats" "${3:-}" > "$times/$build/$layout"
     done
 done
 
@@ -74,7 +84,8 @@ crate=$(sed -n 's/^version = "\(.*\)"/\1/p' ../../rust/Cargo.toml)
 library=$(sed -n 's/.*RATTLE_VERSION "\(.*\)"/\1/p' ../../c/komihash_rattle.h)
 measured="$(cpu 'Model name') (family $(cpu 'CPU family'), model $(cpu Model)),"
 measured+=" $(cpu 'CPU(s)') CPUs; crate $crate, library $library, $(date -I);"
-measured+=" $(rustc --version | cut -d ' ' -f -2); $("$cc" --version | sed -n 1p);"
+measured+=" $(rustc --version | cut -d ' ' -f -2); $(gcc --version | sed -n 1p);"
+measured+=" $(clang-19 --version | sed -n 1p);"
 headers=(libxxhash-dev libwyhash-dev)
 measured+=$(dpkg-query -Wf ' ${Package} ${Version};' "${headers[@]}" 2> /dev/null || true)
-../table.py "$measured $layouts layouts, $repeats repeats" "${3:-}" "${files[@]}"
+../table.py "$measured $layouts layouts, $repeats repeats" "${3:-}" "$times"/*/*

@@ -1,7 +1,7 @@
 #!/usr/bin/env python3
 """Makes tables of the times that the drivers printed.
 
-    table.py CIRCUMSTANCES WORD BUILD-LAYOUT.txt ..
+    table.py CIRCUMSTANCES WORD BUILD/LAYOUT ..
 
 Each file has the times of a build in a layout of the machine code. If WORD is empty, makes the
 picture, and what stands between `<!-- speed -->` and `<!-- /speed -->` in the pages, anew.
@@ -27,21 +27,16 @@ RUST = {
     "version 4, fat LTO": ("fat komihash_rattle 4", "fat komihash 4"),
 }
 C = {
-    f"{name}, {build}": tuple(f"{build} {it}" for it in dict.fromkeys(("komihash", name)))
-    for build in ("x86-64", "x86-64-v3")
-    for name in ("komihash", "XXH3", "wyhash")
+    level: {"assembly": (f"gcc{level} assembly",)} | {
+        f"{name}, {compiler}": (f"{compiler}{level} assembly", f"{compiler}{level} {name}")
+        for name in ("library", "inlined", "XXH3", "wyhash")
+        for compiler in ("gcc", "clang-19")
+    }
+    for level in ("", "-v3")
 }
 
 # The lines of the picture, in its order.
-LINES = [*RUST["plain"], "x86-64 XXH3", "x86-64 wyhash", "x86-64-v3 XXH3"]
-
-# Rows that stand for many, which have a length each.
-EACH = {
-    f"{call} of each length of 1 to {count} bytes": [
-        f"{call} of {length} byte{'s' * (length > 1)}" for length in range(1, count + 1)
-    ]
-    for call, count in (("hash", 128), ("new, write and finish", 64))
-}
+LINES = [*RUST["plain"], "gcc XXH3", "gcc wyhash", "gcc-v3 XXH3"]
 
 # The columns and the rows of the short table.
 SHORT_COLUMNS = {"ours": RUST["komihash_rattle"], "theirs / ours": RUST["plain"]}
@@ -55,8 +50,8 @@ SHORT_ROWS = [
 def read(files):
     """Returns the nanoseconds of each row, by build and hash, in each layout."""
     times = collections.defaultdict(lambda: collections.defaultdict(list))
-    for file in map(pathlib.Path, files):
-        build = file.stem.rpartition("-")[0]
+    for file in map(pathlib.Path, sorted(files, reverse=True)):
+        build = file.parent.name
         heads, *lines = (line.split("\t") for line in file.read_text("utf-8").splitlines())
         for row, *numbers in lines:
             for head, number in zip(heads[1:], numbers):
@@ -77,45 +72,28 @@ def speed(row, times):
     return f"{number:,.{places}f} {'GB/s' if is_long else 'ns'}"
 
 
-def ratios(times, row, ours, other):
-    """Returns the ratio in each layout, or the median over the layouts at each length."""
-    if row in EACH:
-        return [statistics.median(ratios(times, one, ours, other)) for one in EACH[row]]
-    return [above / below for above, below in zip(times[row][other], times[row][ours])]
-
-
-def cell(times, row, keys):
-    """Writes a time, or the median, the least and the greatest ratio, if these were timed. The
-    median is bold if all are below 1."""
-    if any(key not in times[one] for one in EACH.get(row, [row]) for key in keys):
+def cell(row, times, keys):
+    """Writes a time, or the median ratio over the layouts, if these were timed. It is bold if all
+    are below 1, and has the least and the greatest if only some are."""
+    if not all(key in times for key in keys):
         return ""
     if len(keys) == 1:
-        return "" if row in EACH else speed(row, times[row][keys[0]])
-    these = ratios(times, row, *keys)
-    star = "**" * (round(max(these), 2) < 1)
-    median = f"{star}{statistics.median(these):.2f}{star}"
-    return f"{median} ({min(these):.2f} to {max(these):.2f})"
-
-
-def markdown(heads, lines):
-    lines = [heads, ["---", *["---:"] * (len(heads) - 1)], *lines]
-    return "\n".join(f"| {' | '.join(line)} |" for line in lines)
+        return speed(row, times[keys[0]])
+    ours, other = (times[key] for key in keys)
+    ratios = [above / below for above, below in zip(other, ours)]
+    median = f"{statistics.median(ratios):.2f}"
+    least, greatest = round(min(ratios), 2), round(max(ratios), 2)
+    if greatest < 1:
+        return f"**{median}**"
+    return f"{median} ({least:.2f} to {greatest:.2f})" if least < 1 else median
 
 
 def table(times, columns, rows):
     """Returns a table of the rows that were timed."""
-    lines = [[row, *(cell(times, row, keys) for keys in columns.values())] for row in rows]
-    return markdown(["Call", *columns], [line for line in lines if any(line[1:])])
-
-
-def grids(times):
-    """Returns tables with the ratio at each length."""
-    for row in EACH:
-        for head in ("plain", "fat LTO"):
-            each = [f"{ratio:.2f}" for ratio in ratios(times, row, *RUST[head])]
-            lines = [[f"+ {at}", *each[at : at + 16]] for at in range(0, len(each), 16)]
-            yield f"### {row.capitalize()}, {head}"
-            yield markdown(["bytes", *map(str, range(1, 17))], lines)
+    lines = [[row, *(cell(row, times[row], keys) for keys in columns.values())] for row in rows]
+    heads = [["Call", *columns], ["---", *["---:"] * len(columns)]]
+    lines = heads + [line for line in lines if any(line[1:])]
+    return "\n".join(f"| {' | '.join(line)} |" for line in lines)
 
 
 def points(times, key):
@@ -136,15 +114,14 @@ def rewrite(name, pattern, parts):
 
 def rewrite_all(times, measured):
     """Makes the tables of the pages, and the lines of the picture, anew."""
-    singles = {one: row for row, ones in EACH.items() for one in ones}
-    rows = list(dict.fromkeys(singles.get(row, row) for row in times))
     pages = {
         "speed.md": [
-            *("## Beside komihash 0.5.0", table(times, RUST, rows), *grids(times)),
-            *("## Beside other hashes", table(times, C, [*times])),
+            *("## Beside komihash 0.5.0", table(times, RUST, times)),
+            *("## Beside other hashes", table(times, C[""], times)),
+            *("### For x86-64-v3", table(times, C["-v3"], times)),
             measured,
         ],
-        "../README.md": [table(times, SHORT_COLUMNS, SHORT_ROWS)],
+        "../README.md": [table(times, SHORT_COLUMNS, SHORT_ROWS), measured.partition(";")[0] + "."],
     }
     for page, tables in pages.items():
         part = "\n\n".join(["<!-- speed -->", *tables, "<!-- /speed -->"])
@@ -156,8 +133,8 @@ def rewrite_all(times, measured):
 def main(circumstances, word, *files):
     times, measured = read(files), f"Measured on {circumstances}."
     if word:
-        rows = [*times, *EACH]
-        print(table(times, RUST, rows), table(times, C, rows), measured, sep="\n\n")
+        tables = (table(times, columns, times) for columns in (RUST, *C.values()))
+        print(*tables, measured, sep="\n\n")
     else:
         rewrite_all(times, measured)
 

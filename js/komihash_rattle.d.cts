@@ -4,10 +4,10 @@ export type Message = string | ArrayBufferView | ArrayBufferLike;
 /** A whole number at least 0 and below 2 ** 53, or a bigint below 2n ** 64n. */
 export type Seed = number | bigint;
 
-/** Returns the hash of a message, which is at least 0n and below 2n ** 64n. */
-export function komihash(message: Message, seed?: Seed): bigint;
+/** Returns the hash, below 2n ** 64n. In `map` and `Array.from`, write `(it) => komihash(it)`. */
+export function komihash(message: Message, seed?: Seed, none?: undefined): bigint;
 /** Returns the same as 16 hexadecimal digits. */
-export function komihashHex(message: Message, seed?: Seed): string;
+export function komihashHex(message: Message, seed?: Seed, none?: undefined): string;
 
 type Version = 4 | 5;
 declare class Stream<V extends Version> {
@@ -24,14 +24,12 @@ declare class Stream<V extends Version> {
     /** Returns the same as 16 hexadecimal digits. */
     hexdigest(): string;
     /** Returns the state as at most 131 bytes. */
-    save(): Uint8Array;
-    /**
-     * Returns the stream whose `save` returned these bytes. Throws a RangeError for others. The
-     * constructor takes the further arguments, such as the seed for `reset`.
-     */
-    static resume<S extends Stream<Version>, Given extends unknown[]>(
-        this: new (...given: Given) => S, saved: ArrayBufferView | ArrayBufferLike, ...given: Given
-    ): S;
+    save(): ReturnType<Uint8Array["slice"]>; // From TypeScript 5.9 on, Uint8Array<ArrayBuffer>.
+    /** Returns the stream whose `save` returned these bytes. Throws a RangeError for others. The
+     * constructor takes the further arguments, such as the seed for `reset`. */
+    static resume<C extends new (...given: any) => Stream<Version>>(
+        this: C, saved: ArrayBufferView | ArrayBufferLike, ...given: ConstructorParameters<C>
+    ): InstanceType<C>;
 }
 
 declare class Generator<V extends Version> {
@@ -39,13 +37,13 @@ declare class Generator<V extends Version> {
     constructor(seed: Seed, extraSeed?: Seed);
     readonly version: V;
     /** Returns the generator that has two words as its state. Takes further arguments likewise. */
-    static fromWords<R extends Generator<Version>, Given extends unknown[]>(
-        this: new (...given: Given) => R, s1: Seed, s2: Seed, ...given: Given
-    ): R;
+    static fromWords<C extends new (...given: any) => Generator<Version>>(
+        this: C, s1: Seed, s2: Seed, ...given: ConstructorParameters<C>
+    ): InstanceType<C>;
     /** Without further arguments, the constructor takes the seed 0n. */
-    static fromWords<R extends Generator<Version>>(
-        this: new (seed: bigint) => R, s1: Seed, s2: Seed
-    ): R;
+    static fromWords<C extends new (seed: bigint) => Generator<Version>>(
+        this: C, s1: Seed, s2: Seed
+    ): InstanceType<C>;
     /** Returns the two words of the state, which `fromWords` takes. */
     words(): [s1: bigint, s2: bigint];
     /** Returns the next output, which is at least 0n and below 2n ** 64n. */

@@ -26,10 +26,8 @@ STABLE = sys.version_info >= (3, 11) and not sysconfig.get_config_var("Py_GIL_DI
 
 # Whether to link the library that is installed, as distributors want it.
 SYSTEM = {"": False, "0": False, "1": True}.get(os.environ.get("KOMIHASH_RATTLE_SYSTEM", ""))
-
 if SYSTEM is None:
     sys.exit("KOMIHASH_RATTLE_SYSTEM may be 0 or 1")
-
 if not SYSTEM and not (ABOVE / USED[0]).exists():
     sys.exit(f"{ABOVE / 'c'} is missing: take the whole repository or a source distribution")
 

@@ -77,21 +77,16 @@ def hashed(version, seed, message):
     return stream.hexdigest()
 
 
-def resumed(version, text):
-    try:
-        return version.komihash.resume(text).hexdigest()
-    except ValueError:
-        return "none"
-
-
 def value(call, version, given):
     """Returns the value of a call by its name and arguments, which are in hexadecimal."""
     if call == "resume":
-        return resumed(version, bytes.fromhex(given[0]))
-    if call == "new":
-        return filled(version.Komirand.from_words(int(given[0], 16), int(given[1], 16)), given[2:])
-    if call == "init_with_extra_seed":
-        return filled(version.Komirand(int(given[0], 16), int(given[1], 16)), given[2:])
+        try:
+            return version.komihash.resume(bytes.fromhex(given[0])).hexdigest()
+        except ValueError:
+            return "none"
+    make = {"new": version.Komirand.from_words, "init_with_extra_seed": version.Komirand}.get(call)
+    if make:
+        return filled(make(int(given[0], 16), int(given[1], 16)), given[2:])
     seed = int(given[0], 16)
     if call == "init":
         return filled(version.Komirand(seed), given[1:])

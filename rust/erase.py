@@ -9,6 +9,7 @@ what Rust has besides, and the head of src/lib.rt which marks say more. What els
 script refuses.
 """
 import re
+import shutil
 import subprocess
 import sys
 from itertools import count
@@ -58,7 +59,7 @@ LINES = (r'ghost use [^;]*;', r'#!?\[tactic\(.*\)\]', r'tally\.raise\([^;]*\);',
 TALLY = re.compile(r'(?:(?<=\()|,\s*)(?:tally(?:: &mut Tally)?|&mut Tally::new\(\))(?=,?\s*\))')
 SPELLED = {'#[derive(Drop)]': '#[derive(Clone)]', 'use std::': 'use core::',
            'pub trait KomiStream: Sized + Drop': 'pub trait KomiStream: Sized'}
-NAMED = re.compile(r'let (\w+) = ([^;{}]*);\n *((?:let \w+ = |return )?if )\1 (?=\{)')
+NAMED = re.compile(r'let (\w+) = ([^;{}]*);\n *((?:let \w+(?:: \w+)? = |return )?if )\1 (?=\{)')
 ATTRIBUTES = re.compile(r'#!?\[([^]]*)\]'), re.compile('|'.join((
     r'inline(\((always|never|not_in_c)\))?', 'track_caller', 'must_use', r'repr\((C|transparent)\)',
     r'derive\((Clone|Clone, Copy)\)', r'allow\([\w:, ]+\)')))
@@ -221,6 +222,7 @@ def erase(text, traits):
 
 
 def main(source, out):
+    shutil.which(RUSTFMT[0]) or refuse('this program is missing', RUSTFMT[0])
     files = [file.relative_to(source) for file in source.rglob('*.rt')]
     texts = {file: (source / file).read_text('utf-8') for file in files
              if file.parts[0].removesuffix('.rt') not in (*ONLY_RATTLE, *BY_HAND)}

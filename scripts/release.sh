@@ -1,27 +1,27 @@
 #!/usr/bin/env bash
-# Makes packages, each in a folder of its name, and SHA256SUMS of all files in FOLDER: release.sh
-# FOLDER NAME.., where a name is c, rust, python, js or page. PYTHON is a Python with setuptools. The
-# same files give the same bytes.
+# Makes packages, each in a folder of its name, and in FOLDER a page and SHA256SUMS of all files:
+# release.sh FOLDER [NAME..], where a name is one of those below, and without any, all are made.
+# PYTHON, by default the system's, has setuptools and wheel. The same files and compilers give the
+# same bytes.
 set -euo pipefail
 umask 022
 folder=$(realpath -m "$1")
+shift
+python=${PYTHON:-/usr/bin/python3}
+[ $# -gt 0 ] || set c rust python js page windows
 cd "$(dirname "$0")/.."
 scratch=$(mktemp -d)
 trap 'rm -r "$scratch"' EXIT
 tar --create --exclude=out --exclude=target --exclude='*.egg-info' --mode=a+rX,u+w,go-w \
-    c docs/CLAIMS.md docs/DEFINITIONS.md js python rust | tar --extract --directory="$scratch"
+    LICENSE c docs/CLAIMS.md docs/DEFINITIONS.md js python rust | tar --extract --directory="$scratch"
 links=$PWD/scripts/links.py
-for name in "${@:2}"; do
+version=$(sed -n 's/.*RATTLE_VERSION "\(.*\)"/\1/p' c/komihash_rattle.h)
+for name; do
     mkdir -p "$folder/$name"
     case $name in
     c)
-        # The package makes itself again, with its links adapted.
         make -C c dist "OUT=$scratch/packed"
-        mkdir "$scratch/unpacked"
-        tar -xzf "$scratch"/packed/*.tar.gz -C "$scratch/unpacked" --strip-components=1
-        python3 -B "$links" "$scratch/unpacked" c
-        make -C "$scratch/unpacked" dist
-        cp "$scratch"/unpacked/out/*.tar.gz "$folder/c"
+        cp "$scratch"/packed/*.tar.gz "$folder/c"
         ;;
     rust)
         cp -R "$scratch/docs" "$scratch/rust"
@@ -33,11 +33,18 @@ for name in "${@:2}"; do
     python)
         (
             cd "$scratch/python"
-            "${PYTHON:-python3}" -B setup.py sdist --keep-temp
+            python3 -B "$links" . python # before a copy of README goes into PKG-INFO
+            "$python" -B setup.py sdist --keep-temp
             package=$(echo komihash_rattle-*)
             python3 -B "$links" "$package" python
             tar --create --sort=name --mtime='2020-02-02 UTC' --format=ustar --owner=0 --group=0 \
                 --numeric-owner -I 'gzip -9n' --file="$folder/python/$package.tar.gz" "$package"
+            cd "$package"
+            # The tag promises that glibc 2.17 suffices, which is older than the compiler's.
+            SOURCE_DATE_EPOCH=1580601600 CFLAGS=-g0 "$python" -B setup.py bdist_wheel \
+                --plat-name "manylinux_2_17_$(uname -m)" --dist-dir "$folder/python"
+            { objdump -T build/lib*/*/*.so | grep -o 'GLIBC_[0-9.]*' | sort -V
+                echo GLIBC_2.17; } | sort -VC
         )
         ;;
     js)
@@ -46,7 +53,53 @@ for name in "${@:2}"; do
         (cd "$scratch/js" && npm pack --pack-destination "$folder/js")
         ;;
     page) cp js/komihash.html "$folder/page" ;;
+    windows)
+        package=komihash_rattle-$version-x86_64
+        unpacked=$scratch/windows/$package
+        make -C "$scratch/c" install CROSS=x86_64-w64-mingw32- LDFLAGS=-s "PREFIX=/$package" \
+            "DOCDIR=/$package" "DESTDIR=$scratch/windows"
+        rm -r "$unpacked/share"
+        sed -i 's|^prefix=.*|prefix=${pcfiledir}/../..|' "$unpacked"/lib/pkgconfig/*.pc
+        groff -man -Tascii -rHY=0 -P-cbou c/komihashsum.1 > "$unpacked/komihashsum.txt"
+        cp -R "$scratch/docs" c/CHANGES.md "$unpacked"
+        { sed 1q c/README.md && cat && sed 1d c/README.md; } > "$unpacked/README.md" << 'END'
+
+**This is the library, built for Windows.** In cmd, `bin\komihashsum.exe --tag FILE > LIST` lists
+hashes, and `bin\komihashsum.exe --check LIST` checks them. Link `lib\libkomihash_rattle.a`, or the
+DLL in `bin` as [Processors](#processors) says. Commands with `make` are for the package for C.
+END
+        # Its runtime is in the program.
+        cp /usr/share/doc/mingw-w64-x86-64-dev/copyright "$unpacked/LICENSE.mingw-w64"
+        python3 -B "$links" "$unpacked" c
+        find "$scratch/windows" -exec touch --date='2020-02-02 UTC' {} +
+        (cd "$scratch/windows" && TZ=UTC "$python" -m zipfile --create \
+            "$folder/windows/$package.zip" "$package")
+        ;;
     esac
 done
 cd "$folder"
+cat > README.md << END
+# komihash_rattle
+
+This is the fast hash komihash, versions 4 and 5, made from a source that is proved right. Don't use
+it where an attacker may choose the messages. Each package but the page has a README, where to
+begin, in the wheel as METADATA. All are under the MIT licence, but for the runtime of MinGW-w64 in
+the program for Windows, whose notices are beside it.
+
+The prover isn't published yet. Of the package for C, docs/CLAIMS.md says what you must trust, and
+\`make verify\` checks the machine code without the prover.
+
+| File | What it is | Library for C in it |
+|---|---|---|
+| $(echo c/*) | that library, a check of its machine code, and \`komihashsum\` | $version |
+| $(echo windows/*) | the same, built for Windows on x86-64, without the check | $version |
+| $(echo rust/*) | the crate for Rust, of which the library is made | its source |
+| $(echo python/*.gz) | the package for CPython 3.9 and newer, as source | $version |
+| $(echo python/*.whl) | the same, built for CPython 3.11 and newer on Linux | $version |
+| $(echo js/*) | the package for JavaScript, in Node and browsers | $version, as WebAssembly |
+| $(echo page/*) | a page that hashes files in a browser, also in that package | the same |
+
+\`sha256sum --check SHA256SUMS\` finds files that were damaged in transit. The sums aren't signed.
+Report defects to whomever you have these files from: no address of the project is known here.
+END
 find -type f ! -name SHA256SUMS -printf '%P\n' | LC_ALL=C sort | xargs sha256sum > SHA256SUMS

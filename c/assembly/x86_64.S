@@ -2,7 +2,7 @@
  * Copyright (c) 2026 the authors of komihash_rattle
  *
  * `make assembly` made this file from komihash_rattle_inline.h. Do not edit it.
- * Made of: SHA-256 2c467205dd9be308a58eb1c2b7da8d3b83e8800e09f0695951fb5c65f9fa3b16
+ * Made of: SHA-256 32ff7db65d630793bfb3009388a7f4675c7cb58c7317835580d17efc7880f88e
  * Options: -O2 -fno-vectorize -fno-slp-vectorize -mllvm -disable-loop-idiom-memcpy -mllvm -enable-ext-tsp-block-placement -fPIC -ffunction-sections -falign-functions=64 -fno-addrsig -fno-ident -fno-verbose-asm -mno-red-zone -fcf-protection=full
  * Compiler: Debian clang version 19.1.7 (3~deb12u1)
  */

@@ -32,11 +32,14 @@ run_case() {
     fi
 }
 
-# A case that can't be run, since something is missing: skip NAME WHAT
+# A case that can't be run, since something is missing: skip NAME WHAT. With REQUIRE_ALL=1 in the
+# environment, it fails if its name doesn't end in (optional).
 skip() {
     wanted "$1" || return 0
-    skipped=$((skipped + 1))
-    echo "skipped: $1, which needs $2"
+    case ${REQUIRE_ALL:-0},$1 in
+    0,* | *'(optional)') skipped=$((skipped + 1)) && echo "skipped: $1, which needs $2" ;;
+    *) failed=$((failed + 1)) && echo "FAILED: $1, which needs $2" ;;
+    esac
 }
 
 # A case that needs tools: needs 'TOOL..' NAME COMMAND..
@@ -46,9 +49,10 @@ needs() {
     if type $tools > "$scratch/case" 2>&1; then run_case "$@"; else skip "$1" "$tools"; fi
 }
 
+# Prints the last lines, with what more the last one says: counted [MORE]
 counted() {
     cat "$scratch/to_run"
     [ "$met" = "$CASE" ] || echo "FAILED: no case has '$CASE' in its name"
-    echo "$passed passed, $failed failed$([ "$skipped" = 0 ] || echo ", $skipped skipped")"
+    echo "$passed passed, $failed failed$([ "$skipped" = 0 ] || echo ", $skipped skipped")${1:-}"
     [ "$failed" = 0 ] && [ "$passed$skipped" != 00 ] && [ "$met" = "$CASE" ]
 }

@@ -20,16 +20,16 @@ EDITS = [
     ("generator", "low ^ s2 }", "low ^ self.step() }"),
     ("generator", "    Komirand { s1, s2 }",
      "    let mut g = Komirand { s1, s2 };\n        Komirand { s1: g.step(), s2: g.step() }"),
-    ("rounds/words", "(last_whole_word, final_word)", "(left[0] as u64, final_word)"),
+    ("whole_words", "(last_whole_word, final_word)", "(left[0] as u64, final_word)"),
     # Names that hide others would be assigned, and others' fields would have another order.
     ("generator", "let output = generator.step();\n            write_partial_word(output",
      "let whole = generator.step();\n            write_partial_word(whole"),
-    ("rounds", "    e ^ low\n}", "    let XoredPair(low, e) = pair;\n    e ^ low\n}"),
-    ("hash", "let rest = if", "let bytes = if"),
-    ("rounds", "fourth: XoredPair((", "third: XoredPair(("),
-    ("rounds/pending", "WholeWords for Pending {", "WholeWords for Pending {\n    fn len() {\n    }"),
+    ("rounds", "    last.e ^ last.low\n}", "    let pair = last.low;\n    last.e ^ pair\n}"),
+    ("hash", "let rest: &[u8] = if", "let bytes: &[u8] = if"),
+    ("rounds", "fourth: XoredPair { low: (", "third: XoredPair { low: ("),
+    ("pending", "WholeWords for Pending {", "WholeWords for Pending {\n    fn len() {\n    }"),
     # Other values of what it knows.
-    ("rounds/pending", "[0; 8]", "[1; 8]"), ("rounds/pending", "chunks::<2>", "chunks::<4>"),
+    ("pending", "[0; 8]", "[1; 8]"), ("pending", "chunks::<2>", "chunks::<4>"),
     ("utils", "u64::from_le_bytes", "u64::from_be_bytes"), ("utils", "as u128", "as i128"),
     ("utils", "u32::from_le_bytes", "u64::from_le_bytes"),
     ("padding", "(words)?;", "(words).unwrap();"),
@@ -50,8 +50,8 @@ EDITS = [
     ("hash", "#[inline(never)]", "#[inline(never)]\n#[cold]"),
     ("utils", "#[inline(always)]", '#[cfg(target_endian = "big")]'),
     ("padding", "pub fn pad<", "pub unsafe fn pad<"),
-    ("rounds/pending", "len: usize,\n}", "len: u16,\n}"),
-    ("rounds/words", "fn word(&self, at: usize)", "extern fn word(&self, at: usize)"),
+    ("pending", "len: usize,\n}", "len: u16,\n}"),
+    ("whole_words", "fn word(&self, at: usize)", "extern fn word(&self, at: usize)"),
 ]
 
 

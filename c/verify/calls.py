@@ -1,121 +1,266 @@
-"""A call of a function: its arrays and arguments."""
+"""Any call of a function that the header allows: its arrays and arguments, by its prototype and
+what the header's first comment asks of pointers, lengths and overlap; and where the call is.
+
+Trusted is that no call is left out that the header allows. A number of bytes is a number or a term
+that stands for many, and each content is a symbol of its own."""
 import collections
+import os
+import re
 import z3
-from definition import Products, State, are_padded
+from checks import check, check_bytes, check_generator
+from definition import Products, State
 from memory import Array
-from terms import (Unknown, address, are_any, bv, choose, const, is_public, secret, simple, sym,
-                   symbols)
+from terms import Unknown, address, bv, bytes_of, choose, const, part, secret, simple, sym
 
-# What `unpad` returns instead of a length.
-NO_MESSAGE = bv(-1)
-
-
-def apart(base, size, other, length):
-    """Whether two arrays don't overlap. Memory is such that none does; where code compares their
-    addresses, it also has to be a fact."""
-    return z3.Or(size == 0, length == 0, z3.And(
-        z3.UGE(base - other, length), z3.UGE(other - base, size)))
+HEADER = os.path.join(os.path.dirname(os.path.abspath(__file__)), '..', 'komihash_rattle.h')
+PROTOTYPE = r'(\w+)\s+{}\((.*?)\)'
+# The bytes of an element of an array.
+ELEMENTS = {'void': 1, 'uint64_t': 8}
+# What a call returns, by name, and what it leaves: the state of a stream, a generator's pair, and
+# the bytes that it writes to `out`.
+Outcome = collections.namedtuple('Outcome', 'results state pair out', defaults=({}, None, None, []))
 
 
-class Library(collections.namedtuple('Library', 'image layout red_zone before',
-                                     defaults=(lambda call: None,))):
+def parameters(name):
+    """The types and names of a function's parameters. A stream that is returned is one, too, where
+    the caller says that it goes."""
+    with open(HEADER) as file:
+        result, listed = re.search(PROTOTYPE.format(name), file.read(), re.S).groups()
+    returned = [f'{result} *stream'] if result.endswith('_stream') else []
+    return [re.fullmatch(r'(.+?)(\w+)', one).groups() for one in returned + listed.split(', ')]
+
+
+class Library(collections.namedtuple('Library', 'image layout red_zone')):
     """The image of a library, and how its functions are called: how streams lie in memory, and
-    whether functions may use the red zone. `before` is told of each call before its first
-    instruction."""
+    whether functions may use the red zone."""
 
 
 class Call:
-    """A call of a function, of which nothing has run: its arrays, what is known of its arguments,
-    and the products that the definition makes for it."""
+    """A call of a function, before its first instruction or `where` some units of its bytes were
+    taken: how many of UNIT bytes, how many bytes, and how many are left, if that is a number. Its
+    bytes are those that are pending in its stream, which it takes first, and those that it is
+    passed; `total` counts both. A step of the definition takes SIZE bytes. `which` is one of WHICH,
+    the kinds of calls that are judged one by one.
 
-    def __init__(self, library, version, name):
-        self.library, self.version, self.name = library, version, f'komihash_v{version}{name}'
+    A subclass has the definition: its words before the first step, or in any state at a cut; those
+    after a step; and what a call does then, if fewer bytes are left than for a step."""
+    UNIT, SIZE, WHICH, HAS_PENDING, READS_STREAM, BY_CONTENTS = 8, 0, (None,), False, True, False
+    # Calls of fewer than LEAST times GRAIN bytes are judged one by one. Of longer ones, the low
+    # bits of their length are, of which FIXED_BITS already in the loop. Lengths are multiples of
+    # STRIDE.
+    GRAIN, LEAST, FIXED_BITS, STRIDE = 128, 1, 0, 1
+    # The array whose bytes are counted, if there is one, and a kind of calls that have none.
+    COUNTED, EMPTY = None, ()
+
+    def __init__(self, library, version, suffix, total=bv(0), pending=bv(0), which=None,
+                 where=None):
+        self.library, self.version, self.name = library, version, f'komihash_v{version}{suffix}'
         self.products, self.layout = Products(), library.layout(version)
         self.cpu = library.image.processor(library, self.products)
         self.facts, self.memory = self.cpu.facts, self.cpu.memory
-        # For header.py: what the case is passed, the state of its stream, and the last nine bytes
-        # of its words.
-        self.args, self.state, self.last_bytes = (), None, ()
-
-    def base(self, name, size):
-        """Passes an array of `size` bytes, which is null only if it is empty, and after which
-        there is an address. Returns its address."""
-        base, size = address(name), bv(size) if isinstance(size, int) else size
-        self.facts.add(simple(z3.Or(size == 0, z3.ULT(size, -base))), z3.ULT(size, 2**63))
-        return base
-
-    def array(self, name, size, content=(), high=None, writable=False):
-        """Passes an array, with the content of its first bytes."""
-        base = self.base(name, size)
-        limit = None if isinstance(size, int) else size
-        high = len(content) if high is None else high
-        self.memory.add(Array(name, base, 0, high, writable, limit), content)
-        return base
-
-    def aligned(self, base):
-        self.facts.add(base & 7 == 0)
-        return base
-
-    def message(self, length):
-        content = named('bytes', range(length))
-        return self.array('bytes', length, content), content
-
-    def stream(self, state, writable=False):
-        size = self.layout.SIZE
-        content = named('unused', range(size)) if state else ()
-        base = self.array('stream', size, content, size, writable)
-        if state:
-            self.state = state
-            self.layout.store(self, state)
-        return self.aligned(base)
-
-    def has_any_contents(self):
-        """Whether each seed, lane and byte that is passed, and what the caller has in registers, is
-        a secret symbol of its own, but for numbers in `unpad`'s last word, of which header.py asks;
-        and no flag and no path is known."""
-        parts = [*(self.state.lanes + self.state.pending if self.state else ()), *(
-            term for (name, _), (term, k) in self.memory.data.items()
-            if k == 0 and name not in ('stream', 'stack', 'shadow')), *(
-                term for name, term in self.cpu.before.items()
-                if name not in (self.cpu.SP, 'ssp', 'x30')), *(
-                    term for term in self.args if not is_public(term))]
-        numbers, known = ([const(one) for one in some if not symbols(one)]
-                          for some in (parts, self.last_bytes[1:]))
-        return not self.cpu.flags and not self.cpu.path and numbers == known and \
-            are_any(filter(symbols, parts))
-
-    def begin(self, args):
-        self.args = args
+        self.total, self.pending, self.which, self.at_cut = total, pending, which, bool(where)
+        self.length = simple(total - pending)
+        self.units, self.taken, self.left = where or (*[simple(-pending)] * 2, const(total))
+        self.state, self.args, self.sizes = None, {}, {}
+        listed = parameters(self.name)
+        for (kind, name), (_, count) in zip(listed, [*listed[1:], ('', '')]):
+            self.args[name] = self.array(kind, name, count) if kind.endswith('*') else \
+                self.number(name)
+        args, self.returned = [*self.args.values()], None
+        if suffix == '_start':
+            first, self.returned = self.cpu.struct_at(args[0])
+            args[:1] = first
         self.cpu.r.update(zip(self.cpu.ARGS, args))
-        self.library.before(self)
-        self.check_possible()
+
+    # What is passed
+
+    def number(self, name):
+        if name == 'length':
+            return self.count()
+        return sym('room') if name == 'room' else secret(name)
+
+    def count(self):
+        """The argument `length`."""
+        return self.length
+
+    def array(self, kind, name, count):
+        """Passes an array or a struct. Null is only passed for an empty array, and after one there
+        is an address. Returns its address."""
+        element, base, writable = kind.split()[-2], address(name), 'const' not in kind
+        unit = ELEMENTS.get(element)
+        if unit:
+            number = self.number(count)
+            size = simple(unit * number)
+            self.facts.add(z3.ULE(number, (2**63 - 1) // unit))
+        else:
+            unit, size = 8, bv({'stream': self.layout.SIZE, 'rand': 16}[element.split('_')[-1]])
+        self.sizes[name] = size
+        self.facts.add(base & unit - 1 == 0, simple(z3.Or(size == 0, z3.ULT(size, -base))))
+        if element not in ELEMENTS:
+            self.memory.add(Array(base, size, [(name, bv(0), 0)], writable))
+            self.fill(name)
+        elif writable:
+            self.pass_out(base, size)
+        else:
+            self.memory.add(Array(base, size, self.places(name), named=True))
+        return base
+
+    def is_number(self):
+        """Whether the call has not begun, and its length is a number."""
+        return self.left is not None and not self.at_cut
+
+    def places(self, name):
+        """Bytes of an array that is read are named by their number, or if their length isn't one,
+        by how many come after what was taken, or before the end; of writes, before the end of the
+        last block."""
+        if self.is_number():
+            return [(name, bv(0), 0)]
+        end = simple((self.total & -self.GRAIN) - self.pending) if self.HAS_PENDING else self.length
+        if self.left is not None:
+            return [(f'{name} end', end, 0), (f'{name} end', self.taken, self.taken_at())]
+        taken = self.taken if self.at_cut else bv(0)
+        return [(f'{name} end', end, 0), (name, taken, 0)]
+
+    def taken_at(self):
+        """At the exit, the number of the first byte that is left."""
+        after = const(simple(self.total & self.GRAIN - 1)) if self.HAS_PENDING else 0
+        return after - self.left
+
+    def pass_out(self, base, size):
+        """Passes an array that is written. Only what an accepted call writes is there, for which
+        there must be room. It doesn't overlap others: memory is such that none does, but where code
+        compares their addresses, it also has to be a fact."""
+        written, accepted, other = self.written(), self.accepted(), self.args.get(self.COUNTED)
+        if self.at_cut:
+            self.memory.add(Array(base, written, [('out', self.taken, 0)], True))
+        elif not self.facts.holds([accepted], z3.ULE(written, size)):
+            raise Unknown(f'{self.name}: what is written has no room')
+        else:
+            there = simple(z3.If(accepted, written, 0))
+            self.memory.add(Array(base, there, [('out', bv(0), 0)], True))
+        if other is not None:
+            length = self.sizes[self.COUNTED]
+            self.facts.add(z3.Implies(accepted, z3.Or(written == 0, length == 0, z3.And(
+                z3.UGE(base - other, length), z3.UGE(other - base, written)))))
+
+    def fill(self, name):
+        """Gives a struct its content, if the function reads it. At a cut, what an invariant doesn't
+        say of it may be anything."""
+        if name == 'rand' and not self.at_cut:
+            self.pair = secret('s1'), secret('s2')
+            for k, byte in enumerate(bytes_of(z3.Concat(*reversed(self.pair)))):
+                self.memory.put('rand', k, byte)
+        elif name == 'stream' and self.READS_STREAM:
+            self.layout.more_facts(self)
+            if self.at_cut:
+                return
+            for k in range(self.layout.SIZE):
+                self.memory.put(name, k, secret(f'unused[{k}]', 8))
+            self.state = some_state(self.version, const(self.pending), self.which)
+            self.layout.store(self, self.state)
 
     def check_possible(self):
         """Whether there is such a call, without which nothing would be shown."""
         if self.facts.model((), *self.facts.list) is None:
-            raise Unknown(f'{self.name}: the conditions of a case contradict each other')
+            raise Unknown(f'{self.name}: the conditions of a call contradict each other')
 
-    def run(self, *args):
-        """Runs the call. Yields the processor at each return, at which all products are made."""
-        self.begin(args)
-        for end, _ in self.cpu.run(self.library.image.functions[self.name]):
-            end.check_return()
-            self.check_products(end)
-            yield end
+    # The definition
 
-    def one(self, *args):
-        """Runs the call, which must have one path."""
-        ends = list(self.run(*args))
-        if len(ends) != 1:
-            ends[-1].refuse(f'{len(ends)} ways through the call, where one is needed; the last two '
-                            f'part at {ends[-1].parted:#x}')
-        return ends[0]
+    def accepted(self):
+        """Whether the call is accepted."""
+        return z3.BoolVal(True)
 
-    def check_products(self, end, count=None):
-        """Whether just so many products were made, from the first on, or all, and each once."""
-        count = len(self.products.list) if count is None else count
+    def refused(self):
+        """The outcome of a call that isn't accepted."""
+        return Outcome()
+
+    def words(self):
+        """The definition's words where the call is."""
+        return []
+
+    def content(self, at, size):
+        """Bytes of the call, from so many after those that were taken on."""
+        return [self.byte(at + k) for k in range(size)]
+
+    def byte(self, at):
+        if self.state and at < const(self.pending):
+            return self.state.pending[at]
+        return self.memory.content(*self.place(at), 1)
+
+    def place(self, at):
+        """The name and number of a byte in memory."""
+        if self.at_cut and self.left is not None:
+            return f'{self.COUNTED} end', self.taken_at() + at
+        return self.COUNTED, at if self.at_cut else at - const(self.pending)
+
+    def follow(self, window):
+        """Makes the steps of the definition: all, and what the call does then, if it is known how
+        many bytes are left, and otherwise those that take `window` bytes. `made` counts products
+        before the first step and after each."""
+        count = (window if self.left is None else self.left) // self.SIZE if self.SIZE else 0
+        self.states, self.made, self.out = [self.words()], [len(self.products.list)], []
+        for k in range(count):
+            self.states.append(self.step(self.states[k], k * self.SIZE))
+            self.made.append(len(self.products.list))
+        self.wanted = None if self.left is None else self.outcome(
+            count, self.left - count * self.SIZE)
+
+    # What the code does
+
+    def check_products(self, end, count):
+        """Whether just so many products were made, from the first on, and each once."""
         if end.halves != {(k, half) for k in range(count) for half in (0, 1)}:
             end.refuse(f'{len(end.halves) / 2:g} products, and not the {count} of the definition')
+
+    def steps(self, end):
+        """How many steps the code made, after checking all that they make."""
+        if 'out' in self.args:
+            steps = len(end.memory.written('out')) // self.SIZE
+            check_bytes(end, 'bytes', 'out', self.out[:self.SIZE * steps])
+        else:
+            made = [count for count in self.made if 2 * count <= len(end.halves)]
+            steps = max(len(made) - 1, 0)
+        self.check_products(end, self.made[steps])
+        return steps
+
+    def judge(self, end):
+        """Judges a return."""
+        end.check_return()
+        path, accepted = end.path, self.accepted()
+        decided = end.facts.decide(path, accepted)
+        for is_accepted in (True, False) if decided is None else (decided,):
+            end.path = [*path, accepted if is_accepted else z3.Not(accepted)]
+            if not is_accepted:
+                self.check_products(end, 0)
+                self.check(end, self.refused())
+            elif self.wanted:
+                self.check_products(end, len(self.products.list))
+                self.check(end, self.wanted)
+            else:
+                self.judge_early(end)
+
+    def judge_early(self, end):
+        """Judges a return of a call of any length, which may come when all bytes are taken, if the
+        definition then makes no more products."""
+        steps, count = self.steps(end), len(self.products.list)
+        if end.facts.holds(end.path, self.taken + steps * self.SIZE == self.length):
+            wanted = self.outcome(steps, 0)
+            if len(self.products.list) == count:
+                return self.check(end, wanted)
+        end.refuse('a return before the end')
+
+    def check(self, end, wanted):
+        """Whether a call returns and stores what it must."""
+        for k, (name, term) in enumerate(wanted.results.items()):
+            check(end, name, part(end.result(k), 0, term.size()), term)
+        if wanted.state:
+            self.layout.check(end, wanted.state)
+        elif not self.READS_STREAM:
+            check_bytes(end, 'refused', 'stream', [])
+        if wanted.pair:
+            check_generator(end, wanted.pair)
+        if 'out' in self.args:
+            check_bytes(end, 'bytes', 'out', wanted.out)
 
 
 def named(name, numbers):
@@ -129,8 +274,7 @@ def some_lanes(when=''):
 
 def some_state(version, pending, had_block=None):
     """Any state with this number of pending bytes, and this flag or any."""
-    if had_block is None:
-        had_block = flag_byte(sym('had_block', 1))
+    had_block = flag_byte(sym('had_block', 1)) if had_block is None else bv(had_block, 8)
     top_bit = flag_byte(secret('top bit', 1)) if version == 4 else bv(0, 8)
     top_bit = simple(top_bit & had_block)
     return State(some_lanes(), named('pending', range(pending)), had_block, top_bit)
@@ -138,28 +282,3 @@ def some_state(version, pending, had_block=None):
 
 def flag_byte(bit):
     return choose(bit == 1, bv(1, 8), bv(0, 8))
-
-
-def generator(call):
-    """A generator in memory, and its pair."""
-    pair = secret('s1'), secret('s2')
-    base = call.array('rand', 16, high=16, writable=True)
-    for k in (0, 1):
-        call.memory.put('rand', 8 * k, pair[k])
-    return call.aligned(base), pair
-
-
-def padded_content(call, content, last):
-    """The bytes of words whose last byte that isn't 0 is byte `index` of the last word: `byte`, or
-    for 3, at least 3. If `last` is None, the last word is 0. Returns the bytes, the length of their
-    message, and whether they have one."""
-    if last is None:
-        content, at = [*content[:-8], *[bv(0, 8)] * 8], 0
-    else:
-        index, byte = last
-        at = len(content) - 8 + index
-        found = secret('padding byte', 8) if byte == 3 else bv(byte, 8)
-        call.facts.add(z3.UGE(found, byte))
-        content = content[:at] + [found] + [bv(0, 8)] * (7 - index)
-    call.last_bytes = [secret('none', 8), *content][-9:]
-    return content, at, are_padded(call.version, content, at)

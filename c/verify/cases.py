@@ -1,18 +1,16 @@
 """The cases of each function, how one is checked, and the processes that work on them."""
 import collections
-import inspect
 import multiprocessing
 import signal
 import time
 from concurrent.futures import BrokenExecutor, ProcessPoolExecutor, as_completed
-import fixed_lengths as fixed
-import header
 import terms
 from aarch64 import Arm
-from any_length import Fill, Hash, Pad, Unpad, Write
 from calls import Library
 from definition import VERSIONS
+from functions import FUNCTIONS
 from image import Image
+from induction import Proof
 from layout import Ours
 from terms import Refused, Unknown
 from x86_64 import X86
@@ -21,121 +19,86 @@ from x86_64 import X86
 PROCESSORS = {62: X86, 183: Arm}
 # What is checked, and the limit of time of a case.
 LIBRARY, SECONDS = None, 600
-# The row of a function: the definition's multiplications for n bytes with p bytes pending, whether
-# jumps may depend on contents, and its cases by how they are checked.
-Function = collections.namedtuple('Function', 'multiplications by_contents cases')
-
-
-def each(numbers):
-    return [(k,) for k in numbers]
-
-
-# Most cases are one length, remainder or number of pending bytes. A class stands for all calls that
-# are longer than the cases before it.
-PENDING = each(range(64))
-FUNCTIONS = {
-    '': Function('3 + 4*(n//64) + n%64//16', False, {
-        fixed.hash_of: each(range(Hash.LEAST * Hash.GRAIN)),
-        Hash: each(range(2**Hash.FIXED_BITS))}),
-    '_start': Function('1', False, {fixed.start_of: [('_start',)]}),
-    '_init': Function('1', False, {fixed.start_of: [('_init',)]}),
-    '_write': Function('4*((p+n)//64)', False, {
-        fixed.write_of: [(p, n) for p in range(64) for n in range(64 - p)], Write: PENDING}),
-    '_finish': Function('2 + p//16', False, {
-        fixed.finish: [(p, b) for p in range(64) for b in (0, 1)]}),
-    '_save': Function('0', False, {fixed.save: PENDING}),
-    '_resume': Function('0', True, {fixed.resume: each([None, *range(132)])}),
-    **{name: Function(products, False, {fixed.rand_init: [(name, seeds)]})
-       for name, seeds, products in (('_rand_init', 1, '4'), ('_rand_init_words', 2, '0'),
-                                     ('_rand_init_with_extra_seed', 2, '4'))},
-    '_rand_next': Function('1', False, {fixed.rand_next: [()]}),
-    '_rand_fill': Function('(n+7)//8', False, {
-        fixed.rand_fill: each(range(Fill.GRAIN)), Fill: [()]}),
-    '_pad': Function('0', False, {fixed.pad: each(range(Pad.GRAIN)), Pad: [()]}),
-    '_unpad': Function('0', True, {
-        fixed.unpad: [(0, None), *((n, last) for n in range(1, Unpad.GRAIN // 8 + 1)
-                                   for last in fixed.LAST_BYTES)],
-        Unpad: each(fixed.LAST_BYTES)}),
-}
-# Calls that the induction shows too, since it isn't believed alone: of writes each length, each sum
-# with the pending bytes below LONGEST, and each number of these with one to four blocks.
+# Long calls that are also shown one by one, since the induction isn't believed alone: lengths below
+# the first and the others, if this holds for n bytes and p pending. Of writes, they are each
+# length, each sum with the pending bytes, and with each number of these, one to four blocks.
 LONGEST, MORE = 320, (1000, 4095)
 AGAIN = {
-    '': {fixed.hash_of: each((*range(Hash.LEAST * Hash.GRAIN, LONGEST), *MORE))},
-    '_write': {fixed.write_of: [(p, n) for p in range(64) for n in (*range(64 - p, LONGEST), *MORE)
-                                if p + n == 64 or (2 * p + n) % 63 == 0]},
-    '_rand_fill': {fixed.rand_fill: each(n for n in (*range(Fill.GRAIN, LONGEST), *MORE)
-                                         if n % 8 in (0, 7))},
-    '_pad': {fixed.pad: each((*range(Pad.GRAIN, LONGEST), *MORE))},
-    '_unpad': {fixed.unpad: [(n // 8, (n // 8 % 8, byte)) for n in (*range(
-        Unpad.GRAIN + 8, LONGEST, 8), *MORE) for byte in (1, 2)]}}
+    '': lambda n, p, _: True, '_pad': lambda n, p, _: True,
+    '_write': lambda n, p, _: p + n == 64 or (2 * p + n) % 63 == 0,
+    '_rand_fill': lambda n, p, _: n % 8 in (0, 7),
+    '_unpad': lambda n, p, which: which in ((n // 8 % 8, 1), (n // 8 % 8, 2))}
 NAMES = [f'komihash_v{version}{suffix}' for version in VERSIONS for suffix in FUNCTIONS]
 
 
-class Case(collections.namedtuple('Case', 'name check args')):
-    """A call of a function, or calls of any length, and how they are checked."""
+class Case(collections.namedtuple('Case', 'name which low total pending')):
+    """Calls of one length, or if `total` is None, of any that isn't judged by itself, and has these
+    low bits."""
 
     def __str__(self):
-        return f'{self.name}, {self.check.__name__}{self.args}'
-
-    def has_loop(self):
-        return isinstance(self.check, type)
-
-    def version(self):
-        return int(self.name[len('komihash_v')])
-
-    def run(self, library):
-        """Checks the case, and returns what was seen. What begins first is what header.py asks of.
-        The parameters of a check are named `length` and `pending` if they are these numbers."""
-        done = self.check(library, self.version(), *self.args)
+        kind = kind_of(self.name)
         if self.has_loop():
-            done.start()
-            done.prove()
-            for n, count in done.counted:
-                self.check_products(count, n, 0)
+            size = f'any n, {self.low} modulo {2**kind.FIXED_BITS}'
         else:
-            sizes = inspect.signature(self.check).bind(None, None, *self.args).arguments
-            self.check_products(len(done.products.list), sizes.get('length'), sizes.get('pending'))
-        return done.seen
-
-    def check_products(self, count, n, p):
-        """Whether the definition has so many products as its row says."""
-        if count != eval(row_of(self.name).multiplications, {'n': n, 'p': p}):
-            raise Refused(f'the definition has {count} products for {n} bytes and {p} pending')
-
-
-class AllCalls(Case):
-    """The question whether the cases of a function are all calls that the header allows."""
-
-    def __str__(self):
-        return f'{self.name}, all calls'
+            size = f'{self.total - self.pending} bytes, {self.pending} pending'
+        return f'{self.name}, {size}' + (f', {self.which}' if self.which is not None else '')
 
     def has_loop(self):
-        return True
+        return self.total is None
+
+    def proof(self, library):
+        return Proof(library, int(self.name[len('komihash_v')]), suffix_of(self.name),
+                     kind_of(self.name), self.which, self.low)
 
     def run(self, library):
-        return header.check_all(library, self.args).seen
+        """Checks the case, and returns what was seen."""
+        proof, (_, products) = self.proof(library), FUNCTIONS[suffix_of(self.name)]
+        if self.has_loop():
+            proof.prove()
+        else:
+            proof.number(self.total, self.pending)
+        for total, p, count in proof.counted:
+            if count != eval(products, {'n': total - p, 'p': p}):
+                raise Refused(f'the definition has {count} products for {total - p} bytes and {p} '
+                              'pending')
+        return proof.seen
+
+
+def suffix_of(name):
+    return name[len('komihash_v4'):]
 
 
 # What a case gave: why it failed, or how deep the stack was; and how much was asked.
 Done = collections.namedtuple('Done', 'case failure seconds depth asked')
 
 
-def row_of(name):
-    return FUNCTIONS[name[len('komihash_v4'):]]
+def kind_of(name):
+    return FUNCTIONS[suffix_of(name)][0]
 
 
 def cases_of(name):
-    cases = listed(name, row_of(name).cases)
-    return [AllCalls(name, None, tuple(cases)), *cases]
+    """All calls: those of any length, and those of fewer bytes."""
+    kind = kind_of(name)
+    if not kind.COUNTED:
+        return listed(name, lambda n, p, _: n == 0, [0])
+    return [*(Case(name, which, low, None, 0) for which in kind.WHICH
+              for low in range(0, 2**kind.FIXED_BITS, kind.STRIDE)),
+            *listed(name, lambda n, p, _: n + p < kind.GRAIN * kind.LEAST),
+            *(Case(name, which, 0, 0, 0) for which in kind.EMPTY)]
 
 
 def cases_again(name):
-    return listed(name, AGAIN.get(name[len('komihash_v4'):], {}))
+    kind = kind_of(name)
+    return listed(name, lambda n, p, which: n + p >= kind.GRAIN * kind.LEAST and AGAIN.get(
+        suffix_of(name), lambda *_: False)(n, p, which), (*range(LONGEST), *MORE))
 
 
-def listed(name, cases):
-    return [Case(name, check, args) for check, some in cases.items() for args in some]
+def listed(name, wanted, numbers=range(LONGEST)):
+    """The cases of some numbers of bytes and each number of pending ones, if they are wanted."""
+    kind = kind_of(name)
+    each = sorted({n // kind.STRIDE * kind.STRIDE for n in numbers})
+    return [Case(name, which, 0, n + p, p) for p in range(64 if kind.HAS_PENDING else 1)
+            for n in each for which in kind.WHICH if wanted(n, p, which)]
 
 
 def open_library(content, level, layout=Ours, red_zone=False):
@@ -158,7 +121,7 @@ def run_case(case):
     try:
         seen = case.run(LIBRARY)
         depth = seen.depth
-        if seen.by_contents and not row_of(case.name).by_contents:
+        if seen.by_contents and not kind_of(case.name).BY_CONTENTS:
             failure = f'a jump or an address depends on {sorted(seen.by_contents)[0]}'
     except Unknown as unknown:
         failure = unknown

@@ -1,7 +1,7 @@
 """What is asked where a call ends: whether what it returns and stores is what the definition says.
 `end` is the processor there, on its path."""
 import examples
-from terms import bv, choose, join
+from terms import join
 
 
 def check(end, what, found, wanted):
@@ -17,15 +17,6 @@ def check_bytes(end, what, name, wanted):
                    f'and not {len(wanted)}')
     if wanted:
         check(end, what, end.memory.content(name, 0, len(wanted)), join(wanted))
-
-
-def accepted(end, cond):
-    """Whether a call is accepted on its path, which must decide it."""
-    decided = end.facts.decide(end.path, cond)
-    if decided is None:
-        *_, inputs = examples.example(end, choose(cond, bv(1), bv(0)), bv(1))
-        end.refuse(f'calls that must be refused end here, as for {inputs}, and others too')
-    return decided
 
 
 def check_generator(end, pair):

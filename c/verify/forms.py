@@ -4,7 +4,7 @@ examples. What an arrival doesn't confirm is dropped, so a wrong guess can't lea
 An invariant gives each word of registers and memory a form, or none. A form is a term that has
 symbols for what the definition says at an arrival, which is the arrival's world. For example, in
 the loop of a hash,
-- a register is `base + units`, the address of the next byte;
+- a register is `bytes + units`, the address of the next byte;
 - eight other words are the lanes, or two lanes xored: words of the world;
 - the stack pointer, and what the caller had in its registers, stay as they are: fixed terms.
 Beside forms, some conditions hold, as that a turn of the loop is left."""
@@ -12,18 +12,18 @@ import collections
 from guesses import form_of
 from terms import join, part, put_for, sym, symbols, width_of
 
-# In a form, the units, the base and the length, and then the words of a world.
-PLACES = [sym(f'place {k} of a world') for k in range(12)]
+# In a form, the units and the length, and then the words of a world.
+PLACES = [sym(f'place {k} of a world') for k in range(11)]
 COUNTS = frozenset().union(*map(symbols, PLACES))
 
 
-class World(collections.namedtuple('World', 'words units base length')):
-    """What the definition says at an arrival: its words, how many units of bytes were taken, where
-    the bytes begin, and how many there are."""
+class World(collections.namedtuple('World', 'words units length')):
+    """What the definition says at an arrival: its words, how many units of bytes were taken, and
+    how many bytes there are."""
 
     def value(self, form):
         """The term that a form is in this world."""
-        return put_for(form, *zip(PLACES, [self.units, self.base, self.length, *self.words]))
+        return put_for(form, *zip(PLACES, [self.units, self.length, *self.words]))
 
 
 class Arrival:

@@ -1,23 +1,22 @@
-"""Guesses. Nothing here needs trust: invariants of any forms at any cuts are proved, and the
-conditions of a case are asked of any witness."""
+"""Guesses. Nothing here needs trust: invariants of any forms at any cuts are proved."""
 import collections
 import functools
 import itertools
 import operator
 import z3
-from terms import SYMBOLS, Refused, Unknown, simple, symbols
+from terms import Refused, Unknown, bv, simple, symbols
 
 # To find the loop, calls are run with a small q, and with one and a remainder.
 TURNS, REST = 12, 40
 # The cuts that were found, by the class of a proof, the library and the version.
 CUTS = {}
-# In a linear form, the factors of the units, of the base and of the length.
-FACTORS = list(itertools.product((0, 1, -1, 8, -8), (0, 1), (0, 1)))
+# In a linear form, the factors of the units and of the length.
+FACTORS = list(itertools.product((0, 1, -1, 8, -8), (0, 1)))
 
 
 def cuts(proof):
     """The head of a loop and its exit, as they were found first for calls of this kind."""
-    kind = type(proof), proof.library, proof.version
+    kind = proof.kind, proof.library, proof.version
     if kind not in CUTS:
         CUTS[kind] = find_cuts(proof)
     return CUTS[kind]
@@ -26,27 +25,28 @@ def cuts(proof):
 def find_cuts(proof):
     """The head is the first of the places to which a long call comes more often than a short one,
     by most. The exit is the first place outside of the loop that the short one comes to too."""
-    (few, early), (many, refusal) = places(proof, proof.LEAST), places(proof, TURNS)
+    (few, early), (many, refusal) = places(proof, proof.kind.LEAST), places(proof, TURNS)
     often = collections.Counter(many)
     often.subtract(few)
     head = max(many, key=often.get)
     if often[head] < 2:
-        raise refusal or Unknown(f'{proof.call.name}: no loop was found')
+        raise refusal or Unknown(f'{proof.suffix}: no loop was found')
     last = len(many) - 1 - many[::-1].index(head)
     inside = set(many[many.index(head):last])
     for pc in many[last:]:
         if pc not in inside and (head in few or pc in few):
             return head, pc
-    raise early or refusal or Unknown(f'{proof.call.name}: {head:#x}: the loop has no exit')
+    raise early or refusal or Unknown(f'{proof.suffix}: {head:#x}: the loop has no exit')
 
 
 def places(proof, q):
-    """The places to which an accepted call of GRAIN * q + REST bytes comes, and why it ends if it
-    is refused, which doesn't matter after the loop."""
-    cpu = proof.start(1, True, front=proof.GRAIN * (q + 1))
-    cpu.facts.add(proof.q == q, proof.r == REST >> proof.FIXED_BITS)
+    """The places to which an accepted call of GRAIN * q + REST bytes comes on its first path, and
+    why it ends if it is refused, which doesn't matter after the loop."""
+    call = proof.call(bv(proof.kind.GRAIN * q + REST), bv(proof.pendings()[0]))
+    call.facts.add(call.accepted())
+    call.follow(0)
     try:
-        list(proof.run(cpu))
+        next(call.cpu.run(proof.entry()))
     except Refused as refused:
         return list(proof.seen.order), refused
     return list(proof.seen.order), None
@@ -62,37 +62,21 @@ def form_of(places, stable, first, second, word):
     for factors in FACTORS:
         def linear(*terms):
             return sum(k * term for k, term in zip(factors, terms) if k)
-        constant = simple(a - linear(one.units, one.base, one.length))
+        constant = simple(a - linear(one.units, one.length))
         if symbols(constant) <= stable and \
-                z3.eq(constant, simple(b - linear(other.units, other.base, other.length))):
+                z3.eq(constant, simple(b - linear(other.units, other.length))):
             return constant + linear(*places)
     # As of a write whose last bytes are counted before the loop is left.
-    def left(units, _, length):
+    def left(units, length):
         return length - units & 63
-    if first.facts.holds((), a == left(one.units, one.base, one.length)) and \
-            second.facts.holds((), b == left(other.units, other.base, other.length)):
-        return left(*places[:3])
+    if first.facts.holds((), a == left(one.units, one.length)) and \
+            second.facts.holds((), b == left(other.units, other.length)):
+        return left(*places[:2])
     count = range(len(one.words))
     for key in [*zip(count), *itertools.combinations(count, 2)]:
         def xored(words):
             return functools.reduce(operator.xor, (words[k] for k in key))
         if first.facts.holds((), a == xored(one.words)) and \
                 first.facts.holds((), b == xored(other.words)):
-            return xored(places[3:])
+            return xored(places[2:])
     return None
-
-
-def witness(found, term, value):
-    """Chooses values for a term's symbols by which it may have a value, as is asked later."""
-    if z3.is_app_of(term, z3.Z3_OP_CONCAT):
-        high = term.size()
-        for child in term.children():
-            witness(found, child, z3.Extract(high - 1, high - child.size(), value))
-            high -= child.size()
-    elif z3.is_app_of(term, z3.Z3_OP_BADD):
-        known = frozenset().union(*map(symbols, found))
-        *others, last = sorted(term.children(), key=lambda part: len(symbols(part) - known))
-        witness(found, last, value - z3.substitute(sum(others), *found.items()))
-    else:
-        for one in (SYMBOLS.term[name] for name in symbols(term)):
-            found.setdefault(one, z3.Extract(one.size() - 1, 0, value))

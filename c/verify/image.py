@@ -1,12 +1,10 @@
 """A shared library as it is loaded: its functions, its constants, and its decoded instructions.
 
-All of it is trusted: only code that nobody can write is decoded, only encodings that opcodes.py has
-get a meaning, and the marks that a file asks for are there."""
-from capstone import Cs
+All of it is trusted: only code that nobody can write is decoded, only encodings that opcodes.py or
+aarch64.py has get a meaning, and the marks that a file asks for are there."""
 from elf import EXECUTE, Elf, need
 from terms import Unknown
 
-LONGEST = 15
 
 
 class Image:
@@ -18,8 +16,7 @@ class Image:
         need(level in self.processor.LEVELS, f'{self.processor.NAME} has no level {level}')
         self.functions, self.exported = self.elf.functions(names)
         self.check_marks()
-        self.decoder, self.decoded = Cs(*self.processor.DECODER), {}
-        self.decoder.detail = True
+        self.decoded = {}
 
     def check_marks(self):
         """A library may ask the processor to check where jumps go only if each function begins
@@ -36,12 +33,11 @@ class Image:
         if address not in self.decoded:
             need(address % self.processor.STEP == 0, f'{address:#x}: code that is not aligned')
             code = next(filter(None, (self.elf.at(address, size, EXECUTE)
-                                      for size in range(LONGEST, 0, -1))), b'')
-            i = next(self.decoder.disasm(code, address), None)
+                                      for size in range(self.processor.LONGEST, 0, -1))), b'')
+            i = self.processor.decode(code, address)
             if i is None or not self.processor.is_known(i, self.level):
-                told = f'{i.mnemonic} {i.op_str} ({i.bytes.hex()})' if i else code.hex()
+                told = f'{i.mnemonic} {i.text} ({i.bytes.hex()})' if i else code.hex()
                 raise Unknown(f'{address:#x}: an encoding that is not known for {self.level}: '
                               f'{told}')
-            i.ops, i.text = i.operands, i.op_str
             self.decoded[address] = i
         return self.decoded[address]

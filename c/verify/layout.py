@@ -13,9 +13,9 @@ class Ours:
     """The pending bytes as eight words with zeros after them, their number, the lanes as four pairs
     in a ring, the fourth first, and the flags. A pair is one of s1 to s4 xor the second word of the
     pair before it, and one of s5 to s8."""
-    # How many bytes a stream has, and from where on its words are single bytes. For header.py, what
-    # it holds beside a state, each with what that is in any call.
-    SIZE, FLAGS, more = 144, 136, ()
+    # How many bytes a stream has, from where on its words are single bytes, and the symbols of what
+    # it holds beside a state.
+    SIZE, FLAGS, MORE = 144, 136, ()
 
     def __init__(self, version):
         self.version = version
@@ -42,6 +42,9 @@ class Ours:
             check(end, f'the stream at {k}', end.memory.content('stream', k, term.size() // 8),
                   term)
 
-    def any_more(self, args):
-        """What the header says of what a stream holds beside a state."""
-        return ()
+    def more_facts(self, call):
+        """Adds what is known of a call by what its stream holds beside a state."""
+
+    def last_word(self, state):
+        """The last word of the last block, if a stream holds it."""
+        return bv(0)

@@ -59,10 +59,10 @@ class Cpu:
     way is left out only if the solver finds that its condition contradicts the path.
 
     ABOVE is how many bytes a call has put on the stack, and RED_ZONE how many below the stack
-    pointer no signal handler writes. Instructions lie at multiples of STEP. TABLE has their meaning
-    by their names: a function returns None to go on, an address to jump to, RETURN, or for a jump
-    with a condition, this and the address."""
-    NAME = DECODER = ARGS = RESULTS = SAVED = SP = ABOVE = RED_ZONE = STEP = TABLE = None
+    pointer no signal handler writes. Instructions lie at multiples of STEP, and have up to LONGEST
+    bytes. `decode` reads one, and `do` runs it: it returns None to go on, an address to jump to,
+    RETURN, or for a jump with a condition, this and the address."""
+    NAME = ARGS = RESULTS = SAVED = SP = ABOVE = RED_ZONE = STEP = LONGEST = None
 
     def __init__(self, library, products):
         # All paths share these.
@@ -74,7 +74,8 @@ class Cpu:
         # The last instruction, where the path last forked, and how many values are undefined.
         self.pc, self.parted, self.undefined = None, None, 0
         self.sp = sym('sp')
-        self.memory.add(Array('stack', self.sp, -STACK_BYTES, self.ABOVE, True))
+        self.memory.add(Array(self.sp - STACK_BYTES, bv(STACK_BYTES + self.ABOVE),
+                              [('stack', bv(STACK_BYTES), 0)], writable=True))
         self.facts.add(self.sp & 15 == self.ABOVE, LOADED & 4095 == 0)
         self.red_zone = self.RED_ZONE if library.red_zone else 0
         self.r[self.SP] = self.sp
@@ -130,7 +131,7 @@ class Cpu:
             raise Refused(f'more than {STEPS} instructions')
         self.stack_pointer = self.r[self.SP]
         try:
-            went = self.TABLE[i.mnemonic](self, i)
+            went = self.do(i)
             if self.r[self.SP] is not self.stack_pointer:
                 self.move_stack()
             if isinstance(went, tuple):

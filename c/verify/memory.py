@@ -1,6 +1,6 @@
 """Memory: arrays of bytes at symbolic addresses, and no other place."""
 import z3
-from terms import SYMBOLS, Refused, join, part, signed, simple, symbols, width_of
+from terms import SYMBOLS, Refused, bv, join, part, secret, signed, simple, symbols, width_of
 
 
 class MustSplit(Exception):
@@ -9,12 +9,14 @@ class MustSplit(Exception):
 
 
 class Array:
-    """Memory from a symbolic address on: bytes by their offset, some of them negative. If there is
-    a limit, only so many bytes are there after the address."""
+    """Memory of a size from a symbolic address on, either of which may be a symbol. Each of its
+    `places` is a name, a number of bytes after the address, and the number that the byte there has
+    under that name. The bytes of an array that is `named` are symbols by these two. A byte by two
+    names may differ from itself, so code may be refused for that, and never passed."""
 
-    def __init__(self, name, base, low, high, writable=False, limit=None):
-        self.name, self.base, self.low, self.high = name, simple(base), low, high
-        self.writable, self.limit = writable, limit
+    def __init__(self, base, size, places, writable=False, named=False):
+        self.base, self.size, self.places = simple(base), simple(size), places
+        self.writable, self.named = writable, named
         self.names = symbols(self.base) & SYMBOLS.addresses
 
 
@@ -23,46 +25,58 @@ class Memory:
     changes no other. The header asks that of the bytes that a call writes, and stores to others are
     refused at its end; if two are only read, an overlap changes nothing.
 
-    A byte is kept as the term that was stored, and its number in it. One that isn't kept has no
-    content, and may not be read."""
+    A byte is kept as the term that was stored, and its number in it. One that isn't kept, nor
+    named, has no content, and may not be read."""
 
     def __init__(self):
-        self.arrays, self.data = [], {}
+        self.places, self.arrays, self.data, self.inside = [], {}, {}, {}
 
     def copy(self):
         other = Memory()
-        other.arrays, other.data = list(self.arrays), dict(self.data)
+        other.places, other.arrays = self.places, self.arrays
+        other.data, other.inside = {**self.data}, {**self.inside}
         return other
 
-    def add(self, array, content=(), start=0):
-        self.arrays.append(array)
-        for k, byte in enumerate(content):
-            self.data[array.name, start + k] = byte, 0
+    def add(self, array):
+        for name, start, number in array.places:
+            self.places.append((name, number, array, simple(array.base + start)))
+            self.arrays.setdefault(name, (array, start - number))
 
     def find(self, cpu, address, length, write):
-        """The array of an address, and the offset in it, which must be one number on this path.
-        The costly way to find the number comes last."""
-        names = symbols(address)
-        near = [(a, simple(address - a.base)) for a in self.arrays if a.names & names]
-        offset = difference = None
-        for offset_of in signed, lambda term: cpu.facts.unique(term, cpu.path):
-            for array, difference in near:
-                offset = offset_of(difference)
-                if offset is not None and self.fits(cpu, array, offset, length, write):
-                    return array.name, offset
-        if len(near) == 1 and offset is None:
-            raise MustSplit(difference)
+        """The name and number of the byte at an address, which must be one on this path. The costly
+        way to find the number comes last."""
+        names, known = symbols(address), False
+        near = [(name, number, array.writable, simple(address - start))
+                for name, number, array, start in self.places if array.names & names]
+        for number_of in signed, lambda term: cpu.facts.unique(term, cpu.path):
+            for name, number, writable, difference in near:
+                k = number_of(difference)
+                known = known or k is not None
+                if k is not None and self.has(cpu, name, k + number, k + number + length):
+                    if write and not writable:
+                        raise Refused(f'write of {length} bytes at {name}{k + number:+}, which is '
+                                      'only read')
+                    return name, k + number
+        if near and not known:
+            raise MustSplit(near[0][3])
         raise Refused(f'{"write" if write else "read"} of {length} bytes at {address}, which is '
                       'in no array that is passed')
 
-    def fits(self, cpu, array, offset, length, write):
-        if not array.low <= offset <= array.high - length:
-            return False
-        if write and not array.writable:
-            raise Refused(f'write of {length} bytes at {array.name}{offset:+}, which is only read')
-        # What is answered is remembered, so it is asked first whether the whole array is there.
-        return array.limit is None or any(cpu.facts.holds(cpu.path, z3.UGE(array.limit, some))
-                                          for some in (array.high, offset + length))
+    def has(self, cpu, name, low, high):
+        """Whether an array has the bytes from one number up to another. More are asked at once, and
+        those that are there are remembered."""
+        (array, start), (first, last) = self.arrays[name], self.inside.get(name, (0, 0))
+        if first <= low and high <= last:
+            return True
+        first, last = min(low, first), max(high, last)
+        for low, high in (first & -64, last + 63 & -64), (first, last), (low, high):
+            size = bv(high - low)
+            cond = simple(z3.And(z3.ULE(size, array.size), z3.ULE(
+                start + low, array.size - size)))
+            if not z3.is_false(cond) and cpu.facts.holds(cpu.path, cond):
+                self.inside[name] = low, high
+                return True
+        return False
 
     def load(self, cpu, address, length):
         return self.content(*self.find(cpu, address, length, False), length)
@@ -72,7 +86,9 @@ class Memory:
         pieces = []
         for k in range(offset, offset + length):
             if (name, k) not in self.data:
-                raise Refused(f'read of a byte at {name}{k:+} that was not written')
+                if name not in self.arrays or not self.arrays[name][0].named:
+                    raise Refused(f'read of a byte at {name}{k:+} that was not written')
+                self.data[name, k] = secret(f'{name}[{k}]', 8), 0
             term, number = self.data[name, k]
             if pieces and pieces[-1][0] is term and pieces[-1][2] == number:
                 pieces[-1][2] += 1

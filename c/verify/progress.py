@@ -2,7 +2,7 @@
 import collections
 import time
 import second
-from cases import row_of
+from cases import FUNCTIONS, suffix_of
 
 
 class Progress:
@@ -34,8 +34,9 @@ class Progress:
             elif len(self.done[name]) < count:
                 print(f'{name:37} {len(self.done[name]):>5} of {count}, and no more')
             else:
-                said, depth = row_of(name), max(done.depth for done in self.done[name])
-                print(row(name, count, said.multiplications, 'yes' if said.by_contents else 'no',
-                          depth, f'{self.total("seconds", name):.0f}'))
+                kind, products = FUNCTIONS[suffix_of(name)]
+                print(row(name, count, products, 'yes' if kind.BY_CONTENTS else 'no',
+                          max(done.depth for done in self.done[name]),
+                          f'{self.total("seconds", name):.0f}'))
         print(f'{self.total("asked")} questions to Z3{second.NAME and f" and {second.NAME}"}; '
               f'{time.time() - self.begin:.0f} seconds, {self.jobs} processes')

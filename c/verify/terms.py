@@ -78,16 +78,6 @@ def is_public(term):
     return not symbols(term) & SYMBOLS.secret
 
 
-def are_any(terms):
-    """Whether terms are secret symbols, or join such, and each stands there once."""
-    names, terms = [], [*terms]
-    for term in terms:
-        parts = term.children() if z3.is_app_of(term, z3.Z3_OP_CONCAT) else []
-        terms += parts
-        names += [] if parts else [term.decl().name()]
-    return len({*names}) == len(names) and SYMBOLS.secret.issuperset(names)
-
-
 def coerced(a, b, context=None):
     """The operands of an operator of two terms, as Z3's module has them. It makes objects for their
     sorts first, which takes long."""

@@ -1,14 +1,15 @@
 """The meaning of x86-64 instructions, by Intel's manual, volume 2."""
 import operator
 import z3
-from capstone import CS_ARCH_X86, CS_MODE_64
+from capstone import CS_ARCH_X86, CS_MODE_64, Cs
 from capstone import x86_const as X
 from machine import CONDITIONS, LOADED, Cpu, compared, means, number_of, unknown
 from memory import MustSplit
 from opcodes import KNOWN_X86, is_known
 from terms import bv, choose, const, join, leading_zeros, part, resize, secret, simple, sym
 
-TABLE = {}
+DECODER, TABLE = Cs(CS_ARCH_X86, CS_MODE_64), {}
+DECODER.detail = True
 SHIFTS = {'shl': operator.lshift, 'shr': z3.LShR, 'sar': operator.rshift, 'rol': z3.RotateLeft}
 
 
@@ -29,14 +30,23 @@ REGISTERS = registers()
 
 class X86(Cpu):
     NAME = 'x86-64'
-    DECODER = CS_ARCH_X86, CS_MODE_64
     ARGS, RESULTS = ('rdi', 'rsi', 'rdx', 'rcx', 'r8', 'r9'), ('rax', 'rdx')
     SAVED = 'rbx', 'rbp', 'r12', 'r13', 'r14', 'r15'
-    SP, ABOVE, RED_ZONE, STEP, TABLE = 'rsp', 8, 128, 1, TABLE
+    SP, ABOVE, RED_ZONE, STEP, LONGEST = 'rsp', 8, 128, 1, 15
     LEVELS, is_known = tuple(KNOWN_X86), staticmethod(is_known)
     # The property of which features a file has marks for, those that are known (IBT, SHSTK), and
     # the mark of the first; and properties that only tell of a file.
     MARKS, TOLD = (0xc0000002, 3, bytes.fromhex('f30f1efa')), (0xc0010001, 0xc0010002)
+
+    @staticmethod
+    def decode(code, address):
+        i = next(DECODER.disasm(code, address), None)
+        if i is not None:
+            i.ops, i.text = i.operands, i.op_str
+        return i
+
+    def do(self, i):
+        return TABLE[i.mnemonic](self, i)
 
     def registers(self):
         return {name: secret(f'{name} of the caller', width)
@@ -100,11 +110,15 @@ class X86(Cpu):
 
 TABLE.update({
     **dict.fromkeys(('nop', 'endbr64'), lambda c, i: None),
-    **dict.fromkeys(('mov', 'movabs', 'movups', 'movdqu', 'movaps', 'movdqa', 'vmovups', 'vmovdqu'),
+    **dict.fromkeys(('mov', 'movabs', *(f'{v}{name}' for v in ('', 'v') for name in (
+        'movups', 'movdqu', 'movaps', 'movdqa'))),
                     lambda c, i: c.put(i, 0, c.get(i, 1, 8 * i.ops[0].size))),
     **dict.fromkeys(('movq', 'vmovq'), lambda c, i: c.put(
         i, 0, resize(c.get(i, 1, 64), 8 * i.ops[0].size))),
     'movzx': lambda c, i: c.put(i, 0, resize(c.get(i, 1), 8 * i.ops[0].size)),
+    **dict.fromkeys(('movsx', 'movsxd'), lambda c, i: c.put(
+        i, 0, z3.SignExt(8 * (i.ops[0].size - i.ops[1].size), c.get(i, 1)))),
+    'cdqe': lambda c, i: c.r.update(rax=simple(z3.SignExt(32, part(c.r['rax'], 0, 32)))),
     'lea': lambda c, i: c.put(i, 0, part(c.address(i, i.ops[1]), 0, 8 * i.ops[0].size)),
     'not': lambda c, i: c.put(i, 0, ~c.get(i, 0)),
     **dict.fromkeys(('shlx', 'shrx'), lambda c, i: c.put(
@@ -121,6 +135,7 @@ TABLE.update({
     'jmp': lambda c, i: i.ops[0].imm,
     'push': lambda c, i: push(c, c.get(i, 0, 64)),
     'pop': lambda c, i: c.put(i, 0, pop(c)),
+    'leave': lambda c, i: c.r.update(rsp=c.r['rbp']) or c.r.update(rbp=pop(c)),
     'ret': lambda c, i: c.give_back(pop(c))})
 
 
@@ -280,8 +295,11 @@ SSE = {
     **dict.fromkeys(('punpcklqdq', 'movlhps'), (64, lambda a, b, n: [a[0], b[0]])),
     **dict.fromkeys(('punpckhqdq', 'unpckhpd'), (64, lambda a, b, n: [a[1], b[1]]))}
 # The processor checks the addresses of these, if no v comes before.
-ALIGNED = {'movaps', 'movdqa', *SSE}
-UNALIGNED = {'pextrq': (64, lambda a, b, n: [b[n & 1]])}
+ALIGNED = {'movaps', 'movdqa', 'vmovaps', 'vmovdqa', *SSE}
+UNALIGNED = {
+    'movhps': (64, lambda a, b, n: [b[1]] if len(b) > 1 else [a[0], b[0]]),
+    'pextrq': (64, lambda a, b, n: [b[n & 1]]),
+    'pinsrq': (64, lambda a, b, n: [a[0], b[0]] if n & 1 else [b[0], a[1]])}
 AVX = {
     'extracti128': (128, lambda a, b, n: [b[n & 1]]),
     'inserti128': (128, lambda a, b, n: [a[0], b[0]] if n & 1 else [b[0], a[1]]),

@@ -5,13 +5,13 @@
 //! few jumps. Those below 64 bytes may be inlined, since a caller may know the length.
 
 use crate::padding::{final_word_of_many, padding_byte};
-use crate::rounds::words::{hash_from_pair, last_whole_word};
 use crate::rounds::{
     absorb_blocks, absorb_first_block, absorb_only_block, close, join, lanes_of, pair_round,
     seed_pair,
 };
 use crate::utils::{read_partial_word, read_word, word_at};
 use crate::version::{IsVersion, Versions};
+use crate::whole_words::{hash_from_pair, last_whole_word};
 
 #[cfg_attr(any(debug_assertions, for_c), inline(never))]
 #[cfg_attr(not(any(debug_assertions, for_c)), inline)]
@@ -72,7 +72,7 @@ fn hash_of_blocks<const V: u8>(bytes: &[u8], seed: u64) -> u64 {
     let final_word = final_word_of_many(bytes, padding_byte::<V>(bytes));
     let mut lanes = lanes_of(pair);
     // Two blocks need no loop either.
-    let rest = if bytes.len() < 192 {
+    let rest: &[u8] = if bytes.len() < 192 {
         let after = absorb_first_block::<V>(&mut lanes, bytes);
         absorb_only_block::<V>(&mut lanes, after)
     } else {

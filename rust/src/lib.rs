@@ -22,6 +22,7 @@ mod hasher;
 #[cfg(feature = "std")]
 mod io;
 mod padding;
+mod pending;
 mod rounds;
 pub mod stream;
 mod traits;
@@ -29,3 +30,4 @@ mod utils;
 pub mod v4;
 pub mod v5;
 pub mod version;
+mod whole_words;

@@ -11,7 +11,8 @@ pub(crate) fn has_two<const V: u8>() -> bool {
     V == 4
 }
 
-/// Returns whether the padding byte after `byte` is 2: if V has it, and the byte's top bit is set.
+/// Returns whether the padding byte after `byte` is 2: if version V has it, and the byte's top bit is
+/// set.
 #[inline(always)]
 pub(crate) fn pads_with_two<const V: u8>(byte: u8) -> bool {
     has_two::<V>() && byte >= 128
@@ -72,7 +73,7 @@ where
         bytes.len() / 8 + 1
     );
     let whole = bytes.len() / 8;
-    let final_word = if whole > 0 {
+    let final_word: u64 = if whole > 0 {
         final_word_of_many(bytes, padding_byte::<V>(bytes))
     } else if bytes.is_empty() {
         0

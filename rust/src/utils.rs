@@ -36,7 +36,8 @@ pub(crate) fn read_partial_word(bytes: &[u8], end: u64) -> u64 {
     } else if n > 0 {
         let middle = u64::from(bytes[n / 2]) << 8;
         let last = u64::from(bytes[n - 1]) << 16;
-        let (has_second, has_third) = (n > 1, n > 2);
+        let has_second = n > 1;
+        let has_third = n > 2;
         let second = if has_second { middle } else { 0 };
         let third = if has_third { last } else { 0 };
         (u64::from(bytes[0]) + second + third) | end << (8 * n)
@@ -80,7 +81,7 @@ pub(crate) fn write_partial_word(word: u64, out: &mut [u8]) {
 #[inline(always)]
 pub(crate) fn read_whole_words(bytes: &[u8], out: &mut [u64]) {
     // With one slice of each length, the loop tests no index.
-    let (words, _) = bytes.as_chunks::<8>();
+    let words = bytes.as_chunks::<8>().0;
     let front = &mut out[..words.len()];
     for i in 0..words.len() {
         front[i] = u64::from_le_bytes(words[i]);
@@ -99,7 +100,7 @@ pub(crate) fn write_words(words: &[u64], out: &mut [u8]) {
 #[inline(always)]
 pub(crate) fn write_first_bytes(words: &[u64], count: usize, out: &mut [u8]) {
     let whole = count / 8;
-    // Since the compiler sees both lengths, the loop in `write_words` tests no index.
+    // With one slice of each length, the loop tests no index.
     write_words(&words[..whole], &mut out[..8 * whole]);
     if count % 8 > 0 {
         write_partial_word(words[whole], &mut out[8 * whole..count]);

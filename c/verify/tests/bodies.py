@@ -39,18 +39,18 @@ a call in a call|||call 1f; jmp body; 1: call 2f; ret; 2: ret
 a call of the next||no meaning|xor eax, eax; call 1f; 1: inc eax; cmp eax, 2; jae 1f; ret; 1:
 code where nothing can run||not known|jmp 1f; .pushsection .rodata; 1: jmp body; .popsection
 a loop without end||more than 20000|1: jmp 1b
-a loop that splits in each turn|v5_save|save(5,)..must be refused|xor r8d, r8d; 1: inc r8d;
+a loop that splits in each turn|v5_save|, 5 pending..result: found 0x1|xor r8d, r8d; 1: inc r8d;
     bt edx, r8d; jnc 2f; cmp r8d, 2; jne 2f; mov eax, 1; ret; 2: cmp r8d, 2; jne 1b
-many jumps|v5_save|save(5,)..result: found 0x1|.irp k, 1,2,3,4,5,6,7,8,9,10; cmp rdx, 50 + \\k;
+many jumps|v5_save|, 5 pending..result: found 0x1|.irp k, 1,2,3,4,5,6,7,8,9,10; cmp rdx, 50 + \\k;
     je 8f; 8: ; .endr; cmp rdx, 40; jne body; mov eax, 1; ret
-a number that splits at the end|v5_save|save(5,)..in no array|mov r10, rdx; and r10d, 31;
+a number that splits at the end|v5_save|, 5 pending..in no array|mov r10, rdx; and r10d, 31;
     mov byte ptr [rdi + 8*r10 + 144], 0
-one by one of 64 values|v5_save|save(5,)..must be refused|mov r10, rdx; and r10d, 63;
+one by one of 64 values|v5_save|, 5 pending..result: found 0x1|mov r10, rdx; and r10d, 63;
     cmp byte ptr [rdi + r10], 0; cmp r10, 63; jne body; mov eax, 1; ret
-a number of four values||4 ways through|mov r10, rdi; and r10d, 24; sub rsp, r10; add rsp, r10
-a number by the room|v5_save|save(5,)..|cmp rdx, 5000; cmovb r10, rdx
-a frame by the room|v5_save|save(5,)..|mov r10, rdx; and r10d, 8; sub rsp, r10; add rsp, r10
-a frame by the room and a carry|v5_save|save(5,)..|sub rsp, 64; mov r10, rdx; and r10d, 8;
+a number of four values|||mov r10, rdi; and r10d, 24; sub rsp, r10; add rsp, r10
+a number by the room|v5_save|, 5 pending..|cmp rdx, 5000; cmovb r10, rdx
+a frame by the room|v5_save|, 5 pending..|mov r10, rdx; and r10d, 8; sub rsp, r10; add rsp, r10
+a frame by the room and a carry|v5_save|, 5 pending..|sub rsp, 64; mov r10, rdx; and r10d, 8;
     lea r11, [r10 - 1]; cmp r10d, 9; adc rsp, r11; sub rsp, r10; add rsp, 64
 # The stack, the red zone and registers of the caller.
 the red zone|||red zone; mov [rsp - 128], rdi; mov rdi, [rsp - 128]
@@ -74,11 +74,12 @@ a vector of one byte further||not aligned to 16|sub rsp, 40; movaps [rsp + 1], x
 a vector where an array begins||not aligned to 16|movaps xmm0, [rdi]
 half a vector that was not written||not written|
     sub rsp, 24; movq [rsp], xmm0; punpcklqdq xmm0, [rsp]; add rsp, 24
-a return address that a loop loses|v5_pad|Pad..not written|pad "add rsp, 8", "", "sub rsp, 8"
-rbx after a turn|v5_pad|Pad..rbx of the caller|pad "", "cmp r9, 400; jne .Lturn; bts rbx, 63", ""
-rbx if refused|v5_pad|Pad..rbx of the caller|test rcx, rcx; jne body; bts rbx, 63; xor eax, eax; ret
-rbx by the room|v5_save|save(5,)..rbx of the caller|cmp rdx, 5000; jne body; bts rbx, 63
-rbx by one room|v5_save|save(5,)..rbx of the caller|cmp rdx, 5000; je 1f; jmp body;
+a return address that a loop loses|v5_pad|any n..not written|pad "add rsp, 8", "", "sub rsp, 8"
+rbx after a turn|v5_pad|any n..rbx of the caller|pad "", "cmp r9, 400; jne .Lturn; bts rbx, 63", ""
+rbx if refused|v5_pad|any n..rbx of the caller|
+    test rcx, rcx; jne body; bts rbx, 63; xor eax, eax; ret
+rbx by the room|v5_save|, 5 pending..rbx of the caller|cmp rdx, 5000; jne body; bts rbx, 63
+rbx by one room|v5_save|, 5 pending..rbx of the caller|cmp rdx, 5000; je 1f; jmp body;
     1: bts rbx, 63
 # Memory, of which ARRAYS has the arguments.
 what may be written||in no array|.pushsection .data; 2: .quad 0; .popsection; mov rax, [rip + 2b]
@@ -87,155 +88,163 @@ a constant over the end||in no array|.hidden __etext; lea rax, [rip + __etext]; 
     shr rax, 32; je 1f; xor eax, eax; ret; 1:
 a long copy||in no array|push rdi; sub rsp, 320; lea rsi, [rip + __ehdr_start]; mov rdi, rsp;
     mov ecx, 600; rep movsb; add rsp, 320; pop rdi
-a copy by the room|v5_save|save(5,)..not written|mov ecx, edx; and ecx, 1; rep movsb
+a copy by the room|v5_save|, 5 pending..in no array|mov ecx, edx; and ecx, 1; rep movsb
 an address of 32 bits||not known|.byte 0x67; lea rax, [-1]
 a byte of an old stream|v5_init|not written|mov al, [rdi + 80]
 a byte of a stream that is returned|v5_start|not written|mov al, [rdi + 80]
-a vector over the end|v5|Hash(0,)..in no array|movups xmm0, [rdi + 113]
-a byte that may not be there|v5_write|Write(13,)..in no array|
+a vector over the end|v5|0 modulo..in no array|movups xmm0, [rdi + 113]
+a byte that may not be there|v5_write|any n..in no array|
     turn: 8: cmp [BYTES], al; cmp LEFT, 127; jbe 9f; next: jmp 8b; 9:
-a byte after the last block|v5_write|Write(13,)..in no array|
+a byte after the last block|v5_write|any n..in no array|
     mov r9, [rdi + 64]; lea r10, [rdx + r9]; and r10, -64; sub r10, r9; mov al, [rsi + r10]
-the last byte of the last block|v5_write|Write(13,)..|
+the last byte of the last block|v5_write|any n..|
     mov r9, [rdi + 64]; lea r10, [rdx + r9]; and r10, -64; sub r10, r9; mov al, [rsi + r10 - 1]
-a turn that writes after the generator|v5_rand_fill|Fill..in no array|turn: cmp INDEX, 500; jne 1f;
+a turn that writes after the generator|v5_rand_fill|any n..in no array|turn: cmp INDEX, 500; jne 1f;
     mov byte ptr [rdi + 16], 0; 1:
-a word that a loop loses|v5_pad|Pad..not written|
+a word that a loop loses|v5_pad|any n..not written|
     pad "sub rsp, 8; cmp rsi, 5000; jb 1f; mov [rsp], rsi; 1:", "", "mov r11, [rsp]; add rsp, 8"
 a write where there may be no room|v5_save|in no array|mov byte ptr [rsi], 0
-a refusal that writes|v5_save|of out were|lea rax, [rdx - 1]; cmp rax, 130; jae body; mov [rsi], al
-a refused text that is written|v5_resume|resume(0,)..of stream were written|mov byte ptr [rdi], 0
-a text of another version that is written|v5_resume|resume(68,)..of stream were written|
+a refusal that writes|v5_save|in no array|lea rax, [rdx - 1]; cmp rax, 130; jae body; mov [rsi], al
+a refused text that is written|v5_resume|, 0 bytes..of stream were written|mov byte ptr [rdi], 0
+a text of another version that is written|v5_resume|, 68 bytes..of stream were written|
     cmp byte ptr [rsi], 4; jne body; mov byte ptr [rdi], 0; xor eax, eax; ret
-a long text that is written|v5_resume|resume(None,)..of stream were written|
+a long text that is written|v5_resume|any n..of stream were written|
     cmp rsi, 5000; jne body; mov byte ptr [rdi], 0
-a long one|v5_pad|Pad..refused: the bytes [0]|cmp rcx, 1; jne body; mov byte ptr [rdx], 0
-a byte after the words|v5_pad|Pad..bytes: the bytes|
+a long one|v5_pad|any n..in no array|cmp rcx, 1; jne body; mov byte ptr [rdx], 0
+a byte after the words|v5_pad|any n..in no array|
     after "test rax, rax; je 1f; cmp rsi, 305; jne 1f; mov byte ptr [rdx + 8*rax], 0"
-a byte after the message|v5_unpad|Unpad((7, 1),)..bytes: the bytes|
+a byte after the message|v5_unpad|8, (7, 1)..in no array|
     after "cmp rax, -1; je 1f; cmp rsi, 33; jne 1f; mov byte ptr [rdx + rax], 0"
 # What jumps and addresses depend on.
-a jump by a register of the caller|v5_save|save(5,)..depends on r10|test r10, r10; je 1f; 1:
-flags of a shift|v5_save|save(5,)..flag z is read|mov rcx, rdx; cmp rax, rax; shl r8, cl; jne 1f; 1:
+a jump by a register of the caller|v5_save|, 5 pending..depends on r10|test r10, r10; je 1f; 1:
+flags of a shift|v5_save|, 5 pending..flag z is read|
+    mov rcx, rdx; cmp rax, rax; shl r8, cl; jne 1f; 1:
 a flag that bt leaves undefined||flag z is read|bt edi, 0; ja 1f; 1:
 a carry of the caller||flag c is read|adc r8d, 0
-the highest bit of 0||2 ways|mov rcx, -1; xor eax, eax; bsr ecx, eax; shr rcx, 32; jne 1f; 1:
-a highest bit of 64 of 0|v5_save|save(5,)..depends on undefined|
+the highest bit of 0||depends on undefined|
+    mov rcx, -1; xor eax, eax; bsr ecx, eax; shr rcx, 32; jne 1f; 1:
+a highest bit of 64 of 0|v5_save|, 5 pending..depends on undefined|
     mov rcx, -1; xor eax, eax; bsr rcx, rax; inc rcx; jne 1f; 1:
-a jump by a low half|v5|Hash(6,)..depends on low|next: test rax, rax; je 1f; 1:
-a jump by a lane|v5|Hash(6,)..depends on value|next: test LANE, LANE; je 1f; 1:
-a jump by a factor|v5_rand_fill|Fill..depends on s1|turn: cmp INDEX, 300; jne 1f;
+a jump by a low half|v5|6 modulo..depends on low|next: test rax, rax; je 1f; 1:
+a jump by a lane|v5|6 modulo..depends on value|next: test LANE, LANE; je 1f; 1:
+a jump by a factor|v5_rand_fill|any n..depends on s1|turn: cmp INDEX, 300; jne 1f;
     test FACTOR, FACTOR; je 1f; 1:
-a jump by what a loop lost|v5_pad|Pad..depends on undefined|
+a jump by what a loop lost|v5_pad|any n..depends on undefined|
     pad "", "cmp rsi, 5000; jne .Lturn; test rax, rax; je 1f; 1: mov rax, r10", ""
-a jump by a pending byte|v5_write|Write(5,)..depends on pending|cmp rdx, 300; jne body;
+a jump by a pending byte|v5_write|any n..depends on pending|cmp rdx, 300; jne body;
     cmp qword ptr [rdi + 64], 5; jne body; cmp byte ptr [rdi], 1; je 1f; 1:
-a jump by four pending bytes|v5_save|save(5,)..depends on pending|cmp dword ptr [rdi], 0; je 1f; 1:
-a jump by the seed|v5|Hash(0,)..depends on seed|cmp rdx, 5; jb 1f; 1:
-a jump by the top bit|v4_save|save(5,)..depends on top bit|cmp byte ptr [rdi + 137], 1; jb 1f; 1:
-one of an address|v5_save|save(5,)..depends|mov al, [rdi + 72]; and eax, 1; mov al, [rdi + rax]
+a jump by four pending bytes|v5_save|, 5 pending..depends on pending|
+    cmp dword ptr [rdi], 0; je 1f; 1:
+a jump by the seed|v5|0 modulo..depends on seed|cmp rdx, 5; jb 1f; 1:
+a jump by the top bit|v4_save|, 5 pending..depends on top bit|cmp byte ptr [rdi + 137], 1; jb 1f; 1:
+one of an address|v5_save|, 5 pending..depends|mov al, [rdi + 72]; and eax, 1; mov al, [rdi + rax]
 where in its page the library is|||lea rax, [rip + __ehdr_start]; test eax, 4095; je body; not rdi
-jumps by where the stack is||3 ways|test spl, 16; je 1f; test spl, 32; je 1f; 1:
-a jump by where the library is||2 ways|lea rax, [rip + __ehdr_start]; test eax, 4096; jne 1f; 1:
+jumps by where the stack is|||test spl, 16; je 1f; test spl, 32; je 1f; 1:
+a jump by where the library is|||lea rax, [rip + __ehdr_start]; test eax, 4096; jne 1f; 1:
 # What is returned and stored, of which OUTPUTS has more.
-one that needs less room|v5_save|save(0,)..must be refused|cmp rdx, 130; jb body; mov edx, 131
-one that needs more room|v5_pad|Pad..must be refused|mov r8, rsi; shr r8, 3; inc r8; cmp rcx, r8;
+one that needs less room|v5_save|, 0 pending..in no array|cmp rdx, 130; jb body; mov edx, 131
+one that needs more room|v5_pad|any n..before the end|mov r8, rsi; shr r8, 3; inc r8; cmp rcx, r8;
     ja body; xor eax, eax; ret
-another result of one|v5_pad|Pad..length: found 0x1|test rcx, rcx; jne body; mov eax, 1; ret
-no text, and a bool of 2|v5_resume|resume(0,)..result: found 0x2|mov eax, 2; ret
-a word of 0|v5_unpad|unpad(1, None)..|nop
-a word of 0 after another|v5_unpad|unpad(2, None)..|nop
-a word of 1|v5_unpad|unpad(1, (0, 1))..|nop
+another result of one|v5_pad|any n..length: found 0x1|test rcx, rcx; jne body; mov eax, 1; ret
+no text, and a bool of 2|v5_resume|, 0 bytes..result: found 0x2|mov eax, 2; ret
+a word of 0|v5_unpad|, 0 bytes, 0 pending, (0, 0)..|nop
+a word of 0 after another|v5_unpad|, 8 bytes, 0 pending, (0, 0)..|nop
+a word of 1|v5_unpad|, 0 bytes, 0 pending, (0, 1)..|nop
 one wrong in a high bit||does not have|mov rax, [rdi]; bts rax, 63; mov [rdi], rax
 one wrong by where the stack is||does not have|test spl, 16; je body; not byte ptr [rdi]
-an old lane|v5_write|Write(13,)..at 72|push rdi; push [rdi + 72]; call body; pop rax; pop rdi;
+an old lane|v5_write|any n..at 72|push rdi; push [rdi + 72]; call body; pop rax; pop rdi;
     mov [rdi + 72], rax; ret
-one after a long write to five bytes|v5_write|Write(5,)..at 0|
+one after a long write to five bytes|v5_write|any n..at 0|
     xor eax, eax; cmp rdx, 300; jne 2f; cmp byte ptr [rdi + 64], 5; sete al; 2: push rax; push rdi;
     call body; pop rdi; pop rax; test eax, eax; je 1f; not byte ptr [rdi]; 1: ret
-a write that takes bytes before its own|v5_write|Write(5,)..more than all was taken|
+a write that takes bytes before its own|v5_write|any n..in no array|
     cmp qword ptr [rdi + 64], 5; jne body; lea rax, [rdx + 5]; cmp rax, 128; jb body; test al, 64;
     jne body; mov rdx, rax; sub rsi, 5; xor eax, eax; mov [rdi], rax; mov [rdi + 64], rax; jmp body
-a word after the last one|v5_unpad|Unpad((7, 1),)..length: found|
+a word after the last one|v5_unpad|8, (7, 1)..in no array|
     lea r8, [8*rsi]; cmp rcx, r8; jb body; dec rsi; xor r9d, r9d; 1: word; cmp r9, rsi; jne 1b;
     word; lea rax, [8*r9]; ret
 # Multiplications.
 a factor in place of another||does not have|mov rax, [rdi]; mul rax; mov rcx, rdx;
     add rdx, [rdi + 8]; mov r8, -0x5555555555555556; add rdx, r8; mov [rdi + 8], rdx;
     xor rax, rcx; not r8; add rax, r8; mov [rdi], rax; ret
-an old generator|v5_rand_fill|Fill..does not have|push r15; mov r15, [rdi]; call body; pop r15; ret;
+an old generator|v5_rand_fill|any n..does not have|
+    push r15; mov r15, [rdi]; call body; pop r15; ret;
     turn: cmp INDEX, 500; jne 1f; mov FACTOR, r15; 1:
 one made twice||has made already|mov rax, [rdi]; mul qword ptr [rdi + 8]
 # Loops that are right.
-a loop|v5_pad|Pad..|pad "", "", ""
-a generator in memory|v5_rand_fill|Fill..|fill ""
-half a vector that stays|v5_pad|Pad..|
+a loop|v5_pad|any n..|pad "", "", ""
+a generator in memory|v5_rand_fill|any n..|fill ""
+half a vector that stays|v5_pad|any n..|
     pad "movq xmm1, rdi; punpcklqdq xmm1, xmm1", "", "punpckhqdq xmm1, xmm1; movq rdi, xmm1"
-arrays that don't overlap|v5_pad|Pad..|mov r8, rsi; shr r8, 3; cmp rcx, r8; jbe body; mov r8, rdx;
+arrays that don't overlap|v5_pad|any n..|mov r8, rsi; shr r8, 3; cmp rcx, r8; jbe body; mov r8, rdx;
     sub r8, rdi; cmp r8, rsi; jae body; xor eax, eax; ret
-words that don't overlap|v5_unpad|Unpad((7, 1),)..|lea r8, [8*rsi]; cmp rcx, r8; jb body;
+words that don't overlap|v5_unpad|8, (7, 1)..|lea r8, [8*rsi]; cmp rcx, r8; jb body;
     mov r9, rdx; sub r9, rdi; cmp r9, r8; jae body; xor eax, eax; ret
 # Loops that are wrong for one length, or from one on.
-a write of 150 bytes|v5_write|Write(13,)..the stream at|
+a write of 150 bytes|v5_write|any n..the stream at|
     push rdx; call body; pop rdx; ret; next: cmp qword ptr [rsp + FRAME], 150; jne 1f; not LANE; 1:
-a hash of 270 bytes|v5|Hash(6,)..does not have|push rsi; call body; pop rsi; ret;
+a hash of 270 bytes|v5|6 modulo..does not have|push rsi; call body; pop rsi; ret;
     next: cmp qword ptr [rsp + FRAME], 270; jne 1f; not LANE; 1:
-a word of 160 bytes of one|v5_rand_fill|Fill..bytes: found|
+a word of 160 bytes of one|v5_rand_fill|any n..bytes: found|
     next: cmp COUNT, 20; jne 1f; not byte ptr [OUT + 8*INDEX - 8]; 1:
-a word of 200 bytes|v5_pad|Pad..bytes: found|
+a word of 200 bytes|v5_pad|any n..bytes: found|
     pad "", "cmp rsi, 200; jne .Lturn; rol qword ptr [rdx + 8*r9 - 8], 8", ""
-one wrong from byte 3,200 on|v5_pad|Pad..in no array|pad "", "cmp r9, 400; jne .Lturn; inc r9", ""
-one wrong from 16 TiB on|v5_pad|Pad..in no array|
+one wrong from byte 3,200 on|v5_pad|any n..many values|pad "", "cmp r9, 400; jne .Lturn; inc r9", ""
+one wrong from 16 TiB on|v5_pad|any n..many values|
     pad "", "mov r10, 1 << 41; cmp r9, r10; jne .Lturn; inc r9", ""
-a word more for one length|v5_pad|Pad..the rest|mov r8, rsi; shr r8, 3; xor eax, eax; cmp rcx, r8;
+a word more for one length|v5_pad|any n..the rest|mov r8, rsi; shr r8, 3; xor eax, eax; cmp rcx, r8;
     jbe .Lend; mov r11, r8; and r11, -2; xor r9d, r9d; .Lturn: cmp rsi, 5000; je 4f;
     5: cmp r9, r11; jae .Lodd; word; word; jmp .Lturn; 4: cmp r9, r11; jne 5b; word;
     .Lodd: test r8b, 1; je .Lrest; word; tail
-one that leaves its loop there|v5_pad|Pad..the rest|pad "", "cmp r9, 400; je .Lrest", ""
-a loop begun late|v5_pad|Pad..in no array|pad "cmp rsi, 304; mov r9d, 1; je .Lturn", "", ""
-a loop that may run over the end|v5_pad|Pad..in no array|pad "cmp r8, 16; jb 1f; xor r9d, r9d;
+one that leaves its loop there|v5_pad|any n..the rest|pad "", "cmp r9, 400; je .Lrest", ""
+a loop begun late|v5_pad|any n..many values|pad "cmp rsi, 304; mov r9d, 1; je .Lturn", "", ""
+a loop that may run over the end|v5_pad|any n..in no array|pad "cmp r8, 16; jb 1f; xor r9d, r9d;
     word; 2: word; word; cmp r9, r8; jne 2b; jmp .Lrest; 1:", "", ""
-two words in each turn after the first|v5_rand_fill|Fill..more than all was taken|
+two words in each turn after the first|v5_rand_fill|any n..in no array|
     mov r10, rdx; mov r11, rdx; shr r11, 3; mov r8, 0x5555555555555555; step rsi; mov r9d, 1;
     1: cmp r9, r11; je 2f; step rsi+8*r9; step rsi+8*r9+8; add r9, 2; jmp 1b;
     2: lea rsi, [rsi + 8*r9]; and r10d, 7; mov rdx, r10
-turns of 32 words, after which up to 15 are copied|v5_pad|Pad..in no array|
+turns of 32 words, after which up to 15 are copied|v5_pad|any n..in no array|
     mov r8, rsi; shr r8, 3; xor eax, eax; cmp rcx, r8; jbe .Lend; mov r11, r8; and r11, -32;
     xor r9d, r9d; .Lturn: cmp r9, r11; jae 2f; .rept 32; word; .endr; jmp .Lturn;
     2: mov r10, r8; sub r10, r9; test r10b, 15; je .Lrest; word; jmp 2b; tail
-one that compares 32 bits|v5_pad|Pad..the rest|pad "", "cmp r9d, r8d; je .Lrest", ""
-a wrong word before a loop|v5_pad|Pad..bytes: found|
+one that compares 32 bits|v5_pad|any n..the rest|pad "", "cmp r9d, r8d; je .Lrest", ""
+a wrong word before a loop|v5_pad|any n..bytes: found|
     pad "xor r9d, r9d; word; not byte ptr [rdx]; jmp .Lturn", "", ""
-a wrong word before the loop of a generator|v5_rand_fill|Fill..bytes: found|
+a wrong word before the loop of a generator|v5_rand_fill|any n..bytes: found|
     fill "", "step rsi; not byte ptr [rsi]; add rsi, 8; sub r9, 8"
-a call that begins at the exit|v5_pad|Pad..the rest|pad "cmp rsi, 200; je .Lrest", "", ""
-a long one that is copied|v5_pad|Pad..a turn of a call that is refused|mov rcx, -1; pad "", "", ""
-a turn of nothing|v5_pad|Pad..takes nothing|pad "xor r9d, r9d; jmp 1f", "1: cmp r9, 400; je 1b", ""
-two registers that turns change|v5_pad|Pad..many values|
+a call that begins at the exit|v5_pad|any n..the rest|pad "cmp rsi, 200; je .Lrest", "", ""
+a long one that is copied|v5_pad|any n..a turn of a call that is refused|mov rcx, -1; pad "", "", ""
+one that turns again after the last|v5_pad|any n..after the last|
+    pad "", "", "cmp rsi, 304; je .Lturn"
+a turn of nothing|v5_pad|any n..takes nothing|
+    pad "xor r9d, r9d; jmp 1f", "1: cmp r9, 400; je 1b", ""
+two registers that turns change|v5_pad|any n..many values|
     pad "", "mov rax, r10; not rax", "xor r10, rax; add r8, r10"
-one that a turn changes|v5_rand_fill|Fill..does not have|
+one that a turn changes|v5_rand_fill|any n..does not have|
     fill "cmp r9, 400; jne 3f; not byte ptr [rdi]; 3:"
-half a vector that a turn changes|v5_pad|Pad..in no array|
+half a vector that a turn changes|v5_pad|any n..in no array|
     pad "movq xmm1, rdi; punpcklqdq xmm1, xmm1; movq xmm2, rsi", "cmp r9, 400; jne .Lturn;
     punpcklqdq xmm1, xmm2", "punpckhqdq xmm1, xmm1; movq rdi, xmm1"
-the word before the last one|v5_rand_fill|Fill..s1|
+the word before the last one|v5_rand_fill|any n..s1|
     after "test dl, 7; jne 1f; movq [rdi], xmm7"; turn: movq xmm7, FACTOR
-the words of a generator exchanged at the end|v5_rand_fill|Fill..s1|fill ""; cmp r9, 3; jne body;
+the words of a generator exchanged at the end|v5_rand_fill|any n..s1|fill ""; cmp r9, 3; jne body;
     mov r10, [rdi]; mov r11, [rdi + 8]; mov [rdi], r11; mov [rdi + 8], r10
 # Calls that end before their loops, or in the wrong state.
-a hash that is not finished|v5|Hash(4,)..before the end|cmp rsi, 300; jne body; xor eax, eax; ret
-a write to 63 bytes that ends early|v5_write|Write(63,)..before the end|
+a hash that is not finished|v5|4 modulo..products, and not|cmp rsi, 300; jne body; xor eax, eax; ret
+a write to 63 bytes that ends early|v5_write|any n..before the end|
     cmp qword ptr [rdi + 64], 63; jne body; cmp rdx, 400; jne body; ret
-a write of nothing|v5_write|Write(13,)..before the end|cmp rdx, 60; jne body; xor eax, eax;
+a write of nothing|v5_write|any n..before the end|cmp rdx, 60; jne body; xor eax, eax;
     mov [rdi], rax; mov [rdi + 8], rax; mov [rdi + 64], rax; mov byte ptr [rdi + 136], 1; ret
-a write that takes nothing of 1,000 blocks|v5_write|Write(0,)..before the end|
+a write that takes nothing of 1,000 blocks|v5_write|any n..before the end|
     cmp rdx, 64000; jne body; cmp qword ptr [rdi + 64], 0; jne body; mov byte ptr [rdi + 136], 1;
     ret
-a refusal|v5_pad|Pad..before the end|cmp rsi, 200; jne body; cmp rcx, 26; jb body; xor eax, eax; ret
+a refusal|v5_pad|any n..before the end|
+    cmp rsi, 200; jne body; cmp rcx, 26; jb body; xor eax, eax; ret
 '''
 V2 = X86[0], X86[1] + '''
 an instruction of newer processors||not known for x86-64|palignr xmm0, xmm0, 1
-a jump by a high half|v5|Hash(0,)..depends on high|call body; test rdx, rdx; je 1f; 1: ret
+a jump by a high half|v5|0 modulo..depends on high|call body; test rdx, rdx; je 1f; 1: ret
 '''
 V3 = X86[0], '''
 an instruction of newer processors||not known for x86-64-v3|vpternlogq ymm0, ymm0, ymm0, 1
@@ -262,13 +271,13 @@ another one||not known|hint 7
 a word below the stack||below the stack pointer|red zone; stur w0, [sp, -4]
 a small step above the call||out of the stack|add sp, sp, 1; sub sp, sp, 1
 a byte above the call||in no array|strb w0, [sp]
-a number that splits|v5_save|save(5,)..must be refused|and x10, x2, 8; add x9, x0, x10; ldr x11,
+a number that splits|v5_save|, 5 pending..result: found|and x10, x2, 8; add x9, x0, x10; ldr x11,
     [x9], 8; sub x9, x9, x10; sub x9, x9, x0; cmp x9, 16; b.eq body; mov x0, 77; ret
-a jump by a register of the caller|v5_save|save(5,)..depends on x9|cbz x9, 1f; nop; 1:
+a jump by a register of the caller|v5_save|, 5 pending..depends on x9|cbz x9, 1f; nop; 1:
 a low half made twice||has made already|ldp x9, x10, [x0]; mul x11, x9, x10; mul x11, x9, x10
 a high half made twice||has made already|
     ldp x9, x10, [x0]; umulh x11, x9, x10; umulh x11, x9, x10
-a product|v5_rand_fill|Fill..products|cmp x2, 200; b.ne body; ldp x9, x10, [x0]; mul x9, x9, x10
+a product|v5_rand_fill|any n..products|cmp x2, 200; b.ne body; ldp x9, x10, [x0]; mul x9, x9, x10
 a stack that is lower at the end||sp is lost|sub sp, sp, 16
 a changed return address||not the caller|eor x30, x30, 4
 a return to the next instruction but one||not the caller|stp x0, x30, [sp, -16]!; bl 1f; nop;
@@ -278,25 +287,25 @@ more than the stack||out of the stack|sub sp, sp, 4096; sub sp, sp, 16; add sp, 
 a byte that was popped||not written|str x0, [sp, -16]!; add sp, sp, 16; sub sp, sp, 16;
     ldr x0, [sp], 16
 a call|||stp x0, x30, [sp, -16]!; bl 1f; ldp x0, x30, [sp], 16; b body; 1: ret
-whole blocks that are wrong|v5_write|Write(13,)..the stream at 0|
+whole blocks that are wrong|v5_write|any n..the stream at 0|
     after x0, "ldr x9, [x0, 64]; cbnz x9, 1f; mov w9, 1; strb w9, [x0]"
-a write of 64 bytes that takes 51|v5_write|Write(13,)..in no array|
+a write of 64 bytes that takes 51|v5_write|any n..in no array|
     cmp x2, 64; b.ne body; ldr x9, [x0, 64]; cmp x9, 13; b.ne body; mov x2, 51
-one block that is wrong|v5_write|Write(13,)..the stream at 0|whole 51, "strb w0, [x0]"
-three blocks that are wrong|v5_write|Write(13,)..the stream at 0|whole 179, "strb w0, [x0]"
-x19 after three blocks|v5_write|Write(13,)..x19 of the caller|whole 179, "eor x19, x19, 1"
-a loop that ends early|v5_write|Write(13,)..more bytes or fewer|
+one block that is wrong|v5_write|any n..the stream at 0|whole 51, "strb w0, [x0]"
+three blocks that are wrong|v5_write|any n..the stream at 0|whole 179, "strb w0, [x0]"
+x19 after three blocks|v5_write|any n..x19 of the caller|whole 179, "eor x19, x19, 1"
+a loop that ends early|v5_write|any n..more bytes or fewer|
     turn: cmp LEFT, 4096; b.ne 1f; mov LEFT, 128; 1:
-a flag that a turn changes|v5_write|Write(13,)..at 136|
+a flag that a turn changes|v5_write|any n..at 136|
     turn: cmp LEFT, 4096; b.ne 1f; strb wzr, [x0, 136]; 1:
-a pending byte that a turn writes|v5_write|Write(13,)..at 0|
+a pending byte that a turn writes|v5_write|any n..at 0|
     turn: cmp LEFT, 4096; b.ne 1f; strb w0, [x0]; 1:
-63 bytes more that are wrong|v5_write|Write(13,)..the stream at 0|
+63 bytes more that are wrong|v5_write|any n..the stream at 0|
     after x0, "ldr x9, [x0, 64]; cmp x9, 63; b.ne 1f; strb w9, [x0]"
-whole blocks of version 4|v4|Hash(0,)..|nop
-5 bytes more that are wrong|v5_write|Write(13,)..the stream at 0|
+whole blocks of version 4|v4|0 modulo..|nop
+5 bytes more that are wrong|v5_write|any n..the stream at 0|
     after x0, "ldr x9, [x0, 64]; cmp x9, 5; b.ne 1f; strb w9, [x0]"
-a hash of 5 bytes more that is wrong|v5|Hash(5,)..hash: found/hash: not shown|
+a hash of 5 bytes more that is wrong|v5|5 modulo..hash: found/hash: not shown|
     after x1, "cmp x1, 261; b.ne 1f; mvn x0, x0"
 '''
 # The registers that a call must preserve, by the calling conventions of System V and of Arm, where
@@ -317,74 +326,73 @@ SHIFTS = 'shl r8, cl', 'shr r8, cl', 'sar r8, cl', 'rol r8, cl', 'shld r8, r9, c
 # of it, the register of its address, how many there are, and instructions with `_` in its place.
 ACCESS = {'read': 'cmp {} ptr [{}], 0', 'write': 'mov {} ptr [{}], 0', 'both': 'or {} ptr [{}], 0'}
 ARRAYS = '''
-v5|hash_of(9,)|read rdi 9 rsi
-v5|Hash(0,)|read rdi 128 rsi|read rdi+rsi-64 64|
-    read BYTES 128 LEFT: turn: cmp LEFT, 5000; jne 1f; _; 1:
-v5_init|start_of|write rdi 144
-v5_write|write_of(5, 9)|both rdi 144|read rsi 9 rdx
-v5_write|Write(13,)|both rdi 144|read rsi 50|
-    read BYTES 128: turn: cmp LEFT, 5000; jne 1f; _; 1:|
+v5|, 9 bytes|read rdi 9 rsi
+v5|0 modulo|read rdi 128 rsi|read BYTES 152 LEFT: turn: cmp LEFT, 152; jne 1f; _; 1:
+v5_init||write rdi 144
+v5_write|, 9 bytes, 5 pending|both rdi 144|read rsi 9 rdx
+v5_write|any n|both rdi 144|read rsi 1|read BYTES 150: turn: cmp LEFT, 150; jne 1f; _; 1:|
     read rsi+r9-1 1: after "mov r9, rdx; sub r9, [rdi + 64]; _"
-v5_finish|finish(5, 1)|read rdi 144
-v5_save|save(5,)|read rdi 144|write rsi 73: cmp rdx, 131; jb body; _
-v5_resume|resume(68,)|write rdi 144: after "test al, al; je 1f; _"|read rsi 68 rdx
-v5_rand_next|rand_next()|both rdi 16
-v5_rand_fill|rand_fill(5,)|both rdi 16|write rsi 5 rdx
-v5_rand_fill|Fill|both rdi 16|write OUT+8*INDEX 8: turn: cmp INDEX, 500; jne 1f; _; 1:
-v5_pad|pad(9,)|read rdi 9 rsi|write rdx 16: cmp rcx, 2; jb body; _
-v5_pad|Pad|read rdi+rsi-128 128
-v5_unpad|unpad(2, (0, 1))|read rdi 16 8*rsi|both rdx 8: after "cmp rax, -1; je 1f; _"
-v5_unpad|Unpad((0, 1),)|read rdi 136 8*rsi
+v5_finish|, 5 pending, 1|read rdi 144
+v5_save|, 5 pending|read rdi 144|write rsi 73: cmp rdx, 131; jb body; _
+v5_resume|, 68 bytes|write rdi 144: after "test al, al; je 1f; _"|read rsi 68 rdx
+v5_rand_next||both rdi 16
+v5_rand_fill|, 5 bytes|both rdi 16|write rsi 5 rdx
+v5_rand_fill|any n|both rdi 16|write OUT+8*INDEX 8: turn: cmp INDEX, 500; jne 1f; _; 1:
+v5_pad|, 9 bytes|read rdi 9 rsi|write rdx 16: cmp rcx, 2; jb body; _
+v5_pad|any n|read rdi 128 rsi
+v5_unpad|, 8 bytes, 0 pending, (0, 1)|read rdi 16 8*rsi|both rdx 8: after "cmp rax, -1; je 1f; _"
+v5_unpad|8, (0, 1)|read rdi 136 8*rsi
 '''
 # Wrong outputs on x86-64: a function, a case, and what is found wrong after which instructions.
 OUTPUTS = '''
-v5|hash_of(9,)|hash: bts rax, 63
-v5|Hash(0,)|hash: cmp rsi, 256; jne 1f; bts rax, 63|hash: cmp rsi, 256; je 2f; ret; 2:not rax
-v5|Hash(7,)|hash: cmp rsi, 319; jne 1f; bts rax, 63
-v5|hash_of(256,)|hash: bts rax, 63
-v5|hash_of(319,)|hash: bts rax, 63
-v5_init|start_of|at 0: not byte ptr [rdi]
-v5_write|write_of(5, 0)|at 64: inc byte ptr [rdi + 64]
-v5_write|write_of(5, 3)|at 136: not byte ptr [rdi + 136]|at 16: not byte ptr [rdi + 20]
-v5_write|Write(13,)|at 0: cmp byte ptr [rdi + 64], 0; jne 1f; not byte ptr [rdi]|
+v5|, 9 bytes|hash: bts rax, 63
+v5|0 modulo|hash: cmp rsi, 256; jne 1f; bts rax, 63|hash: cmp rsi, 256; je 2f; ret; 2:not rax
+v5|7 modulo|hash: cmp rsi, 319; jne 1f; bts rax, 63
+v5|, 256 bytes|hash: bts rax, 63
+v5|, 319 bytes|hash: bts rax, 63
+v5_init||at 0: not byte ptr [rdi]
+v5_write|, 0 bytes, 5 pending|at 64: inc byte ptr [rdi + 64]
+v5_write|, 3 bytes, 5 pending|at 136: not byte ptr [rdi + 136]|at 16: not byte ptr [rdi + 20]
+v5_write|any n|at 0: cmp byte ptr [rdi + 64], 0; jne 1f; not byte ptr [rdi]|
     at 0: cmp byte ptr [rdi + 64], 63; jne 1f; not byte ptr [rdi]|
     at 0: cmp rdx, 100; jne 1f; not byte ptr [rdi]
-v5_write|write_of(5, 242)|at 0: not byte ptr [rdi]|at 64: inc byte ptr [rdi + 64]
-v5_finish|finish(5, 1)|hash: xor al, [rdi + 143]
-v5_finish|finish(5, 0)|hash: not rax
-v5_finish|finish(0, 1)|hash: not rax
-v5_save|save(5,)|bytes: test al, al; je 1f; rol qword ptr [rsi + 4], 8|result: inc rax|
+v5_write|, 242 bytes, 5 pending|at 0: not byte ptr [rdi]|at 64: inc byte ptr [rdi + 64]
+v5_finish|, 5 pending, 1|hash: xor al, [rdi + 143]
+v5_finish|, 5 pending, 0|hash: not rax
+v5_finish|, 0 pending, 1|hash: not rax
+v5_save|, 5 pending|bytes: test al, al; je 1f; rol qword ptr [rsi + 4], 8|result: inc rax|
     result: bts rax, 40|result: cmp rax, 1; adc eax, 0|
     result: mov r8d, 7; cmp rdx, 5000; cmovl rax, r8|
     result: mov r8d, 7; cmp rdx, 5000; cmovge rax, r8
-v5_resume|resume(68,)|at 137: test al, al; je 1f; or byte ptr [rdi + 137], 2|result: or eax, 2|
+v5_resume|, 68 bytes|at 137: test al, al; je 1f; or byte ptr [rdi + 137], 2|result: or eax, 2|
     result: or al, 128|result: test al, al; jne 1f; inc eax
-v5_resume|resume(131,)|at 56: test al, al; je 1f; not byte ptr [rdi + 62]
-v5_rand_init|rand_init|s2: inc rdx
-v5_rand_init_with_extra_seed|rand_init|s1: inc rax|s2: inc rdx
-v5_rand_init_words|rand_init|s1: inc rax|s2: inc rdx
-v5_rand_next|rand_next|output: inc rax|s2: not byte ptr [rdi + 8]
-v5_rand_fill|rand_fill(0,)|s1: inc byte ptr [rdi]
-v5_rand_fill|rand_fill(16,)|bytes: rol qword ptr [rsi], 8|s2: not byte ptr [rdi + 8]
-v5_rand_fill|Fill|s1: cmp rdx, 256; jne 1f; mov [rdi], dl|s1: cmp rdx, 383; jne 1f; mov [rdi], dl|
+v5_resume|, 131 bytes|at 56: test al, al; je 1f; not byte ptr [rdi + 62]
+v5_rand_init||s2: inc rdx
+v5_rand_init_with_extra_seed||s1: inc rax|s2: inc rdx
+v5_rand_init_words||s1: inc rax|s2: inc rdx
+v5_rand_next||output: inc rax|s2: not byte ptr [rdi + 8]
+v5_rand_fill|, 0 bytes|s1: inc byte ptr [rdi]
+v5_rand_fill|, 16 bytes|bytes: rol qword ptr [rsi], 8|s2: not byte ptr [rdi + 8]
+v5_rand_fill|any n|s1: cmp rdx, 256; jne 1f; mov [rdi], dl|s1: cmp rdx, 383; jne 1f; mov [rdi], dl|
     bytes: cmp rdx, 255; jne 1f; not byte ptr [rsi + 254]
-v5_rand_fill|rand_fill(255,)|bytes: not byte ptr [rsi + 254]|s1: inc byte ptr [rdi]
-v5_pad|pad(9,)|bytes: test al, al; je 1f; rol qword ptr [rdx], 8
-v5_pad|Pad|length: cmp rsi, 256; jne 1f; neg rax|length: cmp rsi, 383; jne 1f; neg rax|
+v5_rand_fill|, 255 bytes|bytes: not byte ptr [rsi + 254]|s1: inc byte ptr [rdi]
+v5_pad|, 9 bytes|bytes: test al, al; je 1f; rol qword ptr [rdx], 8
+v5_pad|any n|length: cmp rsi, 256; jne 1f; neg rax|length: cmp rsi, 383; jne 1f; neg rax|
     bytes: test rax, rax; je 1f; cmp rsi, 304; jne 1f; not byte ptr [rdx + 304]
-v5_pad|pad(304,)|result: inc rax|bytes: test rax, rax; je 1f; not byte ptr [rdx + 303]
-v5_unpad|unpad(4, (7, 1))|bytes: cmp rax, 31; jne 1f; mov r8, [rdx]; mov r9, [rdx + 16];
+v5_pad|, 304 bytes|length: inc rax|bytes: test rax, rax; je 1f; not byte ptr [rdx + 303]
+v5_unpad|, 24 bytes, 0 pending, (7, 1)|
+    bytes: cmp rax, 31; jne 1f; mov r8, [rdx]; mov r9, [rdx + 16];
     mov [rdx], r9; mov [rdx + 16], r8
-v5_unpad|unpad(33, (1, 1))|result: or al, 128
-v5_unpad|Unpad(None,)|length: cmp rsi, 40; jne 1f; inc rax|length: cmp rsi, 20; jne 1f; inc rax
-v5_unpad|Unpad((7, 1),)|length: cmp rsi, 33; jne 1f; or al, 128|
+v5_unpad|, 256 bytes, 0 pending, (0, 1)|length: or al, 128
+v5_unpad|8, (0, 0)|length: cmp rsi, 40; jne 1f; inc rax|length: cmp rsi, 20; jne 1f; inc rax
+v5_unpad|8, (7, 1)|length: cmp rsi, 33; jne 1f; or al, 128|
     length: cmp rsi, 48; jne 1f; or al, 128
 '''
 # Of instructions that are alike, the function, the reason, what comes before each in its body, what
 # stands for `_`, and these: they change memory, load 16 bytes, also if they need fewer, or access
 # memory by the stack pointer.
 ALIKE = {
-    'x86-64': ('v5_finish', 'finish(5, 1)..only read', 'cmp rdi, rdi; ', '[rdi + 64]', '''
+    'x86-64': ('v5_finish', ', 5 pending, 1..only read', 'cmp rdi, rdi; ', '[rdi + 64]', '''
         inc byte ptr _; dec byte ptr _; not byte ptr _; neg byte ptr _; add _, al; or _, al
         adc _, al; and _, al; sub _, al; xor _, al; rol byte ptr _, 1; shl byte ptr _, 1
         shr byte ptr _, 1; sar byte ptr _, 1; shld _, rax, 1; sete byte ptr _; mov _, al
@@ -407,7 +415,7 @@ ROLES = {'FACTOR': r'mulx?q\t%(\w+)', 'LANE': r'addq\t%(\w+), %', 'BYTES': r'\t5
          'LEFT': r'(?:cmpq\t\$\d+, %|sub\t\w+, )(\w+)(?:\n\tja|, #128)',
          'OUT': r'\(%(\w+),%\w+,8\)', 'INDEX': r'\(%\w+,%(\w+),8\)',
          'COUNT': r'cmpq\t%\w+, %(\w+)\n\tjne'}
-OUTPUTS += 'v5_start|start_of|address of the struct: inc rax' + ''.join(
+OUTPUTS += 'v5_start||address of the struct: inc rax' + ''.join(
     f'|at {k & -8}: not byte ptr [rdi + {k}]' for k in (*range(7, 136, 8), 136))
 # Assembly, marks after which bodies begin, the syntax of bodies and of the rest, macros and rows.
 KINDS = {'x86-64': ('x86_64', '\tendbr64\n', '.intel_syntax noprefix\n', '.att_syntax\n', V2),
@@ -422,7 +430,7 @@ def table(level):
               for one, body in SAVED.get(level, ())),
             *of_flags(*FLAGS.get(level, ('', ''))),
             *of_instructions(*ALIKE[level]),
-            *([f'flags of {do}', 'v5_save', 'save(5,)..flag c is read',
+            *([f'flags of {do}', 'v5_save', ', 5 pending..flag c is read',
                f'mov rcx, rdx; cmp rax, rax; {do}; jc 1f; 1:']
               for do in SHIFTS if level == 'x86-64'),
             *([*of_arrays(), *of_outputs()] if level == 'x86-64' else ())]
@@ -458,12 +466,13 @@ def of_arrays():
         for words, _, body in (array.partition(': ') for array in arrays):
             kind, base, *sizes = words.split()
             ends, access = [f'{base} + {size}' for size in sizes], ACCESS[kind].format
+            outside = 'in no array/bytes: the bytes [-' if kind == 'write' else 'in no array'
             rows = [(f'{kind} {base}', '', '; '.join(access('byte', f'{end} - 1') for end in ends)),
-                    *((f'{kind} {place}', 'in no array', access('byte', place))
+                    *((f'{kind} {place}', outside, access('byte', place))
                       for place in (f'{base} - 1', *ends)),
-                    *((f'{kind} over {place}', 'in no array', access('qword', f'{place} - 7'))
+                    *((f'{kind} over {place}', outside, access('qword', f'{place} - 7'))
                       for place in (f'{base} + 6', *ends)),
-                    *((f'a jump by {at}', 'depends on/2 ways/no exit',
+                    *((f'a jump by {at}', 'depends on/no exit',
                        f'cmp byte ptr [{at}], 1; je 3f; 3:') for at in (base, f'{ends[-1]} - 1')
                       if kind != 'write' and function not in ('v5_resume', 'v5_unpad')),
                     *((f'write {place}', 'only read', ACCESS['both'].format('byte', place))

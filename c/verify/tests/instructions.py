@@ -1,10 +1,12 @@
-"""Compares single instructions with the processor: random ones of each encoding in opcodes.py, and
+"""Compares single instructions with the processor: random ones of each encoding that is known, and
 those of libraries. They are run in the model and really, and must leave the same registers, flags
 and memory, and go on at the same address. Each encoding must be compared, with each conditional
 jump both ways, and both values of each flag: instructions.py LEVEL[:LIBRARY].. COMPILER [EMULATOR].
+Capstone must read all that is compared, and know nothing of other encodings in the table for ARM64.
 """
 import collections
 import functools
+import itertools
 import os
 import pathlib
 import random
@@ -13,32 +15,33 @@ import subprocess
 import sys
 import tempfile
 import types
-from unittest import mock
 from rows import Row, count
 import aarch64
+import capstone
 import machine
 import x86_64
 import z3
-from capstone import CS_OP_IMM, CS_OP_MEM, Cs
 from cases import PROCESSORS, Library, Ours, open_library
 from definition import Products
 from elf import EXECUTE
 from memory import MustSplit
-from opcodes import KNOWN_ARM64, KNOWN_X86, MAP_OF_VEX, PREFIX_OF_VEX, PREFIXES
+from opcodes import KNOWN_X86, MAP_OF_VEX, PREFIX_OF_VEX, PREFIXES
 from terms import Refused, Unknown, bv, const, simple
 
 # How many codes are tried for an encoding, and for each, how many that only resemble it; and how
 # many are compared: FEW, or MANY if it jumps, since a jump of ARM64 may have the number of a bit.
 X86, ARM = PROCESSORS.values()
-TRIES, NEAR, FEW, MANY = 6000, 4, {X86: 16, ARM: 20}, {X86: 32, ARM: 384}
+TRIES, NEAR, FEW, MANY = {X86: 6000, ARM: 1000}, 4, {X86: 16, ARM: 20}, {X86: 32, ARM: 384}
 # How often an instruction of a library is run, and flags that an instruction always sets so.
-TIMES, FIXED = 8, {'shr': {'s'}, **dict.fromkeys(
-    ('and', 'or', 'xor', 'test', 'andn', 'ands', 'tst'), {'c', 'v'})}
+TIMES, FIXED = 8, {'shr': 's', **dict.fromkeys('and or xor test andn and/orr'.split(), 'cv')}
 # Flags that Intel's or AMD's manual leaves undefined, and of which processors keep some.
 UNDEFINED = {X86: {'bt': 'zsl', 'bts': 'zsl', 'bsr': 'scl', 'lzcnt': 'sl', 'mul': 'zsl'}, ARM: {}}
 OTHER_PREFIXES = *PREFIXES, 0x26, 0x36, 0x3e, 0x64, 0x65, 0xf0
-# A version of capstone prints only one of the first two, or `orr` for the last.
-NEVER = {'bti', 'hint', 'mov .01100100.............11111.....'}
+DECODERS = {X86: x86_64.DECODER, ARM: capstone.Cs(capstone.CS_ARCH_ARM64, capstone.CS_MODE_ARM)}
+DECODERS[ARM].detail = True
+# Where capstone knows no instruction; and how names end that have rows for ARM64, but no meaning.
+NOTHING = types.SimpleNamespace(mnemonic='', op_str='', operands=())
+NO_MEANING = 'vs', 'vc', 'al', 'nv', 'prfm', 'prfum', 'ldpsw'
 # The program reads and writes images, at BASE: memory that an instruction may access, from SAVED on
 # registers, from CODE on the instruction, which runs at START, and most often with POINTER as sp.
 BASE, SAVED, CODE, SIZE = 2**32, 512, 2032, 2048
@@ -84,18 +87,22 @@ int main(void) {
 }
 '''
 WHOLE = {X86: lambda name: x86_64.REGISTERS.get(name, [None])[0],
-         ARM: lambda name: aarch64.register(name)[0]}
+         ARM: lambda name: {'fp': 'x29', 'lr': 'x30'}.get(name, name)}
 # The bits of zero, sign, carry and overflow; a byte that begins no instruction; and the order in
 # which an image has registers of 64 bits, the address of the next instruction, and the flags.
 BITS, STOP = {X86: (6, 7, 0, 11), ARM: (30, 31, 29, 28)}, {X86: 6, ARM: 0}
 WORDS = {X86: 'r8 r9 r10 r11 r12 r13 r14 r15 rdi rsi rbp rbx rdx rax rcx rsp at flags'.split(),
          ARM: [*(f'x{n}' for n in range(31)), 'sp', 'at', 'flags']}
-# The encodings that are allowed, by mnemonic.
-KNOWN = {X86: {name.replace('_', ' '): some for name, some in KNOWN_X86['x86-64-v3'].items()},
-         ARM: {name: some.pattern.split('|') for name, some in KNOWN_ARM64.items()}}
-KNOWN[ARM].update(dict.fromkeys(
-    (f'b.{name}' for name in 'eq ne hs lo mi pl hi ls ge lt gt le'.split()), KNOWN[ARM].pop('b.')))
 MARCH = 'generic64+ibt', 'generic64+ibt+sse4.2', 'generic64+ibt+avx2+bmi+bmi2+lzcnt'
+
+
+def encodings(kind):
+    """Names and an encoding of each; for ARM64, all that capital letters stand for in a row."""
+    if kind is X86:
+        return [(name.replace('_', ' '), one) for name, some in KNOWN_X86['x86-64-v3'].items()
+                for one in sorted(some)]
+    return [(row.name, re.sub('[a-z]', '.', ''.join(bits))) for row in aarch64.ROWS
+            for bits in itertools.product(*('01' if bit.isupper() else bit for bit in row.bits))]
 
 
 def x86_code(r, encoding, _, near):
@@ -134,7 +141,7 @@ def arm_code(r, encoding, number, near):
     for bit in ends[number] if number < 4 else f'{number * 37 % 64:06b}':
         encoding = encoding.replace('.', bit, 1)
     operands, same = r.getrandbits(32), 33 * r.choice([31, number * 37 % 32])
-    whole = operands & ~(4095 << 10) | r.choice([31, 63]) << 10
+    whole = operands & ~(4095 << 10) | r.choice([0, 31, 63]) << 10
     operands = f'{r.choice([operands, operands & -1024 | same, whole]):032b}'
     bits = ''.join(bit if given == '.' else given for given, bit in zip(encoding, operands))
     return (int(bits, 2) ^ near * other).to_bytes(4, 'little')
@@ -143,19 +150,19 @@ def arm_code(r, encoding, number, near):
 def random_image(r, kind, i, flags, some):
     """An image before an instruction, in which an address of it is likely to lie. The bits of a
     number say which flags are set, and the rest of memory and of vectors is random bytes."""
-    number = [*(op.imm for op in i.ops if op.type == CS_OP_IMM), 0][0]
-    likely = [0, 2**32, 2**63, 2**64 - 1, POINTER, number, -number, *[1 << number % 64] * 2]
+    number = [*(op.imm for op in i.read.operands if op.type == capstone.CS_OP_IMM), 0][0]
+    likely = [0, 2**31, 2**32, 2**63, 2**64 - 1, POINTER, number, -number, *[1 << number % 64] * 2]
     values = {name: r.choice([*likely, ~likely[-1], r.getrandbits(6), *[r.getrandbits(64)] * 3])
               for name in WORDS[kind]}
     back = POINTER + 4 * r.randrange(-50, 50)
     values.update({kind.SP: POINTER, 'x30': back, 'at': START, 'flags': sum(
         (flags >> k & 1) << bit for k, bit in enumerate(BITS[kind]))})
-    for op in (op for op in i.ops if op.type == CS_OP_MEM):
-        m, index = op.mem, r.getrandbits(64)
-        scaled = index * (m.scale if kind is X86 else 1 << op.shift.value) if m.index else 0
-        base = POINTER + r.choice([1, 8, 16]) * r.randrange(8) - m.disp - scaled
-        for register, value in ((m.index, index), (m.base, base)):
-            values[WHOLE[kind](i.reg_name(register)) if register else None] = value
+    for op in (op for op in i.read.operands if op.type == capstone.CS_OP_MEM):
+        index, base = (WHOLE[kind](i.read.reg_name(one)) if one else None
+                       for one in (op.mem.index, op.mem.base))
+        scaled = r.getrandbits(64) if index in values else 0
+        values.update({index: scaled, base: POINTER + r.choice([1, 8, 16]) * r.randrange(8) - (
+            op.mem.disp + scaled * (op.mem.scale if kind is X86 else 1 << op.shift.value))})
     words = b''.join((values[name] % 2**64).to_bytes(8, 'little') for name in WORDS[kind])
     image = some[:POINTER - BASE] + back.to_bytes(8, 'little')
     image += some[len(image):SAVED] + words
@@ -235,30 +242,27 @@ def in_model(kind, i, image):
 
 def is_simple(i):
     """Whether an instruction has one operand in memory, by registers that it doesn't change."""
-    of_memory = [op.mem for op in i.ops if op.type == CS_OP_MEM]
-    return len(of_memory) == 1 and of_memory[0].base and of_memory[0].base != of_memory[0].index \
-        and 'ip' not in i.reg_name(of_memory[0].base) and \
-        i.mnemonic.split()[0] not in ('rep', 'push', 'pop', 'call')
+    places = [op.mem for op in i.read.operands if op.type == capstone.CS_OP_MEM]
+    return len(places) == 1 and places[0].base not in (0, places[0].index) and \
+        'ip' not in i.read.reg_name(places[0].base) and \
+        not re.match('rep |push|pop|call|prf|ldpsw', i.read.mnemonic)
 
 
 class Runs:
-    """Runs of instructions in the model, the ways that they must go and went, and for each text the
-    levels whose processors should have it."""
+    """Runs of instructions in the model, the ways that they must go and went, and their texts."""
 
     def __init__(self, kind, level, seed):
         self.kind, self.level, self.r = kind, level, random.Random(seed)
-        self.decoder, self.some = Cs(*kind.DECODER), self.r.randbytes(CODE)
-        self.decoder.detail = True
         self.list, self.ways, self.known = [], collections.defaultdict(set), {}
+        self.some = self.r.randbytes(CODE)
 
     def decoded(self, code):
-        """An instruction, if it is allowed."""
-        i = next(self.decoder.disasm(code, START), None)
+        """An instruction, if it is allowed, and with it what capstone reads."""
+        i = self.kind.decode(code[:self.kind.LONGEST], START)
         if i is None or not self.kind.is_known(i, self.level):
             return None
-        i.ops, i.text = i.operands, i.op_str
-        self.known[f'{i.mnemonic} {i.text}'.replace('cs:', '')] = \
-            [level for level in self.kind.LEVELS if self.kind.is_known(i, level)]
+        i.read = next(DECODERS[self.kind].disasm(code, START), NOTHING)
+        self.known[f'{i.mnemonic} {i.text}'.replace('cs:', '')] = i
         return i
 
     def add(self, i, number, ways):
@@ -272,8 +276,10 @@ class Runs:
             if f'{why}'.endswith('another address') and is_simple(i):
                 self.ways[f'{told(i)}, which the model has at another address'] = set()
             return None
+        if i.read is NOTHING:
+            self.ways[f'{told(i)}, which capstone does not know'] = set()
         ways[f'{i.mnemonic}, taken'].add(taken)
-        for flag in flags.keys() - FIXED.get(i.mnemonic, ()):
+        for flag in flags.keys() - FIXED.get(i.mnemonic, ''):
             if flags[flag] is not None:
                 ways[f'{i.mnemonic}, flag {flag}'].add(bool(flags[flag]))
         for flag in UNDEFINED[self.kind].get(i.mnemonic, ''):
@@ -282,24 +288,22 @@ class Runs:
         self.list.append((told(i), image, after))
         return taken is not None or after['at'] != START + i.size
 
-    def of_encoding(self, names, encoding):
+    def of_encoding(self, name, encoding):
         """Runs random instructions with an encoding, and some near it, until each way is met."""
-        count, code = 0, x86_code if self.kind is X86 else arm_code
-        for name in names:
-            if encoding in KNOWN[self.kind][name] and not {name, f'{name} {encoding}'} & NEVER:
-                self.ways[f'{name}, taken'] = set()
-        for number in range(TRIES * NEAR):
-            near = number % NEAR > 0
-            i = self.decoded(code(self.r, encoding, number // NEAR, near))
-            if i is None or i.mnemonic not in names:
+        count, reserved, self.ways[f'{name}, taken'] = 0, self.kind is ARM, set()
+        for number in range(TRIES[self.kind] * NEAR):
+            near, make = number % NEAR > 0, x86_code if self.kind is X86 else arm_code
+            i = self.decoded(make(self.r, encoding, number // NEAR, near))
+            if i is None or not near and i.mnemonic != name:
                 continue
+            reserved &= near or i.read is NOTHING or i.read.mnemonic.endswith(NO_MEANING)
             jumps = self.add(i, count, collections.defaultdict(set) if near else self.ways)
             count += not near and jumps is not None
             if not near and jumps is not None and count >= (MANY if jumps else FEW)[self.kind] and \
-                    not self.missing():
+                    not self.missing() or reserved and number > 64 * NEAR:
                 break
-        if not count:
-            self.ways[encoding] = set()
+        if reserved:
+            del self.ways[f'{name}, taken']
 
     def of_codes(self, codes):
         """Runs instructions as they stand."""
@@ -317,17 +321,20 @@ class Runs:
 
 
 def told(i):
-    return f'{i.mnemonic} {i.text} ({i.bytes.hex()})'
+    return f'{i.read.mnemonic} {i.read.op_str} ({i.bytes.hex()})'
 
 
 def differences(kind, level, command, run, *given):
     """Runs instructions in the model and on the processor. Returns what differs, what was not
     compared, and what should not be allowed; or None."""
-    with mock.patch.multiple(machine, LOADED=bv(0)), mock.patch.multiple(x86_64, LOADED=bv(0)), \
-            mock.patch.multiple(aarch64, LOADED=bv(0)):
-        runs = Runs(kind, level, f'{given[-1]}' + os.environ.get('SEED', ''))
-        run(runs, *given)
-    replies = replies_of([image for _, image, _ in runs.list], command)
+    machine.LOADED = x86_64.LOADED = aarch64.LOADED = bv(0)
+    runs = Runs(kind, level, f'{given[-1]}' + os.environ.get('SEED', ''))
+    run(runs, *given)
+    done = subprocess.run(
+        ['timeout', '600', *command], input=b''.join(image for _, image, _ in runs.list),
+        stdout=subprocess.PIPE, check=False).stdout
+    # The first is what the program left before it ran an instruction.
+    replies = [done[k:k + SIZE] for k in range(SIZE, len(done) - SIZE + 1, SIZE)]
     failed = [f'{text}: {what} is {after[what]:#x} in the model, and {real:#x} really'
               for (text, _, after), image in zip(runs.list, replies)
               for what, real in numbers(kind, image).items() if after[what] not in (None, real)]
@@ -342,18 +349,10 @@ def built(kind, compiler, path):
     return path
 
 
-def replies_of(images, command):
-    """What the processor leaves of each image."""
-    done = subprocess.run(['timeout', '600', *command], input=b''.join(images),
-                          stdout=subprocess.PIPE, check=False).stdout
-    # The first is what the program left before it ran an instruction.
-    return [done[k:k + SIZE] for k in range(SIZE, len(done) - SIZE + 1, SIZE)]
-
-
 def lacking(known):
     """Which instructions are allowed for a level whose processors lack them."""
     for level, march in zip(X86.LEVELS, MARCH):
-        texts = sorted(text for text, levels in known.items() if level in levels)
+        texts = sorted(text for text, i in known.items() if X86.is_known(i, level))
         said = subprocess.run(
             ['as', '-msyntax=intel', '-mnaked-reg', f'-march={march}', '-o', os.devnull],
             input=''.join(f'{text}\n' for text in texts), text=True, stderr=subprocess.PIPE,
@@ -365,25 +364,26 @@ def lacking(known):
 def codes_of(path, level):
     """The different instructions of a library."""
     image = open_library(pathlib.Path(path).read_bytes(), level)
-    image.decoder.skipdata = True
+    decoder = capstone.Cs(DECODERS[image.processor].arch, DECODERS[image.processor].mode)
+    decoder.skipdata = True
     return {bytes(i.bytes) for part in image.elf.parts if part.flags & EXECUTE
-            for i in image.decoder.disasm(part.data, part.start)}
+            for i in decoder.disasm(part.data, part.start)}
 
 
 def rows(folder, libraries, compiler, *emulator):
     """For each encoding, its random instructions, and those of libraries as they stand."""
     level, *paths = libraries.split(':')
     kind = next(kind for kind in PROCESSORS.values() if level in kind.LEVELS)
-    names = {name for name in kind.TABLE if name in KNOWN[kind]}
     program = pathlib.Path(folder, f'{level}.program')
     if not program.exists():
         os.replace(built(kind, compiler, f'{program}.{os.getpid()}'), program)
     command = [*emulator, program]
     do = functools.partial(functools.partial, differences, kind, level, command)
-    yield Row(f'{level}, what is allowed and has no meaning', '[]',
-              lambda: sorted(KNOWN[kind].keys() - kind.TABLE.keys()))
-    for encoding in sorted({one for name in names for one in KNOWN[kind][name]}):
-        yield Row(f'{level}, {encoding}', 'None', do(Runs.of_encoding, names, encoding))
+    yield Row('rows of the table for ARM64 that fit the same bits', '[]', lambda: [
+        (one.bits, other.bits) for one, other in itertools.combinations(aarch64.ROWS, 2)
+        if not any({*bits} == {'0', '1'} for bits in zip(one.bits, other.bits))])
+    for name, encoding in encodings(kind):
+        yield Row(f'{level}, {name} {encoding}', 'None', do(Runs.of_encoding, name, encoding))
     codes = sorted(set().union(*(codes_of(path, level) for path in paths)))
     for k in range(0, len(codes), 32):
         yield Row(f'{level}, instructions from {k} on', 'None',

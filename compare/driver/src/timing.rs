@@ -1,19 +1,15 @@
 //! Times calls in batches. The columns of a row take turns.
-#[path = "random.rs"]
-mod random;
-
-pub use random::Random;
 use std::arch::asm;
 use std::hint::black_box;
 use std::ops::Range;
-use std::sync::atomic::{AtomicUsize, Ordering::Relaxed};
+use std::sync::atomic::{AtomicU64, Ordering::Relaxed};
 use std::time::{Duration, Instant};
 
 /// A batch takes half of this time or more. Three must, since an interrupt may make one seem long.
 const BATCH: Duration = Duration::from_micros(60);
 
-/// How many random numbers a list has.
-const MANY: usize = 1 << 20;
+/// How many numbers are drawn for a column: more than it needs in 250 repeats.
+const MANY: usize = 1 << 21;
 
 /// Returns the time of a number of calls.
 pub type Column<'a> = Box<dyn FnMut(u32) -> Duration + 'a>;
@@ -48,10 +44,10 @@ pub fn hide<T: Copy>(value: T) -> T {
     }
 }
 
-/// Lengths with the name of their rows. Their number is a power of two.
+/// Lengths with the name of their rows.
 pub struct Lengths {
     pub name: String,
-    pub list: Vec<u32>,
+    pub range: Range<usize>,
 }
 
 impl Lengths {
@@ -61,18 +57,18 @@ impl Lengths {
             10.. => format!("{} KiB", length >> 10),
             _ => format!("{length} byte{}", if length == 1 { "" } else { "s" }),
         };
-        Lengths { name, list: vec![length as u32] }
+        Lengths { name, range: length..length + 1 }
     }
 
     pub fn random(range: Range<usize>) -> Self {
         let name = format!("{} to {} bytes, random lengths", range.start, range.end - 1);
-        Lengths { name, list: random(range) }
+        Lengths { name, range }
     }
 
     /// Returns what returns hidden messages of these lengths in turn. Each begins where the one
     /// before ended, in a window whose size is a power of two.
-    pub fn messages<'a>(&'a self, bytes: &'a [u8], window: usize) -> impl FnMut() -> &'a [u8] {
-        let (mut length, mut start) = (in_turn(&self.list), 0);
+    pub fn messages<'a>(&self, bytes: &'a [u8], window: usize) -> impl FnMut() -> &'a [u8] {
+        let (mut length, mut start) = (in_turn(&self.range), 0);
         move || {
             let end = start + length();
             let message = &bytes[start..end];
@@ -82,20 +78,34 @@ impl Lengths {
     }
 }
 
-/// Draws numbers.
-pub fn random(range: Range<usize>) -> Vec<u32> {
-    let mut random = Random(range.end as u64);
-    (0..MANY).map(|_| (range.start + random.below(range.len())) as u32).collect()
-}
-
-/// Returns what returns the numbers of a list in turn. Each begins elsewhere: caches and the branch
-/// predictor know what another column has just met.
-pub fn in_turn(list: &[u32]) -> impl FnMut() -> usize {
-    static START: AtomicUsize = AtomicUsize::new(0);
-    let mut turn = START.fetch_add(MANY / 4, Relaxed);
+/// Draws numbers, and returns what returns them in turn. None draws what another one has, because
+/// the branch predictor may know what another column has just met.
+pub fn in_turn(range: &Range<usize>) -> impl FnMut() -> usize + use<> {
+    static SEED: AtomicU64 = AtomicU64::new(0);
+    let mut random = Random(SEED.fetch_add(1, Relaxed));
+    let many = if range.len() > 1 { MANY } else { 1 };
+    let list: Vec<_> = (0..many).map(|_| random.within(range) as u32).collect();
+    let mut turn = 0;
     move || {
         turn += 1;
         list[turn & (list.len() - 1)] as usize
+    }
+}
+
+/// The generator SplitMix64.
+pub struct Random(pub u64);
+
+impl Random {
+    pub fn word(&mut self) -> u64 {
+        self.0 = self.0.wrapping_add(0x9e37_79b9_7f4a_7c15);
+        let mut word = self.0;
+        word = (word ^ word >> 30).wrapping_mul(0xbf58_476d_1ce4_e5b9);
+        word = (word ^ word >> 27).wrapping_mul(0x94d0_49bb_1331_11eb);
+        word ^ word >> 31
+    }
+
+    fn within(&mut self, range: &Range<usize>) -> usize {
+        range.start + (u128::from(self.word()) * range.len() as u128 >> 64) as usize
     }
 }
 

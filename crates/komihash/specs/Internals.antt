@@ -68,7 +68,7 @@ tail_end v [] had_block top_bit = end_after_blocks had_block top_bit
 
 -- the pair (a, e) of what the code stores: a xor e, and e
 abbrev pub pair_of : XoredPair → ℕ × ℕ
-pair_of p = (bit_xor p.1 p.0, p.1)
+pair_of p = (bit_xor p.e p.low, p.e)
 
 -- ---- pending bytes: in eight words, with zeros after the last byte
 

@@ -10,7 +10,6 @@ ghost use Rattle.komihash.specs.Counts.{Costs, hash_products};
 ghost use Rattle.komihash.specs.Hash.{komi};
 
 use crate::padding::{final_word_of_many, padding_byte};
-use crate::rounds::words::{hash_from_pair, last_whole_word};
 use crate::rounds::{
     absorb_blocks, absorb_first_block, absorb_only_block, close, join, lanes_of, pair_round,
     seed_pair,
@@ -18,6 +17,7 @@ use crate::rounds::{
 use crate::tally::Tally;
 use crate::utils::{read_partial_word, read_word, word_at};
 use crate::version::{IsVersion, Versions};
+use crate::whole_words::{hash_from_pair, last_whole_word};
 
 // Inlined, but not in C.
 #[inline(never)]
@@ -106,7 +106,7 @@ fn hash_of_blocks<const V: u8>(bytes: &[u8], seed: u64, tally: &mut Tally) -> u6
     let final_word = final_word_of_many(bytes, padding_byte::<V>(bytes));
     let mut lanes = lanes_of(pair);
     // Two blocks need no loop either.
-    let rest = if bytes.len() < 192 {
+    let rest: &[u8] = if bytes.len() < 192 {
         let after = absorb_first_block::<V>(&mut lanes, bytes, tally);
         absorb_only_block::<V>(&mut lanes, after, tally)
     } else {

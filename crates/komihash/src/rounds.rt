@@ -16,9 +16,6 @@ use crate::tally::Tally;
 use crate::utils::{multiply128, word_at};
 use std::marker::Model;
 
-pub(crate) mod pending;
-pub(crate) mod words;
-
 // The hash's eight constants: the first 512 bits of the fractional part of π.
 const C1: u64 = 0x243f_6a88_85a3_08d3;
 
@@ -36,14 +33,17 @@ const C7: u64 = 0xc0ac_29b7_c97c_50dd;
 
 const C8: u64 = 0x3f84_d5b5_b547_0917;
 
-/// The pair (a, e), stored as `.0 = a ^ e` and `.1 = e`.
+/// The pair (a, e), stored as `low`, which is a ^ e, and `e`.
 ///
-/// After a product, `.0` is its low half, and `.1` the word to which its high half was added. The
+/// After a product, `low` is its low half, and `e` the word to which its high half was added. The
 /// word a is computed only for a factor and as the hash, so the way from one product to the next is
-/// one xor shorter. `Lanes` has pairs of other words.
+/// one xor shorter. The eight lanes are pairs of other words.
 #[repr(C)]
 #[derive(Clone, Copy)]
-pub(crate) struct XoredPair(u64, u64);
+pub(crate) struct XoredPair {
+    low: u64,
+    e: u64,
+}
 
 /// The eight lanes as the code stores them: four pairs in a ring, one for each product of a block.
 ///
@@ -62,29 +62,29 @@ impl Model for Lanes {
     ghost Value = { Lanes };
 
     ghost view = { λ l. record {
-      s1 = bit_xor l.fourth.1 l.first.0;
-      s2 = bit_xor l.first.1 l.second.0;
-      s3 = bit_xor l.second.1 l.third.0;
-      s4 = bit_xor l.third.1 l.fourth.0;
-      s5 = l.first.1;
-      s6 = l.second.1;
-      s7 = l.third.1;
-      s8 = l.fourth.1;
+      s1 = bit_xor l.fourth.e l.first.low;
+      s2 = bit_xor l.first.e l.second.low;
+      s3 = bit_xor l.second.e l.third.low;
+      s4 = bit_xor l.third.e l.fourth.low;
+      s5 = l.first.e;
+      s6 = l.second.e;
+      s7 = l.third.e;
+      s8 = l.fourth.e;
     } };
 
     ghost inverse = { λ s. record {
-      fourth = record { 0 = bit_xor s.s7 s.s4; 1 = s.s8 };
-      first = record { 0 = bit_xor s.s8 s.s1; 1 = s.s5 };
-      second = record { 0 = bit_xor s.s5 s.s2; 1 = s.s6 };
-      third = record { 0 = bit_xor s.s6 s.s3; 1 = s.s7 };
+      fourth = record { low = bit_xor s.s7 s.s4; e = s.s8 };
+      first = record { low = bit_xor s.s8 s.s1; e = s.s5 };
+      second = record { low = bit_xor s.s5 s.s2; e = s.s6 };
+      third = record { low = bit_xor s.s6 s.s3; e = s.s7 };
     } };
 
     ghost inverse_ok = { λ l _.
         rw (
-          xor_again l.third.1 l.fourth.0,
-          xor_again l.fourth.1 l.first.0,
-          xor_again l.first.1 l.second.0,
-          xor_again l.second.1 l.third.0,
+          xor_again l.third.e l.fourth.low,
+          xor_again l.fourth.e l.first.low,
+          xor_again l.first.e l.second.low,
+          xor_again l.second.e l.third.low,
         ) refl };
 }
 
@@ -93,12 +93,15 @@ impl Model for Lanes {
 #[tactic(auto, unfolding(crate::specs::Rounds::mix))]
 pub(crate) const fn mix(x: u64, y: u64, e: u64, tally: &mut Tally) -> XoredPair
     ensures pair { pair_of result ≡ mix x y e }
-    ensures low { result.0 ≡ low (x * y) }
-    ensures raised { result.1 ≡ plus e (high (x * y)) }
+    ensures low { result.low ≡ low (x * y) }
+    ensures raised { result.e ≡ plus e (high (x * y)) }
     ensures costs { Costs tally 1 0 }
 {
     let (low, high) = multiply128(x, y, tally);
-    XoredPair(low, e.wrapping_add(high))
+    XoredPair {
+        low,
+        e: e.wrapping_add(high),
+    }
 }
 
 #[inline(always)]
@@ -125,12 +128,23 @@ pub(crate) const fn seed_pair(seed: u64, tally: &mut Tally) -> XoredPair
 pub(crate) const fn lanes_of(pair: XoredPair) -> Lanes
     ensures { result ≡ lanes (pair_of pair) }
 {
-    let XoredPair(low, e) = pair;
     Lanes {
-        fourth: XoredPair((C4 ^ C7) ^ low, C8 ^ e),
-        first: XoredPair(C8 ^ low, e),
-        second: XoredPair(C2 ^ low, C6 ^ e),
-        third: XoredPair((C3 ^ C6) ^ low, C7 ^ e),
+        fourth: XoredPair {
+            low: (C4 ^ C7) ^ pair.low,
+            e: C8 ^ pair.e,
+        },
+        first: XoredPair {
+            low: C8 ^ pair.low,
+            e: pair.e,
+        },
+        second: XoredPair {
+            low: C2 ^ pair.low,
+            e: C6 ^ pair.e,
+        },
+        third: XoredPair {
+            low: (C3 ^ C6) ^ pair.low,
+            e: C7 ^ pair.e,
+        },
     }
 }
 
@@ -139,9 +153,20 @@ pub(crate) const fn lanes_of(pair: XoredPair) -> Lanes
 pub(crate) fn in_order(lanes: &Lanes) -> [u64; 8]
     ensures { result ≡ in_order lanes.now }
 {
-    let (XoredPair(low4, e4), XoredPair(low1, e1)) = (lanes.fourth, lanes.first);
-    let (XoredPair(low2, e2), XoredPair(low3, e3)) = (lanes.second, lanes.third);
-    [e4 ^ low1, e1 ^ low2, e2 ^ low3, e3 ^ low4, e1, e2, e3, e4]
+    let fourth = lanes.fourth;
+    let first = lanes.first;
+    let second = lanes.second;
+    let third = lanes.third;
+    [
+        fourth.e ^ first.low,
+        first.e ^ second.low,
+        second.e ^ third.low,
+        third.e ^ fourth.low,
+        first.e,
+        second.e,
+        third.e,
+        fourth.e,
+    ]
 }
 
 /// Returns the lanes from their words in that order.
@@ -150,12 +175,23 @@ pub(crate) fn in_order(lanes: &Lanes) -> [u64; 8]
 pub(crate) fn from_order(lanes: &[u64; 8]) -> Lanes
     ensures { in_order result ≡ lanes.now }
 {
-    let [s1, s2, s3, s4, s5, s6, s7, s8] = *lanes;
     Lanes {
-        fourth: XoredPair(s7 ^ s4, s8),
-        first: XoredPair(s8 ^ s1, s5),
-        second: XoredPair(s5 ^ s2, s6),
-        third: XoredPair(s6 ^ s3, s7),
+        fourth: XoredPair {
+            low: lanes[6] ^ lanes[3],
+            e: lanes[7],
+        },
+        first: XoredPair {
+            low: lanes[7] ^ lanes[0],
+            e: lanes[4],
+        },
+        second: XoredPair {
+            low: lanes[4] ^ lanes[1],
+            e: lanes[5],
+        },
+        third: XoredPair {
+            low: lanes[5] ^ lanes[2],
+            e: lanes[6],
+        },
     }
 }
 
@@ -186,20 +222,21 @@ pub(crate) fn block_round(
     ensures lanes { lanes.new ≡ block_round_by places lanes.old words.now }
     ensures costs { Costs tally 4 0 }
 {
-    let (XoredPair(low4, e4), XoredPair(low1, e1)) = (lanes.fourth, lanes.first);
-    let (XoredPair(low2, e2), XoredPair(low3, e3)) = (lanes.second, lanes.third);
-    let [p0, p1, p2, p3, p4, p5, p6, p7] = places;
+    let fourth = lanes.fourth;
+    let first = lanes.first;
+    let second = lanes.second;
+    let third = lanes.third;
     // These factors are made before the first product, so that each sum may overwrite its word e.
     // Each takes the low half of a product first, which is ready before the sum that follows.
     // In this order of products a block takes the fewest instructions.
-    let x2 = (words[p2] ^ low2) ^ e1;
-    let x3 = (words[p4] ^ low3) ^ e2;
-    let x1 = (words[p0] ^ low1) ^ e4;
-    let x4 = (words[p6] ^ low4) ^ e3;
-    lanes.second = mix(words[p3] ^ e2, x2, e2, tally);
-    lanes.first = mix(words[p1] ^ e1, x1, e1, tally);
-    lanes.third = mix(words[p5] ^ e3, x3, e3, tally);
-    lanes.fourth = mix(words[p7] ^ e4, x4, e4, tally);
+    let x2 = (words[places[2]] ^ second.low) ^ first.e;
+    let x3 = (words[places[4]] ^ third.low) ^ second.e;
+    let x1 = (words[places[0]] ^ first.low) ^ fourth.e;
+    let x4 = (words[places[6]] ^ fourth.low) ^ third.e;
+    lanes.second = mix(words[places[3]] ^ second.e, x2, second.e, tally);
+    lanes.first = mix(words[places[1]] ^ first.e, x1, first.e, tally);
+    lanes.third = mix(words[places[5]] ^ third.e, x3, third.e, tally);
+    lanes.fourth = mix(words[places[7]] ^ fourth.e, x4, fourth.e, tally);
 }
 
 #[inline(always)]
@@ -240,7 +277,8 @@ pub(crate) fn absorb_first_block<'a, const V: u8>(
     rest
 }
 
-/// Does what `absorb_blocks` does for bytes with one whole block, and so without a loop.
+/// Does what `absorb_blocks` does for bytes with one whole block, and so without a loop. It is apart
+/// from `absorb_first_block` for its proof alone.
 #[inline(always)]
 #[tactic(auto, using(crate::proofs::Blocks::no_block))]
 pub(crate) fn absorb_only_block<'a, const V: u8>(
@@ -290,12 +328,20 @@ pub(crate) fn absorb_blocks<'a, const V: u8>(
 pub(crate) fn join(lanes: &Lanes, had_block: bool) -> XoredPair
     ensures { pair_of result ≡ join had_block lanes.now }
 {
-    let (XoredPair(low4, e4), XoredPair(low1, e1)) = (lanes.fourth, lanes.first);
-    let (XoredPair(low2, e2), XoredPair(low3, e3)) = (lanes.second, lanes.third);
+    let fourth = lanes.fourth;
+    let first = lanes.first;
+    let second = lanes.second;
+    let third = lanes.third;
     if had_block {
-        XoredPair(low1 ^ low2 ^ low3 ^ low4, e1 ^ e2 ^ e3 ^ e4)
+        XoredPair {
+            low: first.low ^ second.low ^ third.low ^ fourth.low,
+            e: first.e ^ second.e ^ third.e ^ fourth.e,
+        }
     } else {
-        XoredPair(e4 ^ low1 ^ e1, e1)
+        XoredPair {
+            low: fourth.e ^ first.low ^ first.e,
+            e: first.e,
+        }
     }
 }
 
@@ -305,8 +351,7 @@ pub(crate) fn pair_round(pair: XoredPair, w0: u64, w1: u64, tally: &mut Tally) -
     ensures pair { pair_of result ≡ pair_round (pair_of pair) w0 w1 }
     ensures costs { Costs tally 1 0 }
 {
-    let XoredPair(low, e) = pair;
-    mix((w0 ^ low) ^ e, w1 ^ e, e, tally)
+    mix((w0 ^ pair.low) ^ pair.e, w1 ^ pair.e, pair.e, tally)
 }
 
 // Returns the hash from the pair of the closing's first mix.
@@ -315,9 +360,8 @@ fn mix_again(pair: XoredPair, tally: &mut Tally) -> u64
     ensures hash { result ≡ mix_again (pair_of pair) }
     ensures costs { Costs tally 1 0 }
 {
-    let XoredPair(low, e) = pair;
-    let XoredPair(low, e) = mix(e ^ low, e, e, tally);
-    e ^ low
+    let last = mix(pair.e ^ pair.low, pair.e, pair.e, tally);
+    last.e ^ last.low
 }
 
 /// Returns the hash from a pair and the two words that are left, or the one that is left and 0.

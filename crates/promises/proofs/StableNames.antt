@@ -1,20 +1,17 @@
 -- The names of `komihash` that the contracts and proofs of callers may cite, with their arguments,
--- file by file, and then the records with their fields. The change that takes one away, or changes
--- the number or the types of its arguments, fails here, and needs a new major version.
+-- file by file, but for those that `calls.rt`, `laws.rt` and `by_search.rt` cite with theirs, and
+-- then the records with their fields. The change that takes one away, or changes the number or the
+-- types of its arguments, fails here or there, and needs a new major version.
 use Rattle.std.specs.Prelude.{ℕ, Bool, true, List, [], ◌∷◌, Option, ◌≡◌, ◌↔◌, ◌<◌, ◌≤◌, ◌+◌, ◌/◌}
 use Rattle.std.specs.Prelude.{◌++◌, ◌^◌, length, take, drop, slice_index}
 use Rattle.std.specs.Prelude.{IfSome, IfNone, IsSome, IsSomeAnd, IsNone}
 use Rattle.std.proofs.Common.{refl}
 use Rattle.std.proofs.lemmas.Simd.{Each1-from_get_or}
 use Rattle.komihash.specs.Borrows.{Mut}
-use Rattle.komihash.specs.Calls.{answers_after, answers, onward, bytes_of_calls, AreAbsorbs}
-use Rattle.komihash.specs.Calls.{products_of_answers, onward_products, onward_kept_bytes}
-use Rattle.komihash.specs.Calls.{run_products, run_kept_bytes}
-use Rattle.komihash.specs.Counts.{hash_products, answer_products, absorb_products}
-use Rattle.komihash.specs.Counts.{absorb_kept_bytes, Costs}
-use Rattle.komihash.specs.Generator.{next, after_steps, outputs, fill_steps, fill, after_fill}
+use Rattle.komihash.specs.Calls.{products_of_answers}
+use Rattle.komihash.specs.Counts.{Costs}
+use Rattle.komihash.specs.Generator.{fill_steps}
 use Rattle.komihash.specs.Hash.{komi, hash_from_lanes, hash_from_pair}
-use Rattle.komihash.specs.Hasher.{number_after}
 use Rattle.komihash.specs.Padding.{has_two, KeepsTopBit, pads_with_two, padding_after}
 use Rattle.komihash.specs.Padding.{padding_byte, padded_bytes, padded_words, ArePadded}
 use Rattle.komihash.specs.Padding.{Padded, Unpadded}
@@ -67,42 +64,26 @@ of_rounds_on_pairs : (ℕ → ℕ × ℕ) × (ℕ → ℕ × ℕ) × (ℕ × ℕ
     × (ℕ × ℕ → List ℕ → ℕ)
 of_rounds_on_pairs = (seed_words, seed_pair, pair_round, mix_again, closing)
 
-of_hash : (ℕ → ℕ → List ℕ → ℕ) × (ℕ → Lanes → Bool → List ℕ → ℕ) × (ℕ × ℕ → List ℕ → ℕ)
-of_hash = (komi, hash_from_lanes, hash_from_pair)
+of_hash : (ℕ → Lanes → Bool → List ℕ → ℕ) × (ℕ × ℕ → List ℕ → ℕ)
+of_hash = (hash_from_lanes, hash_from_pair)
 
-of_hasher : ℕ → ℕ → List (List ℕ) → ℕ
-of_hasher = number_after
+of_generator : ℕ → ℕ
+of_generator = fill_steps
 
-of_generator : (ℕ → ℕ × ℕ → ℕ × ℕ) × (ℕ → ℕ → ℕ × ℕ → ℕ × ℕ) × (ℕ → ℕ → ℕ × ℕ → List ℕ)
-    × (ℕ → ℕ) × (ℕ → ℕ × ℕ → ℕ → List ℕ) × (ℕ → ℕ × ℕ → ℕ → ℕ × ℕ)
-of_generator = (next, after_steps, outputs, fill_steps, fill, after_fill)
-
-of_stream : (ℕ → State) × (ℕ → State → ℕ → State) × (ℕ → State → List ℕ → State)
-    × (ℕ → ℕ → State → List ℕ → Type 0) × (Bool → Bool → ℕ)
-    × (ℕ → List ℕ → Bool → Bool → List ℕ) × (ℕ → State → ℕ)
-of_stream = (start, absorb_byte, absorb, HasAbsorbed, end_after_blocks, tail_of, answer)
+of_stream : (ℕ → State → ℕ → State) × (Bool → Bool → ℕ) × (ℕ → List ℕ → Bool → Bool → List ℕ)
+of_stream = (absorb_byte, end_after_blocks, tail_of)
 
 absorbed_once : (v seed : ℕ) (s : State) (m : List ℕ) → IsProp (HasAbsorbed v seed s m)
 absorbed_once = HasAbsorbed-prop
 
-of_saved : ℕ × ℕ × ℕ × (Bool → ℕ) × (ℕ → State → List ℕ) × (ℕ → State → List ℕ)
-    × (ℕ → List ℕ → Type 0) × (ℕ → ℕ → List ℕ → List ℕ → Type 0)
-of_saved = (lanes_at, pending_at, longest_text, flag_byte, head, text, IsText, IsTextAfter)
+of_saved : ℕ × ℕ × (Bool → ℕ) × (ℕ → State → List ℕ)
+of_saved = (lanes_at, pending_at, flag_byte, head)
 
 is_text_if : (v : ℕ) (s : State) → IsState v s → IsText v (text v s)
 is_text_if v s is = (s, is, refl)
 
-of_calls : ((List ℕ → ℕ) → List ℕ → List Call → List ℕ) × (ℕ → ℕ → List Call → List ℕ)
-    × (ℕ → State → List Call → List ℕ) × (List Call → List ℕ) × (List Call → Type 0)
-of_calls = (answers_after, answers, onward, bytes_of_calls, AreAbsorbs)
-
-of_calls_costs : (ℕ → List Call → ℕ) × (ℕ → List Call → ℕ) × (ℕ → List Call → ℕ)
-    × (List Call → ℕ) × (List Call → ℕ)
-of_calls_costs =
-    (products_of_answers, onward_products, onward_kept_bytes, run_products, run_kept_bytes)
-
-of_counts : (ℕ → ℕ) × (ℕ → ℕ) × (ℕ → ℕ → ℕ) × (ℕ → ℕ → ℕ)
-of_counts = (hash_products, answer_products, absorb_products, absorb_kept_bytes)
+of_calls : ℕ → List Call → ℕ
+of_calls = products_of_answers
 
 -- ---- records, by each of their fields, but for those of `Absorbed` that only the search needs
 

@@ -3,9 +3,9 @@
 #include <Python.h>
 #include <komihash_rattle.h>
 
-#define JOINED(version, rest) komihash_v##version##rest
-#define NAMED(version, rest) JOINED(version, rest)
-#define KOMIHASH(rest) NAMED(VERSION, rest)
+#define JOINED(name, version, rest) name##version##rest
+#define NAMED(name, version, rest) JOINED(name, version, rest)
+#define KOMIHASH(rest) NAMED(komihash_v, VERSION, rest)
 #define QUOTED(name) #name
 #define NAME_OF(name) QUOTED(name)
 #define PACKAGE "komihash_rattle.v" NAME_OF(VERSION) "."
@@ -241,23 +241,23 @@ static PyObject *attributes(PyObject *self) {
     return Py_BuildValue("");
 }
 
-/* Returns what is pickled with an object. Before Python 3.11, `object` has no `__getstate__`. */
-static PyObject *extra_state(PyObject *self) {
-    return PyObject_HasAttrString(self, "__getstate__")
+/* Returns what pickle stores. Before Python 3.11, `object` has no `__getstate__`. */
+static PyObject *reduced(PyObject *self, const char *method, PyCFunction arguments) {
+    PyObject *extra = PyObject_HasAttrString(self, "__getstate__")
         ? PyObject_CallMethod(self, "__getstate__", NULL)
         : attributes(self);
+    return extra == NULL
+        ? NULL
+        : Py_BuildValue("NNN", PyObject_GetAttrString((PyObject *)Py_TYPE(self), method),
+                        arguments(self, NULL), extra);
 }
 
-static PyObject *class_method(PyObject *self, const char *name) {
-    return PyObject_GetAttrString((PyObject *)Py_TYPE(self), name);
+static PyObject *text_and_seed(PyObject *self, PyObject *unused) {
+    return Py_BuildValue("NN", save(self, NULL), seed_of(self, NULL));
 }
 
 static PyObject *reduce_stream(PyObject *self, PyObject *unused) {
-    PyObject *extra = extra_state(self);
-    return extra == NULL
-        ? NULL
-        : Py_BuildValue("N(NN)N", class_method(self, "resume"), save(self, NULL),
-                        seed_of(self, NULL), extra);
+    return reduced(self, "resume", text_and_seed);
 }
 
 static PyObject *copy(PyObject *self, PyObject *unused) {
@@ -325,10 +325,7 @@ static PyObject *words(PyObject *self, PyObject *unused) {
 }
 
 static PyObject *reduce_generator(PyObject *self, PyObject *unused) {
-    PyObject *extra = extra_state(self);
-    return extra == NULL
-        ? NULL
-        : Py_BuildValue("NNN", class_method(self, "from_words"), words(self, NULL), extra);
+    return reduced(self, "from_words", words);
 }
 
 #define DOC(call, text) PyDoc_STR(call "\n--\n\n" text)
@@ -386,8 +383,7 @@ static PyType_Slot generator_slots[] = {
 
 #define TYPE Py_TPFLAGS_DEFAULT | Py_TPFLAGS_BASETYPE
 static PyType_Spec stream_type = {PACKAGE "komihash", sizeof(Stream), 0, TYPE, stream_slots};
-static PyType_Spec generator_type = {PACKAGE "Komirand", sizeof(Generator), 0, TYPE,
-                                     generator_slots};
+static PyType_Spec random_type = {PACKAGE "Komirand", sizeof(Generator), 0, TYPE, generator_slots};
 
 /* Sets an attribute of the module or of a type to a new object, or fails if one is missing. */
 static int set(PyObject *of, const char *name, PyObject *value) {
@@ -402,7 +398,7 @@ static int fill_module(PyObject *module) {
         set(stream, "digest_size", PyLong_FromLong(8)) ||
         set(stream, "block_size", PyLong_FromLong(64)) ||
         PyObject_SetAttrString(module, "komihash", stream) != 0 ||
-        set(module, "Komirand", PyType_FromSpec(&generator_type));
+        set(module, "Komirand", PyType_FromSpec(&random_type));
     Py_XDECREF(stream);
     return -failed;
 }
@@ -421,9 +417,7 @@ static PyModuleDef definition = {PyModuleDef_HEAD_INIT, .m_name = "v" NAME_OF(VE
                                  .m_doc = "Version " NAME_OF(VERSION) " of the hash komihash.",
                                  .m_methods = functions, .m_slots = slots};
 
-#define INIT_OF(version) PyInit_v##version
-#define INIT(version) INIT_OF(version)
-PyMODINIT_FUNC INIT(VERSION)(void) {
+PyMODINIT_FUNC NAMED(PyInit_v, VERSION, )(void) {
 #if PY_VERSION_HEX >= 0x030b0000
     /* Since 3.12, subinterpreters may have a lock each (Py_mod_multiple_interpreters). */
     if (Py_Version >= 0x030c0000)

@@ -3,7 +3,7 @@
 //! order, and the pending bytes.
 
 use crate::padding::has_two;
-use crate::rounds::pending::Pending;
+use crate::pending::Pending;
 use crate::rounds::{Lanes, from_order, in_order};
 use crate::utils::{read_whole_words, write_words};
 
@@ -31,7 +31,8 @@ pub(crate) fn write_head<const V: u8>(
 /// Writes the lanes after the first four bytes.
 #[inline(always)]
 pub(crate) fn write_lanes(lanes: &Lanes, out: &mut [u8]) {
-    write_words(&in_order(lanes), &mut out[LANES_AT..PENDING_AT]);
+    let words = in_order(lanes);
+    write_words(&words, &mut out[LANES_AT..PENDING_AT]);
 }
 
 /// Writes the pending bytes after the lanes, and returns where they end.
@@ -57,12 +58,6 @@ pub(crate) fn is_text<const V: u8>(bytes: &[u8]) -> bool {
     bytes.len() >= PENDING_AT
         && is_head::<V>(bytes)
         && bytes.len() == PENDING_AT + usize::from(bytes[3])
-}
-
-/// Returns the two flags of a text: whether a block was absorbed, and the top bit.
-#[inline(always)]
-pub(crate) fn read_flags(bytes: &[u8]) -> (bool, bool) {
-    (bytes[1] == 1, bytes[2] == 1)
 }
 
 #[inline(always)]

@@ -3,10 +3,10 @@
 
 use super::{KomiStream, LONGEST_TEXT, saved};
 use crate::padding::{has_two, padding_after, pads_with_two};
-use crate::rounds::pending::Pending;
-use crate::rounds::words::round_each;
+use crate::pending::Pending;
 use crate::rounds::{Lanes, absorb_blocks, block_round, close, join, lanes_of, places, seed_pair};
 use crate::version::{IsVersion, Versions};
+use crate::whole_words::round_each;
 
 /// A stream of version V: it takes a message in pieces, and returns the hash of all bytes so far at
 /// any time.
@@ -65,7 +65,7 @@ where
         StreamedKomihash::begin(seed)
     }
 
-    // This is `const`, and `start`, a method of a trait, can't be.
+    // Does what `new_with_seed` and `start` do. It is `const`, as no method of a trait can be.
     #[inline(always)]
     const fn begin(seed: u64) -> Self {
         StreamedKomihash {
@@ -85,7 +85,7 @@ where
         // The first test keeps version 5 from computing an index and reading a byte.
         self.top_bit = has_two::<V>() && pads_with_two::<V>(bytes[blocks_end - 1]);
         self.had_block = true;
-        let mut lanes;
+        let mut lanes: Lanes;
         let mut rest = bytes;
         if pending_len == 0 {
             lanes = self.lanes;
@@ -252,7 +252,8 @@ where
         if !saved::is_text::<V>(bytes) {
             return None;
         }
-        let (had_block, top_bit) = saved::read_flags(bytes);
+        let had_block = bytes[1] == 1;
+        let top_bit = bytes[2] == 1;
         Some(StreamedKomihash {
             pending: saved::read_pending(bytes),
             lanes: saved::read_lanes(bytes),

@@ -1,39 +1,44 @@
-//! Times the library for C, XXH3 and wyhash, in the form of hashes, and prints a table with tabs.
+//! Times the loops of ../../hashes.c, and prints a table with tabs between the columns.
+#[allow(dead_code)] // speed.rs uses the rest.
 #[path = "../timing.rs"]
 mod timing;
 
-use timing::{Lengths, Rows, column};
+use std::time::Instant;
+use timing::{Column, Lengths, Rows, in_turn};
 
-type Hash = unsafe extern "C" fn(*const u8, usize, u64) -> u64;
+type Loop = unsafe extern "C" fn(bytes: *const u8, lengths: *const u32, count: u32);
 
 unsafe extern "C" {
-    safe static HASHES: [Hash; 3];
-    safe static WRITES: [Hash; 2];
+    safe static HASHES_AND_WRITES: [Loop; 9];
 }
 
-/// Times the calls of a row, by pointers, so that none is inlined.
-fn row(rows: &Rows, call: &str, lengths: &Lengths, hashes: &[Hash]) {
+/// Makes a column of a loop, for which lengths are drawn before each batch.
+fn column(rows: &Rows, lengths: &Lengths, run: Loop) -> Column<'static> {
+    let (bytes, mut length) = (rows.bytes, in_turn(&lengths.range));
+    Box::new(move |count| {
+        let lengths: Vec<_> = (0..count).map(|_| length() as u32).collect();
+        let start = Instant::now();
+        // SAFETY: there are so many lengths, and no message is longer than the bytes.
+        unsafe { run(bytes.as_ptr(), lengths.as_ptr(), count) };
+        start.elapsed()
+    })
+}
+
+fn row(rows: &Rows, call: &str, lengths: &Lengths, loops: &[Loop]) {
     rows.row(&format!("{call} of {}", lengths.name), || {
-        let columns = hashes.iter().map(|hash| {
-            let mut message = lengths.messages(rows.bytes, 1);
-            column(move || {
-                let message = message();
-                // SAFETY: the pointer is to bytes of this length.
-                unsafe { hash(message.as_ptr(), message.len(), 0) }
-            })
-        });
-        columns.collect()
+        loops.iter().map(|run| column(rows, lengths, *run)).collect()
     });
 }
 
 fn main() {
-    let rows = Rows::under("komihash\tXXH3\twyhash");
+    let rows = Rows::under("assembly\tlibrary\tinlined\tXXH3\twyhash");
     let below = [16, 64, 256].map(|limit| Lengths::random(0..limit));
-    let single = [2, 3, 4, 5, 6, 7, 8, 10, 12, 16, 20].map(|power| Lengths::one(1 << power));
-    for lengths in below.iter().chain(&single) {
-        row(&rows, "hash", lengths, &HASHES);
+    let short = [4, 7, 8, 16, 24, 32, 64, 100, 128].map(Lengths::one);
+    let long = [8, 10, 12, 16, 20].map(|power| Lengths::one(1 << power));
+    for lengths in below.iter().chain(&short).chain(&long) {
+        row(&rows, "hash", lengths, &HASHES_AND_WRITES[..5]);
     }
-    for lengths in &below {
-        row(&rows, "writes", lengths, &WRITES);
+    for lengths in below.iter().chain(&[8, 40, 1 << 10].map(Lengths::one)) {
+        row(&rows, "writes", lengths, &HASHES_AND_WRITES[5..]);
     }
 }

@@ -4,7 +4,7 @@ mod timing;
 
 use std::collections::HashMap;
 use std::hash::{BuildHasher, BuildHasherDefault, Hash};
-use timing::{Lengths, Random, Rows, column, hide, in_turn, random};
+use timing::{Lengths, Random, Rows, column, hide, in_turn};
 
 /// Times a row in all columns, by the call of a module.
 macro_rules! row {
@@ -35,9 +35,9 @@ fn main() {
 }
 
 fn hashes(rows: &Rows, below: &[Lengths]) {
+    let short = [1, 3, 4, 7, 8, 12, 15, 16, 20, 24, 31, 32, 40, 48, 63, 64, 100, 128];
     let long = [256, 1 << 10, 1 << 12, 1 << 16, 1 << 20];
-    let single: Vec<_> = (1..=128).chain(long).map(Lengths::one).collect();
-    for lengths in below.iter().chain(&single) {
+    for lengths in below.iter().chain(&short.map(Lengths::one)).chain(&long.map(Lengths::one)) {
         row!(rows, format!("hash of {}", lengths.name), side => {
             let mut message = lengths.messages(rows.bytes, 1);
             move || side::komihash(message(), hide(0))
@@ -58,8 +58,7 @@ fn arrays<const N: usize>(rows: &Rows) {
 }
 
 fn streams(rows: &Rows, below: &[Lengths]) {
-    let single: Vec<_> = (1..=64).map(Lengths::one).collect();
-    for lengths in below.iter().chain(&single) {
+    for lengths in below.iter().chain(&[1, 4, 8, 16, 20, 32, 40, 63, 64].map(Lengths::one)) {
         row!(rows, format!("new, write and finish of {}", lengths.name), side => {
             let mut message = lengths.messages(rows.bytes, 1);
             move || {
@@ -109,11 +108,10 @@ fn maps(rows: &Rows) {
 /// Times lookups of random keys among 10,000.
 fn map<K: Hash + Eq>(rows: &Rows, name: &str, mut key: impl FnMut() -> K) {
     let keys: Vec<K> = (0..10_000).map(|_| key()).collect();
-    let turns = random(0..keys.len());
     row!(rows, format!("lookup in a map by {name}"), side => {
         let pairs = keys.iter().map(|key| (key, ()));
         let map: HashMap<_, _, BuildHasherDefault<side::KomiHasher>> = pairs.collect();
-        let (keys, mut turn) = (&keys, in_turn(&turns));
+        let (keys, mut turn) = (&keys, in_turn(&(0..keys.len())));
         move || contains(&map, &keys[turn()])
     });
 }
@@ -132,7 +130,7 @@ fn generators(rows: &Rows, below: &[Lengths]) {
     for lengths in below {
         row!(rows, format!("fill of {}", lengths.name), side => {
             let (mut rand, mut out) = (side::Komirand::init(1), [0; 256]);
-            let mut length = in_turn(&lengths.list);
+            let mut length = in_turn(&lengths.range);
             move || rand.fill_bytes(&mut out[..length()])
         });
     }

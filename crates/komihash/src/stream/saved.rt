@@ -9,7 +9,7 @@ ghost use Rattle.komihash.specs.Internals.{IsHead, whole_words};
 ghost use Rattle.komihash.specs.Words.{all_bytes};
 
 use crate::padding::has_two;
-use crate::rounds::pending::Pending;
+use crate::pending::Pending;
 use crate::rounds::{Lanes, from_order, in_order};
 use crate::tally::Tally;
 use crate::utils::{read_whole_words, write_words};
@@ -52,7 +52,8 @@ pub(crate) fn write_lanes(lanes: &Lanes, out: &mut [u8])
         ≡ take LANES_AT out.old ++ all_bytes (in_order lanes.now) }
     ensures after { (n : ℕ) → PENDING_AT ≤ n → drop n out.new ≡ drop n out.old }
 {
-    write_words(&in_order(lanes), &mut out[LANES_AT..PENDING_AT]);
+    let words = in_order(lanes);
+    write_words(&words, &mut out[LANES_AT..PENDING_AT]);
 }
 
 /// Writes the pending bytes after the lanes, and returns where they end.
@@ -90,16 +91,6 @@ pub(crate) fn is_text<const V: u8>(bytes: &[u8]) -> bool
     bytes.len() >= PENDING_AT
         && is_head::<V>(bytes)
         && bytes.len() == PENDING_AT + usize::from(bytes[3])
-}
-
-/// Returns the two flags of a text: whether a block was absorbed, and the top bit.
-#[inline(always)]
-pub(crate) fn read_flags(bytes: &[u8]) -> (bool, bool)
-    requires { LANES_AT ≤ length bytes.now }
-    ensures had_block { result.0 ≡ (slice_index bytes.now 1 == 1) }
-    ensures top_bit { result.1 ≡ (slice_index bytes.now 2 == 1) }
-{
-    (bytes[1] == 1, bytes[2] == 1)
 }
 
 #[inline(always)]

@@ -7,11 +7,11 @@ ghost use Rattle.komihash.specs.Stream.{State, StateOf, IsState, absorb, Started
 
 use super::{KomiStream, LONGEST_TEXT, saved};
 use crate::padding::{has_two, padding_after, pads_with_two};
-use crate::rounds::pending::Pending;
-use crate::rounds::words::round_each;
+use crate::pending::Pending;
 use crate::rounds::{Lanes, absorb_blocks, block_round, close, join, lanes_of, places, seed_pair};
 use crate::tally::Tally;
 use crate::version::{IsVersion, Versions};
+use crate::whole_words::round_each;
 use std::marker::Model;
 
 /// A stream of version V: it takes a message in pieces, and returns the hash of all bytes so far at
@@ -97,7 +97,7 @@ where
         StreamedKomihash::begin(seed, &mut Tally::new())
     }
 
-    // In Rust, this is `const`, and `start`, a method of a trait, can't be.
+    // Does what `new_with_seed` and `start` do. In Rust, it is `const`, as no method of a trait can be.
     #[inline(always)]
     #[tactic(auto, unfolding(crate::specs::Stream::HasAbsorbed, crate::specs::Stream::absorb))]
     const fn begin(seed: u64, tally: &mut Tally) -> Self
@@ -128,7 +128,7 @@ where
         // The first test keeps version 5 from computing an index and reading a byte.
         self.top_bit = has_two::<V>() && pads_with_two::<V>(bytes[blocks_end - 1]);
         self.had_block = true;
-        let mut lanes;
+        let mut lanes: Lanes;
         let mut rest = bytes;
         let none_pending = pending_len == 0;
         if none_pending {
@@ -309,7 +309,8 @@ where
         if !saved::is_text::<V>(bytes) {
             return None;
         }
-        let (had_block, top_bit) = saved::read_flags(bytes);
+        let had_block = bytes[1] == 1;
+        let top_bit = bytes[2] == 1;
         Some(StreamedKomihash {
             pending: saved::read_pending(bytes),
             lanes: saved::read_lanes(bytes),

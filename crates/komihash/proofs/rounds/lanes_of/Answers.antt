@@ -6,7 +6,7 @@ use Rattle.komihash.proofs.rounds.lanes_of.Goals as goal
 
 pub returns : goal.returns
 returns c =
-    let record { 0 = low; 1 = e } = c.args.pair in
+    let record { low = low; e = e } = c.args.pair in
     let s1 = xor_middle (constant 8) e (constant 8) low in
     let s2 = xor_swap e (constant 2) low in
     let s3 = xor_middle (constant 6) e (bit_xor (constant 3) (constant 6)) low in

@@ -1,0 +1,16 @@
+#!/usr/bin/env bash
+# Makes anew what scripts make of sources: v4.rt, the crate for Rust, the header that is all of the
+# library for C, the page that hashes files, and, if more of the header changed than comments, its
+# assembly and WebAssembly, by Debian's packages clang-19 and lld.
+set -euo pipefail
+cd "$(dirname "$0")/.."
+python3 -B scripts/twins.py
+python3 -B rust/erase.py crates/komihash/src rust/src
+make -C c inline
+made_of=$(bash c/assembly.sh)
+if [ "$(grep -lF "SHA-256 $made_of" c/assembly/*.S js/komihash_rattle.js | wc -l)" != 4 ]; then
+    make -C c assembly
+    sh js/build.sh > js/new
+    mv js/new js/komihash_rattle.js
+fi
+sh js/page.sh > js/komihash.html
