@@ -8,7 +8,7 @@ python3 -B scripts/twins.py
 python3 -B rust/erase.py crates/komihash/src rust/src
 make -C c inline
 made_of=$(bash c/assembly.sh)
-if [ "$(grep -lF "SHA-256 $made_of" c/assembly/*.S js/komihash_rattle.js | wc -l)" != 4 ]; then
+if [ "$(grep -LF "SHA-256 $made_of" c/assembly/*.S js/komihash_rattle.js)" ]; then
     make -C c assembly
     sh js/build.sh > js/new
     mv js/new js/komihash_rattle.js

@@ -9,6 +9,7 @@ use timing::{Column, Lengths, Rows, in_turn};
 type Loop = unsafe extern "C" fn(bytes: *const u8, lengths: *const u32, count: u32);
 
 unsafe extern "C" {
+    // Five loops of hashes and four of writes, as in the array of ../../hashes.c.
     safe static HASHES_AND_WRITES: [Loop; 9];
 }
 
