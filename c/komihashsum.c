@@ -53,11 +53,10 @@ static const char HELP[] =
 /* What is told of a check: the last of these options counts. */
 enum { ALL, QUIET, STATUS, WARN };
 static int check, ignore_missing, progress, strict, tag, told;
-static struct kind { int version; uint64_t seed, hash, size; bool is_tagged; } given = {
+static struct kind { int version; uint64_t seed, hash; bool is_tagged, is_regular; } given = {
     .version = 5};
-/* Lines without a version that match, and that don't. Files of fewer than 64 bytes that match don't
- * count, because many of them have the same hash in both versions. */
-static unsigned long untagged[2];
+/* Lines without a version that match, that don't, and of these, that match by the other version. */
+static unsigned long untagged[2], by_other;
 static char mark, line_end = '\n'; /* what stands before a name, if asked for, and after a line */
 static unsigned char bytes[131072];
 static const struct option OPTIONS[] = {
@@ -156,14 +155,17 @@ static void show_progress(int file, const char *name, uint64_t length, uint64_t 
     show("  ", name, "%s", "\033[?7h");
 }
 
-/* Sets the hash to that of a file, and returns 0. If the file can't be read, returns why. */
+/* Sets the hash to that of a file, and whether it can be read again, as a pipe can't, and returns
+ * 0. If the file can't be read, returns why. */
 static int hash_file(const char *name, struct kind *kind) {
     komihash_v4_stream stream_4 = komihash_v4_start(kind->seed);
     komihash_v5_stream stream_5 = komihash_v5_start(kind->seed);
     const int file = open_file(name);
     static uint64_t all;
     uint64_t total = 0;
+    struct stat about;
     int length = file;
+    kind->is_regular = file > 0 && fstat(file, &about) == 0 && S_ISREG(about.st_mode);
     while (file >= 0 && (length = read(file, bytes, sizeof bytes)) > 0) {
         if (kind->version == 4)
             komihash_v4_write(&stream_4, bytes, length);
@@ -172,7 +174,6 @@ static int hash_file(const char *name, struct kind *kind) {
         show_progress(file, name, total += length, all += length);
     }
     const int error = length < 0 ? errno : 0;
-    kind->size = total;
     if (progress)
         fputs(CLEAR, stderr), fflush(stderr);
     if (file > 0)
@@ -306,8 +307,12 @@ static int check_file(const char *name, struct kind kind) {
     if (error)
         fail(name, strerror(error));
     const int result = error ? UNREADABLE : kind.hash == wanted ? MATCHES : DIFFERS;
-    if (!kind.is_tagged && (result == DIFFERS || (result == MATCHES && kind.size > 63)))
+    if (!kind.is_tagged && result <= DIFFERS)
         untagged[result]++;
+    if (!kind.is_tagged && result == DIFFERS && kind.is_regular) {
+        kind.version = kind.version == 4 ? 5 : 4;
+        by_other += hash_file(name, &kind) == 0 && kind.hash == wanted;
+    }
     if (told != STATUS && !(told == QUIET && result == MATCHES))
         print(strchr(name, '\n'), "", name, TEXTS[result]);
     return result;
@@ -322,6 +327,18 @@ static void warn_of_line(const char *name, unsigned long number) {
 static void warn_of(unsigned long count, const char *one, const char *more, const char *what) {
     if (count && told != STATUS)
         fprintf(stderr, "komihashsum: WARNING: %lu %s %s\n", count, count > 1 ? more : one, what);
+}
+
+/* Asks for the options that a list was made with, if its results tell that they are others. */
+static void ask(void) {
+    const char *one = "line that failed has", *more = "lines that failed have";
+    if (by_other)
+        warn_of(by_other, one, more, given.version == 4 ?
+            "the hash of version 5: was the list made without -4?" :
+            "the hash of version 4: was the list made with -4?");
+    else if (untagged[DIFFERS] > untagged[MATCHES])
+        warn_of(untagged[DIFFERS], one, more,
+            "no version: was the list made with the same -4 and --seed?");
 }
 
 /* Reports the results of a list, and returns whether there is nothing wrong with it. */
@@ -424,8 +441,7 @@ static int run(int count, char **arguments) {
     bool holds = true;
     for (; optind < count; optind++)
         holds = (check ? check_list : print_hash)(arguments[optind]) && holds;
-    warn_of(untagged[DIFFERS] > untagged[MATCHES] ? untagged[DIFFERS] : 0, "line that failed has",
-        "lines that failed have", "no version: was the list made with the same -4 and --seed?");
+    ask();
     return !holds || ferror(stderr);
 }
 

@@ -198,12 +198,15 @@ zero_bytes() (
         fails '^komihashsum: wide: this list is in UTF-16' komihashsum -c --status wide || return
     done
 )
-# Whether a list by the other version is told if files below 64 bytes, which may have the same hash
-# in both, match. A list in which one of two longer files fails has no such note.
+# Whether a list by the other version is told from one of files that changed, though most files of
+# fewer than 64 bytes match in both versions, and a list by another seed, by which none matches.
 by_other_version() (
-    cd "$scratch" && printf a > a && seq 30 > b && seq 40 > c && komihashsum -4 a a b > list &&
-        fails '1 line that failed has no version' komihashsum -c list && komihashsum b c > list &&
-        echo >> b && ! komihashsum -c list 2>&1 | grep 'no version'
+    cd "$scratch" && printf a > a && seq 30 > b && komihashsum -4 a a b > list &&
+        fails '1 line that failed has the hash of version 4: .* with -4' komihashsum -c list &&
+        fails '3 lines that failed have no version' komihashsum -4cs1 list &&
+        komihashsum a a b b > list &&
+        fails '2 lines that failed have .* version 5: .* without -4' komihashsum -4c list &&
+        komihashsum b a a > list && echo >> b && ! komihashsum -c list 2>&1 | grep 'that failed'
 )
 
 # Whether files about as long as a read, and a far longer one, have the hashes that the Rust crate
