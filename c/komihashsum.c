@@ -368,10 +368,8 @@ static bool check_list(const char *name) {
     name = number ? name : "standard input";
     for (char *line; (line = read_line(list, &length)); lines++) {
         struct kind kind = given;
-#ifdef _WIN32 /* which marks UTF-8 */
-        if (lines == 0 && strncmp(line, "\xEF\xBB\xBF", 3) == 0)
+        if (lines == 0 && strncmp(line, "\xEF\xBB\xBF", 3) == 0) /* which may mark UTF-8 */
             line += 3, length -= 3;
-#endif
         const char *zero = memchr(line, 0, length);
         if (zero) /* UTF-16 has one in each character of a list, and --zero after a hash. */
             counts[lines == 0 && zero < line + 4 ? WIDE : ZERO]++;

@@ -159,12 +159,14 @@ within_memory() {
             [ $? = 1 ] || return
         done
 }
+byte_order_mark() { printf a > "$scratch/a" && (cd "$scratch" && komihashsum a |
+    sed "1s/^/$(printf '\357\273\277')/" | komihashsum --check --strict); }
 one_space() { (cd "$tree" && komihashsum plain | sed 's/  / /' | komihashsum --check); }
 odd_on_windows() (
     export LC_ALL=C.UTF-8
     mkdir "$scratch/names" && cd "$scratch/names" && printf a > 'жå𝄞.txt' && printf a > b.txt &&
         komihashsum '*.txt' > list && printf '%s\n' "${hash_of_a%-}b.txt" "${hash_of_a%-}жå𝄞.txt" |
-        diff - list && { printf '\357\273\277'; sed 's/$/\r/' list; } > lines &&
+        diff - list && sed 's/$/\r/' list > lines &&
         [ -z "$(komihashsum --quiet --check lines 2>&1)" ] &&
         echo "${hash_of_a%-}a?b" | fails 'no file was verified' komihashsum -c --ignore-missing &&
         mkdir folder && fails '^komihashsum: folder: Is a directory' komihashsum folder &&
@@ -245,6 +247,7 @@ run_case 'komihashsum, long files, by name and through pipes' hashes_long_files
 run_case 'komihashsum, lines that tell version and seed' tagged
 run_case 'komihashsum, lists with zero bytes' zero_bytes
 run_case 'komihashsum, a list by another version' by_other_version
+run_case 'komihashsum, a list that begins with a byte order mark' prints 'a: OK' byte_order_mark
 run_case 'komihashsum, a decimal seed' prints '615eba9060114e6f  -' \
     komihashsum -s 09223372036854775808 < /dev/null
 run_case 'komihashsum, arguments that are wrong' refuses -x --check=1 --seed= --seed=-1 --seed=7x \
