@@ -110,12 +110,15 @@ static void show(const char *before, const char *name, const char *after, const 
         name += length ? length : 1;
     }
     fprintf(stderr, after, problem);
-    fflush(stderr); /* which is buffered on Windows */
+    fflush(stderr);
 }
 
-/* Reports a problem with a file, and returns false. */
+/* Reports a problem with a file, and returns false. Quotes show where a name begins and ends that is
+ * empty or has a space there. */
 static bool fail(const char *name, const char *problem) {
-    show("komihashsum: ", name, ": %s\n", problem);
+    const bool is_quoted = !*name || *name == ' ' || name[strlen(name) - 1] == ' ';
+    show(is_quoted ? "komihashsum: '" : "komihashsum: ", name, is_quoted ? "': %s\n" : ": %s\n",
+        problem);
     return false;
 }
 
@@ -327,6 +330,7 @@ static void warn_of_line(const char *name, unsigned long number) {
 static void warn_of(unsigned long count, const char *one, const char *more, const char *what) {
     if (count && told != STATUS)
         fprintf(stderr, "komihashsum: WARNING: %lu %s %s\n", count, count > 1 ? more : one, what);
+    fflush(stderr);
 }
 
 /* Asks for the options that a list was made with, if its results tell that they are others. */
@@ -413,6 +417,8 @@ static bool set_seed(const char *text) {
 }
 
 static int run(int count, char **arguments) {
+    static char errors[8192]; /* so that a message or a row of --progress is one write */
+    setvbuf(stderr, errors, _IOFBF, sizeof errors);
     arguments[0] = "komihashsum"; /* which getopt_long prints */
     setlocale(LC_CTYPE, "");
     int option = 0;
@@ -505,9 +511,8 @@ int main(void) {
     use_console(STD_OUTPUT_HANDLE);
     atexit(restore);
     SetConsoleCtrlHandler(interrupted, TRUE);
-    static char out[8192], errors[8192]; /* so that a console gets whole characters */
+    static char out[8192]; /* so that a console gets whole characters */
     setvbuf(stdout, out, _IOFBF, sizeof out);
-    setvbuf(stderr, errors, _IOFBF, sizeof errors);
     __argv[0] = "komihashsum"; /* which getopt_long prints */
     return names ? run(count, names) : 1;
 }

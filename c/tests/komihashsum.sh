@@ -159,6 +159,13 @@ within_memory() {
             [ $? = 1 ] || return
         done
 }
+# Whether a message quotes a name of which it would not be seen where it begins and ends.
+quotes() {
+    for name in '' ' ' ' a' 'a '; do
+        fails "^komihashsum: '$name': No such" komihashsum "$name" || return
+    done
+    fails '^komihashsum: a b: No such' komihashsum 'a b'
+}
 byte_order_mark() { printf a > "$scratch/a" && (cd "$scratch" && komihashsum a |
     sed "1s/^/$(printf '\357\273\277')/" | komihashsum --check --strict); }
 one_space() { (cd "$tree" && komihashsum plain | sed 's/  / /' | komihashsum --check); }
@@ -248,6 +255,7 @@ run_case 'komihashsum, lines that tell version and seed' tagged
 run_case 'komihashsum, lists with zero bytes' zero_bytes
 run_case 'komihashsum, a list by another version' by_other_version
 run_case 'komihashsum, a list that begins with a byte order mark' prints 'a: OK' byte_order_mark
+run_case 'komihashsum, names of which the ends are not seen' quotes
 run_case 'komihashsum, a decimal seed' prints '615eba9060114e6f  -' \
     komihashsum -s 09223372036854775808 < /dev/null
 run_case 'komihashsum, arguments that are wrong' refuses -x --check=1 --seed= --seed=-1 --seed=7x \
