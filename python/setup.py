@@ -26,14 +26,14 @@ STABLE = sys.version_info >= (3, 11) and not sysconfig.get_config_var("Py_GIL_DI
 
 # Whether to link the library that is installed, as distributors want it.
 SYSTEM = {"": False, "0": False, "1": True}.get(os.environ.get("KOMIHASH_RATTLE_SYSTEM", ""))
-if SYSTEM is None:
-    sys.exit("KOMIHASH_RATTLE_SYSTEM may be 0 or 1")
+FROM = os.environ.get("KOMIHASH_RATTLE_FROM", "")
+if SYSTEM is None or FROM not in ("", "c"):
+    sys.exit("KOMIHASH_RATTLE_SYSTEM may be 0 or 1, and KOMIHASH_RATTLE_FROM c, in place of rust")
 if not SYSTEM and not (ABOVE / USED[0]).exists():
     sys.exit(f"{ABOVE / 'c'} is missing: take the whole repository or a source distribution")
 
 # What the makefile would take from the environment, where it may be for something else.
-SETTINGS = (f"FROM={os.environ.get('KOMIHASH_RATTLE_FROM', '')}", "BUILD_STATIC=", "BUILD_SHARED=",
-            "CROSS=", "LEVEL=", "OPT=")
+SETTINGS = (f"FROM={FROM}", "BUILD_STATIC=", "BUILD_SHARED=", "CROSS=", "LEVEL=", "OPT=")
 
 
 class Build(build_ext):

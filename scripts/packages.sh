@@ -31,7 +31,6 @@ install_python() {
 python_package() {
     release python && mkdir "$scratch/s dist" &&
         tar -xzf "$packed"/python/*.tar.gz -C "$scratch/s dist" --strip-components=1 &&
-        ! KOMIHASH_RATTLE_FROM=rust install_python &&
         KOMIHASH_RATTLE_FROM=c installed=$scratch/from_c install_python &&
         installed=$scratch/from_c debian_python "$scratch/s dist/tests.py" "$scratch/rows.tsv" &&
         KOMIHASH_RATTLE_SYSTEM=0 FROM=alpine BUILD_SHARED=ON CROSS=none- install_python &&
@@ -43,7 +42,9 @@ python_package() {
         debian_python -m doctest python/README.md &&
         mkdir "$scratch/alone" && cp python/setup.py "$scratch/alone" &&
         fails 1 debian_python "$scratch/alone/setup.py" build &&
-        KOMIHASH_RATTLE_SYSTEM=yes fails 1 debian_python python/setup.py --name
+        KOMIHASH_RATTLE_SYSTEM=yes fails 1 debian_python python/setup.py --name &&
+        KOMIHASH_RATTLE_FROM=rust fails 1 debian_python python/setup.py --name &&
+        ! grep -F '](' python/README.md # which METADATA has, without the files beside it
 }
 # Links an installed library for C, without which the modules can't be imported.
 python_of_system() {

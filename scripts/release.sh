@@ -33,7 +33,6 @@ for name; do
     python)
         (
             cd "$scratch/python"
-            python3 -B "$links" . python # before a copy of README goes into PKG-INFO
             "$python" -B setup.py sdist --keep-temp
             package=$(echo komihash_rattle-*)
             python3 -B "$links" "$package" python

@@ -210,14 +210,14 @@ static PyObject *save(PyObject *self, PyObject *unused) {
 
 static PyObject *resume(PyObject *type, PyObject *args, PyObject *names) {
     static char *known[] = {"", "seed", NULL};
-    PyObject *text, *number = Py_None;
+    PyObject *saved, *number = Py_None;
     State state = {.seed = 0};
     Py_buffer bytes;
-    if (!PyArg_ParseTupleAndKeywords(args, names, "O|O:resume", known, &text, &number))
+    if (!PyArg_ParseTupleAndKeywords(args, names, "O|O:resume", known, &saved, &number))
         return NULL;
     state.has_seed = number != Py_None;
     if ((state.has_seed && !is_word(number, "seed", &state.seed)) ||
-        PyObject_GetBuffer(text, &bytes, PyBUF_SIMPLE) != 0)
+        PyObject_GetBuffer(saved, &bytes, PyBUF_SIMPLE) != 0)
         return NULL;
     PyObject *self = new_stream((PyTypeObject *)type, NULL, NULL);
     if (self != NULL && KOMIHASH(_resume)(&state.stream, bytes.buf, (size_t)bytes.len)) {
@@ -343,7 +343,7 @@ static PyMethodDef stream_methods[] = {
     {"save", save, METH_NOARGS,
      DOC("save($self)", "Return the state as at most 131 bytes, which resume() takes.")},
     {"resume", (PyCFunction)(void (*)(void))resume, METH_VARARGS | METH_KEYWORDS | METH_CLASS,
-     DOC("resume($type, text, /, seed=None)",
+     DOC("resume($type, saved, /, seed=None)",
          "Return the stream whose save() returned these bytes. Only reset() needs its seed.")},
     {"__reduce__", reduce_stream, METH_NOARGS, NULL},
     {NULL}};
