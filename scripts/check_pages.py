@@ -1,8 +1,8 @@
 #!/usr/bin/env python3
 """Checks that what stands in two places is the same: each block of Rattle in CALLING is a part of a
 file of crates/examples, the block of README is one of rust/README, both versions say the same, what
-users take has the licence, and each link of a page leads to a file that is there, and to a heading
-of it."""
+users take has the licence, packages with the library for C inside name its version, and each link
+of a page leads to a file that is there, and to a heading of it."""
 
 import re
 from pathlib import Path
@@ -25,6 +25,9 @@ checks += [(f"the versions in {file.relative_to(ROOT)}", text(file) == made)
            for file, made in twins()]
 checks += [(f"the licence in {folder}", text(f"{folder}/LICENSE") == text("LICENSE"))
            for folder in ("crates/komihash", "rust", "python", "js")]
+library = re.search('RATTLE_VERSION "(.*)"', text("c/komihash_rattle.h"))[1]
+checks += [(f"the library's version in {folder}",
+            f"version {library} of " in text(f"{folder}/README.md")) for folder in ("python", "js")]
 checks += [(f"the block `{code.splitlines()[0]}`", any(code in one for one in examples))
            for code in CODE.findall(text("CALLING.md"))]
 checks += links(ROOT)

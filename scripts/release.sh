@@ -88,15 +88,19 @@ the program for Windows, whose notices are beside it.
 The prover isn't published yet. Of the package for C, docs/CLAIMS.md says what you must trust, and
 \`make verify\` checks the machine code without the prover.
 
-| File | What it is | Library for C in it |
-|---|---|---|
-| $(echo c/*) | that library, a check of its machine code, and \`komihashsum\` | $version |
-| $(echo windows/*) | the same, built for Windows on x86-64, without the check | $version |
-| $(echo rust/*) | the crate for Rust, of which the library is made | its source |
-| $(echo python/*.gz) | the package for CPython 3.9 and newer, as source | $version |
-| $(echo python/*.whl) | the same, built for CPython 3.11 and newer on Linux | $version |
-| $(echo js/*) | the package for JavaScript, in Node and browsers | $version, as WebAssembly |
-| $(echo page/*) | a page that hashes files in a browser, also in that package | the same |
+The library for C has version $version. It is made of the crate for Rust, and is in all other
+packages, for JavaScript as WebAssembly. Those for Python, JavaScript and Rust have versions of
+their own, in their names.
+
+| File | What it is |
+|---|---|
+| $(echo c/*) | the library for C, a check of its machine code, and \`komihashsum\` |
+| $(echo windows/*) | the same, built for Windows on x86-64, without the check |
+| $(echo rust/*) | the crate for Rust |
+| $(echo python/*.gz) | the package for CPython 3.9 and newer, as source |
+| $(echo python/*.whl) | the same, built for CPython 3.11 and newer on Linux |
+| $(echo js/*) | the package for JavaScript, in Node and browsers |
+| $(echo page/*) | a page that hashes files in a browser, also in the package for JavaScript |
 
 \`sha256sum --check SHA256SUMS\` finds files that were damaged in transit. The sums aren't signed.
 Report defects to whomever you have these files from: no address of the project is known here.
