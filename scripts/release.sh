@@ -49,11 +49,12 @@ for name; do
     js)
         cp -R "$scratch/docs" "$scratch/js"
         python3 -B "$links" "$scratch/js" js
-        (cd "$scratch/js" && npm pack --pack-destination "$folder/js")
+        made=$(cd "$scratch/js" && npm pack --silent --pack-destination "$folder/js")
+        mv "$folder/js/$made" "$folder/js/${made/-/-js-}" # Python's has the same name.
         ;;
     page) cp js/komihash.html "$folder/page" ;;
     windows)
-        package=komihash_rattle-$version-x86_64
+        package=komihash_rattle-$version-windows-x86_64
         unpacked=$scratch/windows/$package
         make -C "$scratch/c" install CROSS=x86_64-w64-mingw32- LDFLAGS=-s "PREFIX=/$package" \
             "DOCDIR=/$package" "DESTDIR=$scratch/windows"
@@ -64,8 +65,10 @@ for name; do
         { sed 1q c/README.md && cat && sed 1d c/README.md; } > "$unpacked/README.md" << 'END'
 
 **This is the library, built for Windows.** In cmd, `bin\komihashsum.exe --tag FILE > LIST` lists
-hashes, and `bin\komihashsum.exe --check LIST` checks them. Link `lib\libkomihash_rattle.a`, or the
-DLL in `bin` as [Processors](#processors) says. Commands with `make` are for the package for C.
+hashes, and `bin\komihashsum.exe --check LIST` checks them. To use the library, add `include` to the
+folders in which your compiler looks for headers, and link `lib\libkomihash_rattle.a`, or the DLL in
+`bin` as [Processors](#processors) says. The files aren't signed. Commands with `make` are for the
+package for C.
 END
         # Its runtime is in the program.
         cp /usr/share/doc/mingw-w64-x86-64-dev/copyright "$unpacked/LICENSE.mingw-w64"
