@@ -88,8 +88,8 @@ it where an attacker may choose the messages. Each package but the page has a RE
 begin, in the wheel as METADATA. All are under the MIT licence, but for the runtime of MinGW-w64 in
 the program for Windows, whose notices are beside it.
 
-The prover isn't published yet. Of the package for C, docs/CLAIMS.md says what you must trust, and
-\`make verify\` checks the machine code without the prover.
+The prover isn't published yet. Of the package for C, docs/CLAIMS.md says under "Trusted" what you
+must trust, and \`make verify\` checks the machine code without the prover.
 
 The library for C has version $version. It is made of the crate for Rust, and is in all other
 packages, for JavaScript as WebAssembly. Those for Python, JavaScript and Rust have versions of
