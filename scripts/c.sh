@@ -44,6 +44,7 @@ wineserver -k > "$scratch/case" 2>&1
 part_with "$arm-gcc qemu-aarch64" in_package check "CROSS=$arm-" RUN=qemu-aarch64
 part in_package check FROM=c
 part_with 's390x-linux-gnu-gcc qemu-s390x' in_package check CROSS=s390x-linux-gnu- RUN=qemu-s390x
-part_with i686-linux-gnu-gcc in_package check CROSS=i686-linux-gnu-
+part_with i686-linux-gnu-gcc in_package check CROSS=i686-linux-gnu- \
+    'CFLAGS=-O2 -flto=auto -ffat-lto-objects'
 needs 'clang lld' 'the library for C links for macOS, with the names of the header' names_for_macos
 finished 'make, a C compiler, Python 3.9, emulators, and for Windows MinGW-w64 and wine'

@@ -119,7 +119,8 @@ END
             "$scratch/msvc.obj" "$file" && $RUN "$program" || return
     done
 }
-# Builds the library in a copy of this folder, and seconds later in another, to the same bytes.
+# Builds the library in a copy of this folder, and seconds later in another, to the same bytes, but
+# for what gcc writes for LTO, which has random names.
 same_elsewhere() {
     for copy in here elsewhere; do
         [ $copy = here ] || sleep 2
@@ -134,6 +135,12 @@ same_elsewhere() {
                 "LDFLAGS=$linking" || return
     done
     for file in $libraries $programs; do
+        case "$file ${CFLAGS-}" in *.a\ *-flto*)
+            for copy in here elsewhere; do
+                "${CROSS}objcopy" -D -R '.gnu.lto_*' -R '.gnu.debuglto_*' \
+                    "$scratch/$copy/made/$file" || return
+            done
+        esac
         cmp "$scratch/here/made/$file" "$scratch/elsewhere/made/$file" || return
     done
     rm -r "$scratch/here" "$scratch/elsewhere"
@@ -265,7 +272,7 @@ install(TARGETS komihashsum original)
 install(IMPORTED_RUNTIME_ARTIFACTS komihash_rattle::komihash_rattle)
 END
     by_cmake "$scratch/requested" -D "CMAKE_PREFIX_PATH=$prefix" &&
-        "$NM" "$by_cmake/bin/komihashsum$exe" | grep 'T komihash_v5$' &&
+        ! "${CROSS}objdump" -p "$by_cmake/bin/komihashsum$exe" | grep -F "$soname" &&
         cat "$by_cmake"/*/"$soname" > "$scratch/library" && $RUN "$by_cmake/bin/original$exe"
 }
 cmake_for_arm() {
