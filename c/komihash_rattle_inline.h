@@ -66,10 +66,10 @@
 #endif
 #endif
 #ifdef KOMI_GNU
-#define KOMI_COPY(to, from, length) __builtin_memcpy(to, from, length) /* also if freestanding */
+#define komi_copy_array(n, bytes, out) __builtin_memcpy(out, bytes, n) /* also if freestanding */
 #define KOMI_ALIAS __attribute__((may_alias))
 #else
-#define KOMI_COPY(to, from, length) memcpy(to, from, length)
+#define komi_copy_array(n, bytes, out) memcpy(out, bytes, n)
 #define KOMI_ALIAS
 #endif
 
@@ -95,6 +95,8 @@
 #define KOMI_INLINE static inline
 #define KOMI_APART static inline
 #endif
+#define KOMI_COPY_OF(version, name, arguments) \
+    ((version) == 4 ? name##_v4 arguments : name##_v5 arguments)
 /* Hashes of short messages, which the compiler may inline where a caller knows the length. */
 #ifdef KOMIHASH_RATTLE_IMPLEMENTATION
 #define KOMI_IMPLEMENTED
@@ -111,6 +113,7 @@
 #define komihash_v4_finish KOMI_NAME(komihash_v4_finish)
 #define komihash_v4_init KOMI_NAME(komihash_v4_init)
 #define komihash_v4_pad KOMI_NAME(komihash_v4_pad)
+#define komihash_v4_rand KOMI_NAME(komihash_v4_rand)
 #define komihash_v4_rand_fill KOMI_NAME(komihash_v4_rand_fill)
 #define komihash_v4_rand_init KOMI_NAME(komihash_v4_rand_init)
 #define komihash_v4_rand_init_with_extra_seed KOMI_NAME(komihash_v4_rand_init_with_extra_seed)
@@ -119,12 +122,14 @@
 #define komihash_v4_resume KOMI_NAME(komihash_v4_resume)
 #define komihash_v4_save KOMI_NAME(komihash_v4_save)
 #define komihash_v4_start KOMI_NAME(komihash_v4_start)
+#define komihash_v4_stream KOMI_NAME(komihash_v4_stream)
 #define komihash_v4_unpad KOMI_NAME(komihash_v4_unpad)
 #define komihash_v4_write KOMI_NAME(komihash_v4_write)
 #define komihash_v5 KOMI_NAME(komihash_v5)
 #define komihash_v5_finish KOMI_NAME(komihash_v5_finish)
 #define komihash_v5_init KOMI_NAME(komihash_v5_init)
 #define komihash_v5_pad KOMI_NAME(komihash_v5_pad)
+#define komihash_v5_rand KOMI_NAME(komihash_v5_rand)
 #define komihash_v5_rand_fill KOMI_NAME(komihash_v5_rand_fill)
 #define komihash_v5_rand_init KOMI_NAME(komihash_v5_rand_init)
 #define komihash_v5_rand_init_with_extra_seed KOMI_NAME(komihash_v5_rand_init_with_extra_seed)
@@ -133,15 +138,16 @@
 #define komihash_v5_resume KOMI_NAME(komihash_v5_resume)
 #define komihash_v5_save KOMI_NAME(komihash_v5_save)
 #define komihash_v5_start KOMI_NAME(komihash_v5_start)
+#define komihash_v5_stream KOMI_NAME(komihash_v5_stream)
 #define komihash_v5_unpad KOMI_NAME(komihash_v5_unpad)
 #define komihash_v5_write KOMI_NAME(komihash_v5_write)
-#define komihash_v4_stream KOMI_NAME(komihash_v4_stream)
-#define komihash_v5_stream KOMI_NAME(komihash_v5_stream)
-#define komihash_v4_rand KOMI_NAME(komihash_v4_rand)
-#define komihash_v5_rand KOMI_NAME(komihash_v5_rand)
 #endif
 
-/* Arrays by value. Streams and generators are declared as words, and used as structs below. */
+/* Slices, tuples and arrays by value. Streams and generators are declared as words, and used as
+ * structs below. */
+typedef struct { const uint8_t *at; size_t length; } komi_bytes;
+typedef struct { uint64_t first, second; } komi_two;
+typedef struct { uint8_t at[8]; } komi_eight;
 typedef struct { uint64_t at[8]; } KOMI_ALIAS komi_block;
 typedef struct { size_t at[8]; } komi_indices;
 
@@ -367,58 +373,50 @@ typedef char komi_rand_fits[sizeof(komi_rand) <= sizeof(komihash_v5_rand) ? 1 : 
 
 #if !defined(KOMIHASH_RATTLE_EXTERN) || defined(KOMIHASH_RATTLE_IMPLEMENTATION)
 
-/* Slices: `length` elements from `at` on. */
-typedef struct { const uint8_t *at; size_t length; } komi_bytes;
-typedef struct { uint8_t *at; size_t length; } komi_buffer;
-typedef struct { const uint64_t *at; size_t length; } komi_words;
-
-KOMI_INLINE komi_bytes komi_bytes_of(const void *at, size_t length) {
-    const komi_bytes bytes = {(const uint8_t *)at, length};
-    return bytes;
-}
-
-KOMI_INLINE komi_buffer komi_buffer_of(void *at, size_t length) {
-    const komi_buffer buffer = {(uint8_t *)at, length};
-    return buffer;
-}
-
-KOMI_INLINE komi_words komi_words_of(const uint64_t *at, size_t length) {
-    const komi_words words = {at, length};
-    return words;
-}
-
 /* Words in memory have the lowest byte first. Compilers recognize the sums of shifted bytes. */
 #if defined(_MSC_VER) || (defined(__BYTE_ORDER__) && __BYTE_ORDER__ == __ORDER_LITTLE_ENDIAN__)
-KOMI_INLINE uint32_t komi_load_u32(const uint8_t *at) {
+KOMI_INLINE uint64_t komi_half_word_at(const uint8_t *bytes, size_t at) {
     uint32_t word;
-    KOMI_COPY(&word, at, 4);
+    komi_copy_array(4, bytes + at, &word);
     return word;
 }
 
-KOMI_INLINE uint64_t komi_load_u64(const uint8_t *at) {
+KOMI_INLINE uint64_t komi_read_word(const uint8_t *bytes) {
     uint64_t word;
-    KOMI_COPY(&word, at, 8);
+    komi_copy_array(8, bytes, &word);
     return word;
 }
 
-KOMI_INLINE void komi_store_u64(uint8_t *at, uint64_t word) {
-    KOMI_COPY(at, &word, 8);
+KOMI_INLINE void komi_write_word(uint64_t word, uint8_t *out) {
+    komi_copy_array(8, &word, out);
 }
 #else
-KOMI_INLINE uint32_t komi_load_u32(const uint8_t *at) {
-    return at[0] | (uint32_t)at[1] << 8 | (uint32_t)at[2] << 16 | (uint32_t)at[3] << 24;
+KOMI_INLINE uint64_t komi_half_word_at(const uint8_t *bytes, size_t at) {
+    const uint8_t *four = bytes + at;
+    return four[0] | (uint32_t)four[1] << 8 | (uint32_t)four[2] << 16 | (uint32_t)four[3] << 24;
 }
 
-KOMI_INLINE uint64_t komi_load_u64(const uint8_t *at) {
-    return komi_load_u32(at) | (uint64_t)komi_load_u32(at + 4) << 32;
+KOMI_INLINE uint64_t komi_read_word(const uint8_t *bytes) {
+    return komi_half_word_at(bytes, 0) | komi_half_word_at(bytes, 4) << 32;
 }
 
-KOMI_INLINE void komi_store_u64(uint8_t *at, uint64_t word) {
+KOMI_INLINE void komi_write_word(uint64_t word, uint8_t *out) {
     for (int i = 0; i < 8; i++) {
-        at[i] = (uint8_t)(word >> (8 * i));
+        out[i] = (uint8_t)(word >> (8 * i));
     }
 }
 #endif
+
+KOMI_INLINE komi_eight komi_to_le_bytes(uint64_t word) {
+    komi_eight bytes;
+    komi_write_word(word, bytes.at);
+    return bytes;
+}
+
+/* Returns the byte at index `at` of words, the lowest byte of each word first. */
+KOMI_INLINE uint8_t komi_byte_at(const uint64_t *words, size_t at) {
+    return (uint8_t)(words[at / 8] >> (8 * (at % 8)));
+}
 
 /* Returns one of two words, by a mask for gcc, which would make a jump that is hard to predict. */
 KOMI_INLINE uint64_t komi_either(bool condition, uint64_t yes, uint64_t no) {
@@ -450,47 +448,40 @@ KOMI_INLINE uint32_t komi_ilog2(uint64_t x) {
 #endif
 }
 
-/* Gives the low and the high half of the product of two words. WebAssembly has no product of 128
+/* Returns the low and the high half of the product of two words. WebAssembly has no product of 128
  * bits: compilers would call a function. */
-KOMI_INLINE void komi_multiply128(uint64_t x, uint64_t y, uint64_t *low, uint64_t *high) {
+KOMI_INLINE komi_two komi_multiply128(uint64_t x, uint64_t y) {
+    komi_two halves;
 #if defined(__SIZEOF_INT128__) && !defined(__wasm__)
     __extension__ typedef unsigned __int128 komi_u128;
     const komi_u128 product = (komi_u128)x * y;
-    *low = (uint64_t)product;
-    *high = (uint64_t)(product >> 64);
+    halves.first = (uint64_t)product;
+    halves.second = (uint64_t)(product >> 64);
 #elif defined(_MSC_VER) && defined(_M_X64)
-    *low = _umul128(x, y, high);
+    halves.first = _umul128(x, y, &halves.second);
 #elif defined(_MSC_VER) && defined(_M_ARM64)
-    *low = x * y;
-    *high = __umulh(x, y);
+    halves.first = x * y;
+    halves.second = __umulh(x, y);
 #else
     const uint64_t low_x = (uint32_t)x, high_x = x >> 32, low_y = (uint32_t)y, high_y = y >> 32;
     const uint64_t lowest = low_x * low_y, middle = high_x * low_y + (lowest >> 32);
     const uint64_t other = low_x * high_y + (uint32_t)middle;
-    *low = other << 32 | (uint32_t)lowest;
-    *high = high_x * high_y + (middle >> 32) + (other >> 32);
+    halves.first = other << 32 | (uint32_t)lowest;
+    halves.second = high_x * high_y + (middle >> 32) + (other >> 32);
 #endif
+    return halves;
 }
 
 /* --------------------------------------------------------------------------------------------- */
 /* Words of eight bytes, the lowest byte first: read from bytes, written to bytes, multiplied. */
-
-KOMI_INLINE uint64_t komi_read_word(const uint8_t *bytes) {
-    return komi_load_u64(bytes);
-}
 
 KOMI_INLINE uint64_t komi_word_at(const uint8_t *bytes, size_t at) {
     return komi_read_word(bytes + at);
 }
 
 /* Returns the word of the last eight bytes. */
-KOMI_INLINE uint64_t komi_last_word(komi_bytes bytes) {
-    return komi_load_u64(bytes.at + bytes.length - 8);
-}
-
-KOMI_INLINE uint64_t komi_half_word_at(const uint8_t *bytes, size_t at) {
-    const uint8_t *piece = bytes + at;
-    return (uint64_t)komi_load_u32(piece);
+KOMI_INLINE uint64_t komi_last_word(const uint8_t *bytes, size_t length) {
+    return komi_read_word(bytes + length - 8);
 }
 
 /* Returns the word of at most seven bytes and the byte `end` after them.
@@ -498,70 +489,59 @@ KOMI_INLINE uint64_t komi_half_word_at(const uint8_t *bytes, size_t at) {
  * Reads four bytes or more in two pieces, which may overlap. `end` follows the second piece, of
  * which a shift removes the bytes that the first has too. Fewer bytes are read at three indices,
  * however many there are, since a choice between two values costs less than a jump. */
-KOMI_INLINE uint64_t komi_read_partial_word(komi_bytes bytes, uint64_t end) {
-    size_t n = bytes.length;
+KOMI_INLINE uint64_t komi_read_partial_word(const uint8_t *bytes, size_t length, uint64_t end) {
+    size_t n = length;
     if (n >= 4) {
-        return komi_half_word_at(bytes.at, 0) |
-            (komi_half_word_at(bytes.at, n - 4) | end << 32) >> (64 - 8 * n) << 32;
+        return komi_half_word_at(bytes, 0) |
+            (komi_half_word_at(bytes, n - 4) | end << 32) >> (64 - 8 * n) << 32;
     } else if (n > 0) {
-        uint64_t middle = (uint64_t)bytes.at[n / 2] << 8;
-        uint64_t last = (uint64_t)bytes.at[n - 1] << 16;
+        uint64_t middle = (uint64_t)bytes[n / 2] << 8;
+        uint64_t last = (uint64_t)bytes[n - 1] << 16;
         bool has_second = n > 1;
         bool has_third = n > 2;
         uint64_t second = komi_either(has_second, middle, 0);
         uint64_t third = komi_either(has_third, last, 0);
-        return ((uint64_t)bytes.at[0] + second + third) | end << (8 * n);
+        return ((uint64_t)bytes[0] + second + third) | end << (8 * n);
     } else {
         return end;
     }
 }
 
-/* Fills `out`, of eight bytes, with the bytes of a word. */
-KOMI_INLINE void komi_write_word(uint64_t word, uint8_t *out) {
-    komi_store_u64(out, word);
-}
-
-/* Copies `n` bytes. */
-KOMI_INLINE void komi_copy_array(size_t n, const uint8_t *bytes, uint8_t *out) {
-    KOMI_COPY(out, bytes, n);
-}
-
 /* Fills `out`, of at most seven bytes, with the lowest bytes of a word. */
-KOMI_INLINE void komi_write_partial_word(uint64_t word, komi_buffer out) {
-    uint8_t bytes[8];
-    komi_store_u64(bytes, word);
-    size_t n = out.length;
+KOMI_INLINE void komi_write_partial_word(uint64_t word, uint8_t *out, size_t out_length) {
+    komi_eight bytes = komi_to_le_bytes(word);
+    size_t n = out_length;
     if (n >= 4) {
-        komi_copy_array(4, bytes, out.at);
-        komi_copy_array(4, bytes + (n - 4), out.at + (n - 4));
+        komi_copy_array(4, bytes.at, out);
+        komi_copy_array(4, bytes.at + (n - 4), out + (n - 4));
     } else if (n >= 2) {
-        komi_copy_array(2, bytes, out.at);
-        komi_copy_array(2, bytes + (n - 2), out.at + (n - 2));
+        komi_copy_array(2, bytes.at, out);
+        komi_copy_array(2, bytes.at + (n - 2), out + (n - 2));
     } else if (n == 1) {
-        out.at[0] = bytes[0];
+        out[0] = bytes.at[0];
     }
 }
 
 /* Writes the whole words of `bytes` to the front of `out`. */
-KOMI_INLINE void komi_read_whole_words(komi_bytes bytes, uint64_t *out) {
-    for (size_t i = 0; i < bytes.length / 8; i++) {
-        out[i] = komi_load_u64(bytes.at + 8 * i);
+KOMI_INLINE void komi_read_whole_words(const uint8_t *bytes, size_t length, uint64_t *out) {
+    for (size_t i = 0; i < length / 8; i++) {
+        out[i] = komi_read_word(bytes + 8 * i);
     }
 }
 
 /* Fills `out`, of eight bytes for each word, with the bytes of words. */
-KOMI_INLINE void komi_write_words(komi_words words, uint8_t *out) {
-    for (size_t i = 0; i < words.length; i++) {
-        komi_write_word(words.at[i], out + 8 * i);
+KOMI_INLINE void komi_write_words(const uint64_t *words, size_t words_length, uint8_t *out) {
+    for (size_t i = 0; i < words_length; i++) {
+        komi_write_word(words[i], out + 8 * i);
     }
 }
 
 /* Writes the first `count` bytes of `words` to the front of `out`. */
 KOMI_INLINE void komi_write_first_bytes(const uint64_t *words, size_t count, uint8_t *out) {
     size_t whole = count / 8;
-    komi_write_words(komi_words_of(words, whole), out);
+    komi_write_words(words, whole, out);
     if (count % 8 > 0) {
-        komi_write_partial_word(words[whole], komi_buffer_of(out + 8 * whole, count - 8 * whole));
+        komi_write_partial_word(words[whole], out + 8 * whole, count - 8 * whole);
     }
 }
 
@@ -582,31 +562,31 @@ KOMI_INLINE void komi_write_first_bytes(const uint64_t *words, size_t count, uin
 
 /* Mixes the product of `x` and `y` into the word `e`, and returns the pair. */
 KOMI_INLINE komi_pair komi_mix(uint64_t x, uint64_t y, uint64_t e) {
-    uint64_t low, high;
-    komi_multiply128(x, y, &low, &high);
+    const komi_two low_and_high = komi_multiply128(x, y);
+    uint64_t low = low_and_high.first;
+    uint64_t high = low_and_high.second;
     const komi_pair result = {low, e + high};
     return result;
 }
 
-KOMI_INLINE void komi_seed_words(uint64_t seed, uint64_t *first, uint64_t *second) {
-    *first = KOMI_C1 ^ (seed & UINT64_C(0x5555555555555555));
-    *second = KOMI_C5 ^ (seed & UINT64_C(0xaaaaaaaaaaaaaaaa));
+KOMI_INLINE komi_two komi_seed_words(uint64_t seed) {
+    const komi_two result = {KOMI_C1 ^ (seed & UINT64_C(0x5555555555555555)),
+        KOMI_C5 ^ (seed & UINT64_C(0xaaaaaaaaaaaaaaaa))};
+    return result;
 }
 
 /* Returns the pair that a hash with the seed begins with. */
 KOMI_INLINE komi_pair komi_seed_pair(uint64_t seed) {
-    uint64_t a, e;
-    komi_seed_words(seed, &a, &e);
+    const komi_two a_and_e = komi_seed_words(seed);
+    uint64_t a = a_and_e.first;
+    uint64_t e = a_and_e.second;
     return komi_mix(a, e, e);
 }
 
 KOMI_INLINE komi_lanes komi_lanes_of(komi_pair pair) {
-    const komi_lanes result = {
-        {(KOMI_C4 ^ KOMI_C7) ^ pair.low, KOMI_C8 ^ pair.e},
-        {KOMI_C8 ^ pair.low, pair.e},
-        {KOMI_C2 ^ pair.low, KOMI_C6 ^ pair.e},
-        {(KOMI_C3 ^ KOMI_C6) ^ pair.low, KOMI_C7 ^ pair.e},
-    };
+    const komi_lanes result = {{(KOMI_C4 ^ KOMI_C7) ^ pair.low, KOMI_C8 ^ pair.e},
+        {KOMI_C8 ^ pair.low, pair.e}, {KOMI_C2 ^ pair.low, KOMI_C6 ^ pair.e},
+        {(KOMI_C3 ^ KOMI_C6) ^ pair.low, KOMI_C7 ^ pair.e}};
     return result;
 }
 
@@ -616,27 +596,15 @@ KOMI_INLINE komi_block komi_in_order(const komi_lanes *lanes) {
     komi_pair first = lanes->first;
     komi_pair second = lanes->second;
     komi_pair third = lanes->third;
-    const komi_block result = {{
-        fourth.e ^ first.low,
-        first.e ^ second.low,
-        second.e ^ third.low,
-        third.e ^ fourth.low,
-        first.e,
-        second.e,
-        third.e,
-        fourth.e,
-    }};
+    const komi_block result = {{fourth.e ^ first.low, first.e ^ second.low, second.e ^ third.low,
+        third.e ^ fourth.low, first.e, second.e, third.e, fourth.e}};
     return result;
 }
 
 /* Returns the lanes from their words in that order. */
 KOMI_INLINE komi_lanes komi_from_order(const uint64_t *lanes) {
-    const komi_lanes result = {
-        {lanes[6] ^ lanes[3], lanes[7]},
-        {lanes[7] ^ lanes[0], lanes[4]},
-        {lanes[4] ^ lanes[1], lanes[5]},
-        {lanes[5] ^ lanes[2], lanes[6]},
-    };
+    const komi_lanes result = {{lanes[6] ^ lanes[3], lanes[7]}, {lanes[7] ^ lanes[0], lanes[4]},
+        {lanes[4] ^ lanes[1], lanes[5]}, {lanes[5] ^ lanes[2], lanes[6]}};
     return result;
 }
 
@@ -671,45 +639,33 @@ KOMI_INLINE void komi_block_round(komi_lanes *lanes, const uint64_t *words, komi
 }
 
 KOMI_INLINE komi_block komi_block_words(const uint8_t *block) {
-    const komi_block result = {{
-        komi_word_at(block, 0),
-        komi_word_at(block, 8),
-        komi_word_at(block, 16),
-        komi_word_at(block, 24),
-        komi_word_at(block, 32),
-        komi_word_at(block, 40),
-        komi_word_at(block, 48),
-        komi_word_at(block, 56),
-    }};
+    const komi_block result = {{komi_word_at(block, 0), komi_word_at(block, 8),
+        komi_word_at(block, 16), komi_word_at(block, 24), komi_word_at(block, 32),
+        komi_word_at(block, 40), komi_word_at(block, 48), komi_word_at(block, 56)}};
     return result;
 }
 
 /* Absorbs the first block, and returns the bytes after it. Absorbing these then gives the same
  * lanes and the same remainder as absorbing all of `bytes` at once. */
 KOMI_INLINE komi_bytes komi_absorb_first_block(uint8_t version, komi_lanes *lanes,
-    komi_bytes bytes) {
-    komi_bytes rest = komi_bytes_of(bytes.at + 64, bytes.length - 64);
-    komi_block words = komi_block_words(bytes.at);
+    const uint8_t *bytes, size_t length) {
+    komi_bytes rest = {bytes + 64, length - 64};
+    komi_block words = komi_block_words(bytes);
     komi_block_round(lanes, words.at, komi_places(version));
     return rest;
 }
 
-/* Does what `komi_absorb_blocks` does for bytes with one whole block, and so without a loop. */
-KOMI_INLINE komi_bytes komi_absorb_only_block(uint8_t version, komi_lanes *lanes,
-    komi_bytes bytes) {
-    return komi_absorb_first_block(version, lanes, bytes);
-}
-
 /* Absorbs each whole block of the bytes, and returns the bytes after them, fewer than 64. */
-KOMI_INLINE komi_bytes komi_absorb_blocks(uint8_t version, komi_lanes *lanes, komi_bytes bytes) {
-    komi_bytes rest = bytes;
+KOMI_INLINE komi_bytes komi_absorb_blocks(uint8_t version, komi_lanes *lanes, const uint8_t *bytes,
+    size_t length) {
+    komi_bytes rest = {bytes, length};
     /* Two blocks per turn take fewer instructions than one. */
     if (rest.length / 64 % 2 == 1) {
-        rest = komi_absorb_first_block(version, lanes, rest);
+        rest = komi_absorb_first_block(version, lanes, rest.at, rest.length);
     }
     while (rest.length >= 128) {
-        komi_bytes after = komi_absorb_first_block(version, lanes, rest);
-        rest = komi_absorb_first_block(version, lanes, after);
+        komi_bytes after = komi_absorb_first_block(version, lanes, rest.at, rest.length);
+        rest = komi_absorb_first_block(version, lanes, after.at, after.length);
     }
     return rest;
 }
@@ -722,10 +678,8 @@ KOMI_INLINE komi_pair komi_join(const komi_lanes *lanes, bool had_block) {
     komi_pair second = lanes->second;
     komi_pair third = lanes->third;
     if (had_block) {
-        const komi_pair result = {
-            first.low ^ second.low ^ third.low ^ fourth.low,
-            first.e ^ second.e ^ third.e ^ fourth.e,
-        };
+        const komi_pair result = {first.low ^ second.low ^ third.low ^ fourth.low,
+            first.e ^ second.e ^ third.e ^ fourth.e};
         return result;
     } else {
         const komi_pair result = {fourth.e ^ first.low ^ first.e, first.e};
@@ -753,16 +707,16 @@ KOMI_INLINE uint64_t komi_close(komi_pair pair, uint64_t first, uint64_t second)
  * which takes the word that may be left and the final word. */
 
 /* Returns the last whole word of at least eight bytes. */
-KOMI_INLINE uint64_t komi_last_whole_word(komi_bytes bytes) {
-    return komi_load_u64(bytes.at + 8 * (bytes.length / 8 - 1));
+KOMI_INLINE uint64_t komi_last_whole_word(const uint8_t *bytes, size_t length) {
+    return komi_read_word(bytes + 8 * (length / 8 - 1));
 }
 
-KOMI_INLINE size_t komi_bytes_count(komi_bytes self) {
-    return self.length / 8;
+KOMI_INLINE size_t komi_bytes_count(size_t self_length) {
+    return self_length / 8;
 }
 
 KOMI_INLINE uint64_t komi_bytes_word(const uint8_t *self, size_t at) {
-    return komi_load_u64(self + 8 * at);
+    return komi_read_word(self + 8 * at);
 }
 
 /* Returns the pair after a round on the two words from index `at`. */
@@ -772,29 +726,30 @@ KOMI_INLINE komi_pair komi_round_at_bytes(komi_pair pair, const uint8_t *left, s
 
 /* Returns the pair after a round on each two words. From this, the word that may remain gives the
  * hash that all words give from `pair`. */
-KOMI_INLINE komi_pair komi_round_each_bytes(komi_pair pair, komi_bytes left) {
-    if (komi_bytes_count(left) < 2) {
+KOMI_INLINE komi_pair komi_round_each_bytes(komi_pair pair, const uint8_t *left,
+    size_t left_length) {
+    if (komi_bytes_count(left_length) < 2) {
         return pair;
     }
-    pair = komi_round_at_bytes(pair, left.at, 0);
-    if (komi_bytes_count(left) < 4) {
+    pair = komi_round_at_bytes(pair, left, 0);
+    if (komi_bytes_count(left_length) < 4) {
         return pair;
     }
-    pair = komi_round_at_bytes(pair, left.at, 2);
-    if (komi_bytes_count(left) < 6) {
+    pair = komi_round_at_bytes(pair, left, 2);
+    if (komi_bytes_count(left_length) < 6) {
         return pair;
     }
-    return komi_round_at_bytes(pair, left.at, 4);
+    return komi_round_at_bytes(pair, left, 4);
 }
 
 /* Returns the hash from a pair, fewer than eight whole words, and the final word. The last whole
  * word is any word if there are none. */
-KOMI_INLINE uint64_t komi_hash_from_pair(komi_pair pair, komi_bytes left, uint64_t last_whole_word,
-    uint64_t final_word) {
-    pair = komi_round_each_bytes(pair, left);
+KOMI_INLINE uint64_t komi_hash_from_pair(komi_pair pair, const uint8_t *left, size_t left_length,
+    uint64_t last_whole_word, uint64_t final_word) {
+    pair = komi_round_each_bytes(pair, left, left_length);
     /* The closing of one word is that of two, the second of which is 0. So it needs no jump. */
-    uint64_t first = komi_either(left.length / 8 % 2 == 1, last_whole_word, final_word);
-    uint64_t second = komi_either(left.length / 8 % 2 == 1, final_word, 0);
+    uint64_t first = komi_either(left_length / 8 % 2 == 1, last_whole_word, final_word);
+    uint64_t second = komi_either(left_length / 8 % 2 == 1, final_word, 0);
     return komi_close(pair, first, second);
 }
 
@@ -819,10 +774,11 @@ KOMI_INLINE uint64_t komi_padding_after(bool top_bit) {
 }
 
 /* Returns the padding byte of a message that isn't empty. */
-KOMI_INLINE uint64_t komi_padding_byte(uint8_t version, komi_bytes message) {
+KOMI_INLINE uint64_t komi_padding_byte(uint8_t version, const uint8_t *message,
+    size_t message_length) {
     /* Version 5 reads no byte for it. */
     if (komi_has_two(version)) {
-        return komi_padding_after(komi_pads_with_two(version, message.at[message.length - 1]));
+        return komi_padding_after(komi_pads_with_two(version, message[message_length - 1]));
     } else {
         return 1;
     }
@@ -833,24 +789,26 @@ KOMI_INLINE uint64_t komi_padding_byte(uint8_t version, komi_bytes message) {
  * Reads the last eight bytes, and shifts out those of the last whole word. If no byte comes after
  * that word, the shift is by 64, which `>>` doesn't allow. So it shifts twice. A branch would be
  * faster for whole words, but a processor can't guess it where lengths vary. */
-KOMI_INLINE uint64_t komi_final_word_of_many(komi_bytes bytes, uint64_t end) {
-    uint64_t eight = komi_last_word(bytes);
-    size_t shift = 8 * (bytes.length % 8);
+KOMI_INLINE uint64_t komi_final_word_of_many(const uint8_t *bytes, size_t length, uint64_t end) {
+    uint64_t eight = komi_last_word(bytes, length);
+    size_t shift = 8 * (length % 8);
     return (eight >> 1) >> (63 - shift) | end << shift;
 }
 
 /* Writes the padded words of a message in the version, and returns how many they are. */
-KOMI_INLINE size_t komi_pad(uint8_t version, komi_bytes bytes, uint64_t *out) {
-    size_t whole = bytes.length / 8;
+KOMI_INLINE size_t komi_pad(uint8_t version, const uint8_t *bytes, size_t length, uint64_t *out) {
+    size_t whole = length / 8;
     uint64_t final_word;
     if (whole > 0) {
-        final_word = komi_final_word_of_many(bytes, komi_padding_byte(version, bytes));
-    } else if (bytes.length == 0) {
+        final_word = komi_final_word_of_many(bytes, length,
+            komi_padding_byte(version, bytes, length));
+    } else if (length == 0) {
         final_word = 0;
     } else {
-        final_word = komi_read_partial_word(bytes, komi_padding_byte(version, bytes));
+        final_word = komi_read_partial_word(bytes, length,
+            komi_padding_byte(version, bytes, length));
     }
-    komi_read_whole_words(bytes, out);
+    komi_read_whole_words(bytes, length, out);
     out[whole] = final_word;
     return whole + 1;
 }
@@ -858,11 +816,6 @@ KOMI_INLINE size_t komi_pad(uint8_t version, komi_bytes bytes, uint64_t *out) {
 /* Returns the index of a word's highest byte that is not 0. */
 KOMI_INLINE size_t komi_highest_place(uint64_t word) {
     return (size_t)(komi_ilog2(word) / 8);
-}
-
-/* Returns the byte at index `at` of words, the lowest byte of each word first. */
-KOMI_INLINE uint8_t komi_byte_at(const uint64_t *words, size_t at) {
-    return (uint8_t)(words[at / 8] >> (8 * (at % 8)));
 }
 
 /* Returns whether `byte` is the padding byte of the first `count` bytes of words. */
@@ -876,12 +829,13 @@ KOMI_INLINE bool komi_is_padding_byte(uint8_t version, uint64_t byte, const uint
  *
  * The padding byte can only be the last word's highest byte that is not 0. The byte before it
  * decides whether it is. */
-KOMI_INLINE size_t komi_message_length(uint8_t version, komi_words words) {
-    size_t count = words.length;
+KOMI_INLINE size_t komi_message_length(uint8_t version, const uint64_t *words,
+    size_t words_length) {
+    size_t count = words_length;
     if (count == 0) {
         return KOMIHASH_NONE;
     }
-    uint64_t last = words.at[count - 1];
+    uint64_t last = words[count - 1];
     if (last == 0) {
         return count == 1 ? 0 : KOMIHASH_NONE;
     }
@@ -890,7 +844,7 @@ KOMI_INLINE size_t komi_message_length(uint8_t version, komi_words words) {
     if (length == 0) {
         return KOMIHASH_NONE;
     }
-    if (komi_is_padding_byte(version, last >> (8 * place), words.at, length)) {
+    if (komi_is_padding_byte(version, last >> (8 * place), words, length)) {
         return length;
     } else {
         return KOMIHASH_NONE;
@@ -900,12 +854,13 @@ KOMI_INLINE size_t komi_message_length(uint8_t version, komi_words words) {
 /* Writes the message that has these padded words in the version to the front of `out`, and returns
  * its length in bytes. Returns KOMIHASH_NONE, with `out` unchanged, if no message has these
  * words. */
-KOMI_INLINE size_t komi_unpad(uint8_t version, komi_words words, uint8_t *out) {
-    size_t count = komi_message_length(version, words);
+KOMI_INLINE size_t komi_unpad(uint8_t version, const uint64_t *words, size_t words_length,
+    uint8_t *out) {
+    size_t count = komi_message_length(version, words, words_length);
     if (count == KOMIHASH_NONE) {
         return KOMIHASH_NONE;
     }
-    komi_write_first_bytes(words.at, count, out);
+    komi_write_first_bytes(words, count, out);
     return count;
 }
 
@@ -915,142 +870,153 @@ KOMI_INLINE size_t komi_unpad(uint8_t version, komi_words words, uint8_t *out) {
  * Each range of lengths has a function of its own, except the empty message, so that messages take
  * few jumps. Those below 64 bytes may be inlined, since a caller may know the length. */
 
-KOMI_INLINE uint64_t komi_hash_of_partial_word(uint8_t version, komi_bytes bytes, uint64_t seed) {
+KOMI_INLINE uint64_t komi_hash_of_partial_word(uint8_t version, const uint8_t *bytes, size_t length,
+    uint64_t seed) {
     komi_pair pair = komi_seed_pair(seed);
-    uint64_t final_word = komi_read_partial_word(bytes, komi_padding_byte(version, bytes));
+    uint64_t final_word = komi_read_partial_word(bytes, length,
+        komi_padding_byte(version, bytes, length));
     return komi_close(pair, final_word, 0);
 }
 
-KOMI_SHORT uint64_t komi_hash_of_partial_word_v4(komi_bytes bytes, uint64_t seed) {
-    return komi_hash_of_partial_word(4, bytes, seed);
+KOMI_SHORT uint64_t komi_hash_of_partial_word_v4(const uint8_t *bytes, size_t length,
+    uint64_t seed) {
+    return komi_hash_of_partial_word(4, bytes, length, seed);
 }
 
-KOMI_SHORT uint64_t komi_hash_of_partial_word_v5(komi_bytes bytes, uint64_t seed) {
-    return komi_hash_of_partial_word(5, bytes, seed);
+KOMI_SHORT uint64_t komi_hash_of_partial_word_v5(const uint8_t *bytes, size_t length,
+    uint64_t seed) {
+    return komi_hash_of_partial_word(5, bytes, length, seed);
 }
 
 /* The final word comes first, so that its shift doesn't take registers that the products need. */
-KOMI_INLINE uint64_t komi_hash_of_one_word(uint8_t version, komi_bytes bytes, uint64_t seed) {
-    uint64_t final_word = komi_final_word_of_many(bytes, komi_padding_byte(version, bytes));
+KOMI_INLINE uint64_t komi_hash_of_one_word(uint8_t version, const uint8_t *bytes, size_t length,
+    uint64_t seed) {
+    uint64_t final_word = komi_final_word_of_many(bytes, length,
+        komi_padding_byte(version, bytes, length));
     komi_pair pair = komi_seed_pair(seed);
-    return komi_close(pair, komi_read_word(bytes.at), final_word);
+    return komi_close(pair, komi_read_word(bytes), final_word);
 }
 
-KOMI_SHORT uint64_t komi_hash_of_one_word_v4(komi_bytes bytes, uint64_t seed) {
-    return komi_hash_of_one_word(4, bytes, seed);
+KOMI_SHORT uint64_t komi_hash_of_one_word_v4(const uint8_t *bytes, size_t length, uint64_t seed) {
+    return komi_hash_of_one_word(4, bytes, length, seed);
 }
 
-KOMI_SHORT uint64_t komi_hash_of_one_word_v5(komi_bytes bytes, uint64_t seed) {
-    return komi_hash_of_one_word(5, bytes, seed);
+KOMI_SHORT uint64_t komi_hash_of_one_word_v5(const uint8_t *bytes, size_t length, uint64_t seed) {
+    return komi_hash_of_one_word(5, bytes, length, seed);
 }
 
 /* This function is apart from the next one, because keys often have 16 bytes. */
-KOMI_INLINE uint64_t komi_hash_of_16_bytes(uint8_t version, komi_bytes bytes, uint64_t seed) {
+KOMI_INLINE uint64_t komi_hash_of_16_bytes(uint8_t version, const uint8_t *bytes, size_t length,
+    uint64_t seed) {
     komi_pair pair = komi_seed_pair(seed);
-    pair = komi_pair_round(pair, komi_read_word(bytes.at), komi_word_at(bytes.at, 8));
-    return komi_close(pair, komi_padding_byte(version, bytes), 0);
+    pair = komi_pair_round(pair, komi_read_word(bytes), komi_word_at(bytes, 8));
+    return komi_close(pair, komi_padding_byte(version, bytes, length), 0);
 }
 
-KOMI_SHORT uint64_t komi_hash_of_16_bytes_v4(komi_bytes bytes, uint64_t seed) {
-    return komi_hash_of_16_bytes(4, bytes, seed);
+KOMI_SHORT uint64_t komi_hash_of_16_bytes_v4(const uint8_t *bytes, size_t length, uint64_t seed) {
+    return komi_hash_of_16_bytes(4, bytes, length, seed);
 }
 
-KOMI_SHORT uint64_t komi_hash_of_16_bytes_v5(komi_bytes bytes, uint64_t seed) {
-    return komi_hash_of_16_bytes(5, bytes, seed);
+KOMI_SHORT uint64_t komi_hash_of_16_bytes_v5(const uint8_t *bytes, size_t length, uint64_t seed) {
+    return komi_hash_of_16_bytes(5, bytes, length, seed);
 }
 
-KOMI_INLINE uint64_t komi_hash_of_words(uint8_t version, komi_bytes bytes, uint64_t seed) {
+KOMI_INLINE uint64_t komi_hash_of_words(uint8_t version, const uint8_t *bytes, size_t length,
+    uint64_t seed) {
     komi_pair pair = komi_seed_pair(seed);
-    uint64_t final_word = komi_final_word_of_many(bytes, komi_padding_byte(version, bytes));
-    return komi_hash_from_pair(pair, bytes, komi_last_whole_word(bytes), final_word);
+    uint64_t final_word = komi_final_word_of_many(bytes, length,
+        komi_padding_byte(version, bytes, length));
+    return komi_hash_from_pair(pair, bytes, length, komi_last_whole_word(bytes, length),
+        final_word);
 }
 
-KOMI_SHORT uint64_t komi_hash_of_words_v4(komi_bytes bytes, uint64_t seed) {
-    return komi_hash_of_words(4, bytes, seed);
+KOMI_SHORT uint64_t komi_hash_of_words_v4(const uint8_t *bytes, size_t length, uint64_t seed) {
+    return komi_hash_of_words(4, bytes, length, seed);
 }
 
-KOMI_SHORT uint64_t komi_hash_of_words_v5(komi_bytes bytes, uint64_t seed) {
-    return komi_hash_of_words(5, bytes, seed);
+KOMI_SHORT uint64_t komi_hash_of_words_v5(const uint8_t *bytes, size_t length, uint64_t seed) {
+    return komi_hash_of_words(5, bytes, length, seed);
 }
 
 /* One block needs no loop. Functions that read blocks aren't inlined: callers would get long. */
-KOMI_INLINE uint64_t komi_hash_of_one_block(uint8_t version, komi_bytes bytes, uint64_t seed) {
+KOMI_INLINE uint64_t komi_hash_of_one_block(uint8_t version, const uint8_t *bytes, size_t length,
+    uint64_t seed) {
     komi_lanes lanes = komi_lanes_of(komi_seed_pair(seed));
-    komi_bytes rest = komi_absorb_only_block(version, &lanes, bytes);
+    komi_bytes rest = komi_absorb_first_block(version, &lanes, bytes, length);
     komi_pair pair = komi_join(&lanes, true);
     /* Keys may have just 64 bytes, and their final word is the padding byte alone. */
     if (rest.length == 0) {
-        return komi_close(pair, komi_padding_byte(version, bytes), 0);
+        return komi_close(pair, komi_padding_byte(version, bytes, length), 0);
     }
-    uint64_t final_word = komi_final_word_of_many(bytes, komi_padding_byte(version, bytes));
+    uint64_t final_word = komi_final_word_of_many(bytes, length,
+        komi_padding_byte(version, bytes, length));
     /* `rest` may have no whole word. If it has one, its last is that of all bytes. */
-    return komi_hash_from_pair(pair, rest, komi_last_whole_word(bytes), final_word);
+    return komi_hash_from_pair(pair, rest.at, rest.length, komi_last_whole_word(bytes, length),
+        final_word);
 }
 
-KOMI_APART uint64_t komi_hash_of_one_block_v4(komi_bytes bytes, uint64_t seed) {
-    return komi_hash_of_one_block(4, bytes, seed);
+KOMI_APART uint64_t komi_hash_of_one_block_v4(const uint8_t *bytes, size_t length, uint64_t seed) {
+    return komi_hash_of_one_block(4, bytes, length, seed);
 }
 
-KOMI_APART uint64_t komi_hash_of_one_block_v5(komi_bytes bytes, uint64_t seed) {
-    return komi_hash_of_one_block(5, bytes, seed);
+KOMI_APART uint64_t komi_hash_of_one_block_v5(const uint8_t *bytes, size_t length, uint64_t seed) {
+    return komi_hash_of_one_block(5, bytes, length, seed);
 }
 
-KOMI_INLINE uint64_t komi_hash_of_blocks(uint8_t version, komi_bytes bytes, uint64_t seed) {
+KOMI_INLINE uint64_t komi_hash_of_blocks(uint8_t version, const uint8_t *bytes, size_t length,
+    uint64_t seed) {
     komi_pair pair = komi_seed_pair(seed);
-    uint64_t final_word = komi_final_word_of_many(bytes, komi_padding_byte(version, bytes));
+    uint64_t final_word = komi_final_word_of_many(bytes, length,
+        komi_padding_byte(version, bytes, length));
     komi_lanes lanes = komi_lanes_of(pair);
     /* Two blocks need no loop either. */
     komi_bytes rest;
-    if (bytes.length < 192) {
-        komi_bytes after = komi_absorb_first_block(version, &lanes, bytes);
-        rest = komi_absorb_only_block(version, &lanes, after);
+    if (length < 192) {
+        komi_bytes after = komi_absorb_first_block(version, &lanes, bytes, length);
+        rest = komi_absorb_first_block(version, &lanes, after.at, after.length);
     } else {
-        rest = komi_absorb_blocks(version, &lanes, bytes);
+        rest = komi_absorb_blocks(version, &lanes, bytes, length);
     }
     pair = komi_join(&lanes, true);
     /* This test pays after several blocks, but not after one. */
     if (rest.length < 8) {
         return komi_close(pair, final_word, 0);
     }
-    return komi_hash_from_pair(pair, rest, komi_last_whole_word(rest), final_word);
+    return komi_hash_from_pair(pair, rest.at, rest.length,
+        komi_last_whole_word(rest.at, rest.length), final_word);
 }
 
-KOMI_APART uint64_t komi_hash_of_blocks_v4(komi_bytes bytes, uint64_t seed) {
-    return komi_hash_of_blocks(4, bytes, seed);
+KOMI_APART uint64_t komi_hash_of_blocks_v4(const uint8_t *bytes, size_t length, uint64_t seed) {
+    return komi_hash_of_blocks(4, bytes, length, seed);
 }
 
-KOMI_APART uint64_t komi_hash_of_blocks_v5(komi_bytes bytes, uint64_t seed) {
-    return komi_hash_of_blocks(5, bytes, seed);
+KOMI_APART uint64_t komi_hash_of_blocks_v5(const uint8_t *bytes, size_t length, uint64_t seed) {
+    return komi_hash_of_blocks(5, bytes, length, seed);
 }
 
 /* Returns the hash of a message with a seed in the version.
  *
  * The tests of the length are inlined into the caller, and vanish where it knows the length. */
-KOMI_INLINE uint64_t komi_hash_message(uint8_t version, komi_bytes bytes, uint64_t seed) {
-    if (bytes.length >= 8) {
-        if (bytes.length >= 64) {
-            if (bytes.length >= 128) {
-                return version == 4 ? komi_hash_of_blocks_v4(bytes, seed) :
-                    komi_hash_of_blocks_v5(bytes, seed);
+KOMI_INLINE uint64_t komi_hash_message(uint8_t version, const uint8_t *bytes, size_t length,
+    uint64_t seed) {
+    if (length >= 8) {
+        if (length >= 64) {
+            if (length >= 128) {
+                return KOMI_COPY_OF(version, komi_hash_of_blocks, (bytes, length, seed));
             } else {
-                return version == 4 ? komi_hash_of_one_block_v4(bytes, seed) :
-                    komi_hash_of_one_block_v5(bytes, seed);
+                return KOMI_COPY_OF(version, komi_hash_of_one_block, (bytes, length, seed));
             }
-        } else if (bytes.length < 16) {
-            return version == 4 ? komi_hash_of_one_word_v4(bytes, seed) :
-                komi_hash_of_one_word_v5(bytes, seed);
-        } else if (bytes.length > 16) {
-            return version == 4 ? komi_hash_of_words_v4(bytes, seed) :
-                komi_hash_of_words_v5(bytes, seed);
+        } else if (length < 16) {
+            return KOMI_COPY_OF(version, komi_hash_of_one_word, (bytes, length, seed));
+        } else if (length > 16) {
+            return KOMI_COPY_OF(version, komi_hash_of_words, (bytes, length, seed));
         } else {
-            return version == 4 ? komi_hash_of_16_bytes_v4(bytes, seed) :
-                komi_hash_of_16_bytes_v5(bytes, seed);
+            return KOMI_COPY_OF(version, komi_hash_of_16_bytes, (bytes, length, seed));
         }
-    } else if (bytes.length == 0) {
+    } else if (length == 0) {
         return komi_close(komi_seed_pair(seed), 0, 0);
     } else {
-        return version == 4 ? komi_hash_of_partial_word_v4(bytes, seed) :
-            komi_hash_of_partial_word_v5(bytes, seed);
+        return KOMI_COPY_OF(version, komi_hash_of_partial_word, (bytes, length, seed));
     }
 }
 
@@ -1064,8 +1030,9 @@ KOMI_INLINE size_t komi_word_index(size_t len) {
 
 /* Appends fewer than eight bytes. If all fit in the partial word, 0 goes to the next word, which
  * after the last is the first. */
-KOMI_INLINE void komi_append_below_eight(uint64_t *words, size_t len, komi_bytes bytes) {
-    uint64_t word = komi_read_partial_word(bytes, 0);
+KOMI_INLINE void komi_append_below_eight(uint64_t *words, size_t len, const uint8_t *bytes,
+    size_t length) {
+    uint64_t word = komi_read_partial_word(bytes, length, 0);
     size_t bits = 8 * (len % 8);
     words[komi_word_index(len)] |= word << bits;
     /* The rotation is the shifted word plus what the shift drops, moved to the lowest bytes, where
@@ -1081,8 +1048,8 @@ KOMI_INLINE void komi_append_within_word(uint64_t *words, size_t len, const uint
 /* Stores two of the chunks as words, those from index `at` on. */
 KOMI_INLINE void komi_store_two_chunks(uint64_t *words, const uint8_t *chunks, size_t at) {
     const uint8_t *two = chunks + 8 * at;
-    uint64_t first = komi_load_u64(two);
-    uint64_t second = komi_load_u64(two + 8);
+    uint64_t first = komi_read_word(two);
+    uint64_t second = komi_read_word(two + 8);
     uint64_t *out = words + at;
     out[0] = first;
     out[1] = second;
@@ -1090,68 +1057,71 @@ KOMI_INLINE void komi_store_two_chunks(uint64_t *words, const uint8_t *chunks, s
 
 /* Stores two to seven chunks as words, two at a time from both ends, and some twice, which saves
  * jumps. */
-KOMI_INLINE void komi_store_chunks(uint64_t *words, komi_bytes chunks) {
-    size_t count = chunks.length / 8;
+KOMI_INLINE void komi_store_chunks(uint64_t *words, const uint8_t *chunks, size_t chunks_length) {
+    size_t count = chunks_length / 8;
     /* In this order, a stream of one write takes fewer instructions than in others. */
-    komi_store_two_chunks(words, chunks.at, count - 2);
-    komi_store_two_chunks(words, chunks.at, 0);
+    komi_store_two_chunks(words, chunks, count - 2);
+    komi_store_two_chunks(words, chunks, 0);
     if (count >= 4) {
-        komi_store_two_chunks(words, chunks.at, count - 4);
-        komi_store_two_chunks(words, chunks.at, 2);
+        komi_store_two_chunks(words, chunks, count - 4);
+        komi_store_two_chunks(words, chunks, 2);
     }
 }
 
 /* Of eight bytes or more, appends those that end up in whole words. */
-KOMI_INLINE void komi_append_whole_words(uint64_t *words, size_t len, komi_bytes bytes) {
-    komi_append_within_word(words, len, bytes.at);
+KOMI_INLINE void komi_append_whole_words(uint64_t *words, size_t len, const uint8_t *bytes,
+    size_t length) {
+    komi_append_within_word(words, len, bytes);
     size_t next = komi_word_index(len) + 1;
     size_t next_at = 8 - len % 8;
     /* The words after the partial word that are whole with the bytes. */
-    komi_bytes chunks = komi_bytes_of(bytes.at + next_at, bytes.length - next_at);
-    if (chunks.length / 8 >= 2) {
-        komi_store_chunks(words + next, chunks);
+    const uint8_t *chunks = bytes + next_at;
+    if ((length - next_at) / 8 >= 2) {
+        komi_store_chunks(words + next, chunks, length - next_at);
     } else {
         /* If the next word isn't whole, `komi_append_eight_or_more` overwrites what this stores. A
          * test whether it is would cost a jump. */
-        words[next % 8] = komi_word_at(bytes.at, komi_min(next_at, bytes.length - 8));
+        words[next % 8] = komi_word_at(bytes, komi_min(next_at, length - 8));
     }
 }
 
 /* Appends eight bytes or more: those of whole words, and then those that are left. */
-KOMI_INLINE void komi_append_eight_or_more(uint64_t *words, size_t len, komi_bytes bytes) {
-    komi_append_whole_words(words, len, bytes);
-    size_t end = len + bytes.length;
+KOMI_INLINE void komi_append_eight_or_more(uint64_t *words, size_t len, const uint8_t *bytes,
+    size_t length) {
+    komi_append_whole_words(words, len, bytes, length);
+    size_t end = len + length;
     /* The shift by 8 comes last, because clang would otherwise read seven bytes in three pieces. */
-    words[komi_word_index(end)] = komi_last_word(bytes) >> (56 - 8 * (end % 8)) >> 8;
+    words[komi_word_index(end)] = komi_last_word(bytes, length) >> (56 - 8 * (end % 8)) >> 8;
 }
 
 /* Appends bytes that do not complete the block. */
-KOMI_INLINE void komi_append_to_block(uint64_t *words, size_t len, komi_bytes bytes) {
-    if (bytes.length < 8) {
-        komi_append_below_eight(words, len, bytes);
+KOMI_INLINE void komi_append_to_block(uint64_t *words, size_t len, const uint8_t *bytes,
+    size_t length) {
+    if (length < 8) {
+        komi_append_below_eight(words, len, bytes, length);
     } else {
-        komi_append_eight_or_more(words, len, bytes);
+        komi_append_eight_or_more(words, len, bytes, length);
     }
 }
 
 /* Stores the whole words of eight bytes or more where none is pending. */
-KOMI_INLINE void komi_store_whole_words(uint64_t *words, komi_bytes bytes) {
-    if (bytes.length / 8 >= 2) {
-        komi_store_chunks(words, bytes);
+KOMI_INLINE void komi_store_whole_words(uint64_t *words, const uint8_t *bytes, size_t length) {
+    if (length / 8 >= 2) {
+        komi_store_chunks(words, bytes, length);
     } else {
-        words[0] = komi_read_word(bytes.at);
+        words[0] = komi_read_word(bytes);
     }
 }
 
 /* Stores bytes where none is pending. */
-KOMI_INLINE void komi_store_bytes(uint64_t *words, komi_bytes bytes) {
-    if (bytes.length < 8) {
-        words[0] = komi_read_partial_word(bytes, 0);
+KOMI_INLINE void komi_store_bytes(uint64_t *words, const uint8_t *bytes, size_t length) {
+    if (length < 8) {
+        words[0] = komi_read_partial_word(bytes, length, 0);
     } else {
-        komi_store_whole_words(words, bytes);
+        komi_store_whole_words(words, bytes, length);
         /* The shift by 8 comes last, as above. */
-        words[komi_word_index(bytes.length)] =
-            komi_last_word(bytes) >> (56 - 8 * (bytes.length % 8)) >> 8;
+        words[komi_word_index(length)] =
+            komi_last_word(bytes, length) >> (56 - 8 * (length % 8)) >> 8;
     }
 }
 
@@ -1166,40 +1136,42 @@ KOMI_INLINE void komi_store_two_words(uint64_t *words, size_t at, const uint8_t 
 
 /* Stores the bytes that complete the block, some words twice, first from the front and then from
  * the back. */
-KOMI_INLINE void komi_complete_block(uint64_t *words, size_t len, komi_bytes bytes) {
-    if (bytes.length < 8) {
-        words[7] |= komi_read_partial_word(bytes, 0) << (8 * (len % 8));
+KOMI_INLINE void komi_complete_block(uint64_t *words, size_t len, const uint8_t *bytes,
+    size_t length) {
+    if (length < 8) {
+        words[7] |= komi_read_partial_word(bytes, length, 0) << (8 * (len % 8));
         return;
     }
-    komi_append_within_word(words, len, bytes.at);
+    komi_append_within_word(words, len, bytes);
     size_t next_at = 8 - len % 8;
-    bool over_32 = bytes.length > 32;
-    bool over_16 = bytes.length > 16;
+    bool over_32 = length > 32;
+    bool over_16 = length > 16;
     if (over_32) {
         size_t next = len / 8 % 4 + 1;
-        const uint8_t *back = bytes.at + bytes.length - 32;
-        komi_store_two_words(words, next, bytes.at, next_at);
-        words[next + 2] = komi_word_at(bytes.at, next_at + 16);
+        const uint8_t *back = bytes + length - 32;
+        komi_store_two_words(words, next, bytes, next_at);
+        words[next + 2] = komi_word_at(bytes, next_at + 16);
         komi_store_two_words(words, 4, back, 0);
         komi_store_two_words(words, 6, back, 16);
     } else if (over_16) {
-        const uint8_t *back = bytes.at + bytes.length - 16;
-        words[len / 8 % 2 + 5] = komi_word_at(bytes.at, next_at);
+        const uint8_t *back = bytes + length - 16;
+        words[len / 8 % 2 + 5] = komi_word_at(bytes, next_at);
         komi_store_two_words(words, 6, back, 0);
     } else {
-        words[7] = komi_last_word(bytes);
+        words[7] = komi_last_word(bytes, length);
     }
 }
 
 /* Puts bytes after the pending ones. `none` says that none is pending, `full` that the bytes
  * complete the block. */
-KOMI_INLINE void komi_put(bool none, bool full, uint64_t *words, size_t len, komi_bytes bytes) {
+KOMI_INLINE void komi_put(bool none, bool full, uint64_t *words, size_t len, const uint8_t *bytes,
+    size_t length) {
     if (full) {
-        komi_complete_block(words, len, bytes);
+        komi_complete_block(words, len, bytes, length);
     } else if (none) {
-        komi_store_bytes(words, bytes);
+        komi_store_bytes(words, bytes, length);
     } else {
-        komi_append_to_block(words, len, bytes);
+        komi_append_to_block(words, len, bytes, length);
     }
 }
 
@@ -1213,29 +1185,30 @@ KOMI_INLINE size_t komi_pending_len(const komi_pending *self) {
 }
 
 /* Appends bytes that do not complete a block. */
-KOMI_INLINE void komi_pending_append(komi_pending *self, komi_bytes bytes) {
+KOMI_INLINE void komi_pending_append(komi_pending *self, const uint8_t *bytes, size_t length) {
     size_t len = self->len;
-    self->len = len + bytes.length;
-    komi_put(false, false, self->words.at, len, bytes);
+    self->len = len + length;
+    komi_put(false, false, self->words.at, len, bytes, length);
 }
 
 /* Appends bytes where none is pending. Does what `komi_pending_append` does, but the compiler knows
  * that the length was 0. */
-KOMI_INLINE void komi_pending_append_to_none(komi_pending *self, komi_bytes bytes) {
+KOMI_INLINE void komi_pending_append_to_none(komi_pending *self, const uint8_t *bytes,
+    size_t length) {
     /* Often there are no bytes. */
-    bytes = komi_bytes_of(bytes.at, bytes.length % 64);
-    if (bytes.length != 0) {
-        komi_put(true, false, self->words.at, 0, bytes);
-        self->len = bytes.length;
+    if (length % 64 != 0) {
+        komi_put(true, false, self->words.at, 0, bytes, length % 64);
+        self->len = length % 64;
     }
 }
 
 /* Returns the words of the block that the bytes complete, and leaves no byte pending. */
-KOMI_INLINE komi_block komi_pending_complete(komi_pending *self, komi_bytes bytes) {
-    komi_put(false, true, self->words.at, self->len, bytes);
+KOMI_INLINE komi_block komi_pending_complete(komi_pending *self, const uint8_t *bytes,
+    size_t length) {
+    komi_put(false, true, self->words.at, self->len, bytes, length);
     komi_block block = self->words;
-    const komi_block zeros = {{0}};
-    self->words = zeros;
+    const komi_block value = {{0}};
+    self->words = value;
     self->len = 0;
     return block;
 }
@@ -1252,14 +1225,13 @@ KOMI_INLINE uint64_t komi_pending_padding_byte(uint8_t version, const komi_pendi
  *
  * They are two of the eight words, the first at an even index, and one of them has the padding
  * byte. This takes fewer instructions than to choose between words. */
-KOMI_INLINE void komi_pending_last_two(uint8_t version, const komi_pending *self, uint64_t *first,
-    uint64_t *second) {
+KOMI_INLINE komi_two komi_pending_last_two(uint8_t version, const komi_pending *self) {
     uint64_t padding = komi_pending_padding_byte(version, self) << (8 * (self->len % 8));
     uint64_t in_first = komi_either(self->len / 8 % 2 == 1, 0, padding);
     /* In this way clang reads the words at an index that one instruction makes of the length. */
     const uint64_t *two = self->words.at + 2 * (self->len / 16 % 4);
-    *first = two[0] | in_first;
-    *second = two[1] | (padding - in_first);
+    const komi_two result = {two[0] | in_first, two[1] | (padding - in_first)};
+    return result;
 }
 
 /* Writes the bytes to the front of `out`. The rest of `out` is unchanged. */
@@ -1273,123 +1245,6 @@ KOMI_INLINE size_t komi_pending_count(const komi_pending *self) {
 
 KOMI_INLINE uint64_t komi_pending_word(const komi_pending *self, size_t at) {
     return self->words.at[at];
-}
-
-/* --------------------------------------------------------------------------------------------- */
-/* The saved text of a stream, part by part: four bytes that describe it, the eight lanes in their
- * order, and the pending bytes. */
-
-#define KOMI_LANES_AT 4
-#define KOMI_PENDING_AT 68
-
-/* Writes the first four bytes: the version, the two flags, and the number of pending bytes. */
-KOMI_INLINE void komi_write_head(uint8_t version, bool had_block, bool top_bit, size_t pending_len,
-    uint8_t *out) {
-    out[0] = version;
-    out[1] = (uint8_t)had_block;
-    out[2] = (uint8_t)top_bit;
-    out[3] = (uint8_t)pending_len;
-}
-
-/* Writes the lanes after the first four bytes. */
-KOMI_INLINE void komi_write_lanes(const komi_lanes *lanes, uint8_t *out) {
-    komi_block words = komi_in_order(lanes);
-    komi_write_words(komi_words_of(words.at, 8), out + KOMI_LANES_AT);
-}
-
-/* Writes the pending bytes after the lanes, and returns where they end. */
-KOMI_INLINE size_t komi_write_pending(const komi_pending *pending, uint8_t *out) {
-    size_t end = KOMI_PENDING_AT + komi_pending_len(pending);
-    komi_pending_write_to(pending, out + KOMI_PENDING_AT);
-    return end;
-}
-
-/* Returns whether the first four bytes may begin a text of the version. */
-KOMI_INLINE bool komi_is_head(uint8_t version, const uint8_t *bytes) {
-    return bytes[0] == version && bytes[1] < 2 &&
-        bytes[2] <= (komi_has_two(version) ? bytes[1] : 0) && bytes[3] < 64;
-}
-
-/* Returns whether bytes are the text of a state of the version. */
-KOMI_INLINE bool komi_is_text(uint8_t version, komi_bytes bytes) {
-    return bytes.length >= KOMI_PENDING_AT && komi_is_head(version, bytes.at) &&
-        bytes.length == KOMI_PENDING_AT + (size_t)bytes.at[3];
-}
-
-KOMI_INLINE komi_lanes komi_read_lanes(const uint8_t *bytes) {
-    komi_block lanes = {{0}};
-    komi_read_whole_words(komi_bytes_of(bytes + KOMI_LANES_AT, KOMI_PENDING_AT - KOMI_LANES_AT),
-        lanes.at);
-    return komi_from_order(lanes.at);
-}
-
-KOMI_INLINE komi_pending komi_read_pending(komi_bytes bytes) {
-    komi_pending pending = komi_pending_new();
-    /* Here this takes fewer instructions than `komi_pending_append_to_none`. */
-    komi_pending_append(&pending,
-        komi_bytes_of(bytes.at + KOMI_PENDING_AT, bytes.length - KOMI_PENDING_AT));
-    return pending;
-}
-
-/* --------------------------------------------------------------------------------------------- */
-/* The stream of both versions. */
-
-/* Returns the new stream of a seed. */
-KOMI_INLINE komi_stream komi_stream_begin(uint64_t seed) {
-    const komi_stream result = {
-        komi_pending_new(),
-        komi_lanes_of(komi_seed_pair(seed)),
-        false,
-        false,
-    };
-    return result;
-}
-
-/* Absorbs bytes that complete a block or more. Copies those that complete the partial block, if
- * there is one, and those after the last block. It stays out of callers, which would get long. */
-KOMI_INLINE void komi_stream_complete_blocks(uint8_t version, komi_stream *self, komi_bytes bytes) {
-    size_t pending_len = komi_pending_len(&self->pending);
-    size_t blocks_end = bytes.length - (pending_len + bytes.length) % 64;
-    /* The first test keeps version 5 from computing an index and reading a byte. */
-    self->top_bit = komi_has_two(version) && komi_pads_with_two(version, bytes.at[blocks_end - 1]);
-    self->had_block = true;
-    komi_lanes lanes;
-    komi_bytes rest = bytes;
-    if (pending_len == 0) {
-        lanes = self->lanes;
-    } else {
-        komi_bytes after = komi_bytes_of(bytes.at + (64 - pending_len),
-            bytes.length - (64 - pending_len));
-        rest = after;
-        komi_block block = komi_pending_complete(&self->pending,
-            komi_bytes_of(bytes.at, 64 - pending_len));
-        /* The lanes are read after `komi_pending_complete`, which needs the registers itself. */
-        lanes = self->lanes;
-        komi_block_round(&lanes, block.at, komi_places(version));
-    }
-    komi_bytes left = komi_absorb_blocks(version, &lanes, rest);
-    self->lanes = lanes;
-    komi_pending_append_to_none(&self->pending, left);
-}
-
-KOMI_APART void komi_stream_complete_blocks_v4(komi_stream *self, komi_bytes bytes) {
-    komi_stream_complete_blocks(4, self, bytes);
-}
-
-KOMI_APART void komi_stream_complete_blocks_v5(komi_stream *self, komi_bytes bytes) {
-    komi_stream_complete_blocks(5, self, bytes);
-}
-
-KOMI_INLINE void komi_stream_absorb(uint8_t version, komi_stream *self, komi_bytes bytes) {
-    if (komi_pending_len(&self->pending) + bytes.length < 64) {
-        komi_pending_append(&self->pending, bytes);
-    } else {
-        if (version == 4) {
-            komi_stream_complete_blocks_v4(self, bytes);
-        } else {
-            komi_stream_complete_blocks_v5(self, bytes);
-        }
-    }
 }
 
 /* Returns the pair after a round on the two words from index `at`. */
@@ -1414,6 +1269,115 @@ KOMI_INLINE komi_pair komi_round_each_pending(komi_pair pair, const komi_pending
     return komi_round_at_pending(pair, left, 4);
 }
 
+/* --------------------------------------------------------------------------------------------- */
+/* The saved text of a stream, part by part: four bytes that describe it, the eight lanes in their
+ * order, and the pending bytes. */
+
+#define KOMI_LANES_AT 4
+#define KOMI_PENDING_AT 68
+
+/* Writes the first four bytes: the version, the two flags, and the number of pending bytes. */
+KOMI_INLINE void komi_write_head(uint8_t version, bool had_block, bool top_bit, size_t pending_len,
+    uint8_t *out) {
+    out[0] = version;
+    out[1] = (uint8_t)had_block;
+    out[2] = (uint8_t)top_bit;
+    out[3] = (uint8_t)pending_len;
+}
+
+/* Writes the lanes after the first four bytes. */
+KOMI_INLINE void komi_write_lanes(const komi_lanes *lanes, uint8_t *out) {
+    komi_block words = komi_in_order(lanes);
+    komi_write_words(words.at, 8, out + KOMI_LANES_AT);
+}
+
+/* Writes the pending bytes after the lanes, and returns where they end. */
+KOMI_INLINE size_t komi_write_pending(const komi_pending *pending, uint8_t *out) {
+    size_t end = KOMI_PENDING_AT + komi_pending_len(pending);
+    komi_pending_write_to(pending, out + KOMI_PENDING_AT);
+    return end;
+}
+
+/* Returns whether the first four bytes may begin a text of the version. */
+KOMI_INLINE bool komi_is_head(uint8_t version, const uint8_t *bytes) {
+    return bytes[0] == version && bytes[1] < 2 &&
+        bytes[2] <= (komi_has_two(version) ? bytes[1] : 0) && bytes[3] < 64;
+}
+
+/* Returns whether bytes are the text of a state of the version. */
+KOMI_INLINE bool komi_is_text(uint8_t version, const uint8_t *bytes, size_t length) {
+    return length >= KOMI_PENDING_AT && komi_is_head(version, bytes) &&
+        length == KOMI_PENDING_AT + (size_t)bytes[3];
+}
+
+KOMI_INLINE komi_lanes komi_read_lanes(const uint8_t *bytes) {
+    komi_block lanes = {{0}};
+    komi_read_whole_words(bytes + KOMI_LANES_AT, KOMI_PENDING_AT - KOMI_LANES_AT, lanes.at);
+    return komi_from_order(lanes.at);
+}
+
+KOMI_INLINE komi_pending komi_read_pending(const uint8_t *bytes, size_t length) {
+    komi_pending pending = komi_pending_new();
+    /* Here this takes fewer instructions than `komi_pending_append_to_none`. */
+    komi_pending_append(&pending, bytes + KOMI_PENDING_AT, length - KOMI_PENDING_AT);
+    return pending;
+}
+
+/* --------------------------------------------------------------------------------------------- */
+/* The stream of both versions. */
+
+/* Returns the new stream of a seed. */
+KOMI_INLINE komi_stream komi_stream_begin(uint64_t seed) {
+    const komi_stream result = {komi_pending_new(), komi_lanes_of(komi_seed_pair(seed)), false,
+        false};
+    return result;
+}
+
+/* Absorbs bytes that complete a block or more. Copies those that complete the partial block, if
+ * there is one, and those after the last block. It stays out of callers, which would get long. */
+KOMI_INLINE void komi_stream_complete_blocks(uint8_t version, komi_stream *self,
+    const uint8_t *bytes, size_t length) {
+    size_t pending_len = komi_pending_len(&self->pending);
+    size_t blocks_end = length - (pending_len + length) % 64;
+    /* The first test keeps version 5 from computing an index and reading a byte. */
+    self->top_bit = komi_has_two(version) && komi_pads_with_two(version, bytes[blocks_end - 1]);
+    self->had_block = true;
+    komi_lanes lanes;
+    komi_bytes rest = {bytes, length};
+    if (pending_len == 0) {
+        lanes = self->lanes;
+    } else {
+        komi_bytes after = {bytes + (64 - pending_len), length - (64 - pending_len)};
+        rest = after;
+        komi_block block = komi_pending_complete(&self->pending, bytes, 64 - pending_len);
+        /* The lanes are read after `komi_pending_complete`, which needs the registers itself. */
+        lanes = self->lanes;
+        komi_block_round(&lanes, block.at, komi_places(version));
+    }
+    komi_bytes left = komi_absorb_blocks(version, &lanes, rest.at, rest.length);
+    self->lanes = lanes;
+    komi_pending_append_to_none(&self->pending, left.at, left.length);
+}
+
+KOMI_APART void komi_stream_complete_blocks_v4(komi_stream *self, const uint8_t *bytes,
+    size_t length) {
+    komi_stream_complete_blocks(4, self, bytes, length);
+}
+
+KOMI_APART void komi_stream_complete_blocks_v5(komi_stream *self, const uint8_t *bytes,
+    size_t length) {
+    komi_stream_complete_blocks(5, self, bytes, length);
+}
+
+KOMI_INLINE void komi_stream_absorb(uint8_t version, komi_stream *self, const uint8_t *bytes,
+    size_t length) {
+    if (komi_pending_len(&self->pending) + length < 64) {
+        komi_pending_append(&self->pending, bytes, length);
+    } else {
+        KOMI_COPY_OF(version, komi_stream_complete_blocks, (self, bytes, length));
+    }
+}
+
 KOMI_INLINE uint64_t komi_stream_answer(uint8_t version, const komi_stream *self) {
     komi_pair pair = komi_join(&self->lanes, self->had_block);
     if (komi_pending_len(&self->pending) == 0) {
@@ -1423,8 +1387,9 @@ KOMI_INLINE uint64_t komi_stream_answer(uint8_t version, const komi_stream *self
     }
     /* The rounds come first, because they need the registers that the last two words take. */
     pair = komi_round_each_pending(pair, &self->pending);
-    uint64_t first, second;
-    komi_pending_last_two(version, &self->pending, &first, &second);
+    const komi_two first_and_second = komi_pending_last_two(version, &self->pending);
+    uint64_t first = first_and_second.first;
+    uint64_t second = first_and_second.second;
     return komi_close(pair, first, second);
 }
 
@@ -1434,14 +1399,15 @@ KOMI_INLINE size_t komi_stream_store(uint8_t version, const komi_stream *self, u
     return komi_write_pending(&self->pending, out);
 }
 
-KOMI_INLINE bool komi_stream_restore(uint8_t version, komi_bytes bytes, komi_stream *resumed) {
-    if (!komi_is_text(version, bytes)) {
+KOMI_INLINE bool komi_stream_restore(uint8_t version, const uint8_t *bytes, size_t length,
+    komi_stream *resumed) {
+    if (!komi_is_text(version, bytes, length)) {
         return false;
     }
-    bool had_block = bytes.at[1] == 1;
-    bool top_bit = bytes.at[2] == 1;
-    resumed->pending = komi_read_pending(bytes);
-    resumed->lanes = komi_read_lanes(bytes.at);
+    bool had_block = bytes[1] == 1;
+    bool top_bit = bytes[2] == 1;
+    resumed->pending = komi_read_pending(bytes, length);
+    resumed->lanes = komi_read_lanes(bytes);
     resumed->had_block = had_block;
     resumed->top_bit = top_bit;
     return true;
@@ -1461,8 +1427,9 @@ KOMI_INLINE komi_rand komi_rand_new(uint64_t s1, uint64_t s2) {
 
 /* Takes one step, and returns its output. */
 KOMI_INLINE uint64_t komi_rand_step(uint8_t version, komi_rand *self) {
-    uint64_t low, high;
-    komi_multiply128(self->s1, self->s2, &low, &high);
+    const komi_two low_and_high = komi_multiply128(self->s1, self->s2);
+    uint64_t low = low_and_high.first;
+    uint64_t high = low_and_high.second;
     uint64_t sum = self->s2 + high;
     uint64_t s2 = sum + UINT64_C(0xaaaaaaaaaaaaaaaa);
     self->s1 = version == 4 ? low ^ s2 : (low ^ high) + UINT64_C(0x5555555555555555);
@@ -1470,18 +1437,13 @@ KOMI_INLINE uint64_t komi_rand_step(uint8_t version, komi_rand *self) {
     return self->s1;
 }
 
-/* Takes one step, and returns its output. */
-KOMI_INLINE uint64_t komi_rand_next(uint8_t version, komi_rand *self) {
-    return komi_rand_step(version, self);
-}
-
 /* Returns the generator of two seeds after four steps. */
 KOMI_INLINE komi_rand komi_rand_init_with_extra_seed(uint8_t version, uint64_t s1, uint64_t s2) {
     komi_rand generator = komi_rand_new(s1, s2);
-    komi_rand_next(version, &generator);
-    komi_rand_next(version, &generator);
-    komi_rand_next(version, &generator);
-    komi_rand_next(version, &generator);
+    komi_rand_step(version, &generator);
+    komi_rand_step(version, &generator);
+    komi_rand_step(version, &generator);
+    komi_rand_step(version, &generator);
     return generator;
 }
 
@@ -1494,18 +1456,18 @@ KOMI_INLINE komi_rand komi_rand_init(uint8_t version, uint64_t seed) {
  *
  * Takes one step for each eight bytes, and one more for a remainder, which gets the lowest bytes of
  * its output; its other bytes are dropped. Takes no step if the buffer is empty. */
-KOMI_INLINE void komi_rand_fill_bytes(uint8_t version, komi_rand *self, komi_buffer buffer) {
+KOMI_INLINE void komi_rand_fill_bytes(uint8_t version, komi_rand *self, uint8_t *buffer,
+    size_t buffer_length) {
     /* A copy stays in registers, also from the last whole word to the remainder. */
     komi_rand generator = komi_rand_new(self->s1, self->s2);
-    size_t whole = buffer.length / 8;
+    size_t whole = buffer_length / 8;
     for (size_t i = 0; i < whole; i++) {
         uint64_t word = komi_rand_step(version, &generator);
-        komi_write_word(word, buffer.at + 8 * i);
+        komi_write_word(word, buffer + 8 * i);
     }
-    if (buffer.length % 8 > 0) {
+    if (buffer_length % 8 > 0) {
         uint64_t output = komi_rand_step(version, &generator);
-        komi_write_partial_word(output,
-            komi_buffer_of(buffer.at + 8 * whole, buffer.length - 8 * whole));
+        komi_write_partial_word(output, buffer + 8 * whole, buffer_length - 8 * whole);
     }
     *self = generator;
 }
@@ -1514,7 +1476,7 @@ KOMI_INLINE void komi_rand_fill_bytes(uint8_t version, komi_rand *self, komi_buf
 /* The calls of each version. */
 
 KOMI_API uint64_t komihash_v5(const void *bytes, size_t length, uint64_t seed) KOMIHASH_NOEXCEPT {
-    return komi_hash_message(5, komi_bytes_of(bytes, length), seed);
+    return komi_hash_message(5, (const uint8_t *)bytes, length, seed);
 }
 
 KOMI_API komihash_v5_stream komihash_v5_start(uint64_t seed) KOMIHASH_NOEXCEPT {
@@ -1529,7 +1491,7 @@ KOMI_API void komihash_v5_init(komihash_v5_stream *stream, uint64_t seed) KOMIHA
 
 KOMI_API void komihash_v5_write(komihash_v5_stream *stream, const void *bytes, size_t length)
     KOMIHASH_NOEXCEPT {
-    komi_stream_absorb(5, (komi_stream *)stream, komi_bytes_of(bytes, length));
+    komi_stream_absorb(5, (komi_stream *)stream, (const uint8_t *)bytes, length);
 }
 
 KOMI_API uint64_t komihash_v5_finish(const komihash_v5_stream *stream) KOMIHASH_NOEXCEPT {
@@ -1544,7 +1506,7 @@ KOMI_API size_t komihash_v5_save(const komihash_v5_stream *stream, void *out, si
 
 KOMI_API bool komihash_v5_resume(komihash_v5_stream *stream, const void *text, size_t length)
     KOMIHASH_NOEXCEPT {
-    return komi_stream_restore(5, komi_bytes_of(text, length), (komi_stream *)stream);
+    return komi_stream_restore(5, (const uint8_t *)text, length, (komi_stream *)stream);
 }
 
 KOMI_API komihash_v5_rand komihash_v5_rand_init(uint64_t seed) KOMIHASH_NOEXCEPT {
@@ -1567,27 +1529,27 @@ KOMI_API komihash_v5_rand komihash_v5_rand_init_words(uint64_t s1, uint64_t s2) 
 }
 
 KOMI_API uint64_t komihash_v5_rand_next(komihash_v5_rand *rand) KOMIHASH_NOEXCEPT {
-    return komi_rand_next(5, (komi_rand *)rand);
+    return komi_rand_step(5, (komi_rand *)rand);
 }
 
 KOMI_API void komihash_v5_rand_fill(komihash_v5_rand *rand, void *out, size_t length)
     KOMIHASH_NOEXCEPT {
-    komi_rand_fill_bytes(5, (komi_rand *)rand, komi_buffer_of(out, length));
+    komi_rand_fill_bytes(5, (komi_rand *)rand, (uint8_t *)out, length);
 }
 
 KOMI_API size_t komihash_v5_pad(const void *bytes, size_t length, uint64_t *out, size_t room)
     KOMIHASH_NOEXCEPT {
-    return room <= length / 8 ? 0 : komi_pad(5, komi_bytes_of(bytes, length), out);
+    return room <= length / 8 ? 0 : komi_pad(5, (const uint8_t *)bytes, length, out);
 }
 
 KOMI_API size_t komihash_v5_unpad(const uint64_t *words, size_t length, void *out, size_t room)
     KOMIHASH_NOEXCEPT {
     return length > room / 8 ? KOMIHASH_NONE :
-        komi_unpad(5, komi_words_of(words, length), (uint8_t *)out);
+        komi_unpad(5, words, length, (uint8_t *)out);
 }
 
 KOMI_API uint64_t komihash_v4(const void *bytes, size_t length, uint64_t seed) KOMIHASH_NOEXCEPT {
-    return komi_hash_message(4, komi_bytes_of(bytes, length), seed);
+    return komi_hash_message(4, (const uint8_t *)bytes, length, seed);
 }
 
 KOMI_API komihash_v4_stream komihash_v4_start(uint64_t seed) KOMIHASH_NOEXCEPT {
@@ -1602,7 +1564,7 @@ KOMI_API void komihash_v4_init(komihash_v4_stream *stream, uint64_t seed) KOMIHA
 
 KOMI_API void komihash_v4_write(komihash_v4_stream *stream, const void *bytes, size_t length)
     KOMIHASH_NOEXCEPT {
-    komi_stream_absorb(4, (komi_stream *)stream, komi_bytes_of(bytes, length));
+    komi_stream_absorb(4, (komi_stream *)stream, (const uint8_t *)bytes, length);
 }
 
 KOMI_API uint64_t komihash_v4_finish(const komihash_v4_stream *stream) KOMIHASH_NOEXCEPT {
@@ -1617,7 +1579,7 @@ KOMI_API size_t komihash_v4_save(const komihash_v4_stream *stream, void *out, si
 
 KOMI_API bool komihash_v4_resume(komihash_v4_stream *stream, const void *text, size_t length)
     KOMIHASH_NOEXCEPT {
-    return komi_stream_restore(4, komi_bytes_of(text, length), (komi_stream *)stream);
+    return komi_stream_restore(4, (const uint8_t *)text, length, (komi_stream *)stream);
 }
 
 KOMI_API komihash_v4_rand komihash_v4_rand_init(uint64_t seed) KOMIHASH_NOEXCEPT {
@@ -1640,23 +1602,23 @@ KOMI_API komihash_v4_rand komihash_v4_rand_init_words(uint64_t s1, uint64_t s2) 
 }
 
 KOMI_API uint64_t komihash_v4_rand_next(komihash_v4_rand *rand) KOMIHASH_NOEXCEPT {
-    return komi_rand_next(4, (komi_rand *)rand);
+    return komi_rand_step(4, (komi_rand *)rand);
 }
 
 KOMI_API void komihash_v4_rand_fill(komihash_v4_rand *rand, void *out, size_t length)
     KOMIHASH_NOEXCEPT {
-    komi_rand_fill_bytes(4, (komi_rand *)rand, komi_buffer_of(out, length));
+    komi_rand_fill_bytes(4, (komi_rand *)rand, (uint8_t *)out, length);
 }
 
 KOMI_API size_t komihash_v4_pad(const void *bytes, size_t length, uint64_t *out, size_t room)
     KOMIHASH_NOEXCEPT {
-    return room <= length / 8 ? 0 : komi_pad(4, komi_bytes_of(bytes, length), out);
+    return room <= length / 8 ? 0 : komi_pad(4, (const uint8_t *)bytes, length, out);
 }
 
 KOMI_API size_t komihash_v4_unpad(const uint64_t *words, size_t length, void *out, size_t room)
     KOMIHASH_NOEXCEPT {
     return length > room / 8 ? KOMIHASH_NONE :
-        komi_unpad(4, komi_words_of(words, length), (uint8_t *)out);
+        komi_unpad(4, words, length, (uint8_t *)out);
 }
 
 #endif /* the definitions */

@@ -2,7 +2,7 @@
  * Copyright (c) 2026 the authors of komihash_rattle
  *
  * `make assembly` made this file from komihash_rattle_inline.h. Do not edit it.
- * Made of: SHA-256 32ff7db65d630793bfb3009388a7f4675c7cb58c7317835580d17efc7880f88e
+ * Made of: SHA-256 c70ceca3a1f184d630d7b73276399f6f0eb146b682f5dfdbeb8a12e7c2475eed
  * Options: -O2 -fno-vectorize -fno-slp-vectorize -mllvm -disable-loop-idiom-memcpy -mllvm -enable-ext-tsp-block-placement -fPIC -ffunction-sections -falign-functions=64 -fno-addrsig -fno-ident -fno-verbose-asm -mno-red-zone -fcf-protection=full -march=x86-64-v3 -mllvm -pre-RA-sched=list-hybrid
  * Compiler: Debian clang version 19.1.7 (3~deb12u1)
  */
@@ -230,35 +230,39 @@ komihash_v5_write:
 	andl	$7, %r8d
 	orq	%r9, (%rdi,%r8,8)
 	andl	$7, %eax
-	movl	$8, %r10d
-	subq	%rax, %r10
-	movq	%rdx, %r9
-	subq	%r10, %r9
+	movl	$8, %r9d
+	subq	%rax, %r9
+	movq	%rdx, %rax
+	subq	%r9, %rax
 	incq	%r8
-	cmpq	$16, %r9
+	cmpq	$16, %rax
 	jb	.LBB3_9
-	negq	%rax
-	addq	%rsi, %rax
-	addq	$8, %rax
+	pushq	%rbx
+	.cfi_def_cfa_offset 16
+	.cfi_offset %rbx, -16
 	leaq	(%rdi,%r8,8), %r10
-	movq	%r9, %r11
-	andq	$-8, %r11
-	vmovups	-16(%rax,%r11), %xmm0
-	vmovups	%xmm0, -16(%r11,%r10)
-	vmovups	(%rax), %xmm0
+	leaq	(%rsi,%r9), %r11
+	movq	%rax, %rbx
+	andq	$-8, %rbx
+	vmovups	-16(%rbx,%r11), %xmm0
+	vmovups	%xmm0, -16(%rbx,%r10)
+	vmovups	(%rsi,%r9), %xmm0
 	vmovups	%xmm0, (%rdi,%r8,8)
-	cmpq	$32, %r9
+	cmpq	$32, %rax
+	popq	%rbx
+	.cfi_def_cfa_offset 8
+	.cfi_restore %rbx
 	jb	.LBB3_10
-	shrq	$3, %r9
-	vmovups	-32(%rax,%r9,8), %xmm0
-	vmovups	%xmm0, -32(%r10,%r9,8)
-	vmovups	16(%rax), %xmm0
+	shrq	$3, %rax
+	vmovups	-32(%r11,%rax,8), %xmm0
+	vmovups	%xmm0, -32(%r10,%rax,8)
+	vmovups	16(%r11), %xmm0
 	vmovups	%xmm0, 16(%r10)
 	jmp	.LBB3_10
 .LBB3_9:
 	leaq	-8(%rdx), %rax
-	cmpq	%rax, %r10
-	cmovbq	%r10, %rax
+	cmpq	%rax, %r9
+	cmovbq	%r9, %rax
 	movq	(%rsi,%rax), %rax
 	andl	$7, %r8d
 	movq	%rax, (%rdi,%r8,8)
@@ -565,7 +569,7 @@ komihash_v5_resume:
 	jb	.LBB6_16
 	movq	%r8, %r9
 	andq	$-8, %r9
-	vmovups	60(%rsi,%r9), %xmm0
+	vmovups	60(%r9,%rsi), %xmm0
 	vmovups	%xmm0, -8(%rsp,%r9)
 	vmovups	76(%rsi), %xmm0
 	vmovups	%xmm0, 8(%rsp)
@@ -1320,35 +1324,39 @@ komihash_v4_write:
 	andl	$7, %r8d
 	orq	%r9, (%rdi,%r8,8)
 	andl	$7, %eax
-	movl	$8, %r10d
-	subq	%rax, %r10
-	movq	%rdx, %r9
-	subq	%r10, %r9
+	movl	$8, %r9d
+	subq	%rax, %r9
+	movq	%rdx, %rax
+	subq	%r9, %rax
 	incq	%r8
-	cmpq	$16, %r9
+	cmpq	$16, %rax
 	jb	.LBB17_9
-	negq	%rax
-	addq	%rsi, %rax
-	addq	$8, %rax
+	pushq	%rbx
+	.cfi_def_cfa_offset 16
+	.cfi_offset %rbx, -16
 	leaq	(%rdi,%r8,8), %r10
-	movq	%r9, %r11
-	andq	$-8, %r11
-	vmovups	-16(%rax,%r11), %xmm0
-	vmovups	%xmm0, -16(%r11,%r10)
-	vmovups	(%rax), %xmm0
+	leaq	(%rsi,%r9), %r11
+	movq	%rax, %rbx
+	andq	$-8, %rbx
+	vmovups	-16(%rbx,%r11), %xmm0
+	vmovups	%xmm0, -16(%rbx,%r10)
+	vmovups	(%rsi,%r9), %xmm0
 	vmovups	%xmm0, (%rdi,%r8,8)
-	cmpq	$32, %r9
+	cmpq	$32, %rax
+	popq	%rbx
+	.cfi_def_cfa_offset 8
+	.cfi_restore %rbx
 	jb	.LBB17_10
-	shrq	$3, %r9
-	vmovups	-32(%rax,%r9,8), %xmm0
-	vmovups	%xmm0, -32(%r10,%r9,8)
-	vmovups	16(%rax), %xmm0
+	shrq	$3, %rax
+	vmovups	-32(%r11,%rax,8), %xmm0
+	vmovups	%xmm0, -32(%r10,%rax,8)
+	vmovups	16(%r11), %xmm0
 	vmovups	%xmm0, 16(%r10)
 	jmp	.LBB17_10
 .LBB17_9:
 	leaq	-8(%rdx), %rax
-	cmpq	%rax, %r10
-	cmovbq	%r10, %rax
+	cmpq	%rax, %r9
+	cmovbq	%r9, %rax
 	movq	(%rsi,%rax), %rax
 	andl	$7, %r8d
 	movq	%rax, (%rdi,%r8,8)
@@ -1684,7 +1692,7 @@ komihash_v4_resume:
 	jb	.LBB20_15
 	movq	%r9, %r10
 	andq	$-8, %r10
-	vmovups	60(%rsi,%r10), %xmm0
+	vmovups	60(%r10,%rsi), %xmm0
 	vmovups	%xmm0, -8(%rsp,%r10)
 	vmovups	76(%rsi), %xmm0
 	vmovups	%xmm0, 8(%rsp)

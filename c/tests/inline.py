@@ -37,7 +37,9 @@ EDITS = [
     ("padding", "message[message.len() - 1]", "*message.last().unwrap()"),
     ("generator", "wrapping_add(high)", "saturating_add(high)"),
     # Statements and expressions.
-    ("rounds", "(C1 ^ (seed & 0x5555", "return (C1 ^ (seed & 0x5555"),
+    ("utils", "let piece = &bytes[at..]", "let piece = &bytes[at + 1..]"),
+    ("utils", "let n = bytes.len();", "let length = bytes.len(); let n = length;"),
+    ("whole_words", "u64::from_le_bytes(words[at])", "let w = words[at]; u64::from_le_bytes(w)"),
     ("utils", "let n = bytes.len();", "let n = match 1 { _ => 2 };"),
     ("utils", "n >= 4", "n as i32 >= 4"), ("rounds", "mix(a, e, e)", "mix(a, e, -1)"),
     ("generator", "in 0..whole", "in (0..whole).rev()"), ("generator", "0..whole", "0..=whole"),
