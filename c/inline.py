@@ -488,7 +488,7 @@ class Function:
     def simple(self, target, returns):
         value = Value("", "") if self.peek() == ";" else self.expression()
         if self.peek() in ("=", "|="):
-            known(value.text not in self.kept and not returns)
+            known(re.sub(r".*\W", "", value.text) not in self.kept and not returns)
             op, other = self.take(), self.expression()
             self.emit(f"{value.text} {op} {self.unbraced(other, 'value')};")
         else:
@@ -559,7 +559,7 @@ class Function:
         refers, at = element(value.type)[0] and value.parts, value.start().text
         is_named = re.fullmatch(r"[\w.>-]+", at)
         if is_kept and refers and (is_named or value.type not in TYPES):
-            self.kept.update(re.findall(r"(?<![.>])\b[a-z]\w*", at + value.size().text))
+            self.kept.update(re.findall(r"[a-z]\w*", f"{at} {value.size().text}"))
             if not is_named:
                 self.emit(f"{declared(value.type, name)} = {at};")
                 value = pointer(value.type, Value(name), value.size())

@@ -39,6 +39,7 @@ EDITS = [
     # Statements and expressions.
     ("utils", "let piece = &bytes[at..]", "let piece = &bytes[at + 1..]"),
     ("utils", "let n = bytes.len();", "let length = bytes.len(); let n = length;"),
+    ("pending", "bytes[..bytes.len() % 64];", "bytes[..self.len];\n        self.len = 0;"),
     ("whole_words", "u64::from_le_bytes(words[at])", "let w = words[at]; u64::from_le_bytes(w)"),
     ("utils", "let n = bytes.len();", "let n = match 1 { _ => 2 };"),
     ("utils", "n >= 4", "n as i32 >= 4"), ("rounds", "mix(a, e, e)", "mix(a, e, -1)"),
