@@ -48,7 +48,7 @@ SCALARS = {**dict.fromkeys(("wrapping_add", "to_le_bytes", "ilog2", "rotate_left
 MARKS = {"inline(always)": "KOMI_INLINE", "inline(never)": "KOMI_APART",
          "cfg_attr(any(debug_assertions,for_c),inline(never))": "KOMI_SHORT"}
 IGNORED = re.compile(r"allow\(.*|must_use|track_caller|cfg_attr\(.*debug_assertions.*inline.*")
-# Functions that are by hand in C, without lengths.
+# Functions that are by hand in C, where a slice is its pointer alone.
 BY_HAND = {
     "read_word": "u64::from_le_bytes(*bytes.first_chunk().unwrap())",
     "half_word_at": """let piece = &bytes[at..];

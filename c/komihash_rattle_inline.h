@@ -143,8 +143,8 @@
 #define komihash_v5_write KOMI_NAME(komihash_v5_write)
 #endif
 
-/* Slices, tuples and arrays by value. Streams and generators are declared as words, and used as
- * structs below. */
+/* Bytes with their number, two words, and arrays by value. Streams and generators are declared as
+ * words, and used as structs below. */
 typedef struct { const uint8_t *at; size_t length; } komi_bytes;
 typedef struct { uint64_t first, second; } komi_two;
 typedef struct { uint8_t at[8]; } komi_eight;
