@@ -442,11 +442,11 @@ class Function:
         known(array[1] == "u8" and len(given) < 2)
         size = Value(given[0] if given else "8")
         at = value.start()
-        if name == "last_chunk":
-            at = at.joined("+", length).joined("-", size)
+        at = at.joined("+", length).joined("-", size) if name == "last_chunk" else at
         chunk = pointer(f"{array[0] or '&'}[u8;{size.text}]", at)
         known(name in ("first_chunk", "last_chunk", "split_first_chunk"))
-        return braces("tuple", [chunk, value.part(size)]) if name[0] == "s" else chunk
+        rest = Value(f"komi_bytes_after({value.part(size).text[1:-1]})", "&[u8]")
+        return braces("tuple", [chunk, rest]) if name[0] == "s" else chunk
 
     # Statements.
     def emit(self, *texts):

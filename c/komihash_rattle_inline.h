@@ -59,18 +59,18 @@
 #include <stdint.h>
 #if defined(__GNUC__) || defined(__clang__)
 #define KOMI_GNU
+#define komi_copy_array(n, bytes, out) __builtin_memcpy(out, bytes, n) /* also if freestanding */
+#define KOMI_ALIAS __attribute__((may_alias))
+#ifndef __clang__
+#define KOMI_GCC
+#endif
 #else
 #include <string.h>
+#define komi_copy_array(n, bytes, out) memcpy(out, bytes, n)
+#define KOMI_ALIAS
 #ifdef _MSC_VER
 #include <intrin.h>
 #endif
-#endif
-#ifdef KOMI_GNU
-#define komi_copy_array(n, bytes, out) __builtin_memcpy(out, bytes, n) /* also if freestanding */
-#define KOMI_ALIAS __attribute__((may_alias))
-#else
-#define komi_copy_array(n, bytes, out) memcpy(out, bytes, n)
-#define KOMI_ALIAS
 #endif
 
 /* Functions of the library, those that are always inlined, and those that never are, which have a
@@ -97,9 +97,12 @@
 #endif
 #define KOMI_COPY_OF(version, name, arguments) \
     ((version) == 4 ? name##_v4 arguments : name##_v5 arguments)
-/* Hashes of short messages, which the compiler may inline where a caller knows the length. */
+/* Hashes of short messages, which the compiler may inline where a caller knows the length. In the
+ * library, gcc inlines them too, because a call of one would take it a jump more. */
 #ifdef KOMIHASH_RATTLE_IMPLEMENTATION
 #define KOMI_IMPLEMENTED
+#endif
+#if defined(KOMI_IMPLEMENTED) && !defined(KOMI_GCC)
 #define KOMI_SHORT KOMI_APART
 #else
 #define KOMI_SHORT static inline
@@ -420,7 +423,7 @@ KOMI_INLINE uint8_t komi_byte_at(const uint64_t *words, size_t at) {
 
 /* Returns one of two words, by a mask for gcc, which would make a jump that is hard to predict. */
 KOMI_INLINE uint64_t komi_either(bool condition, uint64_t yes, uint64_t no) {
-#if defined(__GNUC__) && !defined(__clang__)
+#ifdef KOMI_GCC
     return no ^ ((yes ^ no) & -(uint64_t)condition);
 #else
     return condition ? yes : no;
@@ -448,10 +451,32 @@ KOMI_INLINE uint32_t komi_ilog2(uint64_t x) {
 #endif
 }
 
+/* Returns the bytes after a block, and hides from gcc by how much the length gets smaller. Otherwise
+ * it counts the blocks too, and reads words before it has registers for them. */
+KOMI_INLINE komi_bytes komi_bytes_after(const uint8_t *at, size_t length) {
+    komi_bytes rest = {at, length};
+#ifdef KOMI_GCC
+    __asm__("" : "+r"(rest.length));
+#endif
+    return rest;
+}
+
 /* Returns the low and the high half of the product of two words. WebAssembly has no product of 128
- * bits: compilers would call a function. */
+ * bits: compilers would call a function. For x86-64, gcc is told the instruction, because it keeps
+ * both halves of its own product together until both were used, and so on the stack. */
 KOMI_INLINE komi_two komi_multiply128(uint64_t x, uint64_t y) {
     komi_two halves;
+#if defined(KOMI_GCC) && defined(__x86_64__)
+    if (!__builtin_constant_p(x) || !__builtin_constant_p(y)) {
+#ifdef __BMI2__
+        __asm__("mulx {%3, %0, %1|%1, %0, %3}"
+            : "=r"(halves.first), "=r"(halves.second) : "d"(x), "rm"(y));
+#else
+        __asm__("mul{q} %3" : "=a"(halves.first), "=d"(halves.second) : "0"(x), "rm"(y) : "cc");
+#endif
+        return halves;
+    }
+#endif
 #if defined(__SIZEOF_INT128__) && !defined(__wasm__)
     __extension__ typedef unsigned __int128 komi_u128;
     const komi_u128 product = (komi_u128)x * y;
@@ -649,7 +674,7 @@ KOMI_INLINE komi_block komi_block_words(const uint8_t *block) {
  * lanes and the same remainder as absorbing all of `bytes` at once. */
 KOMI_INLINE komi_bytes komi_absorb_first_block(uint8_t version, komi_lanes *lanes,
     const uint8_t *bytes, size_t length) {
-    komi_bytes rest = {bytes + 64, length - 64};
+    komi_bytes rest = komi_bytes_after(bytes + 64, length - 64);
     komi_block words = komi_block_words(bytes);
     komi_block_round(lanes, words.at, komi_places(version));
     return rest;
@@ -1447,11 +1472,6 @@ KOMI_INLINE komi_rand komi_rand_init_with_extra_seed(uint8_t version, uint64_t s
     return generator;
 }
 
-/* Returns the generator that has the seed as both words, after four steps. */
-KOMI_INLINE komi_rand komi_rand_init(uint8_t version, uint64_t seed) {
-    return komi_rand_init_with_extra_seed(version, seed, seed);
-}
-
 /* Fills the buffer with the bytes of the next outputs, the lowest byte of each first.
  *
  * Takes one step for each eight bytes, and one more for a remainder, which gets the lowest bytes of
@@ -1510,9 +1530,7 @@ KOMI_API bool komihash_v5_resume(komihash_v5_stream *stream, const void *text, s
 }
 
 KOMI_API komihash_v5_rand komihash_v5_rand_init(uint64_t seed) KOMIHASH_NOEXCEPT {
-    komihash_v5_rand rand;
-    *(komi_rand *)&rand = komi_rand_init(5, seed);
-    return rand;
+    return komihash_v5_rand_init_with_extra_seed(seed, seed);
 }
 
 KOMI_API komihash_v5_rand komihash_v5_rand_init_with_extra_seed(uint64_t seed, uint64_t extra_seed)
@@ -1523,8 +1541,7 @@ KOMI_API komihash_v5_rand komihash_v5_rand_init_with_extra_seed(uint64_t seed, u
 }
 
 KOMI_API komihash_v5_rand komihash_v5_rand_init_words(uint64_t s1, uint64_t s2) KOMIHASH_NOEXCEPT {
-    komihash_v5_rand rand;
-    *(komi_rand *)&rand = komi_rand_new(s1, s2);
+    const komihash_v5_rand rand = {{s1, s2}};
     return rand;
 }
 
@@ -1544,8 +1561,7 @@ KOMI_API size_t komihash_v5_pad(const void *bytes, size_t length, uint64_t *out,
 
 KOMI_API size_t komihash_v5_unpad(const uint64_t *words, size_t length, void *out, size_t room)
     KOMIHASH_NOEXCEPT {
-    return length > room / 8 ? KOMIHASH_NONE :
-        komi_unpad(5, words, length, (uint8_t *)out);
+    return length > room / 8 ? KOMIHASH_NONE : komi_unpad(5, words, length, (uint8_t *)out);
 }
 
 KOMI_API uint64_t komihash_v4(const void *bytes, size_t length, uint64_t seed) KOMIHASH_NOEXCEPT {
@@ -1583,9 +1599,7 @@ KOMI_API bool komihash_v4_resume(komihash_v4_stream *stream, const void *text, s
 }
 
 KOMI_API komihash_v4_rand komihash_v4_rand_init(uint64_t seed) KOMIHASH_NOEXCEPT {
-    komihash_v4_rand rand;
-    *(komi_rand *)&rand = komi_rand_init(4, seed);
-    return rand;
+    return komihash_v4_rand_init_with_extra_seed(seed, seed);
 }
 
 KOMI_API komihash_v4_rand komihash_v4_rand_init_with_extra_seed(uint64_t seed, uint64_t extra_seed)
@@ -1596,8 +1610,7 @@ KOMI_API komihash_v4_rand komihash_v4_rand_init_with_extra_seed(uint64_t seed, u
 }
 
 KOMI_API komihash_v4_rand komihash_v4_rand_init_words(uint64_t s1, uint64_t s2) KOMIHASH_NOEXCEPT {
-    komihash_v4_rand rand;
-    *(komi_rand *)&rand = komi_rand_new(s1, s2);
+    const komihash_v4_rand rand = {{s1, s2}};
     return rand;
 }
 
@@ -1617,8 +1630,7 @@ KOMI_API size_t komihash_v4_pad(const void *bytes, size_t length, uint64_t *out,
 
 KOMI_API size_t komihash_v4_unpad(const uint64_t *words, size_t length, void *out, size_t room)
     KOMIHASH_NOEXCEPT {
-    return length > room / 8 ? KOMIHASH_NONE :
-        komi_unpad(4, words, length, (uint8_t *)out);
+    return length > room / 8 ? KOMIHASH_NONE : komi_unpad(4, words, length, (uint8_t *)out);
 }
 
 #endif /* the definitions */
