@@ -158,5 +158,5 @@ test("a subclass of a generator", sided.sides === 6 && sided.next() === unsided.
 test("a subclass without its arguments", throws(TypeError, () => Sided.fromWords(1n, 2n)));
 
 const told = [`${rows.length} rows, ${failed.length} failures`, ...failed].join("\n");
-page ? (page.textContent = told) : console.log(told);
+page ? Object.assign(page, { textContent: told, hidden: false }) : console.log(told);
 if (failed.length && process) process.exitCode = 1;

@@ -2,13 +2,17 @@
 // PROFILE GONE BIG HUGE LIST WIDE ODD EMPTY FOLDER. Chooses GONE and BIG with wrong seeds, and
 // mends the seed. Then it adds HUGE, and while that is read, the last three, stops, and copies the
 // lines. It checks files by LIST, and BIG by WIDE and by one hash, and types what is no list. At
-// last it changes EMPTY after choosing it, drops BIG where lists go, and clears.
+// last it changes EMPTY after choosing it, drops BIG where lists go, and clears. Without files, the
+// page at URL runs tests and hides its body until they end, and its text is printed. A page may be
+// slow: each wait is for a state, and none for a time.
 import { spawn } from "node:child_process";
+import { once } from "node:events";
 import { writeFileSync } from "node:fs";
 
 const [url, profile, gone, big, huge, list, wide, ...others] = process.argv.slice(2);
 const browser = spawn("chromium", ["--headless", "--no-sandbox", "--remote-debugging-pipe",
-    `--user-data-dir=${profile}`], { stdio: ["ignore", "ignore", "ignore", "pipe", "pipe"] });
+    `--user-data-dir=${profile}`, ...gone ? [] : ["--allow-file-access-from-files"]],
+    { stdio: ["ignore", "ignore", "ignore", "pipe", "pipe"] });
 const waiting = [], [to, from] = browser.stdio.slice(3);
 let text = "", sessionId;
 from.setEncoding("utf-8").on("data", (part) => {
@@ -20,9 +24,11 @@ const call = (method, params) => new Promise((then) => {
     const id = waiting.push(then) - 1;
     to.write(`${JSON.stringify({ id, method, params, sessionId })}\0`);
 });
+/** Returns what an expression gives, or undefined if it throws or another page comes meanwhile. */
 async function run(expression) {
-    const { result } = await call("Runtime.evaluate", { expression, awaitPromise: true });
-    return result.value ?? result.objectId;
+    const { result, exceptionDetails } =
+        await call("Runtime.evaluate", { expression, awaitPromise: true }) ?? {};
+    return exceptionDetails ? undefined : result?.value ?? result?.objectId;
 }
 const choose = async (seed, ...files) => call("DOM.setFileInputFiles",
     { files, objectId: await run(`seed.value = ${seed}, files.value = "", files`) });
@@ -37,7 +43,14 @@ await call("Browser.grantPermissions",
     { permissions: ["clipboardReadWrite", "clipboardSanitizedWrite"] });
 const { targetId } = await call("Target.createTarget", { url });
 ({ sessionId } = await call("Target.attachToTarget", { targetId, flatten: true }));
-while (await run("document.URL + document.readyState + told.textContent") !== `${url}complete`);
+await until(`document.URL + document.readyState + document.body.hidden === "${url}completefalse"`);
+if (!gone) {
+    console.log(await run("document.body.textContent"));
+    browser.kill();
+    await once(browser, "exit");
+    process.exit();
+}
+await until("!told.textContent");
 for (const wrong of ["'0b11'", "2n ** 64n"]) {
     await choose(wrong, gone, big);
     console.log(await run("`${doubt.textContent} ${seed.ariaInvalid}`"));
@@ -62,7 +75,7 @@ await until("/folder/.test(lines.textContent) && /huge/.test(doing.textContent)"
 await run("stopper.click()");
 await tell("verdict");
 await run("copier.click()");
-await until("navigator.clipboard.readText()");
+await until("copied.textContent");
 console.log(await run(`fetch("data:,").catch(async () => told.textContent + failed.textContent +
     await navigator.clipboard.readText() + seed.ariaInvalid + " " + copied.textContent)`));
 await drop("(clearer.click(), wanted)", list);

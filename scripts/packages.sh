@@ -83,9 +83,8 @@ js_in_node() {
 }
 js_in_chromium() {
     all_rows | cat js/tests.html - > "$scratch/js/rows.html"
-    chromium --headless --no-sandbox --user-data-dir="$scratch/chromium" --dump-dom \
-        --allow-file-access-from-files "file://$scratch/js/rows.html" |
-        sed -nE 's|.*<body hidden="">(.*)</body>.*|\1|p' | all_right
+    timeout 600 node js/tests_of_page.mjs "file://$scratch/js/rows.html" "$scratch/of_rows" |
+        all_right
 }
 page_is_made() { sh js/page.sh | cmp - js/komihash.html; }
 # Compares what the page shows with what komihashsum prints for the same files.
@@ -144,9 +143,9 @@ always needs npm 'the package for JavaScript is packed and installed' js_package
 needs 'cargo npm /usr/bin/pip3' 'pages of packages have all that they link to' has_pages
 needs 'npm x86_64-w64-mingw32-gcc groff' 'another copy makes the same packages' made_again
 needs node 'the package for JavaScript, in Node' js_in_node
-needs chromium 'the package for JavaScript, in Chromium' js_in_chromium
+needs 'chromium node' 'the package for JavaScript, in Chromium' js_in_chromium
 run_case 'the page has the module in it' page_is_made
-needs 'chromium cc' 'the page of the package for JavaScript, in Chromium' page_in_chromium
+needs 'chromium node cc' 'the page of the package for JavaScript, in Chromium' page_in_chromium
 needs tsc 'the types of the package for JavaScript' tsc --noEmit --allowJs --checkJs \
     --target es2022 --module es2022 --moduleResolution node16 "$scratch/js/tests.mjs"
 needs 'node tsc' 'the types of the package for JavaScript, by require' js_required
