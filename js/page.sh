@@ -6,8 +6,7 @@ sed -n '1s|^/\*!\(.*\)\*/$|<!--\1\n|p' komihash_rattle.js
 cat LICENSE
 echo '-->'
 set -- $(sed -nE 's/.*(E_VERSION|version":) "(.*)".*/\2/p' package.json ../c/komihash_rattle.h)
-sed -e '/^import /,$d' -e "/^<script/i <p class=\"quiet\">This page has komihash_rattle $1\\
-    inside, with version $2 of its library for C." page.html
+sed -e '/^import /,$d' -e "s/<!--version-->/$1 with version $2 of its library for C/" page.html
 sed -e '1c const { v4, v5 } = (() => {' -e 's/^export //' -e '$a return { v4, v5 }; })();' \
     komihash_rattle.js
 sed '1,/^import /d' page.html

@@ -1,10 +1,11 @@
 // Hashes files in komihash.html in Chromium, and prints what it shows: tests_of_page.mjs URL
 // PROFILE GONE BIG HUGE LIST WIDE ODD EMPTY FOLDER. Chooses GONE and BIG with wrong seeds, and
 // mends the seed. Then it adds HUGE, and while that is read, the last three, stops, and copies the
-// lines. It checks files by LIST, and BIG by WIDE and by one hash, and types what is no list. At
-// last it changes EMPTY after choosing it, drops BIG where lists go, and clears. Without files, the
-// page at URL runs tests and hides its body until they end, and its text is printed. A page may be
-// slow: each wait is for a state, and none for a time.
+// lines. It checks BIG and then all files by LIST, and BIG by WIDE, and by one hash, which it also
+// types, as it types what is no list. At last it changes EMPTY after choosing it, drops BIG where
+// lists go, clears, and drops the empty FOLDER/none. Without files, the page at URL runs tests and
+// hides its body until they end, and its text is printed. A page may be slow: each wait is for a
+// state, and none for a time.
 import { spawn } from "node:child_process";
 import { once } from "node:events";
 import { writeFileSync } from "node:fs";
@@ -57,9 +58,9 @@ for (const wrong of ["'0b11'", "2n ** 64n"]) {
 }
 await run(`steps = 0, new MutationObserver((list) => steps += list.length)
     .observe(bar, { attributeFilter: ["value"] })`);
-await run("seed.value = 0, seed.oninput({}), seed.onblur(), seed.value = '0xA', version.value = 4");
+await run("seed.value = '', seed.oninput({}), seed.onblur(), version.value = 4");
 await finish();
-console.log(await run("`${failed.textContent}progress: ${steps > 9 && bar.position === 1}`"));
+console.log(await run("`${problems.textContent}progress: ${steps > 9 && bar.position === 1}`"));
 await choose("'0xA'", huge);
 await until("/huge/.test(doing.textContent)");
 async function drop(place, ...files) {
@@ -68,7 +69,8 @@ async function drop(place, ...files) {
     const data = { items: [], files, dragOperationsMask: 1 };
     for (const type of ["dragEnter", "dragOver", "drop"])
         await call("Input.dispatchDragEvent", { type, x: x + 9, y: y + 9, data });
-    await until("wanted.value || !hashing.hidden || lines.textContent");
+    await until("wanted.value || !hashing.hidden || lines.textContent || " +
+        "/^No /.test(doing.textContent)");
 }
 await drop("document.body", ...others);
 await until("/folder/.test(lines.textContent) && /huge/.test(doing.textContent)");
@@ -76,31 +78,39 @@ await run("stopper.click()");
 await tell("verdict");
 await run("copier.click()");
 await until("copied.textContent");
-console.log(await run(`fetch("data:,").catch(async () => told.textContent + failed.textContent +
+console.log(await run(`fetch("data:,").catch(async () => told.textContent + problems.textContent +
     await navigator.clipboard.readText() + seed.ariaInvalid + " " + copied.textContent)`));
 await drop("(clearer.click(), wanted)", list);
-await choose("(version.value = 5, 0)", gone, big, ...others.slice(0, -1));
-await tell("verdict", "lines", "failed");
+await choose("(version.value = 5, 0)", big);
+await tell("verdict", "problems");
+await choose(0, gone, ...others.slice(0, -1));
+await tell("verdict", "lines", "problems");
 await drop("(clearer.click(), wanted)", wide);
 await tell("told");
 await choose(0, big);
-await tell("verdict", "failed");
+await tell("verdict", "problems");
 await run("wanted.value = `\\n ${wanted.value.match(/[\\da-f]{16}/)} `, " +
     'wanted.oninput({ inputType: "insertFromPaste" })');
 await tell("verdict", "lines");
+console.log(await run("wanted.oninput({}), results.hidden"));
+await until("!results.hidden");
+await tell("verdict");
 console.log(await run("wanted.value = 0, wanted.oninput({}), results.hidden + " +
-    '(wanted.onblur() ?? ` ${told.textContent} ${wanted.ariaInvalid}`)'));
+    '(wanted.onblur() ?? ` ${told.textContent} ${wanted.ariaInvalid}`) + ' +
+    "(wanted.oninput({}) ?? told.textContent)"));
 await choose("(wanted.value = '', 0)", others[1]);
 await finish();
 writeFileSync(others[1], "more");
 await run("version.onchange()");
 await finish();
 writeFileSync(others[1], "");
-await tell("verdict", "failed");
+await tell("verdict", "problems");
 await drop("(clearer.click(), wanted)", big);
 await tell("lines");
 await choose("(wanted.value = '', 0)", huge);
 await run("clearer.click()");
 await finish();
-console.log(await run("hashing.hidden + failed.textContent + lines.textContent"));
+console.log(await run("hashing.hidden + problems.textContent + lines.textContent"));
+await drop("drop", `${others[2]}/none`);
+await tell("doing");
 browser.kill();

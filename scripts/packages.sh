@@ -93,11 +93,11 @@ page_in_chromium() {
     local lost='is gone, has changed since it was chosen, or cannot be read'
     page=file://$(cd "$scratch/js" && node -p '["package.json", "komihash.html"].map(
         (it) => require.resolve(`komihash_rattle/${it}`))[1]')
-    in_package out/komihashsum && mkdir -p "$files/folder/in" && : > "$files/empty" &&
+    in_package out/komihashsum && mkdir -p "$files"/folder/{in,none} && : > "$files/empty" &&
         seq 5 > "$files/folder/in/x" && seq 99 > "$files/$odd" &&
         seq 12500000 > "$files/big" && truncate -s 99G "$files/huge" &&
         PATH=$(echo "$scratch"/libkomihash_rattle-*/out):$PATH && (
-            cd "$files" && komihashsum big && komihashsum -4 -s 0xA --tag "$odd" empty |
+            cd "$files" && komihashsum big && komihashsum -4 -s 0xA --tag "./$odd" empty |
                 sed '$s/.$/0/'
         ) > "$scratch/list" &&
         (cd "$files" && komihashsum big | sed 's/ //' | iconv -t UTF-16) > "$scratch/wide" &&
@@ -106,11 +106,12 @@ page_in_chromium() {
         cd "$files" && diff "$scratch/shown" <(
             printf '%s\n' 'The seed must be a whole number from 0 to 2^64 - 1. true'{,} \
                 "gone: $lost" 'progress: true' \
-                'Stopped. 1 of 5 files is not hashed' "gone: $lost"
-            komihashsum -4 -s 0xA --tag "$odd" big empty folder/in/x
-            echo false Copied
-            echo '2 of 4 files are not right'
-            komihashsum --check "$scratch/list" 2> "$scratch/case" | sort
+                'Stopped. 4 files hashed, 1 cannot be read' "gone: $lost"
+            komihashsum -4 -s 0xA --tag big "$odd" empty folder/in/x
+            printf '%s\n' 'false Copied' '1 file is right, 2 were not chosen' \
+                {'./a\b c',empty}': in the list, but not chosen' \
+                '1 of 4 files is not right, 1 is not in the list'
+            komihashsum --check "$scratch/list" 2> "$scratch/case"
             echo "empty: its hash is $(komihashsum -4 -s 0xA empty | cut -c-16), not $(
                 sed -n '$s/.*= //p' "$scratch/list")
 gone: not in the list
@@ -119,11 +120,14 @@ The file is right
 
 The file is right
 big: OK
+true
+The file is right
 true This is neither a line of a list nor one hash alone: 0 true
-1 of 2 files is not hashed
+1 file hashed, 1 cannot be read
 empty: $lost
 $(komihashsum big)
-true"
+true
+No files were found there"
         )
 }
 js_required() {
