@@ -108,7 +108,8 @@ page_in_chromium() {
                 "gone: $lost" 'progress: true' \
                 'Stopped. 4 files hashed, 1 cannot be read' "gone: $lost"
             komihashsum -4 -s 0xA --tag big "$odd" empty folder/in/x
-            printf '%s\n' 'false Copied' '1 file is right, 2 were not chosen' \
+            printf '%s\n' 'false Copied' 'To check files by that list, drop it on this field.' \
+                '1 file is right, 2 were not chosen' \
                 {'./a\b c',empty}': in the list, but not chosen' \
                 '1 of 4 files is not right, 1 is not in the list'
             komihashsum --check "$scratch/list" 2> "$scratch/case"
