@@ -1,11 +1,11 @@
 // Hashes files in komihash.html in Chromium, and prints what it shows: tests_of_page.mjs URL
 // PROFILE GONE BIG HUGE LIST WIDE ODD EMPTY FOLDER. Chooses GONE and BIG with wrong seeds, and
 // mends the seed. Then it adds HUGE, and while that is read, the last three, stops, and copies the
-// lines. It drops LIST where files go, and then checks BIG and all files by it, and BIG by WIDE and
-// by one hash, which it also types, and types what is no list. At last it changes EMPTY after
-// choosing it, drops BIG where lists go, clears, and drops the empty FOLDER/none. Without files,
-// the page at URL runs tests and hides its body until they end, and its text is printed. A page may
-// be slow: each wait is for a state, and none for a time.
+// lines. It drops LIST where files go, and then checks BIG and FOLDER and then all files by it, and
+// BIG by WIDE and by one hash, which it also types, and types what is no list. At last it changes
+// EMPTY after choosing it, drops BIG where lists go, clears, and drops the empty FOLDER/none.
+// Without files, the page at URL runs tests and hides its body until they end, and its text is
+// printed. A page may be slow: each wait is for a state, and none for a time.
 import { spawn } from "node:child_process";
 import { once } from "node:events";
 import { writeFileSync } from "node:fs";
@@ -84,6 +84,8 @@ await drop("(clearer.click(), document.body)", list);
 await tell("told");
 await drop("(clearer.click(), wanted)", list);
 await choose("(version.value = 5, 0)", big);
+await drop("document.body", others[2]);
+await until("/in.x: OK/.test(lines.textContent)");
 await tell("verdict", "problems");
 await choose(0, gone, ...others.slice(0, -1));
 await tell("verdict", "lines", "problems");

@@ -93,11 +93,12 @@ page_in_chromium() {
     local lost='is gone, has changed since it was chosen, or cannot be read'
     page=file://$(cd "$scratch/js" && node -p '["package.json", "komihash.html"].map(
         (it) => require.resolve(`komihash_rattle/${it}`))[1]')
-    in_package out/komihashsum && mkdir -p "$files"/folder/{in,none} && : > "$files/empty" &&
+    in_package out/komihashsum && mkdir -p "$files"/folder/{in,none} &&
+        ln -s folder/in "$files" && : > "$files/empty" &&
         seq 5 > "$files/folder/in/x" && seq 99 > "$files/$odd" &&
         seq 12500000 > "$files/big" && truncate -s 99G "$files/huge" &&
         PATH=$(echo "$scratch"/libkomihash_rattle-*/out):$PATH && (
-            cd "$files" && komihashsum big && komihashsum -4 -s 0xA --tag "./$odd" empty |
+            cd "$files" && komihashsum big ./in/x && komihashsum -4 -s 0xA --tag "$odd" empty |
                 sed '$s/.$/0/'
         ) > "$scratch/list" &&
         (cd "$files" && komihashsum big | sed 's/ //' | iconv -t UTF-16) > "$scratch/wide" &&
@@ -109,9 +110,9 @@ page_in_chromium() {
                 'Stopped. 4 files hashed, 1 cannot be read' "gone: $lost"
             komihashsum -4 -s 0xA --tag big "$odd" empty folder/in/x
             printf '%s\n' 'false Copied' 'To check files by that list, drop it on this field.' \
-                '1 file is right, 2 were not chosen' \
-                {'./a\b c',empty}': in the list, but not chosen' \
-                '1 of 4 files is not right, 1 is not in the list'
+                '2 files are right, 2 were not chosen' \
+                {'a\b c',empty}': in the list, but not chosen' \
+                '1 of 5 files is not right, 1 is not in the list'
             komihashsum --check "$scratch/list" 2> "$scratch/case"
             echo "empty: its hash is $(komihashsum -4 -s 0xA empty | cut -c-16), not $(
                 sed -n '$s/.*= //p' "$scratch/list")
