@@ -18,8 +18,8 @@ HERE = Path(__file__).resolve().parent
 # What is used from above this folder is in it in a source distribution.
 ABOVE = HERE if (HERE / "c").is_dir() else HERE.parent
 USED = ("c/Makefile", "c/assembly", "c/assembly.sh", "c/komihash_rattle.c", "c/komihash_rattle.h",
-        "c/komihash_rattle_inline.h", "rust/README.md", "rust/tests/values.tsv",
-        "rust/tests/vectors.tsv", "docs/CLAIMS.md", "docs/DEFINITIONS.md")
+        "c/komihash_rattle_inline.h", "rust/tests/values.tsv", "rust/tests/vectors.tsv",
+        "docs/CLAIMS.md", "docs/DEFINITIONS.md")
 
 # From 3.11 on, CPython's stable interface can read bytes, so one build serves all later ones.
 STABLE = sys.version_info >= (3, 11) and not sysconfig.get_config_var("Py_GIL_DISABLED")
@@ -60,7 +60,7 @@ class Distribution(sdist):
         super().make_release_tree(base_dir, [*files, "CHANGES.md", "tests.py"])
         for name in USED:
             to = Path(base_dir, name)
-            to.parent.mkdir(exist_ok=True)
+            to.parent.mkdir(parents=True, exist_ok=True)
             (shutil.copytree if (ABOVE / name).is_dir() else shutil.copy2)(ABOVE / name, to)
 
 

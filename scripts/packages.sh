@@ -44,7 +44,8 @@ python_package() {
         fails 1 debian_python "$scratch/alone/setup.py" build &&
         KOMIHASH_RATTLE_SYSTEM=yes fails 1 debian_python python/setup.py --name &&
         KOMIHASH_RATTLE_FROM=rust fails 1 debian_python python/setup.py --name &&
-        ! grep -F '](' python/README.md # which METADATA has, without the files beside it
+        ! grep -F '](' python/README.md && # which METADATA has, without the files beside it
+        ! grep -F '/*' "$packed/README.md"
 }
 # Links an installed library for C, without which the modules can't be imported.
 python_of_system() {

@@ -80,7 +80,8 @@ END
     esac
 done
 cd "$folder"
-cat > README.md << END
+# A row has no file, but its pattern, if the package wasn't made.
+grep -v '^| [a-z]*/[*]' > README.md << END
 # komihash_rattle
 
 This is the fast hash komihash, versions 4 and 5, made from a source that is proved right. Don't use
