@@ -331,13 +331,13 @@ static PyObject *reduce_generator(PyObject *self, PyObject *unused) {
 #define DOC(call, text) PyDoc_STR(call "\n--\n\n" text)
 
 static PyMethodDef stream_methods[] = {
-    {"update", update, METH_O, DOC("update($self, data, /)", "Absorb bytes.")},
+    {"update", update, METH_O, DOC("update($self, data, /)", "Add bytes to the message.")},
     {"digest", digest, METH_NOARGS,
-     DOC("digest($self)", "Return the hash of all bytes so far, as bytes, the highest first.")},
+     DOC("digest($self)", "Return the hash of all bytes so far, as eight bytes, big-endian.")},
     {"hexdigest", hexdigest, METH_NOARGS,
-     DOC("hexdigest($self)", "Return the hash of all bytes so far, as 16 digits.")},
+     DOC("hexdigest($self)", "Return the hash of all bytes so far, as 16 hexadecimal digits.")},
     {"intdigest", intdigest, METH_NOARGS,
-     DOC("intdigest($self)", "Return the hash of all bytes so far, as an int.")},
+     DOC("intdigest($self)", "Return the hash of all bytes so far, as an int below 2**64.")},
     {"copy", copy, METH_NOARGS, DOC("copy($self)", "Return a copy, which goes on by itself.")},
     {"reset", reset, METH_NOARGS, DOC("reset($self)", "Begin anew with the seed.")},
     {"save", save, METH_NOARGS,
@@ -345,21 +345,20 @@ static PyMethodDef stream_methods[] = {
     {"resume", (PyCFunction)(void (*)(void))resume, METH_VARARGS | METH_KEYWORDS | METH_CLASS,
      DOC("resume($type, saved, /, seed=None)",
          "Return the stream whose save() returned these bytes. Only reset() needs its seed.")},
-    {"__reduce__", reduce_stream, METH_NOARGS, NULL},
-    {NULL}};
+    {"__reduce__", reduce_stream, METH_NOARGS, NULL}, {NULL}};
 
 static PyGetSetDef stream_attributes[] = {
     {"seed", seed_of, NULL, PyDoc_STR("The seed, or None if it isn't known."), NULL}, {NULL}};
 
 static PyType_Slot stream_slots[] = {
     {Py_tp_doc, DOC("komihash(data=b'', seed=0, *, usedforsecurity=True)",
-                    "A stream, which takes a message in pieces.")},
+                    "A stream, like hashlib's objects. It hashes data and what update() adds.\n\n"
+                    "The seed is from 0 to 2**64 - 1. usedforsecurity is ignored.")},
     {Py_tp_new, new_stream},
     {Py_tp_init, start_stream},
     {Py_tp_dealloc, drop_stream},
     {Py_tp_methods, stream_methods},
-    {Py_tp_getset, stream_attributes},
-    {0}};
+    {Py_tp_getset, stream_attributes}, {0}};
 
 static PyMethodDef generator_methods[] = {
     {"from_words", from_words, METH_VARARGS | METH_CLASS,
@@ -369,17 +368,16 @@ static PyMethodDef generator_methods[] = {
     {"next", next, METH_NOARGS, DOC("next($self)", "Return the next output, an int below 2**64.")},
     {"fill", fill, METH_O,
      DOC("fill($self, length, /)",
-         "Return the bytes of the next outputs, the lowest first. What is left of one is dropped.")},
-    {"__reduce__", reduce_generator, METH_NOARGS, NULL},
-    {NULL}};
+         "Return the next outputs as bytes, each little-endian. What is left of one is dropped.")},
+    {"__reduce__", reduce_generator, METH_NOARGS, NULL}, {NULL}};
 
 static PyType_Slot generator_slots[] = {
     {Py_tp_doc, DOC("Komirand(seed, extra_seed=None)",
-                    "A pseudorandom generator, which is not for secrets.")},
+                    "A pseudorandom generator, which is not for secrets.\n\n"
+                    "Without an extra_seed, the seed is taken for both.")},
     {Py_tp_new, new_generator},
     {Py_tp_init, start_generator},
-    {Py_tp_methods, generator_methods},
-    {0}};
+    {Py_tp_methods, generator_methods}, {0}};
 
 #define TYPE Py_TPFLAGS_DEFAULT | Py_TPFLAGS_BASETYPE
 static PyType_Spec stream_type = {PACKAGE "komihash", sizeof(Stream), 0, TYPE, stream_slots};
@@ -407,15 +405,15 @@ static int fill_module(PyObject *module) {
     {name, (PyCFunction)(void (*)(void))hash_##as, METH_FASTCALL | METH_KEYWORDS,               \
      DOC(name "($module, data, /, seed=0)", "Return the hash of a message, as " text ".")}
 static PyMethodDef functions[] = {
-    FUNCTION("komihash_int", as_int, "an int"),
-    FUNCTION("komihash_digest", as_bytes, "bytes, the highest first"),
-    FUNCTION("komihash_hexdigest", as_digits, "16 digits"),
-    {NULL}};
+    FUNCTION("komihash_int", as_int, "an int below 2**64"),
+    FUNCTION("komihash_digest", as_bytes, "eight bytes, big-endian"),
+    FUNCTION("komihash_hexdigest", as_digits, "16 hexadecimal digits"), {NULL}};
 
 static PyModuleDef_Slot slots[] = {{Py_mod_exec, fill_module}, {0}, {0}};
-static PyModuleDef definition = {PyModuleDef_HEAD_INIT, .m_name = "v" NAME_OF(VERSION),
-                                 .m_doc = "Version " NAME_OF(VERSION) " of the hash komihash.",
-                                 .m_methods = functions, .m_slots = slots};
+static PyModuleDef definition = {
+    PyModuleDef_HEAD_INIT, "v" NAME_OF(VERSION), .m_methods = functions, .m_slots = slots,
+    .m_doc = "Version " NAME_OF(VERSION) " of the hash komihash.\n\nDon't use it where an "
+             "attacker may choose the messages. Version 4 is for hashes that exist already."};
 
 PyMODINIT_FUNC NAMED(PyInit_v, VERSION, )(void) {
 #if PY_VERSION_HEX >= 0x030b0000
