@@ -84,7 +84,7 @@ static size_t printing(const char *name) {
 #else
     mbstate_t state = {0};
     wchar_t wide;
-    const size_t length = mbrtowc(&wide, name, strlen(name), &state);
+    const size_t length = mbrtowc(&wide, name, strnlen(name, MB_LEN_MAX), &state);
     return length <= MB_LEN_MAX && iswprint(wide) ? length : 0;
 #endif
 }
@@ -99,24 +99,33 @@ static void use_console(int output) { (void)output; }
 static void restore(void) {}
 #endif
 
-/* Prints a name and a problem to standard error. Where the name has what doesn't print, which might
- * command a terminal, it has question marks. */
+/* Prints a name and a problem to standard error. In place of each byte that doesn't print, which
+ * might command a terminal, the name has its number in octal digits. */
 static void show(const char *before, const char *name, const char *after, const char *problem) {
     use_console(STD_ERROR_HANDLE);
     fputs(before, stderr);
-    while (*name) {
-        const size_t length = printing(name);
-        fprintf(stderr, "%.*s", length ? (int)length : 1, length ? name : "?");
-        name += length ? length : 1;
-    }
+    for (size_t length; *name; name += length ? length : 1)
+        if ((length = printing(name)))
+            fwrite(name, 1, length, stderr);
+        else
+            fprintf(stderr, "\\%03o", (unsigned char)*name);
     fprintf(stderr, after, problem);
     fflush(stderr);
+}
+
+#define CLEAR "\r\033[K"
+static bool has_row; /* whether a row of --progress stands */
+static void clear_row(void) {
+    if (has_row)
+        fputs(CLEAR, stderr), fflush(stderr);
+    has_row = false;
 }
 
 /* Reports a problem with a file, and returns false. Quotes show where a name begins and ends that is
  * empty or has a space there. */
 static bool fail(const char *name, const char *problem) {
     const bool is_quoted = !*name || *name == ' ' || name[strlen(name) - 1] == ' ';
+    clear_row();
     show(is_quoted ? "komihashsum: '" : "komihashsum: ", name, is_quoted ? "': %s\n" : ": %s\n",
         problem);
     return false;
@@ -124,8 +133,7 @@ static bool fail(const char *name, const char *problem) {
 
 /* Reports what the system refused, and ends the program. */
 static void stop(const char *what) {
-    fprintf(stderr, "komihashsum: %s: %s\n", what, strerror(errno));
-    fflush(stderr);
+    fail(what, strerror(errno));
     restore();
     _exit(1);
 }
@@ -142,16 +150,14 @@ static int open_file(const char *name);
 
 /* Shows once a second, in one row in the place of the last, how much of a file was read, and of all
  * files so far. */
-#define CLEAR "\r\033[K"
-static void show_progress(int file, const char *name, uint64_t length, uint64_t all) {
+static void show_progress(const char *name, uint64_t size, uint64_t length, uint64_t all) {
     static time_t last;
-    struct stat about;
     if (!progress || time(NULL) == last)
         return;
-    last = time(NULL);
+    last = time(NULL), has_row = true;
     fprintf(stderr, CLEAR "\033[?7l%" PRIu64, length >> 20);
-    if (fstat(file, &about) == 0 && about.st_size)
-        fprintf(stderr, " of %" PRIu64, (uint64_t)about.st_size >> 20);
+    if (size)
+        fprintf(stderr, " of %" PRIu64, size >> 20);
     fprintf(stderr, " MiB, %" PRIu64 " in all", all >> 20);
     while (strlen(name) > 50 || (*name & 0xC0) == 0x80) /* within a character of UTF-8 */
         name++;
@@ -166,19 +172,17 @@ static int hash_file(const char *name, struct kind *kind) {
     const int file = open_file(name);
     static uint64_t all;
     uint64_t total = 0;
-    struct stat about;
+    struct stat about = {0};
     int length = file;
-    kind->is_regular = file > 0 && fstat(file, &about) == 0 && S_ISREG(about.st_mode);
+    kind->is_regular = file >= 0 && fstat(file, &about) == 0 && file && S_ISREG(about.st_mode);
     while (file >= 0 && (length = read(file, bytes, sizeof bytes)) > 0) {
         if (kind->version == 4)
             komihash_v4_write(&stream_4, bytes, length);
         else
             komihash_v5_write(&stream_5, bytes, length);
-        show_progress(file, name, total += length, all += length);
+        show_progress(name, about.st_size, total += length, all += length);
     }
     const int error = length < 0 ? errno : 0;
-    if (progress)
-        fputs(CLEAR, stderr), fflush(stderr);
     if (file > 0)
         close(file);
     kind->hash = kind->version == 4 ? komihash_v4_finish(&stream_4) : komihash_v5_finish(&stream_5);
@@ -190,6 +194,8 @@ static const char SPECIAL[] = "\\\n\r", LETTERS[] = "\\nr";
 
 /* Prints a line with a name, whose special characters may be escaped, and returns true. */
 static bool print(bool is_escaped, const char *before, const char *name, const char *after) {
+    if (has_row && isatty(1))
+        clear_row();
     printf("%s%s", is_escaped ? "\\" : "", before);
     for (; *name; name++) {
         const char *found = is_escaped ? strchr(SPECIAL, *name) : NULL;
@@ -328,6 +334,7 @@ static void warn_of_line(const char *name, unsigned long number) {
 }
 
 static void warn_of(unsigned long count, const char *one, const char *more, const char *what) {
+    clear_row();
     if (count && told != STATUS)
         fprintf(stderr, "komihashsum: WARNING: %lu %s %s\n", count, count > 1 ? more : one, what);
     fflush(stderr);
@@ -445,8 +452,9 @@ static int run(int count, char **arguments) {
     bool holds = true;
     for (; optind < count; optind++)
         holds = (check ? check_list : print_hash)(arguments[optind]) && holds;
+    clear_row();
     ask();
-    return !holds || ferror(stderr);
+    return fflush(stderr) != 0 || ferror(stderr) || !holds;
 }
 
 #ifdef _WIN32 /* Names are UTF-8 in this program, and UTF-16 for the system. */

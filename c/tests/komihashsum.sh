@@ -135,16 +135,21 @@ refuses() {
         fails "^komihashsum: --$option: .* not for --check" komihashsum -c "--$option" || return
     done
 }
-# What a terminal gets, between carriage returns: of a long name, characters in the last 50 bytes.
+# What a terminal gets, between carriage returns: of a long name, characters in the last 50 bytes,
+# and of many small files, few rows, the last of which stands until a message or the end.
 shows_progress() (
     export LC_ALL=C.UTF-8 clear="$(printf '\033[K')"
     end=$(printf %21s | sed 's/ /ü/g').large odd=$scratch/üüüü$end$(printf '\033')
     ln -s tree/large "$odd" && script -qec "$RUN '$built' --progress '$odd'" /dev/null \
         < /dev/null | tr '\r' '\n' > "$scratch/shown"
-    printf "\033[?7l0 of 0 MiB, 0 in all  %s?\033[?7h" "$end" > "$scratch/row"
+    printf "\033[?7l0 of 0 MiB, 0 in all  %s\\\\033\033[?7h" "$end" > "$scratch/row"
     grep -Fx "$clear$(cat "$scratch/row")" "$scratch/shown" &&
         grep -F "$clear$(komihashsum "$odd")" "$scratch/shown" &&
-        ! komihashsum --progress "$odd" 2>&1 | grep -F "$clear"
+        ! komihashsum --progress "$odd" 2>&1 | grep -F "$clear" || return
+    many="$RUN '$built' --progress $(yes tests/komihashsum.sh | head -n 99 | tr '\n' ' ')"
+    script -qec "($many none; $many) > '$scratch/lines'" /dev/null < /dev/null | tr '\r' '\n' \
+        > "$scratch/shown" && [ "$(grep -Fc "$clear" "$scratch/shown")" -lt 99 ] &&
+        grep -F "${clear}komihashsum: none: " "$scratch/shown" && grep -Fx "$clear" "$scratch/shown"
 )
 sanitizes() {
     echo 'int main(void) { return 0; }' | $CC -fsanitize=address,undefined -x c \
@@ -164,7 +169,6 @@ quotes() {
     for name in '' ' ' ' a' 'a '; do
         fails "^komihashsum: '$name': No such" komihashsum "$name" || return
     done
-    fails '^komihashsum: a b: No such' komihashsum 'a b'
 }
 byte_order_mark() { printf a > "$scratch/a" && (cd "$scratch" && komihashsum a |
     sed "1s/^/$(printf '\357\273\277')/" | komihashsum --check --strict); }
@@ -274,6 +278,10 @@ else
     fi
     run_case 'komihashsum, one space before a name' fails 'no properly formatted' one_space
     run_case 'komihashsum, its name in messages' fails "^komihashsum: .* '--no'" komihashsum --no
+    run_case 'komihashsum, bytes of names that do not print' \
+        fails '^komihashsum: a b\\303\\033: ' komihashsum "$(printf 'a b\303\033')"
+    needs timeout 'komihashsum, a name of 4 MB' fails 'name too long' eval \
+        'printf "%s%4000000s\n" "${hash_of_a%-}" x | timeout 60 $RUN "$built" --check'
     # An emulator may lack the locale.
     [ "$CROSS" ] || needs script 'komihashsum, progress on a terminal alone' shows_progress
 fi
