@@ -55,8 +55,9 @@ enum { ALL, QUIET, STATUS, WARN };
 static int check, ignore_missing, progress, strict, tag, told;
 static struct kind { int version; uint64_t seed, hash; bool is_tagged, is_regular; } given = {
     .version = 5};
-/* Lines without a version that match, that don't, and of these, that match by the other version. */
-static unsigned long untagged[2], by_other;
+/* How many lines without a tag match, and don't, and whether one would by the other version. */
+static unsigned long untagged[2];
+static bool by_other;
 static char mark, line_end = '\n'; /* what stands before a name, if asked for, and after a line */
 static unsigned char bytes[131072];
 static const struct option OPTIONS[] = {
@@ -318,9 +319,11 @@ static int check_file(const char *name, struct kind kind) {
     const int result = error ? UNREADABLE : kind.hash == wanted ? MATCHES : DIFFERS;
     if (!kind.is_tagged && result <= DIFFERS)
         untagged[result]++;
-    if (!kind.is_tagged && result == DIFFERS && kind.is_regular) {
+    /* At most the first three are read again, so that a check of large files isn't doubled. */
+    if (!kind.is_tagged && result == DIFFERS && untagged[DIFFERS] <= 3 && !by_other &&
+        kind.is_regular && told != STATUS) {
         kind.version = kind.version == 4 ? 5 : 4;
-        by_other += hash_file(name, &kind) == 0 && kind.hash == wanted;
+        by_other = hash_file(name, &kind) == 0 && kind.hash == wanted;
     }
     if (told != STATUS && !(told == QUIET && result == MATCHES))
         print(strchr(name, '\n'), "", name, TEXTS[result]);
@@ -340,16 +343,15 @@ static void warn_of(unsigned long count, const char *one, const char *more, cons
     fflush(stderr);
 }
 
-/* Asks for the options that a list was made with, if its results tell that they are others. */
+/* Asks for the options that lists were made with, if the results tell that they are others. */
 static void ask(void) {
-    const char *one = "line that failed has", *more = "lines that failed have";
+    const unsigned long differ = untagged[DIFFERS];
     if (by_other)
-        warn_of(by_other, one, more, given.version == 4 ?
-            "the hash of version 5: was the list made without -4?" :
-            "the hash of version 4: was the list made with -4?");
-    else if (untagged[DIFFERS] > untagged[MATCHES])
-        warn_of(untagged[DIFFERS], one, more,
-            "no version: was the list made with the same -4 and --seed?");
+        fprintf(stderr, "komihashsum: WARNING: a line that failed has the hash of version %s -4?\n",
+            given.version == 4 ? "5: was the list made without" : "4: was the list made with");
+    else if (told != STATUS && differ > 1 && differ > untagged[MATCHES])
+        fprintf(stderr, "komihashsum: WARNING: %lu lines that failed are not lines of --tag: was "
+            "the list made with the same -4 and --seed?\n", differ);
 }
 
 /* Reports the results of a list, and returns whether there is nothing wrong with it. */

@@ -25,7 +25,7 @@ beside() {
     for name in sha256sum komihashsum; do
         (cd "$tree" && sum=$name list=$scratch/$name && eval "$1"; echo "status $?") \
             2> "$scratch/errors" > "$scratch/lines"
-        grep -v 'that failed ha' "$scratch/errors" | cat - "$scratch/lines" |
+        grep -v 'that failed' "$scratch/errors" | cat - "$scratch/lines" |
             sed -E 's/(sha256|komihash)sum/SUM/g
                 s/^SUM: .*(: (No such|Is a|Too many|Permission))/SUM\1/; s/(write error): .*/\1/
                 s/^SUM: .standard input./SUM: standard input/
@@ -190,13 +190,13 @@ odd_on_windows() (
 tagged() (
     cd "$scratch" && printf a > a && {
         for kind in '' -4 '-s 0x4d' '-4s 18446744073709551615'; do komihashsum $kind --tag a; done
-        komihashsum a; } > tags &&
+        komihashsum a a; } > tags &&
         prints "KOMIHASH4-4d (a) = 238674fd3b1b6344" komihashsum -4s77 --tag a &&
         grep '^KOMIHASH4-ffffffffffffffff (a)' tags && komihashsum -c tags &&
         head -n 4 tags | komihashsum -4s9 -cw --status &&
-        fails '1 line that failed has no version' komihashsum -cs9 tags &&
+        fails '2 lines that failed are not lines of --tag' komihashsum -cs9 tags &&
         [ -z "$(komihashsum -cs9 --status tags 2>&1)" ] &&
-        ! sed 's/= ..../= 0000/' tags | komihashsum -c 2>&1 | grep 'no version'
+        ! sed 's/= ..../= 0000/' tags | komihashsum -c 2>&1 | grep 'not lines'
 )
 
 # Whether lists with zero bytes, of which sha256sum checks some lines, fail with their own message.
@@ -212,14 +212,18 @@ zero_bytes() (
     done
 )
 # Whether a list by the other version is told from one of files that changed, though most files of
-# fewer than 64 bytes match in both versions, and a list by another seed, by which none matches.
+# fewer than 64 bytes match in both versions, and a list by another seed, by which none matches. The
+# first three lines that fail are hashed again.
 by_other_version() (
-    cd "$scratch" && printf a > a && seq 30 > b && komihashsum -4 a a b > list &&
-        fails '1 line that failed has the hash of version 4: .* with -4' komihashsum -c list &&
-        fails '3 lines that failed have no version' komihashsum -4cs1 list &&
-        komihashsum a a b b > list &&
-        fails '2 lines that failed have .* version 5: .* without -4' komihashsum -4c list &&
-        komihashsum b a a > list && echo >> b && ! komihashsum -c list 2>&1 | grep 'that failed'
+    cd "$scratch" && printf a > a && seq 30 > b && seq 40 > c && komihashsum -4 c a a > list &&
+        fails ' a line that failed has the hash of version 4: .* with -4' komihashsum -c list &&
+        fails '3 lines that failed are not lines of --tag' komihashsum -4cs1 list &&
+        { komihashsum a a b b b && head -n 1 list; } > last && sed 6d last > first &&
+        fails ' a line that failed has .* version 5: .* without -4' komihashsum -4c first &&
+        echo >> b && fails '4 lines that failed are not' komihashsum -c last &&
+        sed 5d last | fails ' a line that failed has .* version 4' komihashsum -c &&
+        ! sed 5d first | komihashsum -c 2>&1 | grep 'that failed' &&
+        ! sed -n 5p last | komihashsum -c 2>&1 | grep 'that failed'
 )
 
 # Whether files about as long as a read, and a far longer one, have the hashes that the Rust crate
