@@ -23,7 +23,9 @@ static const char HELP[] =
     "Usage: komihashsum [OPTION]... [FILE]...\n"
     "Print or check hashes by komihash, which have 64 bits and are not cryptographic.\n\n"
     "Without FILE, or if FILE is -, standard input is read.\n\n"
-    "  -4                    hash by version 4 of komihash, in place of version 5\n"
+    "  -4                    hash by version 4 of komihash, in place of version 5; use 5\n"
+    "                        for new lists. The two agree on files of fewer than 64\n"
+    "                        bytes whose last is below 128, and on few others\n"
     "  -s, --seed=SEED       hash with this seed, in place of 0: a number below 2^64,\n"
     "                        in decimal digits, or in hexadecimal ones after 0x\n"
     "      --tag             print lines that tell the version, and the seed if it\n"
@@ -42,8 +44,8 @@ static const char HELP[] =
     "      --ignore-missing  skip missing files; fail if no file was verified\n"
     "      --quiet           don't print OK for files that have their hash\n"
     "      --status          print no results; the exit status tells them\n"
-    "      --strict          fail also if there are lines of another form\n"
-    "  -w, --warn            print the number of each line of another form\n\n"
+    "      --strict          fail also if there are improperly formatted lines\n"
+    "  -w, --warn            print the number of each improperly formatted line\n\n"
     "A line has 16 hexadecimal digits, two spaces and a name. With --tag, it is\n"
     "KOMIHASH5 (NAME) = DIGITS, or with KOMIHASH5-10 for --seed=16: the seed is then\n"
     "hexadecimal, without 0x. If a line begins with a backslash, the name has \\\\, \\n\n"
@@ -417,7 +419,7 @@ static bool are_allowed(void) {
 static bool set_seed(const char *text) {
     char *end;
     errno = 0;
-    given.seed = strtoull(text, &end, strncmp(text, "0x", 2) == 0 ? 16 : 10);
+    given.seed = strtoull(text, &end, *text && (text[1] | ' ') == 'x' ? 16 : 10);
     if (text[0] >= '0' && text[0] <= '9' && !*end && errno == 0)
         return true;
     show("komihashsum: --seed=", text, " must be %s\n",

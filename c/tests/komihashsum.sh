@@ -114,8 +114,8 @@ compared() {
 # Whether the hash of the empty message is the one of these rows, by their versions and seeds.
 seeded() {
     grep "$tab$tab" "$crate/tests/vectors.tsv" > "$scratch/rows" && while read -r number seed hash; do
-        case $number in 4) version_4=-4 ;; *) version_4= ;; esac
-        prints "$hash  -" komihashsum $version_4 "--seed=0x$seed" < /dev/null || return
+        case $number in 4) options=-4s0X ;; *) options=--seed=0x ;; esac
+        prints "$hash  -" komihashsum "$options$seed" < /dev/null || return
     done < "$scratch/rows"
 }
 ends() { # STATUS ARGUMENT..
@@ -267,7 +267,7 @@ run_case 'komihashsum, names of which the ends are not seen' quotes
 run_case 'komihashsum, a decimal seed' prints '615eba9060114e6f  -' \
     komihashsum -s 09223372036854775808 < /dev/null
 run_case 'komihashsum, arguments that are wrong' refuses -x --check=1 --seed= --seed=-1 --seed=7x \
-    --seed=0x --seed=0x1g --seed=0X10 --seed=+7 --seed=18446744073709551616 --strict
+    --seed=0x --seed=0x1g --seed=1x1 --seed=+7 --seed=18446744073709551616 --strict
 run_case 'komihashsum, help' fails '^Usage: komihashsum ' eval '! komihashsum --help'
 run_case 'komihashsum, bytes that end lines elsewhere' \
     prints '41788abed31c8f17  -' eval "printf 'a\r\n\032b' | komihashsum"
