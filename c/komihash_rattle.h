@@ -8,8 +8,8 @@
  *
  * What a caller must see to, because no call checks it:
  * - `length` and `room` are the number of bytes at the pointer that precedes them in the arguments,
- *   or of words if it points to words. They stand for at most PTRDIFF_MAX bytes. The writes to one
- *   stream may add up to more.
+ *   or of words if it points to words. Each is at most PTRDIFF_MAX bytes. The writes to one stream
+ *   may add up to more.
  * - A pointer may be null only if the length or room after it is 0. `stream` and `rand` are never
  *   null.
  * - A pointer to words, a stream or a generator is aligned to eight bytes, or to four on 32-bit x86
@@ -23,7 +23,7 @@
  * - The same bytes, numbers and seeds give the same results on every system and processor.
  * - No jump and no address depends on a seed, on the bytes of a message, or on words made of them,
  *   except in `resume` and `unpad`. That does not promise equal times. It is shown of the builds
- *   that `make verify` reads, and likely elsewhere.
+ *   that `make verify` reads, and likely of other optimized builds.
  * - It allocates no memory and doesn't set errno. The library has no global state, so threads and
  *   signal handlers may make calls at the same time.
  */

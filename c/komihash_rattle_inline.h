@@ -2,8 +2,8 @@
  * Copyright (c) 2026 the authors of komihash_rattle. The licence is at the end.
  *
  * komihash_rattle 1.6.0
- * The script c/inline.py made this file of a proved source. Do not edit it. In crates/komihash/src,
- * functions have their contracts, and names without komi_, a type after that, and _v4 or _v5.
+ * A script made this file of a proved source. Do not edit it. Names with komi_ and KOMI_ are
+ * private, and may change.
  *
  * Komihash, versions 4 and 5, a fast hash of 64 bits that is not cryptographic: all of the library
  * in one header, for C99 and C++11. Copy this file into your project and include it:
@@ -16,6 +16,9 @@
  * messages: it is easy to find many that have one hash, and a secret seed gives no security.
  * Compilers other than gcc, clang and MSVC need their switch like -fno-strict-aliasing.
  *
+ * Version 5 is meant to give the hashes of komihash.h by Aleksey Vaneev. The hashes, saved texts
+ * and outputs of a version never change.
+ *
  * Definitions that go before the first #include, also before headers that include this one:
  * - KOMIHASH_RATTLE_IMPLEMENTATION in one source file makes a library of it there, of external
  *   functions. Other files define KOMIHASH_RATTLE_EXTERN, and get the declarations alone.
@@ -23,13 +26,14 @@
  *   komihash_v5, which your code still calls. All files that share one library have the same one.
  * - KOMIHASH_RATTLE_HIDDEN in each file keeps the functions out of what a shared library exports.
  *   On Windows, link with -Wl,--exclude-all-symbols, or mark what your library exports.
- * - KOMIHASH_RATTLE_SMALL lets the compiler choose what it inlines, as with -Os, for smaller and
- *   slower code.
+ * - KOMIHASH_RATTLE_SMALL lets the compiler choose what it inlines, as in a library that is built
+ *   with -Os. All functions together get smaller then, but one or two may get larger, and gcc's
+ *   code takes several times as long.
  *
  * What a caller must see to, because no call checks it:
  * - `length` and `room` are the number of bytes at the pointer that precedes them in the arguments,
- *   or of words if it points to words. They stand for at most PTRDIFF_MAX bytes. The writes to one
- *   stream may add up to more.
+ *   or of words if it points to words. Each is at most PTRDIFF_MAX bytes. The writes to one stream
+ *   may add up to more.
  * - A pointer may be null only if the length or room after it is 0. `stream` and `rand` are never
  *   null.
  * - A pointer to words, a stream or a generator is aligned to eight bytes, or to four on 32-bit x86
@@ -43,7 +47,7 @@
  * - The same bytes, numbers and seeds give the same results on every system and processor.
  * - No jump and no address depends on a seed, on the bytes of a message, or on words made of them,
  *   except in `resume` and `unpad`. That does not promise equal times. It is shown of the builds
- *   that `make verify` reads, and likely elsewhere.
+ *   that `make verify` reads, and likely of other optimized builds.
  * - It allocates no memory and doesn't set errno. The library has no global state, so threads and
  *   signal handlers may make calls at the same time.
  */
@@ -82,7 +86,8 @@
 #else
 #define KOMI_API
 #endif
-#if defined(__OPTIMIZE_SIZE__) && !defined(KOMIHASH_RATTLE_SMALL)
+#if defined(__OPTIMIZE_SIZE__) && defined(KOMIHASH_RATTLE_IMPLEMENTATION) && \
+    !defined(KOMIHASH_RATTLE_SMALL)
 #define KOMIHASH_RATTLE_SMALL
 #endif
 #if defined(KOMI_GNU) && defined(__OPTIMIZE__) && !defined(KOMIHASH_RATTLE_SMALL)
@@ -451,8 +456,8 @@ KOMI_INLINE uint32_t komi_ilog2(uint64_t x) {
 #endif
 }
 
-/* Returns the bytes after a block, and hides from gcc by how much the length gets smaller. Otherwise
- * it counts the blocks too, and reads words before it has registers for them. */
+/* Returns the bytes after a block, and hides from gcc by how much the length gets smaller. It would
+ * count the blocks too, and read words before it has registers for them. */
 KOMI_INLINE komi_bytes komi_bytes_after(const uint8_t *at, size_t length) {
     komi_bytes rest = {at, length};
 #ifdef KOMI_GCC

@@ -2,7 +2,7 @@
  * Copyright (c) 2026 the authors of komihash_rattle
  *
  * `make assembly` made this file from komihash_rattle_inline.h. Do not edit it.
- * Made of: SHA-256 8f01b2b87e362d0f11e8284396e6d2f2ee51e6a53769840b4f5c5795d16baa76
+ * Made of: SHA-256 fffa145732470f32889c96b78925852cb2771e165c6d1c879f1e0ef4d8957f6e
  * Options: -O2 -fno-vectorize -fno-slp-vectorize -mllvm -disable-loop-idiom-memcpy -mllvm -enable-ext-tsp-block-placement -fPIC -ffunction-sections -falign-functions=64 -fno-addrsig -fno-ident -fno-verbose-asm -mbranch-protection=bti -ffixed-x18
  * Compiler: Debian clang version 19.1.7 (3~deb12u1)
  */
