@@ -2,8 +2,9 @@
 // PROFILE GONE BIG HUGE LIST WIDE ODD EMPTY FOLDER. Chooses GONE and BIG with wrong seeds, and
 // mends the seed. Then it adds HUGE, and while that is read, the last three, stops, and copies the
 // lines. It drops LIST where files go, and then checks BIG and FOLDER and then all files by it, and
-// BIG by WIDE and by one hash, which it also types, and types what is no list. At last it changes
-// EMPTY after choosing it, drops BIG where lists go, clears, and drops the empty FOLDER/none.
+// BIG by WIDE and by one hash, which it also types, then EMPTY and BIG alone by that hash, and
+// types what is no list. At last it changes EMPTY after choosing it, drops BIG where lists go,
+// clears, and drops the empty FOLDER/none.
 // Without files, the page at URL runs tests and hides its body until they end, and its text is
 // printed. A page may be slow: each wait is for a state, and none for a time.
 import { spawn } from "node:child_process";
@@ -90,7 +91,7 @@ await tell("verdict", "problems");
 await choose(0, gone, ...others.slice(0, -1));
 await tell("verdict", "lines", "problems");
 await drop("(clearer.click(), wanted)", wide);
-await tell("told");
+await tell("told", "doing", "said");
 await choose(0, big);
 await tell("verdict", "problems");
 await run("wanted.value = `\\n ${wanted.value.match(/[\\da-f]{16}/)} `, " +
@@ -99,6 +100,10 @@ await tell("verdict", "lines");
 console.log(await run("wanted.oninput({}), results.hidden"));
 await until("!results.hidden");
 await tell("verdict");
+for (const file of [others[1], big]) {
+    await choose(0, file);
+    await tell("verdict");
+}
 console.log(await run("wanted.value = 0, wanted.oninput({}), results.hidden + " +
     '(wanted.onblur() ?? ` ${told.textContent} ${wanted.ariaInvalid}`) + ' +
     "(wanted.oninput({}) ?? told.textContent)"));

@@ -106,27 +106,32 @@ page_in_chromium() {
         timeout 600 node js/tests_of_page.mjs "$page" "$profile" "$files"/{gone,big,huge} \
             "$scratch"/{list,wide} "$files"/{"$odd",empty,folder} > "$scratch/shown" &&
         cd "$files" && diff "$scratch/shown" <(
-            printf '%s\n' 'The seed must be a whole number from 0 to 2^64 - 1. true'{,} \
+            printf '%s\n' 'Seeds are whole numbers, 0 to 2^64 - 1, such as 10 or 0xA. true'{,} \
                 "gone: $lost" 'progress: true' \
-                'Stopped. 4 files hashed, 1 cannot be read' "gone: $lost"
+                'Stopped before the end. 1 of 6 files cannot be read, 4 were hashed' "gone: $lost"
             komihashsum -4 -s 0xA --tag big "$odd" empty folder/in/x
-            printf '%s\n' 'false Copied' 'To check files by that list, drop it on this field.' \
-                '2 files are right, 2 were not chosen' \
+            printf '%s\n' 'false Copied' \
+                'To check files by the list in list, drop it on this field.' \
+                '2 of 4 files are right, 2 were not chosen' \
                 {'a\b c',empty}': in the list, but not chosen' \
                 '1 of 5 files is not right, 1 is not in the list'
             komihashsum --check "$scratch/list" 2> "$scratch/case"
-            echo "empty: its hash is $(komihashsum -4 -s 0xA empty | cut -c-16), not $(
+            echo "empty: its hash is $(komihashsum -4 -s 0xA empty | cut -c-16), but should be $(
                 sed -n '$s/.*= //p' "$scratch/list")
 gone: not in the list
-Now choose the files.
+Now choose files.
+Files never leave this computer
+Now choose files.
 The file is right
 
 The file is right
 big: OK
 true
 The file is right
-true This is neither a line of a list nor one hash alone: 0 true
-1 file hashed, 1 cannot be read
+The file is not right
+The file is right
+true There is no komihash (16 digits, 0-9 and a-f) in this line: 0 true
+1 of 2 files cannot be read, 1 was hashed
 empty: $lost
 $(komihashsum big)
 true
