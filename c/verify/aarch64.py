@@ -9,7 +9,7 @@ import operator
 import re
 from types import SimpleNamespace
 import z3
-from machine import LOADED, Cpu, compared, unknown
+from machine import LOADED, Cpu, Effect, compared
 from terms import bv, choose, join, leading_zeros, part, resize, secret, simple, sym
 
 TABLE = '''
@@ -89,11 +89,11 @@ class Arm(Cpu):
             if found := row.pattern.fullmatch(word):
                 fields = {name: int(bits, 2) for name, bits in found.groupdict().items()}
                 return SimpleNamespace(address=address, size=4, bytes=code, mnemonic=row.name,
-                                       text=code[::-1].hex(), effect=row.effect, fields=fields)
+                                       text=code[::-1].hex(), row=row, fields=fields)
         return None
 
     def do(self, i):
-        return eval(i.effect, globals(), Step(self, i))
+        return eval(i.row.effect, globals(), Step(self, i))
 
     def registers(self):
         words = {f'x{n}': secret(f'x{n} of the caller') for n in range(31)}
@@ -122,26 +122,15 @@ def extend(value, width, by_sign):
     return z3.SignExt(width - value.size(), value) if by_sign else resize(value, width)
 
 
-class Step:
+class Step(Effect):
     """An instruction on a path. The words that it computes with have its width, 64 or 32 bits.
     Where registers have the number 31, it is zero, or if `sp` is true, the stack pointer."""
     u = None
 
     def __init__(self, cpu, i):
-        self.cpu, self.instruction, self.here = cpu, i, i.address
-        self.width = 32 << (i.bytes[3] >> 7)
+        super().__init__(cpu, i)
+        self.here, self.width = i.address, 32 << (i.bytes[3] >> 7)
         self.__dict__.update(i.fields)
-
-    def __getitem__(self, name):
-        """What a name in the table means, if it isn't one of this file."""
-        if not hasattr(self, name):
-            raise KeyError(name)
-        return getattr(self, name)
-
-    def need(self, known):
-        """Refuses encodings that the manual reserves, or whose outcome it leaves open."""
-        if not known:
-            raise unknown(self.instruction)
 
     def x(self, k, sp=False):
         return bv(0) if k == 31 and not sp else self.cpu.r['sp' if k == 31 else f'x{k}']

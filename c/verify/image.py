@@ -1,7 +1,7 @@
 """A shared library as it is loaded: its functions, its constants, and its decoded instructions.
 
-All of it is trusted: only code that nobody can write is decoded, only encodings that opcodes.py or
-aarch64.py has get a meaning, and the marks that a file asks for are there."""
+All of it is trusted: only code that nobody can write is decoded, only encodings that the table of
+x86_64.py or aarch64.py has get a meaning, and the marks that a file asks for are there."""
 from elf import EXECUTE, Elf, need
 from terms import Unknown
 

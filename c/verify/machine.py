@@ -33,12 +33,21 @@ def number_of(cond, width):
     return z3.If(cond, bv(1, width), bv(0, width))
 
 
-def means(table, *names):
-    """Enters a function into a table of instructions."""
-    def enter(do):
-        table.update(dict.fromkeys(names, do))
-        return do
-    return enter
+class Effect:
+    """An instruction on a path: what the names mean by which a table says what it does."""
+
+    def __init__(self, cpu, i):
+        self.cpu, self.instruction = cpu, i
+
+    def __getitem__(self, name):
+        if not hasattr(self, name):
+            raise KeyError(name)
+        return getattr(self, name)
+
+    def need(self, known):
+        """Refuses encodings that the manual reserves, or whose outcome it leaves open."""
+        if not known:
+            raise unknown(self.instruction)
 
 
 class Seen:
@@ -227,6 +236,10 @@ class Cpu:
         return const(simple(to - LOADED)) if last else RETURN
 
     # Values
+
+    def compare(self, a, b):
+        """Sets the flags of a - b."""
+        self.flags = compared(a, b)
 
     def multiply(self, a, b, halves):
         """Halves (0 low, 1 high) of the product of these factors, each made only once."""

@@ -1,16 +1,142 @@
-"""The meaning of x86-64 instructions, by Intel's manual, volume 2."""
+"""x86-64 by one table, after Intel's manual, volume 2: the first level of processors that has an
+instruction (x86-64, v2 or v3), its name, its encodings, and what it does.
+
+A processor runs bits, and a decoder may print something else, as where it skips a prefix. So
+capstone is believed only of these encodings. After the opcode, `/n` stands for n in place of a
+register in the ModRM byte, and `+` for one in the opcode's last three bits. Before a colon stand
+the prefix that belongs to the opcode, and W for REX.W or VEX.W. An encoding by VEX begins with `v`,
+as does the name of a vector instruction then; L follows if vectors have 256 bits, and `.` if it has
+no third operand, so that those bits of VEX must be set. `V` stands for `v` and `vL`, and CC and `?`
+for each condition and its number. Operands are a, b and c; the other names are methods of Step, or
+stand in this file."""
+import collections
 import operator
+import re
 import z3
 from capstone import CS_ARCH_X86, CS_MODE_64, Cs
 from capstone import x86_const as X
-from machine import CONDITIONS, LOADED, Cpu, compared, means, number_of, unknown
+from machine import LOADED, Cpu, Effect, compared, number_of
 from memory import MustSplit
-from opcodes import KNOWN_X86, is_known
 from terms import bv, choose, const, join, leading_zeros, part, resize, secret, simple, sym
 
-DECODER, TABLE = Cs(CS_ARCH_X86, CS_MODE_64), {}
+TABLE = '''
+1 add 00 01 02 03 04 05 80/0 81/0 83/0 | add(a, b)
+1 or  08 09 0a 0b 0c 0d 80/1 81/1 83/1 | logic(a | b)
+1 adc 10 11 12 13 14 15 80/2 81/2 83/2 | add(a, b, cpu.flag('c'))
+1 sbb 18 19 1a 1b 1c 1d 80/3 81/3 83/3 | subtract(a, b, cpu.flag('c'))
+1 and 20 21 22 23 24 25 80/4 81/4 83/4 | logic(a & b)
+1 sub 28 29 2a 2b 2c 2d 80/5 81/5 83/5 | subtract(a, b)
+1 xor 30 31 32 33 34 35 80/6 81/6 83/6 | logic(a ^ b)
+1 cmp 38 39 3a 3b 3c 3d 80/7 81/7 83/7 | cpu.compare(a, b)
+1 test 84 85 a8 a9 f6/0 f7/0           | flags_of(a & b)
+3 andn v:0f38f2 vW:0f38f2              | logic(~b & c)
+1 neg f7/3 f6/3                        | subtract(0 * a, a)
+1 not f7/2 f6/2                        | put(0, ~a)
+1 inc ff/0 fe/0                        | step(1)
+1 dec ff/1 fe/1                        | step(-1)
+1 rol c0/0 c1/0 d0/0 d1/0 d2/0 d3/0    | shift(z3.RotateLeft)
+1 shl c0/4 c1/4 d0/4 d1/4 d2/4 d3/4    | shift(operator.lshift)
+1 shr c0/5 c1/5 d0/5 d1/5 d2/5 d3/5    | shift(z3.LShR)
+1 sar c0/7 c1/7 d0/7 d1/7 d2/7 d3/7    | shift(operator.rshift)
+1 shld 0fa4 0fa5                       | shift_double(a, b, count(2))
+3 shlx v66:0f38f7 v66W:0f38f7          | put(0, b << count(2))
+3 shrx vf2:0f38f7 vf2W:0f38f7          | put(0, z3.LShR(b, count(2)))
+1 bt 0fba/4 0fa3                       | bit_test()
+1 bts 0fba/5 0fab                      | bit_test(True)
+1 bsr 0fbd                             | highest_bit(own)
+3 lzcnt f3:0fbd f3W:0fbd               | count_zeros(own)
+1 mul W:f7/4                           | multiply(cpu.r['rax'], a)
+3 mulx vf2W:0f38f6                     | put_both(cpu.multiply(cpu.r['rdx'], c, (0, 1)))
+1 mov 88 89 8a 8b b0+ b8+ c6/0 c7/0 66:89 66:c7/0 | put(0, b)
+1 movabs W:b8+                         | put(0, b)
+1 movzx 0fb6 0fb7                      | put(0, resize(own, width))
+1 movsx/movsxd 0fbe 0fbf W:63          | put(0, z3.SignExt(width - own.size(), own))
+1 cdqe W:98               | set('rax', simple(z3.SignExt(32, part(cpu.r['rax'], 0, 32))))
+1 lea 8d                               | put(0, part(address(1), 0, width))
+1 setCC 0f9?                           | put(0, choose(cpu.selector('CC'), bv(1, 8), bv(0, 8)))
+1 cmovCC 0f4?                          | put(0, choose(cpu.selector('CC'), b, a))
+1 jCC 7? 0f8?                          | (cpu.condition('CC'), to)
+1 jmp eb e9                            | to
+1 call e8 67:e8                        | call(to)
+1 ret c3                               | cpu.give_back(pop())
+1 push 50+ ff/6                        | push(get(0, 64))
+1 pop 58+                              | put(0, pop())
+1 leave c9                             | set('rsp', cpu.r['rbp']) or set('rbp', pop())
+1 nop p:90 p:0f1f/0                    | None
+1 endbr64 f3:0f1e                      | None
+1 rep_movsb/rep_movsq f3:a4 f3W:a5     | copy(cpu.r['rcx'])
+1 movups/movdqu 0f10 0f11 V.:0f10 V.:0f11 f3:0f6f f3:0f7f V.f3:0f6f V.f3:0f7f | put(0, b)
+1 movaps/movdqa 0f28 0f29 V.:0f28 V.:0f29 66:0f6f 66:0f7f V.66:0f6f V.66:0f7f | align() or put(0, b)
+1 movq 66W:0f6e 66W:0f7e f3:0f7e 66:0fd6 v.66W:0f6e v.66W:0f7e v.f3:0f7e v.66:0fd6 | \
+put(0, resize(get(1, 64), width))
+1 paddq 66:0fd4 V66:0fd4               | packed(64, lambda a, b, n: [*map(operator.add, a, b)])
+1 pxor/xorps 66:0fef 0f57 V66:0fef V:0f57 | packed(64, lambda a, b, n: [*map(operator.xor, a, b)])
+1 punpcklqdq/movlhps 66:0f6c 0f16 V66:0f6c v:0f16 | packed(64, lambda a, b, n: [a[0], b[0]])
+1 punpckhqdq/unpckhpd 66:0f6d 66:0f15 V66:0f6d V66:0f15 | packed(64, lambda a, b, n: [a[1], b[1]])
+2 palignr 66:0f3a0f             | packed(8, lambda a, b, n: (b + a + [bv(0, 8)] * n)[n:n + 16])
+1 shufps 0fc6   | packed(32, lambda a, b, n: [(a, a, b, b)[k][n >> 2*k & 3] for k in range(4)])
+1 movhps 0f16 0f17 v:0f16 v.:0f17 | pieces(64, lambda a, b, n: b[1:] or [a[0], b[0]])
+2 pextrq 66W:0f3a16 v.66W:0f3a16       | pieces(64, lambda a, b, n: [b[n & 1]])
+2 pinsrq 66W:0f3a22 v66W:0f3a22 | pieces(64, lambda a, b, n: [b[:1] + a[1:], a[:1] + b[:1]][n & 1])
+3 extracti128 vL.66:0f3a39             | whole(128, lambda a, b, n: [b[n & 1]])
+3 inserti128 vL66:0f3a38 | whole(128, lambda a, b, n: [b[:1] + a[1:], a[:1] + b[:1]][n & 1])
+3 blendps V66:0f3a0c | whole(32, lambda a, b, n: [p[n >> k & 1] for k, p in enumerate(zip(a, b))])
+3 permq vL.66W:0f3a00        | whole(64, lambda a, b, n: [b[n >> 2*k & 3] for k in range(4)])
+3 permpd vL.66W:0f3a01       | whole(64, lambda a, b, n: [b[n >> 2*k & 3] for k in range(4)])
+3 broadcastsd vL.66:0f3819             | put(0, join([get(1, 64)] * 4))
+3 broadcastf128 vL.66:0f381a           | put(0, join([get(1, 128)] * 2))
+3 zeroupper v.:0f77                    | clear_high_halves()
+'''
+CONDITIONS = {2: 'b', 3: 'ae', 4: 'e', 5: 'ne', 6: 'be', 7: 'a', 8: 's', 9: 'ns', 12: 'l', 13: 'ge',
+              14: 'le', 15: 'g'}
+# By their numbers in VEX.
+PREFIXES, MAPS = ('', '66', 'f3', 'f2'), ('', '0f', '0f38', '0f3a')
+DECODER = Cs(CS_ARCH_X86, CS_MODE_64)
 DECODER.detail = True
-SHIFTS = {'shl': operator.lshift, 'shr': z3.LShR, 'sar': operator.rshift, 'rol': z3.RotateLeft}
+Row = collections.namedtuple('Row', 'level name printed encoding pattern effect')
+
+
+def pattern(encoding):
+    """The bits with which an instruction begins that has an encoding."""
+    head, _, opcode = encoding.rpartition(':')
+    opcode, _, reg = opcode.partition('/')
+    prefix, wide, table = head.strip('vL.Wp'), 'W' in head, ''
+    if head.startswith('v'):
+        table = next(one for one in reversed(MAPS) if opcode.startswith(one))
+        last = f'{"1111" if "." in head else "...."}{"L" in head:b}{PREFIXES.index(prefix):02b}'
+        begin = f'11000100...{MAPS.index(table):05b}{wide:b}{last}'
+        if table == '0f' and not wide:
+            begin = f'(?:{begin}|11000101.{last})'
+    elif head == 'p':
+        begin = '(?:00101110|01100110)*'
+    else:
+        rex = '01001...' if wide else '(?:01000...)?' if prefix else '(?:0100....)?'
+        begin = bits(prefix) + rex
+    code = bits(opcode[len(table):].rstrip('+'))
+    return re.compile('(?:00101110)*' + begin + (code[:-3] + '...' if opcode[-1] == '+' else code) +
+                      (f'..{int(reg):03b}' if reg else ''))
+
+
+def bits(digits):
+    return f'{int(digits, 16):0{4 * len(digits)}b}' if digits else ''
+
+
+def rows():
+    """The rows of the table, one for each encoding."""
+    for line in TABLE.strip().split('\n'):
+        for n, cond in CONDITIONS.items() if 'CC' in line else [(0, '')]:
+            head, effect = line.replace('CC', cond).split('|', 1)
+            level, name, *encodings = head.replace('?', f'{n:x}').split()
+            effect, names = compile(effect.strip(), name, 'eval'), name.split('/')
+            for one in encodings:
+                for each in sorted({one.replace('V', 'v'), one.replace('V', 'vL')}):
+                    by_vex = each[0] == 'v'
+                    printed = {*names, *(f'v{one}' for one in names if by_vex)}
+                    yield Row(max(int(level), 3 * by_vex), name, printed, each, pattern(each),
+                              effect)
+
+
+ROWS = [*rows()]
 
 
 def registers():
@@ -33,20 +159,28 @@ class X86(Cpu):
     ARGS, RESULTS = ('rdi', 'rsi', 'rdx', 'rcx', 'r8', 'r9'), ('rax', 'rdx')
     SAVED = 'rbx', 'rbp', 'r12', 'r13', 'r14', 'r15'
     SP, ABOVE, RED_ZONE, STEP, LONGEST = 'rsp', 8, 128, 1, 15
-    LEVELS, is_known = tuple(KNOWN_X86), staticmethod(is_known)
+    LEVELS = 'x86-64', 'x86-64-v2', 'x86-64-v3'
     # The property of which features a file has marks for, those that are known (IBT, SHSTK), and
     # the mark of the first; and properties that only tell of a file.
     MARKS, TOLD = (0xc0000002, 3, bytes.fromhex('f30f1efa')), (0xc0010001, 0xc0010002)
 
     @staticmethod
     def decode(code, address):
+        """The instruction at the begin of some bytes, with its row if it has one."""
         i = next(DECODER.disasm(code, address), None)
         if i is not None:
-            i.ops, i.text = i.operands, i.op_str
+            i.ops, i.text, name = i.operands, i.op_str, i.mnemonic.replace(' ', '_')
+            i.row = next((row for row in ROWS if name in row.printed and row.pattern.match(
+                bits(bytes(i.bytes).hex()))), None)
         return i
 
+    @classmethod
+    def is_known(cls, i, level):
+        """Whether an instruction is one that this level of processors runs as decoded."""
+        return i.row is not None and i.row.level <= cls.LEVELS.index(level) + 1
+
     def do(self, i):
-        return TABLE[i.mnemonic](self, i)
+        return eval(i.row.effect, globals(), Step(self, i))
 
     def registers(self):
         return {name: secret(f'{name} of the caller', width)
@@ -64,260 +198,184 @@ class X86(Cpu):
         """The arguments by which a function is told where its struct goes, and its result."""
         return [address], address
 
-    def address(self, i, op):
-        m, a = op.mem, bv(op.mem.disp)
+
+class Step(Effect):
+    """An instruction on a path. Its operands have the width of the first, but `own` is the second
+    by its own."""
+    a, b, c = (property(lambda step, k=k: step.get(k, step.width)) for k in range(3))
+    own, to = property(lambda step: step.get(1)), property(lambda step: step.ops[0].imm)
+
+    def __init__(self, cpu, i):
+        super().__init__(cpu, i)
+        self.ops, self.aligned, self.is_vex = i.ops, False, i.mnemonic[0] == 'v'
+        self.width = 8 * i.ops[0].size if i.ops else 0
+
+    def address(self, k):
+        m = self.ops[k].mem
+        a = bv(m.disp)
         if m.base:
-            name = i.reg_name(m.base)
-            a = a + (LOADED + (i.address + i.size) if name == 'rip' else self.r[name])
+            name, i = DECODER.reg_name(m.base), self.instruction
+            a = a + (LOADED + (i.address + i.size) if name == 'rip' else self.cpu.r[name])
         if m.index:
-            a = a + self.r[i.reg_name(m.index)] * m.scale
+            a = a + self.cpu.r[DECODER.reg_name(m.index)] * m.scale
+        if self.aligned:
+            self.cpu.check_aligned(simple(a), self.ops[k].size)
         return simple(a)
 
-    def aligned_address(self, i, op):
-        address = self.address(i, op)
-        if i.mnemonic in ALIGNED:
-            self.check_aligned(address, op.size)
-        return address
+    def align(self):
+        """Lets the processor check addresses."""
+        self.aligned = True
 
-    def get(self, i, k, width=None):
+    def get(self, k, width=None):
         """Operand k, of this width or its own."""
-        op = i.ops[k]
+        op = self.ops[k]
         if op.type == X.X86_OP_IMM:
             return bv(op.imm, width or 64)
         if op.type == X.X86_OP_MEM:
-            return self.load(self.aligned_address(i, op), (width or 8 * op.size) // 8)
-        n, low, size = REGISTERS[i.reg_name(op.reg)]
-        return part(self.r[n], low, min(size, width or size))
+            return self.cpu.load(self.address(k), (width or 8 * op.size) // 8)
+        n, low, size = REGISTERS[DECODER.reg_name(op.reg)]
+        return part(self.cpu.r[n], low, min(size, width or size))
 
-    def put(self, i, k, value):
-        op, value = i.ops[k], self.products.symbol_of(value)
+    def put(self, k, value):
+        op, value = self.ops[k], self.cpu.products.symbol_of(value)
         if op.type == X.X86_OP_MEM:
-            return self.store(self.aligned_address(i, op), value)
-        n, low, size = REGISTERS[i.reg_name(op.reg)]
-        whole = self.r[n].size()
+            return self.cpu.store(self.address(k), value)
+        n, low, size = REGISTERS[DECODER.reg_name(op.reg)]
+        old = self.cpu.r[n]
         # These clear what is above them in the register; others keep it.
-        if size == 32 or size == 128 and i.mnemonic[0] == 'v':
-            value = resize(value, whole)
-        elif size < whole:
-            below = [part(self.r[n], 0, low)] if low else []
-            above = part(self.r[n], low + size, whole - low - size)
-            value = join([*below, value, above])
-        self.r[n] = value
+        if size == 32 or size == 128 and self.is_vex:
+            value = resize(value, old.size())
+        elif size < old.size():
+            below = [part(old, 0, low)] if low else []
+            value = join([*below, value, part(old, low + size, old.size() - low - size)])
+        self.cpu.r[n] = value
 
-    def both(self, i, first=0):
-        return [self.get(i, k, 8 * i.ops[0].size) for k in (first, first + 1)]
+    def set(self, name, value):
+        self.cpu.r[name] = value
 
+    # Numbers
 
-TABLE.update({
-    **dict.fromkeys(('nop', 'endbr64'), lambda c, i: None),
-    **dict.fromkeys(('mov', 'movabs', *(f'{v}{name}' for v in ('', 'v') for name in (
-        'movups', 'movdqu', 'movaps', 'movdqa'))),
-                    lambda c, i: c.put(i, 0, c.get(i, 1, 8 * i.ops[0].size))),
-    **dict.fromkeys(('movq', 'vmovq'), lambda c, i: c.put(
-        i, 0, resize(c.get(i, 1, 64), 8 * i.ops[0].size))),
-    'movzx': lambda c, i: c.put(i, 0, resize(c.get(i, 1), 8 * i.ops[0].size)),
-    **dict.fromkeys(('movsx', 'movsxd'), lambda c, i: c.put(
-        i, 0, z3.SignExt(8 * (i.ops[0].size - i.ops[1].size), c.get(i, 1)))),
-    'cdqe': lambda c, i: c.r.update(rax=simple(z3.SignExt(32, part(c.r['rax'], 0, 32)))),
-    'lea': lambda c, i: c.put(i, 0, part(c.address(i, i.ops[1]), 0, 8 * i.ops[0].size)),
-    'not': lambda c, i: c.put(i, 0, ~c.get(i, 0)),
-    **dict.fromkeys(('shlx', 'shrx'), lambda c, i: c.put(
-        i, 0, SHIFTS[i.mnemonic[:3]](c.get(i, 1), count(c, i, 2, 8 * i.ops[0].size)))),
-    'vzeroupper': lambda c, i: c.r.update(
-        (f'ymm{n}', resize(part(c.r[f'ymm{n}'], 0, 128), 256)) for n in range(16)),
-    'vbroadcastsd': lambda c, i: c.put(i, 0, join([c.get(i, 1, 64)] * 4)),
-    'vbroadcastf128': lambda c, i: c.put(i, 0, join([c.get(i, 1, 128)] * 2)),
-    **{f'set{code}': lambda c, i: c.put(i, 0, choose(
-        c.selector(i.mnemonic[3:]), bv(1, 8), bv(0, 8))) for code in CONDITIONS},
-    **{f'cmov{code}': lambda c, i: c.put(i, 0, choose(
-        c.selector(i.mnemonic[4:]), c.get(i, 1), c.get(i, 0))) for code in CONDITIONS},
-    **{f'j{code}': lambda c, i: (c.condition(i.mnemonic[1:]), i.ops[0].imm) for code in CONDITIONS},
-    'jmp': lambda c, i: i.ops[0].imm,
-    'push': lambda c, i: push(c, c.get(i, 0, 64)),
-    'pop': lambda c, i: c.put(i, 0, pop(c)),
-    'leave': lambda c, i: c.r.update(rsp=c.r['rbp']) or c.r.update(rbp=pop(c)),
-    'ret': lambda c, i: c.give_back(pop(c))})
+    def flags_of(self, result):
+        self.cpu.set_flags(result, c=z3.BoolVal(False), l=simple(result) < 0)
 
+    def logic(self, result):
+        self.put(0, simple(result))
+        self.flags_of(simple(result))
 
-@means(TABLE, 'xor', 'and', 'or', 'test', 'andn')
-def logic(c, i):
-    a, b = c.both(i, 1 if i.mnemonic == 'andn' else 0)
-    result = simple({'xor': a ^ b, 'or': a | b, 'andn': ~a & b}.get(i.mnemonic, a & b))
-    if i.mnemonic != 'test':
-        c.put(i, 0, result)
-    c.set_flags(result, c=z3.BoolVal(False), l=result < 0)
+    def add(self, a, b, carry=z3.BoolVal(False)):
+        result = simple(a + b + number_of(carry, a.size()))
+        self.put(0, result)
+        self.cpu.set_flags(result, c=z3.If(carry, z3.ULE(result, a), z3.ULT(result, a)))
 
+    def subtract(self, a, b, borrow=None):
+        if borrow is None:
+            self.put(0, a - b)
+            return self.cpu.compare(a, b)
+        result = simple(a - b - number_of(borrow, a.size()))
+        self.put(0, result)
+        self.cpu.set_flags(result, c=z3.If(borrow, z3.ULE(a, b), z3.ULT(a, b)))
 
-@means(TABLE, 'add', 'adc')
-def add(c, i):
-    a, b = c.both(i)
-    carry = z3.BoolVal(False) if i.mnemonic == 'add' else c.flag('c')
-    result = simple(a + b + number_of(carry, a.size()))
-    c.put(i, 0, result)
-    c.set_flags(result, c=z3.If(carry, z3.ULE(result, a), z3.ULT(result, a)))
+    def step(self, by):
+        result = simple(self.a + by)
+        self.put(0, result)
+        self.cpu.set_flags(result, **{k: f for k, f in self.cpu.flags.items() if k == 'c'})
 
+    def count(self, k):
+        """The count of a shift, modulo the width, or modulo 32 if the word is narrower."""
+        n = simple(resize(self.get(k, 8), self.width) & (63 if self.width == 64 else 31))
+        self.need(self.width >= 32 if const(n) is None else const(n) < self.width)
+        return n
 
-@means(TABLE, 'sub', 'neg', 'cmp')
-def subtract(c, i):
-    a, b = (bv(0, 8 * i.ops[0].size), c.get(i, 0)) if i.mnemonic == 'neg' else c.both(i)
-    if i.mnemonic != 'cmp':
-        c.put(i, 0, a - b)
-    c.flags = compared(a, b)
+    def shift(self, do):
+        a, n = self.a, self.count(1)
+        result = simple(do(a, n))
+        self.put(0, result)
+        if const(n) is None or do is z3.RotateLeft:
+            self.cpu.flags = {}
+        elif const(n):
+            last = a.size() - const(n) if do is operator.lshift else const(n) - 1
+            self.cpu.set_flags(result, c=part(a, last, 1) == 1)
 
+    def shift_double(self, a, b, n):
+        self.put(0, (a << n) | z3.If(n == 0, bv(0, a.size()), z3.LShR(b, a.size() - n)))
+        self.cpu.flags = {}
 
-@means(TABLE, 'sbb')
-def subtract_with_borrow(c, i):
-    (a, b), borrow = c.both(i), c.flag('c')
-    result = simple(a - b - number_of(borrow, a.size()))
-    c.put(i, 0, result)
-    c.set_flags(result, c=z3.If(borrow, z3.ULE(a, b), z3.ULT(a, b)))
+    def bit_test(self, is_set=False):
+        self.need(self.ops[0].type == X.X86_OP_REG)
+        a, n = self.a, simple(self.b & (self.width - 1))
+        if is_set:
+            self.put(0, a | (bv(1, self.width) << n))
+        self.cpu.flags = {'c': z3.Extract(0, 0, z3.LShR(a, n)) == 1}
 
+    def highest_bit(self, a):
+        """If there is none, the whole register is undefined, also where its high half else is 0."""
+        found = resize(a.size() - 1 - leading_zeros(a), 64)
+        whole = REGISTERS[DECODER.reg_name(self.ops[0].reg)][0]
+        self.cpu.r[whole], self.cpu.flags = choose(a == 0, self.cpu.fresh(), found), {'z': a == 0}
 
-@means(TABLE, 'inc', 'dec')
-def step_by_one(c, i):
-    result = simple(c.get(i, 0) + (1 if i.mnemonic == 'inc' else -1))
-    c.put(i, 0, result)
-    c.set_flags(result, **{k: f for k, f in c.flags.items() if k == 'c'})
+    def count_zeros(self, a):
+        self.put(0, leading_zeros(a))
+        self.cpu.flags = {'z': a < 0, 'c': a == 0}
 
+    def multiply(self, a, b):
+        self.cpu.r['rax'], self.cpu.r['rdx'] = self.cpu.multiply(a, b, (0, 1))
+        self.cpu.flags = {}
 
-def count(c, i, k, width):
-    """The count of a shift, modulo the width, or modulo 32 if the word is narrower."""
-    n = simple(resize(c.get(i, k, 8), width) & (63 if width == 64 else 31))
-    if const(n) is None and width < 32 or const(n) is not None and const(n) >= width:
-        raise unknown(i)
-    return n
+    def put_both(self, halves):
+        self.put(1, halves[0])
+        self.put(0, halves[1])
 
+    # Vectors
 
-@means(TABLE, *SHIFTS)
-def shift(c, i):
-    a = c.get(i, 0)
-    n, do = count(c, i, 1, a.size()), SHIFTS[i.mnemonic]
-    result = simple(do(a, n))
-    c.put(i, 0, result)
-    if const(n) is None or i.mnemonic == 'rol':
-        c.flags = {}
-    elif const(n):
-        last = a.size() - const(n) if i.mnemonic == 'shl' else const(n) - 1
-        c.set_flags(result, c=part(a, last, 1) == 1)
+    def pieces(self, bits, do, span=128):
+        """Puts what a function makes of the pieces of this many bits of the last two operands
+        before the number, and of the number, if there is one: in each span of as many bits."""
+        last = len(self.ops) - 1 - (self.ops[-1].type == X.X86_OP_IMM)
+        b = self.get(last)
+        a = self.get(last - 1) if self.ops[last - 1].type == X.X86_OP_REG else b
+        found = []
+        for low in range(0, b.size(), span):
+            halves = ([part(term, k, bits) for k in range(low, min(low + span, term.size()), bits)]
+                      for term in (a, b))
+            found += map(self.cpu.products.symbol_of, do(*halves, self.ops[-1].imm))
+        self.put(0, join(found))
 
+    def whole(self, bits, do):
+        self.pieces(bits, do, 256)
 
-@means(TABLE, 'shld')
-def shift_double(c, i):
-    a, b = c.get(i, 0), c.get(i, 1)
-    n = count(c, i, 2, a.size())
-    c.put(i, 0, (a << n) | z3.If(n == 0, bv(0, a.size()), z3.LShR(b, a.size() - n)))
-    c.flags = {}
+    def packed(self, bits, do):
+        """Without VEX, addresses must be aligned."""
+        self.aligned = not self.is_vex
+        self.pieces(bits, do)
 
+    def clear_high_halves(self):
+        self.cpu.r.update((f'ymm{n}', resize(part(self.cpu.r[f'ymm{n}'], 0, 128), 256))
+                          for n in range(16))
 
-@means(TABLE, 'bt', 'bts')
-def bit_test(c, i):
-    if i.ops[0].type != X.X86_OP_REG:
-        raise unknown(i)
-    a = c.get(i, 0)
-    n = simple(c.get(i, 1, a.size()) & (a.size() - 1))
-    if i.mnemonic == 'bts':
-        c.put(i, 0, a | (bv(1, a.size()) << n))
-    c.flags = {'c': z3.Extract(0, 0, z3.LShR(a, n)) == 1}
+    # The stack, and memory
 
+    def push(self, value):
+        self.cpu.r['rsp'] = simple(self.cpu.r['rsp'] - 8)
+        self.cpu.store(self.cpu.r['rsp'], value)
 
-@means(TABLE, 'bsr')
-def highest_bit(c, i):
-    """If there is none, the whole register is undefined, also where its high half else is 0."""
-    a, (whole, _, _) = c.get(i, 1), REGISTERS[i.reg_name(i.ops[0].reg)]
-    found = resize(a.size() - 1 - leading_zeros(a), 64)
-    c.r[whole] = choose(a == 0, c.fresh(), found)
-    c.flags = {'z': a == 0}
+    def pop(self):
+        value = self.cpu.load(self.cpu.r['rsp'], 8)
+        self.cpu.r['rsp'] = simple(self.cpu.r['rsp'] + 8)
+        return value
 
+    def call(self, to):
+        # The processor puts nothing on a shadow stack for a call of the next instruction.
+        self.need(to != self.instruction.address + self.instruction.size)
+        self.push(self.cpu.note_call(self.instruction))
+        return to
 
-@means(TABLE, 'lzcnt')
-def count_zeros(c, i):
-    a = c.get(i, 1)
-    c.put(i, 0, leading_zeros(a))
-    c.flags = {'z': a < 0, 'c': a == 0}
-
-
-@means(TABLE, 'mul')
-def multiply(c, i):
-    c.r['rax'], c.r['rdx'] = c.multiply(c.r['rax'], c.get(i, 0), (0, 1))
-    c.flags = {}
-
-
-@means(TABLE, 'mulx')
-def multiply_without_flags(c, i):
-    low, high = c.multiply(c.r['rdx'], c.get(i, 2), (0, 1))
-    c.put(i, 1, low)
-    c.put(i, 0, high)
-
-
-def push(c, value):
-    c.r['rsp'] = simple(c.r['rsp'] - 8)
-    c.store(c.r['rsp'], value)
-
-
-def pop(c):
-    value = c.load(c.r['rsp'], 8)
-    c.r['rsp'] = simple(c.r['rsp'] + 8)
-    return value
-
-
-@means(TABLE, 'call')
-def call(c, i):
-    # The processor puts nothing on a shadow stack for a call of the next instruction.
-    if i.ops[0].imm == i.address + i.size:
-        raise unknown(i)
-    push(c, c.note_call(i))
-    return i.ops[0].imm
-
-
-def vector(c, i):
-    """A vector instruction, in its 128-bit halves or as a whole. Its sources are the last two
-    operands before its number, if it has one."""
-    name = i.mnemonic.removeprefix('v')
-    (bits, do), span = VECTORS[name], 256 if name in AVX else 128
-    last = len(i.ops) - 1 - (i.ops[-1].type == X.X86_OP_IMM)
-    b = c.get(i, last)
-    a = c.get(i, last - 1) if i.ops[last - 1].type == X.X86_OP_REG else b
-    pieces = []
-    for low in range(0, b.size(), span):
-        halves = ([part(term, k, bits) for k in range(low, min(low + span, term.size()), bits)]
-                  for term in (a, b))
-        pieces += map(c.products.symbol_of, do(*halves, i.ops[-1].imm))
-    c.put(i, 0, join(pieces))
-
-
-# For each, how many bits a piece has, and how pieces of its sources and its number give those of
-# its result: of each half, but those of AVX of the whole.
-SSE = {
-    'paddq': (64, lambda a, b, n: [x + y for x, y in zip(a, b)]),
-    'palignr': (8, lambda a, b, n: (b + a + [bv(0, 8)] * n)[n:n + 16]),
-    'shufps': (32, lambda a, b, n: [(a, a, b, b)[k][n >> 2 * k & 3] for k in range(4)]),
-    **dict.fromkeys(('pxor', 'xorps'), (64, lambda a, b, n: [x ^ y for x, y in zip(a, b)])),
-    **dict.fromkeys(('punpcklqdq', 'movlhps'), (64, lambda a, b, n: [a[0], b[0]])),
-    **dict.fromkeys(('punpckhqdq', 'unpckhpd'), (64, lambda a, b, n: [a[1], b[1]]))}
-# The processor checks the addresses of these, if no v comes before.
-ALIGNED = {'movaps', 'movdqa', 'vmovaps', 'vmovdqa', *SSE}
-UNALIGNED = {
-    'movhps': (64, lambda a, b, n: [b[1]] if len(b) > 1 else [a[0], b[0]]),
-    'pextrq': (64, lambda a, b, n: [b[n & 1]]),
-    'pinsrq': (64, lambda a, b, n: [a[0], b[0]] if n & 1 else [b[0], a[1]])}
-AVX = {
-    'extracti128': (128, lambda a, b, n: [b[n & 1]]),
-    'inserti128': (128, lambda a, b, n: [a[0], b[0]] if n & 1 else [b[0], a[1]]),
-    'blendps': (32, lambda a, b, n: [(b if n >> k & 1 else a)[k] for k in range(len(a))]),
-    **dict.fromkeys(('permq', 'permpd'),
-                    (64, lambda a, b, n: [b[n >> 2 * k & 3] for k in range(4)]))}
-VECTORS = {**SSE, **UNALIGNED, **AVX}
-TABLE.update(dict.fromkeys((*SSE, *UNALIGNED, *(f'v{name}' for name in VECTORS)), vector))
-
-
-@means(TABLE, 'rep movsb', 'rep movsq')
-def copy(c, i):
-    """Copies as many bytes or words as rcx says, upwards: the direction flag is clear at each call,
-    and no instruction here sets it."""
-    number, size = c.facts.unique(c.r['rcx'], c.path), i.ops[0].size
-    if number is None:
-        raise MustSplit(c.r['rcx'])
-    for _ in range(number % 2**64):
-        c.store(c.r['rdi'], c.load(c.r['rsi'], size))
-        c.r.update((n, simple(c.r[n] + size)) for n in ('rdi', 'rsi'))
-    c.r['rcx'] = bv(0)
+    def copy(self, number):
+        """Copies so many bytes or words upwards: the direction flag is clear at each call, and no
+        instruction here sets it."""
+        r, size, count = self.cpu.r, self.ops[0].size, self.cpu.facts.unique(number, self.cpu.path)
+        if count is None:
+            raise MustSplit(number)
+        for _ in range(count % 2**64):
+            self.cpu.store(r['rdi'], self.cpu.load(r['rsi'], size))
+            r.update((n, simple(r[n] + size)) for n in ('rdi', 'rsi'))
+        r['rcx'] = bv(0)

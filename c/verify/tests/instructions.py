@@ -25,7 +25,6 @@ from cases import PROCESSORS, Library, Ours, open_library
 from definition import Products
 from elf import EXECUTE
 from memory import MustSplit
-from opcodes import KNOWN_X86, MAP_OF_VEX, PREFIX_OF_VEX, PREFIXES
 from terms import Refused, Unknown, bv, const, simple
 
 # How many codes are tried for an encoding, and for each, how many that only resemble it; and how
@@ -36,7 +35,7 @@ TRIES, NEAR, FEW, MANY = {X86: 6000, ARM: 1000}, 4, {X86: 16, ARM: 20}, {X86: 32
 TIMES, FIXED = 8, {'shr': 's', **dict.fromkeys('and or xor test andn and/orr'.split(), 'cv')}
 # Flags that Intel's or AMD's manual leaves undefined, and of which processors keep some.
 UNDEFINED = {X86: {'bt': 'zsl', 'bts': 'zsl', 'bsr': 'scl', 'lzcnt': 'sl', 'mul': 'zsl'}, ARM: {}}
-OTHER_PREFIXES = *PREFIXES, 0x26, 0x36, 0x3e, 0x64, 0x65, 0xf0
+OTHER_PREFIXES = 0x2e, 0x66, 0x67, 0xf2, 0xf3, 0x26, 0x36, 0x3e, 0x64, 0x65, 0xf0
 DECODERS = {X86: x86_64.DECODER, ARM: capstone.Cs(capstone.CS_ARCH_ARM64, capstone.CS_MODE_ARM)}
 DECODERS[ARM].detail = True
 # Where capstone knows no instruction; and how names end that have rows for ARM64, but no meaning.
@@ -99,8 +98,7 @@ MARCH = 'generic64+ibt', 'generic64+ibt+sse4.2', 'generic64+ibt+avx2+bmi+bmi2+lz
 def encodings(kind):
     """Names and an encoding of each; for ARM64, all that capital letters stand for in a row."""
     if kind is X86:
-        return [(name.replace('_', ' '), one) for name, some in KNOWN_X86['x86-64-v3'].items()
-                for one in sorted(some)]
+        return [(row.name, row.encoding) for row in x86_64.ROWS]
     return [(row.name, re.sub('[a-z]', '.', ''.join(bits))) for row in aarch64.ROWS
             for bits in itertools.product(*('01' if bit.isupper() else bit for bit in row.bits))]
 
@@ -109,18 +107,18 @@ def x86_code(r, encoding, _, near):
     """Bytes for an encoding of x86-64, or near it, with another prefix or another bit of VEX."""
     head, _, opcode = encoding.rpartition(':')
     opcode, _, reg = opcode.partition('/')
-    prefix, wide = re.sub('[vL.W]', '', head), 'W' in head
+    prefix, wide = head.strip('vL.Wp'), 'W' in head
     other = bytes([r.choice(OTHER_PREFIXES)] if near else [])
     if head.startswith('v'):
-        table = next(k for k in (2, 3, 1) if opcode.startswith(MAP_OF_VEX[k]))
+        table = next(k for k in (2, 3, 1) if opcode.startswith(x86_64.MAPS[k]))
         third = 15 if '.' in head else r.randrange(16)
-        last = wide << 7 | third << 3 | ('L' in head) << 2 | PREFIX_OF_VEX.index(prefix)
+        last = wide << 7 | third << 3 | ('L' in head) << 2 | x86_64.PREFIXES.index(prefix)
         bit = 1 << r.randrange(16) & 255 if near else 0
         code = bytes([0xc4, r.randrange(8) << 5 | table, last ^ bit])
         if table == 1 and not wide and r.randrange(2):
             code = bytes([0xc5, r.randrange(2) << 7 | code[2] & 127])
         code = code if bit else other + code
-        opcode = opcode[len(MAP_OF_VEX[table]):]
+        opcode = opcode[len(x86_64.MAPS[table]):]
     else:
         # Without a byte REX, some registers are the high bytes of others.
         rex = bytes([0x40 | wide << 3 | r.randrange(16)]) if wide or r.randrange(4) else b''
@@ -278,11 +276,11 @@ class Runs:
             return None
         if i.read is NOTHING:
             self.ways[f'{told(i)}, which capstone does not know'] = set()
-        ways[f'{i.mnemonic}, taken'].add(taken)
-        for flag in flags.keys() - FIXED.get(i.mnemonic, ''):
+        ways[f'{i.row.name}, taken'].add(taken)
+        for flag in flags.keys() - FIXED.get(i.row.name, ''):
             if flags[flag] is not None:
-                ways[f'{i.mnemonic}, flag {flag}'].add(bool(flags[flag]))
-        for flag in UNDEFINED[self.kind].get(i.mnemonic, ''):
+                ways[f'{i.row.name}, flag {flag}'].add(bool(flags[flag]))
+        for flag in UNDEFINED[self.kind].get(i.row.name, ''):
             if after[flag] is not None:
                 self.ways[f'{told(i)}, whose flag {flag} is undefined'] = set()
         self.list.append((told(i), image, after))
@@ -294,7 +292,7 @@ class Runs:
         for number in range(TRIES[self.kind] * NEAR):
             near, make = number % NEAR > 0, x86_code if self.kind is X86 else arm_code
             i = self.decoded(make(self.r, encoding, number // NEAR, near))
-            if i is None or not near and i.mnemonic != name:
+            if i is None or not near and i.row.name != name:
                 continue
             reserved &= near or i.read is NOTHING or i.read.mnemonic.endswith(NO_MEANING)
             jumps = self.add(i, count, collections.defaultdict(set) if near else self.ways)
