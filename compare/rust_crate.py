@@ -5,7 +5,6 @@ import sys
 import z3
 sys.path.append(os.path.join(os.path.dirname(os.path.abspath(__file__)), '..', 'c', 'verify'))
 import terms
-from checks import check
 from definition import FALSE, TRUE
 from layout import Ours
 from report import main
@@ -51,11 +50,11 @@ class Crate(Ours):
         super().check(end, state)
         end.memory.content('stream', 0, self.SIZE)  # No byte may be left without content.
         count = end.memory.content('stream', self.count_at, 8)
-        check(end, 'number of pending bytes', simple(count & 63), bv(len(state.pending)))
-        check(end, 'had_block', terms.choose(z3.UGE(count, 64), TRUE, FALSE), state.had_block)
+        end.check('number of pending bytes', simple(count & 63), bv(len(state.pending)))
+        end.check('had_block', terms.choose(z3.UGE(count, 64), TRUE, FALSE), state.had_block)
         if self.version == 4:
             last = end.memory.content('stream', 135, 1)
-            check(end, 'top bit', terms.choose(last < 0, TRUE, FALSE), state.top_bit)
+            end.check('top bit', terms.choose(last < 0, TRUE, FALSE), state.top_bit)
 
 
 if __name__ == '__main__':

@@ -7,10 +7,9 @@ import collections
 import os
 import re
 import z3
-from checks import check, check_bytes, check_generator
 from definition import Products, State
 from memory import Array
-from terms import Unknown, address, bv, bytes_of, choose, const, part, secret, simple, sym
+from terms import Unknown, bv, bytes_of, choose, const, part, secret, simple, sym
 
 HEADER = os.path.join(os.path.dirname(os.path.abspath(__file__)), '..', 'komihash_rattle.h')
 PROTOTYPE = r'(\w+)\s+{}\((.*?)\)'
@@ -18,7 +17,7 @@ PROTOTYPE = r'(\w+)\s+{}\((.*?)\)'
 ELEMENTS = {'void': 1, 'uint64_t': 8}
 # What a call returns, by name, and what it leaves: the state of a stream, a generator's pair, and
 # the bytes that it writes to `out`.
-Outcome = collections.namedtuple('Outcome', 'results state pair out', defaults=({}, None, None, []))
+Outcome = collections.namedtuple('Outcome', 'results state pair out', defaults=({}, None, (), ()))
 
 
 def parameters(name):
@@ -30,11 +29,6 @@ def parameters(name):
     return [re.fullmatch(r'(.+?)(\w+)', one).groups() for one in returned + listed.split(', ')]
 
 
-class Library(collections.namedtuple('Library', 'image layout red_zone')):
-    """The image of a library, and how its functions are called: how streams lie in memory, and
-    whether functions may use the red zone."""
-
-
 class Call:
     """A call of a function, before its first instruction or `where` some units of its bytes were
     taken: how many of UNIT bytes, how many bytes, and how many are left, if that is a number. Its
@@ -42,8 +36,9 @@ class Call:
     passed; `total` counts both. A step of the definition takes SIZE bytes. `which` is one of WHICH,
     the kinds of calls that are judged one by one.
 
-    A subclass has the definition: its words before the first step, or in any state at a cut; those
-    after a step; and what a call does then, if fewer bytes are left than for a step."""
+    A subclass has the definition: its state before the first step, or any at a cut; that after a
+    step; the words of a state; and what a call does then, if fewer bytes are left than for a step.
+    """
     UNIT, SIZE, WHICH, HAS_PENDING, READS_STREAM, BY_CONTENTS = 8, 0, (None,), False, True, False
     # Calls of fewer than LEAST times GRAIN bytes are judged one by one. Of longer ones, the low
     # bits of their length are, of which FIXED_BITS already in the loop. Lengths are multiples of
@@ -52,22 +47,21 @@ class Call:
     # The array whose bytes are counted, if there is one, and a kind of calls that have none.
     COUNTED, EMPTY = None, ()
 
-    def __init__(self, library, version, suffix, total=bv(0), pending=bv(0), which=None,
-                 where=None):
-        self.library, self.version, self.name = library, version, f'komihash_v{version}{suffix}'
-        self.products, self.layout = Products(), library.layout(version)
-        self.cpu = library.image.processor(library, self.products)
+    def __init__(self, image, name, total=bv(0), pending=bv(0), which=None, where=None):
+        self.name, self.version = name, int(name[len('komihash_v')])
+        self.products, self.layout = Products(), image.layout(self.version)
+        self.cpu = image.processor(image, self.products)
         self.facts, self.memory = self.cpu.facts, self.cpu.memory
         self.total, self.pending, self.which, self.at_cut = total, pending, which, bool(where)
         self.length = simple(total - pending)
         self.units, self.taken, self.left = where or (*[simple(-pending)] * 2, const(total))
         self.state, self.args, self.sizes = None, {}, {}
-        listed = parameters(self.name)
+        listed = parameters(name)
         for (kind, name), (_, count) in zip(listed, [*listed[1:], ('', '')]):
             self.args[name] = self.array(kind, name, count) if kind.endswith('*') else \
                 self.number(name)
         args, self.returned = [*self.args.values()], None
-        if suffix == '_start':
+        if self.name.endswith('_start'):
             first, self.returned = self.cpu.struct_at(args[0])
             args[:1] = first
         self.cpu.r.update(zip(self.cpu.ARGS, args))
@@ -86,7 +80,7 @@ class Call:
     def array(self, kind, name, count):
         """Passes an array or a struct. Null is only passed for an empty array, and after one there
         is an address. Returns its address."""
-        element, base, writable = kind.split()[-2], address(name), 'const' not in kind
+        element, base, writable = kind.split()[-2], sym(name), 'const' not in kind
         unit = ELEMENTS.get(element)
         if unit:
             number = self.number(count)
@@ -174,9 +168,13 @@ class Call:
         """The outcome of a call that isn't accepted."""
         return Outcome()
 
-    def words(self):
-        """The definition's words where the call is."""
+    def first(self):
+        """The definition's state where the call is."""
         return []
+
+    def words(self, steps):
+        """The words of the definition's state after some steps."""
+        return self.states[steps]
 
     def content(self, at, size):
         """Bytes of the call, from so many after those that were taken on."""
@@ -198,7 +196,7 @@ class Call:
         many bytes are left, and otherwise those that take `window` bytes. `made` counts products
         before the first step and after each."""
         count = (window if self.left is None else self.left) // self.SIZE if self.SIZE else 0
-        self.states, self.made, self.out = [self.words()], [len(self.products.list)], []
+        self.states, self.made, self.out = [self.first()], [len(self.products.list)], []
         for k in range(count):
             self.states.append(self.step(self.states[k], k * self.SIZE))
             self.made.append(len(self.products.list))
@@ -216,7 +214,7 @@ class Call:
         """How many steps the code made, after checking all that they make."""
         if 'out' in self.args:
             steps = len(end.memory.written('out')) // self.SIZE
-            check_bytes(end, 'bytes', 'out', self.out[:self.SIZE * steps])
+            end.check_bytes('bytes', 'out', self.out[:self.SIZE * steps])
         else:
             made = [count for count in self.made if 2 * count <= len(end.halves)]
             steps = max(len(made) - 1, 0)
@@ -251,16 +249,16 @@ class Call:
 
     def check(self, end, wanted):
         """Whether a call returns and stores what it must."""
-        for k, (name, term) in enumerate(wanted.results.items()):
-            check(end, name, part(end.result(k), 0, term.size()), term)
+        for register, (name, term) in zip(end.RESULTS, wanted.results.items()):
+            end.check(name, part(end.r[register], 0, term.size()), term)
         if wanted.state:
             self.layout.check(end, wanted.state)
         elif not self.READS_STREAM:
-            check_bytes(end, 'refused', 'stream', [])
-        if wanted.pair:
-            check_generator(end, wanted.pair)
+            end.check_bytes('refused', 'stream', [])
+        for k, word in enumerate(wanted.pair):
+            end.check(f's{k + 1}', end.memory.content('rand', 8 * k, 8), word)
         if 'out' in self.args:
-            check_bytes(end, 'bytes', 'out', wanted.out)
+            end.check_bytes('bytes', 'out', wanted.out)
 
 
 def named(name, numbers):

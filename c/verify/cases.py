@@ -5,18 +5,12 @@ import signal
 import time
 from concurrent.futures import BrokenExecutor, ProcessPoolExecutor, as_completed
 import terms
-from aarch64 import Arm
-from calls import Library
-from definition import VERSIONS
 from functions import FUNCTIONS
 from image import Image
 from induction import Proof
 from layout import Ours
 from terms import Refused, Unknown
-from x86_64 import X86
 
-# By the numbers that ELF has for them.
-PROCESSORS = {62: X86, 183: Arm}
 # What is checked, and the limit of time of a case.
 LIBRARY, SECONDS = None, 600
 # Long calls that are also shown one by one, since the induction isn't believed alone: lengths below
@@ -28,7 +22,7 @@ AGAIN = {
     '_write': lambda n, p, _: p + n == 64 or (2 * p + n) % 63 == 0,
     '_rand_fill': lambda n, p, _: n % 8 in (0, 7),
     '_unpad': lambda n, p, which: which in ((n // 8 % 8, 1), (n // 8 % 8, 2))}
-NAMES = [f'komihash_v{version}{suffix}' for version in VERSIONS for suffix in FUNCTIONS]
+NAMES = [*FUNCTIONS]
 
 
 class Case(collections.namedtuple('Case', 'name which low total pending')):
@@ -36,36 +30,30 @@ class Case(collections.namedtuple('Case', 'name which low total pending')):
     low bits."""
 
     def __str__(self):
-        kind = kind_of(self.name)
+        kind, told = kind_of(self.name), [self.name]
         if self.has_loop():
-            size = f'any n, {self.low} modulo {2**kind.FIXED_BITS}'
+            told.append(f'any n, {self.low} modulo {2**kind.FIXED_BITS}')
         else:
-            size = f'{self.total - self.pending} bytes, {self.pending} pending'
-        return f'{self.name}, {size}' + (f', {self.which}' if self.which is not None else '')
+            told += [f'{self.total - self.pending} bytes'] * bool(kind.COUNTED)
+            told += [f'{self.pending} pending'] * kind.HAS_PENDING
+        return ', '.join([*told, f'{self.which}'][:None if self.which is not None else -1])
 
     def has_loop(self):
         return self.total is None
 
-    def proof(self, library):
-        return Proof(library, int(self.name[len('komihash_v')]), suffix_of(self.name),
-                     kind_of(self.name), self.which, self.low)
+    def proof(self, image):
+        return Proof(image, self.name, kind_of(self.name), self.which, self.low)
 
-    def run(self, library):
+    def run(self, image):
         """Checks the case, and returns what was seen."""
-        proof, (_, products) = self.proof(library), FUNCTIONS[suffix_of(self.name)]
+        proof = self.proof(image)
         if self.has_loop():
             proof.prove()
-        else:
-            proof.number(self.total, self.pending)
-        for total, p, count in proof.counted:
-            if count != eval(products, {'n': total - p, 'p': p}):
-                raise Refused(f'the definition has {count} products for {total - p} bytes and {p} '
-                              'pending')
+            return proof.seen
+        count, (_, products) = proof.number(self.total, self.pending), FUNCTIONS[self.name]
+        if count != eval(products, {'n': self.total - self.pending, 'p': self.pending}):
+            raise Refused(f'the definition has {count} products')
         return proof.seen
-
-
-def suffix_of(name):
-    return name[len('komihash_v4'):]
 
 
 # What a case gave: why it failed, or how deep the stack was; and how much was asked.
@@ -73,7 +61,7 @@ Done = collections.namedtuple('Done', 'case failure seconds depth asked')
 
 
 def kind_of(name):
-    return FUNCTIONS[suffix_of(name)][0]
+    return FUNCTIONS[name][0]
 
 
 def cases_of(name):
@@ -90,7 +78,7 @@ def cases_of(name):
 def cases_again(name):
     kind = kind_of(name)
     return listed(name, lambda n, p, which: n + p >= kind.GRAIN * kind.LEAST and AGAIN.get(
-        suffix_of(name), lambda *_: False)(n, p, which), (*range(LONGEST), *MORE))
+        name[len('komihash_v4'):], lambda *_: False)(n, p, which), (*range(LONGEST), *MORE))
 
 
 def listed(name, wanted, numbers=range(LONGEST)):
@@ -104,8 +92,8 @@ def listed(name, wanted, numbers=range(LONGEST)):
 def open_library(content, level, layout=Ours, red_zone=False):
     """Reads the library that `run_case` checks, also in workers that begin after this."""
     global LIBRARY
-    LIBRARY = Library(Image(content, PROCESSORS, level, NAMES), layout, red_zone)
-    return LIBRARY.image
+    LIBRARY = Image(content, level, NAMES, layout, red_zone)
+    return LIBRARY
 
 
 def give_up(*_):

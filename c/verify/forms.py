@@ -50,7 +50,7 @@ def words_in(cpu):
 
 def size_of(cpu, name, offset):
     """The bytes of a word in memory. The flags of a stream are single bytes."""
-    return 1 if name == 'stream' and offset >= cpu.library.layout.FLAGS else 8
+    return 1 if name == 'stream' and offset >= cpu.image.layout.FLAGS else 8
 
 
 class Invariant:

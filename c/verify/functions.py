@@ -2,56 +2,55 @@
 import itertools
 import z3
 from calls import Call, Outcome, some_lanes
-from definition import (FALSE, TRUE, State, are_padded, block_round, hash_from_pair, is_text,
-                        join_lanes, lanes, next_pair, padded_words, padding_byte, seed_pair, seeded,
-                        start, top_bit, words_of)
-from terms import bv, bytes_of, const, join, part, secret, simple, sym
+from definition import (FALSE, TRUE, VERSIONS, State, are_padded, is_text, next_pair, padded_words,
+                        seeded, start, top_bit, words_of)
+from terms import bv, bytes_of, const, join, secret, simple, sym
 
 
 class Blocks(Call):
-    """Calls that take blocks of 64 bytes. The words of the definition are the lanes, and the last
-    word of the last block, from which version 4 has its top bit."""
+    """Calls that absorb blocks of 64 bytes. The words of a state are the lanes, and the last word
+    of the last block, from which version 4 has its top bit."""
     UNIT, SIZE, GRAIN, COUNTED = 1, 64, 64, 'bytes'
 
-    def words(self):
-        if not self.at_cut:
-            return self.first_words()
-        return [*some_lanes(' at a cut'), join(self.content(-8, 8))]
+    def first(self):
+        if self.at_cut:
+            return State(some_lanes(' at a cut'), (), TRUE, top_bit(self.version, self.byte(-1)))
+        return self.begun()
 
-    def step(self, words, at):
-        block = words_of(self.content(at, 64))
-        return [*block_round(self.products, self.version, words[:8], block), block[7]]
+    def words(self, steps):
+        if steps or self.at_cut:
+            last = join(self.content(64 * steps - 8, 8))
+        else:
+            last = self.layout.last_word(self.state) if self.state else bv(0)
+        return [*self.states[steps].lanes, last]
 
-    def outcome(self, steps, rest):
-        *s, last = self.states[steps]
-        had_block = self.at_cut or steps > 0
-        return self.end(s, had_block and part(last, 56, 8), self.content(steps * self.SIZE, rest))
+    def step(self, state, at):
+        return state.absorb(self.products, self.version, self.content(at, 64))
+
+    def ended(self, steps, rest):
+        """The state after all bytes."""
+        return self.states[steps].absorb(self.products, self.version,
+                                         self.content(64 * steps, rest))
 
 
 class Hash(Blocks):
     LEAST, FIXED_BITS = 2, 3
 
-    def first_words(self):
-        return [*lanes(seed_pair(self.products, self.args['seed'])), bv(0)]
+    def begun(self):
+        return start(self.products, self.args['seed'])
 
-    def end(self, s, last, content):
-        words = padded_words(self.version, content)
-        if last is not False and not content:
-            words = words_of([padding_byte(self.version, last)])
-        pair = join_lanes(FALSE if last is False else TRUE, s)
-        return Outcome({'hash': hash_from_pair(self.products, pair, words)})
+    def outcome(self, *taken):
+        return Outcome({'hash': self.ended(*taken).answer(self.products, self.version)})
 
 
 class Write(Blocks):
     HAS_PENDING = True
 
-    def first_words(self):
-        return [*self.state.lanes, self.layout.last_word(self.state)]
+    def begun(self):
+        return State(self.state.lanes, (), self.state.had_block, self.state.top_bit)
 
-    def end(self, s, last, content):
-        flags = (self.state.had_block, self.state.top_bit) if last is False else \
-            (TRUE, top_bit(self.version, last))
-        return Outcome(state=State(s, content, *flags))
+    def outcome(self, *taken):
+        return Outcome(state=self.ended(*taken))
 
 
 class Start(Call):
@@ -116,7 +115,7 @@ class RandInit(Call):
 class Rand(Call):
     """Calls that change a generator, whose words are those of the definition."""
 
-    def words(self):
+    def first(self):
         return [secret('s1 at a cut'), secret('s2 at a cut')] if self.at_cut else self.pair
 
     def step(self, words, _):
@@ -161,10 +160,9 @@ class Pad(Call):
         return words
 
     def outcome(self, steps, rest):
-        content = self.content(8 * steps, rest)
-        last = content or (self.content(8 * steps - 1, 1) if self.at_cut or steps else [])
-        word = words_of(content + [padding_byte(self.version, one) for one in last[-1:]])
-        out = self.out[:8 * steps] + bytes_of(join(word or [bv(0)]))
+        before = 8 * (self.at_cut or steps > 0)
+        words = padded_words(self.version, self.content(8 * steps - before, before + rest))
+        out = self.out[:8 * steps] + bytes_of(words[-1])
         return Outcome({'length': self.number_of_words()}, out=out)
 
     def refused(self):
@@ -217,10 +215,12 @@ class Unpad(Call):
 
 
 # Of each function, the class of its calls, and the definition's multiplications for n bytes with p
-# bytes pending.
-FUNCTIONS = {
+# bytes pending, which are counted for calls whose length is a number.
+SUFFIXES = {
     '': (Hash, '3 + 4*(n//64) + n%64//16'), '_start': (Start, '1'), '_init': (Start, '1'),
     '_write': (Write, '4*((p+n)//64)'), '_finish': (Finish, '2 + p//16'), '_save': (Save, '0'),
     '_resume': (Resume, '0'), '_rand_init': (RandInit, '4'), '_rand_init_words': (RandInit, '0'),
     '_rand_init_with_extra_seed': (RandInit, '4'), '_rand_next': (RandNext, '1'),
     '_rand_fill': (Fill, '(n+7)//8'), '_pad': (Pad, '0'), '_unpad': (Unpad, '0')}
+FUNCTIONS = {f'komihash_v{version}{suffix}': row for version in VERSIONS
+             for suffix, row in SUFFIXES.items()}

@@ -6,9 +6,10 @@ import operator
 import z3
 from terms import Refused, Unknown, bv, simple, symbols
 
-# To find the loop, calls are run with a small q, and with one and a remainder.
-TURNS, REST = 12, 40
-# The cuts that were found, by the class of a proof, the library and the version.
+# To find the loop, calls are run with a small q, and with one and a remainder. Invariants are
+# guessed from calls with a huge one.
+TURNS, REST, LONG = 12, 40, 2**20
+# The cuts that were found, by the function and the library.
 CUTS = {}
 # In a linear form, the factors of the units and of the length.
 FACTORS = list(itertools.product((0, 1, -1, 8, -8), (0, 1)))
@@ -16,7 +17,7 @@ FACTORS = list(itertools.product((0, 1, -1, 8, -8), (0, 1)))
 
 def cuts(proof):
     """The head of a loop and its exit, as they were found first for calls of this kind."""
-    kind = proof.kind, proof.library, proof.version
+    kind = proof.name, proof.image
     if kind not in CUTS:
         CUTS[kind] = find_cuts(proof)
     return CUTS[kind]
@@ -30,13 +31,13 @@ def find_cuts(proof):
     often.subtract(few)
     head = max(many, key=often.get)
     if often[head] < 2:
-        raise refusal or Unknown(f'{proof.suffix}: no loop was found')
+        raise refusal or Unknown(f'{proof.name}: no loop was found')
     last = len(many) - 1 - many[::-1].index(head)
     inside = set(many[many.index(head):last])
     for pc in many[last:]:
         if pc not in inside and (head in few or pc in few):
             return head, pc
-    raise early or refusal or Unknown(f'{proof.suffix}: {head:#x}: the loop has no exit')
+    raise early or refusal or Unknown(f'{proof.name}: {head:#x}: the loop has no exit')
 
 
 def places(proof, q):
@@ -46,10 +47,22 @@ def places(proof, q):
     call.facts.add(call.accepted())
     call.follow(0)
     try:
-        next(call.cpu.run(proof.entry()))
+        next(call.cpu.run(proof.entry))
     except Refused as refused:
         return list(proof.seen.order), refused
     return list(proof.seen.order), None
+
+
+def arrivals(proof):
+    """A long call, and two arrivals at the head, by which its invariant is guessed, after how many
+    bytes a turn takes. That of the exit is guessed when a turn arrives there."""
+    call, cuts = proof.long_call(bv(proof.pendings()[0])), (proof.head, proof.exit)
+    call.facts.add(z3.UGE(proof.q, LONG), call.accepted())
+    call.follow(proof.step)
+    one, _ = next(call.cpu.run(proof.entry, cuts))
+    other, _ = next(one.copy().run(proof.head, cuts))
+    proof.step = proof.kind.SIZE * (call.steps(other) - call.steps(one))
+    return call, *(proof.arrival(call, end)[0] for end in (one, other))
 
 
 def form_of(places, stable, first, second, word):

@@ -2,17 +2,22 @@
 
 All of it is trusted: only code that nobody can write is decoded, only encodings that the table of
 x86_64.py or aarch64.py has get a meaning, and the marks that a file asks for are there."""
+from aarch64 import Arm
 from elf import EXECUTE, Elf, need
 from terms import Unknown
+from x86_64 import X86
 
+# By the numbers that ELF has for them.
+PROCESSORS = {62: X86, 183: Arm}
 
 
 class Image:
-    """A library for a level of a processor, whose processors run no newer instructions."""
+    """A library for a level of a processor, whose processors run no newer instructions, and how its
+    functions are called: how streams lie in memory, and whether they may use the red zone."""
 
-    def __init__(self, content, processors, level, names):
-        self.elf, self.level = Elf(content), level
-        self.processor = processors[self.elf.machine]
+    def __init__(self, content, level, names, layout, red_zone):
+        self.elf, self.level, self.layout, self.red_zone = Elf(content), level, layout, red_zone
+        self.processor = PROCESSORS[self.elf.machine]
         need(level in self.processor.LEVELS, f'{self.processor.NAME} has no level {level}')
         self.functions, self.exported = self.elf.functions(names)
         self.check_marks()

@@ -22,12 +22,12 @@ does r; in the third, each r is run by itself, so that the number of bytes after
 A call whose length is a number has no cuts, and goes from its first instruction to its return."""
 import z3
 from forms import Arrival, Invariant, World
-from guesses import cuts
+from guesses import arrivals, cuts
 from machine import LOADED, Seen
 from terms import Refused, bv, put_for, secret, simple, sym, symbols
 
-# An invariant is guessed from calls with a huge q. Before the head, so many bytes may be taken.
-LONG, WINDOW = 2**20, 512
+# Before the head, so many bytes may be taken.
+WINDOW = 512
 # A number of pending bytes for which invariants are guessed: more than none, so that the call does
 # before its loop all that it can do there.
 SOME_PENDING = 13
@@ -36,11 +36,10 @@ SOME_PENDING = 13
 class Proof:
     """Calls of a function, of one kind of `which`, and with these low bits of their length."""
 
-    def __init__(self, library, version, suffix, kind, which=None, fixed=0):
-        self.library, self.version, self.suffix = library, version, suffix
-        self.kind, self.which, self.fixed = kind, which, fixed
+    def __init__(self, image, name, kind, which=None, fixed=0):
+        self.image, self.name, self.kind, self.which, self.fixed = image, name, kind, which, fixed
         self.invariants, self.seen, self.head, self.exit = {}, Seen(), None, None
-        self.step, self.first, self.counted = WINDOW, 0, []
+        self.step, self.entry = WINDOW, image.functions[name]
         bits = kind.GRAIN.bit_length() - 1
         self.q, self.r = (sym(f'{name} of {size} bits', size) for name, size in (
             ('q', 64 - bits), ('r', bits - kind.FIXED_BITS)))
@@ -48,7 +47,7 @@ class Proof:
     # Calls
 
     def call(self, total, pending=bv(0), where=None):
-        call = self.kind(self.library, self.version, self.suffix, total, pending, self.which, where)
+        call = self.kind(self.image, self.name, total, pending, self.which, where)
         call.cpu.seen = self.seen
         self.seen.order.clear()
         return call
@@ -76,24 +75,23 @@ class Proof:
     # What is shown
 
     def number(self, total, pending):
-        """Shows a call of which it is known how many bytes it takes."""
+        """Shows a call of which it is known how many bytes it takes. Returns how many products the
+        definition makes of them."""
         call = self.call(bv(total), bv(pending))
         self.go(call)
-        self.counted.append((total, pending, len(call.products.list)))
-        return self
+        return len(call.products.list)
 
     def prove(self):
         """Shows calls of any length. If none is accepted, they have no loop."""
         call = self.long_call(bv(self.pendings()[0]))
         if not self.kind.SIZE or call.facts.model((), call.accepted()) is None:
-            self.go(call)
-            return self
+            return self.go(call)
         self.head, self.exit = cuts(self)
-        self.guess()
+        call, *two = arrivals(self)
+        self.invariants[self.head] = Invariant(self.stable(call), *two)
         while not (self.turn() and all(self.begin(pending) for pending in self.pendings())):
             pass
-        self.end()
-        return self
+        return self.end()
 
     def begin(self, pending):
         return self.go(self.long_call(bv(pending)))
@@ -130,10 +128,6 @@ class Proof:
         where = simple(z3.LShR(taken, self.kind.UNIT.bit_length() - 1)), taken, rest
         call = self.long_call(self.any_pending(), where, self.total(remainder))
         self.go(call, self.exit, remainder >> self.kind.FIXED_BITS)
-        for q in (self.kind.LEAST, self.kind.LEAST + 1):
-            n = remainder + self.kind.GRAIN * q
-            self.counted.append((n, 0, self.first + (n - rest) // self.kind.SIZE * self.each +
-                                 len(call.products.list)))
 
     # The one way
 
@@ -141,25 +135,20 @@ class Proof:
         """Runs a call from its first instruction, or in any state that has the invariant of a cut,
         and judges where that leads. Returns whether the invariants hold there."""
         call.follow(self.step if pc else WINDOW)
-        if pc is None:
-            self.first = call.made[0]
-        else:
+        if pc is not None:
             self.assume(call, pc, r)
         call.check_possible()
         fits = True
-        for end, at in call.cpu.run(pc or self.entry(), (self.head, self.exit)):
+        for end, at in call.cpu.run(pc or self.entry, (self.head, self.exit)):
             if at is None:
                 call.judge(end)
             else:
                 fits = self.arrive(call, end, pc, at) and fits
         return fits
 
-    def entry(self):
-        return self.library.image.functions[f'komihash_v{self.version}{self.suffix}']
-
     def assume(self, call, pc, r):
         """Puts a call that is accepted into any state that has the invariant of this place."""
-        invariant, world = self.invariants[pc], World(call.states[0], call.units, call.length)
+        invariant, world = self.invariants[pc], World(call.words(0), call.units, call.length)
         conditions = self.conditions(call, world)
         call.facts.add(call.accepted(), *(conditions[name] for name in invariant.holding))
         number = [] if r is None else [(self.r, bv(r, self.r.size()))]
@@ -181,7 +170,7 @@ class Proof:
     def arrival(self, call, end):
         """What arrives, and after how many steps."""
         steps = call.steps(end)
-        world = World(call.states[steps],
+        world = World(call.words(steps),
                       simple(call.units + self.kind.SIZE // self.kind.UNIT * steps), call.length)
         return Arrival(end, world, self.conditions(call, world)), steps
 
@@ -202,21 +191,6 @@ class Proof:
         """Powers of two, the length modulo one of which is left after the last turn: that of a
         turn, or if single steps come before the turns, that of a step."""
         return {min(self.step, self.kind.GRAIN), self.kind.SIZE}
-
-    # Guesses
-
-    def guess(self):
-        """Guesses the invariant of the head from two arrivals of a long call, and how many bytes a
-        turn takes. That of the exit is guessed when a turn arrives there."""
-        call = self.long_call(bv(self.pendings()[0]))
-        call.facts.add(z3.UGE(self.q, LONG), call.accepted())
-        call.follow(WINDOW)
-        one, _ = next(call.cpu.run(self.entry(), (self.head, self.exit)))
-        other, _ = next(one.copy().run(self.head, (self.head, self.exit)))
-        self.step = self.kind.SIZE * (call.steps(other) - call.steps(one))
-        self.each = (call.made[-1] - call.made[0]) // (len(call.made) - 1)
-        self.invariants[self.head] = Invariant(self.stable(call), *(
-            self.arrival(call, end)[0] for end in (one, other)))
 
     def stable(self, call):
         """The symbols that mean the same at each arrival of a call: what it is passed, where the

@@ -4,7 +4,6 @@ then so does any sequence of them. `compare/rust_crate.py` has another layout.
 
 Trusted is that `store` passes all memory that `check` accepts for a state. That the layout is the
 library's needs no trust: with another one, right code is refused, but no wrong code passes."""
-from checks import check
 from definition import words_of
 from terms import bv, simple
 
@@ -39,8 +38,7 @@ class Ours:
 
     def check(self, end, state):
         for k, term in self.exact(state):
-            check(end, f'the stream at {k}', end.memory.content('stream', k, term.size() // 8),
-                  term)
+            end.check(f'the stream at {k}', end.memory.content('stream', k, term.size() // 8), term)
 
     def more_facts(self, call):
         """Adds what is known of a call by what its stream holds beside a state."""

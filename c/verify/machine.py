@@ -1,9 +1,10 @@
 """What both processors share: registers, memory, products, and the paths through the code."""
 import copy
+import examples
 import z3
 from memory import Array, Memory, MustSplit
-from terms import (SYMBOLS, Facts, Refused, Unknown, bv, const, is_public, secret, signed, simple,
-                   sym, symbols)
+from terms import (SYMBOLS, Facts, Refused, Unknown, bv, const, is_public, join, secret, signed,
+                   simple, sym, symbols)
 
 # Limits: bytes of a call's stack, instructions of a case, values of a number that splits a path.
 STACK_BYTES, STEPS, VALUES = 4096, 20000, 64
@@ -57,10 +58,6 @@ class Seen:
     def __init__(self):
         self.order, self.depth, self.by_contents = [], 0, set()
 
-    def include(self, other):
-        self.by_contents |= other.by_contents
-        self.depth = max(self.depth, other.depth)
-
 
 class Cpu:
     """A processor on one path through the code. Where a path forks, each way gets a copy, and the
@@ -73,20 +70,20 @@ class Cpu:
     RETURN, or for a jump with a condition, this and the address."""
     NAME = ARGS = RESULTS = SAVED = SP = ABOVE = RED_ZONE = STEP = LONGEST = None
 
-    def __init__(self, library, products):
+    def __init__(self, image, products):
         # All paths share these.
-        self.library, self.image, self.products = library, library.image, products
+        self.image, self.products = image, products
         self.facts, self.seen = Facts(), Seen()
         # Conditions that hold on this path, and which halves of products were made on it.
         self.path, self.halves = [], frozenset()
         self.memory, self.r, self.flags = Memory(), self.registers(), {}
-        # The last instruction, where the path last forked, and how many values are undefined.
-        self.pc, self.parted, self.undefined = None, None, 0
+        # The last instruction, and how many values are undefined.
+        self.pc, self.undefined = None, 0
         self.sp = sym('sp')
         self.memory.add(Array(self.sp - STACK_BYTES, bv(STACK_BYTES + self.ABOVE),
                               [('stack', bv(STACK_BYTES), 0)], writable=True))
         self.facts.add(self.sp & 15 == self.ABOVE, LOADED & 4095 == 0)
-        self.red_zone = self.RED_ZONE if library.red_zone else 0
+        self.red_zone = self.RED_ZONE if image.red_zone else 0
         self.r[self.SP] = self.sp
         # The addresses to which calls must return, and a pointer to the last: no array has them.
         self.r['ssp'] = bv(0)
@@ -104,15 +101,28 @@ class Cpu:
         i = self.image.instruction(self.pc)
         raise Refused(f'{i.address:#x}: {f"{i.mnemonic} {i.text}".strip()}: {why}') from None
 
-    # Calls and paths
+    # Calls, and where they end
 
     def check_return(self):
         for register in self.SAVED:
             if not z3.eq(self.r[register], self.before[register]):
                 self.refuse(f'{self.before[register]} is lost')
 
-    def result(self, k=0):
-        return self.r[self.RESULTS[k]]
+    def check(self, what, found, wanted):
+        """Whether a term is the one that the definition gives."""
+        if not self.facts.holds(self.path, found == wanted):
+            self.refuse(f'{what}: {examples.difference(self, found, wanted)}')
+
+    def check_bytes(self, what, name, wanted):
+        """Whether just these bytes of an array were written, from its first on."""
+        written = self.memory.written(name)
+        if written != list(range(len(wanted))):
+            self.refuse(f'{what}: the bytes {written} of {name} were written, and not '
+                        f'{len(wanted)}')
+        if wanted:
+            self.check(what, self.memory.content(name, 0, len(wanted)), join(wanted))
+
+    # Paths
 
     def run(self, start, stops=()):
         """Yields the states and places at which the paths return (None) or stop again."""
@@ -157,7 +167,6 @@ class Cpu:
         decided = self.facts.decide(self.path, cond)
         if decided is None:
             self.note_time(cond)
-            self.parted = self.pc
             other = self.copy()
             other.path = self.path + [simple(z3.Not(cond))]
             todo.append((other, no))
@@ -167,7 +176,6 @@ class Cpu:
     def with_values(self, term):
         """A copy for each value that a term can have here."""
         self.note_time(term)
-        self.parted = self.pc
         values = self.facts.values(term, self.path, VALUES)
         if values is None:
             self.refuse(f'a number with too many values: {term}')

@@ -1,6 +1,6 @@
 """Memory: arrays of bytes at symbolic addresses, and no other place."""
 import z3
-from terms import SYMBOLS, Refused, bv, join, part, secret, signed, simple, symbols, width_of
+from terms import Refused, bv, join, part, secret, signed, simple, symbols, width_of
 
 
 class MustSplit(Exception):
@@ -17,7 +17,6 @@ class Array:
     def __init__(self, base, size, places, writable=False, named=False):
         self.base, self.size, self.places = simple(base), simple(size), places
         self.writable, self.named = writable, named
-        self.names = symbols(self.base) & SYMBOLS.addresses
 
 
 class Memory:
@@ -47,7 +46,7 @@ class Memory:
         way to find the number comes last."""
         names, known = symbols(address), False
         near = [(name, number, array.writable, simple(address - start))
-                for name, number, array, start in self.places if array.names & names]
+                for name, number, array, start in self.places if symbols(array.base) & names]
         for number_of in signed, lambda term: cpu.facts.unique(term, cpu.path):
             for name, number, writable, difference in near:
                 k = number_of(difference)

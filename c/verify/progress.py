@@ -2,7 +2,7 @@
 import collections
 import time
 import second
-from cases import FUNCTIONS, suffix_of
+from functions import FUNCTIONS
 
 
 class Progress:
@@ -34,7 +34,7 @@ class Progress:
             elif len(self.done[name]) < count:
                 print(f'{name:37} {len(self.done[name]):>5} of {count}, and no more')
             else:
-                kind, products = FUNCTIONS[suffix_of(name)]
+                kind, products = FUNCTIONS[name]
                 print(row(name, count, products, 'yes' if kind.BY_CONTENTS else 'no',
                           max(done.depth for done in self.done[name]),
                           f'{self.total("seconds", name):.0f}'))

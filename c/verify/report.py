@@ -12,9 +12,8 @@ from cases import NAMES, cases_again, cases_of, open_library, results, run_case
 from elf import MEMORY
 from layout import Ours
 from progress import Progress
-from streams import check_streams
 from terms import Unknown
-from vectors import check_all_values
+from vectors import check_all_values, check_streams
 
 
 def names_there(image, names, some):
@@ -71,11 +70,9 @@ def arguments(text):
     add = parser.add_argument
     add('--function', nargs='+', choices=NAMES, metavar='NAME', default=NAMES)
     add('--jobs', type=int, default=len(os.sched_getaffinity(0)))
-    add('--some', action='store_true', help='a library may have only some of the functions')
-    add('--red-zone', action='store_true',
-        help='functions may use the 128 bytes below the stack pointer, as on Linux')
-    add('library', nargs='+', metavar='LEVEL:LIBRARY',
-        help='a file, and the level of processors that it is for, such as x86-64-v2 or armv8-a')
+    add('--some', action='store_true')
+    add('--red-zone', action='store_true')
+    add('library', nargs='+', metavar='LEVEL:LIBRARY')
     return parser.parse_args()
 
 

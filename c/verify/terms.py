@@ -34,7 +34,6 @@ class Symbols:
 
     def __init__(self):
         self.term, self.secret, self.found = {}, set(), {}
-        self.addresses = {'sp'}
 
     def of(self, term):
         """The names of the symbols in a term."""
@@ -62,11 +61,6 @@ def bv(value, width=64):
 def sym(name, width=64):
     SYMBOLS.term[name] = z3.BitVec(name, width)
     return SYMBOLS.term[name]
-
-
-def address(name):
-    SYMBOLS.addresses.add(name)
-    return sym(name)
 
 
 def secret(name, width=64):

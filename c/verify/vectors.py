@@ -1,9 +1,13 @@
-"""The definition against values of the Rust crate and of the C original."""
+"""The definition against values of the Rust crate and of the C original, and its streams against
+its hash."""
 import functools
 import os
 import z3
-from definition import Products, State, are_padded, filled, is_text, komi, seeded, start, words_of
-from terms import Unknown, bv, bytes_of, const, simple
+from calls import named, some_state
+from cases import results
+from definition import (VERSIONS, Products, State, are_padded, filled, hash_from_lanes, is_text,
+                        komi, padded_words, seeded, start, words_of)
+from terms import Unknown, bv, bytes_of, const, secret, simple
 
 # The files of values, which explain their rows, and how many they have.
 C = os.path.dirname(os.path.dirname(os.path.abspath(__file__)))
@@ -92,3 +96,31 @@ def check_all_values():
             if found != wanted:
                 raise Unknown(f'the definition gives {found} and not {wanted} for {call} {given}')
         print(f'the definition gives the {count} values of {name}')
+
+
+def check_length(length):
+    """Whether a stream answers the hash of any bytes, cut in the middle, by the same products.
+    Fewer than 64 bytes are absorbed by a new stream of any seed, others from any lanes. Of these,
+    both definitions first take a block, and then have lanes again, and the bytes after it. So by
+    induction over the blocks, all lengths are right if those below 128 are. Other cuts are too,
+    since `absorb` takes blocks from the front of all bytes that it has."""
+    message = named('bytes', range(length))
+    for version in VERSIONS:
+        one, other = Products(), Products()
+        if length < 64:
+            seed = secret('seed')
+            found, state = komi(one, version, seed, message), start(other, seed)
+        else:
+            state, words = some_state(version, 0), padded_words(version, message)
+            found = hash_from_lanes(one, version, state.lanes, words, state.had_block)
+        for part in (message[:length // 2], message[length // 2:]):
+            state = state.absorb(other, version, part)
+        pairs = zip([found, *sum(one.list, ())],
+                    [state.answer(other, version), *sum(other.list, ())], strict=True)
+        if not all(z3.eq(a, b) for a, b in pairs):
+            raise Unknown(f'the definition of streams gives other hashes for {length} bytes')
+
+
+def check_streams(jobs):
+    list(results(jobs, check_length, range(128)))
+    print('in the definition, streams answer the hash of any message, however it is cut')

@@ -15,7 +15,7 @@ import re
 import z3
 from capstone import CS_ARCH_X86, CS_MODE_64, Cs
 from capstone import x86_const as X
-from machine import LOADED, Cpu, Effect, compared, number_of
+from machine import LOADED, Cpu, Effect, number_of
 from memory import MustSplit
 from terms import bv, choose, const, join, leading_zeros, part, resize, secret, simple, sym
 

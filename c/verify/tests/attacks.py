@@ -292,7 +292,7 @@ def of_names(e):
                  ('a symbol before the code', 'no function', VALUE, (e.code.start - 8) % 2**64),
                  ('a name beyond the strings', 'not among', NAMED, 2**31),
                  ('two functions with one name', f'lacks..{NAME}', NAMED, other),
-                 ('another function', f'{NAME}, ..output: found', VALUE, elsewhere))]
+                 ('another function', f'{NAME}: ..output: found', VALUE, elsewhere))]
 
 
 TOLD = {**dict.fromkeys(('another function', 'a byte below the stack'), '4 passed, 1 failed\n1'),

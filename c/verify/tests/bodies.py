@@ -147,9 +147,9 @@ one that needs more room|v5_pad|any n..before the end|mov r8, rsi; shr r8, 3; in
     ja body; xor eax, eax; ret
 another result of one|v5_pad|any n..length: found 0x1|test rcx, rcx; jne body; mov eax, 1; ret
 no text, and a bool of 2|v5_resume|, 0 bytes..result: found 0x2|mov eax, 2; ret
-a word of 0|v5_unpad|, 0 bytes, 0 pending, (0, 0)..|nop
-a word of 0 after another|v5_unpad|, 8 bytes, 0 pending, (0, 0)..|nop
-a word of 1|v5_unpad|, 0 bytes, 0 pending, (0, 1)..|nop
+a word of 0|v5_unpad|, 0 bytes, (0, 0)..|nop
+a word of 0 after another|v5_unpad|, 8 bytes, (0, 0)..|nop
+a word of 1|v5_unpad|, 0 bytes, (0, 1)..|nop
 one wrong in a high bit||does not have|mov rax, [rdi]; bts rax, 63; mov [rdi], rax
 one wrong by where the stack is||does not have|test spl, 16; je body; not byte ptr [rdi]
 an old lane|v5_write|any n..at 72|push rdi; push [rdi + 72]; call body; pop rax; pop rdi;
@@ -340,7 +340,7 @@ v5_rand_fill|, 5 bytes|both rdi 16|write rsi 5 rdx
 v5_rand_fill|any n|both rdi 16|write OUT+8*INDEX 8: turn: cmp INDEX, 500; jne 1f; _; 1:
 v5_pad|, 9 bytes|read rdi 9 rsi|write rdx 16: cmp rcx, 2; jb body; _
 v5_pad|any n|read rdi 128 rsi
-v5_unpad|, 8 bytes, 0 pending, (0, 1)|read rdi 16 8*rsi|both rdx 8: after "cmp rax, -1; je 1f; _"
+v5_unpad|, 8 bytes, (0, 1)|read rdi 16 8*rsi|both rdx 8: after "cmp rax, -1; je 1f; _"
 v5_unpad|8, (0, 1)|read rdi 136 8*rsi
 '''
 # Wrong outputs on x86-64: a function, a case, and what is found wrong after which instructions.
@@ -380,10 +380,10 @@ v5_pad|, 9 bytes|bytes: test al, al; je 1f; rol qword ptr [rdx], 8
 v5_pad|any n|length: cmp rsi, 256; jne 1f; neg rax|length: cmp rsi, 383; jne 1f; neg rax|
     bytes: test rax, rax; je 1f; cmp rsi, 304; jne 1f; not byte ptr [rdx + 304]
 v5_pad|, 304 bytes|length: inc rax|bytes: test rax, rax; je 1f; not byte ptr [rdx + 303]
-v5_unpad|, 24 bytes, 0 pending, (7, 1)|
+v5_unpad|, 24 bytes, (7, 1)|
     bytes: cmp rax, 31; jne 1f; mov r8, [rdx]; mov r9, [rdx + 16];
     mov [rdx], r9; mov [rdx + 16], r8
-v5_unpad|, 256 bytes, 0 pending, (0, 1)|length: or al, 128
+v5_unpad|, 256 bytes, (0, 1)|length: or al, 128
 v5_unpad|8, (0, 0)|length: cmp rsi, 40; jne 1f; inc rax|length: cmp rsi, 20; jne 1f; inc rax
 v5_unpad|8, (7, 1)|length: cmp rsi, 33; jne 1f; or al, 128|
     length: cmp rsi, 48; jne 1f; or al, 128

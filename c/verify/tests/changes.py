@@ -11,12 +11,12 @@ import sys
 from unittest import mock
 from rows import Row, cases, count, refusal
 import calls
+import definition
 import forms
 import functions
 import induction
 import report
 import second
-import streams
 import vectors
 import z3
 from calls import Call
@@ -62,6 +62,9 @@ AGAIN = "('', 194, (128, 0, None), (4095, 0, None)), ('_pad', 194, (128, 0, None
 # The arguments on which jumps may depend.
 PUBLIC = ['bytes', 'length', 'out', 'rand', 'room', 'stream', 'text', 'words']
 
+# The functions whose jumps may depend on contents.
+BY_CONTENTS = [f'komihash_v{version}_{name}' for version in '45' for name in ('resume', 'unpad')]
+
 # The first value and the last of one table, and the last of the other.
 FIRST_AND_LAST = ('komihash', 4, '0', ''), ('komihash', 5, '0', '37206368617273'), \
     ('unpad', 5, '17f', '0')
@@ -73,8 +76,8 @@ STATED = 'b00a6ee98d32b5f2'
 
 def with_products(suffix, formula):
     """The table of functions, in which one makes other multiplications."""
-    kind, _ = cases.FUNCTIONS[suffix]
-    return cases, 'FUNCTIONS', {**cases.FUNCTIONS, suffix: (kind, formula)}
+    name = f'komihash_v4{suffix}'
+    return cases, 'FUNCTIONS', {**cases.FUNCTIONS, name: (cases.kind_of(name), formula)}
 
 
 def calls_of(content, level, name, at_cut=False):
@@ -108,7 +111,8 @@ def not_any(content, level):
     for name, at_cut in itertools.product(cases.NAMES, (False, True)):
         for call in itertools.islice(calls_of(content, level, name[9:], at_cut), 200):
             state, cpu = call.state or State(()), call.cpu
-            terms = [*(call.words() if at_cut else [*state.lanes, *state.pending]),
+            call.follow(0)
+            terms = [*(call.words(0) if at_cut else [*state.lanes, *state.pending]),
                      *(call.pair if 'rand' in call.args and not at_cut else ()),
                      *(term for term in call.args.values() if not is_public(term)),
                      *(term for one, term in cpu.before.items() if one not in (cpu.SP, 'ssp') and
@@ -208,8 +212,8 @@ def stated():
 
 def lengths():
     """The lengths for which streams are checked."""
-    with mock.patch.object(streams, 'results') as given:
-        streams.check_streams(1)
+    with mock.patch.object(vectors, 'results') as given:
+        vectors.check_streams(1)
     return [*given.call_args[0][2]]
 
 
@@ -235,10 +239,10 @@ def long_calls(level, content):
             shown, content, level, f'komihash_v4{suffix}', among=among)
 
 
-def definition():
+def check_definition():
     """Checks the definition, as each run does."""
     vectors.check_all_values()
-    streams.check_streams(1)
+    vectors.check_streams(1)
 
 
 def of_calls(judge, content, level):
@@ -254,8 +258,8 @@ def of_calls(judge, content, level):
             induction.Proof, 'conditions', lambda *given, do=induction.Proof.conditions: {
                 name: cond for name, cond in do(*given).items() if name != 'not too much'}),
          judge('v4_rand_fill', 'any n')),
-        ('a state of no calls', 'contradict', (functions.Rand, 'words', lambda call,
-            do=functions.Rand.words: (call.facts.add(z3.BoolVal(not call.at_cut)), do(call))[1]),
+        ('a state of no calls', 'contradict', (functions.Rand, 'first', lambda call,
+            do=functions.Rand.first: (call.facts.add(z3.BoolVal(not call.at_cut)), do(call))[1]),
          judge('v4_rand_fill', 'any n'))]
 
 
@@ -267,10 +271,8 @@ def of_products(judge):
         ('products of a short call', 'the definition has',
          with_products('_rand_fill', '(n+7)//8 + (n == 5)'), judge('v4_rand_fill', ', 5 bytes')),
         ('products of a long call', 'the definition has',
-         with_products('_rand_fill', '(n+7)//8 + (n == 200)'), judge('v4_rand_fill', 'any n')),
-        ('products of a longer call', 'the definition has',
-         with_products('_rand_fill', '(n+7)//8 + (n >= 256)'), judge('v4_rand_fill', 'any n')),
-        *((f'one more by {name}', 'products, and not the', with_more(functions, name),
+         with_products('_rand_fill', '(n+7)//8 + (n == 255)'), judge('v4_rand_fill', ', 255 b')),
+        *((f'one more by {name}', 'products, and not the', with_more(definition, name),
            judge('v4', '0 modulo')) for name in ('block_round', 'hash_from_pair'))]
 
 
@@ -296,8 +298,8 @@ def of_cases(level, content, whole):
         ('what is stated of the header', STATED, (), stated),
         ('arguments that are public', f'{PUBLIC}', (cases.terms.SYMBOLS, 'secret', set()),
          lambda: public(content, level)),
-        ('what may depend on contents', "['_resume', '_unpad']", (), lambda: [
-            suffix for suffix, (kind, _) in cases.FUNCTIONS.items() if kind.BY_CONTENTS]),
+        ('what may depend on contents', f'{BY_CONTENTS}', (), lambda: [
+            name for name in cases.NAMES if cases.kind_of(name).BY_CONTENTS]),
         ('what is run again', AGAIN, (), lambda: [
             (suffix, len(some), *((one.total, one.pending, one.which)
                                   for one in (some[0], some[-1])))
@@ -307,23 +309,23 @@ def of_cases(level, content, whole):
 def of_definition():
     """Another definition, and what it is compared with."""
     return [
-        *((f'another hash of {n} bytes', f'for {n} bytes', (streams, name, lambda products, version,
-            *given, do=getattr(streams, name), wrong=wrong: do(products, version, *given) + (
+        *((f'another hash of {n} bytes', f'for {n} bytes', (vectors, name, lambda products, version,
+            *given, do=getattr(vectors, name), wrong=wrong: do(products, version, *given) + (
                 version == wrong)), find) for n, name, wrong, find in (
-                (0, 'komi', 4, definition),
-                (64, 'hash_from_lanes', 5, lambda: streams.check_length(64)))),
-        ('another hash of 127 bytes', 'for 127 bytes', (streams, 'padded_words', lambda version, it,
-            do=streams.padded_words: do(version, it[len(it) == 127:])),
-         lambda: streams.check_streams(1)),
+                (0, 'komi', 4, lambda: vectors.check_streams(1)),
+                (64, 'hash_from_lanes', 5, lambda: vectors.check_length(64)))),
+        ('another hash of 127 bytes', 'for 127 bytes', (vectors, 'padded_words', lambda version, it,
+            do=vectors.padded_words: do(version, it[len(it) == 127:])),
+         lambda: vectors.check_streams(1)),
         ('bytes that are forgotten', 'for 20 bytes', (State, 'absorb', lambda state, *given,
             do=State.absorb: do(State(state.lanes, [], state.had_block, state.top_bit), *given)),
-         lambda: streams.check_length(20)),
+         lambda: vectors.check_length(20)),
         ('sums of a call are told apart', 'True', (), sums),
         *((f'another factor {k} of streams by {name}', 'for 0 bytes', (module, name,
             lambda *given, k=k, do=getattr(module, name): (do(*given), other_factor(
                 next(one for one in given if isinstance(one, Products)).list, k))[0]),
-           lambda: streams.check_length(0)) for k in (0, 1)
-          for module, name in ((streams, 'start'), (State, 'answer'))),
+           lambda: vectors.check_length(0)) for k in (0, 1)
+          for module, name in ((vectors, 'start'), (State, 'answer'))),
         *((f'a form that varies as {name}', '{0: None}', (
             forms, 'form_of', lambda *_, name=name, width=width: sym(name, width)),
            lambda: forms.Invariant(
@@ -333,16 +335,17 @@ def of_definition():
         ('a text of 65 bytes', 'True', (), lambda: vectors.resume(
             5, vectors.save(5, '0', '7f' * 65)) == vectors.komihash(5, '0', '7f' * 65)),
         *((f'other values than {n}', 'has 95 values', (vectors, 'ROWS', {'vectors.tsv': n}),
-           definition) for n in (94, 96)),
+           check_definition) for n in (94, 96)),
         *((f'another value of {call}{row}', 'gives 4 ', (vectors, 'CALLS', {**vectors.CALLS, call:
             lambda *given, row=row, do=vectors.CALLS[call]: 4 if given == row else do(*given)}),
-           definition) for call, *row in FIRST_AND_LAST for row in [tuple(row)]),
+           check_definition) for call, *row in FIRST_AND_LAST for row in [tuple(row)]),
         *((f'another value of {call}', f'gives 4 ..for {call} [', (vectors, 'CALLS', {
-            **vectors.CALLS, call: lambda *_: 4}), definition) for call in [*vectors.CALLS][1:]),
+            **vectors.CALLS, call: lambda *_: 4}), check_definition)
+          for call in [*vectors.CALLS][1:]),
         ('the lengths of streams', f'{[*range(128)]}', (), lengths),
-        ('the definition', 'None', (), definition),
+        ('the definition', 'None', (), check_definition),
         ('other words', 'gives none', (vectors, 'are_padded',
-            lambda *_: z3.BoolVal(False)), definition)]
+            lambda *_: z3.BoolVal(False)), check_definition)]
 
 
 def of_errors(judge):

@@ -21,9 +21,10 @@ import capstone
 import machine
 import x86_64
 import z3
-from cases import PROCESSORS, Library, Ours, open_library
+from cases import open_library
 from definition import Products
 from elf import EXECUTE
+from image import PROCESSORS
 from memory import MustSplit
 from terms import Refused, Unknown, bv, const, simple
 
@@ -213,8 +214,8 @@ def in_model(kind, i, image):
     """Runs an instruction in the model, in a function that was called. Returns whether a jump was
     taken, the numbers as of an image, or None for what is undefined, and which flags are written,
     with v for overflow."""
-    library = Library(types.SimpleNamespace(instruction=lambda _: i), Ours, False)
-    cpu, before = KINDS[kind](library, Products()), numbers(kind, image)
+    only = types.SimpleNamespace(instruction=lambda _: i, red_zone=False)
+    cpu, before = KINDS[kind](only, Products()), numbers(kind, image)
     cpu.sp, before['ssp'] = bv(POINTER + 2048), 2**64 - 8
     cpu.r = {name: bv(before[name], term.size()) for name, term in cpu.r.items()}
     cpu.flags = {name: z3.BoolVal(before[name] == 1) for name in 'zscl'}
