@@ -7,8 +7,9 @@ register in the ModRM byte, and `+` for one in the opcode's last three bits. Bef
 the prefix that belongs to the opcode, and W for REX.W or VEX.W. An encoding by VEX begins with `v`,
 as does the name of a vector instruction then; L follows if vectors have 256 bits, and `.` if it has
 no third operand, so that those bits of VEX must be set. `V` stands for `v` and `vL`, and CC and `?`
-for each condition and its number. Operands are a, b and c; the other names are methods of Step, or
-stand in this file."""
+for each condition and its number. A prefix 2e in front means nothing, nor does 66 before what does
+nothing, which `p` says. Operands are a, b and c; the other names are methods of Step, or stand in
+this file."""
 import collections
 import operator
 import re
