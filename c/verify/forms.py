@@ -1,7 +1,7 @@
 """What holds of all states that arrive at one place of a loop: an invariant, which is guessed from
 examples. What an arrival doesn't confirm is dropped, so a wrong guess can't lead to a wrong claim.
 
-An invariant gives each word of registers and memory a form, or none. A form is a term that has
+An invariant gives each word of registers and memory forms, or none. A form is a term that has
 symbols for what the definition says at an arrival, which is the arrival's world. For example, in
 the loop of a hash,
 - a register is `bytes + units`, the address of the next byte;
@@ -9,7 +9,7 @@ the loop of a hash,
 - the stack pointer, and what the caller had in its registers, stay as they are: fixed terms.
 Beside forms, some conditions hold, as that a turn of the loop is left."""
 import collections
-from guesses import form_of
+from guesses import forms_of
 from terms import join, part, put_for, sym, symbols, width_of
 
 # In a form, the units and the length, and then the words of a world.
@@ -58,15 +58,15 @@ class Invariant:
 
     Forms may have the symbols of a world, and *stable* ones, which mean the same at each arrival of
     a call: an argument, the length, what the caller had in a register. Others, such as the bytes
-    of a turn, have one meaning in each turn, so no form may have them."""
+    of a turn, have one meaning in each turn, so no form may have them. A word may have more than
+    one form: at the first arrivals, some can't be told apart."""
 
     def __init__(self, stable, first, second):
         """Guesses from two arrivals, which may be the same."""
         self.holding = first.holding & second.holding
-        guessed = ((word, form_of(PLACES, stable, first, second, word))
-                   for word in first.words if word in second.words)
-        self.forms = {word: form if form is not None and symbols(form) <= stable | COUNTS else None
-                      for word, form in guessed}
+        self.forms = {word: [form for form in forms_of(PLACES, stable, first, second, word)
+                             if symbols(form) <= stable | COUNTS]
+                      for word in first.words if word in second.words}
 
     def admit(self, arrival):
         """Drops what doesn't hold of an arrival. Returns whether all did."""
@@ -76,12 +76,10 @@ class Invariant:
         return fits
 
     def confirmed(self, arrival):
-        """The forms of the words that an arrival has. Those that it doesn't have are None."""
-        forms = {word: form for word, form in self.forms.items() if word in arrival.words}
-        true = arrival.facts.holding(arrival.path, {
-            word: arrival.words[word] == arrival.world.value(form)
-            for word, form in forms.items() if form is not None})
-        return {word: form if word in true else None for word, form in forms.items()}
+        """The forms of the words that an arrival has, without those that it doesn't have."""
+        return {word: [form for form in forms if arrival.facts.holds(
+            arrival.path, arrival.words[word] == arrival.world.value(form))]
+                for word, forms in self.forms.items() if word in arrival.words}
 
     def assume(self, cpu, world, change):
         """Puts a processor into any state that has the forms, of which each term is changed as the
@@ -89,9 +87,10 @@ class Invariant:
         a signal handler may have changed what a call finds there when it begins."""
         cpu.memory.lose('stack', cpu.ABOVE)
         words = {n: [] for n in cpu.r}
-        for (name, k), form in self.forms.items():
-            word = cpu.fresh(8 * size_of(cpu, name, k)) if form is None else \
-                change(world.value(form))
+        for (name, k), forms in self.forms.items():
+            terms = [change(world.value(form)) for form in forms]
+            word = terms[0] if forms else cpu.fresh(8 * size_of(cpu, name, k))
+            cpu.facts.add(*(word == term for term in terms[1:]))
             if name in words:
                 words[name].append(word)
             else:

@@ -4,7 +4,7 @@ import functools
 import itertools
 import operator
 import z3
-from terms import Refused, Unknown, bv, simple, symbols
+from terms import Refused, Unknown, bv, simple, sym, symbols
 
 # To find the loop, calls are run with a small q, and with one and a remainder. Invariants are
 # guessed from calls with a huge one.
@@ -13,6 +13,8 @@ TURNS, REST, LONG = 12, 40, 2**20
 CUTS = {}
 # In a linear form, the factors of the units and of the length.
 FACTORS = list(itertools.product((0, 1, -1, 8, -8), (0, 1)))
+# How many words the definition has of calls that take blocks.
+LANES_AND_LAST = 9
 
 
 def cuts(proof):
@@ -65,31 +67,47 @@ def arrivals(proof):
     return call, *(proof.arrival(call, end)[0] for end in (one, other))
 
 
-def form_of(places, stable, first, second, word):
-    """The form that a word has at two arrivals, or None."""
+def of_turns(units, length):
+    """What a loop keeps that takes two blocks in a turn, and before it one if their number is odd:
+    where the first turn begins, where the last one ends, what is between, and so on."""
+    begin = (units & 63) + (length - (units & 63) & 64)
+    end = length - (length - units & 63)
+    turns = z3.LShR(end - begin, 7)
+    return begin, end, length - begin, end - begin, turns, turns - 1, length - begin & 127
+
+
+def forms_of(places, stable, first, second, word):
+    """The forms that a word has at two arrivals."""
     a, b, one, other = first.words[word], second.words[word], first.world, second.world
-    if symbols(a) <= stable and z3.eq(a, b):
-        return a
-    if a.size() != 64:
-        return None
-    for factors in FACTORS:
+    found = [a] if symbols(a) <= stable and z3.eq(a, b) else []
+    if a.size() != 64 or any(name.endswith('of the caller') for name in symbols(a)):
+        return found
+
+    def has(form, on_path=False):
+        return all(at.facts.holds(at.path if on_path else (), at.words[word] == form(at.world))
+                   for at in (first, second))
+    for factors in () if found else FACTORS:
         def linear(*terms):
             return sum(k * term for k, term in zip(factors, terms) if k)
         constant = simple(a - linear(one.units, one.length))
         if symbols(constant) <= stable and \
                 z3.eq(constant, simple(b - linear(other.units, other.length))):
-            return constant + linear(*places)
+            found.append(constant + linear(*places))
+            break
     # As of a write whose last bytes are counted before the loop is left.
     def left(units, length):
         return length - units & 63
-    if first.facts.holds((), a == left(one.units, one.length)) and \
-            second.facts.holds((), b == left(other.units, other.length)):
-        return left(*places[:2])
+    if has(lambda world: left(world.units, world.length)):
+        found.append(left(*places[:2]))
     count = range(len(one.words))
-    for key in [*zip(count), *itertools.combinations(count, 2)]:
+    for key in [] if found else [*zip(count), *itertools.combinations(count, 2)]:
         def xored(words):
             return functools.reduce(operator.xor, (words[k] for k in key))
-        if first.facts.holds((), a == xored(one.words)) and \
-                first.facts.holds((), b == xored(other.words)):
-            return xored(places[2:])
-    return None
+        if has(lambda world: xored(world.words)):
+            return [xored(places[2:])]
+    base = sym('bytes') if 'bytes' in symbols(a) else 0
+    for k, form in enumerate(of_turns(*places[:2])):
+        if len(one.words) == LANES_AND_LAST and has(
+                lambda world: base + of_turns(world.units, world.length)[k], True):
+            found.append(base + form)
+    return found

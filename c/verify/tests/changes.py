@@ -326,8 +326,8 @@ def of_definition():
                 next(one for one in given if isinstance(one, Products)).list, k))[0]),
            lambda: vectors.check_length(0)) for k in (0, 1)
           for module, name in ((vectors, 'start'), (State, 'answer'))),
-        *((f'a form that varies as {name}', '{0: None}', (
-            forms, 'form_of', lambda *_, name=name, width=width: sym(name, width)),
+        *((f'a form that varies as {name}', '{0: []}', (
+            forms, 'forms_of', lambda *_, name=name, width=width: [sym(name, width)]),
            lambda: forms.Invariant(
                frozenset(), *[mock.Mock(words={0: 0}, holding=set())] * 2).forms)
           for name, width in (('turn[0]', 8), ('units', 64), ('length', 64),
