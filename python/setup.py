@@ -28,7 +28,7 @@ STABLE = sys.version_info >= (3, 11) and not sysconfig.get_config_var("Py_GIL_DI
 SYSTEM = {"": False, "0": False, "1": True}.get(os.environ.get("KOMIHASH_RATTLE_SYSTEM", ""))
 FROM = os.environ.get("KOMIHASH_RATTLE_FROM", "")
 if SYSTEM is None or FROM not in ("", "c"):
-    sys.exit("KOMIHASH_RATTLE_SYSTEM may be 0 or 1, and KOMIHASH_RATTLE_FROM c, in place of rust")
+    sys.exit("KOMIHASH_RATTLE_SYSTEM may be 0, 1 or empty, and KOMIHASH_RATTLE_FROM c or empty")
 if not SYSTEM and not (ABOVE / USED[0]).exists():
     sys.exit(f"{ABOVE / 'c'} is missing: take the whole repository or a source distribution")
 

@@ -341,10 +341,12 @@ static PyMethodDef stream_methods[] = {
     {"copy", copy, METH_NOARGS, DOC("copy($self)", "Return a copy, which goes on by itself.")},
     {"reset", reset, METH_NOARGS, DOC("reset($self)", "Begin anew with the seed.")},
     {"save", save, METH_NOARGS,
-     DOC("save($self)", "Return the state as at most 131 bytes, which resume() takes.")},
+     DOC("save($self)", "Return the state as at most 131 bytes, which resume() takes.\n\n"
+         "Keep them as secret as the seed and the message, of which they have up to 63 bytes.")},
     {"resume", (PyCFunction)(void (*)(void))resume, METH_VARARGS | METH_KEYWORDS | METH_CLASS,
      DOC("resume($type, saved, /, seed=None)",
-         "Return the stream whose save() returned these bytes. Only reset() needs its seed.")},
+         "Return the stream whose save() returned these bytes. Only reset() needs its seed.\n\n"
+         "Raise ValueError for other bytes, but most damaged ones are those of another stream.")},
     {"__reduce__", reduce_stream, METH_NOARGS, NULL}, {NULL}};
 
 static PyGetSetDef stream_attributes[] = {
@@ -366,9 +368,9 @@ static PyMethodDef generator_methods[] = {
     {"words", words, METH_NOARGS,
      DOC("words($self)", "Return the state as two ints, which from_words() takes.")},
     {"next", next, METH_NOARGS, DOC("next($self)", "Return the next output, an int below 2**64.")},
-    {"fill", fill, METH_O,
-     DOC("fill($self, length, /)",
-         "Return the next outputs as bytes, each little-endian. What is left of one is dropped.")},
+    {"fill", fill, METH_O, DOC("fill($self, length, /)",
+                               "Return length bytes of the next outputs, each little-endian.\n\n"
+                               "What is left of the last one is dropped.")},
     {"__reduce__", reduce_generator, METH_NOARGS, NULL}, {NULL}};
 
 static PyType_Slot generator_slots[] = {
@@ -403,7 +405,8 @@ static int fill_module(PyObject *module) {
 
 #define FUNCTION(name, as, text)                                                               \
     {name, (PyCFunction)(void (*)(void))hash_##as, METH_FASTCALL | METH_KEYWORDS,               \
-     DOC(name "($module, data, /, seed=0)", "Return the hash of a message, as " text ".")}
+     DOC(name "($module, data, /, seed=0)", "Return the hash of a message, as " text ".\n\n"     \
+         "The data is bytes-like, and the seed is from 0 to 2**64 - 1.")}
 static PyMethodDef functions[] = {
     FUNCTION("komihash_int", as_int, "an int below 2**64"),
     FUNCTION("komihash_digest", as_bytes, "eight bytes, big-endian"),
