@@ -114,6 +114,7 @@ def rewrite(name, pattern, parts):
 
 def rewrite_all(times, measured):
     """Makes the tables of the pages, and the lines of the picture, anew."""
+    short = [table(times, SHORT_COLUMNS, SHORT_ROWS), measured.partition(";")[0] + "."]
     pages = {
         "speed.md": [
             *("## Beside komihash 0.5.0", table(times, RUST, times)),
@@ -121,7 +122,8 @@ def rewrite_all(times, measured):
             *("### For x86-64-v3", table(times, C["-v3"], times)),
             measured,
         ],
-        "../README.md": [table(times, SHORT_COLUMNS, SHORT_ROWS), measured.partition(";")[0] + "."],
+        "../README.md": short,
+        "../rust/README.md": short,
     }
     for page, tables in pages.items():
         part = "\n\n".join(["<!-- speed -->", *tables, "<!-- /speed -->"])
