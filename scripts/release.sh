@@ -66,9 +66,10 @@ for name; do
 
 **This is the library, built for Windows.** In cmd, `bin\komihashsum.exe --tag FILE > LIST` lists
 hashes, and `bin\komihashsum.exe --check LIST` checks them. To use the library, add `include` to the
-folders in which your compiler looks for headers, and link `lib\libkomihash_rattle.a`, or the DLL in
-`bin` as [Processors](#processors) says. The files aren't signed. Commands with `make` are for the
-package for C.
+folders in which your compiler looks for headers, and link `lib\libkomihash_rattle.a`. To link the
+DLL in `bin`, which programs need beside them, give MinGW-w64 `-L lib -lkomihash_rattle`; for MSVC,
+[Processors](#processors) says how. For `find_package`, give CMake `-D CMAKE_PREFIX_PATH=FOLDER`,
+the path of this folder. The files aren't signed. Commands with `make` are for the package for C.
 END
         # Its runtime is in the program.
         cp /usr/share/doc/mingw-w64-x86-64-dev/copyright "$unpacked/LICENSE.mingw-w64"
@@ -84,13 +85,18 @@ cd "$folder"
 grep -v '^| [a-z]*/[*]' > README.md << END
 # komihash_rattle
 
-This is the fast hash komihash, versions 4 and 5, made from a source that is proved right. Don't use
-it where an attacker may choose the messages. Each package but the page has a README, where to
-begin, in the wheel as METADATA. All are under the MIT licence, but for the runtime of MinGW-w64 in
-the program for Windows, whose notices are beside it.
+This is the fast 64-bit hash komihash, versions 4 and 5, made from a source that is proved right.
+Use it for hash tables, sharding, sketches, and to find changed files. It isn't cryptographic: don't
+use it where an attacker may choose the messages. In all packages, version 5 gives a53b9c6b9eb8afe9
+for \`port\` with seed 7.
 
-The prover isn't published yet. Of the package for C, docs/CLAIMS.md says under "Trusted" what you
-must trust, and \`make verify\` checks the machine code without the prover.
+Each package but the page has a README, where to begin, in the wheel as METADATA. All are under the
+MIT licence, but for the runtime of MinGW-w64 in the program for Windows, whose notices are beside
+it.
+
+Neither the prover nor the repository that pages name is published yet. In all packages but the
+wheel and the page, docs/CLAIMS.md says under "Trusted" what you must trust. In the one for C,
+\`make verify\` checks the machine code of its shared libraries for Linux without the prover.
 
 The library for C has version $version. It is made of the crate for Rust, and is in all other
 packages, for JavaScript as WebAssembly. Those for Python, JavaScript and Rust have versions of
@@ -98,13 +104,16 @@ their own, in their names.
 
 | File | What it is |
 |---|---|
-| $(echo c/*) | the library for C, a check of its machine code, and \`komihashsum\` |
+| $(echo c/*) | the library for C and C++, also as one header, a check of its machine code, \
+and \`komihashsum\`, a program like \`sha256sum\` |
 | $(echo windows/*) | the same, built for Windows on x86-64, without the check |
-| $(echo rust/*) | the crate for Rust |
-| $(echo python/*.gz) | the package for CPython 3.9 and newer, as source |
-| $(echo python/*.whl) | the same, built for CPython 3.11 and newer on Linux |
-| $(echo js/*) | the package for JavaScript, in Node and browsers |
-| $(echo page/*) | a page that hashes files in a browser, also in the package for JavaScript |
+| $(echo rust/*) | the crate for Rust 1.88 and newer |
+| $(echo python/*.gz) | the package for CPython 3.9 and newer, not on Windows, as source |
+| $(echo python/*.whl) | the same, built for CPython 3.11 and newer on Linux with glibc 2.17 \
+or newer, for $(uname -m) |
+| $(echo js/*) | the package for JavaScript, in Node 20 and newer, and browsers |
+| $(echo page/*) | a page that hashes files in a browser, such as Chromium 123 or newer; it is \
+also in the package for JavaScript |
 
 \`sha256sum --check SHA256SUMS\` finds files that were damaged in transit. The sums aren't signed.
 Report defects to whomever you have these files from: no address of the project is known here.
