@@ -21,22 +21,22 @@
 
 static const char HELP[] =
     "Usage: komihashsum [OPTION]... [FILE]...\n"
-    "Print or check hashes by komihash, which have 64 bits and are not cryptographic.\n\n"
+    "Print or check hashes by komihash. They have 64 bits and aren't cryptographic.\n\n"
     "Without FILE, or if FILE is -, standard input is read.\n\n"
-    "  -4                    hash by version 4 of komihash, in place of version 5; use 5\n"
-    "                        for new lists. The two agree on files of fewer than 64\n"
-    "                        bytes whose last is below 128, and on few others\n"
-    "  -s, --seed=SEED       hash with this seed, in place of 0: a number below 2^64,\n"
-    "                        in decimal digits, or in hexadecimal ones after 0x\n"
+    "  -4                    hash by version 4 of komihash, in place of version 5;\n"
+    "                        use 5 for new lists. The two agree on files of fewer\n"
+    "                        than 64 bytes whose last is below 128, and few others\n"
+    "  -s, --seed=SEED       hash with this seed, in place of 0: a number below\n"
+    "                        2^64, in decimal digits, or in hexadecimal after 0x\n"
     "      --tag             print lines that tell the version, and the seed if it\n"
     "                        isn't 0, so that --check needs neither option\n"
     "  -b, --binary          print an asterisk in place of the second space\n"
     "  -t, --text            print two spaces, as without these options\n"
     "  -z, --zero            end lines with a zero byte, and escape no name; --check\n"
     "                        doesn't read such lines\n"
-    "  -c, --check           read lines from each FILE, and check the files that they\n"
-    "                        name. Lines of --tag tell their version and seed; for\n"
-    "                        others, give the -4 and --seed that they were made with\n"
+    "  -c, --check           read lines from each FILE, and check the files that\n"
+    "                        they name. Lines of --tag tell their version and seed;\n"
+    "                        for others, give the -4 and --seed they were made with\n"
     "      --progress        show on a terminal how much was read\n"
     "      --help            print this help and exit\n"
     "      --version         print the version of the library and exit\n\n"
@@ -49,17 +49,14 @@ static const char HELP[] =
     "A line has 16 hexadecimal digits, two spaces and a name. With --tag, it is\n"
     "KOMIHASH5 (NAME) = DIGITS, or with KOMIHASH5-10 for --seed=16: the seed is then\n"
     "hexadecimal, without 0x. If a line begins with a backslash, the name has \\\\, \\n\n"
-    "and \\r for backslash, newline and carriage return. --check skips empty lines, and\n"
-    "those that begin with #.\n";
+    "and \\r for backslash, newline and carriage return. --check skips empty lines,\n"
+    "and those that begin with #.\n";
 
 /* What is told of a check: the last of these options counts. */
 enum { ALL, QUIET, STATUS, WARN };
 static int check, ignore_missing, progress, strict, tag, told;
 static struct kind { int version; uint64_t seed, hash; bool is_tagged, is_regular; } given = {
     .version = 5};
-/* How many lines without a tag match, and don't, and whether one would by the other version. */
-static unsigned long untagged[2];
-static bool by_other;
 static char mark, line_end = '\n'; /* what stands before a name, if asked for, and after a line */
 static unsigned char bytes[131072];
 static const struct option OPTIONS[] = {
@@ -80,7 +77,7 @@ static const struct option OPTIONS[] = {
     {0},
 };
 
-/* Returns how many bytes of a name are its first character, or 0 if that one doesn't print. */
+/* Returns how many bytes of a name are its first character, or 0 if that one must be escaped. */
 static size_t printing(const char *name) {
 #ifdef _WIN32 /* whose names are UTF-8, of which its library knows nothing */
     return (unsigned char)*name >= ' ' && *name != 127;
@@ -88,7 +85,7 @@ static size_t printing(const char *name) {
     mbstate_t state = {0};
     wchar_t wide;
     const size_t length = mbrtowc(&wide, name, strnlen(name, MB_LEN_MAX), &state);
-    return length <= MB_LEN_MAX && iswprint(wide) ? length : 0;
+    return length <= MB_LEN_MAX && iswprint(wide) && *name != '\\' ? length : 0;
 #endif
 }
 
@@ -103,7 +100,8 @@ static void restore(void) {}
 #endif
 
 /* Prints a name and a problem to standard error. In place of each byte that doesn't print, which
- * might command a terminal, the name has its number in octal digits. */
+ * might command a terminal, the name has its number in octal digits, and in place of a backslash
+ * two, except on Windows, where they separate folders. */
 static void show(const char *before, const char *name, const char *after, const char *problem) {
     use_console(STD_ERROR_HANDLE);
     fputs(before, stderr);
@@ -111,7 +109,7 @@ static void show(const char *before, const char *name, const char *after, const 
         if ((length = printing(name)))
             fwrite(name, 1, length, stderr);
         else
-            fprintf(stderr, "\\%03o", (unsigned char)*name);
+            fprintf(stderr, *name == '\\' ? "\\%c" : "\\%03o", (unsigned char)*name);
     fprintf(stderr, after, problem);
     fflush(stderr);
 }
@@ -197,8 +195,9 @@ static const char SPECIAL[] = "\\\n\r", LETTERS[] = "\\nr";
 
 /* Prints a line with a name, whose special characters may be escaped, and returns true. */
 static bool print(bool is_escaped, const char *before, const char *name, const char *after) {
-    if (has_row && isatty(1))
-        clear_row();
+    struct stat out;
+    if (has_row && !(fstat(1, &out) == 0 && S_ISREG(out.st_mode)))
+        clear_row(); /* where the line may get to the same terminal, as through `tee` */
     printf("%s%s", is_escaped ? "\\" : "", before);
     for (; *name; name++) {
         const char *found = is_escaped ? strchr(SPECIAL, *name) : NULL;
@@ -306,12 +305,13 @@ static char *parse_line(char *line, char *last, struct kind *kind) {
     return line + 18;
 }
 
-/* What may come of a line of a list, and what is printed then. */
-enum { MATCHES, DIFFERS, UNREADABLE, MISSING, MALFORMED, WIDE, ZERO, RESULTS };
+/* What is counted for each list: what came of its lines, how many of those without a tag differ,
+ * and whether one of these has the hash of the other version. The first three have texts. */
+enum { MATCHES, DIFFERS, UNREADABLE, MISSING, MALFORMED, WIDE, ZERO, UNTAGGED, OTHER, COUNTS };
 static const char *const TEXTS[] = {": OK", ": FAILED", ": FAILED open or read"};
 
 /* Checks a file, and returns and prints the result. */
-static int check_file(const char *name, struct kind kind) {
+static int check_file(const char *name, struct kind kind, unsigned long *counts) {
     const uint64_t wanted = kind.hash;
     const int error = hash_file(name, &kind);
     if (error == ENOENT && ignore_missing)
@@ -319,16 +319,14 @@ static int check_file(const char *name, struct kind kind) {
     if (error)
         fail(name, strerror(error));
     const int result = error ? UNREADABLE : kind.hash == wanted ? MATCHES : DIFFERS;
-    if (!kind.is_tagged && result <= DIFFERS)
-        untagged[result]++;
-    /* At most the first three are read again, so that a check of large files isn't doubled. */
-    if (!kind.is_tagged && result == DIFFERS && untagged[DIFFERS] <= 3 && !by_other &&
-        kind.is_regular && told != STATUS) {
-        kind.version = kind.version == 4 ? 5 : 4;
-        by_other = hash_file(name, &kind) == 0 && kind.hash == wanted;
-    }
     if (told != STATUS && !(told == QUIET && result == MATCHES))
         print(strchr(name, '\n'), "", name, TEXTS[result]);
+    /* At most the first three are read again, so that a check of large files isn't doubled. */
+    if (!kind.is_tagged && result == DIFFERS && counts[UNTAGGED]++ < 3 && !counts[OTHER] &&
+        kind.is_regular && told != STATUS) {
+        kind.version = kind.version == 4 ? 5 : 4;
+        counts[OTHER] = hash_file(name, &kind) == 0 && kind.hash == wanted;
+    }
     return result;
 }
 
@@ -345,27 +343,23 @@ static void warn_of(unsigned long count, const char *one, const char *more, cons
     fflush(stderr);
 }
 
-/* Asks for the options that lists were made with, if the results tell that they are others. */
-static void ask(void) {
-    const unsigned long differ = untagged[DIFFERS];
-    if (by_other)
-        fprintf(stderr, "komihashsum: WARNING: a line that failed has the hash of version %s -4?\n",
-            given.version == 4 ? "5: was the list made without" : "4: was the list made with");
-    else if (told != STATUS && differ > 1 && differ > untagged[MATCHES])
-        fprintf(stderr, "komihashsum: WARNING: %lu lines that failed are not lines of --tag: was "
-            "the list made with the same -4 and --seed?\n", differ);
-}
-
 /* Reports the results of a list, and returns whether there is nothing wrong with it. */
 static bool report(const char *name, const unsigned long *counts) {
-    if (counts[WIDE] || counts[ZERO])
-        return fail(name, counts[WIDE] ? "this list is in UTF-16: save it as UTF-8" :
-            "this list has a zero byte, as --zero writes: make it without --zero");
+    if (counts[ZERO])
+        return fail(name, counts[WIDE] ? "this list is in UTF-16: save it as UTF-8" : "this file "
+            "has a zero byte: it is no list, or one made with --zero, which can't be checked");
     if (!counts[MATCHES] && !counts[DIFFERS] && !counts[UNREADABLE] && !counts[MISSING])
         return fail(name, "no properly formatted checksum lines found");
     warn_of(counts[MALFORMED], "line is", "lines are", "improperly formatted");
     warn_of(counts[UNREADABLE], "listed file", "listed files", "could not be read");
     warn_of(counts[DIFFERS], "computed checksum", "computed checksums", "did NOT match");
+    if (counts[OTHER])
+        fail(name, given.version == 4 ?
+            "a line that failed has the hash of version 5: was the list made without -4?" :
+            "a line that failed has the hash of version 4: was the list made with -4?");
+    else if (told != STATUS && counts[UNTAGGED] > 1 && counts[UNTAGGED] > counts[MATCHES])
+        fail(name, "most lines failed, and they tell no version or seed: give the -4 and --seed of "
+            "the list, if it had any");
     if (ignore_missing && !counts[MATCHES] && told != STATUS)
         fail(name, "no file was verified");
     return counts[MATCHES] && !counts[DIFFERS] && !counts[UNREADABLE] &&
@@ -378,29 +372,31 @@ static bool check_list(const char *name) {
     FILE *list = number < 0 ? NULL : number ? fdopen(number, "rb") : stdin;
     if (!list)
         return fail(name, strerror(errno));
-    unsigned long counts[RESULTS] = {0}, lines = 0;
+    unsigned long counts[COUNTS] = {0}, lines = 0;
     size_t length;
     name = number ? name : "standard input";
     for (char *line; (line = read_line(list, &length)); lines++) {
         struct kind kind = given;
+        if (lines == 0) /* whether it begins as UTF-16 does */
+            counts[WIDE] = (length > 1 && !line[0] != !line[1]) ||
+                strncmp(line, "\xFF\xFE", 2) == 0 || strncmp(line, "\xFE\xFF", 2) == 0;
         if (lines == 0 && strncmp(line, "\xEF\xBB\xBF", 3) == 0) /* which may mark UTF-8 */
             line += 3, length -= 3;
         const char *zero = memchr(line, 0, length);
-        if (zero) /* UTF-16 has one in each character of a list, and --zero after a hash. */
-            counts[lines == 0 && zero < line + 4 ? WIDE : ZERO]++;
+        counts[ZERO] += zero != NULL;
         const char *file = zero ? NULL : parse_line(line, line + length, &kind);
         if (file && (number || strcmp(file, "-")))
-            counts[check_file(file, kind)]++;
+            counts[check_file(file, kind, counts)]++;
         else if (length && *line != '#') {
             counts[MALFORMED]++;
             if (told == WARN)
                 warn_of_line(name, lines + 1);
         }
     }
-    const bool failed = ferror(list);
+    const bool holds = ferror(list) ? fail(name, strerror(errno)) : report(name, counts);
     if (number)
         fclose(list);
-    return failed ? fail(name, "read error") : report(name, counts);
+    return holds;
 }
 
 /* Returns whether the options go together. */
@@ -457,7 +453,6 @@ static int run(int count, char **arguments) {
     for (; optind < count; optind++)
         holds = (check ? check_list : print_hash)(arguments[optind]) && holds;
     clear_row();
-    ask();
     return fflush(stderr) != 0 || ferror(stderr) || !holds;
 }
 

@@ -20,14 +20,17 @@ plant() {
         ln -s loop loop && touch unreadable && chmod 0 unreadable
 }
 
+hints='that failed|most lines' # of which sha256sum has none
+
 # Runs a script in the tree by each program, which it calls $sum, and compares what comes of it.
 beside() {
     for name in sha256sum komihashsum; do
         (cd "$tree" && sum=$name list=$scratch/$name && eval "$1"; echo "status $?") \
             2> "$scratch/errors" > "$scratch/lines"
-        grep -v 'that failed' "$scratch/errors" | cat - "$scratch/lines" |
+        grep -vE "$hints" "$scratch/errors" | cat - "$scratch/lines" |
             sed -E 's/(sha256|komihash)sum/SUM/g
-                s/^SUM: .*(: (No such|Is a|Too many|Permission))/SUM\1/; s/(write error): .*/\1/
+                s/read error/Is a directory/; s/(write error): .*/\1/
+                s/^SUM: .*(: (No such|Is a|Too many|Permission))/SUM\1/
                 s/^SUM: .standard input./SUM: standard input/
                 s/^(\\?)([0-9a-f]{64}|[0-9a-f]{16}) /\1HASH /
                 s/SHA256|KOMIHASH5?/NAME/; s/ = ([0-9a-f]{64}|[0-9a-f]{16})$/ = HASH/' \
@@ -136,15 +139,17 @@ refuses() {
     done
 }
 # What a terminal gets, between carriage returns: of a long name, characters in the last 50 bytes,
-# and of many small files, few rows, the last of which stands until a message or the end.
+# and of many small files, few rows, the last of which stands until a message or the end. A result
+# takes the place of a row, also if it gets to the terminal through a pipe while more is read.
 shows_progress() (
     export LC_ALL=C.UTF-8 clear="$(printf '\033[K')"
     end=$(printf %21s | sed 's/ /ü/g').large odd=$scratch/üüüü$end$(printf '\033')
-    ln -s tree/large "$odd" && script -qec "$RUN '$built' --progress '$odd'" /dev/null \
+    one="$RUN '$built' --progress '$odd'"
+    ln -s tree/large "$odd" && script -qec "$one; sleep 1 | $one - | cat" /dev/null \
         < /dev/null | tr '\r' '\n' > "$scratch/shown"
     printf "\033[?7l0 of 0 MiB, 0 in all  %s\\\\033\033[?7h" "$end" > "$scratch/row"
     grep -Fx "$clear$(cat "$scratch/row")" "$scratch/shown" &&
-        grep -F "$clear$(komihashsum "$odd")" "$scratch/shown" &&
+        [ "$(grep -Fc "$clear$(komihashsum "$odd")" "$scratch/shown")" = 2 ] &&
         ! komihashsum --progress "$odd" 2>&1 | grep -F "$clear" || return
     many="$RUN '$built' --progress $(yes tests/komihashsum.sh | head -n 99 | tr '\n' ' ')"
     script -qec "($many none; $many) > '$scratch/lines'" /dev/null < /dev/null | tr '\r' '\n' \
@@ -191,39 +196,48 @@ tagged() (
     cd "$scratch" && printf a > a && {
         for kind in '' -4 '-s 0x4d' '-4s 18446744073709551615'; do komihashsum $kind --tag a; done
         komihashsum a a; } > tags &&
-        prints "KOMIHASH4-4d (a) = 238674fd3b1b6344" komihashsum -4s77 --tag a &&
+        prints "KOMIHASH4-4d (a) = 238674fd3b1b6344" komihashsum -4s077 --tag a &&
         grep '^KOMIHASH4-ffffffffffffffff (a)' tags && komihashsum -c tags &&
         head -n 4 tags | komihashsum -4s9 -cw --status &&
-        fails '2 lines that failed are not lines of --tag' komihashsum -cs9 tags &&
-        [ -z "$(komihashsum -cs9 --status tags 2>&1)" ] &&
-        ! sed 's/= ..../= 0000/' tags | komihashsum -c 2>&1 | grep 'not lines'
+        sed 1,3d tags > some && fails 'most lines failed, and they tell' komihashsum -cs9 some &&
+        [ -z "$(komihashsum -cs9 --status some 2>&1)" ] &&
+        ! { sed 's/= ..../= 0000/' tags | komihashsum -c; komihashsum -cs9 tags; } 2>&1 |
+            grep -E "$hints"
 )
 
 # Whether lists with zero bytes, of which sha256sum checks some lines, fail with their own message.
 zero_bytes() (
     cd "$scratch" && printf a > a && komihashsum -z a a > z && komihashsum a > comment &&
-        printf '# \0\n' >> comment || return
-    for list in z comment; do
-        fails "^komihashsum: $list: this list has a zero byte" komihashsum --check $list || return
+        printf '# \0\n' >> comment && printf '\37\213\10\0' > gzip && printf '\0\0' > icon ||
+        return
+    for list in z comment gzip icon; do
+        fails "^komihashsum: $list: this file has a zero byte" komihashsum --check $list || return
     done
-    for mark in '\377\376' ''; do
-        printf "${mark}K\0O\0\r\0\n\0" > wide
+    for begin in '\377\376\n\0' '\376\377\0' '\0' 'K\0'; do
+        printf "${begin}K\n\0" > wide
         fails '^komihashsum: wide: this list is in UTF-16' komihashsum -c --status wide || return
     done
 )
 # Whether a list by the other version is told from one of files that changed, though most files of
-# fewer than 64 bytes match in both versions, and a list by another seed, by which none matches. The
-# first three lines that fail are hashed again.
+# fewer than 64 bytes match in both versions, and a list by another seed, by which none matches. Of
+# each list, the first three files that fail are read again.
 by_other_version() (
     cd "$scratch" && printf a > a && seq 30 > b && seq 40 > c && komihashsum -4 c a a > list &&
         fails ' a line that failed has the hash of version 4: .* with -4' komihashsum -c list &&
-        fails '3 lines that failed are not lines of --tag' komihashsum -4cs1 list &&
+        fails 'most lines failed' komihashsum -4cs1 list &&
         { komihashsum a a b b b && head -n 1 list; } > last && sed 6d last > first &&
         fails ' a line that failed has .* version 5: .* without -4' komihashsum -4c first &&
-        echo >> b && fails '4 lines that failed are not' komihashsum -c last &&
-        sed 5d last | fails ' a line that failed has .* version 4' komihashsum -c &&
-        ! sed 5d first | komihashsum -c 2>&1 | grep 'that failed' &&
-        ! sed -n 5p last | komihashsum -c 2>&1 | grep 'that failed'
+        echo >> b && sed 2q last | fails '^komihashsum: last: most lines' komihashsum -c - last &&
+        sed 5d last | fails ' a line that failed has .* version 4' komihashsum -c last - &&
+        ! sed 5d first | komihashsum -c 2>&1 | grep -E "$hints" &&
+        ! sed -n 5p last | komihashsum -c 2>&1 | grep -E "$hints"
+)
+# Whether FAILED is printed before the file is read again, which changes while a pipe is full.
+tells_at_once() (
+    cd "$scratch" && seq 40 > c && komihashsum -4 c > list && {
+        head -c "$((16 * $(getconf PAGESIZE)))" /dev/zero; komihashsum -c list 2>&1; } |
+        { sleep 1; echo > c; tr -d '\0'; } > told
+    grep '^c: FAILED' told && ! grep -E "$hints" told
 )
 
 # Whether files about as long as a read, and a far longer one, have the hashes that the Rust crate
@@ -262,13 +276,13 @@ run_case 'komihashsum, long files, by name and through pipes' hashes_long_files
 run_case 'komihashsum, lines that tell version and seed' tagged
 run_case 'komihashsum, lists with zero bytes' zero_bytes
 run_case 'komihashsum, a list by another version' by_other_version
+run_case 'komihashsum, a result is printed before a second read' tells_at_once
 run_case 'komihashsum, a list that begins with a byte order mark' prints 'a: OK' byte_order_mark
 run_case 'komihashsum, names of which the ends are not seen' quotes
-run_case 'komihashsum, a decimal seed' prints '615eba9060114e6f  -' \
-    komihashsum -s 09223372036854775808 < /dev/null
 run_case 'komihashsum, arguments that are wrong' refuses -x --check=1 --seed= --seed=-1 --seed=7x \
     --seed=0x --seed=0x1g --seed=1x1 --seed=+7 --seed=18446744073709551616 --strict
-run_case 'komihashsum, help' fails '^Usage: komihashsum ' eval '! komihashsum --help'
+run_case 'komihashsum, help' prints 'Usage: komihashsum [OPTION]... [FILE]...' eval \
+    'komihashsum --help > "$scratch/help" && grep -E "^Usage|.{80}" "$scratch/help"'
 run_case 'komihashsum, bytes that end lines elsewhere' \
     prints '41788abed31c8f17  -' eval "printf 'a\r\n\032b' | komihashsum"
 run_case 'komihashsum, a full output' fails 'write error' eval 'komihashsum README.md > /dev/full'
@@ -282,8 +296,8 @@ else
     fi
     run_case 'komihashsum, one space before a name' fails 'no properly formatted' one_space
     run_case 'komihashsum, its name in messages' fails "^komihashsum: .* '--no'" komihashsum --no
-    run_case 'komihashsum, bytes of names that do not print' \
-        fails '^komihashsum: a b\\303\\033: ' komihashsum "$(printf 'a b\303\033')"
+    run_case 'komihashsum, bytes of names that do not print, and backslashes' \
+        fails '^komihashsum: a b\\303\\033\\\\0: ' komihashsum "$(printf 'a b\303\033\\0')"
     needs timeout 'komihashsum, a name of 4 MB' fails 'name too long' eval \
         'printf "%s%4000000s\n" "${hash_of_a%-}" x | timeout 60 $RUN "$built" --check'
     # An emulator may lack the locale.
