@@ -1,9 +1,9 @@
 #!/usr/bin/env python3
 """Prints komihash_rattle_inline.h: inline.py CRATE, the folder of the crate for Rust.
 
-By hand are inline.h.in, and komihash_rattle.h, which has the calls. All else is the crate's code in
-C, with its names, comments and order, as far as the calls need it. This script knows the part of
-Rust that the crate uses, and ends at anything else, with file and line:
+By hand are inline.h.in, with the bodies of calls, and komihash_rattle.h, which declares them. All
+else is the crate's code in C, with its names, comments and order, as far as the calls need it. This
+script knows the part of Rust that the crate uses, and ends at anything else, with file and line:
 
 - A slice is passed as a pointer and a length, of which a function has those that it uses. One that
   is returned or assigned is a struct, as are tuples and arrays. Bounds aren't tested.
@@ -279,9 +279,8 @@ class Function:
         value = self.unary()
         if op == "!":
             known(value.type == "bool")
-            if value.op == "==":
-                return Value(value.text.replace(" == ", " != "), "bool", "!=")
-            return Value("!" + value.within("unary"), "bool", "unary")
+            return Value(value.text.replace(" == ", " != "), "bool", "!=") if value.op == "==" \
+                else Value("!" + value.within("unary"), "bool", "unary")
         if op != "*" and value.type.startswith("&"):
             return value  # a slice, or what a parameter refers to
         type = re.sub("^&(mut)?", "", value.type) if op == "*" else op + value.type
@@ -331,8 +330,7 @@ class Function:
         if name == "from_le_bytes":
             known((owner, element(value.type)[2]) == ("u64", "8"))
             return Value(f"komi_read_word({value.start().text})", owner)
-        known(name == "Some")
-        return value
+        return known(name == "Some") or value
 
     def array(self):
         if self.has("[", "0", ";", "8", "]"):
@@ -371,9 +369,8 @@ class Function:
         texts = [given.get(name) or self.names[name].text for name in done.generics]
         texts += sum(map(self.passed, values, done.types), [])
         texts = [text for name, text in zip(done.parameters, texts) if name in done.used]
-        call = f"{done.name}({', '.join(texts)})"
-        if done.is_copied:
-            call = f"KOMI_COPY_OF({texts[0]}, {done.name}, ({', '.join(texts[1:])}))"
+        call = f"KOMI_COPY_OF({texts[0]}, {done.name}, ({', '.join(texts[1:])}))" \
+            if done.is_copied else f"{done.name}({', '.join(texts)})"
         made = Value(call, done.result)
         made.changes = any(type[:4] == "&mut" for type in done.types)
         return made
@@ -551,8 +548,7 @@ class Function:
         """Notes a name, which may be there only in this block and with this type."""
         known(name not in self.kept and (name not in self.names or (
             value.type, self.depth) == (self.names[name].type, self.names[name].depth)))
-        self.names[name] = value
-        value.depth = self.depth
+        self.names[name], value.depth = value, self.depth
 
     def bind(self, name, value, is_kept=True):
         """Prints the declaration of a name, unless it is one for a slice that begins at another."""
@@ -670,11 +666,12 @@ def calls_of(header):
 def header(sources, licence=""):
     """Returns the text of the header."""
     calls = (HERE / "komihash_rattle.h").read_text()
-    template, reworded = (HERE / "inline.h.in").read_text().split("@comments\n")
+    text = (HERE / "inline.h.in").read_text()
+    template, bodies, reworded = re.split("@bodies\n|@comments\n", text)
     crate = Crate.__new__(Crate)
     try:
         crate.__init__(sources, re.findall(r"^(.*) -> ?(.*)\n", reworded, re.M))
-        parts = {"functions": crate.code(set(re.findall(r"\bkomi_\w+(?=\()", template))),
+        parts = {"functions": crate.code(set(re.findall(r"\bkomi_\w+(?=\()", text))),
                  "types": "\n\n".join(crate.types), "calls": calls_of(calls),
                  "rules": re.search(r" \* What a caller.*?(?=\s*\*/)", calls, re.S)[0],
                  "licence": re.sub("^", " * ", licence.strip(), flags=re.M).replace("* \n", "*\n")}
@@ -686,8 +683,11 @@ def header(sources, licence=""):
     parts["version"] = " * komihash_rattle " + re.search(r'VERSION "(.*)"', calls)[1]
     names = sorted(set(re.findall(r"\b(komihash_v\d\w*)[(;]", parts["calls"])))
     parts["names"] = "\n".join(f"#define {name} KOMI_NAME({name})" for name in names)
-    template = re.sub(r"@each\n(.*?)@end\n", lambda found: "\n".join(
-        found[1].replace("@", number) for number in "54"), template, flags=re.S)
+    bodies = dict(re.findall(r"^komihash(\w*)\n((?: .*\n)+)", bodies, re.M))
+    made = re.findall(r"(KOMI_API [^;]*?\bkomihash_v(\d)(\w*)\([^;]*)", parts["calls"])
+    parts["definitions"] = "\n\n".join("\n".join([
+        *wrapped(" ".join(call.split()) + " {", 0), bodies[name].replace("@", version) + "}"])
+        for call, version, name in sorted(made, key=lambda it: it[1], reverse=True))
     return re.sub(r"^@(\w+)$", lambda found: parts[found[1]], template, flags=re.M)
 
 
