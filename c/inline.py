@@ -657,7 +657,7 @@ def c_name(owner, name):
 
 def calls_of(header):
     """Returns the part of komihash_rattle.h that declares its functions, for the inline header."""
-    text = re.search(r"(/\* Sources for versions before.*\n#endif\n)\n#endif\n", header, re.S)[1]
+    text = re.search(r"(/\* Marks of functions.*\n#endif\n)\n#endif\n", header, re.S)[1]
     text = re.sub(r"^(KOMIHASH_\w+) (?!KOMI)", r"\1\n", text, flags=re.M)
     return re.sub(r"^\w+ \*?komihash_v\d\w*\([^;]*;", lambda it: "\n".join(
         wrapped("KOMI_API " + " ".join(it[0].split()), 0)), text, flags=re.M)

@@ -218,9 +218,6 @@ typedef struct {
     uint64_t s2;
 } KOMI_ALIAS komi_rand;
 
-/* Sources for versions before 1.3 had this in types of pointers to functions. */
-#define KOMIHASH_CALL
-
 /* Marks of functions: the first argument is never null; the result says whether the call failed; in
  * C++, none throws. `__extension__` keeps `-pedantic` in C89 from warning of bool. */
 #ifdef __GNUC__

@@ -25,7 +25,10 @@ checks += [(f"the versions in {file.relative_to(ROOT)}", text(file) == made)
            for file, made in twins()]
 checks += [(f"the licence in {folder}", text(f"{folder}/LICENSE") == text("LICENSE"))
            for folder in ("crates/komihash", "rust", "python", "js")]
-library = re.search('RATTLE_VERSION "(.*)"', text("c/komihash_rattle.h"))[1]
+header = text("c/komihash_rattle.h")
+library = re.search('RATTLE_VERSION "(.*)"', header)[1]
+numbers = re.findall(r"^#define \w+_VERSION_\w+ (\d+)$", header, re.M)
+checks += [("the numbers in the library's version", ".".join(numbers) == library)]
 checks += [(f"the library's version in {folder}",
             f"version {library} of " in text(f"{folder}/README.md")) for folder in ("python", "js")]
 checks += [(f"the block `{code.splitlines()[0]}`", any(code in one for one in examples))
