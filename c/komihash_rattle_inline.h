@@ -9,15 +9,15 @@
  * in one header, for C99 and C++11. Copy this file into your project and include it:
  *
  *     #include "komihash_rattle_inline.h"
- *     uint64_t hash = komihash_v5("port", 4, 7);
+ *     uint64_t hash = komihash_v5("port", 4, 7); // 0xa53b9c6b9eb8afe9
  *
  * All functions are `static inline` then, and nothing is to be linked. Use version 5 for new data;
  * version 4 is for hashes that exist already. Use neither where an attacker may choose the
  * messages: it is easy to find many that have one hash, and a secret seed gives no security.
  * Compilers other than gcc, clang and MSVC need their switch like -fno-strict-aliasing.
  *
- * Version 5 is meant to give the hashes of komihash.h by Aleksey Vaneev. The hashes, saved texts
- * and outputs of a version never change.
+ * Version 5 is meant to give the hashes of komihash.h 5 by Aleksey Vaneev. The hashes, saved
+ * texts and outputs of a version never change.
  *
  * Definitions that go before the first #include, also before headers that include this one:
  * - KOMIHASH_RATTLE_IMPLEMENTATION in one source file makes a library of it there, of external
@@ -67,6 +67,9 @@
 #define KOMI_ALIAS __attribute__((may_alias))
 #ifndef __clang__
 #define KOMI_GCC
+#define KOMI_NEVER noinline, noclone /* a copy for a short array would be warned of */
+#else
+#define KOMI_NEVER noinline
 #endif
 #else
 #include <string.h>
@@ -92,7 +95,7 @@
 #endif
 #if defined(KOMI_GNU) && defined(__OPTIMIZE__) && !defined(KOMIHASH_RATTLE_SMALL)
 #define KOMI_INLINE __attribute__((always_inline)) static inline
-#define KOMI_APART __attribute__((noinline, unused)) static
+#define KOMI_APART __attribute__((KOMI_NEVER, unused)) static
 #elif defined(_MSC_VER) && !defined(KOMIHASH_RATTLE_SMALL)
 #define KOMI_INLINE static __forceinline
 #define KOMI_APART static __declspec(noinline)
@@ -378,7 +381,7 @@ typedef char komi_rand_fits[sizeof(komi_rand) <= sizeof(komihash_v5_rand) ? 1 : 
 
 #if !defined(KOMIHASH_RATTLE_EXTERN) || defined(KOMIHASH_RATTLE_IMPLEMENTATION)
 
-/* Words in memory have the lowest byte first. Compilers recognize the sums of shifted bytes. */
+/* Words in memory have the lowest byte first. */
 #if defined(_MSC_VER) || (defined(__BYTE_ORDER__) && __BYTE_ORDER__ == __ORDER_LITTLE_ENDIAN__)
 KOMI_INLINE uint64_t komi_half_word_at(const uint8_t *bytes, size_t at) {
     uint32_t word;
@@ -395,7 +398,7 @@ KOMI_INLINE uint64_t komi_read_word(const uint8_t *bytes) {
 KOMI_INLINE void komi_write_word(uint64_t word, uint8_t *out) {
     komi_copy_array(8, &word, out);
 }
-#else
+#else /* Compilers recognize the sums of shifted bytes. */
 KOMI_INLINE uint64_t komi_half_word_at(const uint8_t *bytes, size_t at) {
     const uint8_t *four = bytes + at;
     return four[0] | (uint32_t)four[1] << 8 | (uint32_t)four[2] << 16 | (uint32_t)four[3] << 24;

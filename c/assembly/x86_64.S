@@ -2,7 +2,7 @@
  * Copyright (c) 2026 the authors of komihash_rattle
  *
  * `make assembly` made this file from komihash_rattle_inline.h. Do not edit it.
- * Made of: SHA-256 06a409c595e521954f4901bac5ea0b4beb1d732936a3ba49fa4c2360a2377939
+ * Made of: SHA-256 5322450a65d157f65487796d60b435961e4a1fc71ad822fd427a5f6b20094d1f
  * Options: -O2 -fno-vectorize -fno-slp-vectorize -mllvm -disable-loop-idiom-memcpy -mllvm -enable-ext-tsp-block-placement -fPIC -ffunction-sections -falign-functions=64 -fno-addrsig -fno-ident -fno-verbose-asm -mno-red-zone -fcf-protection=full
  * Compiler: Debian clang version 19.1.7 (3~deb12u1)
  */

@@ -55,8 +55,12 @@ END
         lld-link -entry:start -subsystem:console -nodefaultlib "-out:$program" \
             "$scratch/msvc.obj" && $RUN "$program"
 }
-# Whether hashes of constant lengths are inlined, and take at most so many instructions.
+# Whether a compiler that sees a short array warns of nothing, and hashes of constant lengths are
+# inlined, and take at most so many instructions.
 short_for_constants() {
+    printf '%s\n' '#include "komihash_rattle_inline.h"' \
+        'void end(komihash_v5_stream *it) { komihash_v5_write(it, "\0", 1); }' |
+        $compiler $inline -O2 -Wall -Werror -c -o "$scratch/made.o" -x c - || return
     for limit in 4:25 8:25 16:30 24:34; do
         $compiler $inline -std=c99 -O2 -S -o "$scratch/made.s" -x c - << END || return
 #include "komihash_rattle_inline.h"
