@@ -76,4 +76,4 @@ def module(version):
 setup(ext_modules=[module("4"), module("5")], cmdclass={"build_ext": Build, "sdist": Distribution},
       # Modules that were built before may have an older library.
       options={"build": {"force": True},
-               "bdist_wheel": {"py_limited_api": "cp311"} if STABLE else {}})
+               "bdist_wheel": {"py_limited_api": "cp311"} if STABLE else {}}, license="MIT")

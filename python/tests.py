@@ -1,6 +1,7 @@
 """Tests the package that is installed: tests.py [OPTION..] [Tests.NAME..] [FILE.tsv..]. Options
 are those of unittest, and a file has rows as in rust/tests."""
 import array
+import ast
 import copy
 import gc
 import hashlib
@@ -90,11 +91,10 @@ def value(call, version, given):
     seed = int(given[0], 16)
     if call == "init":
         return filled(version.Komirand(seed), given[1:])
-    messages = [bytes.fromhex(digits) for digits in given[1:]]
     if call == "save":
-        return version.komihash(messages[0], seed).save().hex()
-    for message in messages:  # A hasher takes its hash as the seed of the next one.
-        seed = int(hashed(version, seed, message), 16)
+        return version.komihash(bytes.fromhex(given[1]), seed).save().hex()
+    for digits in given[1:]:  # A hasher takes its hash as the seed of the next one.
+        seed = int(hashed(version, seed, bytes.fromhex(digits)), 16)
     return f"{seed:016x}"
 
 
@@ -143,7 +143,7 @@ class Tests(unittest.TestCase):
         seeded += [("seed", lambda seed: komihash.resume(komihash().save(), seed))]
         for name, call in seeded:
             call(2**64 - 1)
-            self.assertRaises(TypeError, call, 0.5)
+            self.assertRaisesRegex(TypeError, f"^{name} must be an int$", call, 0.5)
             for seed in -1, 2**64:
                 with self.assertRaisesRegex(OverflowError, f"^{name} must be from 0 to 2"):
                     call(seed)
@@ -179,6 +179,15 @@ class Tests(unittest.TestCase):
         for name in names:
             self.assertIs(getattr(komihash_rattle, name), getattr(v5, name))
 
+    def test_editors_show_the_first_sentence_of_the_help(self):
+        for version in v4, v5:
+            known = {**vars(version), **vars(version.komihash), **vars(version.Komirand)}
+            for file in map(Path(version.__file__).with_name, ("v4.pyi", "v5.pyi")):
+                for it in ast.walk(ast.parse(file.read_text("utf-8"))):
+                    if isinstance(it, (ast.ClassDef, ast.FunctionDef)) and it.name[0] != "_":
+                        first = known[it.name].__doc__.replace(". ", ".\n").split("\n")[0]
+                        self.assertEqual(ast.get_docstring(it), first, it.name)
+
     def test_what_hashlib_asks_for(self):
         for version in v4, v5:
             stream = version.komihash()
@@ -194,18 +203,13 @@ class Tests(unittest.TestCase):
 
     def test_copies_go_on_by_themselves(self):
         for version in v4, v5:
-            original = version.komihash(b"a", 7)
+            original, generator = version.komihash(b"a", 7), version.Komirand(7)
             for stream in [*copies(original), original.copy()]:
                 self.assertIs(type(stream), version.komihash)
                 stream.update(b"bc")
                 self.assertEqual(stream.intdigest(), version.komihash_int(b"abc", 7))
-
-    def test_copies_of_generators(self):
-        for version in v4, v5:
-            original = version.Komirand(7)
-            originals = [*copies(original), version.Komirand.from_words(*original.words())]
-            outputs = {it.fill(19) for it in originals}
-            self.assertEqual(outputs, {version.Komirand(7).fill(19)})
+            originals = [*copies(generator), version.Komirand.from_words(*generator.words())]
+            self.assertEqual({it.fill(19) for it in originals}, {version.Komirand(7).fill(19)})
             self.assertEqual(len({it.next() for it in originals}), 1)
 
     def test_subclasses(self):
@@ -226,8 +230,7 @@ class Tests(unittest.TestCase):
         self.addCleanup(sys.setswitchinterval, sys.getswitchinterval())
         many = LONG[:2**17]
         for call in lambda: komihash_int(many), lambda: stream.update(many):
-            ran = threading.Event()
-            began = threading.Lock()
+            ran, began = threading.Event(), threading.Lock()
             with began:
                 thread = threading.Thread(target=lambda: began.acquire() and ran.set())
                 thread.start()
@@ -244,7 +247,6 @@ class Tests(unittest.TestCase):
             list(threads.map(stream.update, parts))
         whole = b"".join(parts)
         self.assertEqual(stream.intdigest(), komihash_int(whole))
-
         stream, seen = komihash(b"a"), set()
         with ThreadPoolExecutor(1) as threads:
             update = threads.submit(stream.update, whole)
@@ -279,12 +281,9 @@ os.write({write}, komihash_digest(b"port", 7))""")
             for call in ONE_SHOTS:
                 call(bytearray(8), seed)
             for it in (komihash.resume(bytearray(stream.save())), stream.copy(), *copies(stream)):
-                it.digest()
-                it.hexdigest()
-                it.seed
+                it.digest(), it.hexdigest(), it.seed
             for it in (Komirand.from_words(seed, seed), *copies(Komirand(seed, seed))):
-                it.fill(it.next() % 8)
-                it.words()
+                it.fill(it.next() % 8), it.words()
             self.assertRaises(OverflowError, Komirand, 10 * seed)
             self.assertRaises(ValueError, komihash.resume, bytearray(8))
             self.assertRaises(BufferError, komihash, memoryview(bytearray(8))[::2], seed)
@@ -306,7 +305,6 @@ if __name__ == "__main__":
         sys.exit("with -O, some of these tests would see nothing")
     arguments = [name for name in sys.argv if not name.endswith(".tsv")]
     FILES += [Path(name) for name in sys.argv if name not in arguments]
-    missing = [str(file) for file in FILES if not file.exists()]
-    if missing:
+    if missing := [str(file) for file in FILES if not file.exists()]:
         sys.exit("missing: " + ", ".join(missing))
     unittest.main(argv=arguments)

@@ -10,8 +10,8 @@
 #define NAME_OF(name) QUOTED(name)
 #define PACKAGE "komihash_rattle.v" NAME_OF(VERSION) "."
 
-/* From this many bytes on, other threads run while they are hashed. One that computes may then go on
- * for five milliseconds, so fewer bytes take less time without it. */
+/* From this many bytes on, other threads run while they are hashed. One that computes may then go
+ * on for five milliseconds, so fewer bytes take less time without it. */
 enum { MANY = 1 << 17 };
 
 /* A stream, and its seed if it is known, with which `reset` begins. */
@@ -35,9 +35,9 @@ typedef struct {
 } Generator;
 
 static bool is_word(PyObject *number, const char *name, uint64_t *word) {
-    PyObject *index = PyNumber_Index(number);
+    PyObject *index = PyIndex_Check(number) ? PyNumber_Index(number) : NULL;
     if (index == NULL)
-        return false;
+        return !PyErr_Occurred() && PyErr_Format(PyExc_TypeError, "%s must be an int", name);
     *word = PyLong_AsUnsignedLongLong(index);
     Py_DECREF(index);
     return *word != UINT64_MAX || !PyErr_Occurred() ||
@@ -47,8 +47,7 @@ static bool is_word(PyObject *number, const char *name, uint64_t *word) {
 static bool has_bytes(PyObject *data, Py_buffer *bytes) {
     if (!PyUnicode_Check(data))
         return PyObject_GetBuffer(data, bytes, PyBUF_SIMPLE) == 0;
-    PyErr_SetString(PyExc_TypeError, "Strings must be encoded before hashing");
-    return false;
+    return PyErr_Format(PyExc_TypeError, "Strings must be encoded before hashing") != NULL;
 }
 
 static PyObject *as_int(uint64_t hash) { return PyLong_FromUnsignedLongLong(hash); }
@@ -333,13 +332,15 @@ static PyObject *reduce_generator(PyObject *self, PyObject *unused) {
 static PyMethodDef stream_methods[] = {
     {"update", update, METH_O, DOC("update($self, data, /)", "Add bytes to the message.")},
     {"digest", digest, METH_NOARGS,
-     DOC("digest($self)", "Return the hash of all bytes so far, as eight bytes, big-endian.")},
+     DOC("digest($self)", "Return the hash of all bytes so far, as eight big-endian bytes.")},
     {"hexdigest", hexdigest, METH_NOARGS,
      DOC("hexdigest($self)", "Return the hash of all bytes so far, as 16 hexadecimal digits.")},
     {"intdigest", intdigest, METH_NOARGS,
      DOC("intdigest($self)", "Return the hash of all bytes so far, as an int below 2**64.")},
-    {"copy", copy, METH_NOARGS, DOC("copy($self)", "Return a copy, which goes on by itself.")},
-    {"reset", reset, METH_NOARGS, DOC("reset($self)", "Begin anew with the seed.")},
+    {"copy", copy, METH_NOARGS,
+     DOC("copy($self)", "Return a copy that goes on by itself. It lacks a subclass's __slots__.")},
+    {"reset", reset, METH_NOARGS,
+     DOC("reset($self)", "Begin anew with the seed.\n\nRaise ValueError if it isn't known.")},
     {"save", save, METH_NOARGS,
      DOC("save($self)", "Return the state as at most 131 bytes, which resume() takes.\n\n"
          "Keep them as secret as the seed and the message, of which they have up to 63 bytes.")},
@@ -356,17 +357,14 @@ static PyType_Slot stream_slots[] = {
     {Py_tp_doc, DOC("komihash(data=b'', seed=0, *, usedforsecurity=True)",
                     "A stream, like hashlib's objects. It hashes data and what update() adds.\n\n"
                     "The seed is from 0 to 2**64 - 1. usedforsecurity is ignored.")},
-    {Py_tp_new, new_stream},
-    {Py_tp_init, start_stream},
-    {Py_tp_dealloc, drop_stream},
-    {Py_tp_methods, stream_methods},
-    {Py_tp_getset, stream_attributes}, {0}};
+    {Py_tp_new, new_stream}, {Py_tp_init, start_stream}, {Py_tp_dealloc, drop_stream},
+    {Py_tp_methods, stream_methods}, {Py_tp_getset, stream_attributes}, {0}};
 
 static PyMethodDef generator_methods[] = {
     {"from_words", from_words, METH_VARARGS | METH_CLASS,
      DOC("from_words($type, s1, s2, /)", "Return the generator that has these two ints as state.")},
     {"words", words, METH_NOARGS,
-     DOC("words($self)", "Return the state as two ints, which from_words() takes.")},
+     DOC("words($self)", "Return the state: two ints, which from_words() takes.")},
     {"next", next, METH_NOARGS, DOC("next($self)", "Return the next output, an int below 2**64.")},
     {"fill", fill, METH_O, DOC("fill($self, length, /)",
                                "Return length bytes of the next outputs, each little-endian.\n\n"
@@ -375,10 +373,9 @@ static PyMethodDef generator_methods[] = {
 
 static PyType_Slot generator_slots[] = {
     {Py_tp_doc, DOC("Komirand(seed, extra_seed=None)",
-                    "A pseudorandom generator, which is not for secrets.\n\n"
-                    "Without an extra_seed, the seed is taken for both.")},
-    {Py_tp_new, new_generator},
-    {Py_tp_init, start_generator},
+                    "A pseudorandom generator, which is not for secrets.\n\nSeeds are from 0 to "
+                    "2**64 - 1. Without an extra_seed, the seed is taken for both.")},
+    {Py_tp_new, new_generator}, {Py_tp_init, start_generator},
     {Py_tp_methods, generator_methods}, {0}};
 
 #define TYPE Py_TPFLAGS_DEFAULT | Py_TPFLAGS_BASETYPE
