@@ -88,7 +88,7 @@ grep -v '^| [a-z]*/[*]' > README.md << END
 This is the fast 64-bit hash komihash, versions 4 and 5, made from a source that is proved right.
 Use it for hash tables, sharding, sketches, and to find changed files. It isn't cryptographic: don't
 use it where an attacker may choose the messages. In all packages, version 5 gives a53b9c6b9eb8afe9
-for \`port\` with seed 7.
+for \`port\` with seed 7, as does version 4, since they agree on most short texts.
 
 Each package but the page has a README, where to begin, in the wheel as METADATA. All are under the
 MIT licence, but for the runtime of MinGW-w64 in the program for Windows, whose notices are beside
@@ -99,15 +99,15 @@ wheel and the page, docs/CLAIMS.md says under "Trusted" what you must trust. In 
 \`make verify\` checks the machine code of its shared libraries for Linux without the prover.
 
 The library for C has version $version. It is made of the crate for Rust, and is in all other
-packages, for JavaScript as WebAssembly. Those for Python, JavaScript and Rust have versions of
-their own, in their names.
+packages but that crate, for JavaScript as WebAssembly. Those for Python, JavaScript and Rust have
+versions of their own, in their names. CHANGES.md in a package says what is new.
 
 | File | What it is |
 |---|---|
 | $(echo c/*) | the library for C and C++, also as one header, a check of its machine code, \
 and \`komihashsum\`, a program like \`sha256sum\` |
 | $(echo windows/*) | the same, built for Windows on x86-64, without the check |
-| $(echo rust/*) | the crate for Rust 1.88 and newer |
+| $(echo rust/*) | the crate for Rust 1.88 and newer, which \`tar -xf\` unpacks |
 | $(echo python/*.gz) | the package for CPython 3.9 and newer, not on Windows, as source |
 | $(echo python/*.whl) | the same, built for CPython 3.11 and newer on Linux with glibc 2.17 \
 or newer, for $(uname -m) |
