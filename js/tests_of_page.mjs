@@ -1,10 +1,10 @@
 // Hashes files in komihash.html in Chromium, and prints what it shows: tests_of_page.mjs URL
 // PROFILE GONE BIG HUGE LIST WIDE ODD EMPTY FOLDER. Chooses GONE and BIG with wrong seeds, and
-// mends the seed. Then it adds HUGE, and while that is read, the last three, stops, and copies the
-// lines. It drops LIST where files go, and then checks BIG and FOLDER and then all files by it, and
-// BIG by WIDE and by one hash, which it also types, then EMPTY and BIG alone by that hash, and
-// types what is no list. At last it changes EMPTY after choosing it, drops BIG where lists go,
-// clears, and drops the empty FOLDER/none.
+// mends the seed. Then it adds HUGE, begins again while BIG is read, adds the last three while HUGE
+// is, stops, and copies the lines. It drops LIST where files go, and then checks BIG and FOLDER and
+// then all files by it, and BIG by WIDE and by one hash, which it also types, then EMPTY and BIG
+// alone by that hash, and types what is no list. At last it changes EMPTY after choosing it, drops
+// BIG where lists go, adds EMPTY to it and its list, clears, and drops the empty FOLDER/none.
 // Without files, the page at URL runs tests and hides its body until they end, and its text is
 // printed. A page may be slow: each wait is for a state, and none for a time.
 import { spawn } from "node:child_process";
@@ -62,6 +62,10 @@ await run(`steps = 0, new MutationObserver((list) => steps += list.length)
 await run("seed.value = '', seed.oninput({}), seed.onblur(), version.value = 4");
 await finish();
 console.log(await run("`${problems.textContent}progress: ${steps > 9 && bar.position === 1}`"));
+await run(`start = 0, new MutationObserver((_, it) => {
+    if (!start && bar.value > 3e7) { start = bar.value; version.onchange(); }
+    else if (start && bar.value) { goesOn = bar.value > start; it.disconnect(); }
+}).observe(bar, { attributeFilter: ["value"] })`);
 await choose("'0xA'", huge);
 await until("/huge/.test(doing.textContent)");
 async function drop(place, ...files) {
@@ -76,7 +80,7 @@ async function drop(place, ...files) {
 await drop("document.body", ...others);
 await until("/folder/.test(lines.textContent) && /huge/.test(doing.textContent)");
 await run("stopper.click()");
-await tell("verdict");
+await tell("verdict", "{ textContent: `goes on: ${goesOn}` }");
 await run("copier.click()");
 await until("copied.textContent");
 console.log(await run(`fetch("data:,").catch(async () => told.textContent + problems.textContent +
@@ -116,6 +120,8 @@ writeFileSync(others[1], "");
 await tell("verdict", "problems");
 await drop("(clearer.click(), wanted)", big);
 await tell("lines");
+await choose("(wanted.value = lines.textContent, 0)", others[1]);
+await tell("verdict", "{ textContent: results.className }");
 await choose("(wanted.value = '', 0)", huge);
 await run("clearer.click()");
 await finish();

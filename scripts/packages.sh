@@ -91,7 +91,7 @@ page_is_made() { sh js/page.sh | cmp - js/komihash.html; }
 # Compares what the page shows with what komihashsum prints for the same files.
 page_in_chromium() {
     local files=$scratch/hashed odd=$'a\\b\nc' page profile=$scratch/chromium
-    local lost='is gone, has changed since it was chosen, or cannot be read'
+    local lost='gone, unreadable, or changed since it was chosen; choose it again'
     page=file://$(cd "$scratch/js" && node -p '["package.json", "komihash.html"].map(
         (it) => require.resolve(`komihash_rattle/${it}`))[1]')
     in_package out/komihashsum && mkdir -p "$files"/folder/{in,none} &&
@@ -108,13 +108,14 @@ page_in_chromium() {
         cd "$files" && diff "$scratch/shown" <(
             printf '%s\n' 'Seeds are whole numbers, 0 to 2^64 - 1, such as 10 or 0xA. true'{,} \
                 "gone: $lost" 'progress: true' \
-                'Stopped before the end. 1 of 6 files cannot be read, 4 were hashed' "gone: $lost"
+                'Stopped before the end. 1 of 6 files cannot be read, 4 were hashed' \
+                'goes on: true' "gone: $lost"
             komihashsum -4 -s 0xA --tag big "$odd" empty folder/in/x
             printf '%s\n' 'false Copied' \
-                'To check files by the list in list, drop it on this field.' \
+                'Drop only list on this field or paste its lines to check files.' \
                 '2 of 4 files are right, 2 were not chosen' \
                 {'a\b c',empty}': in the list, but not chosen' \
-                '1 of 5 files is not right, 1 is not in the list'
+                '1 of 4 files is not right, 1 is not in the list'
             komihashsum --check "$scratch/list" 2> "$scratch/case"
             echo "empty: its hash is $(komihashsum -4 -s 0xA empty | cut -c-16), but should be $(
                 sed -n '$s/.*= //p' "$scratch/list")
@@ -130,10 +131,12 @@ true
 The file is right
 The file is not right
 The file is right
-true There is no komihash (16 digits, 0-9 and a-f) in this line: 0 true
+true This line isn't a komihash (just 16 digits, 0-9 and a-f): 0 true
 1 of 2 files cannot be read, 1 was hashed
 empty: $lost
 $(komihashsum big)
+The file is right, 1 is not in the list
+right
 true
 No files were found there"
         )
