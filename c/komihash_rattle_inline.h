@@ -14,7 +14,9 @@
  * All functions are `static inline` then, and nothing is to be linked. Use version 5 for new data;
  * version 4 is for hashes that exist already. Use neither where an attacker may choose the
  * messages: it is easy to find many that have one hash, and a secret seed gives no security.
- * Compilers other than gcc, clang and MSVC need their switch like -fno-strict-aliasing.
+ * Compilers other than gcc, clang and MSVC need their switch like -fno-strict-aliasing. gcc may
+ * warn falsely (-Warray-bounds, -Wmaybe-uninitialized) of a short array whose length varies: let a
+ * #pragma GCC diagnostic ignore that around the #include, or define KOMIHASH_RATTLE_EXTERN.
  *
  * Version 5 is meant to give the hashes of komihash.h 5 by Aleksey Vaneev. The hashes, saved
  * texts and outputs of a version never change.
@@ -27,8 +29,8 @@
  * - KOMIHASH_RATTLE_HIDDEN in each file keeps the functions out of what a shared library exports.
  *   On Windows, link with -Wl,--exclude-all-symbols, or mark what your library exports.
  * - KOMIHASH_RATTLE_SMALL lets the compiler choose what it inlines, as in a library that is built
- *   with -Os. All functions together get smaller then, but one or two may get larger, and gcc's
- *   code takes several times as long.
+ *   with -Os. All functions together get smaller then, and on 32-bit processors also a
+ *   single call, but elsewhere one or two may get larger. gcc's code takes several times as long.
  *
  * What a caller must see to, because no call checks it:
  * - `length` and `room` are the number of bytes at the pointer that precedes them in the arguments,
@@ -80,8 +82,9 @@
 #endif
 #endif
 
-/* Functions of the library, those that are always inlined, and those that never are, which have a
- * copy for each version, where it is a constant. Not optimized, inlining would take much stack. */
+/* KOMI_API marks functions of the library, KOMI_INLINE those that are always inlined, but without
+ * optimization, where that takes much stack, and KOMI_APART those that never are: they have a copy
+ * for each version, in which the version is a constant. */
 #if !defined(KOMIHASH_RATTLE_IMPLEMENTATION) && !defined(KOMIHASH_RATTLE_EXTERN)
 #define KOMI_API static inline
 #elif defined(KOMIHASH_RATTLE_HIDDEN) && defined(KOMI_GNU) && !defined(_WIN32)
