@@ -4,13 +4,20 @@ line `# control: WRONG ==> RIGHT` puts RIGHT in place of WRONG, which is once in
 This shows that `rt must-fail` refuses the wrong value, and not the edit's shape or what the search
 can't prove. Makes as many at once as stand in different places."""
 
+import ctypes
 import re
 import shutil
+import signal
 import subprocess
 import tempfile
 from pathlib import Path
 
 ROOT = Path(__file__).resolve().parent.parent
+
+
+def end_with_parent():
+    """Has the system end this process if the one that began it ends."""
+    ctypes.CDLL(None).prctl(1, signal.SIGTERM)
 
 
 def make(edit, crate):
@@ -29,6 +36,7 @@ def make(edit, crate):
     return file.write_text(code, "utf-8") > 0
 
 
+end_with_parent()
 left, counts = sorted(ROOT.glob("crates/*/must-fail/*.edit")), [0, 0]
 with tempfile.TemporaryDirectory() as room:
     shutil.copy(ROOT / "crates.txt", room)
@@ -38,7 +46,7 @@ with tempfile.TemporaryDirectory() as room:
         made = [edit for edit in left if edit.parts[-3] == crate.name and make(edit, crate)]
         if not made:
             raise SystemExit(f"{left[0]} has no control, or one that can't be made")
-        check = subprocess.run(["rt", "check"], cwd=crate, text=True,
+        check = subprocess.run(["rt", "check"], cwd=crate, text=True, preexec_fn=end_with_parent,
                                stdout=subprocess.PIPE, stderr=subprocess.STDOUT)
         counts[check.returncode != 0] += len(made)
         print(f"{len(made)} in {crate.name}:", check.stdout if check.returncode else "proved")

@@ -7,7 +7,8 @@
 erased() {
     cd "$scratch"/libkomihash_rattle-*/ && mkdir "$scratch/erased" &&
         python3 -B rust/erase.py crates/komihash/src "$scratch/erased" &&
-        diff -r -x lib.rs -x version.rs -x traits.rs -x io.rs "$scratch/erased" rust/src
+        diff -r -x lib.rs -x version.rs -x traits.rs -x io.rs "$scratch/erased" rust/src &&
+        grep -xF '#![forbid(unsafe_code)]' rust/src/lib.rs
 }
 
 without_std() {
