@@ -4,7 +4,7 @@
 // is, stops, and copies the lines. It drops LIST where files go, and then checks BIG and FOLDER and
 // then all files by it, and BIG by WIDE and by one hash, which it also types, then EMPTY and BIG
 // alone by that hash, and types what is no list. At last it changes EMPTY after choosing it, drops
-// BIG where lists go, adds EMPTY to it and its list, clears, and drops the empty FOLDER/none.
+// BIG where lists go, adds EMPTY to it and its list twice, clears, and drops empty FOLDER/none.
 // Without files, the page at URL runs tests and hides its body until they end, and its text is
 // printed. A page may be slow: each wait is for a state, and none for a time.
 import { spawn } from "node:child_process";
@@ -122,6 +122,8 @@ await drop("(clearer.click(), wanted)", big);
 await tell("lines");
 await choose("(wanted.value = lines.textContent, 0)", others[1]);
 await tell("verdict", "{ textContent: results.className }");
+await choose(0, others[1]);
+await tell("told");
 await choose("(wanted.value = '', 0)", huge);
 await run("clearer.click()");
 await finish();

@@ -92,6 +92,7 @@ page_is_made() { sh js/page.sh | cmp - js/komihash.html; }
 page_in_chromium() {
     local files=$scratch/hashed odd=$'a\\b\nc' page profile=$scratch/chromium
     local lost='gone, unreadable, or changed since it was chosen; choose it again'
+    local stopped='Stopped before the end; choose the rest again.'
     page=file://$(cd "$scratch/js" && node -p '["package.json", "komihash.html"].map(
         (it) => require.resolve(`komihash_rattle/${it}`))[1]')
     in_package out/komihashsum && mkdir -p "$files"/folder/{in,none} &&
@@ -108,7 +109,7 @@ page_in_chromium() {
         cd "$files" && diff "$scratch/shown" <(
             printf '%s\n' 'Seeds are whole numbers, 0 to 2^64 - 1, such as 10 or 0xA. true'{,} \
                 "gone: $lost" 'progress: true' \
-                'Stopped before the end. 1 of 6 files cannot be read, 4 were hashed' \
+                "$stopped 1 of 6 files cannot be read, 4 were hashed" \
                 'goes on: true' "gone: $lost"
             komihashsum -4 -s 0xA --tag big "$odd" empty folder/in/x
             printf '%s\n' 'false Copied' \
@@ -116,7 +117,7 @@ page_in_chromium() {
                 '2 of 4 files are right, 2 were not chosen' \
                 {'a\b c',empty}': in the list, but not chosen' \
                 '1 of 4 files is not right, 1 is not in the list'
-            komihashsum --check "$scratch/list" 2> "$scratch/case"
+            komihashsum --check "$scratch/list" 2> "$scratch/case" | sed 's|^\./in|folder/in|'
             echo "empty: its hash is $(komihashsum -4 -s 0xA empty | cut -c-16), but should be $(
                 sed -n '$s/.*= //p' "$scratch/list")
 gone: not in the list
@@ -131,12 +132,13 @@ true
 The file is right
 The file is not right
 The file is right
-true This line isn't a komihash (just 16 digits, 0-9 and a-f): 0 true
+true This line isn't a komihash (just 16 digits, 0-9 and a-f): 0. Mend or clear the list. true
 1 of 2 files cannot be read, 1 was hashed
 empty: $lost
 $(komihashsum big)
 The file is right, 1 is not in the list
 right
+empty took the place of the file of that name.
 true
 No files were found there"
         )
