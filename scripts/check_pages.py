@@ -31,6 +31,9 @@ numbers = re.findall(r"^#define \w+_VERSION_\w+ (\d+)$", header, re.M)
 checks += [("the numbers in the library's version", ".".join(numbers) == library)]
 checks += [(f"the library's version in {folder}",
             f"version {library} of " in text(f"{folder}/README.md")) for folder in ("python", "js")]
+version = re.search('"version": "(.*)"', text("js/package.json"))[1]
+checks += [("the version in komihash_rattle.js",
+            f" {version}," in text("js/komihash_rattle.js").splitlines()[0])]
 checks += [(f"the block `{code.splitlines()[0]}`", any(code in one for one in examples))
            for code in CODE.findall(text("CALLING.md"))]
 checks += links(ROOT)

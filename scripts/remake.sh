@@ -13,4 +13,6 @@ if [ "$(grep -LF "SHA-256 $made_of" c/assembly/*.S js/komihash_rattle.js)" ]; th
     sh js/build.sh > js/new
     mv js/new js/komihash_rattle.js
 fi
+version=$(sed -n 's/.*"version": "\(.*\)",/\1/p' js/package.json)
+sed -i "1s/ [0-9.]*,/ $version,/" js/komihash_rattle.js
 sh js/page.sh > js/komihash.html
