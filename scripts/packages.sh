@@ -116,7 +116,7 @@ page_in_chromium() {
                 'Drop only list on this field or paste its lines to check files.' \
                 '2 of 4 files are right, 2 were not chosen' \
                 {'a\b c',empty}': in the list, but not chosen' \
-                '1 of 4 files is not right, 1 is not in the list'
+                '1 of 4 files is not right, 3 are right, 1 is not in the list'
             komihashsum --check "$scratch/list" 2> "$scratch/case" | sed 's|^\./in|folder/in|'
             echo "empty: its hash is $(komihashsum -4 -s 0xA empty | cut -c-16), but should be $(
                 sed -n '$s/.*= //p' "$scratch/list")
@@ -132,7 +132,7 @@ true
 The file is right
 The file is not right
 The file is right
-true This line isn't a komihash (just 16 digits, 0-9 and a-f): 0. Mend or clear the list. true
+true This line needs a komihash (16 characters, 0-9 and a-f): \"0\". Mend or clear it. true
 1 of 2 files cannot be read, 1 was hashed
 empty: $lost
 $(komihashsum big)
