@@ -1,7 +1,8 @@
 #!/usr/bin/env bash
 # Makes anew what scripts make of sources: v4.rt, the crate for Rust, the header that is all of the
-# library for C, the page that hashes files, and, if more of the header changed than comments, its
-# assembly and WebAssembly, by Debian's packages clang-19 and lld.
+# library for C, the version in the module for JavaScript, the page that hashes files, and, if more
+# of the header changed than comments, its assembly and WebAssembly, by Debian's packages clang-19
+# and lld.
 set -euo pipefail
 cd "$(dirname "$0")/.."
 python3 -B scripts/twins.py
