@@ -775,8 +775,8 @@ KOMI_INLINE komi_pair komi_round_each_bytes(komi_pair pair, const uint8_t *left,
     return komi_round_at_bytes(pair, left, 4);
 }
 
-/* Returns the hash from a pair, fewer than eight whole words, and the final word. The last whole
- * word is any word if there are none. */
+/* Returns the hash from a pair, the whole words of fewer than 64 bytes, and the final word. The
+ * last whole word is any word if there are none. */
 KOMI_INLINE uint64_t komi_hash_from_pair(komi_pair pair, const uint8_t *left, size_t left_length,
     uint64_t last_whole_word, uint64_t final_word) {
     pair = komi_round_each_bytes(pair, left, left_length);

@@ -4,9 +4,9 @@
 Erased is what only the prover reads: contracts, ghost items, tallies, laws, tests, labels, and the
 names of conditions that are tested once. A condition of a public function becomes a test, in each
 impl of a public trait too; the prover has shown the others at each call. A function that has
-`#[track_caller]` in the source leaves the test to one that it calls. Below, CONST and DERIVED say
-what Rust has besides, and the head of src/lib.rt which marks say more. What else is not Rust, this
-script refuses.
+`#[track_caller]` in the source leaves the test to one that it calls. Below, CONST, MUST_USE and
+DERIVED say what Rust has besides, and the head of src/lib.rt which marks say more. What else is not
+Rust, this script refuses.
 """
 import re
 import shutil
@@ -24,6 +24,9 @@ CONST = 'init', 'init_with_extra_seed', 'new', 'new_with_seed', 'next', 'words'
 # Public functions of which debug builds have those that were compiled with this crate, as of all
 # that ask to be inlined. Cargo may optimize this crate alone.
 SHARED = 'fill_bytes', 'finish', 'init', 'init_with_extra_seed', 'new_with_seed', 'next', 'write'
+# Functions with contracts whose results rustc warns about, if a caller drops them.
+MUST_USE = ('answer', 'finish', 'init', 'init_with_extra_seed', 'komihash', 'new', 'new_with_seed',
+            'restore', 'resume', 'save', 'start', 'store', 'unpad', 'words')
 DERIVED = dict.fromkeys(('Call', 'StreamedKomihash', 'Lanes', 'XoredPair', 'Pending'),
                         'PartialEq, Eq') | {
     'KomiHasher': 'Copy, Debug, PartialEq, Eq, Hash',
@@ -31,6 +34,8 @@ DERIVED = dict.fromkeys(('Call', 'StreamedKomihash', 'Lanes', 'XoredPair', 'Pend
 ADDED = {rf'^( *pub )(?=fn {name}\b)': r'\1const ' for name in CONST} | {
     rf'^( *)(?=pub (?:const )?fn {name}\b)': r'\1#[cfg_attr(debug_assertions, inline(never))]\n\1'
     for name in SHARED} | {
+    rf'^( *)(?=(?:pub (?:const )?)?fn {name}\b[^{{\n]*$)': r'\1#[must_use]\n\1'
+    for name in MUST_USE} | {
     rf'^(?=pub(?:\(crate\))? (?:enum|struct) {name}\b)': f'#[derive({traits})]\n'
     for name, traits in DERIVED.items()} | {
     # src/version.rs has these compiled with this crate in debug builds. The library for C, which
@@ -61,7 +66,7 @@ SPELLED = {'#[derive(Drop)]': '#[derive(Clone)]', 'use std::': 'use core::',
            'pub trait KomiStream: Sized + Drop': 'pub trait KomiStream: Sized'}
 NAMED = re.compile(r'let (\w+) = ([^;{}]*);\n *((?:let \w+(?:: \w+)? = |return )?if )\1 (?=\{)')
 ATTRIBUTES = re.compile(r'#!?\[([^]]*)\]'), re.compile('|'.join((
-    r'inline(\((always|never|not_in_c)\))?', 'track_caller', 'must_use', r'repr\((C|transparent)\)',
+    r'inline(\((always|never|not_in_c)\))?', 'track_caller', r'repr\((C|transparent)\)',
     r'derive\((Clone|Clone, Copy)\)', r'allow\([\w:, ]+\)')))
 MACROS = (re.compile(r'\b(?!(?:if|while|match|return|in)\b)(\w+)\s*!(?!=)'),
           re.compile('assert|unreachable'))

@@ -49,8 +49,8 @@ where
     /// let (mut one, mut other) = (Komirand::init(1), Komirand::init_with_extra_seed(1, 1));
     /// assert_eq!(one.next(), other.next());
     /// ```
-    #[must_use]
     #[cfg_attr(debug_assertions, inline(never))]
+    #[must_use]
     pub const fn init(seed: u64) -> Self {
         Komirand::init_with_extra_seed(seed, seed)
     }
@@ -62,8 +62,8 @@ where
     /// let (mut one, mut other) = (Komirand::init(1), Komirand::init_with_extra_seed(1, 2));
     /// assert_ne!(one.next(), other.next());
     /// ```
-    #[must_use]
     #[cfg_attr(debug_assertions, inline(never))]
+    #[must_use]
     pub const fn init_with_extra_seed(s1: u64, s2: u64) -> Self {
         // This is `const`, so it has no `for`.
         let mut generator = Komirand::new(s1, s2);
@@ -83,8 +83,8 @@ where
     /// let mut restored = Komirand::new(s1, s2);
     /// assert_eq!([restored.next(), restored.next()], [generator.next(), generator.next()]);
     /// ```
-    #[must_use]
     #[inline(always)]
+    #[must_use]
     pub const fn words(&self) -> (u64, u64) {
         (self.s1, self.s2)
     }

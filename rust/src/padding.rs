@@ -142,10 +142,10 @@ fn message_length<const V: u8>(words: &[u64]) -> Option<usize> {
 /// assert_eq!(message[0], 0x80);
 /// assert_eq!(unpad::<5>(&[0x0280], &mut message), None);
 /// ```
-#[must_use]
 #[cfg_attr(debug_assertions, inline(never))]
 #[cfg_attr(not(debug_assertions), inline)]
 #[track_caller]
+#[must_use]
 pub fn unpad<const V: u8>(words: &[u64], out: &mut [u8]) -> Option<usize>
 where
     Versions: IsVersion<V>,

@@ -96,8 +96,8 @@ pub trait KomiStream: Sized {
     /// assert_eq!(copy(&komihash_rattle::StreamedKomihash::start(7)).answer(),
     ///     komihash_rattle::komihash(b"", 7));
     /// ```
-    #[must_use]
     #[track_caller]
+    #[must_use]
     fn store(&self, out: &mut [u8]) -> usize;
 
     /// Returns the stream that has these bytes as its saved text, or `None` if they don't have the

@@ -73,9 +73,9 @@ pub type Komirand = generator::Komirand<4>;
 /// let shard = komihash(&443_u64.to_le_bytes(), 0) % 8;
 /// assert!(shard < 8);
 /// ```
-#[must_use]
 #[cfg_attr(debug_assertions, inline(never))]
 #[cfg_attr(not(debug_assertions), inline)]
+#[must_use]
 pub fn komihash(bytes: &[u8], seed: u64) -> u64 {
     hash::komihash::<4>(bytes, seed)
 }
@@ -121,10 +121,10 @@ pub fn pad(bytes: &[u8], out: &mut [u64]) -> usize {
 /// assert_eq!(unpad(&[0], &mut message), Some(0));
 /// assert_eq!(unpad(&[1], &mut message), None);
 /// ```
-#[must_use]
 #[cfg_attr(debug_assertions, inline(never))]
 #[cfg_attr(not(debug_assertions), inline)]
 #[track_caller]
+#[must_use]
 pub fn unpad(words: &[u64], out: &mut [u8]) -> Option<usize> {
     padding::unpad::<4>(words, out)
 }

@@ -60,8 +60,8 @@ pub(crate) fn round_each<W: WholeWords>(pair: XoredPair, left: &W) -> XoredPair 
     round_at(pair, left, 4)
 }
 
-/// Returns the hash from a pair, fewer than eight whole words, and the final word. The last whole
-/// word is any word if there are none.
+/// Returns the hash from a pair, the whole words of fewer than 64 bytes, and the final word. The
+/// last whole word is any word if there are none.
 #[inline(always)]
 pub(crate) fn hash_from_pair(
     pair: XoredPair,

@@ -50,7 +50,6 @@ where
     /// const START: Komirand = Komirand::new(0, 0);
     /// assert_eq!(START.clone().next(), 0x5555555555555555);
     /// ```
-    #[must_use]
     pub fn new(s1: u64, s2: u64) -> Self
         ensures { result ≡ (s1, s2) }
     {
@@ -64,7 +63,6 @@ where
     /// let (mut one, mut other) = (Komirand::init(1), Komirand::init_with_extra_seed(1, 1));
     /// assert_eq!(one.next(), other.next());
     /// ```
-    #[must_use]
     pub fn init(seed: u64) -> Self
         ensures { result ≡ after_steps V 4 (seed, seed) }
     {
@@ -78,7 +76,6 @@ where
     /// let (mut one, mut other) = (Komirand::init(1), Komirand::init_with_extra_seed(1, 2));
     /// assert_ne!(one.next(), other.next());
     /// ```
-    #[must_use]
     #[tactic(auto, unfolding(crate::specs::Generator::after_steps))]
     pub fn init_with_extra_seed(s1: u64, s2: u64) -> Self
         ensures { result ≡ after_steps V 4 (s1, s2) }
@@ -102,7 +99,6 @@ where
     /// assert_eq!([restored.next(), restored.next()], [generator.next(), generator.next()]);
     /// ```
     // In Rattle, this isn't stable.
-    #[must_use]
     #[inline(always)]
     pub fn words(&self) -> (u64, u64)
         ensures { result ≡ self.now }

@@ -45,7 +45,6 @@ where
     /// hasher.write(b"rt");
     /// assert_eq!(hasher.finish(), komihash(b"rt", komihash(b"po", 7)));
     /// ```
-    #[must_use]
     pub fn new(seed: u64) -> Self
         ensures { result ≡ seed }
     {
@@ -122,7 +121,6 @@ where
     /// ports.insert("https", 443);
     /// assert_eq!(ports["https"], 443);
     /// ```
-    #[must_use]
     pub fn new(seed: u64) -> Self
         ensures { result ≡ seed }
     {

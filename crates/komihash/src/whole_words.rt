@@ -94,8 +94,8 @@ pub(crate) fn round_each<W: WholeWords>(pair: XoredPair, left: &W, tally: &mut T
     round_at(pair, left, 4, tally)
 }
 
-/// Returns the hash from a pair, fewer than eight whole words, and the final word. The last whole
-/// word is any word if there are none.
+/// Returns the hash from a pair, the whole words of fewer than 64 bytes, and the final word. The
+/// last whole word is any word if there are none.
 #[inline(always)]
 #[tactic(auto, using(crate::proofs::WholeWords::read_words, std::proofs::lemmas::List::drop_all, std::proofs::lemmas::List::drop_more))]
 pub(crate) fn hash_from_pair(

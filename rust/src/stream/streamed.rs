@@ -59,8 +59,8 @@ where
     /// stream.write(b"ort");
     /// assert_eq!(stream.finish(), komihash(b"port", 7));
     /// ```
-    #[must_use]
     #[cfg_attr(debug_assertions, inline(never))]
+    #[must_use]
     pub const fn new_with_seed(seed: u64) -> Self {
         StreamedKomihash::begin(seed)
     }
@@ -130,8 +130,8 @@ where
     /// stream.write(b"port");
     /// assert_eq!([stream.finish(), stream.finish()], [komihash(b"port", 0); 2]);
     /// ```
-    #[must_use]
     #[cfg_attr(debug_assertions, inline(never))]
+    #[must_use]
     pub fn finish(&self) -> u64 {
         self.answer()
     }
@@ -162,10 +162,10 @@ where
     /// resumed.write(b"ort");
     /// assert_eq!(resumed.finish(), komihash(b"port", 0));
     /// ```
-    #[must_use]
     #[track_caller]
     #[cfg_attr(debug_assertions, inline(never))]
     #[cfg_attr(not(debug_assertions), inline)]
+    #[must_use]
     pub fn save(&self, out: &mut [u8]) -> usize {
         self.store(out)
     }
@@ -178,9 +178,9 @@ where
     /// let stream = StreamedKomihash::resume(b"not a saved text");
     /// assert!(stream.is_none());
     /// ```
-    #[must_use]
     #[cfg_attr(debug_assertions, inline(never))]
     #[cfg_attr(not(debug_assertions), inline)]
+    #[must_use]
     pub fn resume(bytes: &[u8]) -> Option<Self> {
         StreamedKomihash::restore(bytes)
     }

@@ -73,7 +73,6 @@ where
     /// static LOG: Mutex<StreamedKomihash> = Mutex::new(StreamedKomihash::new());
     /// LOG.lock().unwrap().write(b"port");
     /// ```
-    #[must_use]
     pub fn new() -> Self
         ensures { Started V 0 result.state }
     {
@@ -90,7 +89,6 @@ where
     /// stream.write(b"ort");
     /// assert_eq!(stream.finish(), komihash(b"port", 7));
     /// ```
-    #[must_use]
     pub fn new_with_seed(seed: u64) -> Self
         ensures { Started V seed result.state }
     {
@@ -175,7 +173,6 @@ where
     /// stream.write(b"port");
     /// assert_eq!([stream.finish(), stream.finish()], [komihash(b"port", 0); 2]);
     /// ```
-    #[must_use]
     pub fn finish(&self) -> u64
         ensures { Answered V self.now.state result }
     {
@@ -208,7 +205,6 @@ where
     /// resumed.write(b"ort");
     /// assert_eq!(resumed.finish(), komihash(b"port", 0));
     /// ```
-    #[must_use]
     #[track_caller]
     #[inline]
     pub fn save(&self, out: &mut [u8]) -> usize
@@ -226,7 +222,6 @@ where
     /// let stream = StreamedKomihash::resume(b"not a saved text");
     /// assert!(stream.is_none());
     /// ```
-    #[must_use]
     #[inline]
     pub fn resume(bytes: &[u8]) -> Option<Self>
         ensures { Restored V (λ stream. stream.state) bytes.now result }
