@@ -2,13 +2,15 @@
 """Proves the control of each must-fail edit, on a copy of the crates: the same edit, but where its
 line `# control: WRONG ==> RIGHT` puts RIGHT in place of WRONG, which is once in its last `new:`.
 This shows that `rt must-fail` refuses the wrong value, and not the edit's shape or what the search
-can't prove. Makes as many at once as stand in different places."""
+can't prove. Makes as many at once as stand in different places. controls.py NAME.. proves those of
+the edits with these names."""
 
 import ctypes
 import re
 import shutil
 import signal
 import subprocess
+import sys
 import tempfile
 from pathlib import Path
 
@@ -37,7 +39,9 @@ def make(edit, crate):
 
 
 end_with_parent()
-left, counts = sorted(ROOT.glob("crates/*/must-fail/*.edit")), [0, 0]
+names, counts = sys.argv[1:], [0, 0]
+left = sorted(edit for name in names or ["*"]
+              for edit in ROOT.glob(f"crates/*/must-fail/{name}.edit"))
 with tempfile.TemporaryDirectory() as room:
     shutil.copy(ROOT / "crates.txt", room)
     files = {"ignore": shutil.ignore_patterns("out", "must-fail"), "dirs_exist_ok": True}
@@ -52,4 +56,4 @@ with tempfile.TemporaryDirectory() as room:
         print(f"{len(made)} in {crate.name}:", check.stdout if check.returncode else "proved")
         left = [edit for edit in left if edit not in made]
 print(f"{counts[0]} passed, {counts[1]} failed")
-raise SystemExit(counts[1] > 0)
+raise SystemExit(counts[1] > 0 or not counts[0])
