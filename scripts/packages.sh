@@ -112,7 +112,7 @@ page_in_chromium() {
                 "$stopped 1 of 6 files cannot be read, 4 were hashed" \
                 'goes on: true' "gone: $lost"
             komihashsum -4 -s 0xA --tag big "$odd" empty folder/in/x
-            printf '%s\n' 'false Copied' \
+            printf '%s\n' 'false Copied. Paste it into a text file.' \
                 'Drop only list on this field or paste its lines to check files.' \
                 '2 of 4 files are right, 2 were not chosen' \
                 {'a\b c',empty}': in the list, but not chosen' \
@@ -138,7 +138,7 @@ empty: $lost
 $(komihashsum big)
 The file is right, 1 is not in the list
 right
-empty took the place of the file of that name.
+empty took the place of another of that name.
 true
 No files were found there"
         )
