@@ -1,12 +1,8 @@
 // Hashes files in komihash.html in Chromium, and prints what it shows: tests_of_page.mjs URL
-// PROFILE GONE BIG HUGE LIST WIDE ODD EMPTY FOLDER. Chooses GONE and BIG with wrong seeds, and
-// mends the seed. Then it adds HUGE, begins again while BIG is read, adds the last three while HUGE
-// is, stops, and copies the lines. It drops LIST where files go, and then checks BIG and FOLDER and
-// then all files by it, and BIG by WIDE and by one hash, which it also types, then EMPTY and BIG
-// alone by that hash, and types what is no list. At last it changes EMPTY after choosing it, drops
-// BIG where lists go, adds EMPTY to it and its list twice, clears, and drops empty FOLDER/none.
-// Without files, the page at URL runs tests and hides its body until they end, and its text is
-// printed. A page may be slow: each wait is for a state, and none for a time.
+// PROFILE GONE BIG HUGE LIST WIDE ODD EMPTY FOLDER. LIST and WIDE are lists, GONE is no file, HUGE
+// takes too long, and FOLDER has an empty folder `none`. Without files, the page at URL runs tests
+// and hides its body until they end, and its text is printed. A page may be slow: each wait is for
+// a state, and none for a time.
 import { spawn } from "node:child_process";
 import { once } from "node:events";
 import { writeFileSync } from "node:fs";
@@ -32,13 +28,25 @@ async function run(expression) {
         await call("Runtime.evaluate", { expression, awaitPromise: true }) ?? {};
     return exceptionDetails ? undefined : result?.value ?? result?.objectId;
 }
-const choose = async (seed, ...files) => call("DOM.setFileInputFiles",
-    { files, objectId: await run(`seed.value = ${seed}, files.value = "", files`) });
 const until = async (expression) => { while (!await run(expression)); };
 const finish = () => until("hashing.hidden");
-async function tell(...ids) {
+/** Prints what expressions give, of elements the text, when a step is done and files are hashed. */
+async function tell(step, ...expressions) {
+    await step;
     await finish();
-    console.log(await run(`[${ids}].map((it) => it.textContent.trim()).join("\\n")`));
+    console.log(await run(`Promise.all([${expressions}]).then((all) =>
+        all.map((it) => String(it.textContent ?? it).trim()).join("\\n"))`));
+}
+const choose = async (seed, ...files) => call("DOM.setFileInputFiles",
+    { files, objectId: await run(`seed.value = ${seed}, files.value = "", files`) });
+async function drop(place, ...files) {
+    const { x, y } = JSON.parse(await run(`${place}.scrollIntoView(),
+        JSON.stringify(${place}.getBoundingClientRect())`));
+    const data = { items: [], files, dragOperationsMask: 1 };
+    for (const type of ["dragEnter", "dragOver", "drop"])
+        await call("Input.dispatchDragEvent", { type, x: x + 9, y: y + 9, data });
+    await until("wanted.value || !hashing.hidden || lines.textContent || " +
+        "/^No /.test(doing.textContent)");
 }
 
 await call("Browser.grantPermissions",
@@ -53,81 +61,52 @@ if (!gone) {
     process.exit();
 }
 await until("!told.textContent");
-for (const wrong of ["'0b11'", "2n ** 64n"]) {
-    await choose(wrong, gone, big);
-    console.log(await run("`${doubt.textContent} ${seed.ariaInvalid}`"));
-}
+for (const wrong of ["'0b11'", "2n ** 64n"])
+    await tell(choose(wrong, gone, big), "doubt", "seed.ariaInvalid",
+        "doubt.getBoundingClientRect().bottom <= innerHeight");
 await run(`steps = 0, new MutationObserver((list) => steps += list.length)
     .observe(bar, { attributeFilter: ["value"] })`);
-await run("seed.value = '', seed.oninput({}), seed.onblur(), version.value = 4");
-await finish();
-console.log(await run("`${problems.textContent}progress: ${steps > 9 && bar.position === 1}`"));
+await tell(run("seed.value = '', seed.oninput({}), seed.onblur(), version.value = 4"),
+    "problems", "`progress: ${steps > 9 && bar.position === 1}`");
+// Begins again while BIG is hashed, stops while HUGE is, and copies the lines.
 await run(`start = 0, new MutationObserver((_, it) => {
     if (!start && bar.value > 3e7) { start = bar.value; version.onchange(); }
     else if (start && bar.value) { goesOn = bar.value > start; it.disconnect(); }
 }).observe(bar, { attributeFilter: ["value"] })`);
 await choose("'0xA'", huge);
 await until("/huge/.test(doing.textContent)");
-async function drop(place, ...files) {
-    const { x, y } = JSON.parse(await run(`${place}.scrollIntoView(),
-        JSON.stringify(${place}.getBoundingClientRect())`));
-    const data = { items: [], files, dragOperationsMask: 1 };
-    for (const type of ["dragEnter", "dragOver", "drop"])
-        await call("Input.dispatchDragEvent", { type, x: x + 9, y: y + 9, data });
-    await until("wanted.value || !hashing.hidden || lines.textContent || " +
-        "/^No /.test(doing.textContent)");
-}
 await drop("document.body", ...others);
 await until("/folder/.test(lines.textContent) && /huge/.test(doing.textContent)");
-await run("stopper.click()");
-await tell("verdict", "{ textContent: `goes on: ${goesOn}` }");
+await tell(run("stopper.click()"), "verdict", "`goes on: ${goesOn}`");
 await run("copier.click()");
-await until("copied.textContent");
-console.log(await run(`fetch("data:,").catch(async () => told.textContent + problems.textContent +
-    await navigator.clipboard.readText() + seed.ariaInvalid + " " + copied.textContent)`));
-await drop("(clearer.click(), document.body)", list);
-await tell("told");
+await tell(until("copied.textContent"), "problems",
+    'fetch("data:,").catch(() => navigator.clipboard.readText())', "seed.ariaInvalid", "copied");
+await tell(drop("(clearer.click(), document.body)", list), "told");
 await drop("(clearer.click(), wanted)", list);
 await choose("(version.value = 5, 0)", big);
 await drop("document.body", others[2]);
-await until("/in.x: OK/.test(lines.textContent)");
-await tell("verdict", "problems");
-await choose(0, gone, ...others.slice(0, -1));
-await tell("verdict", "lines", "problems");
-await drop("(clearer.click(), wanted)", wide);
-await tell("told", "doing", "said");
-await choose(0, big);
-await tell("verdict", "problems");
-await run("wanted.value = `\\n ${wanted.value.match(/[\\da-f]{16}/)} `, " +
-    'wanted.oninput({ inputType: "insertFromPaste" })');
-await tell("verdict", "lines");
-console.log(await run("wanted.oninput({}), results.hidden"));
-await until("!results.hidden");
-await tell("verdict");
-for (const file of [others[1], big]) {
-    await choose(0, file);
-    await tell("verdict");
-}
-console.log(await run("wanted.value = 0, wanted.oninput({}), results.hidden + " +
-    '(wanted.onblur() ?? ` ${told.textContent} ${wanted.ariaInvalid}`) + ' +
-    "(wanted.oninput({}) ?? told.textContent)"));
+await tell(until("/in.x: OK/.test(lines.textContent)"), "verdict", "problems");
+await tell(choose(0, gone, ...others.slice(0, -1)), "verdict", "lines", "problems");
+await tell(drop("(clearer.click(), wanted)", wide), "told", "doing", "said");
+await tell(choose(0, big), "verdict", "problems");
+await tell(run("wanted.value = `\\n ${wanted.value.match(/[\\da-f]{16}/)} `, " +
+    'wanted.oninput({ inputType: "insertFromPaste" })'), "verdict", "lines");
+await tell(0, "(wanted.oninput({}), results.hidden)");
+await tell(until("!results.hidden"), "verdict");
+for (const file of [others[1], big]) await tell(choose(0, file), "verdict", "hint");
+await tell(0, "(wanted.value = 0, wanted.oninput({}), results.hidden)",
+    "(wanted.onblur(), told.textContent)", "wanted.ariaInvalid",
+    "(wanted.oninput({}), told.textContent)");
 await choose("(wanted.value = '', 0)", others[1]);
 await finish();
 writeFileSync(others[1], "more");
-await run("version.onchange()");
-await finish();
+await tell(run("version.onchange()"), "verdict", "problems");
 writeFileSync(others[1], "");
-await tell("verdict", "problems");
-await drop("(clearer.click(), wanted)", big);
-await tell("lines");
-await choose("(wanted.value = lines.textContent, 0)", others[1]);
-await tell("verdict", "{ textContent: results.className }");
-await choose(0, others[1]);
-await tell("told");
+await tell(drop("(clearer.click(), wanted)", big), "lines");
+await tell(choose("(wanted.value = lines.textContent, 0)", others[1]), "verdict",
+    "results.className");
+await tell(choose(0, others[1]), "told");
 await choose("(wanted.value = '', 0)", huge);
-await run("clearer.click()");
-await finish();
-console.log(await run("hashing.hidden + problems.textContent + lines.textContent"));
-await drop("drop", `${others[2]}/none`);
-await tell("doing");
+await tell(run("clearer.click()"), "hashing.hidden + problems.textContent + lines.textContent");
+await tell(drop("drop", `${others[2]}/none`), "doing");
 browser.kill();

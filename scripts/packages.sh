@@ -107,12 +107,14 @@ page_in_chromium() {
         timeout 600 node js/tests_of_page.mjs "$page" "$profile" "$files"/{gone,big,huge} \
             "$scratch"/{list,wide} "$files"/{"$odd",empty,folder} > "$scratch/shown" &&
         cd "$files" && diff "$scratch/shown" <(
-            printf '%s\n' 'Seeds are whole numbers, 0 to 2^64 - 1, such as 10 or 0xA. true'{,} \
+            printf '%s\n' 'Seeds are whole numbers, 0 to 2^64 - 1, such as 10 or 0xA.
+true
+true'{,} \
                 "gone: $lost" 'progress: true' \
                 "$stopped 1 of 6 files cannot be read, 4 were hashed" \
                 'goes on: true' "gone: $lost"
             komihashsum -4 -s 0xA --tag big "$odd" empty folder/in/x
-            printf '%s\n' 'false Copied. Paste it into a text file.' \
+            printf '%s\n' false 'Copied. Paste it into a text file.' \
                 'Drop only list on this field or paste its lines to check files.' \
                 '2 of 4 files are right, 2 were not chosen' \
                 {'a\b c',empty}': in the list, but not chosen' \
@@ -131,8 +133,13 @@ big: OK
 true
 The file is right
 The file is not right
+If the list's maker named a version or a seed, set it in Settings.
 The file is right
-true This line needs a komihash (16 characters, 0-9 and a-f): \"0\". Mend or clear it. true
+
+true
+This line needs a komihash (16 characters, 0-9 and a-f): \"0\". Mend or clear it.
+true
+
 1 of 2 files cannot be read, 1 was hashed
 empty: $lost
 $(komihashsum big)
