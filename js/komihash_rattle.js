@@ -1,7 +1,7 @@
 /*! Copyright (c) 2026 the authors of komihash_rattle 1.2.0, SPDX-License-Identifier: MIT */
-// The last line, which build.sh writes, is the library for C as WebAssembly. The newest streams and
-// generators, and of older ones the last that was called, are in the library's memory, and the
-// others in JavaScript, so nothing must be freed.
+// The last line, which scripts/remake.sh writes, is the library for C as WebAssembly. The newest
+// streams and generators, and of older ones the last that was called, are in the library's memory,
+// and the others in JavaScript, so nothing must be freed.
 
 const text = atob(webAssembly()), binary = new Uint8Array(text.length);
 for (let at = 0; at < text.length; at++) binary[at] = text.charCodeAt(at);

@@ -11,7 +11,7 @@ has_pages() {
         ls "$at"/docs/{CLAIMS,DEFINITIONS}.md && python3 -B scripts/links.py "$at" || return
     done
 }
-made_of_web() { sh js/build.sh | cmp - js/komihash_rattle.js; }
+made_of_web() { bash scripts/remake.sh module | cmp - js/komihash_rattle.js; }
 # Writes 100,000 random calls, with the values that the crate for Rust gives. It also makes others.
 random_rows() {
     cargo run --manifest-path rust/Cargo.toml --offline --release --example random_rows 1 180000 |
@@ -87,7 +87,7 @@ js_in_chromium() {
     timeout 600 node js/tests_of_page.mjs "file://$scratch/js/rows.html" "$scratch/of_rows" |
         all_right
 }
-page_is_made() { sh js/page.sh | cmp - js/komihash.html; }
+page_is_made() { bash scripts/remake.sh page | cmp - js/komihash.html; }
 # Compares what the page shows with what komihashsum prints for the same files.
 page_in_chromium() {
     local files=$scratch/hashed odd=$'a\\b\nc' page profile=$scratch/chromium
