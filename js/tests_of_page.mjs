@@ -30,7 +30,7 @@ async function run(expression) {
 }
 const until = async (expression) => { while (!await run(expression)); };
 const finish = () => until("hashing.hidden");
-/** Prints what expressions give, of elements the text, when a step is done and files are hashed. */
+/** Waits for a step and until files are hashed, and prints expressions, of elements the text. */
 async function tell(step, ...expressions) {
     await step;
     await finish();

@@ -133,7 +133,7 @@ big: OK
 true
 The file is right
 The file is not right
-If the list's maker named a version or a seed, set it in Settings.
+If the list's maker named a version or seed, set it in Settings.
 The file is right
 
 true
