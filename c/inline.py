@@ -9,7 +9,8 @@ script knows the part of Rust that the crate uses, and ends at anything else, wi
   is returned or assigned is a struct, as are tuples and arrays. Bounds aren't tested.
 - `const V: u8` is a first parameter, which inlining makes a constant. A function that isn't inlined
   has a copy for each version, and one that is generic over a trait a copy for each type.
-- `None` is returned as KOMIHASH_NONE, and an optional stream by a pointer, with a bool.
+- A stream is returned by a pointer, because gcc copies it otherwise, with bytes that nothing wrote.
+  An optional one comes with a bool. Any other `None` is KOMIHASH_NONE.
 - A later `let` of the same name and type is an assignment. A `let` with a type has its value later.
 """
 import re
@@ -238,12 +239,13 @@ class Function:
             return
         own, given = [self.parameters[name] for name in self.used], ", ".join(self.used[1:])
         self.is_copied = self.mark != "KOMI_INLINE" and "version" in self.used
+        type = "" if self.result == "StreamedKomihash" else self.result
         lines = wrapped(self.crate.comment(note, self.names), 0)
         for end in ("", "_v4", "_v5") if self.is_copied else ("",):
             mark = "KOMI_INLINE" if self.is_copied and not end else self.mark
             head = ", ".join(own[bool(end):]) or "void"
-            lines += wrapped(f"{mark} {declared(self.result, f'{name}{end}({head})')} {{", 0)
-            call = f"    {'return ' if self.result else ''}{name}({end[2:]}, {given});"
+            lines += wrapped(f"{mark} {declared(type, f'{name}{end}({head})')} {{", 0)
+            call = f"    {'return ' if type else ''}{name}({end[2:]}, {given});"
             lines += [call] if end else [
                 line for depth, text in self.lines for line in wrapped(text, depth)]
             lines += ["}", ""]
@@ -501,10 +503,11 @@ class Function:
 
     def give(self, target, value):
         """Prints what becomes of the value at the end of a block."""
-        if target == "return" and self.result == "Option<StreamedKomihash>":
-            self.parameters["resumed"] = "komi_stream *resumed"
-            self.emit(*[f"resumed->{part.field} = {part.text};" for part in value.parts],
-                      f"return {'true' if value.parts else 'false'};")
+        if target == "return" and "StreamedKomihash" in self.result:
+            self.parameters["result"] = "komi_stream *result"
+            self.emit(*[f"result->{part.field} = {part.text};" for part in value.parts])
+            if self.result != "StreamedKomihash":
+                self.emit(f"return {'true' if value.parts else 'false'};")
         elif target == "return":
             value.type = self.result
             self.emit(f"return {self.unbraced(value, 'result')}".rstrip() + ";")

@@ -1360,10 +1360,11 @@ KOMI_INLINE komi_pending komi_read_pending(const uint8_t *bytes, size_t length) 
 /* The stream of both versions. */
 
 /* Returns the new stream of a seed. */
-KOMI_INLINE komi_stream komi_stream_begin(uint64_t seed) {
-    const komi_stream result = {komi_pending_new(), komi_lanes_of(komi_seed_pair(seed)), false,
-        false};
-    return result;
+KOMI_INLINE void komi_stream_begin(uint64_t seed, komi_stream *result) {
+    result->pending = komi_pending_new();
+    result->lanes = komi_lanes_of(komi_seed_pair(seed));
+    result->had_block = false;
+    result->top_bit = false;
 }
 
 /* Absorbs bytes that complete a block or more. Copies those that complete the partial block, if
@@ -1433,16 +1434,16 @@ KOMI_INLINE size_t komi_stream_store(uint8_t version, const komi_stream *self, u
 }
 
 KOMI_INLINE bool komi_stream_restore(uint8_t version, const uint8_t *bytes, size_t length,
-    komi_stream *resumed) {
+    komi_stream *result) {
     if (!komi_is_text(version, bytes, length)) {
         return false;
     }
     bool had_block = bytes[1] == 1;
     bool top_bit = bytes[2] == 1;
-    resumed->pending = komi_read_pending(bytes, length);
-    resumed->lanes = komi_read_lanes(bytes);
-    resumed->had_block = had_block;
-    resumed->top_bit = top_bit;
+    result->pending = komi_read_pending(bytes, length);
+    result->lanes = komi_read_lanes(bytes);
+    result->had_block = had_block;
+    result->top_bit = top_bit;
     return true;
 }
 
@@ -1509,12 +1510,12 @@ KOMI_API uint64_t komihash_v5(const void *bytes, size_t length, uint64_t seed) K
 
 KOMI_API komihash_v5_stream komihash_v5_start(uint64_t seed) KOMIHASH_NOEXCEPT {
     komihash_v5_stream stream;
-    *(komi_stream *)&stream = komi_stream_begin(seed);
+    komi_stream_begin(seed, (komi_stream *)&stream);
     return stream;
 }
 
 KOMI_API void komihash_v5_init(komihash_v5_stream *stream, uint64_t seed) KOMIHASH_NOEXCEPT {
-    *(komi_stream *)stream = komi_stream_begin(seed);
+    komi_stream_begin(seed, (komi_stream *)stream);
 }
 
 KOMI_API void komihash_v5_write(komihash_v5_stream *stream, const void *bytes, size_t length)
@@ -1578,12 +1579,12 @@ KOMI_API uint64_t komihash_v4(const void *bytes, size_t length, uint64_t seed) K
 
 KOMI_API komihash_v4_stream komihash_v4_start(uint64_t seed) KOMIHASH_NOEXCEPT {
     komihash_v4_stream stream;
-    *(komi_stream *)&stream = komi_stream_begin(seed);
+    komi_stream_begin(seed, (komi_stream *)&stream);
     return stream;
 }
 
 KOMI_API void komihash_v4_init(komihash_v4_stream *stream, uint64_t seed) KOMIHASH_NOEXCEPT {
-    *(komi_stream *)stream = komi_stream_begin(seed);
+    komi_stream_begin(seed, (komi_stream *)stream);
 }
 
 KOMI_API void komihash_v4_write(komihash_v4_stream *stream, const void *bytes, size_t length)

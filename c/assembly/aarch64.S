@@ -2,7 +2,7 @@
  * Copyright (c) 2026 the authors of komihash_rattle
  *
  * `make assembly` made this file from komihash_rattle_inline.h. Do not edit it.
- * Made of: SHA-256 5322450a65d157f65487796d60b435961e4a1fc71ad822fd427a5f6b20094d1f
+ * Made of: SHA-256 5f39fc309d55353125e2e5bfa9337f2b71193819c65eb750e26a339d95a94107
  * Options: -O2 -fno-vectorize -fno-slp-vectorize -mllvm -disable-loop-idiom-memcpy -mllvm -enable-ext-tsp-block-placement -fPIC -ffunction-sections -falign-functions=64 -fno-addrsig -fno-ident -fno-verbose-asm -mbranch-protection=bti -ffixed-x18
  * Compiler: Debian clang version 19.1.7 (3~deb12u1)
  */
@@ -155,19 +155,19 @@ komihash_v5_init:
 	.cfi_startproc
 	hint	#34
 	mov	x8, #2259
-	mov	x9, #4983
-	and	x10, x1, #0x5555555555555555
+	mov	x11, #4983
+	and	x9, x1, #0x5555555555555555
 	movk	x8, #34211, lsl #16
-	movk	x9, #14544, lsl #16
-	and	x11, x1, #0xaaaaaaaaaaaaaaaa
+	movk	x11, #14544, lsl #16
+	and	x10, x1, #0xaaaaaaaaaaaaaaaa
 	movk	x8, #27272, lsl #32
-	movk	x9, #8678, lsl #32
+	movk	x11, #8678, lsl #32
 	mov	x12, #29508
 	movk	x8, #9279, lsl #48
-	movk	x9, #17704, lsl #48
+	movk	x11, #17704, lsl #48
 	movk	x12, #880, lsl #16
-	eor	x8, x10, x8
-	eor	x9, x11, x9
+	eor	x8, x9, x8
+	eor	x9, x10, x11
 	mov	x11, #15444
 	mul	x10, x8, x9
 	movk	x11, #9522, lsl #16
@@ -1151,19 +1151,19 @@ komihash_v4_init:
 	.cfi_startproc
 	hint	#34
 	mov	x8, #2259
-	mov	x9, #4983
-	and	x10, x1, #0x5555555555555555
+	mov	x11, #4983
+	and	x9, x1, #0x5555555555555555
 	movk	x8, #34211, lsl #16
-	movk	x9, #14544, lsl #16
-	and	x11, x1, #0xaaaaaaaaaaaaaaaa
+	movk	x11, #14544, lsl #16
+	and	x10, x1, #0xaaaaaaaaaaaaaaaa
 	movk	x8, #27272, lsl #32
-	movk	x9, #8678, lsl #32
+	movk	x11, #8678, lsl #32
 	mov	x12, #29508
 	movk	x8, #9279, lsl #48
-	movk	x9, #17704, lsl #48
+	movk	x11, #17704, lsl #48
 	movk	x12, #880, lsl #16
-	eor	x8, x10, x8
-	eor	x9, x11, x9
+	eor	x8, x9, x8
+	eor	x9, x10, x11
 	mov	x11, #15444
 	mul	x10, x8, x9
 	movk	x11, #9522, lsl #16

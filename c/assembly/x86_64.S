@@ -2,7 +2,7 @@
  * Copyright (c) 2026 the authors of komihash_rattle
  *
  * `make assembly` made this file from komihash_rattle_inline.h. Do not edit it.
- * Made of: SHA-256 5322450a65d157f65487796d60b435961e4a1fc71ad822fd427a5f6b20094d1f
+ * Made of: SHA-256 5f39fc309d55353125e2e5bfa9337f2b71193819c65eb750e26a339d95a94107
  * Options: -O2 -fno-vectorize -fno-slp-vectorize -mllvm -disable-loop-idiom-memcpy -mllvm -enable-ext-tsp-block-placement -fPIC -ffunction-sections -falign-functions=64 -fno-addrsig -fno-ident -fno-verbose-asm -mno-red-zone -fcf-protection=full
  * Compiler: Debian clang version 19.1.7 (3~deb12u1)
  */
@@ -124,6 +124,12 @@ komihash_v5_start:
 komihash_v5_init:
 	.cfi_startproc
 	endbr64
+	xorps	%xmm0, %xmm0
+	movups	%xmm0, 48(%rdi)
+	movups	%xmm0, 32(%rdi)
+	movups	%xmm0, 16(%rdi)
+	movups	%xmm0, (%rdi)
+	movq	$0, 64(%rdi)
 	movabsq	$6148914691236517205, %rcx
 	andq	%rsi, %rcx
 	movabsq	$2611923443488327891, %rax
@@ -148,12 +154,6 @@ komihash_v5_init:
 	xorq	%rax, %r11
 	movabsq	$-4563226453097033507, %rax
 	xorq	%rdx, %rax
-	xorps	%xmm0, %xmm0
-	movups	%xmm0, 48(%rdi)
-	movups	%xmm0, 32(%rdi)
-	movups	%xmm0, 16(%rdi)
-	movups	%xmm0, (%rdi)
-	movq	$0, 64(%rdi)
 	movq	%rcx, 72(%rdi)
 	movq	%r8, 80(%rdi)
 	movq	%rsi, 88(%rdi)
@@ -1190,6 +1190,12 @@ komihash_v4_start:
 komihash_v4_init:
 	.cfi_startproc
 	endbr64
+	xorps	%xmm0, %xmm0
+	movups	%xmm0, 48(%rdi)
+	movups	%xmm0, 32(%rdi)
+	movups	%xmm0, 16(%rdi)
+	movups	%xmm0, (%rdi)
+	movq	$0, 64(%rdi)
 	movabsq	$6148914691236517205, %rcx
 	andq	%rsi, %rcx
 	movabsq	$2611923443488327891, %rax
@@ -1214,12 +1220,6 @@ komihash_v4_init:
 	xorq	%rax, %r11
 	movabsq	$-4563226453097033507, %rax
 	xorq	%rdx, %rax
-	xorps	%xmm0, %xmm0
-	movups	%xmm0, 48(%rdi)
-	movups	%xmm0, 32(%rdi)
-	movups	%xmm0, 16(%rdi)
-	movups	%xmm0, (%rdi)
-	movq	$0, 64(%rdi)
 	movq	%rcx, 72(%rdi)
 	movq	%r8, 80(%rdi)
 	movq	%rsi, 88(%rdi)

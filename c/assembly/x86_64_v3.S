@@ -2,7 +2,7 @@
  * Copyright (c) 2026 the authors of komihash_rattle
  *
  * `make assembly` made this file from komihash_rattle_inline.h. Do not edit it.
- * Made of: SHA-256 5322450a65d157f65487796d60b435961e4a1fc71ad822fd427a5f6b20094d1f
+ * Made of: SHA-256 5f39fc309d55353125e2e5bfa9337f2b71193819c65eb750e26a339d95a94107
  * Options: -O2 -fno-vectorize -fno-slp-vectorize -mllvm -disable-loop-idiom-memcpy -mllvm -enable-ext-tsp-block-placement -fPIC -ffunction-sections -falign-functions=64 -fno-addrsig -fno-ident -fno-verbose-asm -mno-red-zone -fcf-protection=full -march=x86-64-v3 -mllvm -pre-RA-sched=list-hybrid
  * Compiler: Debian clang version 19.1.7 (3~deb12u1)
  */
