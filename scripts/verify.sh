@@ -6,7 +6,7 @@ python=$(make -s -C c python) || python=python3-with-z3-and-capstone
 arm=aarch64-linux-gnu
 always run_case 'the package of the library for C is made again from itself' unpack
 # These are all builds of the assembly, some functions by a second solver too, one from the
-# crate for Rust, and of the header, one by clang and two functions by gcc.
+# crate for Rust, and of the header, one by clang and some functions by gcc.
 part_with "$python" in_package verify
 part_with "$arm-gcc $python" in_package verify "CROSS=$arm-"
 part_with "cvc5 $python" in_package verify LEVEL=x86-64 SECOND=cvc5 \
@@ -16,6 +16,8 @@ part_with "clang $python" in_package verify FROM=c OUT=out/clang CC=clang \
     CFLAGS='-O2 -fno-vectorize -fno-slp-vectorize'
 part_with "gcc $python" in_package verify FROM=c OUT=out/gcc CC=gcc \
     'FUNCTION=komihash_v4 komihash_v5_write'
+part_with "$arm-gcc $python" in_package verify FROM=c "CROSS=$arm-" \
+    'FUNCTION=komihash_v5 komihash_v5_start'
 
 tests=c/verify/tests out=$(echo "$scratch"/libkomihash_rattle-*/out) so=libkomihash_rattle.so.1
 libraries=("x86-64:$out/$so" "x86-64-v3:$out/glibc-hwcaps/x86-64-v3/$so")

@@ -34,7 +34,7 @@ class Blocks(Call):
 
 
 class Hash(Blocks):
-    LEAST, FIXED_BITS = 2, 3
+    LEAST, FIXED_BITS = 3, 3
 
     def begun(self):
         return start(self.products, self.args['seed'])
