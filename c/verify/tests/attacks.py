@@ -189,6 +189,11 @@ def of_segments(e):
          (START, 8), (FILLED, size), (SIZE, size)),
         ('a dynamic table at address 0', 'at address 0', DYNAMIC, 0, (START, 0), (OFFSET, 0)),
         ('a table of parts that can change', 'another one', LOAD, 0, (RIGHTS, 6)))] + [
+            ('a table of parts before the first part', 'another one', lambda: (
+                e.content.__setitem__(slice(0, 0), bytes(e.content[:64 + size]).ljust(
+                    code.align, b'\0')),
+                [e.put(OFFSET, s.offset + code.align, 64 + elf.SEGMENT.size * k)
+                 for k, s in enumerate(e.elf.segments)])),
             ('a dynamic table that can only be read', 'can not be written', lambda: (
                 e.segment(LOAD, -1, (RIGHTS, READ)),
                 e.segment(RELRO, 0, (KIND, FRAMES), (SIZE, relro.filled)))),

@@ -152,6 +152,11 @@ a word of 0 after another|v5_unpad|, 8 bytes, (0, 0)..|nop
 a word of 1|v5_unpad|, 0 bytes, (0, 1)..|nop
 one wrong in a high bit||does not have|mov rax, [rdi]; bts rax, 63; mov [rdi], rax
 one wrong by where the stack is||does not have|test spl, 16; je body; not byte ptr [rdi]
+another s1|v5_rand_init|s1: found|call body; bts rax, 63; ret
+another s2|v5_rand_init|s2: found|call body; bts rdx, 63; ret
+another s2 from two seeds|v5_rand_init_with_extra_seed|s2: found|call body; inc rdx; ret
+another s1 from words|v5_rand_init_words|s1: found|call body; inc rax; ret
+another s2 from words|v5_rand_init_words|s2: found|call body; inc rdx; ret
 an old lane|v5_write|any n..at 72|push rdi; push [rdi + 72]; call body; pop rax; pop rdi;
     mov [rdi + 72], rax; ret
 one after a long write to five bytes|v5_write|any n..at 0|
@@ -215,6 +220,7 @@ a wrong word before the loop of a generator|v5_rand_fill|any n..bytes: found|
     fill "", "step rsi; not byte ptr [rsi]; add rsi, 8; sub r9, 8"
 a call that begins at the exit|v5_pad|any n..the rest|pad "cmp rsi, 200; je .Lrest", "", ""
 a long one that is copied|v5_pad|any n..a turn of a call that is refused|mov rcx, -1; pad "", "", ""
+one that ends in a turn|v5_pad|any n..before the end|pad "", "cmp r9, 400; je .Lend", ""
 one that turns again after the last|v5_pad|any n..after the last|
     pad "", "", "cmp rsi, 304; je .Lturn"
 a turn of nothing|v5_pad|any n..takes nothing|
@@ -367,23 +373,21 @@ v5_save|, 5 pending|bytes: test al, al; je 1f; rol qword ptr [rsi + 4], 8|result
 v5_resume|, 68 bytes|at 137: test al, al; je 1f; or byte ptr [rdi + 137], 2|result: or eax, 2|
     result: or al, 128|result: test al, al; jne 1f; inc eax
 v5_resume|, 131 bytes|at 56: test al, al; je 1f; not byte ptr [rdi + 62]
-v5_rand_init||s2: inc rdx
-v5_rand_init_with_extra_seed||s1: inc rax|s2: inc rdx
-v5_rand_init_words||s1: inc rax|s2: inc rdx
-v5_rand_next||output: inc rax|s2: not byte ptr [rdi + 8]
+v5_rand_next||output: bts rax, 63|s1: not byte ptr [rdi + 7]|s2: not byte ptr [rdi + 15]
 v5_rand_fill|, 0 bytes|s1: inc byte ptr [rdi]
 v5_rand_fill|, 16 bytes|bytes: rol qword ptr [rsi], 8|s2: not byte ptr [rdi + 8]
 v5_rand_fill|any n|s1: cmp rdx, 256; jne 1f; mov [rdi], dl|s1: cmp rdx, 383; jne 1f; mov [rdi], dl|
     bytes: cmp rdx, 255; jne 1f; not byte ptr [rsi + 254]
 v5_rand_fill|, 255 bytes|bytes: not byte ptr [rsi + 254]|s1: inc byte ptr [rdi]
-v5_pad|, 9 bytes|bytes: test al, al; je 1f; rol qword ptr [rdx], 8
+v5_pad|, 9 bytes|bytes: test al, al; je 1f; rol qword ptr [rdx], 8|
+    length: test rax, rax; je 1f; bts rax, 63
 v5_pad|any n|length: cmp rsi, 256; jne 1f; neg rax|length: cmp rsi, 383; jne 1f; neg rax|
     bytes: test rax, rax; je 1f; cmp rsi, 304; jne 1f; not byte ptr [rdx + 304]
 v5_pad|, 304 bytes|length: inc rax|bytes: test rax, rax; je 1f; not byte ptr [rdx + 303]
 v5_unpad|, 24 bytes, (7, 1)|
     bytes: cmp rax, 31; jne 1f; mov r8, [rdx]; mov r9, [rdx + 16];
     mov [rdx], r9; mov [rdx + 16], r8
-v5_unpad|, 256 bytes, (0, 1)|length: or al, 128
+v5_unpad|, 256 bytes, (0, 1)|length: bts rax, 63
 v5_unpad|8, (0, 0)|length: cmp rsi, 40; jne 1f; inc rax|length: cmp rsi, 20; jne 1f; inc rax
 v5_unpad|8, (7, 1)|length: cmp rsi, 33; jne 1f; or al, 128|
     length: cmp rsi, 48; jne 1f; or al, 128
@@ -415,7 +419,7 @@ ROLES = {'FACTOR': r'mulx?q\t%(\w+)', 'LANE': r'addq\t%(\w+), %', 'BYTES': r'\t5
          'LEFT': r'(?:cmpq\t\$\d+, %|sub\t\w+, )(\w+)(?:\n\tja|, #128)',
          'OUT': r'\(%(\w+),%\w+,8\)', 'INDEX': r'\(%\w+,%(\w+),8\)',
          'COUNT': r'cmpq\t%\w+, %(\w+)\n\tjne'}
-OUTPUTS += 'v5_start||address of the struct: inc rax' + ''.join(
+OUTPUTS += 'v5_start||address of the struct: bts rax, 63' + ''.join(
     f'|at {k & -8}: not byte ptr [rdi + {k}]' for k in (*range(7, 136, 8), 136))
 # Assembly, marks after which bodies begin, the syntax of bodies and of the rest, macros and rows.
 KINDS = {'x86-64': ('x86_64', '\tendbr64\n', '.intel_syntax noprefix\n', '.att_syntax\n', V2),
