@@ -77,7 +77,7 @@ await choose("'0xA'", huge);
 await until("/huge/.test(doing.textContent)");
 await drop("document.body", ...others);
 await until("/folder/.test(lines.textContent) && /huge/.test(doing.textContent)");
-await tell(run("stopper.click()"), "verdict", "`goes on: ${goesOn}`");
+await tell(run("stopper.click()"), "verdict", "hint", "`goes on: ${goesOn}`");
 await run("copier.click()");
 await tell(until("copied.textContent"), "problems",
     'fetch("data:,").catch(() => navigator.clipboard.readText())', "seed.ariaInvalid", "copied");

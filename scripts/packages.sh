@@ -92,7 +92,7 @@ page_is_made() { bash scripts/remake.sh page | cmp - js/komihash.html; }
 page_in_chromium() {
     local files=$scratch/hashed odd=$'a\\b\nc' page profile=$scratch/chromium
     local lost='gone, unreadable, or changed since it was chosen; choose it again'
-    local stopped='Stopped before the end; choose the rest again.'
+    local stopped='Stopped: 1 of 6 files cannot be read, 4 were hashed'
     page=file://$(cd "$scratch/js" && node -p '["package.json", "komihash.html"].map(
         (it) => require.resolve(`komihash_rattle/${it}`))[1]')
     in_package out/komihashsum && mkdir -p "$files"/folder/{in,none} &&
@@ -111,20 +111,20 @@ page_in_chromium() {
 true
 true'{,} \
                 "gone: $lost" 'progress: true' \
-                "$stopped 1 of 6 files cannot be read, 4 were hashed" \
+                "$stopped" 'Choose the rest again to go on.' \
                 'goes on: true' "gone: $lost"
             komihashsum -4 -s 0xA --tag big "$odd" empty folder/in/x
             printf '%s\n' false 'Copied. Paste it into a text file.' \
-                'Drop only list on this field or paste its lines to check files.' \
+                'list seems to be a list: to check by it, drop it alone here.' \
                 '2 of 4 files are right, 2 were not chosen' \
                 {'a\b c',empty}': in the list, but not chosen' \
-                '1 of 4 files is not right, 3 are right, 1 is not in the list'
+                '1 of 4 files is not right, 3 are right; 1 is extra'
             komihashsum --check "$scratch/list" 2> "$scratch/case" | sed 's|^\./in|folder/in|'
-            echo "empty: its hash is $(komihashsum -4 -s 0xA empty | cut -c-16), but should be $(
+            echo "empty: is $(komihashsum -4 -s 0xA empty | cut -c-16), should be $(
                 sed -n '$s/.*= //p' "$scratch/list")
 gone: not in the list
 Now choose files.
-Files never leave this computer
+Files never leave this device
 Now choose files.
 The file is right
 
@@ -137,13 +137,13 @@ If the list's maker named a version or seed, set it in Settings.
 The file is right
 
 true
-This line needs a komihash (16 characters, 0-9 and a-f): \"0\". Mend or clear it.
+This line needs a komihash (16 characters, 0-9 and a-f): \"0\". Correct it.
 true
 
 1 of 2 files cannot be read, 1 was hashed
 empty: $lost
 $(komihashsum big)
-The file is right, 1 is not in the list
+The file is right; 1 is extra
 right
 empty took the place of another of that name.
 true
