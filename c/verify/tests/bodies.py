@@ -92,7 +92,7 @@ a copy by the room|v5_save|, 5 pending..in no array|mov ecx, edx; and ecx, 1; re
 an address of 32 bits||not known|.byte 0x67; lea rax, [-1]
 a byte of an old stream|v5_init|not written|mov al, [rdi + 80]
 a byte of a stream that is returned|v5_start|not written|mov al, [rdi + 80]
-a vector over the end|v5|0 modulo..in no array|movups xmm0, [rdi + 113]
+a vector over the end|v5|0 modulo..in no array|movups xmm0, [rdi + 177]
 a byte that may not be there|v5_write|any n..in no array|
     turn: 8: cmp [BYTES], al; cmp LEFT, 127; jbe 9f; next: jmp 8b; 9:
 a byte after the last block|v5_write|any n..in no array|
@@ -333,7 +333,7 @@ SHIFTS = 'shl r8, cl', 'shr r8, cl', 'sar r8, cl', 'rol r8, cl', 'shld r8, r9, c
 ACCESS = {'read': 'cmp {} ptr [{}], 0', 'write': 'mov {} ptr [{}], 0', 'both': 'or {} ptr [{}], 0'}
 ARRAYS = '''
 v5|, 9 bytes|read rdi 9 rsi
-v5|0 modulo|read rdi 128 rsi|read BYTES 152 LEFT: turn: cmp LEFT, 152; jne 1f; _; 1:
+v5|0 modulo|read rdi 192 rsi|read BYTES 280 LEFT: turn: cmp LEFT, 280; jne 1f; _; 1:
 v5_init||write rdi 144
 v5_write|, 9 bytes, 5 pending|both rdi 144|read rsi 9 rdx
 v5_write|any n|both rdi 144|read rsi 1|read BYTES 150: turn: cmp LEFT, 150; jne 1f; _; 1:|

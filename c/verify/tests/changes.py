@@ -55,7 +55,7 @@ CASES = [330, 1, 1, 2439, 128, 64, 133, 1, 1, 1, 1, 179, 323, 478]
 
 # For hashes, pad, writes, fills and unpad, how many calls of loops are also run one by one, and the
 # bytes, the pending ones and the kind of the first and the last.
-AGAIN = "('', 194, (128, 0, None), (4095, 0, None)), ('_pad', 194, (128, 0, None), (4095, 0, " \
+AGAIN = "('', 130, (192, 0, None), (4095, 0, None)), ('_pad', 194, (128, 0, None), (4095, 0, " \
     "None)), ('_write', 358, (64, 0, None), (4158, 63, None)), ('_rand_fill', 50, (128, 0, None)," \
     " (4095, 0, None)), ('_unpad', 52, (128, 0, (0, 1)), (4088, 0, (7, 2)))"
 
