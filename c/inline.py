@@ -131,8 +131,7 @@ def pointer(type, at, length=None):
 
 
 def number_of(text):
-    digits = text.replace("_", "")
-    return f"UINT64_C({digits})" if len(digits) > 9 else digits
+    return f"UINT64_C({digits})" if len(digits := text.replace("_", "")) > 9 else digits
 
 
 def wrapped(text, depth):
@@ -439,8 +438,7 @@ class Function:
         if name == "split_at":
             return braces("tuple", [value.part(Value("0"), given[0]), value.part(given[0])])
         known(array[1] == "u8" and len(given) < 2)
-        size = Value(given[0] if given else "8")
-        at = value.start()
+        size, at = Value(given[0] if given else "8"), value.start()
         at = at.joined("+", length).joined("-", size) if name == "last_chunk" else at
         chunk = pointer(f"{array[0] or '&'}[u8;{size.text}]", at)
         known(name in ("first_chunk", "last_chunk", "split_first_chunk"))
@@ -505,9 +503,8 @@ class Function:
         """Prints what becomes of the value at the end of a block."""
         if target == "return" and "StreamedKomihash" in self.result:
             self.parameters["result"] = "komi_stream *result"
-            self.emit(*[f"result->{part.field} = {part.text};" for part in value.parts])
-            if self.result != "StreamedKomihash":
-                self.emit(f"return {'true' if value.parts else 'false'};")
+            self.emit(*[f"result->{part.field} = {part.text};" for part in value.parts],
+                      *[f"return {'true' if value.parts else 'false'};"] * ("<" in self.result))
         elif target == "return":
             value.type = self.result
             self.emit(f"return {self.unbraced(value, 'result')}".rstrip() + ";")
@@ -573,7 +570,7 @@ class Function:
 class Crate:
     """The crate's modules, and what is printed of them."""
     def __init__(self, sources, reworded):
-        self.structs, self.constants, self.functions, self.types = {}, {}, {}, []
+        self.structs, self.constants, self.functions, self.types, self.met = {}, {}, {}, [], set()
         self.items, self.used, self.done, self.output, self.reworded = [], set(), {}, [], reworded
         for path, text in sources.items():
             place, owner, numbers = 0, "", {}
@@ -601,8 +598,8 @@ class Crate:
             self.items.append((None, ""))
         elif it["constant"] and it["value"][0].isdigit():
             self.constants[name] = it["type"]
-            lines.append(f"#define KOMI_{name} {number_of(it['value'])}")
-            self.items.append((name, "\n".join(lines)))
+            defined = f"#define KOMI_{name} {number_of(it['value'])}"
+            self.items.append((name, "\n".join([*lines, defined])))
         elif it["struct"]:
             self.struct(it, name, [*lines, "typedef struct {"])
 
@@ -621,6 +618,7 @@ class Crate:
         text = re.sub(r"```.*?```|# Panics\n\n.*?\n\n", "", text, flags=re.S)
         text = re.sub(r"\[(.*?)\]\(.*?\)", r"\1", text).strip()
         text = re.sub(r"\s*\n\s*\n\s*", "@", text).replace("\n", " ").replace("@", "\n")
+        self.met.update(old for old, _ in self.reworded if old in text)
         for old, new in self.reworded:
             text = text.replace(old, new)
         functions = {name: c_name(owner, name) for owner, name in self.functions
@@ -667,9 +665,7 @@ def calls_of(header):
 
 
 def header(sources, licence=""):
-    """Returns the text of the header."""
-    calls = (HERE / "komihash_rattle.h").read_text()
-    text = (HERE / "inline.h.in").read_text()
+    calls, text = [(HERE / name).read_text() for name in ("komihash_rattle.h", "inline.h.in")]
     template, bodies, reworded = re.split("@bodies\n|@comments\n", text)
     crate = Crate.__new__(Crate)
     try:
@@ -683,6 +679,8 @@ def header(sources, licence=""):
         rest = text[place:].lstrip()
         line = text.count("\n", 0, len(text) - len(rest)) + 1
         raise SystemExit(f"{path}:{line}: unknown: {rest[:60]!r}") from None
+    if unmet := {old for old, _ in crate.reworded} - crate.met:
+        raise SystemExit(f"inline.h.in: no comment has {min(unmet)!r}")
     parts["version"] = " * komihash_rattle " + re.search(r'VERSION "(.*)"', calls)[1]
     names = sorted(set(re.findall(r"\b(komihash_v\d\w*)[(;]", parts["calls"])))
     parts["names"] = "\n".join(f"#define {name} KOMI_NAME({name})" for name in names)
@@ -695,8 +693,7 @@ def header(sources, licence=""):
 
 
 def sources_of(crate):
-    paths = [f"{crate}/src/{name}.rs" for name in MODULES]
-    return {path: Path(path).read_text() for path in paths}
+    return {path: Path(path).read_text() for name in MODULES for path in [f"{crate}/src/{name}.rs"]}
 
 
 if __name__ == "__main__":

@@ -1,7 +1,7 @@
 #!/usr/bin/env python3
 """Tests that inline.py refuses code that it doesn't know, with file and line: inline.py CRATE. Each
-edit of the crate is one that C would take in another way, or not at all. Also tests that no comment
-of the header speaks of Rust."""
+edit of the crate is one that C would take in another way, or not at all, or of a comment that C has
+in other words. Also tests that no comment of the header speaks of Rust."""
 import re
 import sys
 from pathlib import Path
@@ -55,6 +55,7 @@ EDITS = [
     ("padding", "pub fn pad<", "pub unsafe fn pad<"),
     ("pending", "len: usize,\n}", "len: u16,\n}"),
     ("whole_words", "fn word(&self, at: usize)", "extern fn word(&self, at: usize)"),
+    ("hash", "so that it tests no index below", "which then tests no index"),
 ]
 
 
@@ -71,7 +72,7 @@ def main():
             told = "not refused" if old in sources[path] else "not found"
         except SystemExit as refusal:
             told = str(refusal)
-        if not told.startswith(f"{path}:"):
+        if not told.startswith((f"{path}:", "inline.h.in:")):
             failed += 1
             print(f"FAILED: {module}: {new}: {told}")
     print(f"{len(EDITS) + 1 - failed} passed, {failed} failed")
