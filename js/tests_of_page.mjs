@@ -46,7 +46,7 @@ async function drop(place, ...files) {
     for (const type of ["dragEnter", "dragOver", "drop"])
         await call("Input.dispatchDragEvent", { type, x: x + 9, y: y + 9, data });
     await until("wanted.value || !hashing.hidden || lines.textContent || " +
-        "/^No /.test(doing.textContent)");
+        "doing.textContent !== idleText");
 }
 
 await call("Browser.grantPermissions",
@@ -61,6 +61,7 @@ if (!gone) {
     process.exit();
 }
 await until("!told.textContent");
+await run("idleText = doing.textContent");
 for (const wrong of ["'0b11'", "2n ** 64n"])
     await tell(choose(wrong, gone, big), "doubt", "seed.ariaInvalid",
         "doubt.getBoundingClientRect().bottom <= innerHeight");

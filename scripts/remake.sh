@@ -1,8 +1,8 @@
 #!/usr/bin/env bash
 # Makes anew what scripts make of sources: v4.rt, the crate for Rust, the header that is all of the
-# library for C, the version in the module for JavaScript, the page that hashes files, and, if more
-# of the header changed than comments, its assembly and WebAssembly, by Debian's packages clang-19
-# and lld. With the argument `module` or `page`, only prints that module or that page.
+# library for C, versions in the packages for JavaScript and Python, the page that hashes files, and,
+# if more of the header changed than comments, its assembly and WebAssembly, by Debian's packages
+# clang-19 and lld. With the argument `module` or `page`, only prints that module or that page.
 set -euo pipefail
 cd "$(dirname "$0")/.."
 
@@ -45,4 +45,6 @@ if [ "$(grep -LF "SHA-256 $made_of" c/assembly/*.S js/komihash_rattle.js)" ]; th
 fi
 version=$(sed -n 's/.*"version": "\(.*\)",/\1/p' js/package.json)
 sed -i "1s/ [0-9.]*,/ $version,/" js/komihash_rattle.js
+library=$(sed -n 's/.*RATTLE_VERSION "\(.*\)"/\1/p' c/komihash_rattle.h)
+sed -i "s/version [0-9.]* of /version $library of /" js/README.md python/README.md
 page > js/komihash.html
