@@ -19,8 +19,7 @@ import textwrap
 from pathlib import Path
 
 HERE = Path(__file__).resolve().parent
-MODULES = ("utils", "rounds", "whole_words", "padding", "hash", "pending", "stream/saved",
-           "stream/streamed", "generator")
+MODULES = "utils rounds whole_words padding hash pending stream/saved stream/streamed generator"
 ITEM = re.compile(r"""\n+|//\ Made.*\n|use\ [^;]*;\n|(?P<closing>\}\n)|(?P<title>(?://!.*\n)+)
     |(?P<note>(?:\ *//.*\n)*)(?P<marks>(?:\ *\#\[.*\]\n)*)
     (?P<indent>\ *)(?:pub(?:\(crate\))?\ )?(?:trait\ (?:.*\n)+?\}\n
@@ -618,6 +617,7 @@ class Crate:
         text = re.sub(r"```.*?```|# Panics\n\n.*?\n\n", "", text, flags=re.S)
         text = re.sub(r"\[(.*?)\]\(.*?\)", r"\1", text).strip()
         text = re.sub(r"\s*\n\s*\n\s*", "@", text).replace("\n", " ").replace("@", "\n")
+        text = re.sub(r"[^.:\n]*\btells? the compiler\b[^.]*\.", "", text)
         self.met.update(old for old, _ in self.reworded if old in text)
         for old, new in self.reworded:
             text = text.replace(old, new)
@@ -693,7 +693,7 @@ def header(sources, licence=""):
 
 
 def sources_of(crate):
-    return {path: Path(path).read_text() for name in MODULES for path in [f"{crate}/src/{name}.rs"]}
+    return {it: Path(it).read_text() for it in (f"{crate}/src/{at}.rs" for at in MODULES.split())}
 
 
 if __name__ == "__main__":

@@ -1146,7 +1146,8 @@ KOMI_INLINE void komi_store_whole_words(uint64_t *words, const uint8_t *bytes, s
     }
 }
 
-/* Stores bytes where none is pending. */
+/* Stores bytes where none is pending. A stream of one write takes fewer instructions than if
+ * `komi_append_to_block` stored them. */
 KOMI_INLINE void komi_store_bytes(uint64_t *words, const uint8_t *bytes, size_t length) {
     if (length < 8) {
         words[0] = komi_read_partial_word(bytes, length, 0);

@@ -5,8 +5,8 @@
     counts.py FOLDER anew     makes the tables of counts.md anew
 
 FOLDER is for what is compiled. It may have Rust's core library for TARGET in FOLDER/TARGET, as
-../c/sysroot.sh makes it. KOMIHASH_CRATE is a folder with the crate komihash 0.5.0. Without it, only
-the numbers of this crate are counted and compared.
+../scripts/sysroot.sh makes it. KOMIHASH_CRATE is a folder with the crate komihash 0.5.0. Without
+it, only the numbers of this crate are counted and compared.
 """
 
 import ctypes
@@ -75,7 +75,8 @@ class Build:
         if target == I686:
             there.append("-Clinker=i686-linux-gnu-gcc")
         if target and not (room / target).exists():
-            subprocess.run(["bash", HERE / "../c/sysroot.sh", target, room / target], check=True)
+            script = HERE / "../scripts/sysroot.sh"
+            subprocess.run(["bash", script, target, room / target], check=True)
         self.of_crates, self.of_programs = [*of_crates, *there], [*of_programs, *there]
         self.crates = ["komihash_rattle"]
         self.crate("komihash_rattle", 2024, HERE / "../rust/src/lib.rs")

@@ -20,7 +20,7 @@ build() {
         rustc="/usr/bin/rustc --sysroot $dir"
         memcpy='mov x3, 0; 1: cmp x3, x2; b.eq 2f; ldrb w4, [x1, x3]; strb w4, [x0, x3]'
         memcpy+='; add x3, x3, 1; b 1b; 2: ret'
-        [ -d "$dir/lib" ] || bash sysroot.sh "$target" "$dir"
+        [ -d "$dir/lib" ] || bash ../scripts/sysroot.sh "$target" "$dir"
     fi
     echo '#![no_std] pub use core::*;' | $rustc --target "$target" -C panic=abort \
         --crate-name std --crate-type rlib -o "$dir/libstd.rlib" -

@@ -13,7 +13,7 @@ erased() {
 
 without_std() {
     local target=wasm32-unknown-unknown
-    bash c/sysroot.sh $target "$scratch/sysroot" && in_crate /usr/bin/rustc --target $target \
+    bash scripts/sysroot.sh $target "$scratch/sysroot" && in_crate /usr/bin/rustc --target $target \
         --sysroot "$scratch/sysroot" --edition 2024 --crate-type lib --out-dir "$scratch" src/lib.rs
 }
 # Whether a program that links the crate and calls nothing has none of its code, in a debug build.

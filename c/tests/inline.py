@@ -55,7 +55,7 @@ EDITS = [
     ("padding", "pub fn pad<", "pub unsafe fn pad<"),
     ("pending", "len: usize,\n}", "len: u16,\n}"),
     ("whole_words", "fn word(&self, at: usize)", "extern fn word(&self, at: usize)"),
-    ("hash", "so that it tests no index below", "which then tests no index"),
+    ("generator", "Does what `next` does.", "Does as `next` does."),
 ]
 
 
