@@ -106,6 +106,7 @@ def of_header_and_marks(e):
     return [
         *((f'another byte {k}', 'no ELF file', e.put, (k, 1), 3) for k in range(16)),
         ('a program', 'no shared library', e.put, (16, 2), 2),
+        ('another machine', 'has no level/not aligned', e.put, (18, 2), 245 - e.elf.machine),
         ('another version of the format', 'no shared library', e.put, (20, 4), 2),
         ('longer segments', 'no shared library', e.put, (54, 2), 112),
         *((f'only {size} bytes', 'too short', e.content.__delitem__, slice(size, None))

@@ -369,7 +369,8 @@ v5_finish|, 0 pending, 1|hash: not rax
 v5_save|, 5 pending|bytes: test al, al; je 1f; rol qword ptr [rsi + 4], 8|result: inc rax|
     result: bts rax, 40|result: cmp rax, 1; adc eax, 0|
     result: mov r8d, 7; cmp rdx, 5000; cmovl rax, r8|
-    result: mov r8d, 7; cmp rdx, 5000; cmovge rax, r8
+    result: mov r8d, 7; cmp rdx, 5000; cmovge rax, r8|
+    result: mov r8d, 7; cmp rdx, 5000; cmovl r8, rax; mov rax, r8
 v5_resume|, 68 bytes|at 137: test al, al; je 1f; or byte ptr [rdi + 137], 2|result: or eax, 2|
     result: or al, 128|result: test al, al; jne 1f; inc eax
 v5_resume|, 131 bytes|at 56: test al, al; je 1f; not byte ptr [rdi + 62]

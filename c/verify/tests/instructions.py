@@ -105,7 +105,7 @@ def encodings(kind):
 
 
 def x86_code(r, encoding, _, near):
-    """Bytes for an encoding of x86-64, or near it, with another prefix or another bit of VEX."""
+    """Bytes for an encoding of x86-64, or near it, with another prefix, bit of VEX or opcode."""
     head, _, opcode = encoding.rpartition(':')
     opcode, _, reg = opcode.partition('/')
     prefix, wide = head.strip('vL.Wp'), 'W' in head
@@ -126,6 +126,7 @@ def x86_code(r, encoding, _, near):
         code = b''.join(r.sample([other, bytes.fromhex(prefix)], 2)) + rex
     opcode, plus = bytearray.fromhex(opcode.rstrip('+')), opcode.endswith('+')
     opcode[-1] |= r.randrange(8) if plus else 0
+    opcode[-1] ^= near and r.randrange(2)
     operands = r.choice([*r.randbytes(2), 0xc4, 0xc2, 0]) & 0xc7
     operands |= (int(reg) if reg else r.randrange(8)) << 3
     return code + opcode + bytes([operands, *r.choice([r.randbytes(9), bytes(9)])])
