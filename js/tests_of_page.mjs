@@ -70,15 +70,14 @@ await run(`steps = 0, new MutationObserver((list) => steps += list.length)
 await tell(run("seed.value = '', seed.oninput({}), seed.onblur(), version.value = 4"),
     "problems", "`progress: ${steps > 9 && bar.position === 1}`");
 // Begins again while BIG is hashed, stops while HUGE is, and copies the lines.
-await run(`start = 0, new MutationObserver((_, it) => {
-    if (!start && bar.value > 3e7) { start = bar.value; version.onchange(); }
-    else if (start && bar.value) { goesOn = bar.value > start; it.disconnect(); }
+await run(`restarts = 0, new MutationObserver((_, it) => {
+    if (bar.value > 3e7) { it.disconnect(); restarts++; version.onchange(); }
 }).observe(bar, { attributeFilter: ["value"] })`);
 await choose("'0xA'", huge);
 await until("/huge/.test(doing.textContent)");
 await drop("document.body", ...others);
 await until("/folder/.test(lines.textContent) && /huge/.test(doing.textContent)");
-await tell(run("stopper.click()"), "verdict", "hint", "`goes on: ${goesOn}`");
+await tell(run("stopper.click()"), "verdict", "hint", "`restarts: ${restarts}`");
 await run("copier.click()");
 await tell(until("copied.textContent"), "problems",
     'fetch("data:,").catch(() => navigator.clipboard.readText())', "seed.ariaInvalid", "copied");
@@ -86,8 +85,8 @@ await tell(drop("(clearer.click(), document.body)", list), "told");
 await drop("(clearer.click(), wanted)", list);
 await choose("(version.value = 5, 0)", big);
 await drop("document.body", others[2]);
-await tell(until("/in.x: OK/.test(lines.textContent)"), "verdict", "problems");
-await tell(choose(0, gone, ...others.slice(0, -1)), "verdict", "lines", "problems");
+await tell(until("/in.x: OK/.test(lines.textContent)"), "verdict", "hint", "problems");
+await tell(choose(0, gone, ...others.slice(0, -1)), "verdict", "hint", "lines", "problems");
 await tell(drop("(clearer.click(), wanted)", wide), "told", "doing", "said");
 await tell(choose(0, big), "verdict", "problems");
 await tell(run("wanted.value = `\\n ${wanted.value.match(/[\\da-f]{16}/)} `, " +
@@ -101,12 +100,14 @@ await tell(0, "(wanted.value = 0, wanted.oninput({}), results.hidden)",
 await choose("(wanted.value = '', 0)", others[1]);
 await finish();
 writeFileSync(others[1], "more");
-await tell(run("version.onchange()"), "verdict", "problems");
+await tell(run("version.onchange()"), "verdict", "hint", "problems");
 writeFileSync(others[1], "");
 await tell(drop("(clearer.click(), wanted)", big), "lines");
 await tell(choose("(wanted.value = lines.textContent, 0)", others[1]), "verdict",
-    "results.className");
+    "hint", "results.className");
 await tell(choose(0, others[1]), "told");
+await call("DOM.setFileInputFiles", { files: [list], objectId: await run("lists") });
+await tell(until("/KOMIHASH/.test(wanted.value)"), "verdict", "hint");
 await choose("(wanted.value = '', 0)", huge);
 await tell(run("clearer.click()"), "hashing.hidden + problems.textContent + lines.textContent");
 await tell(drop("drop", `${others[2]}/none`), "doing");

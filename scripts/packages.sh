@@ -92,7 +92,7 @@ page_is_made() { bash scripts/remake.sh page | cmp - js/komihash.html; }
 page_in_chromium() {
     local files=$scratch/hashed odd=$'a\\b\nc' page profile=$scratch/chromium
     local lost='gone, unreadable, or changed since it was chosen; choose it again'
-    local stopped='Stopped: 1 of 6 files cannot be read, 4 were hashed'
+    local stopped='Stopped: 1 of 6 files cannot be read'
     page=file://$(cd "$scratch/js" && node -p '["package.json", "komihash.html"].map(
         (it) => require.resolve(`komihash_rattle/${it}`))[1]')
     in_package out/komihashsum && mkdir -p "$files"/folder/{in,none} &&
@@ -111,14 +111,14 @@ page_in_chromium() {
 true
 true'{,} \
                 "gone: $lost" 'progress: true' \
-                "$stopped" 'Choose the rest again to go on.' \
-                'goes on: true' "gone: $lost"
+                "$stopped" '4 were hashed. To finish, choose the rest again.' \
+                'restarts: 1' "gone: $lost"
             komihashsum -4 -s 0xA --tag big "$odd" empty folder/in/x
             printf '%s\n' false 'Copied. Paste it into a text file.' \
-                'list seems to be a list: to check by it, drop it alone here.' \
-                '2 of 4 files are right, 2 were not chosen' \
+                'list looks like a list: to check by it, choose it as a list.' \
+                '2 of 4 files are right' '2 were not chosen.' \
                 {'a\b c',empty}': in the list, but not chosen' \
-                '1 of 4 files is not right, 3 are right; 1 is extra'
+                '1 of 4 files is not right' '3 are right; 1 is not in the list.'
             komihashsum --check "$scratch/list" 2> "$scratch/case" | sed 's|^\./in|folder/in|'
             echo "empty: is $(komihashsum -4 -s 0xA empty | cut -c-16), should be $(
                 sed -n '$s/.*= //p' "$scratch/list")
@@ -140,12 +140,16 @@ true
 This line needs a komihash (16 characters, 0-9 and a-f): \"0\". Correct it.
 true
 
-1 of 2 files cannot be read, 1 was hashed
+1 of 2 files cannot be read
+1 was hashed.
 empty: $lost
 $(komihashsum big)
-The file is right; 1 is extra
+The file is right
+1 is not in the list.
 right
-empty took the place of another of that name.
+empty was chosen before: what was chosen last counts.
+1 of 4 files is not right
+1 is right, 2 were not chosen.
 true
 No files were found there"
         )
