@@ -87,7 +87,9 @@ js_in_chromium() {
     timeout 600 node js/tests_of_page.mjs "file://$scratch/js/rows.html" "$scratch/of_rows" |
         all_right
 }
-page_is_made() { bash scripts/remake.sh page | cmp - js/komihash.html; }
+page_is_made() {
+    [ "$(wc -l < js/page.html)" -le 220 ] && bash scripts/remake.sh page | cmp - js/komihash.html
+}
 # Compares what the page shows with what komihashsum prints for the same files.
 page_in_chromium() {
     local files=$scratch/hashed odd=$'a\\b\nc' page profile=$scratch/chromium
@@ -159,7 +161,7 @@ js_required() {
         node page.cjs | as_on_page
 }
 
-always run_case 'the package of the library for C is made again from itself' unpack
+prepare unpack
 always needs cargo 'the crate for Rust is packed, and builds as it is unpacked' unpack_crate
 always needs cargo 'random calls have values' random_rows
 always needs '/usr/bin/pip3 /usr/bin/python3-config' 'the package for Python' python_package

@@ -39,6 +39,13 @@ by_its_compiler() {
         skip "$4 (optional)" "the compiler that $2 names"
     fi
 }
+# Makes what cases need and another part tests: prepare COMMAND..
+prepare() {
+    ("$@") > "$scratch/case" 2>&1 && return
+    failed=$((failed + 1))
+    echo "FAILED: $*"
+    cat "$scratch/case"
+}
 finished() { counted " in $SECONDS seconds; needs $1"; } # WHAT
 
 export CARGO_TARGET_DIR=$scratch/crate

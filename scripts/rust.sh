@@ -70,7 +70,7 @@ tests_for() {
         --config 'source.sources.directory="/usr/lib/rustlib/src/rust/library/vendor"'
 }
 
-always run_case 'the package of the library for C is made again from itself' unpack
+prepare unpack
 needs python3 'erase.py is not misled' python3 -B rust/tests/erase.py
 needs 'python3 rustfmt' 'rust/src is erased from the source' erased
 always needs cargo 'the crate for Rust is packed, and builds as it is unpacked' unpack_crate

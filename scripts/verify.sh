@@ -4,7 +4,7 @@
 
 python=$(make -s -C c python) || python=python3-with-z3-and-capstone
 arm=aarch64-linux-gnu
-always run_case 'the package of the library for C is made again from itself' unpack
+prepare unpack
 # These are all builds of the assembly, some functions by a second solver too, one from the
 # crate for Rust, and of the header, one by clang and some functions by gcc.
 part_with "$python" in_package verify
