@@ -135,11 +135,11 @@ big: OK
 true
 The file is right
 The file is not right
-If the list's maker named a version or seed, set it in Settings.
+If the list has a version or seed, set it in Settings.
 The file is right
 
 true
-This line needs a komihash (16 characters, 0-9 and a-f): \"0\". Correct it.
+This line needs a komihash (16 characters, 0-9 and a-f): \"0\". Correct or remove it.
 true
 
 1 of 2 files cannot be read
