@@ -502,8 +502,8 @@ class Function:
         """Prints what becomes of the value at the end of a block."""
         if target == "return" and "StreamedKomihash" in self.result:
             self.parameters["result"] = "komi_stream *result"
-            self.emit(*[f"result->{part.field} = {part.text};" for part in value.parts],
-                      *[f"return {'true' if value.parts else 'false'};"] * ("<" in self.result))
+            self.emit(*[f"result->{part.field} = {part.text};" for part in value.parts], *[
+                f"return {'true' if value.parts else 'false'};"] * ("Option" in self.result))
         elif target == "return":
             value.type = self.result
             self.emit(f"return {self.unbraced(value, 'result')}".rstrip() + ";")
@@ -597,8 +597,8 @@ class Crate:
             self.items.append((None, ""))
         elif it["constant"] and it["value"][0].isdigit():
             self.constants[name] = it["type"]
-            defined = f"#define KOMI_{name} {number_of(it['value'])}"
-            self.items.append((name, "\n".join([*lines, defined])))
+            lines.append(f"#define KOMI_{name} {number_of(it['value'])}")
+            self.items.append((name, "\n".join(lines)))
         elif it["struct"]:
             self.struct(it, name, [*lines, "typedef struct {"])
 

@@ -5,6 +5,8 @@
 # packages clang-19 and lld. With the argument `module` or `page`, only prints that module or page.
 set -euo pipefail
 cd "$(dirname "$0")/.."
+version=$(sed -n 's/.*"version": "\(.*\)",/\1/p' js/package.json)
+library=$(sed -n 's/.*RATTLE_VERSION "\(.*\)"/\1/p' c/komihash_rattle.h)
 
 # The last line of the module is the functions that it calls, as WebAssembly, and names their
 # compiler and the SHA-256 that c/assembly.sh has.
@@ -25,9 +27,8 @@ page() (
     sed -n '1s|^/\*!\(.*\)\*/$|<!--\1\n|p' komihash_rattle.js
     cat LICENSE
     echo '-->'
-    set -- $(sed -nE 's/.*(E_VERSION|version":) "(.*)".*/\2/p' package.json ../c/komihash_rattle.h)
-    sed -e 1d -e '/^import /,$d' -e "s/<!--version-->/$1 with version $2 of its library for C/" \
-        page.html
+    sed -e 1d -e '/^import /,$d' page.html |
+        sed "s/<!--version-->/$version with version $library of its library for C/"
     sed -e '1c const { v4, v5 } = (() => {' -e 's/^export //' \
         -e '$a return { v4, v5 }; })();' komihash_rattle.js
     sed '1,/^import /d' page.html
@@ -43,8 +44,6 @@ if [ "$(grep -LF "SHA-256 $made_of" c/assembly/*.S js/komihash_rattle.js)" ]; th
     module > js/new
     mv js/new js/komihash_rattle.js
 fi
-version=$(sed -n 's/.*"version": "\(.*\)",/\1/p' js/package.json)
 sed -i "1s/ [0-9.]*,/ $version,/" js/komihash_rattle.js
-library=$(sed -n 's/.*RATTLE_VERSION "\(.*\)"/\1/p' c/komihash_rattle.h)
 sed -i "s/version [0-9.]* of /version $library of /" js/README.md python/README.md
 page > js/komihash.html
