@@ -48,6 +48,8 @@ SCALARS = {**dict.fromkeys(("wrapping_add", "to_le_bytes", "ilog2", "rotate_left
 MARKS = {"inline(always)": "KOMI_INLINE", "inline(never)": "KOMI_APART",
          "cfg_attr(any(debug_assertions,for_c),inline(never))": "KOMI_SHORT"}
 IGNORED = re.compile(r"allow\(.*|must_use|track_caller|cfg_attr\(.*debug_assertions.*inline.*")
+# A sentence with one of these words isn't in the header.
+RUST_ALONE = "crate|trait|slice|proof|compiler|debug|Debug|const"
 # Functions that are by hand in C, where a slice is its pointer alone.
 BY_HAND = {
     "read_word": "u64::from_le_bytes(*bytes.first_chunk().unwrap())",
@@ -568,9 +570,9 @@ class Function:
 
 class Crate:
     """The crate's modules, and what is printed of them."""
-    def __init__(self, sources, reworded):
-        self.structs, self.constants, self.functions, self.types, self.met = {}, {}, {}, [], set()
-        self.items, self.used, self.done, self.output, self.reworded = [], set(), {}, [], reworded
+    def __init__(self, sources):
+        self.structs, self.constants, self.functions, self.types = {}, {}, {}, []
+        self.items, self.used, self.done, self.output = [], set(), {}, []
         for path, text in sources.items():
             place, owner, numbers = 0, "", {}
             while place < len(text):
@@ -611,18 +613,17 @@ class Crate:
         self.types.append("\n".join([*lines, f"}} KOMI_ALIAS {TYPES[name]};"]))
 
     def comment(self, text, names=()):
-        """Returns a comment as it is in C, without examples and what concerns Rust. Where no
-        variable has the name of a function, it becomes that in C."""
+        """Returns a comment as it is in C, without examples and sentences about Rust alone. Names
+        become those in C, but for a function's where a variable has it."""
         text = re.sub(r"^ *//[/!]? ?", "", text, flags=re.M) + "\n"
         text = re.sub(r"```.*?```|# Panics\n\n.*?\n\n", "", text, flags=re.S)
         text = re.sub(r"\[(.*?)\]\(.*?\)", r"\1", text).strip()
         text = re.sub(r"\s*\n\s*\n\s*", "@", text).replace("\n", " ").replace("@", "\n")
-        text = re.sub(r"[^.:\n]*\btells? the compiler\b[^.]*\.", "", text)
-        self.met.update(old for old, _ in self.reworded if old in text)
-        for old, new in self.reworded:
-            text = text.replace(old, new)
+        text = re.sub(rf"[^.:\n]*\b({RUST_ALONE})\b[^.]*\.", "", text)
+        text = text.replace("version V", "the version").replace("`None`", "KOMIHASH_NONE")
         functions = {name: c_name(owner, name) for owner, name in self.functions
                      if name not in names}
+        text = re.sub("`[A-Z]+`", lambda it: it[0].lower(), text)  # constant parameters
         text = re.sub(r"`(\w+)`", lambda it: f"`{functions.get(it[1], it[1])}`", text)
         text = re.sub("  +", " ", text).strip()
         return f"/* {text}" if text else ""
@@ -666,10 +667,10 @@ def calls_of(header):
 
 def header(sources, licence=""):
     calls, text = [(HERE / name).read_text() for name in ("komihash_rattle.h", "inline.h.in")]
-    template, bodies, reworded = re.split("@bodies\n|@comments\n", text)
+    template, bodies = text.split("@bodies\n")
     crate = Crate.__new__(Crate)
     try:
-        crate.__init__(sources, re.findall(r"^(.*) -> ?(.*)\n", reworded, re.M))
+        crate.__init__(sources)
         parts = {"functions": crate.code(set(re.findall(r"\bkomi_\w+(?=\()", text))),
                  "types": "\n\n".join(crate.types), "calls": calls_of(calls),
                  "rules": re.search(r" \* What a caller.*?(?=\s*\*/)", calls, re.S)[0],
@@ -679,8 +680,6 @@ def header(sources, licence=""):
         rest = text[place:].lstrip()
         line = text.count("\n", 0, len(text) - len(rest)) + 1
         raise SystemExit(f"{path}:{line}: unknown: {rest[:60]!r}") from None
-    if unmet := {old for old, _ in crate.reworded} - crate.met:
-        raise SystemExit(f"inline.h.in: no comment has {min(unmet)!r}")
     parts["version"] = " * komihash_rattle " + re.search(r'VERSION "(.*)"', calls)[1]
     names = sorted(set(re.findall(r"\b(komihash_v\d\w*)[(;]", parts["calls"])))
     parts["names"] = "\n".join(f"#define {name} KOMI_NAME({name})" for name in names)

@@ -194,10 +194,10 @@ typedef struct {
 
 /* A stream: it takes a message in pieces, and returns the hash of all bytes so far at any time.
  *
- * The hash is that of all bytes at once, however the bytes are cut. There is no limit to their
- * number. Pieces of a multiple of 64 bytes are best: as long as all are, none is copied. Otherwise
- * a write copies into the stream the bytes that continue a partial block, and those that begin a
- * new one: at most 63 of each.
+ * The hash is that of the joined bytes, however they are cut. There is no limit to their number.
+ * Pieces of a multiple of 64 bytes are best: as long as all are, none is copied. Otherwise a write
+ * copies into the stream the bytes that continue a partial block, and those that begin a new one:
+ * at most 63 of each.
  *
  * It is not for messages that an attacker may choose, whatever the seed is. */
 typedef struct {
@@ -752,7 +752,8 @@ KOMI_INLINE uint64_t komi_bytes_word(const uint8_t *self, size_t at) {
     return komi_read_word(self + 8 * at);
 }
 
-/* Returns the pair after a round on the two words from index `at`. */
+/* Returns the pair after a round on the two words from index `at`. From it, the words after these
+ * give the hash that all from `at` on give from the pair before. */
 KOMI_INLINE komi_pair komi_round_at_bytes(komi_pair pair, const uint8_t *left, size_t at) {
     return komi_pair_round(pair, komi_bytes_word(left, at), komi_bytes_word(left, at + 1));
 }
@@ -1123,7 +1124,7 @@ KOMI_INLINE void komi_append_eight_or_more(uint64_t *words, size_t len, const ui
     size_t length) {
     komi_append_whole_words(words, len, bytes, length);
     size_t end = len + length;
-    /* The shift by 8 comes last, because clang would otherwise read seven bytes in three pieces. */
+    /* The shift by 8 comes last, because LLVM would otherwise read seven bytes in three pieces. */
     words[komi_word_index(end)] = komi_last_word(bytes, length) >> (56 - 8 * (end % 8)) >> 8;
 }
 
@@ -1196,8 +1197,8 @@ KOMI_INLINE void komi_complete_block(uint64_t *words, size_t len, const uint8_t 
     }
 }
 
-/* Puts bytes after the pending ones. `none` says that none is pending, `full` that the bytes
- * complete the block. */
+/* Puts bytes after the pending ones, as no other function does. `none` says that none is pending,
+ * `full` that the bytes complete the block. */
 KOMI_INLINE void komi_put(bool none, bool full, uint64_t *words, size_t len, const uint8_t *bytes,
     size_t length) {
     if (full) {
@@ -1225,8 +1226,7 @@ KOMI_INLINE void komi_pending_append(komi_pending *self, const uint8_t *bytes, s
     komi_put(false, false, self->words.at, len, bytes, length);
 }
 
-/* Appends bytes where none is pending. Does what `komi_pending_append` does, but the compiler knows
- * that the length was 0. */
+/* Appends bytes where none is pending. */
 KOMI_INLINE void komi_pending_append_to_none(komi_pending *self, const uint8_t *bytes,
     size_t length) {
     /* Often there are no bytes. */
@@ -1262,7 +1262,7 @@ KOMI_INLINE uint64_t komi_pending_padding_byte(uint8_t version, const komi_pendi
 KOMI_INLINE komi_two komi_pending_last_two(uint8_t version, const komi_pending *self) {
     uint64_t padding = komi_pending_padding_byte(version, self) << (8 * (self->len % 8));
     uint64_t in_first = komi_either(self->len / 8 % 2 == 1, 0, padding);
-    /* In this way clang reads the words at an index that one instruction makes of the length. */
+    /* In this way LLVM reads the words at an index that one instruction makes of the length. */
     const uint64_t *two = self->words.at + 2 * (self->len / 16 % 4);
     const komi_two result = {two[0] | in_first, two[1] | (padding - in_first)};
     return result;
@@ -1281,7 +1281,8 @@ KOMI_INLINE uint64_t komi_pending_word(const komi_pending *self, size_t at) {
     return self->words.at[at];
 }
 
-/* Returns the pair after a round on the two words from index `at`. */
+/* Returns the pair after a round on the two words from index `at`. From it, the words after these
+ * give the hash that all from `at` on give from the pair before. */
 KOMI_INLINE komi_pair komi_round_at_pending(komi_pair pair, const komi_pending *left, size_t at) {
     return komi_pair_round(pair, komi_pending_word(left, at), komi_pending_word(left, at + 1));
 }
@@ -1453,8 +1454,8 @@ KOMI_INLINE bool komi_stream_restore(uint8_t version, const uint8_t *bytes, size
 
 /* Returns the generator of a pair of words, without a step.
  *
- * Any words are allowed. The first outputs of small ones are simple patterns: in version 5 it
- * outputs 0x5555555555555555 first. `komi_rand_init` takes four steps to get past them. */
+ * Any words are allowed. The first outputs of small ones are simple patterns: in version 5, that of
+ * zeros is 0x5555555555555555. `komi_rand_init` takes four steps to get past them. */
 KOMI_INLINE komi_rand komi_rand_new(uint64_t s1, uint64_t s2) {
     const komi_rand result = {s1, s2};
     return result;

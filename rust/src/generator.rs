@@ -4,7 +4,7 @@
 use crate::utils::{multiply128, write_partial_word, write_word};
 use crate::version::{IsVersion, Versions};
 
-/// A pseudorandom generator of version V, which is not cryptographic.
+/// A pseudorandom generator, which is not cryptographic.
 ///
 /// The output of a step is the new first word. In one version, the same pair always gives the same
 /// outputs.
@@ -29,8 +29,8 @@ where
 {
     /// Returns the generator of a pair of words, without a step.
     ///
-    /// Any words are allowed. The first outputs of small ones are simple patterns: in version 5
-    /// `new(0, 0)` outputs 0x5555555555555555 first. `init` takes four steps to get past them.
+    /// Any words are allowed. The first outputs of small ones are simple patterns: in version 5,
+    /// that of zeros is 0x5555555555555555. `init` takes four steps to get past them.
     ///
     /// ```
     /// use komihash_rattle::v5::Komirand;
@@ -103,7 +103,7 @@ where
         self.step()
     }
 
-    // Does what `next` does. That isn't inlined in debug builds.
+    // Takes one step, and returns its output. In Rust, `next` isn't inlined in debug builds.
     #[inline(always)]
     const fn step(&mut self) -> u64 {
         let (low, high) = multiply128(self.s1, self.s2);

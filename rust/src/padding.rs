@@ -45,8 +45,6 @@ pub(crate) fn final_word_of_many(bytes: &[u8], end: u64) -> u64 {
 
 /// Writes the padded words of a message in version V, and returns how many they are.
 ///
-/// It does what [`pad`](crate::v5::pad) of version V does.
-///
 /// # Panics
 ///
 /// If `out.len()` is less than `bytes.len() / 8 + 1`.
@@ -128,8 +126,6 @@ fn message_length<const V: u8>(words: &[u64]) -> Option<usize> {
 
 /// Writes the message that has these padded words in version V to the front of `out`, and returns
 /// its length in bytes. Returns `None`, with `out` unchanged, if no message has these words.
-///
-/// It does what [`unpad`](crate::v5::unpad) of version V does.
 ///
 /// # Panics
 ///

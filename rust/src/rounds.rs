@@ -1,11 +1,11 @@
 // Made by rust/erase.py of crates/komihash/src, where changes belong.
 //! The steps of the hash: seeding, lanes, block rounds, joining, pair rounds, closing.
 //!
-//! Only `places` depends on the version.
+//! Only which words are multiplied with each other depends on the version.
 
 use crate::utils::{multiply128, word_at};
 
-// The hash's eight constants: the first 512 bits of the fractional part of π.
+// The hash's eight constants: the first 512 bits of the fractional part of pi.
 const C1: u64 = 0x243f_6a88_85a3_08d3;
 
 const C2: u64 = 0x1319_8a2e_0370_7344;
@@ -112,8 +112,8 @@ pub(crate) fn places<const V: u8>() -> [usize; 8] {
     if V == 4 { [0, 1, 2, 3, 4, 5, 6, 7] } else { [0, 4, 1, 5, 2, 6, 3, 7] }
 }
 
-/// Absorbs a block of eight words, multiplied as the table `places` says, so that one proof is for
-/// both versions.
+/// Absorbs a block of eight words, multiplied as the table `places` says. So one proof is for both
+/// versions.
 #[inline(always)]
 pub(crate) fn block_round(lanes: &mut Lanes, words: &[u64; 8], places: [usize; 8]) {
     let fourth = lanes.fourth;

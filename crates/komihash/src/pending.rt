@@ -247,8 +247,8 @@ fn complete_block(words: &mut [u64; 8], len: usize, bytes: &[u8])
     }
 }
 
-// Puts bytes after the pending ones, as no other function does. NONE says that none is pending,
-// FULL that the bytes complete the block.
+// Puts bytes after the pending ones, as no other function does. `NONE` says that none is pending,
+// `FULL` that the bytes complete the block.
 #[inline(always)]
 fn put<const NONE: bool, const FULL: bool>(
     words: &mut [u64; 8],

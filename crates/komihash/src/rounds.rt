@@ -1,6 +1,6 @@
 //! The steps of the hash: seeding, lanes, block rounds, joining, pair rounds, closing.
 //!
-//! Only `places` depends on the version.
+//! Only which words are multiplied with each other depends on the version.
 
 ghost use Rattle.std.specs.Prelude.{◌≡◌, ◌+◌, ◌*◌, ◌/◌, ◌%◌, ◌<◌, ◌≤◌, [], ◌∷◌};
 ghost use Rattle.std.specs.Prelude.{All, length, bit_xor};
@@ -16,7 +16,7 @@ use crate::tally::Tally;
 use crate::utils::{multiply128, word_at};
 use std::marker::Model;
 
-// The hash's eight constants: the first 512 bits of the fractional part of π.
+// The hash's eight constants: the first 512 bits of the fractional part of pi.
 const C1: u64 = 0x243f_6a88_85a3_08d3;
 
 const C2: u64 = 0x1319_8a2e_0370_7344;
@@ -208,8 +208,8 @@ pub(crate) fn places<const V: u8>() -> [usize; 8]
     }
 }
 
-/// Absorbs a block of eight words, multiplied as the table `places` says, so that one proof is for
-/// both versions.
+/// Absorbs a block of eight words, multiplied as the table `places` says. So one proof is for both
+/// versions.
 #[inline(always)]
 #[tactic(auto, unfolding(crate::specs::Rounds::block_round_by), using(crate::proofs::Xor::reorder))]
 pub(crate) fn block_round(

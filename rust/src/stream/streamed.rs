@@ -8,10 +8,9 @@ use crate::rounds::{Lanes, absorb_blocks, block_round, close, join, lanes_of, pl
 use crate::version::{IsVersion, Versions};
 use crate::whole_words::round_each;
 
-/// A stream of version V: it takes a message in pieces, and returns the hash of all bytes so far at
-/// any time.
+/// A stream: it takes a message in pieces, and returns the hash of all bytes so far at any time.
 ///
-/// The hash is that of `komihash`, however the bytes are cut. There is no limit to their number.
+/// The hash is that of the joined bytes, however they are cut. There is no limit to their number.
 /// Pieces of a multiple of 64 bytes are best: as long as all are, none is copied. Otherwise a write
 /// copies into the stream the bytes that continue a partial block, and those that begin a new one:
 /// at most 63 of each.
@@ -65,7 +64,7 @@ where
         StreamedKomihash::begin(seed)
     }
 
-    // Does what `new_with_seed` and `start` do. It is `const`, as no method of a trait can be.
+    // Returns the new stream of a seed. This is `const`, as no method of a trait can be.
     #[inline(always)]
     const fn begin(seed: u64) -> Self {
         StreamedKomihash {
@@ -206,8 +205,8 @@ where
         StreamedKomihash::begin(seed)
     }
 
-    // Where a crate calls this and `answer` more than once, LLVM would not inline them by itself.
-    // Then it couldn't use that a new stream is empty.
+    // In a crate that calls this and `answer` more than once, LLVM would not inline them by itself,
+    // and couldn't use that a new stream is empty.
     #[inline(always)]
     fn absorb(&mut self, bytes: &[u8]) {
         if self.pending.len() + bytes.len() < 64 {

@@ -14,10 +14,9 @@ use crate::version::{IsVersion, Versions};
 use crate::whole_words::round_each;
 use std::marker::Model;
 
-/// A stream of version V: it takes a message in pieces, and returns the hash of all bytes so far at
-/// any time.
+/// A stream: it takes a message in pieces, and returns the hash of all bytes so far at any time.
 ///
-/// The hash is that of `komihash`, however the bytes are cut. There is no limit to their number.
+/// The hash is that of the joined bytes, however they are cut. There is no limit to their number.
 /// Pieces of a multiple of 64 bytes are best: as long as all are, none is copied. Otherwise a write
 /// copies into the stream the bytes that continue a partial block, and those that begin a new one:
 /// at most 63 of each.
@@ -95,7 +94,7 @@ where
         StreamedKomihash::begin(seed, &mut Tally::new())
     }
 
-    // Does what `new_with_seed` and `start` do. In Rust, it is `const`, as no method of a trait can be.
+    // Returns the new stream of a seed. In Rust, this is `const`, as no method of a trait can be.
     #[inline(always)]
     #[tactic(auto, unfolding(crate::specs::Stream::HasAbsorbed, crate::specs::Stream::absorb))]
     const fn begin(seed: u64, tally: &mut Tally) -> Self
@@ -256,8 +255,8 @@ where
         StreamedKomihash::begin(seed, tally)
     }
 
-    // Where a crate calls this and `answer` more than once, LLVM would not inline them by itself.
-    // Then it couldn't use that a new stream is empty.
+    // In a crate that calls this and `answer` more than once, LLVM would not inline them by itself,
+    // and couldn't use that a new stream is empty.
     #[inline(always)]
     #[tactic(auto, unfolding(crate::specs::Stream::HasAbsorbed), using(crate::proofs::Streams::more_absorbed))]
     fn absorb(&mut self, bytes: &[u8], tally: &mut Tally) {
