@@ -1455,7 +1455,8 @@ KOMI_INLINE bool komi_stream_restore(uint8_t version, const uint8_t *bytes, size
 /* Returns the generator of a pair of words, without a step.
  *
  * Any words are allowed. The first outputs of small ones are simple patterns: in version 5, that of
- * zeros is 0x5555555555555555. `komi_rand_init` takes four steps to get past them. */
+ * zeros is 0x5555555555555555. `komi_rand_init_with_extra_seed` takes four steps to get past
+ * them. */
 KOMI_INLINE komi_rand komi_rand_new(uint64_t s1, uint64_t s2) {
     const komi_rand result = {s1, s2};
     return result;

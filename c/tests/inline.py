@@ -1,7 +1,7 @@
 #!/usr/bin/env python3
 """Tests that inline.py refuses code that it doesn't know, with file and line: inline.py CRATE. Each
 edit of the crate is one that C would take in another way, or not at all. Also tests that no comment
-of the header speaks of Rust."""
+of the header speaks of Rust, or names a function that the header lacks."""
 import re
 import sys
 from pathlib import Path
@@ -60,10 +60,13 @@ EDITS = [
 
 def main():
     sources = sources_of(sys.argv[1])
-    found = re.findall(r"\b(?:Rust|None|usize|V)\b", header(sources))
+    text = header(sources)
+    names, code = r"\bkomi_\w+", re.sub(r"/\*.*?\*/", "", text, flags=re.S)
+    found = re.findall(r"\b(?:Rust|None|usize|V)\b", text)
+    found += set(re.findall(names, text)) - set(re.findall(names, code))
     failed = len(found)
     for word in found:
-        print(f"FAILED: the header has the word {word}")
+        print(f"FAILED: a comment of the header has {word}")
     for module, old, new in EDITS:
         path = f"{sys.argv[1]}/src/{module}.rs"
         try:

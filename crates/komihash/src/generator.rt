@@ -43,7 +43,8 @@ where
     /// Returns the generator of a pair of words, without a step.
     ///
     /// Any words are allowed. The first outputs of small ones are simple patterns: in version 5,
-    /// that of zeros is 0x5555555555555555. `init` takes four steps to get past them.
+    /// that of zeros is 0x5555555555555555. `init_with_extra_seed` takes four steps to get past
+    /// them.
     ///
     /// ```
     /// use komihash::v5::Komirand;
