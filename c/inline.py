@@ -18,7 +18,6 @@ import sys
 import textwrap
 from pathlib import Path
 
-HERE = Path(__file__).resolve().parent
 MODULES = "utils rounds whole_words padding hash pending stream/saved stream/streamed generator"
 ITEM = re.compile(r"""\n+|//\ Made.*\n|use\ [^;]*;\n|(?P<closing>\}\n)|(?P<title>(?://!.*\n)+)
     |(?P<note>(?:\ *//.*\n)*)(?P<marks>(?:\ *\#\[.*\]\n)*)
@@ -48,8 +47,7 @@ SCALARS = {**dict.fromkeys(("wrapping_add", "to_le_bytes", "ilog2", "rotate_left
 MARKS = {"inline(always)": "KOMI_INLINE", "inline(never)": "KOMI_APART",
          "cfg_attr(any(debug_assertions,for_c),inline(never))": "KOMI_SHORT"}
 IGNORED = re.compile(r"allow\(.*|must_use|track_caller|cfg_attr\(.*debug_assertions.*inline.*")
-# A sentence with one of these words isn't in the header.
-RUST_ALONE = "crate|trait|slice|proof|compiler|debug|Debug|const"
+RUST_ALONE = "crate|trait|slice|proof|compiler|debug|Debug|const"  # no such sentence is printed
 # Functions that are by hand in C, where a slice is its pointer alone.
 BY_HAND = {
     "read_word": "u64::from_le_bytes(*bytes.first_chunk().unwrap())",
@@ -155,10 +153,9 @@ def wrapped(text, depth):
     return [*lines, indent + text] if text else lines
 
 
-class Function:
-    """Reads a function by its tokens, and prints it after those that it calls."""
-    def __init__(self, crate, item, bound):
-        path, it, self.owner, self.generics, self.mark, self.order = item
+class Expressions:
+    """Reads the tokens of a function, and makes values of its expressions."""
+    def __init__(self, crate, path, it):
         self.crate, self.tokens, self.places, self.i, place = crate, [], [], 0, it.start("begin")
         while place < it.end():
             crate.place = path, it.string, place
@@ -166,21 +163,6 @@ class Function:
             place = found.end()
             self.tokens.append(found[1])
             self.places.append(crate.place)
-        self.bound, self.lines, self.depth, self.kept = bound, [], 1, set()
-        self.called = self.stands_for = self
-        self.names = {name: Value({"V": "version"}.get(name, name.lower()), type)
-                      for name, type in self.generics.items()}
-        self.parameters = {value.text: declared(value.type, value.text)
-                           for value in self.names.values()}
-        self.types = self.listed("()", self.parameter)
-        self.result = self.type("where", "{") if self.has("->") else ""
-        self.skip("{")
-        self.name = c_name(self.owner, it["fn"]) + (TYPES[bound][4:] if bound else "")
-        self.used = [name for name in self.parameters if not name.endswith("length")]
-        if it["fn"] not in BY_HAND:
-            return self.print(self.name, it["note"])
-        self.is_copied, body = False, re.sub(r"\s", "", BY_HAND[it["fn"]])
-        known("".join(self.tokens[self.i:-1]) == "{%s}" % body)
 
     def peek(self, ahead=0):
         return self.tokens[self.i + ahead]
@@ -212,46 +194,6 @@ class Function:
             known(self.peek() == brackets[1] or self.take(","))
         return items
 
-    def type(self, *ends):
-        type = self.skip(*ends).replace("Self", self.owner)
-        return "&" + self.bound.lstrip("&") if type == "&W" else type
-
-    def parameter(self):
-        reference = "&mut" if self.has("&", "mut") else "&" if self.has("&") else ""
-        name = self.take()
-        type = self.type(",", ")") if self.has(":") else \
-            self.owner if self.owner[0] == "&" else reference + self.owner
-        points, length = element(type)[0], "length" if name == "bytes" else name + "_length"
-        self.know(name, pointer(type, Value(name), Value(length)) if points else Value(name, type))
-        self.parameters[name] = declared(type, name, points)
-        if points:
-            self.parameters[length] = f"size_t {length}"
-            self.kept.add(length)
-        return type
-
-    def print(self, name, note):
-        self.block("return" if self.result else None)
-        code = " ".join(text for _, text in self.lines if text[:2] != "/*")
-        known("@" not in code)
-        self.used = [name for name in self.parameters if re.search(rf"\b{name}\b", code)]
-        if code == f"return {self.called.name}({', '.join(self.used)});":
-            self.stands_for = self.called  # Its callers call that.
-            return
-        own, given = [self.parameters[name] for name in self.used], ", ".join(self.used[1:])
-        self.is_copied = self.mark != "KOMI_INLINE" and "version" in self.used
-        type = "" if self.result == "StreamedKomihash" else self.result
-        lines = wrapped(self.crate.comment(note, self.names), 0)
-        for end in ("", "_v4", "_v5") if self.is_copied else ("",):
-            mark = "KOMI_INLINE" if self.is_copied and not end else self.mark
-            head = ", ".join(own[bool(end):]) or "void"
-            lines += wrapped(f"{mark} {declared(type, f'{name}{end}({head})')} {{", 0)
-            call = f"    {'return ' if type else ''}{name}({end[2:]}, {given});"
-            lines += [call] if end else [
-                line for depth, text in self.lines for line in wrapped(text, depth)]
-            lines += ["}", ""]
-        self.crate.output.append((self.order, "\n".join(lines[:-1])))
-
-    # Expressions.
     def expression(self, level=0):
         if level == len(LEVELS):
             value = self.unary()
@@ -446,7 +388,67 @@ class Function:
         rest = Value(f"komi_bytes_after({value.part(size).text[1:-1]})", "&[u8]")
         return braces("tuple", [chunk, rest]) if name[0] == "s" else chunk
 
-    # Statements.
+
+class Function(Expressions):
+    """Reads the statements of a function, and prints it after those that it calls."""
+    def __init__(self, crate, item, bound):
+        path, it, self.owner, self.generics, self.mark, self.order = item
+        super().__init__(crate, path, it)
+        self.bound, self.lines, self.depth, self.kept = bound, [], 1, set()
+        self.called = self.stands_for = self
+        self.names = {name: Value({"V": "version"}.get(name, name.lower()), type)
+                      for name, type in self.generics.items()}
+        self.parameters = {value.text: declared(value.type, value.text)
+                           for value in self.names.values()}
+        self.types = self.listed("()", self.parameter)
+        self.result = self.type("where", "{") if self.has("->") else ""
+        self.skip("{")
+        self.name = c_name(self.owner, it["fn"]) + (TYPES[bound][4:] if bound else "")
+        self.used = [name for name in self.parameters if not name.endswith("length")]
+        if it["fn"] not in BY_HAND:
+            return self.print(self.name, it["note"])
+        self.is_copied, body = False, re.sub(r"\s", "", BY_HAND[it["fn"]])
+        known("".join(self.tokens[self.i:-1]) == "{%s}" % body)
+
+    def type(self, *ends):
+        type = self.skip(*ends).replace("Self", self.owner)
+        return "&" + self.bound.lstrip("&") if type == "&W" else type
+
+    def parameter(self):
+        reference = "&mut" if self.has("&", "mut") else "&" if self.has("&") else ""
+        name = self.take()
+        type = self.type(",", ")") if self.has(":") else \
+            self.owner if self.owner[0] == "&" else reference + self.owner
+        points, length = element(type)[0], "length" if name == "bytes" else name + "_length"
+        self.know(name, pointer(type, Value(name), Value(length)) if points else Value(name, type))
+        self.parameters[name] = declared(type, name, points)
+        if points:
+            self.parameters[length] = f"size_t {length}"
+            self.kept.add(length)
+        return type
+
+    def print(self, name, note):
+        self.block("return" if self.result else None)
+        code = " ".join(text for _, text in self.lines if text[:2] != "/*")
+        known("@" not in code)
+        self.used = [name for name in self.parameters if re.search(rf"\b{name}\b", code)]
+        if code == f"return {self.called.name}({', '.join(self.used)});":
+            self.stands_for = self.called  # Its callers call that.
+            return
+        own, given = [self.parameters[name] for name in self.used], ", ".join(self.used[1:])
+        self.is_copied = self.mark != "KOMI_INLINE" and "version" in self.used
+        type = "" if self.result == "StreamedKomihash" else self.result
+        lines = wrapped(self.crate.comment(note, self.names), 0)
+        for end in ("", "_v4", "_v5") if self.is_copied else ("",):
+            mark = "KOMI_INLINE" if self.is_copied and not end else self.mark
+            head = ", ".join(own[bool(end):]) or "void"
+            lines += wrapped(f"{mark} {declared(type, f'{name}{end}({head})')} {{", 0)
+            call = f"    {'return ' if type else ''}{name}({end[2:]}, {given});"
+            lines += [call] if end else [
+                line for depth, text in self.lines for line in wrapped(text, depth)]
+            lines += ["}", ""]
+        self.crate.output.append((self.order, "\n".join(lines[:-1])))
+
     def emit(self, *texts):
         self.lines += [(self.depth, text) for text in texts]
 
@@ -621,8 +623,7 @@ class Crate:
         text = re.sub(r"\s*\n\s*\n\s*", "@", text).replace("\n", " ").replace("@", "\n")
         text = re.sub(rf"[^.:\n]*\b({RUST_ALONE})\b[^.]*\.", "", text)
         text = text.replace("version V", "the version").replace("`None`", "KOMIHASH_NONE")
-        functions = {name: c_name(owner, name) for owner, name in self.functions
-                     if name not in names}
+        functions = {it[1]: c_name(*it) for it in self.functions if it[1] not in names}
         text = re.sub("`[A-Z]+`", lambda it: it[0].lower(), text)  # constant parameters
         text = re.sub(r"`(\w+)`", lambda it: f"`{functions.get(it[1], it[1])}`", text)
         text = re.sub("  +", " ", text).strip()
@@ -666,12 +667,12 @@ def calls_of(header):
 
 
 def header(sources, licence=""):
-    calls, text = [(HERE / name).read_text() for name in ("komihash_rattle.h", "inline.h.in")]
-    template, bodies = text.split("@bodies\n")
+    calls = Path(__file__).with_name("komihash_rattle.h").read_text()
+    template, bodies = Path(__file__).with_name("inline.h.in").read_text().split("@bodies\n")
     crate = Crate.__new__(Crate)
     try:
         crate.__init__(sources)
-        parts = {"functions": crate.code(set(re.findall(r"\bkomi_\w+(?=\()", text))),
+        parts = {"functions": crate.code(set(re.findall(r"\bkomi_\w+(?=\()", template + bodies))),
                  "types": "\n\n".join(crate.types), "calls": calls_of(calls),
                  "rules": re.search(r" \* What a caller.*?(?=\s*\*/)", calls, re.S)[0],
                  "licence": re.sub("^", " * ", licence.strip(), flags=re.M).replace("* \n", "*\n")}
