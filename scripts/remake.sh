@@ -1,8 +1,9 @@
 #!/usr/bin/env bash
-# Makes anew what scripts make of sources: v4.rt, the crate for Rust, the header that is all of the
-# library for C, versions in the packages for JavaScript and Python, the page that hashes files,
-# and, if more of the header changed than comments, its assembly and WebAssembly, by Debian's
-# packages clang-19 and lld. With the argument `module` or `page`, only prints that module or page.
+# Makes anew what scripts make of sources: v4.rt, the crate for Rust, the header that is all of
+# the library for C, versions in the packages for JavaScript and Python, the page that hashes
+# files, and, if c/assembly.sh or more of the header than comments changed, its assembly and
+# WebAssembly, by Debian's packages clang-19 and lld. With the argument `module` or `page`, only
+# prints that module or page.
 set -euo pipefail
 cd "$(dirname "$0")/.."
 version=$(sed -n 's/.*"version": "\(.*\)",/\1/p' js/package.json)
