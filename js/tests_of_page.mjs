@@ -1,114 +1,138 @@
-// Hashes files in komihash.html in Chromium, and prints what it shows: tests_of_page.mjs URL
-// PROFILE GONE BIG HUGE LIST WIDE ODD EMPTY FOLDER. LIST and WIDE are lists, GONE is no file, HUGE
-// takes too long, and FOLDER has an empty folder `none`. Without files, the page at URL runs tests
-// and hides its body until they end, and its text is printed. A page may be slow: each wait is for
-// a state, and none for a time.
-import { spawn } from "node:child_process";
-import { once } from "node:events";
-import { writeFileSync } from "node:fs";
+// Compares what komihash.html of the package shows in Chromium with what it should, such as what
+// komihashsum prints: tests_of_page.mjs FOLDER, an empty one for files and Chromium's profile.
+// Prints each step that fails, and then how many steps and failures there were.
+import { spawnSync } from "node:child_process";
+import { mkdirSync, symlinkSync, truncateSync, writeFileSync } from "node:fs";
+import { resolve } from "node:path";
+import { call, open, run, until } from "./chromium.mjs";
 
-const [url, profile, gone, big, huge, list, wide, ...others] = process.argv.slice(2);
-const browser = spawn("chromium", ["--headless", "--no-sandbox", "--remote-debugging-pipe",
-    `--user-data-dir=${profile}`, ...gone ? [] : ["--allow-file-access-from-files"]],
-    { stdio: ["ignore", "ignore", "ignore", "pipe", "pipe"] });
-const waiting = [], [to, from] = browser.stdio.slice(3);
-let text = "", sessionId;
-from.setEncoding("utf-8").on("data", (part) => {
-    const messages = (text += part).split("\0");
-    text = messages.pop();
-    for (const { id, result } of messages.map((it) => JSON.parse(it))) waiting[id]?.(result);
-});
-const call = (method, params) => new Promise((then) => {
-    const id = waiting.push(then) - 1;
-    to.write(`${JSON.stringify({ id, method, params, sessionId })}\0`);
-});
-/** Returns what an expression gives, or undefined if it throws or another page comes meanwhile. */
-async function run(expression) {
-    const { result, exceptionDetails } =
-        await call("Runtime.evaluate", { expression, awaitPromise: true }) ?? {};
-    return exceptionDetails ? undefined : result?.value ?? result?.objectId;
+const odd = "a\\b\nc", numbers = (count) => [...Array(count).keys()].join("\n");
+process.chdir(process.argv[2]);
+for (const name of ["in", "none"]) mkdirSync(`folder/${name}`, { recursive: true });
+symlinkSync("folder/in", "in");
+for (const [name, text] of Object.entries({ big: numbers(12.5e6), empty: "", huge: "",
+    [odd]: numbers(99), "folder/in/x": numbers(5) })) writeFileSync(name, text);
+truncateSync("huge", 99 * 2 ** 30); // It takes too long to hash. There is no file `gone`.
+
+const komihashsum = (...words) => spawnSync("komihashsum", words, { encoding: "utf-8" }).stdout;
+const tagged = (...names) => komihashsum("-4", "-s", "0xA", "--tag", ...names);
+const sum = tagged("empty").trim().slice(-16), wrongSum = sum.replace(/.$/, "0");
+writeFileSync("list", komihashsum("big", "./in/x") + tagged(odd, "empty").replace(sum, wrongSum));
+writeFileSync("wide", `\ufeff${komihashsum("big").replace(" ", "")}`, "utf16le");
+
+const right = "The file is right";
+const lost = "gone, unreadable, or changed since it was chosen; choose it again";
+let step = "opening", steps = 0, failures = 0;
+process.on("SIGTERM", () => { throw new Error(`${step}: what it waits for takes too long`); });
+/** Does a step, waits until files are hashed, and compares expressions, of elements the text. */
+async function shows(name, act, wanted) {
+    [step, steps] = [name, steps + 1];
+    await act();
+    await until("hashing.hidden");
+    const shown = await run(`Promise.all([${Object.keys(wanted)}]).then((all) =>
+        JSON.stringify(all.map((it) => String(it.textContent ?? it).trim())))`);
+    const should = JSON.stringify(Object.values(wanted).map((it) => String(it).trim()));
+    if (shown === should) return;
+    failures++;
+    console.log(`${name}: ${Object.keys(wanted)} should be\n${should}, and is\n${shown}`);
 }
-const until = async (expression) => { while (!await run(expression)); };
-const finish = () => until("hashing.hidden");
-/** Waits for a step and until files are hashed, and prints expressions, of elements the text. */
-async function tell(step, ...expressions) {
-    await step;
-    await finish();
-    console.log(await run(`Promise.all([${expressions}]).then((all) =>
-        all.map((it) => String(it.textContent ?? it).trim()).join("\\n"))`));
-}
-const choose = async (seed, ...files) => call("DOM.setFileInputFiles",
-    { files, objectId: await run(`seed.value = ${seed}, files.value = "", files`) });
-async function drop(place, ...files) {
+/** Chooses files by the input that an expression gives. */
+const choose = async (input, ...names) => call("DOM.setFileInputFiles", { files: names.map(
+    (it) => resolve(it)), objectId: await run(`input = ${input}, input.value = "", input`) });
+/** Drops files on the element that an expression gives. */
+async function drop(place, ...names) {
     const { x, y } = JSON.parse(await run(`${place}.scrollIntoView(),
         JSON.stringify(${place}.getBoundingClientRect())`));
-    const data = { items: [], files, dragOperationsMask: 1 };
+    const data = { items: [], files: names.map((it) => resolve(it)), dragOperationsMask: 1 };
     for (const type of ["dragEnter", "dragOver", "drop"])
         await call("Input.dispatchDragEvent", { type, x: x + 9, y: y + 9, data });
     await until("wanted.value || !hashing.hidden || lines.textContent || " +
-        "doing.textContent !== idleText");
+        "!/^Files/.test(doing.textContent)");
 }
+const dropAlone = (...given) => run("clearer.click()").then(() => drop(...given));
 
+const [url] = ["komihash.html", "package.json"].map(
+    (it) => import.meta.resolve(`komihash_rattle/${it}`));
+const browser = await open(url, resolve("profile"));
 await call("Browser.grantPermissions",
     { permissions: ["clipboardReadWrite", "clipboardSanitizedWrite"] });
-const { targetId } = await call("Target.createTarget", { url });
-({ sessionId } = await call("Target.attachToTarget", { targetId, flatten: true }));
-await until(`document.URL + document.readyState + document.body.hidden === "${url}completefalse"`);
-if (!gone) {
-    console.log(await run("document.body.textContent"));
-    browser.kill();
-    await once(browser, "exit");
-    process.exit();
-}
 await until("!told.textContent");
-await run("idleText = doing.textContent");
+await run(`watch = (it) => new MutationObserver(it).observe(bar, { attributeFilter: ["value"] })`);
+
+// What the page says of a wrong seed must be in view.
 for (const wrong of ["'0b11'", "2n ** 64n"])
-    await tell(choose(wrong, gone, big), "doubt", "seed.ariaInvalid",
-        "doubt.getBoundingClientRect().bottom <= innerHeight");
-await run(`steps = 0, new MutationObserver((list) => steps += list.length)
-    .observe(bar, { attributeFilter: ["value"] })`);
-await tell(run("seed.value = '', seed.oninput({}), seed.onblur(), version.value = 4"),
-    "problems", "`progress: ${steps > 9 && bar.position === 1}`");
-// Begins again while BIG is hashed, stops while HUGE is, and copies the lines.
-await run(`restarts = 0, new MutationObserver((_, it) => {
-    if (bar.value > 3e7) { it.disconnect(); restarts++; version.onchange(); }
-}).observe(bar, { attributeFilter: ["value"] })`);
-await choose("'0xA'", huge);
-await until("/huge/.test(doing.textContent)");
-await drop("document.body", ...others);
-await until("/folder/.test(lines.textContent) && /huge/.test(doing.textContent)");
-await tell(run("stopper.click()"), "verdict", "hint", "`restarts: ${restarts}`");
-await run("copier.click()");
-await tell(until("copied.textContent"), "problems",
-    'fetch("data:,").catch(() => navigator.clipboard.readText())', "seed.ariaInvalid", "copied");
-await tell(drop("(clearer.click(), document.body)", list), "told");
-await drop("(clearer.click(), wanted)", list);
-await choose("(version.value = 5, 0)", big);
-await drop("document.body", others[2]);
-await tell(until("/in.x: OK/.test(lines.textContent)"), "verdict", "hint", "problems");
-await tell(choose(0, gone, ...others.slice(0, -1)), "verdict", "hint", "lines", "problems");
-await tell(drop("(clearer.click(), wanted)", wide), "told", "doing", "said");
-await tell(choose(0, big), "verdict", "problems");
-await tell(run("wanted.value = `\\n ${wanted.value.match(/[\\da-f]{16}/)} `, " +
-    'wanted.oninput({ inputType: "insertFromPaste" })'), "verdict", "lines");
-await tell(0, "(wanted.oninput({}), results.hidden)");
-await tell(until("!results.hidden"), "verdict");
-for (const file of [others[1], big]) await tell(choose(0, file), "verdict", "hint");
-await tell(0, "(wanted.value = 0, wanted.oninput({}), results.hidden)",
-    "(wanted.onblur(), told.textContent)", "wanted.ariaInvalid",
-    "(wanted.oninput({}), told.textContent)");
-await choose("(wanted.value = '', 0)", others[1]);
-await finish();
-writeFileSync(others[1], "more");
-await tell(run("version.onchange()"), "verdict", "hint", "problems");
-writeFileSync(others[1], "");
-await tell(drop("(clearer.click(), wanted)", big), "lines");
-await tell(choose("(wanted.value = lines.textContent, 0)", others[1]), "verdict",
-    "hint", "results.className");
-await tell(choose(0, others[1]), "told");
-await call("DOM.setFileInputFiles", { files: [list], objectId: await run("lists") });
-await tell(until("/KOMIHASH/.test(wanted.value)"), "verdict", "hint");
-await choose("(wanted.value = '', 0)", huge);
-await tell(run("clearer.click()"), "hashing.hidden + problems.textContent + lines.textContent");
-await tell(drop("drop", `${others[2]}/none`), "doing");
+    await shows(`seed ${wrong}`, () => choose(`(seed.value = ${wrong}, files)`, "gone", "big"), {
+        doubt: "Seeds are whole numbers, 0 to 2^64 - 1, such as 10 or 0xA.",
+        "seed.ariaInvalid": true, "doubt.getBoundingClientRect().bottom <= innerHeight": true });
+await shows("no seed, and progress", () => run(`changes = 0, watch((all) => changes += all.length),
+    seed.value = "", seed.oninput({}), seed.onblur()`), {
+    problems: `gone: ${lost}`, "changes > 9 && bar.position === 1": true });
+await shows("a restart while `big` is hashed, and Stop while `huge` is", async () => {
+    await run(`version.value = 4, restarts = 0, watch((_, it) => {
+        if (bar.value > 3e7) { it.disconnect(); restarts++; version.onchange(); }
+    })`);
+    await choose("(seed.value = '0xA', files)", "huge");
+    await until("/huge/.test(doing.textContent)");
+    await drop("document.body", odd, "empty", "folder");
+    await until("/folder/.test(lines.textContent) && /huge/.test(doing.textContent)");
+    await run("stopper.click()");
+}, { verdict: "Stopped: 1 of 6 files cannot be read", problems: `gone: ${lost}`, restarts: 1,
+    hint: "4 were hashed. To finish, choose the rest again.", "seed.ariaInvalid": false });
+await shows("Copy", () => run("copier.click()").then(() => until("copied.textContent")), {
+    copied: "Copied. Paste it into a text file.",
+    "navigator.clipboard.readText()": tagged("big", odd, "empty", "folder/in/x") });
+await shows("no network", () => {}, { "fetch('data:,').catch(() => 'refused')": "refused" });
+
+await shows("a list among the files", () => dropAlone("document.body", "list"),
+    { told: "list looks like a list: to check by it, choose it as a list." });
+await shows("a list, and some of its files", async () => {
+    await dropAlone("wanted", "list");
+    await choose("(version.value = 5, seed.value = 0, files)", "big");
+    await drop("document.body", "folder");
+    await until("/in.x: OK/.test(lines.textContent)");
+}, { verdict: "2 of 4 files are right", hint: "2 were not chosen.",
+    problems: "a\\b c: in the list, but not chosen\nempty: in the list, but not chosen" });
+await shows("the others, and one more", () => choose("files", "gone", odd, "empty"), {
+    verdict: "1 of 4 files is not right", hint: "3 are right; 1 is not in the list.",
+    problems: `empty: is ${sum}, should be ${wrongSum}\ngone: not in the list`,
+    lines: komihashsum("--check", "list").replace(/^\.\/in/m, "folder/in") });
+await shows("a list in UTF-16", () => dropAlone("wanted", "wide"), {
+    told: "Now choose files.", said: "Now choose files.", doing: "Files never leave this device" });
+await shows("its file", () => choose("files", "big"), { verdict: right, problems: "" });
+
+await shows("a pasted hash", () => run(`wanted.value = "\\n ${komihashsum("big").slice(0, 16)} ",
+    wanted.oninput({ inputType: "insertFromPaste" })`), { verdict: right, lines: "big: OK" });
+await shows("typing", () => run("wanted.oninput({}), hidden = results.hidden"), { hidden: true });
+await shows("after a pause", () => until("!results.hidden"), { verdict: right });
+await shows("a wrong file", () => choose("files", "empty"), { verdict: "The file is not right",
+    hint: "If the list has a version or seed, set it in Settings." });
+await shows("the right one again", () => choose("files", "big"), { verdict: right, hint: "" });
+await shows("no hash", () => run(`wanted.value = 0, wanted.oninput({}), hidden = results.hidden,
+    wanted.onblur()`), { hidden: true, "wanted.ariaInvalid": true,
+    told: 'This line needs a komihash (16 characters, 0-9 and a-f): "0". Correct or remove it.' });
+await shows("typing after no hash", () => run("wanted.oninput({})"), { told: "" });
+
+await shows("a file that changed after it was hashed", async () => {
+    await choose("(wanted.value = '', files)", "empty");
+    await until("hashing.hidden");
+    writeFileSync("empty", "more");
+    await run("version.onchange()");
+}, { verdict: "1 of 2 files cannot be read", hint: "1 was hashed.", problems: `empty: ${lost}` });
+writeFileSync("empty", "");
+await shows("a long file, dropped as a list", () => dropAlone("wanted", "big"),
+    { lines: komihashsum("big") });
+await shows("the page's list", () => choose("(wanted.value = lines.textContent, files)", "empty"),
+    { verdict: right, hint: "1 is not in the list.", "results.className": "right" });
+await shows("a file chosen twice", () => choose("files", "empty"),
+    { told: "empty was chosen before: what was chosen last counts." });
+await shows("a chosen list", () => choose("lists", "list").then(
+    () => until("/KOMIHASH/.test(wanted.value)")),
+    { verdict: "1 of 4 files is not right", hint: "1 is right, 2 were not chosen." });
+await shows("Clear while `huge` is hashed", () => choose("(wanted.value = '', files)", "huge").then(
+    () => run("clearer.click()")), { problems: "", lines: "", "hashing.hidden": true });
+await shows("an empty folder", () => drop("drop", "folder/none"),
+    { doing: "No files were found there" });
+
+console.log(`${steps} steps, ${failures} failures`);
+process.exitCode = steps && !failures ? 0 : 1;
 browser.kill();

@@ -58,7 +58,7 @@ python_of_system() {
 # Makes the package for JavaScript, and installs it in a folder that has nothing else but tests,
 # beside the crate for Rust, which has the tables.
 js_package() {
-    release js && mkdir "$scratch/js" && cp js/tests.* "$scratch/js" &&
+    release js && mkdir "$scratch/js" && cp js/{*.mjs,tests.html} "$scratch/js" &&
         sed -n '/^```js$/,/^```$/{/^```/!p;}' js/README.md > "$scratch/js/page.mjs" &&
         cd "$scratch/js" && npm install --offline "$packed"/js/*.tgz
 }
@@ -84,77 +84,16 @@ js_in_node() {
 }
 js_in_chromium() {
     all_rows | cat js/tests.html - > "$scratch/js/rows.html"
-    timeout 600 node js/tests_of_page.mjs "file://$scratch/js/rows.html" "$scratch/of_rows" |
-        all_right
+    timeout 600 node "$scratch/js/tests_in_chromium.mjs" "$scratch/of_rows" | all_right
 }
 page_is_made() {
     [ "$(wc -l < js/page.html)" -le 220 ] && bash scripts/remake.sh page | cmp - js/komihash.html
 }
-# Compares what the page shows with what komihashsum prints for the same files.
 page_in_chromium() {
-    local files=$scratch/hashed odd=$'a\\b\nc' page profile=$scratch/chromium
-    local lost='gone, unreadable, or changed since it was chosen; choose it again'
-    local stopped='Stopped: 1 of 6 files cannot be read'
-    page=file://$(cd "$scratch/js" && node -p '["package.json", "komihash.html"].map(
-        (it) => require.resolve(`komihash_rattle/${it}`))[1]')
-    in_package out/komihashsum && mkdir -p "$files"/folder/{in,none} &&
-        ln -s folder/in "$files" && : > "$files/empty" &&
-        seq 5 > "$files/folder/in/x" && seq 99 > "$files/$odd" &&
-        seq 12500000 > "$files/big" && truncate -s 99G "$files/huge" &&
-        PATH=$(echo "$scratch"/libkomihash_rattle-*/out):$PATH && (
-            cd "$files" && komihashsum big ./in/x && komihashsum -4 -s 0xA --tag "$odd" empty |
-                sed '$s/.$/0/'
-        ) > "$scratch/list" &&
-        (cd "$files" && komihashsum big | sed 's/ //' | iconv -t UTF-16) > "$scratch/wide" &&
-        timeout 600 node js/tests_of_page.mjs "$page" "$profile" "$files"/{gone,big,huge} \
-            "$scratch"/{list,wide} "$files"/{"$odd",empty,folder} > "$scratch/shown" &&
-        cd "$files" && diff "$scratch/shown" <(
-            printf '%s\n' 'Seeds are whole numbers, 0 to 2^64 - 1, such as 10 or 0xA.
-true
-true'{,} \
-                "gone: $lost" 'progress: true' \
-                "$stopped" '4 were hashed. To finish, choose the rest again.' \
-                'restarts: 1' "gone: $lost"
-            komihashsum -4 -s 0xA --tag big "$odd" empty folder/in/x
-            printf '%s\n' false 'Copied. Paste it into a text file.' \
-                'list looks like a list: to check by it, choose it as a list.' \
-                '2 of 4 files are right' '2 were not chosen.' \
-                {'a\b c',empty}': in the list, but not chosen' \
-                '1 of 4 files is not right' '3 are right; 1 is not in the list.'
-            komihashsum --check "$scratch/list" 2> "$scratch/case" | sed 's|^\./in|folder/in|'
-            echo "empty: is $(komihashsum -4 -s 0xA empty | cut -c-16), should be $(
-                sed -n '$s/.*= //p' "$scratch/list")
-gone: not in the list
-Now choose files.
-Files never leave this device
-Now choose files.
-The file is right
-
-The file is right
-big: OK
-true
-The file is right
-The file is not right
-If the list has a version or seed, set it in Settings.
-The file is right
-
-true
-This line needs a komihash (16 characters, 0-9 and a-f): \"0\". Correct or remove it.
-true
-
-1 of 2 files cannot be read
-1 was hashed.
-empty: $lost
-$(komihashsum big)
-The file is right
-1 is not in the list.
-right
-empty was chosen before: what was chosen last counts.
-1 of 4 files is not right
-1 is right, 2 were not chosen.
-true
-No files were found there"
-        )
+    in_package out/komihashsum && mkdir "$scratch/hashed" &&
+        PATH=$(echo "$scratch"/libkomihash_rattle-*/out):$PATH \
+            timeout 600 node "$scratch/js/tests_of_page.mjs" "$scratch/hashed" |
+        tee "$scratch/shown" && grep -xE '[1-9][0-9]* steps, 0 failures' "$scratch/shown"
 }
 js_required() {
     cd "$scratch/js" && cp page.mjs page.cts && tsc --target es2022 --module node16 page.cts &&
