@@ -10,22 +10,24 @@ set -u
 cd "$(dirname "$0")" || exit 1
 . ../c/tests/cases.sh
 
-# Prints each line of code that multiplies by more than a literal, raises a tally, makes one, calls
-# what makes one, or stores the bytes of writes, after the name of its function. No contract sees
-# these, but in the tally that a call is passed.
+# Prints each line of code that multiplies, but by 8, raises a tally, makes one, calls what makes
+# one, or has the words that store the bytes of writes, after the name of its function. No contract
+# sees these, but in the tally that a call is passed.
 uses_of_tallies() {
     find ../crates/komihash/src -name '*.rt' ! -path '*/src/tests/*' | sort | xargs awk '
-        /^ *(\/\/|(ghost|requires|ensures) )|^(pub )?struct |^impl / { next }
+        /^ *(ghost|requires|ensures) / { in_clause = 1 }
+        in_clause { in_clause = !/[};]$/; next }
+        /^ *\/\/|^(pub(\(crate\))? )?struct |^impl / { next }
         match($0, /fn [a-z_0-9]+/) { name = substr($0, RSTART + 3, RLENGTH - 3) }
         {
             code = $0
-            gsub(/([^a-z_0-9.]|\.\.)[0-9]+ \* | \* [0-9]+([^a-z_0-9.]|$)/, " ", code)
+            gsub(/([^a-z_0-9.]|\.\.)8 \* | \* 8([^a-z_0-9.]|$)/, " ", code)
             gsub(/tally: &mut Tally|^use crate::tally::Tally;|fn [a-z_0-9]+/, "", code)
         }
         code ~ / \* |\*=|mul([^t]|$)|pow|product[:(]|macro_rules|raise|Tally/ ||
         code ~ /(komihash(::<.>)?|finish|write|with_seed|next|fill_bytes|read_pending)\(/ ||
         code ~ /(Streamed[^ ]*|Self)::(new|default)\(|init[a-z_]*\(|re(store|sume)\(/ ||
-        code ~ /(complete_block|append_to_block|store_bytes)\(/ {
+        code ~ /[a-z]\.words([^a-z_(]|$)|Pending \{/ {
             print name ":" $0
         }' | tr -s ' '
 }
@@ -42,9 +44,16 @@ fill_bytes: let output = generator.step(&mut Tally::new());
 komihash: hash_message::<V>(bytes, seed, &mut Tally::new())
 write: self.number = hash_message::<V>(bytes, self.number, &mut Tally::new());
 put: tally.raise(0, bytes.len());
-put: complete_block(words, len, bytes);
-put: store_bytes(words, bytes);
-put: append_to_block(words, len, bytes);
+new: Pending {
+append: put::<false, false>(&mut self.words, len, bytes, tally);
+append_to_none: put::<true, false>(&mut self.words, 0, bytes, tally);
+complete: put::<false, true>(&mut self.words, self.len, bytes, tally);
+complete: let block = self.words;
+complete: self.words = [0; 8];
+padding_byte: let last_byte = (self.words[word_index(last)] >> (8 * (last % 8)) & 0xff) as u8;
+last_two: let pairs = self.words.as_chunks::<2>().0;
+write_to: write_first_bytes(&self.words, self.len, out);
+word: self.words[at]
 read_pending: pending.append(&bytes[PENDING_AT..], &mut Tally::new());
 new: StreamedKomihash::new_with_seed(0)
 new_with_seed: StreamedKomihash::begin(seed, &mut Tally::new())
