@@ -3,7 +3,7 @@
 
 By hand are inline.h.in, with the bodies of calls, and komihash_rattle.h, which declares them. All
 else is the crate's code in C, with its names, comments and order, as far as the calls need it. This
-script knows the part of Rust that the crate uses, and ends at anything else, with file and line:
+script knows the part of Rust that the crate uses. It refuses anything else, with file, line, why:
 
 - A slice is passed as a pointer and a length, of which a function has those that it uses. One that
   is returned or assigned is a struct, as are tuples and arrays. Bounds aren't tested.
@@ -26,6 +26,7 @@ ITEM = re.compile(r"""\n+|//\ Made.*\n|use\ [^;]*;\n|(?P<closing>\}\n)|(?P<title
     |struct\ (?P<struct>\w+)[^{]*\{\n(?P<fields>(?:.*\n)+?)\}\n
     |const\ (?P<constant>\w+):\ (?P<type>\w+)\ =\ (?P<value>.*);\n
     |impl(?:<(?P<numbers>[^>]*)>)?\ (?:\w+\ for\ )?(?P<owner>[&\w\[\]]+)[^{]*\{\n)""", re.X)
+NOTES = re.compile(r"(?: *(?://|#\[).*\n)*")
 TOKEN = re.compile(r"""(?:\s|'a\b(?!'))*(//[^\n]*(?:\s*//[^\n]*)*|"[^"\\]*"
     |0x[0-9a-f_]+\b|\d[\d_]*\b|[A-Za-z_]\w*|::|->|\.\.|&&|\|\||[=!<>]=|<<|>>|\|=|$
     |[-+*/%^&|!<>=.,;:(){}\[\]#?])""", re.X)
@@ -44,11 +45,13 @@ TYPES = {**NUMBERS, "bool": "bool", "": "void", "&[u8]": "komi_bytes", "(u64,u64
 SCALE = {"[u8;8]": 8, "[u64;2]": 2}  # chunks, which C counts by their elements
 SCALARS = {**dict.fromkeys(("wrapping_add", "to_le_bytes", "ilog2", "rotate_left"), "u64"),
            "min": "usize"}  # methods of numbers, and their types
+CHUNKS = "first_chunk", "last_chunk", "split_first_chunk"
 MARKS = {"inline(always)": "KOMI_INLINE", "inline(never)": "KOMI_APART",
          "cfg_attr(any(debug_assertions,for_c),inline(never))": "KOMI_SHORT"}
 IGNORED = re.compile(r"allow\(.*|must_use|track_caller|cfg_attr\(.*debug_assertions.*inline.*")
 RUST_ALONE = "crate|trait|slice|proof|compiler|debug|Debug|const"  # no such sentence is printed
-# Functions that are by hand in C, where a slice is its pointer alone.
+KEPT = "in C, this is the pointer or the length of a slice"
+# The bodies of functions whose C is by hand in inline.h.in, where a slice is its pointer alone.
 BY_HAND = {
     "read_word": "u64::from_le_bytes(*bytes.first_chunk().unwrap())",
     "half_word_at": """let piece = &bytes[at..];
@@ -63,12 +66,13 @@ BY_HAND = {
 class Value:
     """An expression of C: its text, its type in Rust, its operator, its parts if it has braces, as
     a pointer and a length have that stand for a slice, and whether it changes something."""
-    def __init__(self, text, type="usize", op="atom", parts=()):
-        self.text, self.type, self.op, self.parts, self.changes = text, type, op, parts, False
+    def __init__(self, text, type="usize", op="atom", parts=(), changes=False):
+        self.text, self.type, self.op, self.parts, self.changes = text, type, op, parts, changes
 
     def within(self, op, right=False):
         """Returns the text as an operand, in parentheses where these are needed."""
-        known(not self.changes and not self.parts)
+        known(not self.changes, "C chooses the order of evaluation")
+        known(not self.parts, "C has this only in parts")
         looser = BINDS[self.op] < BINDS[op] + right
         return f"({self.text})" if looser or self.op in UNCLEAR.get(op, "").split() else self.text
 
@@ -84,7 +88,7 @@ class Value:
         """Returns the length of a slice or array. Of chunks, it counts the bytes."""
         size = element(self.type)[2]
         return Value(size) if size else self.parts[1] if self.parts else \
-            Value(self.text + ".length")
+            Value(self.within("atom") + ".length")
 
     def times(self, number):
         return self if number == 1 else Value(str(number * int(self.text))) \
@@ -98,9 +102,10 @@ class Value:
         return pointer(f"{reference or '&'}[{of}]", self.start().joined("+", begin), length)
 
 
-def known(holds):
+def known(holds, why="unknown"):
+    """Refuses the code that is being read if this doesn't hold. `header` says where that is."""
     if not holds:
-        raise KeyError
+        raise LookupError(why)
 
 
 def element(type):
@@ -111,15 +116,15 @@ def element(type):
 
 def declared(type, name, points=False):
     """Returns the declaration of a name, or of a pointer to the elements of a slice."""
-    if type in TYPES and not points:
+    if not points and (type in TYPES or type[0] != "&"):
         return f"{TYPES[type]} {name}"
     reference, of = re.fullmatch(r"(&(?:mut)?)\[*(\w+)[\w;\]]*", type).groups()
     return f"{'' if 'mut' in reference else 'const '}{TYPES[of]} *{name}"
 
 
 def braces(type, parts):
-    known(not any(part.changes for part in parts))  # C chooses the order
-    return Value("{%s}" % ", ".join(part.text for part in parts), type, parts=parts)
+    texts = [part.text if part.parts else part.within("?") for part in parts]
+    return Value("{%s}" % ", ".join(texts), type, parts=parts)
 
 
 def pointer(type, at, length=None):
@@ -169,9 +174,9 @@ class Expressions:
 
     def take(self, *wanted):
         self.crate.place = self.places[self.i]
-        known(not wanted or self.peek() in wanted)
-        self.i += 1
-        return self.tokens[self.i - 1]
+        token, self.i = self.peek(), self.i + 1
+        known(not wanted or token in wanted, f"unknown {token!r}, not {' or '.join(wanted)!r}")
+        return token
 
     def has(self, *texts):
         found = tuple(self.tokens[self.i:self.i + len(texts)]) == texts
@@ -203,11 +208,10 @@ class Expressions:
         left = self.expression(level + 1)
         while self.peek() in LEVELS[level]:
             op, right = self.take(), self.expression(level + 1)
-            types = {left.type} if level == 6 else {left.type, right.type} - {"int"} or {"int"}
-            type = types.pop()
-            # C computes what is narrower than an int as an int.
-            known(not types and (level < 3 or type in ("u64", "usize") or
-                                 level != 6 and type == "int" or op in "&|/%" and type in NUMBERS))
+            type = right.type if left.type == "int" and level != 6 else left.type
+            known(level == 6 or right.type in (type, "int"), f"{op} of two types")
+            known(level < 3 or type in ("u64", "usize") or level != 6 and type == "int" or
+                  op in "&|/%" and type in NUMBERS, "C may compute this as an int")
             left = left.joined(op, right)
             left.type = "bool" if level < 3 else type
         return left
@@ -222,7 +226,7 @@ class Expressions:
         op = self.take() + ("mut" if self.has("mut") else "")
         value = self.unary()
         if op == "!":
-            known(value.type == "bool")
+            known(value.type == "bool", "! of a number is another operator in C")
             return Value(value.text.replace(" == ", " != "), "bool", "!=") if value.op == "==" \
                 else Value("!" + value.within("unary"), "bool", "unary")
         if op != "*" and value.type.startswith("&"):
@@ -230,7 +234,7 @@ class Expressions:
         type = re.sub("^&(mut)?", "", value.type) if op == "*" else op + value.type
         if not element(value.type)[1]:
             return Value(op[0] + value.within("unary"), type, "unary")
-        known(value.parts or "(" not in value.text)
+        known(value.parts or "(" not in value.text, "a reference to what a call returns")
         return pointer(type, value.start())
 
     def primary(self):
@@ -240,24 +244,22 @@ class Expressions:
                 Value(f"({parts[0].within('?')})", parts[0].type)
         if self.peek() in ("[", "if"):
             return self.array() if self.peek() == "[" else self.choice()
-        path = [self.take()]
+        owner, name = "", self.take()
         while self.peek() == "::" and self.peek(1) != "<":
-            path.append(self.take() and self.take())
-        name, owner = path[-1], "".join(path[-2:-1]).replace("Self", self.owner)
+            owner, name = name.replace("Self", self.owner), self.take() and self.take()
         if name[0].isdigit():
             return Value(number_of(name), "int")
         if name in ("true", "false", "None"):
             return Value("KOMIHASH_NONE", name) if name == "None" else Value(name, "bool")
         numbers = self.turbofish()
         if self.peek() == "(":
-            for key in (owner, name), ("", name):
-                if key in self.crate.functions:
-                    return self.call(key, numbers)
-            return self.made(owner, name)
+            functions = self.crate.functions
+            key = (owner if (owner, name) in functions else "", name)
+            return self.call(key, numbers) if key in functions else self.made(owner, name)
         if name in self.crate.structs and self.peek() == "{":
-            value = braces(name, self.listed("{}", self.field))
-            known([part.field for part in value.parts] == list(self.crate.structs[name]))
-            return value
+            fields = list(self.crate.structs[name])
+            parts = self.listed("{}", lambda: self.field(fields))
+            return known(not fields, "too few fields") or braces(name, parts)
         self.crate.used.add(name)
         return Value("KOMI_" + name, self.crate.constants[name]) \
             if name in self.crate.constants else self.names[name]
@@ -268,13 +270,13 @@ class Expressions:
 
     def made(self, owner, name):
         """Returns the value of a call of what is Rust's own."""
-        [value] = self.listed("()", self.expression)
+        value = self.listed("()", self.expression)[0]
         if name == "from":
             return self.converted(value, owner)
         if name == "from_le_bytes":
-            known((owner, element(value.type)[2]) == ("u64", "8"))
+            known((owner, element(value.type)[2]) == ("u64", "8"), "not a u64 of 8 bytes")
             return Value(f"komi_read_word({value.start().text})", owner)
-        return known(name == "Some") or value
+        return known(name == "Some", f"unknown function {name!r}") or value
 
     def array(self):
         if self.has("[", "0", ";", "8", "]"):
@@ -283,11 +285,11 @@ class Expressions:
         type = f"[{parts[0].type.replace('int', 'usize')};{len(parts)}]"
         return Value(f"{{{braces(type, parts).text}}}", type, parts=parts)
 
-    def field(self):
+    def field(self, fields):
+        """Returns the value of the next of the fields that are left."""
         name = self.take()
-        value = self.expression() if self.has(":") else Value(name, self.names[name].type)
-        value.field = name
-        return value
+        known(fields and name == fields.pop(0), "not the next field of the struct")
+        return self.expression() if self.has(":") else self.names[name]
 
     def choice(self):
         condition = self.take("if") and self.expression()
@@ -298,7 +300,7 @@ class Expressions:
     def chosen(self, condition, yes, no):
         if yes.parts:
             parts = [self.chosen(condition, *both) for both in zip(yes.parts, no.parts)]
-            known(all(part.op == "atom" for part in parts))
+            known(all(part.op == "atom" for part in parts), "parts of a choice aren't names")
             return braces("tuple", parts)
         type = no.type if yes.type in ("int", "None") else yes.type
         if type == "u64" and re.fullmatch(r"\w+ \w+", f"{yes.text} {no.text}"):
@@ -311,19 +313,13 @@ class Expressions:
         done, given = self.crate.printed(key, bound), dict(zip(numbers_in(it["of"]), numbers))
         self.order, self.called = max(self.order, done.order), done
         texts = [given.get(name) or self.names[name].text for name in done.generics]
-        texts += sum(map(self.passed, values, done.types), [])
+        for value, type in zip(values, done.types):
+            points = element(type)[0]
+            texts += [value.start().text, value.size().text] if points else [value.within("?")]
         texts = [text for name, text in zip(done.parameters, texts) if name in done.used]
         call = f"KOMI_COPY_OF({texts[0]}, {done.name}, ({', '.join(texts[1:])}))" \
             if done.is_copied else f"{done.name}({', '.join(texts)})"
-        made = Value(call, done.result)
-        made.changes = any(type[:4] == "&mut" for type in done.types)
-        return made
-
-    def passed(self, value, wanted):
-        """Returns what is passed of a value where a type is wanted."""
-        points = element(wanted)[0]
-        known(not value.changes and (points or not value.parts))
-        return [value.start().text, value.size().text] if points else [value.text]
+        return Value(call, done.result, changes=any(type[:4] == "&mut" for type in done.types))
 
     def postfix(self, value):
         while self.peek() in ("[", "."):
@@ -358,8 +354,8 @@ class Expressions:
                 "&" + value.within("unary"), "&mut" + value.type, "unary")])
         given = self.listed("()", self.expression)
         if name == "unwrap":  # of a chunk, which is there
-            return known(value.parts) or value
-        known(value.type == SCALARS.get(name, value.type))
+            return known(value.parts, "unwrap of what is no chunk") or value
+        known(value.type == SCALARS.get(name, value.type), f"no {name} of {value.type} in C")
         if name == "wrapping_add":
             return value.joined("+", given[0])
         if name in SCALARS:
@@ -376,15 +372,14 @@ class Expressions:
             return Value(f"{length.text} == 0", "bool", "==")
         if name == "as_chunks":
             type = f"&[[{array[1]};{given[0]}]]"
-            known(element(type)[1] in SCALE)
+            known(element(type)[1] in SCALE, f"unknown chunks {element(type)[1]}")
             return braces("tuple", [pointer(type, value.start(), length)])
         if name == "split_at":
             return braces("tuple", [value.part(Value("0"), given[0]), value.part(given[0])])
-        known(array[1] == "u8" and len(given) < 2)
+        known(name in CHUNKS and array[1] == "u8", f"unknown method {name!r} of {value.type}")
         size, at = Value(given[0] if given else "8"), value.start()
         at = at.joined("+", length).joined("-", size) if name == "last_chunk" else at
         chunk = pointer(f"{array[0] or '&'}[u8;{size.text}]", at)
-        known(name in ("first_chunk", "last_chunk", "split_first_chunk"))
         rest = Value(f"komi_bytes_after({value.part(size).text[1:-1]})", "&[u8]")
         return braces("tuple", [chunk, rest]) if name[0] == "s" else chunk
 
@@ -407,8 +402,8 @@ class Function(Expressions):
         self.used = [name for name in self.parameters if not name.endswith("length")]
         if it["fn"] not in BY_HAND:
             return self.print(self.name, it["note"])
-        self.is_copied, body = False, re.sub(r"\s", "", BY_HAND[it["fn"]])
-        known("".join(self.tokens[self.i:-1]) == "{%s}" % body)
+        self.is_copied, body = False, "{%s}" % re.sub(r"\s", "", BY_HAND[it["fn"]])
+        known("".join(self.tokens[self.i:-1]) == body, "C has it by hand, for the body in BY_HAND")
 
     def type(self, *ends):
         type = self.skip(*ends).replace("Self", self.owner)
@@ -430,7 +425,6 @@ class Function(Expressions):
     def print(self, name, note):
         self.block("return" if self.result else None)
         code = " ".join(text for _, text in self.lines if text[:2] != "/*")
-        known("@" not in code)
         self.used = [name for name in self.parameters if re.search(rf"\b{name}\b", code)]
         if code == f"return {self.called.name}({', '.join(self.used)});":
             self.stands_for = self.called  # Its callers call that.
@@ -450,6 +444,7 @@ class Function(Expressions):
         self.crate.output.append((self.order, "\n".join(lines[:-1])))
 
     def emit(self, *texts):
+        known("@" not in "".join(texts), "C has only a pointer to this")
         self.lines += [(self.depth, text) for text in texts]
 
     def block(self, target):
@@ -477,7 +472,8 @@ class Function(Expressions):
             self.inner(f"while ({self.expression().text}) {{")
         elif self.has("for"):
             name = self.take()
-            end = known(self.has("in", "0", "..")) or self.expression().within("<")
+            known(self.has("in", "0", ".."), "a loop that isn't in 0..n")
+            end = self.expression().within("<")
             self.know(name, Value(name))
             self.inner(f"for (size_t {name} = 0; {name} < {end}; {name}++) {{")
         elif self.has("assert", "!"):
@@ -487,8 +483,8 @@ class Function(Expressions):
 
     def simple(self, target, returns):
         value = Value("", "") if self.peek() == ";" else self.expression()
-        if self.peek() in ("=", "|="):
-            known(re.sub(r".*\W", "", value.text) not in self.kept and not returns)
+        if self.peek() in ("=", "|=") and not returns:
+            known(re.sub(r".*\W", "", value.text) not in self.kept, KEPT)
             op, other = self.take(), self.expression()
             self.emit(f"{value.text} {op} {self.unbraced(other, 'value')};")
         else:
@@ -506,7 +502,9 @@ class Function(Expressions):
         """Prints what becomes of the value at the end of a block."""
         if target == "return" and "StreamedKomihash" in self.result:
             self.parameters["result"] = "komi_stream *result"
-            self.emit(*[f"result->{part.field} = {part.text};" for part in value.parts], *[
+            known(value.parts or value.type == "None", "a stream that another function returns")
+            fields = zip(self.crate.structs["StreamedKomihash"], value.parts)
+            self.emit(*[f"result->{field} = {part.text};" for field, part in fields], *[
                 f"return {'true' if value.parts else 'false'};"] * ("Option" in self.result))
         elif target == "return":
             value.type = self.result
@@ -528,7 +526,7 @@ class Function(Expressions):
         names = self.listed("()", self.take) if self.peek() == "(" else []
         is_kept, name = not self.has("mut"), names or self.take()
         if self.has(":"):  # A value with statements, or a later one, has its type.
-            known(name not in self.names)
+            known(name not in self.names, "a name that hides another")
             self.know(name, Value(name, self.type("=", ";")))
             self.emit(declared(self.names[name].type, name) + ";")
             if self.has("=", "if"):
@@ -549,9 +547,11 @@ class Function(Expressions):
 
     def know(self, name, value):
         """Notes a name, which may be there only in this block and with this type."""
-        known(name not in self.kept and (name not in self.names or (
-            value.type, self.depth) == (self.names[name].type, self.names[name].depth)))
-        self.names[name], value.depth = value, self.depth
+        other, value.depth = self.names.get(name, value), self.depth
+        known(name not in self.kept, KEPT)
+        known(other.type == value.type, "a name that hides one of another type")
+        known(other.depth == value.depth, "a name that hides one of an outer block")
+        self.names[name] = value
 
     def bind(self, name, value, is_kept=True):
         """Prints the declaration of a name, unless it is one for a slice that begins at another."""
@@ -578,8 +578,8 @@ class Crate:
         for path, text in sources.items():
             place, owner, numbers = 0, "", {}
             while place < len(text):
-                self.place = path, text, place
-                it = ITEM.match(text, place) or known(False)
+                self.place = path, text, NOTES.match(text, place).end()
+                it = ITEM.match(text, place) or known(False, "unknown item")
                 self.item(it, owner, numbers)
                 place = it.end()
                 if it["owner"] or it["closing"]:
@@ -593,8 +593,8 @@ class Crate:
             self.items.append((self.place[0], "\n".join([f"/* {'-' * 93} */", *lines])))
         elif it["fn"]:
             marks = [mark for mark in re.findall(r"#\[(.*)\]", it["marks"].replace(" ", ""))
-                     if mark in MARKS or known(IGNORED.fullmatch(mark))]
-            known((owner, name) not in self.functions)
+                     if mark in MARKS or known(IGNORED.fullmatch(mark), f"unknown #[{mark}]")]
+            known((owner, name) not in self.functions, "two functions of this name")
             numbers = {**numbers, **numbers_in(it["of"])}
             mark = MARKS[(marks + ["inline(always)"])[0]]
             self.functions[owner, name] = self.place[0], it, owner, numbers, mark, len(self.items)
@@ -607,11 +607,11 @@ class Crate:
             self.struct(it, name, [*lines, "typedef struct {"])
 
     def struct(self, it, name, lines):
-        fields = re.findall(r"((?: *//.*\n)*)    (\w+): (.*),\n", it["fields"])
-        for note, field, type in fields:
-            lines += wrapped(self.comment(note), 1)
-            lines.append(f"    {declared(type.replace(' ', ''), field)};")
-        self.structs[name] = {field: type.replace(" ", "") for _, field, type in fields}
+        fields = self.structs[name] = {}
+        for found in re.finditer(r"((?: *//.*\n)*)    (\w+): (.*),\n", it["fields"]):
+            self.place = self.place[0], it.string, it.start("fields") + found.start(2)
+            note, field, fields[field] = found[1], found[2], found[3].replace(" ", "")
+            lines += [*wrapped(self.comment(note), 1), f"    {declared(fields[field], field)};"]
         self.types.append("\n".join([*lines, f"}} KOMI_ALIAS {TYPES[name]};"]))
 
     def comment(self, text, names=()):
@@ -636,7 +636,7 @@ class Crate:
             self.done[at], place = None, self.place  # as that of one stays which calls itself
             self.done[at] = Function(self, self.functions[key], bound).stands_for
             self.place = place
-        return self.done[at]
+        return self.done[at] or known(False, "a function that calls itself")
 
     def code(self, calls):
         """Returns the constants and functions that calls need, each after those that it needs."""
@@ -676,11 +676,11 @@ def header(sources, licence=""):
                  "types": "\n\n".join(crate.types), "calls": calls_of(calls),
                  "rules": re.search(r" \* What a caller.*?(?=\s*\*/)", calls, re.S)[0],
                  "licence": re.sub("^", " * ", licence.strip(), flags=re.M).replace("* \n", "*\n")}
-    except (AttributeError, LookupError, TypeError, ValueError):
+    except (AttributeError, LookupError, TypeError, ValueError) as error:
         path, text, place = crate.place
-        rest = text[place:].lstrip()
-        line = text.count("\n", 0, len(text) - len(rest)) + 1
-        raise SystemExit(f"{path}:{line}: unknown: {rest[:60]!r}") from None
+        line = text.count("\n", 0, len(text) - len(text[place:].lstrip()))
+        why = {LookupError: str(error), KeyError: f"unknown {error}"}.get(type(error), "unknown")
+        raise SystemExit(f"{path}:{line + 1}: {why}: {text.splitlines()[line].strip()!r}") from None
     parts["version"] = " * komihash_rattle " + re.search(r'VERSION "(.*)"', calls)[1]
     names = sorted(set(re.findall(r"\b(komihash_v\d\w*)[(;]", parts["calls"])))
     parts["names"] = "\n".join(f"#define {name} KOMI_NAME({name})" for name in names)
