@@ -50,7 +50,7 @@ MARKS = {"inline(always)": "KOMI_INLINE", "inline(never)": "KOMI_APART",
          "cfg_attr(any(debug_assertions,for_c),inline(never))": "KOMI_SHORT"}
 IGNORED = re.compile(r"allow\(.*|must_use|track_caller|cfg_attr\(.*debug_assertions.*inline.*")
 RUST_ALONE = "crate|trait|slice|proof|compiler|debug|Debug|const"  # no such sentence is printed
-KEPT = "in C, this is the pointer or the length of a slice"
+IN_SLICE = "in C, this is the pointer or the length of a slice"
 # The bodies of functions whose C is by hand in inline.h.in, where a slice is its pointer alone.
 BY_HAND = {
     "read_word": "u64::from_le_bytes(*bytes.first_chunk().unwrap())",
@@ -128,7 +128,7 @@ def braces(type, parts):
 
 
 def pointer(type, at, length=None):
-    """Returns a reference to an array or a slice. As a whole, C has only slices of bytes."""
+    """Returns a reference to an array or a slice, "@" if C has no struct for both its parts."""
     length = length or Value(element(type)[2])
     text = f"{{{at.text}, {length.text}}}" if type == "&[u8]" else "@"
     return Value(text, type, parts=[at, length])
@@ -159,7 +159,7 @@ def wrapped(text, depth):
 
 
 class Expressions:
-    """Reads the tokens of a function, and makes values of its expressions."""
+    """Reads a function's tokens, and makes values of expressions by the names of `Function`."""
     def __init__(self, crate, path, it):
         self.crate, self.tokens, self.places, self.i, place = crate, [], [], 0, it.start("begin")
         while place < it.end():
@@ -220,8 +220,7 @@ class Expressions:
         return Value(f"({NUMBERS[type]}){value.within('unary')}", type, "unary")
 
     def unary(self):
-        op = self.peek()
-        if op not in ("&", "*", "!"):
+        if self.peek() not in ("&", "*", "!"):
             return self.postfix(self.primary())
         op = self.take() + ("mut" if self.has("mut") else "")
         value = self.unary()
@@ -251,11 +250,10 @@ class Expressions:
             return Value(number_of(name), "int")
         if name in ("true", "false", "None"):
             return Value("KOMIHASH_NONE", name) if name == "None" else Value(name, "bool")
-        numbers = self.turbofish()
+        given = self.turbofish()
         if self.peek() == "(":
-            functions = self.crate.functions
-            key = (owner if (owner, name) in functions else "", name)
-            return self.call(key, numbers) if key in functions else self.made(owner, name)
+            key = (owner if (owner, name) in self.crate.functions else "", name)
+            return self.call(key, given) if key in self.crate.functions else self.made(owner, name)
         if name in self.crate.structs and self.peek() == "{":
             fields = list(self.crate.structs[name])
             parts = self.listed("{}", lambda: self.field(fields))
@@ -389,7 +387,7 @@ class Function(Expressions):
     def __init__(self, crate, item, bound):
         path, it, self.owner, self.generics, self.mark, self.order = item
         super().__init__(crate, path, it)
-        self.bound, self.lines, self.depth, self.kept = bound, [], 1, set()
+        self.bound, self.lines, self.depth, self.in_slices = bound, [], 1, set()
         self.called = self.stands_for = self
         self.names = {name: Value({"V": "version"}.get(name, name.lower()), type)
                       for name, type in self.generics.items()}
@@ -419,7 +417,7 @@ class Function(Expressions):
         self.parameters[name] = declared(type, name, points)
         if points:
             self.parameters[length] = f"size_t {length}"
-            self.kept.add(length)
+            self.in_slices.add(length)
         return type
 
     def print(self, name, note):
@@ -484,7 +482,7 @@ class Function(Expressions):
     def simple(self, target, returns):
         value = Value("", "") if self.peek() == ";" else self.expression()
         if self.peek() in ("=", "|=") and not returns:
-            known(re.sub(r".*\W", "", value.text) not in self.kept, KEPT)
+            known(re.sub(r".*\W", "", value.text) not in self.in_slices, IN_SLICE)
             op, other = self.take(), self.expression()
             self.emit(f"{value.text} {op} {self.unbraced(other, 'value')};")
         else:
@@ -524,7 +522,7 @@ class Function(Expressions):
 
     def let(self):
         names = self.listed("()", self.take) if self.peek() == "(" else []
-        is_kept, name = not self.has("mut"), names or self.take()
+        is_fixed, name = not self.has("mut"), names or self.take()
         if self.has(":"):  # A value with statements, or a later one, has its type.
             known(name not in self.names, "a name that hides another")
             self.know(name, Value(name, self.type("=", ";")))
@@ -542,23 +540,23 @@ class Function(Expressions):
                 self.emit(f"const {TYPES[value.type]} {both} = {value.text};")
                 value = Value("", parts=[Value(both + end, "u64") for end in (".first", ".second")])
             for name, part in zip(names, value.parts) if names else [(name, value)]:
-                self.bind(name, part, is_kept)
+                self.bind(name, part, is_fixed)
         return self.take(";")
 
     def know(self, name, value):
         """Notes a name, which may be there only in this block and with this type."""
         other, value.depth = self.names.get(name, value), self.depth
-        known(name not in self.kept, KEPT)
+        known(name not in self.in_slices, IN_SLICE)
         known(other.type == value.type, "a name that hides one of another type")
         known(other.depth == value.depth, "a name that hides one of an outer block")
         self.names[name] = value
 
-    def bind(self, name, value, is_kept=True):
+    def bind(self, name, value, is_fixed=True):
         """Prints the declaration of a name, unless it is one for a slice that begins at another."""
         refers, at = element(value.type)[0] and value.parts, value.start().text
         is_named = re.fullmatch(r"[\w.>-]+", at)
-        if is_kept and refers and (is_named or value.type not in TYPES):
-            self.kept.update(re.findall(r"[a-z]\w*", f"{at} {value.size().text}"))
+        if is_fixed and refers and (is_named or value.type not in TYPES):
+            self.in_slices.update(re.findall(r"[a-z]\w*", f"{at} {value.size().text}"))
             if not is_named:
                 self.emit(f"{declared(value.type, name)} = {at};")
                 value = pointer(value.type, Value(name), value.size())
@@ -572,9 +570,11 @@ class Function(Expressions):
 
 class Crate:
     """The crate's modules, and what is printed of them."""
-    def __init__(self, sources):
+    def __init__(self):
         self.structs, self.constants, self.functions, self.types = {}, {}, {}, []
         self.items, self.used, self.done, self.output = [], set(), {}, []
+
+    def read(self, sources):
         for path, text in sources.items():
             place, owner, numbers = 0, "", {}
             while place < len(text):
@@ -633,7 +633,7 @@ class Crate:
         """Prints a function once, and returns it."""
         at = *key, bound
         if at not in self.done:
-            self.done[at], place = None, self.place  # as that of one stays which calls itself
+            self.done[at], place = None, self.place  # None while it is being printed
             self.done[at] = Function(self, self.functions[key], bound).stands_for
             self.place = place
         return self.done[at] or known(False, "a function that calls itself")
@@ -669,16 +669,16 @@ def calls_of(header):
 def header(sources, licence=""):
     calls = Path(__file__).with_name("komihash_rattle.h").read_text()
     template, bodies = Path(__file__).with_name("inline.h.in").read_text().split("@bodies\n")
-    crate = Crate.__new__(Crate)
+    crate = Crate()
     try:
-        crate.__init__(sources)
+        crate.read(sources)
         parts = {"functions": crate.code(set(re.findall(r"\bkomi_\w+(?=\()", template + bodies))),
                  "types": "\n\n".join(crate.types), "calls": calls_of(calls),
                  "rules": re.search(r" \* What a caller.*?(?=\s*\*/)", calls, re.S)[0],
                  "licence": re.sub("^", " * ", licence.strip(), flags=re.M).replace("* \n", "*\n")}
     except (AttributeError, LookupError, TypeError, ValueError) as error:
         path, text, place = crate.place
-        line = text.count("\n", 0, len(text) - len(text[place:].lstrip()))
+        line = text.count("\n", 0, re.compile(r"(\s*\S)?").match(text, place).end())
         why = {LookupError: str(error), KeyError: f"unknown {error}"}.get(type(error), "unknown")
         raise SystemExit(f"{path}:{line + 1}: {why}: {text.splitlines()[line].strip()!r}") from None
     parts["version"] = " * komihash_rattle " + re.search(r'VERSION "(.*)"', calls)[1]
