@@ -3,7 +3,7 @@
 
 By hand are inline.h.in, with the bodies of calls, and komihash_rattle.h, which declares them. All
 else is the crate's code in C, with its names, comments and order, as far as the calls need it. This
-script knows the part of Rust that the crate uses. It refuses anything else, with file, line, why:
+script knows the part of Rust that the crate uses, and refuses all else with the reason. In C:
 
 - A slice is passed as a pointer and a length, of which a function has those that it uses. One that
   is returned or assigned is a struct, as are tuples and arrays. Bounds aren't tested.
