@@ -77,9 +77,9 @@ function word(number, name = "a seed") {
 }
 
 const [ofStream, ofRand] = [144, 16].map((length) => bytes.subarray(object, object + length));
-/** The newest states are a block in the library's memory, which is kept once it is full. */
+/** New states are in this block of the library's memory. When it is full, `kept` is its copy. */
 let block = { kept: null }, taken = 0;
-/** The older state that is in `object`, and the bytes there, which may be newer than those kept. */
+/** Of older states, one is in `object`, and is copied to its `kept` before another comes there. */
 let inside = { kept: new Uint8Array(0) }, there = inside.kept;
 
 /** Returns the address of a state, until that of another one is asked for. */
