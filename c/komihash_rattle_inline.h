@@ -169,7 +169,7 @@ typedef struct { size_t at[8]; } komi_indices;
  *
  * After a product, `low` is its low half, and `e` the word to which its high half was added. The
  * word a is computed only for a factor and as the hash, so the way from one product to the next is
- * one xor shorter. The eight lanes are pairs of other words. */
+ * one xor shorter. */
 typedef struct {
     uint64_t low;
     uint64_t e;
@@ -177,8 +177,8 @@ typedef struct {
 
 /* The eight lanes as the code stores them: four pairs in a ring, one for each product of a block.
  *
- * s5 to s8 are the words e of the pairs. s1 to s4 are the first words, each xor the word e of the
- * pair before it. The fourth pair is the one before the first, so it stands there. */
+ * s5 to s8 are the words `e` of the pairs. s1 to s4 are their words `low`, each xor the word `e` of
+ * the pair before it. The fourth pair is the one before the first, so it stands there. */
 typedef struct {
     komi_pair fourth;
     komi_pair first;

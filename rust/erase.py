@@ -4,9 +4,9 @@
 Erased is what only the prover reads: contracts, ghost items, tallies, laws, tests, labels, and the
 names of conditions that are tested once. A condition of a public function becomes a test, in each
 impl of a public trait too; the prover has shown the others at each call. A function that has
-`#[track_caller]` in the source leaves the test to one that it calls. Below, CONST, MUST_USE and
-DERIVED say what Rust has besides, and the head of src/lib.rt which marks say more. What else is not
-Rust, this script refuses.
+`#[track_caller]` in the source leaves the test to one that it calls. The head of src/lib.rt says
+which marks add what Rust has besides, and DERIVED which traits. What else is not Rust, this script
+refuses.
 """
 import re
 import shutil
@@ -18,24 +18,17 @@ from pathlib import Path
 CHOICES = {r'^ *// Rattle alone\.\n(?:.+\n)+': '',
            r'^ *//[/!]? In Rattle, .*\n': '',
            r'^ *// Inlined, but not in C\.\n#\[inline\(never\)]': '#[inline(not_in_c)]',
+           r'^ *// For Rust: (.*)\.$': r'‹+\1›',
            r'(//.*)\bIn Rust, (\w)': lambda it: it[1] + it[2].upper()}
-# Public functions that are const in Rust, and types that derive traits there.
-CONST = 'init', 'init_with_extra_seed', 'new', 'new_with_seed', 'next', 'words'
-# Public functions of which debug builds have those that were compiled with this crate, as of all
-# that ask to be inlined. Cargo may optimize this crate alone.
-SHARED = 'fill_bytes', 'finish', 'init', 'init_with_extra_seed', 'new_with_seed', 'next', 'write'
-# Functions with contracts whose results rustc warns about, if a caller drops them.
-MUST_USE = ('answer', 'finish', 'init', 'init_with_extra_seed', 'komihash', 'new', 'new_with_seed',
-            'restore', 'resume', 'save', 'start', 'store', 'unpad', 'words')
+# What marks add before a function. Of those that are shared, debug builds have the one that was
+# compiled with this crate, as of all that ask to be inlined: cargo may optimize this crate alone.
+MARKS = {'shared': '#[cfg_attr(debug_assertions, inline(never))]\n', 'must_use': '#[must_use]\n'}
+MARKED = re.compile(r'^‹\+(.*)›\n((?: *(?:#\[|‹/).*\n)*)( *(?:pub )?)(?=fn )', re.M)
 DERIVED = dict.fromkeys(('Call', 'StreamedKomihash', 'Lanes', 'XoredPair', 'Pending'),
                         'PartialEq, Eq') | {
     'KomiHasher': 'Copy, Debug, PartialEq, Eq, Hash',
     **dict.fromkeys(('KomiBuildHasher', 'Komirand'), 'Debug, PartialEq, Eq')}
-ADDED = {rf'^( *pub )(?=fn {name}\b)': r'\1const ' for name in CONST} | {
-    rf'^( *)(?=pub (?:const )?fn {name}\b)': r'\1#[cfg_attr(debug_assertions, inline(never))]\n\1'
-    for name in SHARED} | {
-    rf'^( *)(?=(?:pub (?:const )?)?fn {name}\b[^{{\n]*$)': r'\1#[must_use]\n\1'
-    for name in MUST_USE} | {
+ADDED = {
     rf'^(?=pub(?:\(crate\))? (?:enum|struct) {name}\b)': f'#[derive({traits})]\n'
     for name, traits in DERIVED.items()} | {
     # src/version.rs has these compiled with this crate in debug builds. The library for C, which
@@ -180,6 +173,18 @@ def without_tallies(text):
     return text
 
 
+def with_marks(text):
+    """Puts before functions, and into their heads, what marks say that Rust has."""
+    def marked(it):
+        marks = it[1].split(', ')
+        if not {*marks} <= {'const', *MARKS}:
+            refuse('an unknown mark', text, it.start())
+        added = ''.join(MARKS[mark] for mark in MARKS if mark in marks)
+        return it[2] + added + it[3] + 'const ' * ('const' in marks)
+    text = MARKED.sub(marked, text)
+    return text if '‹+' not in text else refuse('a mark of no function', text, text.index('‹+'))
+
+
 def without_names(text):
     """Puts conditions that have a name for the prover alone where they are tested."""
     for it in reversed([*NAMED.finditer(text)]):
@@ -218,6 +223,7 @@ def erase(text, traits):
             known.fullmatch(it[1]) or refuse('an unknown attribute or macro', text, it.start())
     for it in NO_RUST.finditer(text):
         refuse('a word that is no Rust', text, it.start())
+    text = with_marks(text)
     for place, addition in ADDED.items():
         text = re.sub(place, addition, text, flags=re.M)
     text = re.sub(r'‹m(\w+)›', r'"the length of `\1` is {}, and must be at least {}"', text)

@@ -104,7 +104,7 @@ where
         self.step()
     }
 
-    // Takes one step, and returns its output. In Rust, `next` isn't inlined in debug builds.
+    // Takes one step, and returns its output. Debug builds don't inline `next`.
     #[inline(always)]
     const fn step(&mut self) -> u64 {
         let (low, high) = multiply128(self.s1, self.s2);

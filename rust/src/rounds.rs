@@ -26,7 +26,7 @@ const C8: u64 = 0x3f84_d5b5_b547_0917;
 ///
 /// After a product, `low` is its low half, and `e` the word to which its high half was added. The
 /// word a is computed only for a factor and as the hash, so the way from one product to the next is
-/// one xor shorter. The eight lanes are pairs of other words.
+/// one xor shorter.
 #[repr(C)]
 #[derive(Clone, Copy, PartialEq, Eq)]
 pub(crate) struct XoredPair {
@@ -36,7 +36,7 @@ pub(crate) struct XoredPair {
 
 /// The eight lanes as the code stores them: four pairs in a ring, one for each product of a block.
 ///
-/// s5 to s8 are the words e of the pairs. s1 to s4 are the first words, each xor the word e of
+/// s5 to s8 are the words `e` of the pairs. s1 to s4 are their words `low`, each xor the word `e` of
 /// the pair before it. The fourth pair is the one before the first, so it stands there.
 #[repr(C)]
 #[derive(Clone, Copy, PartialEq, Eq)]

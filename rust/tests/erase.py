@@ -30,10 +30,12 @@ LEFT = {
         '/// x\n#[track_caller]\n#[cfg_attr(debug_assertions, inline(never))]\n'
         '#[cfg_attr(not(debug_assertions), inline)]\npub fn f(out: &mut [u8]) { }\n'
         f'{TEST.replace("fn f", "pub fn f")}',
-    'pub struct Komirand;\nimpl Komirand {\n    pub fn next() {}\n    fn new() {}\n}':
+    'pub struct Komirand;\nimpl Komirand {\n    // For Rust: const, shared.\n    pub fn next() {}\n}':
         '#[derive(Debug, PartialEq, Eq)]\npub struct Komirand;\n'
         'impl Komirand {\n#[cfg_attr(debug_assertions, inline(never))]\n'
-        'pub const fn next() {}\n fn new() {}\n}',
+        'pub const fn next() {}\n}',
+    '// For Rust: must_use.\n#[inline(always)]\nfn f() {}':
+        '#[inline(always)]\n#[must_use]\nfn f() {}',
     # A condition of a public trait is tested in each impl.
     f'pub trait T {{\n    {DECLARED};\n}}\n'
     'impl<const V: u8> T\nfor S {\n    fn f(out: &mut [u8]) { }\n}':
@@ -52,6 +54,7 @@ REFUSED = [
     'fn f() { (x, tally) }', 'impl Model for S {\n    fn f() {}\n}', 'ghost f = { ensures { x } };',
     'fn f() { std::mem::swap(a, b) }', 'pub trait T: Drop {}', 'fn f() {\n    fn g() {}\n}',
     'fn f() { panic !() }', "fn f() { 'a: loop { break 'a; } }", "fn f() { continue 'a }",
+    '// For Rust: inline.\nfn f() {}', '// For Rust: const.\nstruct S;',
     'static A: u8 = 0;', 'extern crate a;', 'fn f() { rt; }', 'const fn f() { async { } }',
     'fn f() { while x invariant { y } { } }', 'fn f() { loop decreases { y } { } }',
 ]

@@ -51,6 +51,7 @@ where
     /// const START: Komirand = Komirand::new(0, 0);
     /// assert_eq!(START.clone().next(), 0x5555555555555555);
     /// ```
+    // For Rust: const, must_use.
     pub fn new(s1: u64, s2: u64) -> Self
         ensures { result ≡ (s1, s2) }
     {
@@ -64,6 +65,7 @@ where
     /// let (mut one, mut other) = (Komirand::init(1), Komirand::init_with_extra_seed(1, 1));
     /// assert_eq!(one.next(), other.next());
     /// ```
+    // For Rust: const, must_use, shared.
     pub fn init(seed: u64) -> Self
         ensures { result ≡ after_steps V 4 (seed, seed) }
     {
@@ -77,6 +79,7 @@ where
     /// let (mut one, mut other) = (Komirand::init(1), Komirand::init_with_extra_seed(1, 2));
     /// assert_ne!(one.next(), other.next());
     /// ```
+    // For Rust: const, must_use, shared.
     #[tactic(auto, unfolding(crate::specs::Generator::after_steps))]
     pub fn init_with_extra_seed(s1: u64, s2: u64) -> Self
         ensures { result ≡ after_steps V 4 (s1, s2) }
@@ -100,6 +103,7 @@ where
     /// assert_eq!([restored.next(), restored.next()], [generator.next(), generator.next()]);
     /// ```
     // In Rattle, this isn't stable.
+    // For Rust: const, must_use.
     #[inline(always)]
     pub fn words(&self) -> (u64, u64)
         ensures { result ≡ self.now }
@@ -115,6 +119,7 @@ where
     /// let throw = 1 + ((u128::from(generator.next()) * 6) >> 64);
     /// assert!((1..=6).contains(&throw));
     /// ```
+    // For Rust: const, shared.
     #[allow(clippy::should_implement_trait)]
     pub fn next(&mut self) -> u64
         ensures output { result ≡ (next V self.old).0 }
@@ -123,7 +128,7 @@ where
         self.step(&mut Tally::new())
     }
 
-    // Takes one step, and returns its output. In Rust, `next` isn't inlined in debug builds.
+    // Takes one step, and returns its output. In Rust, debug builds don't inline `next`.
     #[inline(always)]
     #[tactic(auto, unfolding(crate::specs::Generator::next))]
     const fn step(&mut self, tally: &mut Tally) -> u64
@@ -156,6 +161,7 @@ where
     /// assert_eq!(bytes[..8], first.to_le_bytes());
     /// assert_eq!(bytes[8..], second.to_le_bytes()[..3]);
     /// ```
+    // For Rust: shared.
     #[tactic(auto, unfolding(crate::specs::Generator::after_steps))]
     pub fn fill_bytes(&mut self, buffer: &mut [u8])
         ensures bytes { buffer.new ≡ fill V self.old (length buffer.old) }

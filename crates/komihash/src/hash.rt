@@ -157,6 +157,7 @@ pub(crate) fn hash_message<const V: u8>(bytes: &[u8], seed: u64, tally: &mut Tal
 /// assert_eq!(komihash::<5>(b"", 0), 0xb7683ea7430132b4);
 /// assert_ne!(komihash::<4>(&[0x80], 0), komihash::<5>(&[0x80], 0));
 /// ```
+// For Rust: must_use.
 pub fn komihash<const V: u8>(bytes: &[u8], seed: u64) -> u64
 where
     Versions: IsVersion<V>,

@@ -45,6 +45,7 @@ where
     /// hasher.write(b"rt");
     /// assert_eq!(hasher.finish(), komihash(b"rt", komihash(b"po", 7)));
     /// ```
+    // For Rust: const, must_use.
     pub fn new(seed: u64) -> Self
         ensures { result ≡ seed }
     {
@@ -121,6 +122,7 @@ where
     /// ports.insert("https", 443);
     /// assert_eq!(ports["https"], 443);
     /// ```
+    // For Rust: const, must_use.
     pub fn new(seed: u64) -> Self
         ensures { result ≡ seed }
     {

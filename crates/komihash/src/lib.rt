@@ -15,8 +15,10 @@
 // `rust/erase.py` makes the crate for Rust of the other files, but for `version`, which Rust has by
 // hand, and `laws`, `tally` and `tests`, which it lacks. In the others,
 // - `Rattle alone.` begins what Rust lacks, up to an empty line;
-// - `Inlined, but not in C.` means in Rust, but for debug builds and the library for C, which has
-//   one copy;
+// - `For Rust: ..` is before a function that Rust has `const` or as `must_use`, or of which debug
+//   builds there share the copy that was compiled with this crate;
+// - `Inlined, but not in C.` means in Rust, but for debug builds, and not in the library for C by
+//   clang and MSVC, which has one copy;
 // - Rust lacks lines of comments that begin with `In Rattle,`, and those two words of `In Rust,`;
 // - in comments, for Rust alone are examples (CALLING has those for Rattle), `# Panics`, links in
 //   brackets, what is said of Rust, `version` and `Debug`, and "the type of both versions", which

@@ -191,6 +191,7 @@ fn message_length<const V: u8>(words: &[u64]) -> Option<usize>
 /// assert_eq!(message[0], 0x80);
 /// assert_eq!(unpad::<5>(&[0x0280], &mut message), None);
 /// ```
+// For Rust: must_use.
 #[tactic(auto, using(crate::proofs::Unpadding::unpad_laws))]
 #[inline]
 pub fn unpad<const V: u8>(words: &[u64], out: &mut [u8]) -> Option<usize>

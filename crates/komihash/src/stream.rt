@@ -85,6 +85,7 @@ pub trait KomiStream: Sized + Drop {
     ghost state: { Self → State };
 
     /// Returns the new stream of a seed.
+    // For Rust: must_use.
     fn start(seed: u64, tally: &mut Tally) -> Self
         ensures started { Started VERSION seed (state result) }
         ensures costs { Costs tally 1 0 };
@@ -98,6 +99,7 @@ pub trait KomiStream: Sized + Drop {
             (absorb_kept_bytes (length (state self.old).pending) (length bytes.now)) };
 
     /// Returns the hash of all bytes so far. The stream is unchanged.
+    // For Rust: must_use.
     fn answer(&self, tally: &mut Tally) -> u64
         ensures answered { Answered VERSION (state self.now) result }
         // Two products, and one for each 16 pending bytes.
@@ -122,12 +124,14 @@ pub trait KomiStream: Sized + Drop {
     /// assert_eq!(copy(&komihash::StreamedKomihash::start(7)).answer(),
     ///     komihash::komihash(b"", 7));
     /// ```
+    // For Rust: must_use.
     fn store(&self, out: &mut [u8]) -> usize
         requires { LONGEST_TEXT ≤ length out.old }
         ensures { Stored VERSION (state self.now) out result };
 
     /// Returns the stream that has these bytes as its saved text, or `None` if they don't have the
     /// form of one in this version. There is no checksum: most damaged texts have this form.
+    // For Rust: must_use.
     fn restore(bytes: &[u8]) -> Option<Self>
         ensures { Restored VERSION state bytes.now result };
 

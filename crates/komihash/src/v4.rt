@@ -79,6 +79,7 @@ pub type Komirand = generator::Komirand<4>;
 /// let shard = komihash(&443_u64.to_le_bytes(), 0) % 8;
 /// assert!(shard < 8);
 /// ```
+// For Rust: must_use.
 #[inline]
 pub fn komihash(bytes: &[u8], seed: u64) -> u64
     ensures { result ≡ komi 4 seed bytes.now }
@@ -142,6 +143,7 @@ pub fn pad(bytes: &[u8], out: &mut [u64]) -> usize
 /// assert_eq!(unpad(&[0], &mut message), Some(0));
 /// assert_eq!(unpad(&[1], &mut message), None);
 /// ```
+// For Rust: must_use.
 #[inline]
 #[track_caller]
 pub fn unpad(words: &[u64], out: &mut [u8]) -> Option<usize>

@@ -72,6 +72,7 @@ where
     /// static LOG: Mutex<StreamedKomihash> = Mutex::new(StreamedKomihash::new());
     /// LOG.lock().unwrap().write(b"port");
     /// ```
+    // For Rust: const, must_use.
     pub fn new() -> Self
         ensures { Started V 0 result.state }
     {
@@ -88,6 +89,7 @@ where
     /// stream.write(b"ort");
     /// assert_eq!(stream.finish(), komihash(b"port", 7));
     /// ```
+    // For Rust: const, must_use, shared.
     pub fn new_with_seed(seed: u64) -> Self
         ensures { Started V seed result.state }
     {
@@ -157,6 +159,7 @@ where
     /// }
     /// let hash = stream.finish();
     /// ```
+    // For Rust: shared.
     pub fn write(&mut self, bytes: &[u8])
         ensures { Absorbed V (λ stream. stream.state) self bytes.now }
     {
@@ -172,6 +175,7 @@ where
     /// stream.write(b"port");
     /// assert_eq!([stream.finish(), stream.finish()], [komihash(b"port", 0); 2]);
     /// ```
+    // For Rust: must_use, shared.
     pub fn finish(&self) -> u64
         ensures { Answered V self.now.state result }
     {
@@ -204,6 +208,7 @@ where
     /// resumed.write(b"ort");
     /// assert_eq!(resumed.finish(), komihash(b"port", 0));
     /// ```
+    // For Rust: must_use.
     #[track_caller]
     #[inline]
     pub fn save(&self, out: &mut [u8]) -> usize
@@ -221,6 +226,7 @@ where
     /// let stream = StreamedKomihash::resume(b"not a saved text");
     /// assert!(stream.is_none());
     /// ```
+    // For Rust: must_use.
     #[inline]
     pub fn resume(bytes: &[u8]) -> Option<Self>
         ensures { Restored V (λ stream. stream.state) bytes.now result }
