@@ -49,7 +49,6 @@ CHUNKS = "first_chunk", "last_chunk", "split_first_chunk"
 MARKS = {"inline(always)": "KOMI_INLINE", "inline(never)": "KOMI_APART",
          "cfg_attr(any(debug_assertions,for_c),inline(never))": "KOMI_SHORT"}
 IGNORED = re.compile(r"allow\(.*|must_use|track_caller|cfg_attr\(.*debug_assertions.*inline.*")
-RUST_ALONE = "crate|trait|slice|proof|compiler|debug|Debug|const"  # no such sentence is printed
 IN_SLICE = "in C, this is the pointer or the length of a slice"
 # The bodies of functions whose C is by hand in inline.h.in, where a slice is its pointer alone.
 BY_HAND = {
@@ -615,13 +614,13 @@ class Crate:
         self.types.append("\n".join([*lines, f"}} KOMI_ALIAS {TYPES[name]};"]))
 
     def comment(self, text, names=()):
-        """Returns a comment as it is in C, without examples and sentences about Rust alone. Names
+        """Returns a comment as it is in C, without examples and what begins with `In Rust,`. Names
         become those in C, but for a function's where a variable has it."""
         text = re.sub(r"^ *//[/!]? ?", "", text, flags=re.M) + "\n"
         text = re.sub(r"```.*?```|# Panics\n\n.*?\n\n", "", text, flags=re.S)
         text = re.sub(r"\[(.*?)\]\(.*?\)", r"\1", text).strip()
         text = re.sub(r"\s*\n\s*\n\s*", "@", text).replace("\n", " ").replace("@", "\n")
-        text = re.sub(rf"[^.:\n]*\b({RUST_ALONE})\b[^.]*\.", "", text)
+        text = re.sub(r"\bIn Rust, [^.]*\.", "", text)
         text = text.replace("version V", "the version").replace("`None`", "KOMIHASH_NONE")
         functions = {it[1]: c_name(*it) for it in self.functions if it[1] not in names}
         text = re.sub("`[A-Z]+`", lambda it: it[0].lower(), text)  # constant parameters

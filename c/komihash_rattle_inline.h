@@ -1226,7 +1226,8 @@ KOMI_INLINE void komi_pending_append(komi_pending *self, const uint8_t *bytes, s
     komi_put(false, false, self->words.at, len, bytes, length);
 }
 
-/* Appends bytes where none is pending. */
+/* Appends bytes where none is pending. Does what `komi_pending_append` does, but the compiler knows
+ * that the length was 0. */
 KOMI_INLINE void komi_pending_append_to_none(komi_pending *self, const uint8_t *bytes,
     size_t length) {
     /* Often there are no bytes. */

@@ -18,8 +18,7 @@ from pathlib import Path
 CHOICES = {r'^ *// Rattle alone\.\n(?:.+\n)+': '',
            r'^ *//[/!]? In Rattle, .*\n': '',
            r'^ *// Inlined, but not in C\.\n#\[inline\(never\)]': '#[inline(not_in_c)]',
-           r'^ *// For Rust: (.*)\.$': r'‹+\1›',
-           r'(//.*)\bIn Rust, (\w)': lambda it: it[1] + it[2].upper()}
+           r'^ *// For Rust: (.*)\.$': r'‹+\1›'}
 # What marks add before a function. Of those that are shared, debug builds have the one that was
 # compiled with this crate, as of all that ask to be inlined: cargo may optimize this crate alone.
 MARKS = {'shared': '#[cfg_attr(debug_assertions, inline(never))]\n', 'must_use': '#[must_use]\n'}

@@ -86,7 +86,7 @@ def main():
     sources = sources_of(sys.argv[1])
     text = header(sources)
     names, code = r"\bkomi_\w+", re.sub(r"/\*.*?\*/", "", text, flags=re.S)
-    found = re.findall(r"\b(?:Rust|None|usize|V)\b", text)
+    found = re.findall(r"\b(?:Rust|None|Debug|usize|V|crate|trait)\b", text)
     found += set(re.findall(names, text)) - set(re.findall(names, code))
     failed = len(found)
     for word in found:

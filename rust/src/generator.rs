@@ -12,7 +12,7 @@ use crate::version::{IsVersion, Versions};
 /// If low and high are the halves of the words' product, the new second word is
 /// `s2 + high + 0xaaaaaaaaaaaaaaaa`. The new first word is the exclusive or of low and that word
 /// in version 4, and `(low ^ high) + 0x5555555555555555` in version 5. These sums wrap around.
-/// `Debug` shows both words. Nothing is claimed of how random its outputs are.
+/// In Rust, `Debug` shows both words. Nothing is claimed of how random its outputs are.
 #[repr(C)]
 #[derive(Clone, Debug, PartialEq, Eq)]
 pub struct Komirand<const V: u8>
@@ -66,7 +66,7 @@ where
     #[cfg_attr(debug_assertions, inline(never))]
     #[must_use]
     pub const fn init_with_extra_seed(s1: u64, s2: u64) -> Self {
-        // This is `const`, so it has no `for`.
+        // In Rust, this is `const`, so it has no `for`.
         let mut generator = Komirand::new(s1, s2);
         generator.next();
         generator.next();
@@ -104,7 +104,7 @@ where
         self.step()
     }
 
-    // Takes one step, and returns its output. Debug builds don't inline `next`.
+    // Takes one step, and returns its output. In Rust, debug builds don't inline `next`.
     #[inline(always)]
     const fn step(&mut self) -> u64 {
         let (low, high) = multiply128(self.s1, self.s2);

@@ -64,7 +64,7 @@ fn hash_of_one_block<const V: u8>(bytes: &[u8], seed: u64) -> u64 {
 
 #[inline(never)]
 fn hash_of_blocks<const V: u8>(bytes: &[u8], seed: u64) -> u64 {
-    // This tells the compiler what the condition says, so that it tests no index below.
+    // In Rust, this tells the compiler what the condition says, so that it tests no index below.
     if bytes.len() < 128 {
         unreachable!()
     }

@@ -12,7 +12,7 @@ use core::hash::{BuildHasher, Hasher};
 /// So writes are not joined: the number after two writes is not the hash of all their bytes. A
 /// write of no bytes replaces the number too.
 ///
-/// What a value that implements `Hash` writes depends on the machine and on the compiler's
+/// In Rust, what a value that implements `Hash` writes depends on the machine and on the compiler's
 /// version. So use a hasher for maps alone, whose keys no attacker chooses, and `komihash` for what
 /// is stored, sent or sharded. A tuple costs a hash for each field, and a text two, so hashers that
 /// are made for maps are faster. `Debug` shows the number.

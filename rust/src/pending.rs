@@ -13,8 +13,8 @@ pub(crate) struct Pending {
     len: usize,
 }
 
-// Returns the index of the word that has the byte after the first `len`. The remainder tells the
-// compiler that there is such a word.
+// Returns the index of the word that has the byte after the first `len`. In Rust, the remainder
+// tells the compiler that there is such a word.
 #[inline(always)]
 fn word_index(len: usize) -> usize {
     len / 8 % 8
@@ -75,7 +75,8 @@ fn append_whole_words(words: &mut [u64; 8], len: usize, bytes: &[u8]) {
         store_chunks(&mut words[next..next + chunks.len()], chunks);
     } else {
         // If the next word isn't whole, `append_eight_or_more` overwrites what this stores. A test
-        // whether it is would cost a jump. The remainder tells the compiler that `next` is in range.
+        // whether it is would cost a jump. In Rust, the remainder tells the compiler that `next` is
+        // in range.
         words[next % 8] = word_at(bytes, next_at.min(bytes.len() - 8));
     }
 }
@@ -133,7 +134,8 @@ fn store_two_words(words: &mut [u64; 8], at: usize, bytes: &[u8], start: usize) 
 }
 
 // Stores the bytes that complete the block, some words twice, first from the front and then from
-// the back. Each array, and each remainder of an index, tells the compiler what is in range.
+// the back. In Rust, each array, and each remainder of an index, tells the compiler what is in
+// range.
 #[inline(always)]
 fn complete_block(words: &mut [u64; 8], len: usize, bytes: &[u8]) {
     if bytes.len() < 8 {
@@ -198,7 +200,8 @@ impl Pending {
     /// the length was 0.
     #[inline(always)]
     pub(crate) fn append_to_none(&mut self, bytes: &[u8]) {
-        // The remainder tells the compiler that the words have room. Often there are no bytes.
+        // In Rust, the remainder tells the compiler that the words have room. Often there are no
+        // bytes.
         let bytes = &bytes[..bytes.len() % 64];
         if !bytes.is_empty() {
             put::<true, false>(&mut self.words, 0, bytes);

@@ -112,8 +112,7 @@ pub(crate) fn places<const V: u8>() -> [usize; 8] {
     if V == 4 { [0, 1, 2, 3, 4, 5, 6, 7] } else { [0, 4, 1, 5, 2, 6, 3, 7] }
 }
 
-/// Absorbs a block of eight words, multiplied as the table `places` says. So one proof is for both
-/// versions.
+/// Absorbs a block of eight words, multiplied as the table `places` says.
 #[inline(always)]
 pub(crate) fn block_round(lanes: &mut Lanes, words: &[u64; 8], places: [usize; 8]) {
     let fourth = lanes.fourth;
@@ -157,8 +156,7 @@ pub(crate) fn absorb_first_block<'a, const V: u8>(lanes: &mut Lanes, bytes: &'a 
     rest
 }
 
-/// Does what `absorb_blocks` does for bytes with one whole block, and so without a loop. It is apart
-/// from `absorb_first_block` for its proof alone.
+/// Does what `absorb_blocks` does for bytes with one whole block, and so without a loop.
 #[inline(always)]
 pub(crate) fn absorb_only_block<'a, const V: u8>(lanes: &mut Lanes, bytes: &'a [u8]) -> &'a [u8] {
     absorb_first_block::<V>(lanes, bytes)

@@ -11,15 +11,15 @@ pub(crate) mod streamed;
 /// `start`, `absorb`, `answer`, `store` and `restore` do what `new_with_seed`, `write`, `finish`,
 /// `save` and `resume` of `StreamedKomihash` do. They have other names, so that a name tells
 /// whether a call is the trait's or the type's. Streams of your own type may implement the trait.
-/// Code that serves no other streams can take
+/// In Rust, code that serves no other streams can take
 /// [`StreamedKomihash<V>`](crate::version::StreamedKomihash).
 ///
-/// Nothing checks that an implementation keeps three laws: `answer` is the hash of version
+/// In Rust, nothing checks that an implementation keeps three laws: `answer` is the hash of version
 /// `VERSION` with the seed, of the bytes so far, however cut; `restore` of what `store` wrote gives
 /// a stream with the same answers, also to later bytes; and `store` writes at most
 /// [`LONGEST_TEXT`] bytes, and changes no others.
 ///
-/// Generic code looks like this:
+/// In Rust, generic code looks like this:
 ///
 /// ```
 /// use komihash_rattle::stream::KomiStream;

@@ -80,7 +80,7 @@ pub(crate) fn write_partial_word(word: u64, out: &mut [u8]) {
 #[allow(clippy::needless_range_loop)]
 #[inline(always)]
 pub(crate) fn read_whole_words(bytes: &[u8], out: &mut [u64]) {
-    // With one slice of each length, the loop tests no index.
+    // In Rust, with one slice of each length, the loop tests no index.
     let words = bytes.as_chunks::<8>().0;
     let front = &mut out[..words.len()];
     for i in 0..words.len() {
@@ -100,7 +100,7 @@ pub(crate) fn write_words(words: &[u64], out: &mut [u8]) {
 #[inline(always)]
 pub(crate) fn write_first_bytes(words: &[u64], count: usize, out: &mut [u8]) {
     let whole = count / 8;
-    // With one slice of each length, the loop tests no index.
+    // In Rust, with one slice of each length, the loop tests no index.
     write_words(&words[..whole], &mut out[..8 * whole]);
     if count % 8 > 0 {
         write_partial_word(words[whole], &mut out[8 * whole..count]);

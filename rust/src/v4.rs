@@ -29,7 +29,7 @@ pub type StreamedKomihash = stream::streamed::StreamedKomihash<4>;
 /// The hasher of version 4, which chains the hashes of its writes.
 ///
 /// Its writes are not joined: each replaces its number by the hash of the bytes, with the number
-/// as the seed. Use it for maps alone, whose keys no attacker chooses, as
+/// as the seed. In Rust, use it for maps alone, whose keys no attacker chooses, as
 /// [the type of both versions](hasher::KomiHasher) explains.
 ///
 /// ```

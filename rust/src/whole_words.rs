@@ -36,7 +36,7 @@ impl WholeWords for &[u8] {
 }
 
 // Returns the pair after a round on the two words from index `at`. From it, the words after these
-// give the hash that all from `at` on give from the pair before. It is apart for its proof alone.
+// give the hash that all from `at` on give from the pair before.
 #[inline(always)]
 fn round_at<W: WholeWords>(pair: XoredPair, left: &W, at: usize) -> XoredPair {
     pair_round(pair, left.word(at), left.word(at + 1))

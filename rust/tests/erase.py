@@ -20,7 +20,7 @@ LEFT = {
         '#[cfg_attr(any(debug_assertions, for_c), inline(never))]\n'
         '#[cfg_attr(not(any(debug_assertions, for_c)), inline)]\nfn f() {}',
     '    // In Rattle, a.\n/// In Rust, b, and in Rattle, c.\nfn f() {}':
-        '/// B, and in Rattle, c.\nfn f() {}',
+        '/// In Rust, b, and in Rattle, c.\nfn f() {}',
     "fn f() { ['\\'', '\"'] } // \"\nfn g()\n    ensures { x }\n{ }":
         "fn f() { ['\\'', '\"'] } // \"\nfn g() { }",
     'fn f()\n    // {\n    ensures { x }\n    // y\n    ensures y { y }\n{ if !(a) { } }':

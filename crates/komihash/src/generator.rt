@@ -16,7 +16,7 @@ use std::marker::Model;
 /// If low and high are the halves of the words' product, the new second word is
 /// `s2 + high + 0xaaaaaaaaaaaaaaaa`. The new first word is the exclusive or of low and that word
 /// in version 4, and `(low ^ high) + 0x5555555555555555` in version 5. These sums wrap around.
-/// `Debug` shows both words. Nothing is claimed of how random its outputs are.
+/// In Rust, `Debug` shows both words. Nothing is claimed of how random its outputs are.
 #[repr(C)]
 #[derive(Drop)]
 pub struct Komirand<const V: u8>

@@ -1,7 +1,7 @@
 //! The hash of a whole message, which is read without a copy.
 //!
 //! Each range of lengths has a function of its own, except the empty message, so that messages take
-//! few jumps. In Rust, those below 64 bytes may be inlined, since a caller may know the length.
+//! few jumps. Those below 64 bytes may be inlined, since a caller may know the length.
 
 #![tactic(auto, using(crate::proofs::HashPaths::hash_laws))]
 
@@ -98,7 +98,7 @@ fn hash_of_blocks<const V: u8>(bytes: &[u8], seed: u64, tally: &mut Tally) -> u6
     ensures hash { result ≡ komi V seed bytes.now }
     ensures costs { Costs tally (hash_products (length bytes.now)) 0 }
 {
-    // This tells the compiler what the condition says, so that it tests no index below.
+    // In Rust, this tells the compiler what the condition says, so that it tests no index below.
     if bytes.len() < 128 {
         unreachable!()
     }

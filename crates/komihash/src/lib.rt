@@ -19,10 +19,11 @@
 //   builds there share the copy that was compiled with this crate;
 // - `Inlined, but not in C.` means in Rust, but for debug builds, and not in the library for C by
 //   clang and MSVC, which has one copy;
-// - Rust lacks lines of comments that begin with `In Rattle,`, and those two words of `In Rust,`;
-// - in comments, for Rust alone are examples (CALLING has those for Rattle), `# Panics`, links in
-//   brackets, what is said of Rust, `version` and `Debug`, and "the type of both versions", which
-//   Rust's pages show beside the other name of a type;
+// - Rust lacks lines of comments that begin with `In Rattle,`, and C sentences that begin with
+//   `In Rust,`;
+// - in comments, for Rust alone are also examples (CALLING has those for Rattle), `# Panics`, links
+//   in brackets, `version`, and "the type of both versions", which Rust's pages show beside the
+//   other name of a type;
 // - in code, for Rust alone are `const fn`, which calls that are `const` in Rust need, `repr(C)`,
 //   since C and `c/verify/layout.py` know where the words of streams and generators lie,
 //   `allow(clippy::..)`, and `#[track_caller]`, by which `erase.py` knows that the called function

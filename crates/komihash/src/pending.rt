@@ -33,8 +33,8 @@ impl Model for Pending {
     ghost invariant = { λ p. ArePending p.words p.len };
 }
 
-// Returns the index of the word that has the byte after the first `len`. The remainder tells the
-// compiler that there is such a word.
+// Returns the index of the word that has the byte after the first `len`. In Rust, the remainder
+// tells the compiler that there is such a word.
 #[inline(always)]
 fn word_index(len: usize) -> usize
     requires { len < 64 }
@@ -130,7 +130,8 @@ fn append_whole_words(words: &mut [u64; 8], len: usize, bytes: &[u8])
         store_chunks(&mut words[next..next + chunks.len()], chunks);
     } else {
         // If the next word isn't whole, `append_eight_or_more` overwrites what this stores. A test
-        // whether it is would cost a jump. The remainder tells the compiler that `next` is in range.
+        // whether it is would cost a jump. In Rust, the remainder tells the compiler that `next` is
+        // in range.
         words[next % 8] = word_at(bytes, next_at.min(bytes.len() - 8));
     }
 }
@@ -213,7 +214,8 @@ fn store_two_words(words: &mut [u64; 8], at: usize, bytes: &[u8], start: usize)
 }
 
 // Stores the bytes that complete the block, some words twice, first from the front and then from
-// the back. Each array, and each remainder of an index, tells the compiler what is in range.
+// the back. In Rust, each array, and each remainder of an index, tells the compiler what is in
+// range.
 #[inline(always)]
 fn complete_block(words: &mut [u64; 8], len: usize, bytes: &[u8])
     requires pending { ArePending words.old len }
@@ -313,7 +315,8 @@ impl Pending {
         ensures bytes { self.new ≡ bytes.now }
         ensures costs { Costs tally 0 (length bytes.now) }
     {
-        // The remainder tells the compiler that the words have room. Often there are no bytes.
+        // In Rust, the remainder tells the compiler that the words have room. Often there are no
+        // bytes.
         let bytes = &bytes[..bytes.len() % 64];
         if !bytes.is_empty() {
             put::<true, false>(&mut self.words, 0, bytes, tally);

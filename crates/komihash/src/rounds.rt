@@ -208,8 +208,8 @@ pub(crate) fn places<const V: u8>() -> [usize; 8]
     }
 }
 
-/// Absorbs a block of eight words, multiplied as the table `places` says. So one proof is for both
-/// versions.
+/// Absorbs a block of eight words, multiplied as the table `places` says.
+/// In Rattle, one proof is for both versions then.
 #[inline(always)]
 #[tactic(auto, unfolding(crate::specs::Rounds::block_round_by), using(crate::proofs::Xor::reorder))]
 pub(crate) fn block_round(
@@ -277,8 +277,8 @@ pub(crate) fn absorb_first_block<'a, const V: u8>(
     rest
 }
 
-/// Does what `absorb_blocks` does for bytes with one whole block, and so without a loop. It is apart
-/// from `absorb_first_block` for its proof alone.
+/// Does what `absorb_blocks` does for bytes with one whole block, and so without a loop.
+/// In Rattle, it is apart from `absorb_first_block` for its proof alone.
 #[inline(always)]
 #[tactic(auto, using(crate::proofs::Blocks::no_block))]
 pub(crate) fn absorb_only_block<'a, const V: u8>(

@@ -122,7 +122,7 @@ pub(crate) fn read_whole_words(bytes: &[u8], out: &mut [u64])
     ensures words { take (length bytes.now / 8) out.new ≡ whole_words bytes.now }
     ensures rest { drop (length bytes.now / 8) out.new ≡ drop (length bytes.now / 8) out.old }
 {
-    // With one slice of each length, the loop tests no index.
+    // In Rust, with one slice of each length, the loop tests no index.
     let words = bytes.as_chunks::<8>().0;
     let front = &mut out[..words.len()];
     'whole: for i in 0..words.len() {
@@ -152,7 +152,7 @@ pub(crate) fn write_first_bytes(words: &[u64], count: usize, out: &mut [u8])
     ensures rest { drop count out.new ≡ drop count out.old }
 {
     let whole = count / 8;
-    // With one slice of each length, the loop tests no index.
+    // In Rust, with one slice of each length, the loop tests no index.
     write_words(&words[..whole], &mut out[..8 * whole]);
     let has_remainder = count % 8 > 0;
     if has_remainder {

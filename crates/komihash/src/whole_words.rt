@@ -56,7 +56,8 @@ impl WholeWords for &[u8] {
 }
 
 // Returns the pair after a round on the two words from index `at`. From it, the words after these
-// give the hash that all from `at` on give from the pair before. It is apart for its proof alone.
+// give the hash that all from `at` on give from the pair before.
+// In Rattle, it is apart for its proof alone.
 #[inline(always)]
 #[tactic(auto, using(crate::proofs::HashPaths::hash_from_pair_two))]
 fn round_at<W: WholeWords>(pair: XoredPair, left: &W, at: usize, tally: &mut Tally) -> XoredPair

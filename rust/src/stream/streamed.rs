@@ -64,7 +64,7 @@ where
         StreamedKomihash::begin(seed)
     }
 
-    // Returns the new stream of a seed. This is `const`, as no method of a trait can be.
+    // Returns the new stream of a seed. In Rust, this is `const`, as no method of a trait can be.
     #[inline(always)]
     const fn begin(seed: u64) -> Self {
         StreamedKomihash {
@@ -205,8 +205,8 @@ where
         StreamedKomihash::begin(seed)
     }
 
-    // In a crate that calls this and `answer` more than once, LLVM would not inline them by itself,
-    // and couldn't use that a new stream is empty.
+    // In Rust, LLVM would not inline this and `answer` by itself in a crate that calls them more
+    // than once, and couldn't use that a new stream is empty.
     #[inline(always)]
     fn absorb(&mut self, bytes: &[u8]) {
         if self.pending.len() + bytes.len() < 64 {

@@ -261,8 +261,8 @@ where
         StreamedKomihash::begin(seed, tally)
     }
 
-    // In a crate that calls this and `answer` more than once, LLVM would not inline them by itself,
-    // and couldn't use that a new stream is empty.
+    // In Rust, LLVM would not inline this and `answer` by itself in a crate that calls them more
+    // than once, and couldn't use that a new stream is empty.
     #[inline(always)]
     #[tactic(auto, unfolding(crate::specs::Stream::HasAbsorbed), using(crate::proofs::Streams::more_absorbed))]
     fn absorb(&mut self, bytes: &[u8], tally: &mut Tally) {
