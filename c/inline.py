@@ -204,15 +204,15 @@ class Expressions:
             while self.has("as"):
                 value = self.converted(value, self.take())
             return value
-        left = self.expression(level + 1)
+        left, compares, shifts = self.expression(level + 1), level < 3, level == 6
         while self.peek() in LEVELS[level]:
             op, right = self.take(), self.expression(level + 1)
-            type = right.type if left.type == "int" and level != 6 else left.type
-            known(level == 6 or right.type in (type, "int"), f"{op} of two types")
-            known(level < 3 or type in ("u64", "usize") or level != 6 and type == "int" or
-                  op in "&|/%" and type in NUMBERS, "C may compute this as an int")
+            type = right.type if left.type == "int" and not shifts else left.type
+            known(shifts or right.type in (type, "int"), f"{op} of two types")
+            known(compares or type in ("u64", "usize") or op in "&|/%" and type in NUMBERS or
+                  type == "int" and not shifts, "C may compute this as an int")
             left = left.joined(op, right)
-            left.type = "bool" if level < 3 else type
+            left.type = "bool" if compares else type
         return left
 
     def converted(self, value, type):
