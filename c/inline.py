@@ -26,7 +26,6 @@ ITEM = re.compile(r"""\n+|//\ Made.*\n|use\ [^;]*;\n|(?P<closing>\}\n)|(?P<title
     |struct\ (?P<struct>\w+)[^{]*\{\n(?P<fields>(?:.*\n)+?)\}\n
     |const\ (?P<constant>\w+):\ (?P<type>\w+)\ =\ (?P<value>.*);\n
     |impl(?:<(?P<numbers>[^>]*)>)?\ (?:\w+\ for\ )?(?P<owner>[&\w\[\]]+)[^{]*\{\n)""", re.X)
-NOTES = re.compile(r"(?: *(?://|#\[).*\n)*")
 TOKEN = re.compile(r"""(?:\s|'a\b(?!'))*(//[^\n]*(?:\s*//[^\n]*)*|"[^"\\]*"
     |0x[0-9a-f_]+\b|\d[\d_]*\b|[A-Za-z_]\w*|::|->|\.\.|&&|\|\||[=!<>]=|<<|>>|\|=|$
     |[-+*/%^&|!<>=.,;:(){}\[\]#?])""", re.X)
@@ -49,7 +48,7 @@ CHUNKS = "first_chunk", "last_chunk", "split_first_chunk"
 MARKS = {"inline(always)": "KOMI_INLINE", "inline(never)": "KOMI_APART",
          "cfg_attr(any(debug_assertions,for_c),inline(never))": "KOMI_SHORT"}
 IGNORED = re.compile(r"allow\(.*|must_use|track_caller|cfg_attr\(.*debug_assertions.*inline.*")
-IN_SLICE = "in C, this is the pointer or the length of a slice"
+READ_AGAIN = "C reads this again, as a length or as where to end"
 # The bodies of functions whose C is by hand in inline.h.in, where a slice is its pointer alone.
 BY_HAND = {
     "read_word": "u64::from_le_bytes(*bytes.first_chunk().unwrap())",
@@ -386,7 +385,7 @@ class Function(Expressions):
     def __init__(self, crate, item, bound):
         path, it, self.owner, self.generics, self.mark, self.order = item
         super().__init__(crate, path, it)
-        self.bound, self.lines, self.depth, self.in_slices = bound, [], 1, set()
+        self.bound, self.lines, self.depth, self.read_again = bound, [], 1, set()
         self.called = self.stands_for = self
         self.names = {name: Value({"V": "version"}.get(name, name.lower()), type)
                       for name, type in self.generics.items()}
@@ -416,7 +415,7 @@ class Function(Expressions):
         self.parameters[name] = declared(type, name, points)
         if points:
             self.parameters[length] = f"size_t {length}"
-            self.in_slices.add(length)
+            self.read_again.add(length)
         return type
 
     def print(self, name, note):
@@ -471,6 +470,7 @@ class Function(Expressions):
             name = self.take()
             known(self.has("in", "0", ".."), "a loop that isn't in 0..n")
             end = self.expression().within("<")
+            self.read_again.update(re.findall(r"[a-z]\w*", end))
             self.know(name, Value(name))
             self.inner(f"for (size_t {name} = 0; {name} < {end}; {name}++) {{")
         elif self.has("assert", "!"):
@@ -481,7 +481,7 @@ class Function(Expressions):
     def simple(self, target, returns):
         value = Value("", "") if self.peek() == ";" else self.expression()
         if self.peek() in ("=", "|=") and not returns:
-            known(re.sub(r".*\W", "", value.text) not in self.in_slices, IN_SLICE)
+            known(re.sub(r".*\W", "", value.text) not in self.read_again, READ_AGAIN)
             op, other = self.take(), self.expression()
             self.emit(f"{value.text} {op} {self.unbraced(other, 'value')};")
         else:
@@ -522,6 +522,7 @@ class Function(Expressions):
     def let(self):
         names = self.listed("()", self.take) if self.peek() == "(" else []
         is_fixed, name = not self.has("mut"), names or self.take()
+        known(not {*names} & {*self.names}, "a name that hides another")
         if self.has(":"):  # A value with statements, or a later one, has its type.
             known(name not in self.names, "a name that hides another")
             self.know(name, Value(name, self.type("=", ";")))
@@ -545,7 +546,7 @@ class Function(Expressions):
     def know(self, name, value):
         """Notes a name, which may be there only in this block and with this type."""
         other, value.depth = self.names.get(name, value), self.depth
-        known(name not in self.in_slices, IN_SLICE)
+        known(name not in self.read_again, READ_AGAIN)
         known(other.type == value.type, "a name that hides one of another type")
         known(other.depth == value.depth, "a name that hides one of an outer block")
         self.names[name] = value
@@ -555,7 +556,7 @@ class Function(Expressions):
         refers, at = element(value.type)[0] and value.parts, value.start().text
         is_named = re.fullmatch(r"[\w.>-]+", at)
         if is_fixed and refers and (is_named or value.type not in TYPES):
-            self.in_slices.update(re.findall(r"[a-z]\w*", f"{at} {value.size().text}"))
+            self.read_again.update(re.findall(r"[a-z]\w*", f"{at} {value.size().text}"))
             if not is_named:
                 self.emit(f"{declared(value.type, name)} = {at};")
                 value = pointer(value.type, Value(name), value.size())
@@ -577,7 +578,7 @@ class Crate:
         for path, text in sources.items():
             place, owner, numbers = 0, "", {}
             while place < len(text):
-                self.place = path, text, NOTES.match(text, place).end()
+                self.place = path, text, re.compile(r"( *(//|#\[).*\n)*").match(text, place).end()
                 it = ITEM.match(text, place) or known(False, "unknown item")
                 self.item(it, owner, numbers)
                 place = it.end()

@@ -30,11 +30,14 @@ EDITS = {
         ("whole_words", "(last_whole_word, final_word)", "(left[0] as u64, final_word)")],
     # C would assign to the other one.
     "a name that hides one of another type": [
+        ("rounds", "    last.e ^ last.low\n}", "    let pair = last.low;\n    last.e ^ pair\n}")],
+    "a name that hides another": [
+        ("hash", "let rest: &[u8] = if", "let bytes: &[u8] = if"),
+        ("rounds", "let (low, high)", "let (x, y) = (y, x);\n    let (low, high)")],
+    "C reads this again, as a length or as where to end": [
+        ("generator", "0..whole {", "0..whole {\n            whole = whole - 1;"),
         ("generator", "let output = generator.step();\n            write_partial_word(output",
          "let whole = generator.step();\n            write_partial_word(whole"),
-        ("rounds", "    last.e ^ last.low\n}", "    let pair = last.low;\n    last.e ^ pair\n}")],
-    "a name that hides another": [("hash", "let rest: &[u8] = if", "let bytes: &[u8] = if")],
-    "in C, this is the pointer or the length of a slice": [
         ("utils", "let n = bytes.len();", "let length = bytes.len(); let n = length;"),
         ("pending", "bytes[..bytes.len() % 64];", "bytes[..self.len];\n        self.len = 0;")],
     "not the next field of the struct": [
