@@ -24,7 +24,7 @@ uses_of_tallies() {
             gsub(/([^a-z_0-9.]|\.\.)8 \* | \* 8([^a-z_0-9.]|$)/, " ", code)
             gsub(/tally: &mut Tally|^use crate::tally::Tally;|fn [a-z_0-9]+/, "", code)
         }
-        code ~ / \* |\*=|mul([^t]|$)|pow|product[:(]|macro_rules|raise|Tally/ ||
+        code ~ / \*( |$)|[])a-z_0-9]\*|\*=|mul([^t]|$)|pow|product[:(]|macro_rules|raise|Tally/ ||
         code ~ /(komihash(::<.>)?|finish|write|with_seed|next|fill_bytes|read_pending)\(/ ||
         code ~ /(Streamed[^ ]*|Self)::(new|default)\(|init[a-z_]*\(|re(store|sume)\(/ ||
         code ~ /[a-z]\.words([^a-z_(]|$)|Pending \{/ {

@@ -12,7 +12,8 @@ has_pages() {
     done
 }
 made_of_web() { bash scripts/remake.sh module | cmp - js/komihash_rattle.js; }
-# Writes 100,000 random calls, with the values that the crate for Rust gives. It also makes others.
+# Writes 100,000 random calls, with the values that the crate for Rust gives. Another 80,000 are of
+# what only Rust has.
 random_rows() {
     cargo run --manifest-path rust/Cargo.toml --offline --release --example random_rows 1 180000 |
         grep -vE '^(stream|hash_one|order|next)' > "$scratch/rows.tsv"

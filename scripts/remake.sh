@@ -46,5 +46,5 @@ if [ "$(grep -LF "SHA-256 $made_of" c/assembly/*.S js/komihash_rattle.js)" ]; th
     mv js/new js/komihash_rattle.js
 fi
 sed -i "1s/ [0-9.]*,/ $version,/" js/komihash_rattle.js
-sed -i "s/version [0-9.]* of /version $library of /" js/README.md python/README.md
+sed -i "s/version [0-9]*\.[0-9.]* of /version $library of /" js/README.md python/README.md
 page > js/komihash.html
