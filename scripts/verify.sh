@@ -6,14 +6,14 @@ python=$(make -s -C c python) || python=python3-with-z3-and-capstone
 arm=aarch64-linux-gnu
 prepare unpack
 # These are all builds of the assembly, some functions by a second solver too, one from the
-# crate for Rust, and of the header, one by clang and some functions by gcc.
+# crate for Rust, and some functions of what clang and gcc make of the header.
 part_with "$python" in_package verify
 part_with "$arm-gcc $python" in_package verify "CROSS=$arm-"
 part_with "cvc5 $python" in_package verify LEVEL=x86-64 SECOND=cvc5 \
     'FUNCTION=komihash_v5 komihash_v5_finish komihash_v5_save'
 part_with "rustc $python" in_package verify FROM=rust
 part_with "clang $python" in_package verify FROM=c OUT=out/clang CC=clang \
-    CFLAGS='-O2 -fno-vectorize -fno-slp-vectorize'
+    CFLAGS='-O2 -fno-vectorize -fno-slp-vectorize' 'FUNCTION=komihash_v4_unpad komihash_v5_write'
 part_with "gcc $python" in_package verify FROM=c OUT=out/gcc CC=gcc \
     'FUNCTION=komihash_v4 komihash_v5_write'
 part_with "$arm-gcc $python" in_package verify FROM=c "CROSS=$arm-" \
